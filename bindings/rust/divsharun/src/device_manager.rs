@@ -74,6 +74,35 @@ impl DeviceSlot {
 /// assert_eq!(devices.reserve(0x1000, 0x1000, AllocPolicy::FirstMatch)?, disk);
 /// # Ok::<(), Error>(())
 /// ```
+///
+/// # Devices with several ranges
+///
+/// A manager fits devices of one id and one range each, such as those of virtio-mmio. A PCI function
+/// has several BARs and interrupt vectors. Two calls allocate these, each all or none:
+///
+/// ```rust
+/// use divsharun::{AddressAllocator, AllocPolicy, Constraint, Error, IdAllocator, RangeInclusive};
+///
+/// let mut space = AddressAllocator::new(0xc000_0000, 0x2_0000_0000)?;
+/// let mut vectors = IdAllocator::new(32, 238)?;
+///
+/// let low = RangeInclusive::new(0, 0xffff_ffff)?;
+/// let requests = [
+///     Constraint::new(0x1000, 0x1000, AllocPolicy::FirstMatch)?.within(low),
+///     Constraint::new(0x4000_0000, 0x4000_0000, AllocPolicy::LastMatch)?,
+/// ];
+/// let ids = vectors.allocate_ids(4)?;
+/// match space.allocate_all(&requests) {
+///     Ok(bars) => assert_eq!((bars[0].start(), bars[1].start()), (0xc000_0000, 0x2_8000_0000)),
+///     Err(error) => {
+///         for id in ids {
+///             vectors.free_id(id)?;
+///         }
+///         return Err(error);
+///     }
+/// }
+/// # Ok::<(), Error>(())
+/// ```
 #[derive(PartialEq, Eq)]
 #[cfg_attr(
     feature = "serde",

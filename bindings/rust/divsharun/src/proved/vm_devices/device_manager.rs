@@ -23,6 +23,10 @@ pub use self::slots::Devices;
 /// Reserves an id and a range of addresses for each device, both or neither.
 ///
 /// No two devices share an id or an address.
+///
+/// It fits devices of one id and one range each, such as those of virtio-mmio. A PCI function has
+/// several BARs and interrupt vectors: `AddressAllocator::allocate_all` and
+/// `IdAllocator::allocate_ids` allocate these, each all or none.
 #[derive(Debug)]
 pub struct DeviceManager {
     id_allocator: IdAllocator,
