@@ -72,6 +72,18 @@ static void plug_devices(void) {
     dvs_device_manager_destroy(bus);
 }
 
+/* Allocates a fixed vector for a timer, and the lowest four for a card. */
+static void take_vectors(void) {
+    dvs_id_allocator *vectors;
+    uint32_t ids[4];
+
+    check(dvs_id_allocator_new(32, 255, &vectors, NULL), "the vectors");
+    check(dvs_id_allocate_exact(vectors, 239, NULL), "the timer");
+    check(dvs_ids_allocate(vectors, ids, 4), "the card");
+    printf("card: vectors %" PRIu32 " to %" PRIu32 "\n", ids[0], ids[3]);
+    dvs_id_allocator_destroy(vectors);
+}
+
 int main(void) {
     dvs_address_allocator *mmio, *copy;
     dvs_range ram, bars[3], none[2];
@@ -88,6 +100,10 @@ int main(void) {
     if (status == DVS_INVALID_STATE_TRANSITION)
         printf("already allocated, up to %#" PRIx64 "\n", refusal.range.end);
 
+    /* The guest programs the first BAR of the graphics. */
+    check(dvs_range_move(mmio, bars[0], 0xd0000000, &bars[0], NULL), "moving a BAR");
+    print_range("moved", bars[0]);
+
     copy = restored(mmio);
     dvs_address_allocator_destroy(mmio);
     check(dvs_range_visit(copy, print_range, "restored"), "the ranges");
@@ -96,5 +112,6 @@ int main(void) {
     dvs_address_allocator_destroy(copy);
 
     plug_devices();
+    take_vectors();
     return 0;
 }

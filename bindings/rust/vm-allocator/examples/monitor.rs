@@ -88,6 +88,13 @@ impl Resources {
         self.interrupts.free_id(device.interrupt).map(drop)
     }
 
+    /// Moves a BAR of a device to the start that the guest programs.
+    fn move_bar(&mut self, device: &mut PciDevice, index: usize, start: u64) -> Result<()> {
+        let bar = &mut device.bars[index];
+        *bar = self.addresses.move_range(bar, start)?;
+        Ok(())
+    }
+
     /// Plugs in memory, at an address that the guest knows.
     fn plug_memory(&mut self, start: u64, size: u64) -> Result<MemoryModule> {
         let policy = AllocPolicy::ExactMatch(start);
@@ -178,9 +185,15 @@ fn plug_cards(shared: &Shared) -> Result<PciDevice> {
         resources.unplug(&card)
     })?;
 
-    let again = shared.with(|resources| resources.plug(&bars))?;
+    let mut again = shared.with(|resources| resources.plug(&bars))?;
     assert_eq!(again.bars, card.bars);
     println!("plugged in again, with the same ranges");
+
+    // The guest programs the second BAR. Another one is in the way of its first try.
+    let taken = shared.with(|resources| resources.move_bar(&mut again, 1, card.bars[0].start()));
+    assert!(matches!(taken, Err(Error::ResourceNotAvailable)));
+    shared.with(|resources| resources.move_bar(&mut again, 1, 0xe000_0000))?;
+    println!("moved to {}", again.bars[1]);
     Ok(again)
 }
 
