@@ -3,7 +3,7 @@
 
 mod workload;
 
-use divsharun::{AddressAllocator, IdAllocator, RangeInclusive};
+use divsharun::{AddressAllocator, AllocPolicy, IdAllocator, RangeInclusive};
 use std::hint::black_box;
 use std::time::Instant;
 use workload::{library, Cache, Call, Devices, Draw};
@@ -43,6 +43,20 @@ fn main() {
         "| first item of `held_ranges_in`, Warm | {} |",
         times.join(" | ")
     );
+    let rows: [(&str, Move); 2] = [
+        (
+            "`allocate` by `ExactMatch`, then `free`",
+            allocated_and_freed,
+        ),
+        ("`move_range`", moved),
+    ];
+    for (name, to) in rows {
+        let times: Vec<String> = counts
+            .iter()
+            .map(|count| format!("{:.0} ns", time_of_move(*count, rounds, to)))
+            .collect();
+        println!("| {name}, Warm | {} |", times.join(" | "));
+    }
     let rows: [(&str, Allocate); 2] = [
         ("64 calls of `allocate_id`", allocated_one_by_one),
         ("`allocate_ids` of 64 ids", allocated_together),
@@ -74,6 +88,49 @@ fn first_within(count: u64, rounds: u64) -> f64 {
                 assert!(black_box(first).is_some());
             }
             start.elapsed().as_nanos() as f64 / windows.len() as f64
+        })
+        .collect();
+    times.sort_by(f64::total_cmp);
+    times[times.len() / 2]
+}
+
+/// Moves a range to another start.
+type Move = fn(&mut AddressAllocator, &RangeInclusive, u64) -> divsharun::Result<RangeInclusive>;
+
+fn allocated_and_freed(
+    space: &mut AddressAllocator,
+    range: &RangeInclusive,
+    start: u64,
+) -> divsharun::Result<RangeInclusive> {
+    let moved = space.allocate(range.len(), 1, AllocPolicy::ExactMatch(start))?;
+    space.free(range)?;
+    Ok(moved)
+}
+
+fn moved(
+    space: &mut AddressAllocator,
+    range: &RangeInclusive,
+    start: u64,
+) -> divsharun::Result<RangeInclusive> {
+    space.move_range(range, start)
+}
+
+/// Returns the median time of a move in nanoseconds, for this number of allocated ranges with gaps
+/// between them. A range moves to the other half of its gap.
+fn time_of_move(count: u64, rounds: u64, to: Move) -> f64 {
+    let page_at = |start: u64| RangeInclusive::new(start, start + 0xfff).expect("a range");
+    let mut held: Vec<_> = (0..count).map(|number| page_at(0x4000 * number)).collect();
+    let mut space = AddressAllocator::with_held(0, 0x4000 * count, &held).expect("a space");
+    let mut draw = Draw::from_seed(count);
+    let mut times: Vec<f64> = (0..rounds)
+        .map(|_| {
+            let chosen: Vec<_> = (0..1000).map(|_| draw.below(count) as usize).collect();
+            let start = Instant::now();
+            for number in &chosen {
+                let range = &mut held[*number];
+                *range = to(&mut space, range, range.start() ^ 0x2000).expect("a free place");
+            }
+            start.elapsed().as_nanos() as f64 / chosen.len() as f64
         })
         .collect();
     times.sort_by(f64::total_cmp);

@@ -1,8 +1,8 @@
 -- The move of a held range: an allocation at the new start, and then the freeing of the range.
-use Rattle.std.proofs.Common.{◌≡◌, ◌≢◌, ℕ, ◌+◌, ◌-◌, ◌<◌, ◌≤◌, List, arith, refl, sym, ap, ◌∙◌, inl, inr, ⊎_elim, subst, Result, Ok, Err}
+use Rattle.std.proofs.Common.{◌≡◌, ◌≢◌, ℕ, ◌+◌, ◌-◌, List, arith, refl, sym, ap, ◌∙◌, inl, inr, ⊎_elim, subst, Result, Ok, Err}
 use Rattle.std.specs.List.{Contains}
-use Rattle.vm_ranges.specs.Range.{Range, address_count, span}
-use Rattle.vm_engine.specs.Address.{AddressState, IsAddressState, holding, releasing, with_range, without_range}
+use Rattle.vm_ranges.specs.Range.{Range, address_count}
+use Rattle.vm_engine.specs.Address.{AddressState, IsAddressState, releasing, with_range}
 use Rattle.vm_ranges.specs.Request.{request_for}
 use Rattle.vm_engine.specs.Answer.{Allocates, Frees, IsChosen}
 use Rattle.vm_ranges.specs.declared.error.Error.{Error}

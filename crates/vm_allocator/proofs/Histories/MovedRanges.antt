@@ -1,10 +1,9 @@
 -- Moves of held ranges in histories.
-use Rattle.std.proofs.Common.{◌≡◌, ◌≢◌, ◌⊎◌, ℕ, List, [], ◌∷◌, ◌++◌, refl, sym, ap, ◌∙◌, inl, inr, ⊎_elim, subst, Result, Ok, Err}
+use Rattle.std.proofs.Common.{◌≡◌, ◌≢◌, ◌⊎◌, ℕ, List, [], ◌∷◌, ◌++◌, refl, sym, ap, ◌∙◌, inl, inr, ⊎_elim, subst, Ok, Err}
 use Rattle.std.specs.List.{Contains}
 use Rattle.vm_ranges.specs.Range.{Range, address_count}
-use Rattle.vm_engine.specs.Address.{AddressState, AreClear, IsAddressState, releasing, with_range, without_range}
+use Rattle.vm_engine.specs.Address.{AddressState, AreClear, releasing, with_range, without_range}
 use Rattle.vm_engine.specs.Answer.{Allocates, Frees, IsChosen}
-use Rattle.vm_ranges.specs.declared.error.Error.{Error}
 use Rattle.vm_engine.proofs.Blocks.PlainWords.{IsHeld, contains_held, held_contains}
 use Rattle.vm_engine.proofs.Blocks.HeldChanges.{held_now, still_held_with, others_held}
 use Rattle.vm_engine.proofs.Answers.AddressAnswers.{allocated_state, releases_held}
