@@ -322,5 +322,5 @@ addresses_encoded d state s = subst IsAddressState s.is (encoded_addresses d s.a
 
 pub ruleset callers = (allocated_held, allocated_apart, allocated_same, freed_fits_again, fits_again_or_limit, id_was_free, id_is_held, allocator_again, ids_again, text_gives_again, text_has_value)
 
--- What is read through the text of a written value is what was written.
+-- A value that is written, and read from its text, is the same.
 pub ruleset through_text = (allocator_through_text, ids_through_text)

@@ -14,7 +14,7 @@ use Rattle.vm_ranges.specs.declared.constraint.AllocPolicy.TheVariants.{ExactMat
 abbrev pub request_to : Range → ℕ → Request
 request_to r t = request_for (address_count r) 1 (ExactMatch t)
 
--- The state after the range q is allocated in place of the range r.
+-- The state after the range q is allocated and the range r is freed.
 unfoldable pub replacing : Range → Range → AddressState → AddressState
 replacing r q state = holding q (releasing r state)
 

@@ -96,7 +96,7 @@ pub fits_again_is_reserved : (new later : DeviceState) (request : Request) (slot
     DeviceFitsAgain request slot new → Reserves new request answer later → IfOk answer (λ again. again ≡ slot)
 fits_again_is_reserved new later request slot answer i h = i.by later answer h
 
--- What a caller of `reserve` relies on.
+-- The facts on which a caller of `reserve` relies.
 pub ruleset reserved = (device_lowest, device_fits, device_in_window, device_chosen, device_state)
 
 pub ruleset callers = (device_there, devices_share_none, released_fits_again, fits_again_is_reserved)

@@ -431,7 +431,7 @@ fn ranges_convert_and_are_written_in_hexadecimal() {
     const REFUSED: Result<RangeInclusive, Error> = RangeInclusive::new(8, 7);
     assert_eq!(REFUSED, Err(Error::InvalidRange(8, 7)));
     let refused = |start, end| Err(Error::InvalidRange(start, end));
-    // Clippy finds this range empty, as it is.
+    // Clippy finds that this range is empty.
     #[allow(clippy::reversed_empty_ranges)]
     let reversed = 5..=4;
     assert_eq!(RangeInclusive::try_from(reversed), refused(5, 4));

@@ -58,7 +58,7 @@ move_fits old mid r q t n e a =
     let end : q.end ≡ q.start + address_count r - 1 = ap (λ (v : Range). v.end) g.long in
     (g.chosen.0, omega arith)
 
--- The moved range is held in place of the one before.
+-- The moved range is held, and the one before is not.
 pub move_held : (old mid new : AddressState) (r q : Range) (t s n : ℕ) (answer : Result (Unit {0}) Error) → IsAddressState old → Contains old.held r → s ≡ r.start → t ≢ s → n ≡ address_count r → Allocates old (request_for n 1 (ExactMatch t)) (Ok q) mid → Frees mid r answer new → new ≡ replacing r q old
 unfolding replacing
 move_held old mid new r q t s n answer i c f d g a h =

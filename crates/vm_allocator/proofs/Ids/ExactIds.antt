@@ -173,7 +173,7 @@ keeps_less lo hi k next freed left a u = record {
       (cases_eq k q);
 }
 
--- ---- What each result says
+-- ---- Facts of each result
 pub exact_state : (old new : IdState) (k : ℕ) (r : Result ℕ Error) → AllocatesExactId old k r new → IfOk r (λ i. (i ≡ k) × (new ≡ holding_id k old))
 unfolding AllocatesExactId HoldsId
 exact_state old new k (Err x) h = tt

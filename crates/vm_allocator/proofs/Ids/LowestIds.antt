@@ -127,7 +127,7 @@ pub in_found : (old new : IdState) (first last i : ℕ) (r : Result ℕ Error) �
 unfolding AllocatesIdIn IsLowestNotHeldIn
 in_found old new first last i r l f h = inr (λ k. omega arith, inr (i, f, exact_holds old new i r f.0.2 h))
 
--- ---- What each result says
+-- ---- Facts of each result
 pub in_lowest : (old new : IdState) (first last : ℕ) (r : Result ℕ Error) → AllocatesIdIn old first last r new → IfOk r (λ id. IsLowestNotHeldIn first last old id)
 unfolding AllocatesIdIn HoldsId
 in_lowest old new first last (Err x) h = tt

@@ -13,8 +13,8 @@ use Rattle.vm_allocator.specs.IdRequests.{AllocatesExactId, AllocatesIdIn, Alloc
 use Rattle.vm_ranges.specs.declared.error.Error.{Error}
 use Rattle.vm_ranges.specs.declared.error.Error.TheVariants.{OutOfMemory}
 
--- A call with its result: the allocation of the lowest id, of a given id, of an id of a window or of several ids, the
--- freeing of an id, or the creation of a clone.
+-- A call with its result. It allocates the lowest id, a given id, an id of a window or several ids, frees an id, or creates
+-- a clone.
 pub data IdCall : Type 0 where
   Allocation : Result ℕ Error → IdCall
   ExactAllocation : ℕ → Result ℕ Error → IdCall

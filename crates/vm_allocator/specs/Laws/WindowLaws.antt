@@ -6,7 +6,7 @@ use Rattle.vm_engine.specs.Address.{AddressState}
 use Rattle.vm_engine.specs.Answer.{Allocates}
 use Rattle.vm_ranges.specs.declared.error.Error.{Error}
 
--- The request with this window, in place of its own.
+-- The request with this window.
 abbrev pub in_window : Range → Request → Request
 in_window window request = record request { window = Some window }
 

@@ -54,7 +54,7 @@ const ROWS: [Row; 41] = [
     In(19, 20, &[(20, 23)], &[(16, 19)]),
     In(23, 24, &[(20, 23), (24, 25)], &[]),
     In(27, 28, &[(28, 28)], &[(26, 27)]),
-    // What is in the way of a request.
+    // Two ranges are in the way of a request.
     Ask(Exact(4, 1, 22), NotAvailable),
     In(22, 25, &[(20, 23), (24, 25)], &[]),
     Ask(Exact(4, 1, 16), Range(16, 19)),

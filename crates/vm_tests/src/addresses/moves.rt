@@ -11,12 +11,12 @@ fn moved_ranges(rt: HostRuntime) {
     let rows = &[
         (Exact(8, 8, 8), Range(8, 15)),
         (Exact(4, 4, 32), Range(32, 35)),
-        // To a gap, to its own start, and next to another range.
+        // A range moves to a gap, to its own start, and next to another range.
         (Move(8, 15, 40), Range(40, 47)),
         (Move(40, 47, 40), Range(40, 47)),
         (Move(40, 47, 24), Range(24, 31)),
         (Move(32, 35, 0), Range(0, 3)),
-        // To the place where it was, to both ends of the space, and to any start.
+        // A range moves to where it was, to both ends of the space, and to any start.
         (Move(24, 31, 40), Range(40, 47)),
         (Move(40, 47, 56), Range(56, 63)),
         (Move(0, 3, 5), Range(5, 8)),

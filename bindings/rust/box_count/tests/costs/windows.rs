@@ -20,8 +20,8 @@ const fn gap(number: u64) -> u64 {
     16 * number + 4
 }
 
-/// A window by its ends, a request by size and alignment, the starts that `FirstMatch` and
-/// `LastMatch` choose, and the number of gaps in the window that are long enough but misaligned.
+/// A window by its ends and a request by size and alignment. The starts that `FirstMatch` and
+/// `LastMatch` choose follow, and the number of misaligned gaps in the window.
 type Row = ((u64, u64), (u64, u64), Option<(u64, u64)>, u64);
 
 const ROWS: [Row; 8] = [
