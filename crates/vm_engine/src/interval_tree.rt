@@ -45,9 +45,9 @@ pub(crate) mod placement;
 /// The blocks of an address space, in a balanced tree.
 #[derive(Debug, Drop)]
 pub struct IntervalTree {
-    pub(crate) root: Child,
     /// The number of allocated ranges.
     pub(crate) held_count: u64,
+    pub(crate) root: Child,
     /// The number of free addresses.
     pub(crate) clear_count: u64,
 }

@@ -122,6 +122,7 @@ fn parse_words(line: &[u8]) -> Option<Command>
 }
 
 /// Parses a command for the ids or for the devices.
+#[inline(always)]
 #[tactic(auto, using(crate::proofs::Names::none_of_ids))]
 fn parse_ids_command(line: &[u8]) -> Option<Command>
     ensures { result ≡ ids_command (words_of line.now) }

@@ -10,7 +10,6 @@ ghost use Rattle.vm_engine.specs.Engine.NodeFields.{side};
 use super::summary::{Change, refresh_free};
 use super::{Child, InnerNode};
 use crate::Steps;
-use crate::block::Block;
 use crate::ordering::compare;
 use std::cmp::Ordering;
 use vm_ranges::{NodeState, RangeInclusive};
@@ -24,10 +23,8 @@ impl InnerNode {
         ensures blocks { blocks self.new ≡ with_block (root_block self.old).key key node_state (blocks self.old) }
         ensures keeps { KeepsShape self.old self.new result }
     {
-        self.block = Block {
-            key,
-            state: node_state,
-        };
+        self.block.key = key;
+        self.block.state = node_state;
         refresh_free(&self.left, &self.right, &self.block, &mut self.summary)
     }
 }

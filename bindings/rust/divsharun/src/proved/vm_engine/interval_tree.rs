@@ -37,9 +37,9 @@ pub(in crate::proved::vm_engine) mod placement;
 /// The blocks of an address space, in a balanced tree.
 #[derive(Debug)]
 pub struct IntervalTree {
-    pub(in crate::proved::vm_engine) root: Child,
     /// The number of allocated ranges.
     pub(in crate::proved::vm_engine) held_count: u64,
+    pub(in crate::proved::vm_engine) root: Child,
     /// The number of free addresses.
     pub(in crate::proved::vm_engine) clear_count: u64,
 }

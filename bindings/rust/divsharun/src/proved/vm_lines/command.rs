@@ -116,6 +116,7 @@ fn parse_words(line: &[u8]) -> Option<Command> {
 }
 
 /// Parses a command for the ids or for the devices.
+#[inline(always)]
 fn parse_ids_command(line: &[u8]) -> Option<Command> {
     if let Some(rest) = strip_prefix(b"ids ", line) {
         let (range_base, range_end) = two_ids(rest)?;

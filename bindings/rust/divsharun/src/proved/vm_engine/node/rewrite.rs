@@ -5,7 +5,6 @@
 use super::summary::{Change, refresh_free};
 use super::{Child, InnerNode};
 use crate::proved::vm_engine::Steps;
-use crate::proved::vm_engine::block::Block;
 use crate::proved::vm_engine::ordering::compare;
 use core::cmp::Ordering;
 use crate::proved::vm_ranges::{NodeState, RangeInclusive};
@@ -14,10 +13,8 @@ impl InnerNode {
     /// Changes the key and the state of this node. The new key keeps its position in the order.
     /// Returns the change of the node's summary.
     pub(super) fn rewrite_here(&mut self, key: RangeInclusive, node_state: NodeState) -> Change {
-        self.block = Block {
-            key,
-            state: node_state,
-        };
+        self.block.key = key;
+        self.block.state = node_state;
         refresh_free(&self.left, &self.right, &self.block, &mut self.summary)
     }
 }
