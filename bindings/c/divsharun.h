@@ -6,7 +6,7 @@
  *     dvs_address_allocator *mmio;
  *     dvs_range bar;
  *
- *     if (dvs_address_allocator_new(0xd0000000, 0x30000000, &mmio) != DVS_OK)
+ *     if (dvs_address_allocator_new(0xd0000000, 0x2ec00000, &mmio) != DVS_OK)
  *         return -1;
  *     if (dvs_range_allocate_first(mmio, 0x1000, 0x1000, &bar, NULL) == DVS_OK)
  *         dvs_range_free(mmio, bar, NULL);

@@ -21,7 +21,7 @@ use core::iter::FusedIterator;
 /// use divsharun::{AddressAllocator, AllocPolicy, Error};
 ///
 /// // The gap below 4 GiB.
-/// let mut mmio = AddressAllocator::new(0xd000_0000, 0x3000_0000)?;
+/// let mut mmio = AddressAllocator::new(0xd000_0000, 0x2ec0_0000)?;
 /// let window = mmio.allocate(0x1000, 0x1000, AllocPolicy::FirstMatch)?;
 /// let other = mmio.allocate(0x1000, 0x1000, AllocPolicy::FirstMatch)?;
 /// assert!(!window.overlaps(&other));
@@ -516,7 +516,7 @@ impl AddressAllocator {
     /// ```rust
     /// use divsharun::{AddressAllocator, AllocPolicy, Error, RangeInclusive};
     ///
-    /// let mut mmio = AddressAllocator::new(0xd000_0000, 0x3000_0000)?;
+    /// let mut mmio = AddressAllocator::new(0xd000_0000, 0x2ec0_0000)?;
     /// let device = mmio.allocate(0x1000, 0x1000, AllocPolicy::ExactMatch(0xd000_3000))?;
     /// let window = RangeInclusive::new(0xd000_0000, 0xd000_ffff)?;
     /// let exact = AllocPolicy::ExactMatch(window.start());
@@ -547,7 +547,7 @@ impl AddressAllocator {
     /// ```rust
     /// use divsharun::{AddressAllocator, AllocPolicy};
     ///
-    /// let mut mmio = AddressAllocator::new(0xd000_0000, 0x3000_0000)?;
+    /// let mut mmio = AddressAllocator::new(0xd000_0000, 0x2ec0_0000)?;
     /// let window = mmio.allocate(0x1000, 0x1000, AllocPolicy::FirstMatch)?;
     /// // The guest accesses this address.
     /// assert_eq!(mmio.held_at(0xd000_0010), Some(window));

@@ -13,7 +13,7 @@ use core::iter::FusedIterator;
 /// ```rust
 /// use divsharun::{AllocPolicy, DeviceManager, DeviceSlot};
 ///
-/// let mut devices = DeviceManager::new(1, 31, 0xd000_0000, 0x3000_0000)?;
+/// let mut devices = DeviceManager::new(1, 31, 0xd000_0000, 0x2ec0_0000)?;
 /// let DeviceSlot { id, range } = devices.reserve(0x1000, 0x1000, AllocPolicy::FirstMatch)?;
 /// assert_eq!((id, range.start()), (1, 0xd000_0000));
 /// # Ok::<(), divsharun::Error>(())
@@ -63,7 +63,7 @@ impl DeviceSlot {
 /// ```rust
 /// use divsharun::{AllocPolicy, DeviceManager, Error};
 ///
-/// let mut devices = DeviceManager::new(0, 100, 0xd000_0000, 0x3000_0000)?;
+/// let mut devices = DeviceManager::new(0, 100, 0xd000_0000, 0x2ec0_0000)?;
 /// let disk = devices.reserve(0x1000, 0x1000, AllocPolicy::FirstMatch)?;
 /// devices.reserve(0x1000, 0x1000, AllocPolicy::FirstMatch)?;
 ///
@@ -277,7 +277,7 @@ impl DeviceManager {
     /// ```rust
     /// use divsharun::{AllocPolicy, DeviceManager};
     ///
-    /// let mut devices = DeviceManager::new(0, 100, 0xd000_0000, 0x3000_0000)?;
+    /// let mut devices = DeviceManager::new(0, 100, 0xd000_0000, 0x2ec0_0000)?;
     /// let disk = devices.reserve(0x1000, 0x1000, AllocPolicy::FirstMatch)?;
     /// // The guest accesses this address.
     /// assert_eq!(devices.device_at(0xd000_0010), Some(disk));

@@ -12,8 +12,14 @@
 //! ```rust
 //! use divsharun::{AddressAllocator, AllocPolicy, Constraint, IdAllocator, RangeInclusive, Result};
 //!
-//! // The gap below 4 GiB, and the interrupts of devices.
-//! let mut mmio = AddressAllocator::new(0xd000_0000, 0x3000_0000)?;
+//! // The gap below 4 GiB, with what is there on x86 allocated from the start: the I/O APIC, the local
+//! // APICs with MSI, and the firmware.
+//! let taken = [
+//!     RangeInclusive::from_start_len(0xfec0_0000, 0x1000)?,
+//!     RangeInclusive::from_start_len(0xfee0_0000, 0x10_0000)?,
+//!     RangeInclusive::from_start_len(0xffc0_0000, 0x40_0000)?,
+//! ];
+//! let mut mmio = AddressAllocator::with_held(0xd000_0000, 0x3000_0000, &taken)?;
 //! let mut interrupts = IdAllocator::new(5, 23)?;
 //!
 //! let window = mmio.allocate(0x1000, 0x1000, AllocPolicy::FirstMatch)?;
@@ -82,7 +88,7 @@
 //! use std::sync::{Arc, Mutex};
 //! use std::thread;
 //!
-//! let mmio = Arc::new(Mutex::new(AddressAllocator::new(0xd000_0000, 0x3000_0000)?));
+//! let mmio = Arc::new(Mutex::new(AddressAllocator::new(0xd000_0000, 0x2ec0_0000)?));
 //! let workers: Vec<_> = (0..4)
 //!     .map(|_| {
 //!         let mmio = Arc::clone(&mmio);
@@ -148,7 +154,7 @@
 //! # fn main() -> Result<(), Box<dyn std::error::Error>> {
 //! use divsharun::{AddressAllocator, AllocPolicy};
 //!
-//! let mut mmio = AddressAllocator::new(0xd000_0000, 0x3000_0000)?;
+//! let mut mmio = AddressAllocator::new(0xd000_0000, 0x2ec0_0000)?;
 //! mmio.allocate(0x1000, 0x1000, AllocPolicy::FirstMatch)?;
 //! let saved = serde_json::to_string(&mmio)?;
 //! assert_eq!(serde_json::from_str::<AddressAllocator>(&saved)?, mmio);

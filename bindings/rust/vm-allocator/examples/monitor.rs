@@ -56,13 +56,14 @@ struct Resources {
 }
 
 impl Resources {
-    /// Creates the resources. The interrupt controller, the firmware and the first memory have
-    /// ranges already.
+    /// Creates the resources. The interrupt controllers, the firmware and the first memory have
+    /// ranges already. The range of the local APICs is also that of MSI.
     fn new() -> Result<Self> {
-        let controller = RangeInclusive::new(0xfec0_0000, 0xfec0_0fff)?;
-        let firmware = RangeInclusive::new(0xffc0_0000, 0xffff_ffff)?;
-        let memory = RangeInclusive::new(4 * GIB, 64 * GIB - 1)?;
-        let taken = [controller, firmware, memory];
+        let io_apic = RangeInclusive::from_start_len(0xfec0_0000, PAGE)?;
+        let local_apics = RangeInclusive::from_start_len(0xfee0_0000, MIB)?;
+        let firmware = RangeInclusive::from_start_len(0xffc0_0000, 4 * MIB)?;
+        let memory = RangeInclusive::from_start_len(4 * GIB, 60 * GIB)?;
+        let taken = [io_apic, local_apics, firmware, memory];
         Ok(Resources {
             addresses: AddressAllocator::with_held(3 * GIB, 253 * GIB, &taken)?,
             interrupts: IdAllocator::new(24, 191)?,
@@ -242,7 +243,7 @@ fn main() -> Result<()> {
     let (start, size) = (132 * GIB, 8 * GIB);
     let refusal = shared.with(|resources| resources.plug_memory(start, size));
     assert!(matches!(refusal, Err(Error::ResourceNotAvailable)));
-    let asked = RangeInclusive::new(start, start + size - 1)?;
+    let asked = RangeInclusive::from_start_len(start, size)?;
     shared.with(|resources| {
         let in_the_way: Vec<_> = resources.addresses.held_ranges_in(&asked).collect();
         assert_eq!(in_the_way, [memory.range]);
