@@ -209,6 +209,8 @@ class address_allocator : public owner<dvs_address_allocator, dvs_address_alloca
         return code(dvs_gap_at(get(), address, &gap));
     }
     error longest_gap(uint64_t &length) const { return code(dvs_longest_gap(get(), &length)); }
+    error held_count(uint64_t &count) const { return code(dvs_range_count(get(), &count)); }
+    error clear_count(uint64_t &count) const { return code(dvs_clear_count(get(), &count)); }
     std::vector<dvs_range> ranges() const { return list_by<dvs_range>(dvs_range_visit); }
     std::vector<dvs_range> gaps() const { return list_by<dvs_range>(dvs_gap_visit); }
     error ranges_in(dvs_range within, std::vector<dvs_range> &ranges) const {
@@ -266,6 +268,7 @@ class id_allocator : public owner<dvs_id_allocator, dvs_id_allocator_destroy> {
         return code(dvs_ids_allocate(get(), ids.data(), ids.size()));
     }
     error free(uint32_t id) { return code(dvs_id_free(get(), id, nullptr)); }
+    error free_count(uint64_t &count) const { return code(dvs_id_free_count(get(), &count)); }
     std::vector<uint32_t> ids() const { return list_by<uint32_t>(dvs_id_visit); }
 };
 

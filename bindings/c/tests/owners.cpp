@@ -122,6 +122,8 @@ static void save() {
     CHECK(!space.make_with_held(0, 16, {range_of(1, 2), range_of(4, 4)}) && !space.save(text));
     CHECK(!copy.read(text) && copy.ranges().size() == 2);
     CHECK(copy.read("{}") == dvs::code(DVS_NOT_A_STATE) && copy.ranges().size() == 2);
+    uint64_t count = 0;
+    CHECK(!copy.held_count(count) && count == 2 && !copy.clear_count(count) && count == 13);
     dvs_text_fault fault;
     dvs_text_limits limits = {text.size() - 1, 0};
     CHECK(copy.read("{}", &fault) && fault.offset == 2 &&
@@ -131,6 +133,7 @@ static void save() {
     CHECK(!ids.save(text) && !ids.read(text) && ids.ids() == std::vector<uint32_t>{6});
     std::vector<uint32_t> several(2);
     CHECK(!ids.make_with_held(5, 9, {6}) && !ids.allocate_exact(8) && !ids.allocate_in(7, 9, id));
+    CHECK(!ids.free_count(count) && count == 2);
     CHECK(id == 7 && !ids.allocate_all(several) && several == std::vector<uint32_t>({5, 9}));
     CHECK(ids.allocate_all(several) == dvs::code(DVS_RESOURCE_NOT_AVAILABLE));
     CHECK(!devices.make(1, 9, 0, 64) && !devices.reserve_first(8, 8, device) && device.id == 1);
