@@ -40,7 +40,7 @@
  * returns DVS_OUT_OF_MEMORY. No call ends the process when memory runs out. This
  * is the last error, except in a call that reads a text or takes an array.
  *
- * Freeing a range, allocating an id and queries do not allocate memory. Saving
+ * Freeing a range, dvs_id_allocate() and queries do not allocate memory. Saving
  * and reading allocate less than 100 bytes for each allocated range, freed id
  * and device, beyond the text and the object. This is also true for an untrusted
  * text, and its part after the first fault allocates nothing.
@@ -671,11 +671,12 @@ dvs_status dvs_id_allocate_in(dvs_id_allocator *allocator, uint32_t first, uint3
 
 /*
  * Allocates the `count` lowest free ids, or none, and writes them to `ids` in
- * ascending order. The array can be null if `count` is 0. It does not allocate
- * memory.
+ * ascending order. The array can be null if `count` is 0.
  *
- * Errors, if fewer than `count` ids are free: DVS_OVERFLOW if the last id is
- * UINT32_MAX, and DVS_RESOURCE_NOT_AVAILABLE otherwise.
+ * Errors, in order:
+ * - DVS_OVERFLOW if fewer than `count` ids are free and the last id is UINT32_MAX.
+ * - DVS_RESOURCE_NOT_AVAILABLE if fewer than `count` ids are free otherwise.
+ * - DVS_OUT_OF_MEMORY.
  */
 DVS_WARN_UNUSED
 dvs_status dvs_ids_allocate(dvs_id_allocator *allocator, uint32_t *ids, size_t count);

@@ -118,15 +118,10 @@ unsafe fn allocate_into(
     if ids.is_null() && count > 0 {
         return Err(CallError::Null);
     }
-    let allocator = allocator.get_mut()?;
-    if allocator.free_count() < count as u64 {
-        // It does not allocate memory before this error.
-        allocator.allocate_ids(Global, count)?;
-    }
-    for index in 0..count {
-        let id = allocator.allocate_id()?;
+    let allocated = allocator.get_mut()?.allocate_ids(Global, count)?;
+    for (index, id) in allocated.iter().enumerate() {
         // SAFETY: there is a writable id for each index.
-        unsafe { ids.add(index).write(id) };
+        unsafe { ids.add(index).write(*id) };
     }
     Ok(())
 }

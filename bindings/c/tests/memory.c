@@ -302,6 +302,20 @@ static dvs_status allocate_all(void) {
     return freed(freed(status, ranges[0]), ranges[1]);
 }
 
+/* Allocates two of the freed ids, and frees them without a refusal. */
+static dvs_status allocate_ids(void) {
+    uint32_t several[2];
+    dvs_status status = dvs_ids_allocate(ids, several, 2);
+    unsigned long left = until_refused;
+    int i;
+
+    until_refused = 0;
+    for (i = 0; i < 2 && status == DVS_OK; i++)
+        CHECK(dvs_id_free(ids, several[i], NULL) == DVS_OK);
+    until_refused = left;
+    return status;
+}
+
 static dvs_status free_id(void) {
     dvs_status status = dvs_id_free(ids, 0, NULL);
     uint32_t id;
@@ -435,6 +449,7 @@ static const struct call {
     {"repair a space", read_space_repaired, 15},
     {"with ranges", make_with_held, 7},
     {"several requests", allocate_all, 5},
+    {"several ids", allocate_ids, 1},
     {"free an id", free_id, 1},
     {"with ids", make_ids_with_held, 3},
     {"an id above others", allocate_id_above, 3},
