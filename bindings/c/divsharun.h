@@ -45,14 +45,17 @@
  * and device, beyond the text and the object. This is also true for an untrusted
  * text, and its part after the first fault allocates nothing.
  *
- * Cost. Let k be the number of allocated ranges. Allocating and freeing a range
- * takes time of the order of log k, and so do dvs_range_is_held(), dvs_range_at()
- * and dvs_gap_at(). An alignment can make the search for a range visit more gaps.
- * A visit within a range takes time of the order of log k, plus the number of
- * allocated ranges and gaps that have an address in it.
- * Calls on ids and devices take logarithmic time too. Counts of ids and
- * devices, dvs_longest_gap() and the ends of a space take constant time. All
- * other calls take time linear in the size of the object or the text.
+ * Cost. Let k be the number of allocated ranges. Allocating, moving and freeing
+ * a range takes time of the order of log k, and so do dvs_range_is_held(),
+ * dvs_range_at() and dvs_gap_at(). An alignment can make the search for a range
+ * visit more gaps. A visit within a range takes time of the order of log k, plus
+ * the number of allocated ranges and gaps that have an address in it.
+ *
+ * Calls on one id or device take logarithmic time too, but dvs_id_allocate_exact()
+ * and dvs_id_allocate_in() also add each id that they skip to the freed ones.
+ * Counts, dvs_longest_gap() and the ends of a space or of a range of ids take
+ * constant time. All other calls take time linear in the size of the object, the
+ * array or the text.
  *
  * Stack. 64 KiB are enough for every call.
  *
@@ -436,8 +439,8 @@ dvs_status dvs_range_free(dvs_address_allocator *allocator, dvs_range range, dvs
  * - DVS_OVERFLOW if the new range would end past UINT64_MAX.
  * - DVS_INVALID_STATE_TRANSITION, with the new range, if exactly that range is
  *   already allocated.
- * - DVS_RESOURCE_NOT_AVAILABLE if an address of the new range is allocated, as
- *   those of `range` are, or outside the space.
+ * - DVS_RESOURCE_NOT_AVAILABLE if an address of the new range is allocated, also
+ *   if it is one of `range`, or is outside the space.
  * - DVS_OVERFLOW if the new range ends at UINT64_MAX, or more than 6 * 10^9
  *   ranges are allocated.
  * - DVS_OUT_OF_MEMORY.

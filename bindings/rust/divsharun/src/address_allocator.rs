@@ -276,7 +276,7 @@ impl AddressAllocator {
     /// - `ResourceNotAvailable` if `start` is outside the space.
     /// - `Overflow` if the new range would end past `u64::MAX`.
     /// - `InvalidStateTransition` if exactly the new range is already allocated.
-    /// - `ResourceNotAvailable` if an address of the new range is not free, as those of `key`.
+    /// - `ResourceNotAvailable` if an address of the new range is not free. Those of `key` are not.
     /// - `Overflow` if the new range ends at `u64::MAX`.
     /// - `Overflow` if the new range fills only a part of its gap and the height of the tree is 48 or
     ///   more. This takes more than 6 * 10^9 ranges.

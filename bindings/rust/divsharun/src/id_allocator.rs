@@ -31,7 +31,8 @@ use core::iter::FusedIterator;
 ///
 /// An `IdAllocator` keeps each id that was freed, and each id that was skipped below an allocated one.
 /// An [`AddressAllocator`](crate::AddressAllocator) whose addresses are ids keeps only ranges. It can
-/// also allocate a block of ids, aligned as a function with several interrupt vectors needs it:
+/// also allocate a block of ids that starts at a multiple of its length, as MSI with several vectors
+/// needs it:
 ///
 /// ```rust
 /// use divsharun::{AddressAllocator, AllocPolicy, Error};

@@ -43,9 +43,11 @@
 //! difference. These items are new:
 //!
 //! - [`DeviceManager`];
-//! - of an [`IdAllocator`]: [`peek_id`](IdAllocator::peek_id),
-//!   [`held_count`](IdAllocator::held_count), [`held_ids`](IdAllocator::held_ids), the ends of the
-//!   range and equality;
+//! - of an [`IdAllocator`]: [`with_held`](IdAllocator::with_held),
+//!   [`allocate_exact`](IdAllocator::allocate_exact), [`allocate_in`](IdAllocator::allocate_in),
+//!   [`allocate_ids`](IdAllocator::allocate_ids), [`peek_id`](IdAllocator::peek_id),
+//!   [`held_count`](IdAllocator::held_count), [`free_count`](IdAllocator::free_count),
+//!   [`held_ids`](IdAllocator::held_ids), the ends of the range and equality;
 //! - of an [`AddressAllocator`]: [`with_held`](AddressAllocator::with_held),
 //!   [`allocate_all`](AddressAllocator::allocate_all),
 //!   [`allocate_constraint`](AddressAllocator::allocate_constraint),
@@ -76,7 +78,7 @@
 //! [`DeviceManager::try_reserve`]. They return a [`TryError`] and change nothing on an error. Both
 //! kinds can be called on the same object.
 //!
-//! Freeing a range, allocating an id, comparisons and queries do not allocate.
+//! Freeing a range, [`IdAllocator::allocate_id`], comparisons and queries do not allocate.
 //!
 //! # Threads
 //!
