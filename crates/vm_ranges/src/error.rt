@@ -1,5 +1,6 @@
 //! The errors of calls, with the texts of the Rust crate.
 ghost use Rattle.std.specs.Prelude.{◌≡◌};
+ghost use Rattle.std.specs.Prelude.{None};
 ghost use Rattle.vm_ranges.specs.declared.error.Error.TheVariants.{OutOfMemory};
 
 use crate::range::RangeInclusive;
@@ -68,6 +69,39 @@ impl<T: Drop> From<AllocFailed<T>> for Error {
 
     fn from(_error: AllocFailed<T>) -> Error {
         Error::OutOfMemory
+    }
+}
+
+/// The error of a call with a list. It names the item of the list that failed.
+#[derive(Clone, Debug, Drop, PartialEq, Eq)]
+pub struct ListError {
+    /// The index of the item that failed, or `None` if no item is the cause.
+    pub index: Option<usize>,
+    /// The error.
+    pub error: Error,
+}
+
+impl From<Error> for ListError {
+    ghost from_gives = { λ error failure. failure ≡ record { index = None; error = error } };
+
+    fn from(error: Error) -> ListError {
+        ListError { index: None, error }
+    }
+}
+
+impl From<AllocError> for ListError {
+    ghost from_gives = { λ _ failure. failure ≡ record { index = None; error = OutOfMemory } };
+
+    fn from(error: AllocError) -> ListError {
+        ListError::from(Error::from(error))
+    }
+}
+
+impl From<ListError> for Error {
+    ghost from_gives = { λ failure error. error ≡ failure.error };
+
+    fn from(failure: ListError) -> Error {
+        failure.error
     }
 }
 
