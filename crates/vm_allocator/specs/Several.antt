@@ -1,5 +1,5 @@
 -- Several requests in one call.
-use Rattle.std.specs.Prelude.{◌≡◌, ◌⊎◌, List, [], ◌∷◌, Result, Ok, Err, MatchResult}
+use Rattle.std.specs.Prelude.{◌≡◌, ◌⊎◌, ℕ, List, [], ◌∷◌, ◌++◌, length, MatchOption, Result, Ok, Err, MatchResult}
 use Rattle.vm_ranges.specs.Range.{Range, address_count}
 use Rattle.vm_ranges.specs.Request.{Request, request_for}
 use Rattle.vm_engine.specs.Address.{AddressState, IsAddressState}
@@ -9,6 +9,7 @@ use Rattle.vm_engine.specs.Tree.SpaceTree.{tree_state}
 use Rattle.vm_engine.specs.Counts.Steps.{SplitsIfLow}
 use Rattle.vm_ranges.specs.declared.error.Error.{Error}
 use Rattle.vm_ranges.specs.declared.error.Error.TheVariants.{OutOfMemory}
+use Rattle.vm_ranges.specs.declared.error.ListError.{ListError}
 use Rattle.vm_ranges.specs.declared.constraint.AllocPolicy.TheVariants.{ExactMatch}
 
 -- The ranges that requests get in their order, if `step` is the result of one request. Each is allocated in the state that the
@@ -25,6 +26,23 @@ FailsBy step old [] e = ⊥
 FailsBy {X} step old (q ∷ qs) e =
     step old q (Err e) old
     ⊎ ((r : Range) × (mid : X) × step old q (Ok r) mid × FailsBy step mid qs e)
+
+-- The request with this index fails with this error after the ones before it got their ranges.
+pub record FailsAtIndex {X : Type 0} (step : X → Request → Result Range Error → X → Type 0) (old : X) (requests : List Request) (index : ℕ) (error : Error) : Type 0 where
+  pub before : List Request
+  pub request : Request
+  pub after : List Request
+  pub cut : requests ≡ before ++ request ∷ after
+  pub index_is : index ≡ length before
+  pub ranges : List Range
+  pub state : X
+  pub each : EachBy step old before ranges state
+  pub fails : step state request (Err error) state
+
+-- The request that an error names fails with that error. The error names none only if memory runs out.
+abbrev pub FailsAsNamed : {X : Type 0} → (X → Request → Result Range Error → X → Type 0) → X → List Request → ListError → Type 0
+FailsAsNamed step old requests failure =
+    MatchOption failure.index (failure.error ≡ OutOfMemory) (λ index. FailsAtIndex step old requests index failure.error)
 
 -- The ranges that requests get in their order, by the state of the allocator.
 abbrev pub AllocatesEach : AddressState → List Request → List Range → AddressState → Type 0

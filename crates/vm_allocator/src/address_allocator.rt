@@ -7,14 +7,15 @@
 //! `free` calls its counted version and drops the count, as the tree does in `allocate`. Some clauses
 //! follow from `answer`, and are there because callers rely on them: for example that some calls always
 //! succeed.
-ghost use Rattle.std.specs.Prelude.{ℕ, ◌≡◌, ◌%◌, Err, OnErr, OnOk, IfOk, IfSome, IsOk};
+ghost use Rattle.std.specs.Prelude.{ℕ, ◌≡◌, ◌%◌, Err, OnErr, OnOk, IfOk, IfErr, IfSome, IsOk};
 ghost use Rattle.std.specs.List.{Contains};
 ghost use Rattle.vm_engine.specs.Address.{IsAddressState, holding, releasing};
 ghost use Rattle.vm_ranges.specs.Range.{Covers, address_count};
 ghost use Rattle.vm_ranges.specs.Request.{request_for};
 ghost use Rattle.vm_engine.specs.Answer.{Allocates, FillsGap, Frees, IsChosen, Makes};
 ghost use Rattle.vm_allocator.specs.Allocator.{state_of, made_state};
-ghost use Rattle.vm_engine.specs.Held.{MakesSpace, MakesWithHeld};
+ghost use Rattle.vm_engine.specs.Held.{MakesSpace, MakesWithHeld, HasFaultIndex};
+ghost use Rattle.vm_ranges.specs.ListErrors.{by_error};
 ghost use Rattle.vm_ranges.specs.Cloning.{Clones};
 ghost use Rattle.vm_engine.specs.Tree.Shape.{height_of, node_count, IsLowestHeight};
 ghost use Rattle.vm_engine.specs.Counts.GapSearch.{SearchesGaps, SearchesAligned};
@@ -23,7 +24,7 @@ ghost use Rattle.vm_engine.specs.Counts.Steps.{EntersToAllocate, EntersToFree, I
 use std::alloc::Global;
 use std::marker::Model;
 use vm_engine::IntervalTree;
-use vm_ranges::{AllocPolicy, Constraint, Error, RangeInclusive, Result};
+use vm_ranges::{AllocPolicy, Constraint, Error, ListError, RangeInclusive, Result};
 
 mod comparing;
 mod gaps;
@@ -84,7 +85,7 @@ impl AddressAllocator {
     ///
     /// # Errors
     ///
-    /// In this order:
+    /// In this order. The error has the index of the range only for a range that cannot be allocated.
     /// - `Underflow` if `size` is 0.
     /// - `Overflow` if the space would end past `u64::MAX`.
     /// - For the first range that cannot be allocated:
@@ -95,8 +96,14 @@ impl AddressAllocator {
     /// - `Overflow` if the ranges and the gaps together are 2^49 or more.
     /// - `OutOfMemory` if the allocation of a node fails.
     #[tactic(auto, using(crate::proofs::Answers::Making::making_held, crate::proofs::Trees::trees))]
-    pub fn with_held(alloc: Global, base: u64, size: u64, held: &[RangeInclusive]) -> Result<Self>
-        ensures answer { MakesWithHeld base size held.now (made_state result) }
+    pub fn with_held(
+        alloc: Global,
+        base: u64,
+        size: u64,
+        held: &[RangeInclusive],
+    ) -> std::result::Result<Self, ListError>
+        ensures answer { MakesWithHeld base size held.now (made_state (by_error result)) }
+        ensures index { IfErr result (λ failure. HasFaultIndex base size held.now failure.index) }
         ensures low { IfOk result (λ allocator.
             IsLowestHeight (node_count allocator.tree) (height_of allocator.tree)) }
         ensures state { IfOk result (λ allocator. IsAddressState (state_of allocator)) }

@@ -1,5 +1,5 @@
 -- The results of creating a space with some ranges held.
-use Rattle.std.specs.Prelude.{◌≡◌, ℕ, ◌+◌, ◌-◌, ◌^◌, ◌<◌, ◌≤◌, ◌⊎◌, nat_lt, nat_eq, if◌then◌else◌, List, [], ◌∷◌, length, Option, Some, None, MatchOption, Result, Ok, Err}
+use Rattle.std.specs.Prelude.{◌≡◌, ℕ, ◌+◌, ◌-◌, ◌^◌, ◌<◌, ◌≤◌, ◌⊎◌, nat_lt, nat_eq, if◌then◌else◌, List, [], ◌∷◌, length, Option, Some, None, is_some, MatchOption, Result, Ok, Err}
 use Rattle.vm_ranges.specs.Cases.{IfElse}
 use Rattle.vm_ranges.specs.Range.{Range, MAX, span}
 use Rattle.vm_engine.specs.Address.{AddressState}
@@ -27,6 +27,11 @@ abbrev pub first_fault : ℕ → ℕ → List Range → Option Error
 first_fault lo hi [] = None
 first_fault lo hi (r ∷ rs) = or_else (range_fault lo hi r) (first_fault (r.end + 1) hi rs)
 
+-- The index of the first range that cannot be held after the ranges before it, or None. The first range has the index i.
+abbrev pub fault_index : ℕ → ℕ → ℕ → List Range → Option ℕ
+fault_index i lo hi [] = None
+fault_index i lo hi (r ∷ rs) = if is_some (range_fault lo hi r) then Some i else fault_index (i + 1) (r.end + 1) hi rs
+
 -- A tree of this many blocks or more is too high.
 abbrev pub TOO_MANY_BLOCKS : ℕ
 TOO_MANY_BLOCKS = 2 ^ 49
@@ -50,6 +55,12 @@ BySpace base size refused makes =
 -- The space of `size` addresses that starts at `base`, or the error.
 abbrev pub MakesSpace : ℕ → ℕ → Result Range Error → Type 0
 MakesSpace base size answer = BySpace base size (λ e. answer ≡ Err e) (λ space. answer ≡ Ok space)
+
+-- The index is that of the first range that cannot be held in the space of `size` addresses that starts at `base`, or None
+-- if there is none.
+abbrev pub HasFaultIndex : ℕ → ℕ → List Range → Option ℕ → Type 0
+HasFaultIndex base size held index =
+    BySpace base size (λ e. index ≡ None) (λ space. index ≡ fault_index 0 space.start space.end held)
 
 -- The result of creating an allocator of `size` addresses that starts at `base`, with these ranges held.
 abbrev pub MakesWithHeld : ℕ → ℕ → List Range → Result AddressState Error → Type 0

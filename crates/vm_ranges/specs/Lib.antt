@@ -2,6 +2,7 @@ pub mod Cases
 pub mod Range
 pub mod RangeOrder
 pub mod Making
+pub mod ListErrors
 pub mod Alignment
 pub mod Request
 pub mod Cloning

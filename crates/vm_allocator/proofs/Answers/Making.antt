@@ -1,5 +1,5 @@
 -- The results of creating an allocator, and the state of a new one.
-use Rattle.std.proofs.Common.{List, Result, ⊎_elim, subst, ◌≡◌, ℕ, ◌+◌, ◌-◌, ◌<◌, ◌≤◌, [], ◌∷◌, refl, ap, ◌∙◌, arith, inl, inr, Ok, Err}
+use Rattle.std.proofs.Common.{List, Result, ⊎_elim, subst, ◌≡◌, ℕ, ◌+◌, ◌-◌, ◌<◌, ◌≤◌, [], ◌∷◌, refl, ap, ◌∙◌, arith, inl, inr, Option, None, Ok, Err}
 use Rattle.vm_ranges.specs.Range.{Range, MAX, span}
 use Rattle.vm_engine.specs.Answer.{Makes}
 use Rattle.vm_engine.specs.Address.{AddressState}
@@ -7,7 +7,7 @@ use Rattle.vm_ranges.specs.declared.error.Error.{Error}
 use Rattle.vm_engine.specs.Tree.Shape.{Shape, blocks}
 use Rattle.vm_engine.specs.Tree.SpaceTree.{space_of, tree_state}
 use Rattle.vm_engine.proofs.Making.HeldTrees.{held_made}
-use Rattle.vm_engine.specs.Held.{BySpace, MakesSpace, MakesHeld, MakesWithHeld}
+use Rattle.vm_engine.specs.Held.{BySpace, MakesSpace, MakesHeld, MakesWithHeld, HasFaultIndex, fault_index}
 use Rattle.vm_engine.specs.Tree.Blocks.{blocks_state, TilesSpace, IsTiling}
 use Rattle.vm_ranges.specs.declared.error.Error.TheVariants.{Overflow, Underflow, OutOfMemory}
 use Rattle.vm_ranges.specs.declared.state.NodeState.TheVariants.{Free}
@@ -76,10 +76,26 @@ without_space base size held e s =
     (λ r. ⊎_elim (λ l. inr (r.0, inl (l.0, cc (l.1)))) (λ k. absurd (cc (k.1))) r.1)
     s
 
+pub index_over_space : (base size : ℕ) (sp : Range) (held : List Range) (index : Option ℕ) → MakesSpace base size (Ok sp) → index ≡ fault_index 0 sp.start sp.end held → HasFaultIndex base size held index
+unfolding BySpace
+index_over_space base size sp held index s h =
+    ⊎_elim
+    (λ l. absurd (cc (l.1)))
+    (λ r. ⊎_elim (λ l. absurd (cc (l.1))) (λ k. let e : sp ≡ span base size = cc (k.1) in inr (r.0, inr (k.0, subst (λ (v : Range). index ≡ fault_index 0 v.start v.end held) e h))) r.1)
+    s
+
+pub no_index : (base size : ℕ) (held : List Range) (index : Option ℕ) (e : Error) → MakesSpace base size (Err e) → index ≡ None → HasFaultIndex base size held index
+unfolding BySpace
+no_index base size held index e s none =
+    ⊎_elim
+    (λ l. inl (l.0, none))
+    (λ r. ⊎_elim (λ l. inr (r.0, inl (l.0, none))) (λ k. absurd (cc (k.1))) r.1)
+    s
+
 -- The space of a tree is the one that it was made for.
 pub space_of_made : (space : Range) (held : List Range) (s : Shape) → MakesHeld space held (Ok (tree_state s)) → space_of (blocks s) ≡ space
 space_of_made space held s m = ap (λ (v : AddressState). v.space) (held_made space held (tree_state s) m)
 
-pub ruleset making_held = (no_space, space_past, space_made, over_space, without_space, space_of_made)
+pub ruleset making_held = (no_space, space_past, space_made, over_space, without_space, index_over_space, no_index, space_of_made)
 
 pub ruleset making = (no_space, space_past, space_made, new_refused, new_memory, new_made, tiles_space)

@@ -1,7 +1,7 @@
 -- Several requests, and the frees of their ranges in the opposite order.
 use Rattle.std.proofs.Common.{◌≡◌, ℕ, ◌+◌, ◌<◌, List, [], ◌∷◌, ◌++◌, length, take, drop, get_or, refl, sym, ap, ◌∙◌, subst, zero, suc, arith, inl, inr, Result, Ok, Err}
 use Rattle.std.proofs.Math.Seq.{drop-cons, drop-length}
-use Rattle.std.proofs.lemmas.List.{take-append-drop, append-nil}
+use Rattle.std.proofs.lemmas.List.{take-append-drop, append-nil, length-take-le}
 use Rattle.vm_ranges.specs.Range.{Range}
 use Rattle.vm_ranges.specs.Request.{Request, IsRequest, ByConstraint}
 use Rattle.vm_engine.specs.Address.{AddressState, IsAddressState}
@@ -9,7 +9,7 @@ use Rattle.vm_engine.specs.Answer.{Grants, Allocates, Frees}
 use Rattle.vm_engine.specs.Tree.Shape.{Shape, height_of}
 use Rattle.vm_engine.specs.Counts.Steps.{SplitsIfLow}
 use Rattle.vm_engine.specs.Tree.SpaceTree.{tree_state}
-use Rattle.vm_allocator.specs.Several.{EachBy, FailsBy, AllocatesEach, RefusesOne, AllocatesInTree}
+use Rattle.vm_allocator.specs.Several.{EachBy, FailsBy, FailsAtIndex, AllocatesEach, RefusesOne, AllocatesInTree}
 use Rattle.vm_ranges.specs.declared.error.Error.{Error}
 use Rattle.vm_engine.proofs.Answers.AddressAnswers.{allocated_state, freeing_undoes}
 use Rattle.vm_allocator.proofs.Callers.{given}
@@ -87,16 +87,26 @@ one_more step all i rs old mid new q r l e s a =
     let next : i + 1 ≡ suc i = omega arith in
     subst (λ (v : List Request). EachBy step old v (rs ++ r ∷ []) new) (sym (ap (λ (n : ℕ). take n all) next ∙ take_more all i q l e)) (each_more step (take i all) rs old mid new q r s a)
 
-pub refused_at : {X : Type 0} (step : X → Request → Result Range Error → X → Type 0) (all : List Request) (i : ℕ) (rs : List Range) (old mid : X) (q : Request) (e : Error) → i < length all → q ≡ get_or all i q → EachBy step old (take i all) rs mid → step mid q (Err e) mid → FailsBy step old all e
-refused_at step all i rs old mid q e l is s a = subst (λ (v : List Request). FailsBy step old v e) (sym (cut_at all i q l is)) (one_refused step (take i all) rs old mid q (drop (suc i) all) e s a)
+pub refused_by : {X : Type 0} (step : X → Request → Result Range Error → X → Type 0) (old : X) (all : List Request) (i : ℕ) (e : Error) → FailsAtIndex step old all i e → FailsBy step old all e
+refused_by step old all i e h = subst (λ (v : List Request). FailsBy step old v e) (sym h.cut) (one_refused step h.before h.ranges old h.state h.request h.after e h.each h.fails)
 
 -- ---- One request in a tree
 -- The result of a valid request in a tree.
 pub in_tree : (request : Request) (old new : Shape) (answer : Result Range Error) → IsRequest request → Grants (tree_state old) request answer (tree_state new) → SplitsIfLow (height_of old) (tree_state old) request answer → AllocatesInTree old request answer new
 in_tree request old new answer v g d = record { state = request_allocates request (tree_state old) (tree_state new) answer v g; depth = d }
 
-pub refused_in_tree : (all : List Request) (i : ℕ) (rs : List Range) (old mid new : Shape) (q : Request) (e : Error) → i < length all → q ≡ get_or all i q → EachBy AllocatesInTree old (take i all) rs mid → AllocatesInTree mid q (Err e) new → new ≡ mid → FailsBy AllocatesInTree old all e
-refused_in_tree all i rs old mid new q e l is s a same = refused_at AllocatesInTree all i rs old mid q e l is s (subst (λ (v : Shape). AllocatesInTree mid q (Err e) v) same a)
+pub failed_in_tree : (all : List Request) (i : ℕ) (rs : List Range) (old mid new : Shape) (q : Request) (e : Error) → i < length all → q ≡ get_or all i q → EachBy AllocatesInTree old (take i all) rs mid → AllocatesInTree mid q (Err e) new → new ≡ mid → FailsAtIndex AllocatesInTree old all i e
+failed_in_tree all i rs old mid new q e l is s a same = record {
+  before = take i all;
+  request = q;
+  after = drop (suc i) all;
+  cut = cut_at all i q l is;
+  index_is = sym (length-take-le i all (omega arith));
+  ranges = rs;
+  state = mid;
+  each = s;
+  fails = subst (λ (v : Shape). AllocatesInTree mid q (Err e) v) same a;
+}
 
 -- The requests got their ranges up to this tree, so they did in the state of any equal tree.
 pub each_up_to : (qs : List Request) (rs : List Range) (old mid new : Shape) → EachBy AllocatesInTree old qs rs mid → new ≡ mid → AllocatesEach (tree_state old) qs rs (tree_state new)

@@ -1,15 +1,15 @@
 //! Several allocations in one call: all or none.
-ghost use Rattle.std.specs.Prelude.{◌≡◌, ◌⊎◌, List, MatchResult};
+ghost use Rattle.std.specs.Prelude.{◌≡◌, List, IfErr, IfOk, MatchResult};
 ghost use Rattle.vm_ranges.specs.Request.{Request};
 ghost use Rattle.vm_engine.specs.Address.{AddressState, IsAddressState};
 ghost use Rattle.vm_engine.specs.Tree.SpaceTree.{tree_state};
 ghost use Rattle.vm_allocator.specs.Allocator.{state_of};
-ghost use Rattle.vm_allocator.specs.Several.{EachBy, FailsBy, AllocatesEach, FailsAll, AllocatesInTree};
+ghost use Rattle.vm_allocator.specs.Several.{EachBy, FailsAsNamed, AllocatesEach, FailsAll, AllocatesInTree};
 
 use super::AddressAllocator;
 use std::alloc::Global;
 use vm_engine::IntervalTree;
-use vm_ranges::{Constraint, Error, RangeInclusive, Result};
+use vm_ranges::{Constraint, ListError, RangeInclusive};
 
 impl AddressAllocator {
     /// Allocates a range for each request, in their order, and returns the ranges. Each range is where
@@ -20,25 +20,26 @@ impl AddressAllocator {
     /// An error leaves the same ranges allocated, because the ranges allocated so far are freed again.
     /// All later calls have the same results. The shape of the tree can differ, and so the height, the
     /// counts of later calls and `to_value`.
-    /// - `OutOfMemory` if the allocation of the list fails. This is checked first.
-    /// - The error of the first request that fails.
+    /// - `OutOfMemory` without an index if the allocation of the list fails. This is checked first.
+    /// - The error of the first request that fails, with its index.
     pub fn allocate_all(
         &mut self,
         alloc: Global,
         requests: &[Constraint],
-    ) -> Result<Vec<RangeInclusive>>
+    ) -> std::result::Result<Vec<RangeInclusive>, ListError>
         ensures answer { MatchResult result
             (λ ranges. AllocatesEach (state_of self.old) requests.now ranges.items (state_of self.new))
-            (λ error. FailsAll (state_of self.old) requests.now error (state_of self.new)) }
+            (λ failure. FailsAll (state_of self.old) requests.now failure.error (state_of self.new)) }
         // The limit on the height is checked before memory is allocated.
-        ensures depth { MatchResult result
-            (λ ranges. EachBy AllocatesInTree self.old.tree requests.now ranges.items self.new.tree)
-            (λ error. (error ≡ Error.OutOfMemory) ⊎ FailsBy AllocatesInTree self.old.tree requests.now error) }
+        ensures depth { IfOk result (λ ranges.
+            EachBy AllocatesInTree self.old.tree requests.now ranges.items self.new.tree) }
+        ensures failed { IfErr result (λ failure.
+            FailsAsNamed AllocatesInTree self.old.tree requests.now failure) }
         ensures state { IsAddressState (state_of self.new) }
     {
         let tree = &mut self.interval_tree;
         let mut ranges = Vec::with_capacity(alloc, requests.len())?;
-        for request in requests {
+        for (index, request) in requests.iter().enumerate() {
             match tree.allocate(alloc, *request) {
                 Ok(range) => {
                     let Ok(()) = ranges.push(range) else {
@@ -47,7 +48,8 @@ impl AddressAllocator {
                 }
                 Err(error) => {
                     free_all(tree, &mut ranges);
-                    return Err(error);
+                    let index = Some(index);
+                    return Err(ListError { index, error });
                 }
             }
         }

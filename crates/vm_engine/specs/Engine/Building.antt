@@ -3,10 +3,10 @@ use Rattle.std.specs.Prelude.{◌≡◌, ℕ, ◌+◌, ◌<◌, ◌≤◌, List,
 use Rattle.vm_ranges.specs.Range.{Range, MAX}
 use Rattle.vm_engine.specs.Tree.Block.{Block}
 use Rattle.vm_engine.specs.Address.{AreInOrder}
-use Rattle.vm_engine.specs.Held.{first_fault}
+use Rattle.vm_engine.specs.Held.{first_fault, fault_index}
 use Rattle.vm_engine.specs.Tree.Blocks.{blocks_between}
 use Rattle.vm_engine.specs.Tree.Shape.{Shape, blocks, height_of, node_count, IsLowestHeight, IsBalanced}
-use Rattle.vm_ranges.specs.declared.error.Error.{Error}
+use Rattle.vm_ranges.specs.declared.error.ListError.{ListError}
 use Rattle.vm_engine.specs.declared.interval_tree.building.BlockCursor.{BlockCursor}
 
 -- The blocks that are not built yet: the gaps and the held ranges.
@@ -26,11 +26,14 @@ pub record IsBuilt (n : ℕ) (old : List Block) (tree : Shape) (new : List Block
   pub balanced : IsBalanced tree
   pub height : IsLowestHeight n (height_of tree)
 
--- The number of blocks of the space with these ranges held, or the error of the first range that cannot be held.
-abbrev pub CountsBlocks : Range → List Range → Result ℕ Error → Type 0
+-- The number of blocks of the space with these ranges held, or the error and the index of the first range that cannot be
+-- held.
+abbrev pub CountsBlocks : Range → List Range → Result ℕ ListError → Type 0
 CountsBlocks space held answer =
     MatchResult answer
     (λ n. (first_fault space.start space.end held ≡ None)
     × AreInOrder space.start held space.end
-    × (n ≡ length (blocks_between space.start held space.end)))
-    (λ error. first_fault space.start space.end held ≡ Some error)
+    × (n ≡ length (blocks_between space.start held space.end))
+    × (fault_index 0 space.start space.end held ≡ None))
+    (λ failure. (first_fault space.start space.end held ≡ Some failure.error)
+    × (failure.index ≡ fault_index 0 space.start space.end held))

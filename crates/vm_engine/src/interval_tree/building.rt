@@ -4,11 +4,12 @@
 //! from the middle, so no rotation is needed.
 ghost use Rattle.std.specs.Prelude.{◌≡◌, ◌≢◌, ◌+◌, ◌<◌, ◌≤◌, ◌∷◌, [], Some, None, length, IfOk, IfErr, MatchResult};
 ghost use Rattle.vm_ranges.specs.Range.{address_count};
+ghost use Rattle.vm_ranges.specs.ListErrors.{by_error};
 ghost use Rattle.vm_engine.specs.Address.{AreInOrder, IsAddressState};
 ghost use Rattle.vm_engine.specs.Tree.Shape.{height_of, node_count, IsLowestHeight};
 ghost use Rattle.vm_engine.specs.Tree.SpaceTree.{tree_state, made_tree};
 ghost use Rattle.vm_engine.specs.Queries.{count_of};
-ghost use Rattle.vm_engine.specs.Held.{TOO_MANY_BLOCKS, MakesHeld, range_fault};
+ghost use Rattle.vm_engine.specs.Held.{TOO_MANY_BLOCKS, MakesHeld, range_fault, fault_index};
 ghost use Rattle.vm_engine.specs.Engine.NodeFields.{side};
 ghost use Rattle.vm_engine.specs.Engine.Building.{remaining_blocks, IsBlockCursor, IsBuilt, CountsBlocks};
 
@@ -17,7 +18,7 @@ use crate::block::Block;
 use crate::node::{Child, InnerNode};
 use crate::ordering::valid_range;
 use std::alloc::Global;
-use vm_ranges::{Error, NodeState, RangeInclusive, Result};
+use vm_ranges::{Error, ListError, NodeState, RangeInclusive, Result};
 
 /// A tree of this many blocks or more is too high.
 const TOO_MANY_BLOCKS: u64 = 1 << 49;
@@ -28,7 +29,7 @@ impl IntervalTree {
     ///
     /// # Errors
     ///
-    /// In this order:
+    /// In this order. The error has the index of the range only for a range that cannot be allocated.
     /// - For the first range that cannot be allocated:
     ///   - `ResourceNotAvailable` if it does not start after the end of the range before it.
     ///   - `Overflow` if it starts at `u64::MAX`.
@@ -37,14 +38,19 @@ impl IntervalTree {
     /// - `Overflow` if the ranges and the gaps together are 2^49 or more.
     /// - `OutOfMemory` if the allocation of a node fails.
     #[tactic(auto, using(crate::proofs::Making::HeldTrees::makings))]
-    pub fn with_held(alloc: Global, key: RangeInclusive, held: &[RangeInclusive]) -> Result<Self>
-        ensures answer { MakesHeld key held.now (made_tree result) }
+    pub fn with_held(
+        alloc: Global,
+        key: RangeInclusive,
+        held: &[RangeInclusive],
+    ) -> std::result::Result<Self, ListError>
+        ensures answer { MakesHeld key held.now (made_tree (by_error result)) }
+        ensures index { IfErr result (λ failure. failure.index ≡ fault_index 0 key.start key.end held.now) }
         ensures low { IfOk result (λ tree. IsLowestHeight (node_count tree) (height_of tree)) }
         ensures state { IfOk result (λ tree. IsAddressState (tree_state tree)) }
     {
         let count = count_blocks(&key, held)?;
         if count >= TOO_MANY_BLOCKS {
-            return Err(Error::Overflow);
+            return Err(Error::Overflow.into());
         }
         let mut cursor = BlockCursor {
             next: key.start().into(),
@@ -62,14 +68,20 @@ impl IntervalTree {
 
 /// Returns the number of blocks of the space with these ranges allocated, or the error of the first
 /// range that cannot be allocated.
-fn count_blocks(space: &RangeInclusive, held: &[RangeInclusive]) -> Result<u64>
+fn count_blocks(
+    space: &RangeInclusive,
+    held: &[RangeInclusive],
+) -> std::result::Result<u64, ListError>
     ensures checked { CountsBlocks space.now held.now result }
 {
     let end = space.end();
     let mut next = space.start();
     let mut count = 0;
-    for range in held {
-        check_next(next, end, range)?;
+    for (index, range) in held.iter().enumerate() {
+        if let Err(error) = check_next(next, end, range) {
+            let index = Some(index);
+            return Err(ListError { index, error });
+        }
         if next < range.start() {
             count += 1;
         }

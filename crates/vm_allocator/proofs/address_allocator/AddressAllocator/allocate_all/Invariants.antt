@@ -6,10 +6,10 @@ use Rattle.vm_allocator.specs.Several.{EachBy, AllocatesInTree}
 use Rattle.vm_allocator.proofs.address_allocator.AddressAllocator.allocate_all.Given as goal
 
 -- The requests so far got the ranges so far, and the list has capacity for the others.
-abbrev pub invariant-loop-request : goal.invariant-loop-request
-invariant-loop-request l = record {
-  each : EachBy AllocatesInTree l.initial.tree (take l.request-index l.requests) l.ranges.items l.tree;
+abbrev pub invariant-loop-index : goal.invariant-loop-index
+invariant-loop-index l = record {
+  each : EachBy AllocatesInTree l.initial.tree (take l.index l.requests) l.ranges.items l.tree;
   state : IsAddressState (tree_state l.tree);
-  many : vec_len l.ranges ≡ l.request-index;
+  many : vec_len l.ranges ≡ l.index;
   room : length l.requests ≤ vec_capacity l.ranges;
 }

@@ -8,13 +8,13 @@ use Rattle.vm_engine.proofs.interval_tree.IntervalTree.with_held.Goals as goal
 pub invariant_of-result : goal.invariant_of-result
 invariant_of-result c =
     let n = c.in_ok-count.ensures.checked in
-    let built : IsBuilt c.in_ok-count.count (blocks_between c.args.key.start c.args.held.now c.args.key.end) (side c.in_ok-root.root) _ = rw (c.into.ensures, c.start.ensures.value, c.end.ensures.value) at c.in_ok-root.ensures.built in
+    let built : IsBuilt c.in_ok-count.count (blocks_between c.args.key.start c.args.held.now c.args.key.end) (side c.in_ok-root.root) _ = rw (c.into-2.ensures, c.start.ensures.value, c.end.ensures.value) at c.in_ok-root.ensures.built in
     built_counted c.args.key c.args.held.now c.start.ensures.range n.1 _ n.2 (let f = c.if-count-ge-TOO_MANY_BLOCKS.false in omega arith) (side c.in_ok-root.root) _ built _ c.count_left.ensures
 
 pub returns-clause-state : goal.returns-clause-state
 returns-clause-state c =
     let n = c.in_ok-count.ensures.checked in
-    let built : IsBuilt c.in_ok-count.count (blocks_between c.args.key.start c.args.held.now c.args.key.end) (side c.in_ok-root.root) _ = rw (c.into.ensures, c.start.ensures.value, c.end.ensures.value) at c.in_ok-root.ensures.built in
+    let built : IsBuilt c.in_ok-count.count (blocks_between c.args.key.start c.args.held.now c.args.key.end) (side c.in_ok-root.root) _ = rw (c.into-2.ensures, c.start.ensures.value, c.end.ensures.value) at c.in_ok-root.ensures.built in
     built_is_state c.args.key c.args.held.now c.start.ensures.range n.1 _ n.2 (let f = c.if-count-ge-TOO_MANY_BLOCKS.false in omega arith) (side c.in_ok-root.root) _ built
 
 pub returns-clause-low : goal.returns-clause-low
