@@ -275,6 +275,9 @@ dvs_status dvs_address_allocator_new(uint64_t base, uint64_t size,
  * ranges of `held` are allocated. They must be in ascending order. `held` can be
  * null if `count` is 0.
  *
+ * On an error of a range, its index is written to `failed`, which can be null.
+ * Otherwise `count` is written to it.
+ *
  * Errors, in order:
  * - DVS_INVALID_RANGE, with the first range that is not a valid range.
  * - DVS_OUT_OF_MEMORY if the allocation of a copy of the list fails.
@@ -292,7 +295,7 @@ dvs_status dvs_address_allocator_new(uint64_t base, uint64_t size,
 DVS_WARN_UNUSED
 dvs_status dvs_address_allocator_with_held(uint64_t base, uint64_t size, const dvs_range *held,
                                            size_t count, dvs_address_allocator **allocator,
-                                           dvs_refusal *refusal);
+                                           size_t *failed, dvs_refusal *refusal);
 
 /*
  * Destroys an allocator, with all its allocated ranges. It does nothing if the
@@ -406,7 +409,10 @@ dvs_status dvs_range_allocate(dvs_address_allocator *allocator, const dvs_reques
  * Otherwise `count` is written to it.
  *
  * Errors, in order:
- * - DVS_OUT_OF_MEMORY if the allocation of a list of ranges fails.
+ * - For the first request that is invalid for every allocator:
+ *   DVS_INVALID_POLICY, DVS_INVALID_RANGE, DVS_INVALID_SIZE,
+ *   DVS_INVALID_ALIGNMENT or DVS_UNALIGNED_ADDRESS.
+ * - DVS_OUT_OF_MEMORY if the allocation of a list fails.
  * - For the first request that fails: the error of dvs_range_allocate().
  */
 DVS_WARN_UNUSED

@@ -157,10 +157,10 @@ class address_allocator : public owner<dvs_address_allocator, dvs_address_alloca
         return create([=](object **out) { return dvs_address_allocator_new(base, size, out); });
     }
     error make_with_held(uint64_t base, uint64_t size, const std::vector<dvs_range> &held,
-                         dvs_refusal *refusal = nullptr) {
+                         std::size_t *failed = nullptr, dvs_refusal *refusal = nullptr) {
         return create([&](object **out) {
             return dvs_address_allocator_with_held(base, size, held.data(), held.size(), out,
-                                                   refusal);
+                                                   failed, refusal);
         });
     }
     error read(const std::string &text, dvs_text_fault *fault = nullptr,

@@ -1,7 +1,7 @@
 //! Calls with arrays of ranges and of requests.
 
 use crate::handle::{create, non_null};
-use crate::proved::vm_allocator::{AddressAllocator, RangeInclusive};
+use crate::proved::vm_allocator::{AddressAllocator, ListError};
 use crate::ranges::dvs_address_allocator;
 use crate::rattle::Global;
 use crate::requests::dvs_request;
@@ -33,12 +33,62 @@ pub(crate) unsafe fn array<'a, T>(first: *const T, count: usize) -> Result<&'a [
     Ok(unsafe { slice::from_raw_parts(first, count) })
 }
 
-/// Creates an empty list with memory for a number of ranges.
-fn list_for(count: usize) -> Result<Vec<RangeInclusive>, CallError> {
+/// The error of a call with an array, and the index of the member that failed, if one did.
+struct ArrayError {
+    index: Option<usize>,
+    error: CallError,
+}
+
+impl From<CallError> for ArrayError {
+    fn from(error: CallError) -> Self {
+        ArrayError { index: None, error }
+    }
+}
+
+impl From<ListError> for ArrayError {
+    fn from(ListError { index, error }: ListError) -> Self {
+        let error = error.into();
+        ArrayError { index, error }
+    }
+}
+
+/// Converts each member of an array.
+///
+/// # Errors
+///
+/// In this order:
+/// - The error of the first member that fails, with its index.
+/// - `OutOfMemory` if the allocation of the list fails.
+fn converted<T, P>(
+    members: &[T],
+    convert: impl Fn(&T) -> Result<P, CallError>,
+) -> Result<Vec<P>, ArrayError> {
+    for (index, member) in members.iter().enumerate() {
+        convert(member).map_err(|error| ArrayError {
+            index: Some(index),
+            error,
+        })?;
+    }
     let mut list = Vec::new();
-    list.try_reserve_exact(count)
+    list.try_reserve_exact(members.len())
         .map_err(|_| CallError::OutOfMemory)?;
+    list.extend(members.iter().flat_map(convert));
     Ok(list)
+}
+
+/// Returns the status of a call with an array of `count` members. Writes the index of the member that
+/// failed to `failed`, or `count` if none did.
+fn status_of_array(
+    answer: Result<(), ArrayError>,
+    count: usize,
+    failed: Out<usize>,
+    refusal: Out<dvs_refusal>,
+) -> dvs_status {
+    if let Some(failed) = failed {
+        let index = answer.as_ref().err().and_then(|failure| failure.index);
+        failed.write(index.unwrap_or(count));
+    }
+    status_of(answer.map_err(|failure| failure.error), refusal)
 }
 
 /// # Safety
@@ -51,29 +101,18 @@ pub unsafe extern "C" fn dvs_address_allocator_with_held(
     held: *const dvs_range,
     count: usize,
     allocator: Out<*mut dvs_address_allocator>,
+    failed: Out<usize>,
     refusal: Out<dvs_refusal>,
 ) -> dvs_status {
     let make = || {
         let allocator = non_null(allocator)?;
         // SAFETY: the caller's contract.
-        let ranges = proved_ranges(unsafe { array(held, count) }?)?;
-        create(Some(allocator), || {
-            AddressAllocator::with_held(Global, base, size, &ranges)
-        })
+        let held = unsafe { array(held, count) }?;
+        let held = converted(held, |range| Ok((*range).try_into()?))?;
+        let made = AddressAllocator::with_held(Global, base, size, &held)?;
+        Ok(create(Some(allocator), || Ok(made))?)
     };
-    status_of(make(), refusal)
-}
-
-/// Converts ranges. The first one that is not a range is an error.
-fn proved_ranges(ranges: &[dvs_range]) -> Result<Vec<RangeInclusive>, CallError> {
-    for range in ranges {
-        RangeInclusive::try_from(*range)?;
-    }
-    let mut list = list_for(ranges.len())?;
-    for range in ranges {
-        list.push((*range).try_into()?);
-    }
-    Ok(list)
+    status_of_array(make(), count, failed, refusal)
 }
 
 /// # Safety
@@ -89,65 +128,21 @@ pub unsafe extern "C" fn dvs_address_allocator_allocate_all(
     failed: Out<usize>,
     refusal: Out<dvs_refusal>,
 ) -> dvs_status {
-    let mut at = count;
-    // SAFETY: the caller's contract.
-    let allocated = unsafe { allocate_into(allocator, requests, count, ranges, &mut at) };
-    if let Some(failed) = failed {
-        failed.write(at);
-    }
-    status_of(allocated, refusal)
-}
-
-/// # Safety
-///
-/// As of `dvs_address_allocator_allocate_all`.
-unsafe fn allocate_into(
-    allocator: Option<&dvs_address_allocator>,
-    requests: *const dvs_request,
-    count: usize,
-    ranges: *mut dvs_range,
-    at: &mut usize,
-) -> Result<(), CallError> {
-    let allocator = non_null(allocator)?;
-    // SAFETY: the caller's contract.
-    let requests = unsafe { array(requests, count) }?;
-    if ranges.is_null() && !requests.is_empty() {
-        return Err(CallError::Null);
-    }
-    let allocated = allocate_all(allocator.get_mut()?, requests, at)?;
-    for (index, range) in allocated.iter().enumerate() {
-        // SAFETY: there is a writable range for each request.
-        unsafe { ranges.add(index).write((*range).into()) };
-    }
-    Ok(())
-}
-
-/// Allocates a range for each request, or none. On an error of a request, writes its index to `at`.
-fn allocate_all(
-    allocator: &mut AddressAllocator,
-    requests: &[dvs_request],
-    at: &mut usize,
-) -> Result<Vec<RangeInclusive>, CallError> {
-    let mut ranges = list_for(requests.len())?;
-    for request in requests {
-        match allocate(allocator, request) {
-            Ok(range) => ranges.push(range),
-            Err(error) => {
-                *at = ranges.len();
-                for range in ranges.iter().rev() {
-                    // Freeing an allocated range always succeeds.
-                    let _ = allocator.free(range);
-                }
-                return Err(error);
-            }
+    let allocate = || {
+        let allocator = non_null(allocator)?;
+        // SAFETY: the caller's contract.
+        let requests = unsafe { array(requests, count) }?;
+        if ranges.is_null() && !requests.is_empty() {
+            return Err(CallError::Null.into());
         }
-    }
-    Ok(ranges)
-}
-
-fn allocate(
-    allocator: &mut AddressAllocator,
-    request: &dvs_request,
-) -> Result<RangeInclusive, CallError> {
-    Ok(allocator.allocate_constraint(Global, request.constraint()?)?)
+        let object = allocator.get_mut()?;
+        let requests = converted(requests, dvs_request::constraint)?;
+        let allocated = object.allocate_all(Global, &requests)?;
+        for (index, range) in allocated.iter().enumerate() {
+            // SAFETY: there is a writable range for each request.
+            unsafe { ranges.add(index).write((*range).into()) };
+        }
+        Ok(())
+    };
+    status_of_array(allocate(), count, failed, refusal)
 }

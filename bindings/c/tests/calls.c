@@ -797,7 +797,8 @@ static void check_rows(uint64_t base, uint64_t size, uint32_t held_count, const 
     dvs_address_allocator *space;
     size_t i;
 
-    CHECK(dvs_address_allocator_with_held(base, size, held, held_count, &space, NULL) == DVS_OK);
+    CHECK(dvs_address_allocator_with_held(base, size, held, held_count, &space, NULL, NULL) ==
+          DVS_OK);
     for (i = 0; i < count; i++)
         check_row(&rows[i], space, manager);
     dvs_address_allocator_destroy(space);

@@ -59,18 +59,20 @@ static dvs_address_allocator *two_held(void) {
 
     held[0] = range_of(0x1000, 0x1fff);
     held[1] = range_of(0x3000, 0x37ff);
-    CHECK(dvs_address_allocator_with_held(0, 0x4000, held, 2, &space, NULL) == DVS_OK);
+    CHECK(dvs_address_allocator_with_held(0, 0x4000, held, 2, &space, NULL, NULL) == DVS_OK);
     return space;
 }
 
 static void make_with_ranges(void) {
     dvs_address_allocator *space = two_held();
     struct seen seen = all_of();
+    size_t failed = MOST;
 
     CHECK(dvs_range_visit(space, see_range, &seen) == DVS_OK && seen.count == 2);
     CHECK(is_range(seen.ranges[0], 0x1000, 0x1fff) && is_range(seen.ranges[1], 0x3000, 0x37ff));
     dvs_address_allocator_destroy(space);
-    CHECK(dvs_address_allocator_with_held(0, 4, NULL, 0, &space, NULL) == DVS_OK);
+    CHECK(dvs_address_allocator_with_held(0, 4, NULL, 0, &space, &failed, NULL) == DVS_OK);
+    CHECK(failed == 0);
     dvs_address_allocator_destroy(space);
 }
 
@@ -79,14 +81,16 @@ static void refuse_ranges(void) {
         uint64_t base, size;
         uint64_t start, end;
         dvs_status status;
+        size_t failed;
     } rows[] = {
-        {0, 0, 5, 4, DVS_INVALID_RANGE},
-        {0, 0, 5, 5, DVS_UNDERFLOW},
-        {2, UINT64_MAX, 5, 5, DVS_OVERFLOW},
-        {0, 16, 3, 5, DVS_RESOURCE_NOT_AVAILABLE},
-        {0, 16, UINT64_MAX, UINT64_MAX, DVS_OVERFLOW},
-        {0, 16, 15, 16, DVS_RESOURCE_NOT_AVAILABLE},
-        {1, UINT64_MAX, 7, UINT64_MAX, DVS_OVERFLOW},
+        {0, 0, 5, 4, DVS_INVALID_RANGE, 1},
+        {0, 0, 5, 5, DVS_UNDERFLOW, 2},
+        {2, UINT64_MAX, 5, 5, DVS_OVERFLOW, 2},
+        {0, 16, 3, 5, DVS_RESOURCE_NOT_AVAILABLE, 1},
+        {2, 16, 5, 5, DVS_RESOURCE_NOT_AVAILABLE, 0},
+        {0, 16, UINT64_MAX, UINT64_MAX, DVS_OVERFLOW, 1},
+        {0, 16, 15, 16, DVS_RESOURCE_NOT_AVAILABLE, 1},
+        {1, UINT64_MAX, 7, UINT64_MAX, DVS_OVERFLOW, 1},
     };
     size_t i;
 
@@ -95,12 +99,13 @@ static void refuse_ranges(void) {
         dvs_refusal refusal;
         dvs_range held[2];
         bool is_invalid = rows[i].status == DVS_INVALID_RANGE;
+        size_t failed = MOST;
 
         held[0] = range_of(1, 3);
         held[1] = range_of(rows[i].start, rows[i].end);
-        CHECK(dvs_address_allocator_with_held(rows[i].base, rows[i].size, held, 2, &space,
+        CHECK(dvs_address_allocator_with_held(rows[i].base, rows[i].size, held, 2, &space, &failed,
                                               &refusal) == rows[i].status);
-        CHECK(space == NULL);
+        CHECK(space == NULL && failed == rows[i].failed);
         CHECK(is_range(refusal.range, is_invalid ? 5 : 0, is_invalid ? 4 : 0));
     }
 }
@@ -280,6 +285,7 @@ static void allocate_none(void) {
     };
     dvs_address_allocator *space = two_held();
     dvs_address_allocator *before = two_held();
+    dvs_request invalid_last[2];
     dvs_range ranges[4];
     dvs_refusal refusal;
     size_t i;
@@ -292,7 +298,7 @@ static void allocate_none(void) {
         requests[0] = request_of(0x1000, 1, DVS_FIRST, 0);
         requests[1] = request_of(0x800, 1, DVS_EXACT, 0x2000);
         requests[2] = rows[i].request;
-        requests[3] = request_of(0, 0, DVS_FIRST, 0);
+        requests[3] = request_of(0x4000, 1, DVS_FIRST, 0);
         ranges[0] = range_of(1, 2);
         CHECK(dvs_address_allocator_allocate_all(space, requests, 4, ranges, &failed, &refusal) ==
               rows[i].status);
@@ -301,6 +307,12 @@ static void allocate_none(void) {
         CHECK(dvs_range_visit(before, see_range, &then) == DVS_OK);
         CHECK(memcmp(&now, &then, sizeof now) == 0);
     }
+    /* A request that is always invalid comes before one that does not fit. */
+    invalid_last[0] = rows[4].request;
+    invalid_last[1] = rows[0].request;
+    CHECK(dvs_address_allocator_allocate_all(space, invalid_last, 2, ranges, &i, NULL) ==
+          DVS_INVALID_SIZE);
+    CHECK(i == 1);
     CHECK(dvs_address_allocator_allocate_all(space, NULL, SIZE_MAX, ranges, NULL, NULL) ==
           DVS_NULL);
     dvs_address_allocator_destroy(space);
@@ -390,8 +402,8 @@ static void give_null(void) {
 
     CHECK(dvs_id_allocator_new(1, 2, &ids, NULL) == DVS_OK);
     CHECK(dvs_device_manager_new(1, 2, 3, 4, &manager, NULL) == DVS_OK);
-    CHECK(dvs_address_allocator_with_held(0, 4, NULL, 1, &space, NULL) == DVS_NULL);
-    CHECK(dvs_address_allocator_with_held(0, 0, NULL, 0, NULL, NULL) == DVS_NULL);
+    CHECK(dvs_address_allocator_with_held(0, 4, NULL, 1, &space, NULL, NULL) == DVS_NULL);
+    CHECK(dvs_address_allocator_with_held(0, 0, NULL, 0, NULL, NULL, NULL) == DVS_NULL);
     CHECK(dvs_address_allocator_allocate_all(NULL, &request, 1, &range, NULL, NULL) == DVS_NULL);
     CHECK(dvs_address_allocator_allocate_all(space, NULL, 1, &range, NULL, NULL) == DVS_NULL);
     CHECK(dvs_address_allocator_allocate_all(space, &request, 1, NULL, NULL, NULL) == DVS_NULL);

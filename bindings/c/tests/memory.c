@@ -290,7 +290,7 @@ static dvs_status make_with_held(void) {
 
     held[0] = range_of(4, 7);
     held[1] = range_of(9, 9);
-    status = dvs_address_allocator_with_held(0, 16, held, 2, &made, NULL);
+    status = dvs_address_allocator_with_held(0, 16, held, 2, &made, NULL, NULL);
     return destroyed_space(status, made);
 }
 
@@ -448,7 +448,7 @@ static const struct call {
     {"read a space", read_space, 15},
     {"repair a space", read_space_repaired, 15},
     {"with ranges", make_with_held, 7},
-    {"several requests", allocate_all, 5},
+    {"several requests", allocate_all, 6},
     {"several ids", allocate_ids, 1},
     {"free an id", free_id, 1},
     {"with ids", make_ids_with_held, 3},

@@ -119,6 +119,10 @@ static void save() {
     dvs_device device;
     uint32_t id = 0;
 
+    std::size_t failed = 9;
+    CHECK(space.make_with_held(0, 16, {range_of(1, 2), range_of(2, 4)}, &failed) ==
+              dvs::code(DVS_RESOURCE_NOT_AVAILABLE) &&
+          failed == 1);
     CHECK(!space.make_with_held(0, 16, {range_of(1, 2), range_of(4, 4)}) && !space.save(text));
     CHECK(!copy.read(text) && copy.ranges().size() == 2);
     CHECK(copy.read("{}") == dvs::code(DVS_NOT_A_STATE) && copy.ranges().size() == 2);

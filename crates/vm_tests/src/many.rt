@@ -10,7 +10,7 @@ use crate::fixtures::{
 use serde_json::Value;
 use std::cmp::Ordering;
 use std::process::Abort;
-use vm_allocator::{AddressAllocator, AllocPolicy, Constraint, Error, IdAllocator};
+use vm_allocator::{AddressAllocator, AllocPolicy, Constraint, Error, IdAllocator, ListError};
 use vm_devices::DeviceManager;
 
 /// The number of allocated ranges, ids or devices.
@@ -143,7 +143,10 @@ fn addresses_looked_up(rt: HostRuntime) {
 }
 
 /// Makes `MANY` requests for the first free address in one call, in a space of a number of addresses.
-fn allocate_many(rt: &(impl Abort + AllocGlobal), size: u64) -> (AddressAllocator, Option<Error>) {
+fn allocate_many(
+    rt: &(impl Abort + AllocGlobal),
+    size: u64,
+) -> (AddressAllocator, Option<ListError>) {
     let request = Constraint::new(1, 1, AllocPolicy::FirstMatch);
     let request = request.expect(rt, "it is a request");
     let mut requests = list_for(rt, 0);
@@ -160,7 +163,11 @@ fn ranges_allocated_together(rt: HostRuntime) {
     let (space, error) = allocate_many(&rt, MANY);
     assert!(rt; error.is_none() && space.held_count() == MANY);
     let (space, error) = allocate_many(&rt, MANY - 1);
-    assert!(rt; error == Some(Error::ResourceNotAvailable));
+    let last = ListError {
+        index: Some(MANY as usize - 1),
+        error: Error::ResourceNotAvailable,
+    };
+    assert!(rt; error == Some(last));
     assert!(rt; space == made(&rt, 0, MANY - 1));
 }
 

@@ -1,7 +1,9 @@
-use crate::error::{or_abort, or_try_error, out_of_memory, unless_out_of_memory};
+use crate::error::{
+    or_abort, or_list_error, or_try_error, out_of_memory, unless_list_out_of_memory,
+};
 use crate::proved::vm_allocator as proved;
 use crate::rattle::Global;
-use crate::{AllocPolicy, Constraint, Layout, RangeInclusive, Result, TryError};
+use crate::{AllocPolicy, Constraint, Layout, ListError, RangeInclusive, Result, TryError};
 use alloc::vec::Vec;
 use core::fmt;
 use core::iter::FusedIterator;
@@ -71,7 +73,7 @@ impl AddressAllocator {
     ///
     /// # Errors
     ///
-    /// In this order:
+    /// In this order. The error has the index of the range only for a range that cannot be allocated.
     /// - `Underflow` if `size` is 0.
     /// - `Overflow` if the last address would be past `u64::MAX`.
     /// - For the first range that cannot be allocated:
@@ -84,7 +86,7 @@ impl AddressAllocator {
     /// # Example
     ///
     /// ```rust
-    /// use divsharun::{AddressAllocator, AllocPolicy, Error, RangeInclusive};
+    /// use divsharun::{AddressAllocator, AllocPolicy, Error, ListError, RangeInclusive};
     ///
     /// let [low, high] = [(0x1000, 0x1fff), (0x3000, 0x3fff)]
     ///     .map(|(start, end)| RangeInclusive::new(start, end).expect("a range"));
@@ -94,12 +96,16 @@ impl AddressAllocator {
     /// assert_eq!(ports.allocate(0x1000, 1, AllocPolicy::LastMatch)?.start(), 0x2000);
     /// assert_eq!(
     ///     AddressAllocator::with_held(0, 0x4000, &[high, low]),
-    ///     Err(Error::ResourceNotAvailable)
+    ///     Err(ListError { index: Some(1), error: Error::ResourceNotAvailable })
     /// );
     /// # Ok::<(), Error>(())
     /// ```
-    pub fn with_held(base: u64, size: u64, held: &[RangeInclusive]) -> Result<Self> {
-        unless_out_of_memory(Self::try_with_held(base, size, held))
+    pub fn with_held(
+        base: u64,
+        size: u64,
+        held: &[RangeInclusive],
+    ) -> core::result::Result<Self, ListError> {
+        unless_list_out_of_memory(Self::try_with_held(base, size, held))
     }
 
     /// Creates an allocator like [`with_held`](Self::with_held), but returns an error if an
@@ -108,21 +114,25 @@ impl AddressAllocator {
     /// # Errors
     ///
     /// In this order:
-    /// - `OutOfMemory` if the allocation of a copy of the list fails.
+    /// - `OutOfMemory` without an index if the allocation of a copy of the list fails.
     /// - `Refused` with `Underflow`, `Overflow` or `ResourceNotAvailable`, if `with_held` returns
-    ///   that error.
-    /// - `OutOfMemory` if the allocation of a node fails. The nodes built so far are freed.
+    ///   that error, with the same index.
+    /// - `OutOfMemory` without an index if the allocation of a node fails. The nodes built so far are
+    ///   freed.
     ///
     /// # Example
     ///
     /// ```rust
-    /// use divsharun::{AddressAllocator, Error, RangeInclusive, TryError};
+    /// use divsharun::{AddressAllocator, Error, ListError, RangeInclusive, TryError};
     ///
     /// let held = [RangeInclusive::new(0x1000, 0x1fff)?];
     /// assert_eq!(AddressAllocator::try_with_held(0, 0x4000, &held)?.held_count(), 1);
     /// assert_eq!(
     ///     AddressAllocator::try_with_held(0, 0x1800, &held),
-    ///     Err(TryError::Refused(Error::ResourceNotAvailable))
+    ///     Err(ListError {
+    ///         index: Some(0),
+    ///         error: TryError::Refused(Error::ResourceNotAvailable),
+    ///     })
     /// );
     /// # Ok::<(), TryError>(())
     /// ```
@@ -130,11 +140,11 @@ impl AddressAllocator {
         base: u64,
         size: u64,
         held: &[RangeInclusive],
-    ) -> core::result::Result<Self, TryError> {
-        let mut ranges = list_for(held.len())?;
+    ) -> core::result::Result<Self, ListError<TryError>> {
+        let mut ranges = list_for(held.len()).map_err(ListError::of_no_item)?;
         ranges.extend(held.iter().map(|range| range.0));
         let answer = proved::AddressAllocator::with_held(Global, base, size, &ranges);
-        or_try_error(answer).map(AddressAllocator)
+        or_list_error(answer).map(AddressAllocator)
     }
 
     /// Allocates `size` free addresses that start at a multiple of `alignment`, and returns their
@@ -333,8 +343,8 @@ impl AddressAllocator {
     ///
     /// # Errors
     ///
-    /// - `Overflow`, `ResourceNotAvailable` or `InvalidStateTransition` if `allocate_constraint`
-    ///   returns that error for a request. The first request that fails decides.
+    /// - `Overflow`, `ResourceNotAvailable` or `InvalidStateTransition`, with the index of a request, if
+    ///   `allocate_constraint` returns that error for it. The first request that fails decides.
     ///
     /// An error allocates no range, and all later calls have the same results. The shape of the tree can
     /// differ, and so the [`height`](Self::height) and the counts of later calls.
@@ -342,7 +352,7 @@ impl AddressAllocator {
     /// # Example
     ///
     /// ```rust
-    /// use divsharun::{AddressAllocator, AllocPolicy, Constraint, Error};
+    /// use divsharun::{AddressAllocator, AllocPolicy, Constraint, Error, ListError};
     ///
     /// let mut mmio = AddressAllocator::new(0xd000_0000, 0x4000)?;
     /// let registers = Constraint::new(0x1000, 0x1000, AllocPolicy::FirstMatch)?;
@@ -351,12 +361,18 @@ impl AddressAllocator {
     /// assert_eq!((bars[0].start(), bars[1].start()), (0xd000_0000, 0xd000_2000));
     ///
     /// // Only one of these two fits.
-    /// assert_eq!(mmio.allocate_all(&[registers, registers]), Err(Error::ResourceNotAvailable));
+    /// assert_eq!(
+    ///     mmio.allocate_all(&[registers, registers]),
+    ///     Err(ListError { index: Some(1), error: Error::ResourceNotAvailable })
+    /// );
     /// assert!(mmio.held_ranges().eq(bars));
     /// # Ok::<(), Error>(())
     /// ```
-    pub fn allocate_all(&mut self, requests: &[Constraint]) -> Result<Vec<RangeInclusive>> {
-        unless_out_of_memory(self.try_allocate_all(requests))
+    pub fn allocate_all(
+        &mut self,
+        requests: &[Constraint],
+    ) -> core::result::Result<Vec<RangeInclusive>, ListError> {
+        unless_list_out_of_memory(self.try_allocate_all(requests))
     }
 
     /// Allocates ranges like [`allocate_all`](Self::allocate_all), but returns an error if an
@@ -365,8 +381,8 @@ impl AddressAllocator {
     /// # Errors
     ///
     /// An error allocates no range. In this order:
-    /// - `OutOfMemory` if the allocation of a list fails.
-    /// - For the first request that fails:
+    /// - `OutOfMemory` without an index if the allocation of a list fails.
+    /// - For the first request that fails, with its index:
     ///   - `Refused` with `Overflow`, `ResourceNotAvailable` or `InvalidStateTransition`, if
     ///     `allocate_all` returns that error.
     ///   - `OutOfMemory` if the allocation of a node fails.
@@ -374,13 +390,16 @@ impl AddressAllocator {
     /// # Example
     ///
     /// ```rust
-    /// use divsharun::{AddressAllocator, AllocPolicy, Constraint, Error, TryError};
+    /// use divsharun::{AddressAllocator, AllocPolicy, Constraint, Error, ListError, TryError};
     ///
     /// let mut space = AddressAllocator::try_new(0, 3)?;
     /// let request = Constraint::new(2, 1, AllocPolicy::FirstMatch)?;
     /// assert_eq!(
     ///     space.try_allocate_all(&[request, request]),
-    ///     Err(TryError::Refused(Error::ResourceNotAvailable))
+    ///     Err(ListError {
+    ///         index: Some(1),
+    ///         error: TryError::Refused(Error::ResourceNotAvailable),
+    ///     })
     /// );
     /// assert_eq!(space.try_allocate_all(&[request])?[0].end(), 1);
     /// # Ok::<(), TryError>(())
@@ -388,12 +407,12 @@ impl AddressAllocator {
     pub fn try_allocate_all(
         &mut self,
         requests: &[Constraint],
-    ) -> core::result::Result<Vec<RangeInclusive>, TryError> {
+    ) -> core::result::Result<Vec<RangeInclusive>, ListError<TryError>> {
         // Nothing can fail after the allocation of the ranges.
-        let mut ranges = list_for(requests.len())?;
-        let mut proved_requests = list_for(requests.len())?;
+        let mut ranges = list_for(requests.len()).map_err(ListError::of_no_item)?;
+        let mut proved_requests = list_for(requests.len()).map_err(ListError::of_no_item)?;
         proved_requests.extend(requests.iter().map(|request| request.0));
-        let allocated = or_try_error(self.0.allocate_all(Global, &proved_requests))?;
+        let allocated = or_list_error(self.0.allocate_all(Global, &proved_requests))?;
         ranges.extend(allocated.iter().map(|range| RangeInclusive(*range)));
         Ok(ranges)
     }

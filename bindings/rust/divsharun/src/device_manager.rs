@@ -98,7 +98,7 @@ impl DeviceSlot {
 ///         for id in ids {
 ///             vectors.free_id(id)?;
 ///         }
-///         return Err(error);
+///         return Err(error.into());
 ///     }
 /// }
 /// # Ok::<(), Error>(())

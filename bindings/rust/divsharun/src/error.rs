@@ -148,11 +148,87 @@ impl From<Error> for TryError {
     }
 }
 
-/// Converts a result of the proved code. Its `OutOfMemory` becomes [`TryError::OutOfMemory`].
-pub(crate) fn or_try_error<T>(answer: proved::Result<T>) -> core::result::Result<T, TryError> {
+/// The error of a call with a list. It names the item of the list that failed.
+///
+/// `E` is [`TryError`] for a call with the prefix `try_`. The operator `?` converts it to its error.
+///
+/// # Example
+///
+/// ```rust
+/// use divsharun::{AddressAllocator, AllocPolicy, Constraint, Error, RangeInclusive};
+///
+/// fn bars(mmio: &mut AddressAllocator) -> divsharun::Result<Vec<RangeInclusive>> {
+///     let registers = Constraint::new(0x1000, 0x1000, AllocPolicy::FirstMatch)?;
+///     let buffer = Constraint::new(0x8000, 0x8000, AllocPolicy::FirstMatch)?;
+///     let requests = [registers, buffer];
+///     if let Err(failure) = mmio.allocate_all(&requests) {
+///         assert_eq!(failure.index, Some(1));
+///         assert_eq!(failure.to_string(), "item 1: The requested resource is not available.");
+///     }
+///     Ok(mmio.allocate_all(&requests)?)
+/// }
+///
+/// let mut mmio = AddressAllocator::new(0xd000_0000, 0x4000)?;
+/// assert_eq!(bars(&mut mmio), Err(Error::ResourceNotAvailable));
+/// # Ok::<(), Error>(())
+/// ```
+#[derive(Copy, Clone, PartialEq, Eq, PartialOrd, Ord, Hash, Debug)]
+pub struct ListError<E = Error> {
+    /// The index of the item that failed, or `None` if no item is the cause.
+    pub index: Option<usize>,
+    /// The error.
+    pub error: E,
+}
+
+impl<E: fmt::Display> fmt::Display for ListError<E> {
+    fn fmt(&self, f: &mut fmt::Formatter<'_>) -> fmt::Result {
+        if let Some(index) = self.index {
+            write!(f, "item {index}: ")?;
+        }
+        self.error.fmt(f)
+    }
+}
+
+impl<E: core::error::Error> core::error::Error for ListError<E> {}
+
+impl From<ListError> for Error {
+    fn from(failure: ListError) -> Error {
+        failure.error
+    }
+}
+
+impl From<ListError> for TryError {
+    fn from(failure: ListError) -> TryError {
+        failure.error.into()
+    }
+}
+
+impl From<ListError<TryError>> for TryError {
+    fn from(failure: ListError<TryError>) -> TryError {
+        failure.error
+    }
+}
+
+impl<E> ListError<E> {
+    /// Returns the error without an index.
+    pub(crate) fn of_no_item(error: E) -> Self {
+        ListError { index: None, error }
+    }
+
+    /// Returns this error with the same index.
+    fn with<F>(self, error: impl FnOnce(E) -> F) -> ListError<F> {
+        ListError {
+            index: self.index,
+            error: error(self.error),
+        }
+    }
+}
+
+/// Converts an error of the proved code. Its `OutOfMemory` becomes [`TryError::OutOfMemory`].
+fn try_error(error: proved::Error) -> TryError {
     use proved::Error as Proved;
 
-    answer.map_err(|error| match error {
+    match error {
         Proved::Overflow => Error::Overflow.into(),
         Proved::OutOfRange(id) => Error::OutOfRange(id).into(),
         Proved::AlreadyReleased(id) => Error::AlreadyReleased(id).into(),
@@ -170,6 +246,21 @@ pub(crate) fn or_try_error<T>(answer: proved::Result<T>) -> core::result::Result
         Proved::Underflow => Error::Underflow.into(),
         Proved::InvalidSize(size) => Error::InvalidSize(size).into(),
         Proved::OutOfMemory => TryError::OutOfMemory,
+    }
+}
+
+/// Converts a result of the proved code.
+pub(crate) fn or_try_error<T>(answer: proved::Result<T>) -> core::result::Result<T, TryError> {
+    answer.map_err(try_error)
+}
+
+/// Converts a result of a proved call with a list.
+pub(crate) fn or_list_error<T>(
+    answer: core::result::Result<T, proved::ListError>,
+) -> core::result::Result<T, ListError<TryError>> {
+    answer.map_err(|proved::ListError { index, error }| ListError {
+        index,
+        error: try_error(error),
     })
 }
 
@@ -180,10 +271,22 @@ pub(crate) fn or_abort<T>(answer: proved::Result<T>) -> Result<T> {
 
 /// Converts a result of a `try_` call. Ends the process if an allocation failed.
 pub(crate) fn unless_out_of_memory<T>(answer: core::result::Result<T, TryError>) -> Result<T> {
-    answer.map_err(|error| match error {
+    answer.map_err(refused)
+}
+
+/// Converts a result of a `try_` call with a list. Ends the process if an allocation failed.
+pub(crate) fn unless_list_out_of_memory<T>(
+    answer: core::result::Result<T, ListError<TryError>>,
+) -> core::result::Result<T, ListError> {
+    answer.map_err(|failure| failure.with(refused))
+}
+
+/// Returns the error of a call that was refused. Ends the process if an allocation failed.
+fn refused(error: TryError) -> Error {
+    match error {
         TryError::Refused(error) => error,
         TryError::OutOfMemory => out_of_memory(),
-    })
+    }
 }
 
 /// Ends the process, as Rust's collections do.

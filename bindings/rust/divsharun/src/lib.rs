@@ -68,6 +68,7 @@
 //!   [`offset_of`](RangeInclusive::offset_of), its texts, conversions,
 //!   [`contains_address`](RangeInclusive::contains_address) and
 //!   [`intersection`](RangeInclusive::intersection);
+//! - [`ListError`], which names the item of a list that failed;
 //! - the `try_` variants of all calls that allocate.
 //!
 //! # Out of memory
@@ -203,7 +204,7 @@ mod saved;
 pub use address_allocator::{AddressAllocator, Gaps, HeldRanges};
 pub use constraint::{AllocPolicy, Constraint, DEFAULT_CONSTRAINT_ALIGN};
 pub use device_manager::{DeviceManager, DeviceSlot, Devices};
-pub use error::{Error, Result, TryError};
+pub use error::{Error, ListError, Result, TryError};
 pub use id_allocator::{HeldIds, IdAllocator};
 pub use layout::{Block, Blocks, Layout};
 pub use node_state::NodeState;
@@ -229,6 +230,7 @@ const _: () = {
     is_shared_and_sent::<AllocPolicy>();
     is_shared_and_sent::<Error>();
     is_shared_and_sent::<TryError>();
+    is_shared_and_sent::<ListError<TryError>>();
 };
 
 /// Runs the examples of the README as doctests.

@@ -7,7 +7,8 @@ use crate::proved::vm_allocator as proved;
 use crate::proved::vm_devices as proved_devices;
 use crate::rattle::Global;
 use crate::{
-    AddressAllocator, AllocPolicy, Constraint, DeviceManager, IdAllocator, RangeInclusive, TryError,
+    AddressAllocator, AllocPolicy, Constraint, DeviceManager, IdAllocator, ListError,
+    RangeInclusive, TryError,
 };
 use alloc::{format, vec::Vec};
 use core::fmt::Debug;
@@ -174,7 +175,12 @@ impl Spaces {
         let proved = self.proved.allocate_all(Global, &proved_requests);
         same(self.plain.allocate_all(&requests), &proved);
         same(self.counted.allocate_all(&requests), &proved);
-        same_or_refused(self.or_try_error.try_allocate_all(&requests), proved);
+        let answer = self.or_try_error.try_allocate_all(&requests);
+        let index = answer.as_ref().err().and_then(|failure| failure.index);
+        let proved_index = proved.as_ref().err().and_then(|failure| failure.index);
+        assert_eq!(index, proved_index);
+        let proved = proved.map_err(proved::Error::from);
+        same_or_refused(answer.map_err(TryError::from), proved);
     }
 
     /// Frees an allocated range, a part of one, or any address.
@@ -303,7 +309,11 @@ fn spaces_with_ranges() {
                 let proved = proved::AddressAllocator::with_held(Global, base, size, &proved_held);
                 same(space.as_ref().map(|space| &space.0), proved);
                 let or_try_error = AddressAllocator::try_with_held(base, size, &held);
-                assert_eq!(or_try_error, space.map_err(TryError::Refused));
+                let with_refused = |ListError { index, error }| ListError {
+                    index,
+                    error: TryError::Refused(error),
+                };
+                assert_eq!(or_try_error, space.map_err(with_refused));
             }
         }
     }

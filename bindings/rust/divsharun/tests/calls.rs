@@ -5,7 +5,7 @@ mod draw;
 
 use divsharun::{
     AddressAllocator, AllocPolicy, Constraint, DeviceManager, DeviceSlot, Error, IdAllocator,
-    NodeState, RangeInclusive, TryError,
+    ListError, NodeState, RangeInclusive, TryError,
 };
 use draw::Draw;
 use std::collections::HashSet;
@@ -202,18 +202,29 @@ fn errors_of_calls_with_lists() {
 
     let range = |start, end| RangeInclusive::new(start, end).unwrap();
     let max = u64::MAX;
-    for (base, size, held, error) in [
-        (16, 0, [range(4, 5), range(max, max)], Underflow),
-        (max, 2, [range(4, 5), range(4, 5)], Overflow),
-        (16, 16, [range(20, 23), range(23, 24)], ResourceNotAvailable),
-        (16, 16, [range(31, 31), range(max, max)], Overflow),
-        (16, 16, [range(20, 23), range(24, 32)], ResourceNotAvailable),
-        (max - 15, 16, [range(max - 15, max), range(4, 5)], Overflow),
+    let (first, second) = (
+        [range(20, 23), range(23, 24)],
+        [range(20, 23), range(24, 32)],
+    );
+    for (base, size, held, index, error) in [
+        (16, 0, [range(4, 5), range(max, max)], None, Underflow),
+        (max, 2, [range(4, 5), range(4, 5)], None, Overflow),
+        (16, 16, first, Some(1), ResourceNotAvailable),
+        (16, 16, [range(31, 31), range(max, max)], Some(1), Overflow),
+        (16, 16, second, Some(1), ResourceNotAvailable),
+        (
+            max - 15,
+            16,
+            [range(max - 15, max), range(4, 5)],
+            Some(0),
+            Overflow,
+        ),
     ] {
         let answer = AddressAllocator::with_held(base, size, &held);
-        assert_eq!(answer, Err(error));
+        assert_eq!(answer, Err(ListError { index, error }));
         let answer = AddressAllocator::try_with_held(base, size, &held);
-        assert_eq!(answer, Err(TryError::Refused(error)));
+        let error = TryError::Refused(error);
+        assert_eq!(answer, Err(ListError { index, error }));
     }
 
     let exact = |start| Constraint::new(8, 8, AllocPolicy::ExactMatch(start)).unwrap();
@@ -226,11 +237,47 @@ fn errors_of_calls_with_lists() {
         (0, InvalidStateTransition(range(0, 7), NodeState::Allocated)),
     ] {
         let requests = [exact(0), exact(start), exact(8)];
-        assert_eq!(space.allocate_all(&requests), Err(error));
+        let index = Some(1);
+        assert_eq!(
+            space.allocate_all(&requests),
+            Err(ListError { index, error })
+        );
         let answer = space.try_allocate_all(&requests);
-        assert_eq!(answer, Err(TryError::Refused(error)));
+        let error = TryError::Refused(error);
+        assert_eq!(answer, Err(ListError { index, error }));
         assert!(space.held_ranges().eq(held));
     }
+}
+
+/// Checks that `?` converts the error of a call with a list, and its texts.
+#[test]
+fn errors_of_lists_convert() -> Result<(), Box<dyn std::error::Error>> {
+    fn refused(space: &mut AddressAllocator) -> divsharun::Result<()> {
+        let request = Constraint::new(9, 1, AllocPolicy::FirstMatch)?;
+        space.allocate_all(&[request])?;
+        Ok(())
+    }
+    fn try_refused(space: &mut AddressAllocator, is_plain: bool) -> Result<(), TryError> {
+        let request = Constraint::new(9, 1, AllocPolicy::FirstMatch)?;
+        if is_plain {
+            space.allocate_all(&[request])?;
+        }
+        space.try_allocate_all(&[request])?;
+        Ok(())
+    }
+    let mut space = AddressAllocator::with_held(0, 8, &[])?;
+    let error = Error::ResourceNotAvailable;
+    assert_eq!(refused(&mut space), Err(error));
+    for is_plain in [false, true] {
+        assert_eq!(try_refused(&mut space, is_plain), Err(error.into()));
+    }
+    let index = Some(0);
+    let text = "item 0: The requested resource is not available.";
+    assert_eq!(ListError { index, error }.to_string(), text);
+    let index = None;
+    let text = "The requested resource is not available.";
+    assert_eq!(ListError { index, error }.to_string(), text);
+    Ok(())
 }
 
 #[test]

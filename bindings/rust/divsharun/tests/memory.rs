@@ -6,8 +6,8 @@
 mod refusing;
 
 use divsharun::{
-    AddressAllocator, AllocPolicy, Constraint, DeviceManager, Error, IdAllocator, RangeInclusive,
-    TryError,
+    AddressAllocator, AllocPolicy, Constraint, DeviceManager, Error, IdAllocator, ListError,
+    RangeInclusive, TryError,
 };
 use refusing::{blocks, refusing};
 use std::env;
@@ -32,17 +32,17 @@ type EndedCall = fn(&mut AddressAllocator);
 const TRIED: [(u64, TriedCall); 28] = [
     (1, |_| AddressAllocator::try_new(0, 64).map(drop)),
     (5, |space| space.try_clone().map(drop)),
-    (1, |_| AddressAllocator::try_with_held(0, 64, &[]).map(drop)),
+    (1, |_| of_list(AddressAllocator::try_with_held(0, 64, &[]))),
     (1 + 5, |_| {
-        AddressAllocator::try_with_held(0, 64, &both()).map(drop)
+        of_list(AddressAllocator::try_with_held(0, 64, &both()))
     }),
     (1 + 4, |_| {
-        AddressAllocator::try_with_held(16, 48, &both()).map(drop)
+        of_list(AddressAllocator::try_with_held(16, 48, &both()))
     }),
     (3 + 3, |space| {
-        space.try_allocate_all(&three_requests()).map(drop)
+        of_list(space.try_allocate_all(&three_requests()))
     }),
-    (0, |space| space.try_allocate_all(&[]).map(drop)),
+    (0, |space| of_list(space.try_allocate_all(&[]))),
     (3 + 1, |space| {
         refused(space.try_allocate_all(&[request(4, FirstMatch), request(64, FirstMatch)]))
     }),
@@ -71,7 +71,7 @@ const TRIED: [(u64, TriedCall); 28] = [
     (0, |space| refused(space.try_move_range(&both()[0], 17))),
     (3 + 2 + 1, |space| {
         let requests = [in_the_middle(4, LastMatch), request(4, FirstMatch)];
-        space.try_allocate_all(&requests).map(drop)
+        of_list(space.try_allocate_all(&requests))
     }),
     (0, |space| refused(space.try_allocate(64, 1, FirstMatch))),
     (0, |space| refused(space.try_allocate(0, 1, FirstMatch))),
@@ -189,9 +189,14 @@ fn three_requests() -> [Constraint; 3] {
     ]
 }
 
+/// Returns the result of a call with a list, without the index.
+fn of_list<T>(answer: Result<T, ListError<TryError>>) -> Tried {
+    Ok(answer.map(drop)?)
+}
+
 /// Checks that the call returned an error other than `OutOfMemory`, which is returned.
-fn refused<T: Debug>(answer: Result<T, TryError>) -> Tried {
-    match answer {
+fn refused<T: Debug>(answer: Result<T, impl Into<TryError>>) -> Tried {
+    match answer.map_err(Into::into) {
         Err(TryError::Refused(_)) => Ok(()),
         Err(TryError::OutOfMemory) => Err(TryError::OutOfMemory),
         other => panic!("{other:?}"),

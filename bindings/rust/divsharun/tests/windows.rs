@@ -4,8 +4,8 @@
 mod draw;
 
 use divsharun::{
-    AddressAllocator, AllocPolicy, Constraint, DeviceManager, Error, NodeState, RangeInclusive,
-    Result, TryError,
+    AddressAllocator, AllocPolicy, Constraint, DeviceManager, Error, ListError, NodeState,
+    RangeInclusive, Result, TryError,
 };
 use draw::Draw;
 use AllocPolicy::{ExactMatch, FirstMatch, LastMatch};
@@ -22,8 +22,8 @@ const fn range(start: u64, end: u64) -> RangeInclusive {
 }
 
 /// Returns the error of a `try_` call, which does not run out of memory.
-fn refused<T>(answer: std::result::Result<T, TryError>) -> Result<T> {
-    answer.map_err(|error| match error {
+fn refused<T>(answer: std::result::Result<T, impl Into<TryError>>) -> Result<T> {
+    answer.map_err(|error| match error.into() {
         TryError::Refused(error) => error,
         other => panic!("{other:?}"),
     })
@@ -66,7 +66,10 @@ impl Forms {
         let answers = [
             refused(self.or_try_error.try_allocate_constraint(request)),
             self.counted.allocate_constraint_counted(request).0,
-            self.all.allocate_all(&[request]).map(only),
+            self.all
+                .allocate_all(&[request])
+                .map(only)
+                .map_err(Error::from),
             refused(self.all_or_try_error.try_allocate_all(&[request])).map(only),
             self.devices
                 .reserve_constraint(request)
@@ -374,7 +377,11 @@ fn windows_of_one_call_are_separate() {
 
     let before = space.clone();
     let failing = [requests[2], request(FirstMatch).within(range(20, 27))];
-    assert_eq!(space.allocate_all(&failing), Err(ResourceNotAvailable));
+    let failure = ListError {
+        index: Some(1),
+        error: ResourceNotAvailable,
+    };
+    assert_eq!(space.allocate_all(&failing), Err(failure));
     let answer = space.try_allocate_all(&failing);
     assert_eq!(refused(answer), Err(ResourceNotAvailable));
     assert_eq!(space, before);

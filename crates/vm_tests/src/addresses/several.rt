@@ -3,7 +3,7 @@ use super::*;
 use crate::fixtures::{
     balance, count_allocations, expect_allocations, hold, holds_exactly, list_for,
 };
-use vm_allocator::Constraint;
+use vm_allocator::{Constraint, ListError};
 
 /// A space by its base and its size, requests with their results one by one, and the number of
 /// allocations of one call for all of them.
@@ -201,7 +201,7 @@ fn ask_for_all(
     rt: &(impl Abort + AllocGlobal),
     space: &mut AddressAllocator,
     row: &Several<'_>,
-) -> Result<Vec<RangeInclusive>> {
+) -> std::result::Result<Vec<RangeInclusive>, ListError> {
     let (_, _, calls, allocations) = *row;
     let requests = requests(rt, calls);
     let before = cloned(rt, space);
@@ -209,7 +209,7 @@ fn ask_for_all(
     let answer = space.allocate_all(rt.alloc(), &requests);
     expect_allocations(rt.alloc(), allocations);
     match answer {
-        Err(Error::OutOfMemory) => {
+        Err(failure) if failure.error == Error::OutOfMemory => {
             expect_true(rt, *space == before, &"a refusal changes nothing");
             space.allocate_all(rt.alloc(), &requests)
         }
@@ -237,17 +237,19 @@ fn allocated_together(rt: HostRuntime) {
     }
 }
 
-/// Returns the first error of the calls.
-fn first_error(calls: &[(Call, Expected)]) -> Option<Error> {
-    for (_, want) in calls {
+/// Returns the first error of the calls, with the index of its call.
+fn first_error(calls: &[(Call, Expected)]) -> Option<ListError> {
+    for (index, (_, want)) in calls.iter().enumerate() {
         if let Err(error) = want.answer() {
-            return Some(error);
+            let index = Some(index);
+            return Some(ListError { index, error });
         }
     }
     None
 }
 
-/// Checks that one call returns the first error of the calls one by one, and changes nothing.
+/// Checks that one call returns the first error of the calls one by one with the index of its request,
+/// and changes nothing.
 #[test]
 fn allocated_all_or_none(rt: HostRuntime) {
     for (number, row) in REFUSED.iter().enumerate() {
@@ -279,7 +281,7 @@ fn allocate_or_refuse(rt: &(impl Abort + AllocGlobal)) {
     let answer = space.allocate_all(rt.alloc(), &requests);
     let (is_known, held) = match &answer {
         Ok(_) => (true, &[(0, 3), (6, 7), (12, 15)][..]),
-        Err(error) => (*error == Error::OutOfMemory, &[][..]),
+        Err(failure) => (failure.error == Error::OutOfMemory, &[][..]),
     };
     let is_true = is_known && holds_exactly(&space, held);
     expect_true(rt, is_true, &"all or none");

@@ -4,41 +4,43 @@ use crate::fixtures::{
     balance, count_allocations, expect_allocations, fail_from_here, hold, holds_exactly, list_for,
     range,
 };
+use vm_allocator::ListError;
 
-/// A space by its base and its size, two ranges, and the error of creating it with these allocated.
-type Refused = (u64, u64, [(u64, u64); 2], Expected);
+/// A space by its base and its size, two ranges, and the error of creating it with these allocated: the
+/// index of the range that cannot be allocated, or `None` if the space is invalid, and the error.
+type Refused = (u64, u64, [(u64, u64); 2], Option<usize>, Expected);
 
 /// The error is that of the space, or else that of the first range that cannot be allocated.
 const REFUSED: [Refused; 22] = [
     // The space comes before the ranges.
-    (16, 0, [(4, 5), (MAX, MAX)], Underflow),
-    (MAX, 2, [(4, 5), (4, 5)], Overflow),
+    (16, 0, [(4, 5), (MAX, MAX)], None, Underflow),
+    (MAX, 2, [(4, 5), (4, 5)], None, Overflow),
     // A range that does not start after the end of the range before it, or before the space.
-    (16, 16, [(20, 23), (23, 24)], NotAvailable),
-    (16, 16, [(20, 23), (20, 23)], NotAvailable),
-    (16, 16, [(20, 23), (16, 17)], NotAvailable),
-    (16, 16, [(20, 23), (21, 22)], NotAvailable),
-    (16, 16, [(15, 16), (MAX, MAX)], NotAvailable),
-    (16, 16, [(15, 15), (MAX, MAX)], NotAvailable),
+    (16, 16, [(20, 23), (23, 24)], Some(1), NotAvailable),
+    (16, 16, [(20, 23), (20, 23)], Some(1), NotAvailable),
+    (16, 16, [(20, 23), (16, 17)], Some(1), NotAvailable),
+    (16, 16, [(20, 23), (21, 22)], Some(1), NotAvailable),
+    (16, 16, [(15, 16), (MAX, MAX)], Some(0), NotAvailable),
+    (16, 16, [(15, 15), (MAX, MAX)], Some(0), NotAvailable),
     // This comes before the end of the range.
-    (MAX - 15, 16, [(LAST, LAST), (LAST, MAX)], NotAvailable),
+    (MAX - 15, 16, [(LAST, LAST), (LAST, MAX)], Some(1), NotAvailable),
     // A range that starts at the highest address, in the space or outside it.
-    (16, 16, [(MAX, MAX), (4, 5)], Overflow),
-    (16, 16, [(31, 31), (MAX, MAX)], Overflow),
-    (MAX - 15, 16, [(MAX - 15, LAST), (MAX, MAX)], Overflow),
-    (MAX, 1, [(MAX, MAX), (4, 5)], Overflow),
+    (16, 16, [(MAX, MAX), (4, 5)], Some(0), Overflow),
+    (16, 16, [(31, 31), (MAX, MAX)], Some(1), Overflow),
+    (MAX - 15, 16, [(MAX - 15, LAST), (MAX, MAX)], Some(1), Overflow),
+    (MAX, 1, [(MAX, MAX), (4, 5)], Some(0), Overflow),
     // A range that is outside the space, or partly.
-    (16, 16, [(31, 32), (MAX, MAX)], NotAvailable),
-    (16, 16, [(20, 23), (32, 32)], NotAvailable),
-    (16, 16, [(24, 1000), (MAX, MAX)], NotAvailable),
+    (16, 16, [(31, 32), (MAX, MAX)], Some(0), NotAvailable),
+    (16, 16, [(20, 23), (32, 32)], Some(1), NotAvailable),
+    (16, 16, [(24, 1000), (MAX, MAX)], Some(0), NotAvailable),
     // This comes before the highest address.
-    (16, 16, [(20, 23), (24, MAX)], NotAvailable),
-    (0, MAX, [(0, 0), (LAST, MAX)], NotAvailable),
+    (16, 16, [(20, 23), (24, MAX)], Some(1), NotAvailable),
+    (0, MAX, [(0, 0), (LAST, MAX)], Some(1), NotAvailable),
     // A range that ends at the highest address of the space.
-    (MAX - 15, 16, [(MAX - 15, MAX), (4, 5)], Overflow),
-    (MAX - 15, 16, [(MAX - 15, MAX - 2), (LAST, MAX)], Overflow),
-    (1, MAX, [(1, HALF), (HALF + 1, MAX)], Overflow),
-    (1, MAX, [(1, MAX), (1, 1)], Overflow),
+    (MAX - 15, 16, [(MAX - 15, MAX), (4, 5)], Some(0), Overflow),
+    (MAX - 15, 16, [(MAX - 15, MAX - 2), (LAST, MAX)], Some(1), Overflow),
+    (1, MAX, [(1, HALF), (HALF + 1, MAX)], Some(1), Overflow),
+    (1, MAX, [(1, MAX), (1, 1)], Some(0), Overflow),
 ];
 
 /// Checks that each row has its error. tests/refused_memory makes every allocation fail, so an error
@@ -47,16 +49,16 @@ const REFUSED: [Refused; 22] = [
 fn refused_without_memory(rt: HostRuntime) {
     fail_from_here(rt.alloc());
     for row in &REFUSED {
-        let (base, size, [(start, end), (next, last)], want) = *row;
+        let (base, size, [(start, end), (next, last)], index, want) = *row;
         let held = [range(&rt, start, end), range(&rt, next, last)];
         let answer = AddressAllocator::with_held(rt.alloc(), base, size, &held);
-        let error = answer.err();
-        expect_eq(&rt, &error, &want.answer().err(), &held);
+        let error = want.answer().expect_err(&rt, "each row is refused");
+        expect_eq(&rt, &answer.err(), &Some(ListError { index, error }), &held);
     }
     let held = [range(&rt, 16, 17), range(&rt, 20, 31)];
     let is_true = match AddressAllocator::with_held(rt.alloc(), 16, 16, &held) {
         Ok(space) => holds_exactly(&space, &[(16, 17), (20, 31)]),
-        Err(error) => error == Error::OutOfMemory,
+        Err(failure) => failure == ListError::from(Error::OutOfMemory),
     };
     expect_true(&rt, is_true, &"two are held");
 }
@@ -111,7 +113,7 @@ fn created(rt: &(impl Abort + AllocGlobal), row: &Created<'_>) -> AddressAllocat
     count_allocations(rt.alloc());
     let mut answer = AddressAllocator::with_held(rt.alloc(), base, size, &held);
     expect_allocations(rt.alloc(), blocks);
-    if let Err(Error::OutOfMemory) = answer {
+    if answer.is_err() {
         answer = AddressAllocator::with_held(rt.alloc(), base, size, &held);
     }
     answer.expect(rt, "only memory is refused")
@@ -165,7 +167,7 @@ fn create_or_refuse(rt: &(impl Abort + AllocGlobal)) {
     let held = [range(rt, 18, 19), range(rt, 25, 30)];
     let is_true = match AddressAllocator::with_held(rt.alloc(), 16, 16, &held) {
         Ok(space) => holds_exactly(&space, &[(18, 19), (25, 30)]),
-        Err(error) => error == Error::OutOfMemory,
+        Err(failure) => failure == ListError::from(Error::OutOfMemory),
     };
     expect_true(rt, is_true, &"both or an error");
 }

@@ -115,15 +115,15 @@ fn spaces_with_ranges() {
         ];
         for (held, want) in rows {
             expect(&(s, want.clone()), &want, || {
-                AddressAllocator::with_held(Global, s.base, s.size, &held)
+                AddressAllocator::with_held(Global, s.base, s.size, &held).map_err(Error::from)
             });
             expect(&(s, want.clone()), &want, || {
-                IntervalTree::with_held(Global, s.key(), &held)
+                IntervalTree::with_held(Global, s.key(), &held).map_err(Error::from)
             });
         }
         for (base, size, error) in [(s.base, 0, Underflow), (u64::MAX, 2, Overflow)] {
             expect(&(s, base, size), &Err(error), || {
-                AddressAllocator::with_held(Global, base, size, &held)
+                AddressAllocator::with_held(Global, base, size, &held).map_err(Error::from)
             });
         }
     }
@@ -165,12 +165,12 @@ fn several_allocations() {
             for failing in [1, number].into_iter().filter(|_| number > 0) {
                 let (result, [made, _]) =
                     cost(|| with_failing(failing, || space.allocate_all(Global, &requests)));
-                assert_eq!(result.err(), Some(OutOfMemory), "{name:?}");
+                assert_eq!(result.err().map(Error::from), Some(OutOfMemory), "{name:?}");
                 assert_eq!(made, failing, "{name:?}");
                 assert!(space == s.space(), "{name:?}");
             }
             let (result, [made, _]) = cost(|| space.allocate_all(Global, &requests));
-            assert_eq!(result.err(), error, "{name:?}");
+            assert_eq!(result.err().map(Error::from), error, "{name:?}");
             assert_eq!(made, number, "{name:?}");
         }
     }

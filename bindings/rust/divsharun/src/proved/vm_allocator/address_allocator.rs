@@ -12,7 +12,7 @@
 
 use crate::rattle::Global;
 use crate::proved::vm_engine::IntervalTree;
-use crate::proved::vm_ranges::{AllocPolicy, Constraint, Error, RangeInclusive, Result};
+use crate::proved::vm_ranges::{AllocPolicy, Constraint, Error, ListError, RangeInclusive, Result};
 
 mod comparing;
 mod gaps;
@@ -57,7 +57,7 @@ impl AddressAllocator {
     ///
     /// # Errors
     ///
-    /// In this order:
+    /// In this order. The error has the index of the range only for a range that cannot be allocated.
     /// - `Underflow` if `size` is 0.
     /// - `Overflow` if the space would end past `u64::MAX`.
     /// - For the first range that cannot be allocated:
@@ -67,7 +67,12 @@ impl AddressAllocator {
     ///   - `Overflow` if it ends at `u64::MAX`.
     /// - `Overflow` if the ranges and the gaps together are 2^49 or more.
     /// - `OutOfMemory` if the allocation of a node fails.
-    pub fn with_held(alloc: Global, base: u64, size: u64, held: &[RangeInclusive]) -> Result<Self> {
+    pub fn with_held(
+        alloc: Global,
+        base: u64,
+        size: u64,
+        held: &[RangeInclusive],
+    ) -> core::result::Result<Self, ListError> {
         let address_space = space_from(base, size)?;
         let interval_tree = IntervalTree::with_held(alloc, address_space, held)?;
         Ok(AddressAllocator {

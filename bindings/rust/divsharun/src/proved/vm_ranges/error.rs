@@ -75,5 +75,32 @@ impl<T> From<AllocFailed<T>> for Error {
     }
 }
 
+/// The error of a call with a list. It names the item of the list that failed.
+#[derive(Clone, Debug, PartialEq, Eq)]
+pub struct ListError {
+    /// The index of the item that failed, or `None` if no item is the cause.
+    pub index: Option<usize>,
+    /// The error.
+    pub error: Error,
+}
+
+impl From<Error> for ListError {
+    fn from(error: Error) -> ListError {
+        ListError { index: None, error }
+    }
+}
+
+impl From<AllocError> for ListError {
+    fn from(error: AllocError) -> ListError {
+        ListError::from(Error::from(error))
+    }
+}
+
+impl From<ListError> for Error {
+    fn from(failure: ListError) -> Error {
+        failure.error
+    }
+}
+
 /// The result of a call: a value or an [`Error`].
 pub type Result<T> = core::result::Result<T, Error>;

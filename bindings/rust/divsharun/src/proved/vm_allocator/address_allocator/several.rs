@@ -6,7 +6,7 @@ use crate::rattle::Vec;
 use super::AddressAllocator;
 use crate::rattle::Global;
 use crate::proved::vm_engine::IntervalTree;
-use crate::proved::vm_ranges::{Constraint, RangeInclusive, Result};
+use crate::proved::vm_ranges::{Constraint, ListError, RangeInclusive};
 
 impl AddressAllocator {
     /// Allocates a range for each request, in their order, and returns the ranges. Each range is where
@@ -17,16 +17,16 @@ impl AddressAllocator {
     /// An error leaves the same ranges allocated, because the ranges allocated so far are freed again.
     /// All later calls have the same results. The shape of the tree can differ, and so the height, the
     /// counts of later calls and `to_value`.
-    /// - `OutOfMemory` if the allocation of the list fails. This is checked first.
-    /// - The error of the first request that fails.
+    /// - `OutOfMemory` without an index if the allocation of the list fails. This is checked first.
+    /// - The error of the first request that fails, with its index.
     pub fn allocate_all(
         &mut self,
         alloc: Global,
         requests: &[Constraint],
-    ) -> Result<Vec<RangeInclusive>> {
+    ) -> core::result::Result<Vec<RangeInclusive>, ListError> {
         let tree = &mut self.interval_tree;
         let mut ranges = Vec::with_capacity(alloc, requests.len())?;
-        for request in requests {
+        for (index, request) in requests.iter().enumerate() {
             match tree.allocate(alloc, *request) {
                 Ok(range) => {
                     let Ok(()) = ranges.push(range) else {
@@ -35,7 +35,8 @@ impl AddressAllocator {
                 }
                 Err(error) => {
                     free_all(tree, &mut ranges);
-                    return Err(error);
+                    let index = Some(index);
+                    return Err(ListError { index, error });
                 }
             }
         }

@@ -10,7 +10,7 @@ use crate::proved::vm_engine::block::Block;
 use crate::proved::vm_engine::node::{Child, InnerNode};
 use crate::proved::vm_engine::ordering::valid_range;
 use crate::rattle::Global;
-use crate::proved::vm_ranges::{Error, RangeInclusive, Result};
+use crate::proved::vm_ranges::{Error, ListError, RangeInclusive, Result};
 
 /// A tree of this many blocks or more is too high.
 const TOO_MANY_BLOCKS: u64 = 1 << 49;
@@ -21,7 +21,7 @@ impl IntervalTree {
     ///
     /// # Errors
     ///
-    /// In this order:
+    /// In this order. The error has the index of the range only for a range that cannot be allocated.
     /// - For the first range that cannot be allocated:
     ///   - `ResourceNotAvailable` if it does not start after the end of the range before it.
     ///   - `Overflow` if it starts at `u64::MAX`.
@@ -29,10 +29,14 @@ impl IntervalTree {
     ///   - `Overflow` if it ends at `u64::MAX`.
     /// - `Overflow` if the ranges and the gaps together are 2^49 or more.
     /// - `OutOfMemory` if the allocation of a node fails.
-    pub fn with_held(alloc: Global, key: RangeInclusive, held: &[RangeInclusive]) -> Result<Self> {
+    pub fn with_held(
+        alloc: Global,
+        key: RangeInclusive,
+        held: &[RangeInclusive],
+    ) -> core::result::Result<Self, ListError> {
         let count = count_blocks(&key, held)?;
         if count >= TOO_MANY_BLOCKS {
-            return Err(Error::Overflow);
+            return Err(Error::Overflow.into());
         }
         let mut cursor = BlockCursor {
             next: key.start().into(),
@@ -50,12 +54,18 @@ impl IntervalTree {
 
 /// Returns the number of blocks of the space with these ranges allocated, or the error of the first
 /// range that cannot be allocated.
-fn count_blocks(space: &RangeInclusive, held: &[RangeInclusive]) -> Result<u64> {
+fn count_blocks(
+    space: &RangeInclusive,
+    held: &[RangeInclusive],
+) -> core::result::Result<u64, ListError> {
     let end = space.end();
     let mut next = space.start();
     let mut count = 0;
-    for range in held {
-        check_next(next, end, range)?;
+    for (index, range) in held.iter().enumerate() {
+        if let Err(error) = check_next(next, end, range) {
+            let index = Some(index);
+            return Err(ListError { index, error });
+        }
         if next < range.start() {
             count += 1;
         }
