@@ -1,4 +1,5 @@
 pub mod TreeValues
 pub mod KeyValues
 pub mod SavedTrees
+pub mod NodesRead
 pub mod WrittenTrees

@@ -1,6 +1,7 @@
 //! Makes allocators of the nodes that a reader has read.
 ghost use Rattle.std.specs.Prelude.{◌≡◌, IfOk};
-ghost use Rattle.vm_ranges.specs.Saving.{Reads};
+ghost use Rattle.vm_ranges.specs.Saving.{ReadsParts};
+ghost use Rattle.vm_ranges.specs.declared.saved.Condition.TheVariants.{Inside, Tree};
 ghost use Rattle.vm_engine.specs.Address.{IsAddressState};
 ghost use Rattle.vm_engine.specs.Checks.Spans.{StandsFor};
 ghost use Rattle.vm_engine.specs.Tree.Shape.{blocks};
@@ -10,7 +11,7 @@ ghost use Rattle.vm_allocator.specs.Allocator.{state_of, made_state};
 use crate::address_allocator::AddressAllocator;
 use std::alloc::{AllocError, Global};
 use vm_engine::{IntervalTree, ReadNodes, Span, WrittenBlocks};
-use vm_ranges::{RangeInclusive, ValueError};
+use vm_ranges::{RangeInclusive, SavedError};
 
 impl AddressAllocator {
     /// Returns the allocator that a saved space and a saved tree represent. Its tree has the minimum height.
@@ -18,16 +19,16 @@ impl AddressAllocator {
     /// # Errors
     ///
     /// In this order:
-    /// - `NotAState` if the saved tree is none of the space, node for node.
+    /// - `Violated(Tree)` if the saved tree is none of the space, node for node.
     /// - `OutOfMemory` if an allocation fails.
     pub fn from_nodes(
         alloc: Global,
         address_space: RangeInclusive,
         nodes: &ReadNodes,
         root: Option<Span>,
-    ) -> std::result::Result<Self, ValueError>
-        ensures answer { (t : Saved) → StandsFor root t → nodes.now.held.items ≡ held_keys t
-            → Reads (HasTreeOf address_space t) (made_state result) }
+    ) -> std::result::Result<Self, SavedError>
+        ensures answer { (t : Saved) → StandsFor root t → nodes.now.held ≡ held_keys t
+            → ReadsParts (HasTreeOf address_space t) Tree (made_state result) }
         ensures state { IfOk result (λ allocator. IsAddressState (state_of allocator)) }
     {
         let interval_tree = IntervalTree::from_nodes(alloc, address_space, nodes, root)?;
@@ -44,16 +45,17 @@ impl AddressAllocator {
     /// # Errors
     ///
     /// In this order:
-    /// - `NotAState` if a key is not in the space, or if more than 6,293,134,512 keys are allocated.
+    /// - `Violated(Inside)` if a key is not in the space, or if more than 6,293,134,512 keys are
+    ///   allocated.
     /// - `OutOfMemory` if an allocation fails.
     pub fn from_nodes_repaired(
         alloc: Global,
         address_space: RangeInclusive,
         nodes: &ReadNodes,
         root: Option<Span>,
-    ) -> std::result::Result<Self, ValueError>
-        ensures answer { (t : Saved) → StandsFor root t → nodes.now.held.items ≡ held_keys t
-            → Reads (HasHeldKeys address_space t) (made_state result) }
+    ) -> std::result::Result<Self, SavedError>
+        ensures answer { (t : Saved) → StandsFor root t → nodes.now.held ≡ held_keys t
+            → ReadsParts (HasHeldKeys address_space t) Inside (made_state result) }
         ensures state { IfOk result (λ allocator. IsAddressState (state_of allocator)) }
     {
         let interval_tree = IntervalTree::from_nodes_repaired(alloc, address_space, nodes, root)?;
@@ -62,6 +64,7 @@ impl AddressAllocator {
             interval_tree,
         })
     }
+
     /// Returns the blocks of which the saved tree of the allocator is made, or an error if an
     /// allocation fails.
     pub fn written_blocks(&self, alloc: Global) -> std::result::Result<WrittenBlocks, AllocError>

@@ -2,7 +2,8 @@
 use Rattle.std.proofs.Common.{◌≡◌, ℕ, ◌+◌, ◌<◌, List, [], ◌∷◌, ◌++◌, length, take, drop, Option, Some, None, Ok, Err, refl, sym, ap, ◌∙◌, arith}
 use Rattle.std.proofs.lemmas.List.{append_assoc, take_at, drop_at}
 use Rattle.vm_ranges.specs.Range.{Range, MAX, IsRange}
-use Rattle.vm_ranges.specs.declared.saved.ValueError.TheVariants.{NotAState, OutOfMemory}
+use Rattle.vm_ranges.specs.declared.saved.SavedError.TheVariants.{Violated, OutOfMemory}
+use Rattle.vm_ranges.specs.declared.saved.Condition.TheVariants.{Keys}
 use Rattle.vm_engine.specs.Tree.Block.{Block}
 use Rattle.vm_engine.specs.Tree.Blocks.{range_if_held, held_of, AreKeysIn}
 use Rattle.vm_engine.specs.Values.SavedTrees.{Saved, Node, saved_blocks, held_keys}
@@ -53,11 +54,11 @@ around s l r b h st =
 no_span : (left right : Option Span) (l r : Saved) (b : Block) (h : ℕ) → StandsFor left l → StandsFor right r → span_over left b right h ≡ None → span_of (Node l b r h) ≡ None
 no_span left right l r b h sl sr e = rw (sl.is_span, sr.is_span, e) refl
 
-pub end_none : (old new : List Range) (left right : Option Span) (b : Block) (h : ℕ) → span_over left b right h ≡ None → EndsNode old left b right h (Err NotAState) new
+pub end_none : (old new : List Range) (left right : Option Span) (b : Block) (h : ℕ) → span_over left b right h ≡ None → EndsNode old left b right h (Err (Violated Keys)) new
 unfolding EndsNode
 end_none old new left right b h e = λ before l r sl sr list.
     let n = no_span left right l r b h sl sr e in
-    ((λ (x : (s : Span) × StandsFor (Some s) (Node l b r h)). let f = x.1.is_span in absurd (cc (n, f))), tt)
+    ((refl, λ (x : (s : Span) × StandsFor (Some s) (Node l b r h)). let f = x.1.is_span in absurd (cc (n, f))), tt)
 
 module _ (old : List Range) (left right : Option Span) (b : Block) (h : ℕ) (s : Span) (is : span_over left b right h ≡ Some s) (range : IsRange b.key.start b.key.end) where
   stands : (l r : Saved) → StandsFor left l → StandsFor right r → StandsFor (Some s) (Node l b r h)
@@ -69,7 +70,7 @@ module _ (old : List Range) (left right : Option Span) (b : Block) (h : ℕ) (s 
     in_order before l r sl sr list =
         arranged before (held_keys l) (held_keys r) (held_is left l (sound l left sl.ranges sl.is_span)) (held_is right r (sound r right sr.ranges sr.is_span)) (around s l r b h (stands l r sl sr)) list
 
-    pub end_lost : (new : List Range) → place ≡ None → EndsNode old left b right h (Err NotAState) new
+    pub end_lost : (new : List Range) → place ≡ None → EndsNode old left b right h (Err (Violated Keys)) new
     unfolding EndsNode
     end_lost new e = λ before l r sl sr list. let p = (in_order before l r sl sr list).0 in absurd (cc (p, e))
 

@@ -1,7 +1,8 @@
 -- What is kept of a subtree that was read: a span. The lemmas of proofs/Saved show what it says about the nodes.
 use Rattle.std.specs.Prelude.{◌≡◌, ℕ, ◌+◌, min, max, Bool, true, false, not, ◌&&◌, ◌||◌, ◌==◌, nat_lt, nat_le, ◌^◌, ◌-◌, if◌then◌else◌, Option, Some, None, option_and_then, List, [], ◌∷◌, ◌++◌, length, ◌<◌, ◌⊎◌, Result, OnOk}
-use Rattle.vm_ranges.specs.Saving.{Reads}
-use Rattle.vm_ranges.specs.declared.saved.ValueError.{ValueError}
+use Rattle.vm_ranges.specs.Saving.{ReadsParts}
+use Rattle.vm_ranges.specs.declared.saved.SavedError.{SavedError}
+use Rattle.vm_ranges.specs.declared.saved.Condition.TheVariants.{Keys}
 use Rattle.vm_ranges.specs.Range.{Range, MAX}
 use Rattle.vm_engine.specs.Tree.Block.{Block, is_free}
 use Rattle.vm_engine.specs.Tree.Shape.{MAX_HEIGHT}
@@ -141,11 +142,11 @@ Arranges old left key right answer new =
 -- The result of the end of a node, if its children are those of two saved trees. The list has the keys of all nodes that
 -- ended outside the node, and then those of its children.
 -- - Ok if the tree of the node is readable, and then the span stands for it, and the list has its keys in order.
--- - NotAState if it is not readable.
+-- - Violated Keys if it is not readable.
 -- - OutOfMemory is possible only if it is readable.
-unfoldable pub EndsNode : List Range → Option Span → Block → Option Span → ℕ → Result Span ValueError → List Range → Type 0
+unfoldable pub EndsNode : List Range → Option Span → Block → Option Span → ℕ → Result Span SavedError → List Range → Type 0
 EndsNode old left b right height answer new =
     (before : List Range) (l r : Saved) → StandsFor left l → StandsFor right r →
     EndsWithKeys old before (held_keys l) (held_keys r) →
-    Reads (λ s. StandsFor (Some s) (Node l b r height)) answer
+    ReadsParts (λ s. StandsFor (Some s) (Node l b r height)) Keys answer
     × OnOk answer (new ≡ before ++ held_keys (Node l b r height))

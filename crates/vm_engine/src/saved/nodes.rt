@@ -2,31 +2,48 @@
 //!
 //! A reader calls `begin` before it reads the fields of a node, and `end` after that. It has no list
 //! of nodes: a subtree is known by its span, and only the allocated keys of all subtrees are kept.
-ghost use Rattle.std.specs.Prelude.{◌≡◌, ◌+◌, ◌<◌, ◌≤◌, ◌++◌, take, drop, IfOk, IfSome};
+ghost use Rattle.std.specs.Prelude.{◌≡◌, ◌+◌, ◌-◌, ◌<◌, ◌≤◌, ◌++◌, take, drop, IfOk, IfSome};
 ghost use Rattle.std.specs.Vec.{vec_len};
 ghost use Rattle.vm_engine.specs.Address.{IsAddressState};
 ghost use Rattle.vm_engine.specs.Checks.Spans.{Arranges, EndsNode, StandsFor};
 ghost use Rattle.vm_engine.specs.Values.SavedTrees.{Saved, held_keys, HasHeldKeys, HasTreeOf};
 ghost use Rattle.vm_engine.specs.Tree.SpaceTree.{tree_state, made_tree};
-ghost use Rattle.vm_ranges.specs.Saving.{Reads};
+ghost use Rattle.vm_ranges.specs.Saving.{ReadsParts};
+ghost use Rattle.vm_ranges.specs.declared.saved.Condition.TheVariants.{Inside, Tree};
+ghost use Rattle.vm_engine.specs.Values.NodesRead.{BeginsNode, no_nodes};
 
 use super::span::{MAX_NESTING, Span, held_in, is_inside, is_tree_of, span_over};
 use crate::IntervalTree;
 use std::alloc::Global;
-use vm_ranges::{NodeState, RangeInclusive, ValueError};
+use std::marker::Model;
+use vm_ranges::{Condition, NodeState, RangeInclusive, SavedError};
 
 /// The nodes of a saved tree that were read so far.
 #[derive(Drop)]
 pub struct ReadNodes {
-    /// The allocated keys of all nodes that ended. Those of a node are in increasing order.
+    // The allocated keys of all nodes that ended. Those of a node are in increasing order.
     held: Vec<RangeInclusive>,
-    /// The number of nodes that began and did not end.
+    // The number of nodes that began and did not end.
     depth: u64,
+}
+
+impl Model for ReadNodes {
+    ghost use Rattle.vm_engine.specs.Values.NodesRead.{NodesRead, nodes_code};
+
+    ghost Value = { NodesRead };
+
+    ghost coded = { nodes_code };
+
+    ghost view = { λ n. record { held = n.held.items; depth = n.depth } };
+
+    ghost invariant = { λ n. Unit {0} };
 }
 
 impl ReadNodes {
     /// Returns an empty list of nodes. It does not allocate.
-    pub fn new(alloc: Global) -> Self {
+    pub fn new(alloc: Global) -> Self
+        ensures { result ≡ no_nodes }
+    {
         ReadNodes {
             held: Vec::new(alloc),
             depth: 0,
@@ -39,10 +56,12 @@ impl ReadNodes {
     ///
     /// # Errors
     ///
-    /// - `NotAState` if it is nested in 50 nodes.
-    pub fn begin(&mut self) -> std::result::Result<(), ValueError> {
+    /// - `Violated(Nesting)` if it is nested in 50 nodes.
+    pub fn begin(&mut self) -> std::result::Result<(), SavedError>
+        ensures { BeginsNode self.old result self.new }
+    {
         if self.depth >= MAX_NESTING {
-            return Err(ValueError::NotAState);
+            return Err(SavedError::Violated(Condition::Nesting));
         }
         self.depth += 1;
         Ok(())
@@ -54,7 +73,7 @@ impl ReadNodes {
     /// # Errors
     ///
     /// In this order:
-    /// - `NotAState` if one of these is true:
+    /// - `Violated(Keys)` if one of these is true:
     ///   - The keys are not in increasing order, or share an address.
     ///   - The key is allocated and ends at `u64::MAX`.
     ///   - Nodes are nested more than 50 deep.
@@ -66,30 +85,22 @@ impl ReadNodes {
         state: NodeState,
         right: Option<Span>,
         height: u64,
-    ) -> std::result::Result<Span, ValueError>
-        ensures node { EndsNode self.old.held.items left (record { key = key; state = state }) right height
-            result self.new.held.items }
+    ) -> std::result::Result<Span, SavedError>
+        ensures node { EndsNode self.old.held left (record { key = key; state = state }) right height
+            result self.new.held }
+        ensures depth { self.new.depth ≡ self.old.depth - 1 }
     {
-        self.leave();
+        self.depth = self.depth.saturating_sub(1);
         let Some(span) = span_over(&left, &key, state, &right, height) else {
-            return Err(ValueError::NotAState);
+            return Err(SavedError::Violated(Condition::Keys));
         };
         let Some(place) = arrange(&mut self.held, held_in(&left), &key, held_in(&right)) else {
-            return Err(ValueError::NotAState);
+            return Err(SavedError::Violated(Condition::Keys));
         };
         if state == NodeState::Allocated {
             self.held.insert(place, key)?;
         }
         Ok(span)
-    }
-
-    /// Subtracts one from the depth, if it is not 0.
-    fn leave(&mut self)
-        ensures { self.new.held ≡ self.old.held }
-    {
-        if self.depth > 0 {
-            self.depth -= 1;
-        }
     }
 }
 
@@ -134,24 +145,24 @@ impl IntervalTree {
     /// # Errors
     ///
     /// In this order:
-    /// - `NotAState` if the saved tree is none of the space, node for node.
+    /// - `Violated(Tree)` if the saved tree is none of the space, node for node.
     /// - `OutOfMemory` if an allocation fails.
     pub fn from_nodes(
         alloc: Global,
         space: RangeInclusive,
         nodes: &ReadNodes,
         root: Option<Span>,
-    ) -> std::result::Result<Self, ValueError>
-        ensures answer { (t : Saved) → StandsFor root t → nodes.now.held.items ≡ held_keys t
-            → Reads (HasTreeOf space t) (made_tree result) }
+    ) -> std::result::Result<Self, SavedError>
+        ensures answer { (t : Saved) → StandsFor root t → nodes.now.held ≡ held_keys t
+            → ReadsParts (HasTreeOf space t) Tree (made_tree result) }
         ensures space { IfOk result (λ tree. (tree_state tree).space ≡ space) }
         ensures state { IfOk result (λ tree. IsAddressState (tree_state tree)) }
     {
         if !is_tree_of(&space, &root) {
-            return Err(ValueError::NotAState);
+            return Err(SavedError::Violated(Condition::Tree));
         }
         let Ok(tree) = IntervalTree::with_held(alloc, space, &nodes.held) else {
-            return Err(ValueError::OutOfMemory);
+            return Err(SavedError::OutOfMemory);
         };
         Ok(tree)
     }
@@ -162,24 +173,25 @@ impl IntervalTree {
     /// # Errors
     ///
     /// In this order:
-    /// - `NotAState` if a key is not in the space, or if more than 6,293,134,512 keys are allocated.
+    /// - `Violated(Inside)` if a key is not in the space, or if more than 6,293,134,512 keys are
+    ///   allocated.
     /// - `OutOfMemory` if an allocation fails.
     pub fn from_nodes_repaired(
         alloc: Global,
         space: RangeInclusive,
         nodes: &ReadNodes,
         root: Option<Span>,
-    ) -> std::result::Result<Self, ValueError>
-        ensures answer { (t : Saved) → StandsFor root t → nodes.now.held.items ≡ held_keys t
-            → Reads (HasHeldKeys space t) (made_tree result) }
+    ) -> std::result::Result<Self, SavedError>
+        ensures answer { (t : Saved) → StandsFor root t → nodes.now.held ≡ held_keys t
+            → ReadsParts (HasHeldKeys space t) Inside (made_tree result) }
         ensures space { IfOk result (λ tree. (tree_state tree).space ≡ space) }
         ensures state { IfOk result (λ tree. IsAddressState (tree_state tree)) }
     {
         if !is_inside(&space, &root) {
-            return Err(ValueError::NotAState);
+            return Err(SavedError::Violated(Condition::Inside));
         }
         let Ok(tree) = IntervalTree::with_held(alloc, space, &nodes.held) else {
-            return Err(ValueError::OutOfMemory);
+            return Err(SavedError::OutOfMemory);
         };
         Ok(tree)
     }
