@@ -60,7 +60,7 @@ METHODS = {
     "checked_sub", "clone", "cmp", "contains", "copied", "copy_from_slice", "enumerate", "first", "first_chunk", "flush", "get",
     "get_mut", "ilog2", "insert", "into", "is_ascii_digit", "is_empty", "is_none", "is_null", "is_power_of_two",
     "is_some", "iter", "len", "max", "min", "next", "ok", "ok_or", "pop", "pop_first", "push", "range", "read", "remove", "reserve_exact", "rotate_left",
-    "saturating_add", "simd_eq", "split_at", "split_first", "take", "to_bitmask", "trailing_zeros", "unwrap", "write_all",
+    "saturating_add", "saturating_sub", "simd_eq", "split_at", "split_first", "take", "to_bitmask", "trailing_zeros", "unwrap", "write_all",
 }
 MACROS = {"json", "unreachable"}
 DERIVES = {"Clone", "Copy", "Debug", "Default", "Drop", "Eq", "Error", "Hash", "Ord", "PartialEq", "PartialOrd"}

@@ -1,7 +1,7 @@
 //! Tests of values that are written and read.
 use crate::fixtures::{
     Reader, balance, block_count, chain, expect_eq, expect_space, fail_from_here, hold,
-    holds_exactly, made, parsed, put, range, read_ids, read_repaired, reject_each, saved,
+    holds_exactly, list_for, made, parsed, put, range, read_ids, read_repaired, reject_each, saved,
     saved_ids, text_of,
 };
 use serde_json::Value;
@@ -14,6 +14,7 @@ mod allocators;
 mod damage;
 mod hostile;
 mod ids;
+mod nodes;
 mod repaired;
 mod snapshots;
 mod without_memory;

@@ -23,11 +23,23 @@ const REFUSED: [Refused; 22] = [
     (16, 16, [(15, 16), (MAX, MAX)], Some(0), NotAvailable),
     (16, 16, [(15, 15), (MAX, MAX)], Some(0), NotAvailable),
     // This comes before the end of the range.
-    (MAX - 15, 16, [(LAST, LAST), (LAST, MAX)], Some(1), NotAvailable),
+    (
+        MAX - 15,
+        16,
+        [(LAST, LAST), (LAST, MAX)],
+        Some(1),
+        NotAvailable,
+    ),
     // A range that starts at the highest address, in the space or outside it.
     (16, 16, [(MAX, MAX), (4, 5)], Some(0), Overflow),
     (16, 16, [(31, 31), (MAX, MAX)], Some(1), Overflow),
-    (MAX - 15, 16, [(MAX - 15, LAST), (MAX, MAX)], Some(1), Overflow),
+    (
+        MAX - 15,
+        16,
+        [(MAX - 15, LAST), (MAX, MAX)],
+        Some(1),
+        Overflow,
+    ),
     (MAX, 1, [(MAX, MAX), (4, 5)], Some(0), Overflow),
     // A range that is outside the space, or partly.
     (16, 16, [(31, 32), (MAX, MAX)], Some(0), NotAvailable),
@@ -38,7 +50,13 @@ const REFUSED: [Refused; 22] = [
     (0, MAX, [(0, 0), (LAST, MAX)], Some(1), NotAvailable),
     // A range that ends at the highest address of the space.
     (MAX - 15, 16, [(MAX - 15, MAX), (4, 5)], Some(0), Overflow),
-    (MAX - 15, 16, [(MAX - 15, MAX - 2), (LAST, MAX)], Some(1), Overflow),
+    (
+        MAX - 15,
+        16,
+        [(MAX - 15, MAX - 2), (LAST, MAX)],
+        Some(1),
+        Overflow,
+    ),
     (1, MAX, [(1, HALF), (HALF + 1, MAX)], Some(1), Overflow),
     (1, MAX, [(1, MAX), (1, 1)], Some(0), Overflow),
 ];

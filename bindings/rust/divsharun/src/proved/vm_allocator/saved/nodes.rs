@@ -5,7 +5,7 @@
 use crate::proved::vm_allocator::address_allocator::AddressAllocator;
 use crate::rattle::{AllocError, Global};
 use crate::proved::vm_engine::{IntervalTree, ReadNodes, Span, WrittenBlocks};
-use crate::proved::vm_ranges::{RangeInclusive, ValueError};
+use crate::proved::vm_ranges::{RangeInclusive, SavedError};
 
 impl AddressAllocator {
     /// Returns the allocator that a saved space and a saved tree represent. Its tree has the minimum height.
@@ -13,14 +13,14 @@ impl AddressAllocator {
     /// # Errors
     ///
     /// In this order:
-    /// - `NotAState` if the saved tree is none of the space, node for node.
+    /// - `Violated(Tree)` if the saved tree is none of the space, node for node.
     /// - `OutOfMemory` if an allocation fails.
     pub fn from_nodes(
         alloc: Global,
         address_space: RangeInclusive,
         nodes: &ReadNodes,
         root: Option<Span>,
-    ) -> core::result::Result<Self, ValueError> {
+    ) -> core::result::Result<Self, SavedError> {
         let interval_tree = IntervalTree::from_nodes(alloc, address_space, nodes, root)?;
         Ok(AddressAllocator {
             address_space,
@@ -35,20 +35,22 @@ impl AddressAllocator {
     /// # Errors
     ///
     /// In this order:
-    /// - `NotAState` if a key is not in the space, or if more than 6,293,134,512 keys are allocated.
+    /// - `Violated(Inside)` if a key is not in the space, or if more than 6,293,134,512 keys are
+    ///   allocated.
     /// - `OutOfMemory` if an allocation fails.
     pub fn from_nodes_repaired(
         alloc: Global,
         address_space: RangeInclusive,
         nodes: &ReadNodes,
         root: Option<Span>,
-    ) -> core::result::Result<Self, ValueError> {
+    ) -> core::result::Result<Self, SavedError> {
         let interval_tree = IntervalTree::from_nodes_repaired(alloc, address_space, nodes, root)?;
         Ok(AddressAllocator {
             address_space,
             interval_tree,
         })
     }
+
     /// Returns the blocks of which the saved tree of the allocator is made, or an error if an
     /// allocation fails.
     pub fn written_blocks(&self, alloc: Global) -> core::result::Result<WrittenBlocks, AllocError> {

@@ -9,13 +9,13 @@ use crate::rattle::Vec;
 use super::span::{MAX_NESTING, Span, held_in, is_inside, is_tree_of, span_over};
 use crate::proved::vm_engine::IntervalTree;
 use crate::rattle::Global;
-use crate::proved::vm_ranges::{NodeState, RangeInclusive, ValueError};
+use crate::proved::vm_ranges::{Condition, NodeState, RangeInclusive, SavedError};
 
 /// The nodes of a saved tree that were read so far.
 pub struct ReadNodes {
-    /// The allocated keys of all nodes that ended. Those of a node are in increasing order.
+    // The allocated keys of all nodes that ended. Those of a node are in increasing order.
     held: Vec<RangeInclusive>,
-    /// The number of nodes that began and did not end.
+    // The number of nodes that began and did not end.
     depth: u64,
 }
 
@@ -34,10 +34,10 @@ impl ReadNodes {
     ///
     /// # Errors
     ///
-    /// - `NotAState` if it is nested in 50 nodes.
-    pub fn begin(&mut self) -> core::result::Result<(), ValueError> {
+    /// - `Violated(Nesting)` if it is nested in 50 nodes.
+    pub fn begin(&mut self) -> core::result::Result<(), SavedError> {
         if self.depth >= MAX_NESTING {
-            return Err(ValueError::NotAState);
+            return Err(SavedError::Violated(Condition::Nesting));
         }
         self.depth += 1;
         Ok(())
@@ -49,7 +49,7 @@ impl ReadNodes {
     /// # Errors
     ///
     /// In this order:
-    /// - `NotAState` if one of these is true:
+    /// - `Violated(Keys)` if one of these is true:
     ///   - The keys are not in increasing order, or share an address.
     ///   - The key is allocated and ends at `u64::MAX`.
     ///   - Nodes are nested more than 50 deep.
@@ -61,25 +61,18 @@ impl ReadNodes {
         state: NodeState,
         right: Option<Span>,
         height: u64,
-    ) -> core::result::Result<Span, ValueError> {
-        self.leave();
+    ) -> core::result::Result<Span, SavedError> {
+        self.depth = self.depth.saturating_sub(1);
         let Some(span) = span_over(&left, &key, state, &right, height) else {
-            return Err(ValueError::NotAState);
+            return Err(SavedError::Violated(Condition::Keys));
         };
         let Some(place) = arrange(&mut self.held, held_in(&left), &key, held_in(&right)) else {
-            return Err(ValueError::NotAState);
+            return Err(SavedError::Violated(Condition::Keys));
         };
         if state == NodeState::Allocated {
             self.held.insert(place, key)?;
         }
         Ok(span)
-    }
-
-    /// Subtracts one from the depth, if it is not 0.
-    fn leave(&mut self) {
-        if self.depth > 0 {
-            self.depth -= 1;
-        }
     }
 }
 
@@ -116,19 +109,19 @@ impl IntervalTree {
     /// # Errors
     ///
     /// In this order:
-    /// - `NotAState` if the saved tree is none of the space, node for node.
+    /// - `Violated(Tree)` if the saved tree is none of the space, node for node.
     /// - `OutOfMemory` if an allocation fails.
     pub fn from_nodes(
         alloc: Global,
         space: RangeInclusive,
         nodes: &ReadNodes,
         root: Option<Span>,
-    ) -> core::result::Result<Self, ValueError> {
+    ) -> core::result::Result<Self, SavedError> {
         if !is_tree_of(&space, &root) {
-            return Err(ValueError::NotAState);
+            return Err(SavedError::Violated(Condition::Tree));
         }
         let Ok(tree) = IntervalTree::with_held(alloc, space, &nodes.held) else {
-            return Err(ValueError::OutOfMemory);
+            return Err(SavedError::OutOfMemory);
         };
         Ok(tree)
     }
@@ -139,19 +132,20 @@ impl IntervalTree {
     /// # Errors
     ///
     /// In this order:
-    /// - `NotAState` if a key is not in the space, or if more than 6,293,134,512 keys are allocated.
+    /// - `Violated(Inside)` if a key is not in the space, or if more than 6,293,134,512 keys are
+    ///   allocated.
     /// - `OutOfMemory` if an allocation fails.
     pub fn from_nodes_repaired(
         alloc: Global,
         space: RangeInclusive,
         nodes: &ReadNodes,
         root: Option<Span>,
-    ) -> core::result::Result<Self, ValueError> {
+    ) -> core::result::Result<Self, SavedError> {
         if !is_inside(&space, &root) {
-            return Err(ValueError::NotAState);
+            return Err(SavedError::Violated(Condition::Inside));
         }
         let Ok(tree) = IntervalTree::with_held(alloc, space, &nodes.held) else {
-            return Err(ValueError::OutOfMemory);
+            return Err(SavedError::OutOfMemory);
         };
         Ok(tree)
     }
