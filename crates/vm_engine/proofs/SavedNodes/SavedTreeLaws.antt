@@ -1,7 +1,7 @@
 -- The laws of saved trees.
 use Rattle.std.proofs.Common.{◌≡◌, ◌≢◌, List, [], length, Option, Some, None, sym, ap, ◌∙◌, subst, arith, refl}
 use Rattle.vm_engine.specs.Tree.Block.{Block}
-use Rattle.vm_engine.specs.Tree.Blocks.{blocks_of}
+use Rattle.vm_engine.specs.Tree.Blocks.{blocks_of, held_of}
 use Rattle.vm_engine.specs.Tree.Shape.{Shape, Tip, Fork, blocks, height_of}
 use Rattle.vm_engine.specs.Tree.SpaceTree.{space_of, IsSpaceTree}
 use Rattle.vm_engine.specs.Values.SavedTrees.{Saved, IsReadable}
@@ -46,7 +46,11 @@ written_is_read = λ s t tree w.
     let n = node_count-blocks s in
     let m = most_nodes s in
     let p = power_grows (height_of s) 49 h in
-    written_tree (space_of (blocks s)) (blocks s) t tree.tiling (some_block s tree) (omega arith) w
+    record {
+      tree = written_tree (space_of (blocks s)) (blocks s) t tree.tiling (some_block s tree) (omega arith) w;
+      held = ap held_of (written_blocks (blocks s) t w);
+      is_space = refl;
+    }
 
 pub equal_are_written_equally : EqualAreWrittenEqually
 equal_are_written_equally = λ s other t u p q e w x.

@@ -6,7 +6,7 @@ use Rattle.vm_engine.specs.Address.{AddressState}
 use Rattle.vm_engine.specs.Tree.Block.{Block}
 use Rattle.vm_engine.specs.Tree.Shape.{Shape, blocks}
 use Rattle.vm_engine.specs.Tree.SpaceTree.{space_of, tree_state, IsSpaceTree}
-use Rattle.vm_engine.specs.Values.SavedTrees.{Saved, Node, shape_of, HasRanges, IsReadable, IsSavedTree, HasHeldKeys}
+use Rattle.vm_engine.specs.Values.SavedTrees.{Saved, Node, shape_of, HasRanges, IsReadable, IsSavedTree, HasHeldKeys, HasTreeOf}
 use Rattle.vm_engine.specs.Values.TreeValues.{EncodesSpaceTree}
 use Rattle.vm_engine.specs.Values.KeyValues.{EncodesKeys}
 use Rattle.vm_engine.specs.Checks.ValueSpans.{EncodesSaved}
@@ -27,9 +27,10 @@ NodesAreWritten =
     IsWritten n.left.blocks.now l → IsWritten n.right.blocks.now r →
     IsWritten bs (Node l (record { key = n.key; state = n.state }) r n.height)
 
--- What is written for an allocator's tree is a saved tree of its space, node for node.
+-- What is written for an allocator's tree is a saved tree of its space, node for node, with its state.
 abbrev pub WrittenIsRead : Type 0
-WrittenIsRead = (s : Shape) (t : Saved) → IsSpaceTree s → IsWritten (blocks s) t → IsSavedTree (space_of (blocks s)) t
+WrittenIsRead =
+    (s : Shape) (t : Saved) → IsSpaceTree s → IsWritten (blocks s) t → HasTreeOf (space_of (blocks s)) t (tree_state s)
 
 -- Trees of one state are written as the same saved tree.
 abbrev pub EqualAreWrittenEqually : Type 0

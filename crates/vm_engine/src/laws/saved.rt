@@ -1,11 +1,19 @@
 //! Laws of saved trees.
-ghost use Rattle.vm_engine.specs.Laws.SavedLaws.{SpansAreExact, NodesAreWritten, WrittenIsRead, EqualAreWrittenEqually, ValuesAreSavedTrees, ValuesHaveHeldKeys};
+ghost use Rattle.vm_engine.specs.Laws.SavedLaws.{
+  SpansAreExact,
+  NodesAreWritten,
+  WrittenIsRead,
+  EqualAreWrittenEqually,
+  ValuesAreSavedTrees,
+  ValuesHaveHeldKeys,
+};
 
 /// States what is read and what is written:
-/// - A saved tree of ranges has a span exactly if its keys are in increasing order and share no address, no allocated key
-///   ends at `u64::MAX`, and nodes are nested at most 50 deep.
+/// - A saved tree of ranges has a span exactly if its keys are in increasing order and share no
+///   address, no allocated key ends at `u64::MAX`, and nodes are nested at most 50 deep.
 /// - `root` returns, node for node, one saved tree.
-/// - What is written of a tree is read again, node for node.
+/// - What is written of a tree is a saved tree of its space, node for node, with its state. So the
+///   strict reader accepts it as the same state.
 /// - Trees of one state are written in the same way.
 #[tactic(auto, using(crate::proofs::SavedNodes::SavedTreeLaws::saved_trees))]
 fn saved_trees()
