@@ -1,6 +1,7 @@
 //! A reader of JSON after RFC 8259. It visits a text once and does not allocate.
 
-use crate::parts::Fault;
+use crate::conditions;
+use crate::proved::vm_allocator::SavedError;
 use crate::status::{
     dvs_status, DVS_LIMIT_EXCEEDED, DVS_NOT_A_STATE, DVS_NOT_JSON, DVS_OUT_OF_MEMORY,
 };
@@ -94,10 +95,10 @@ impl<'a> Reader<'a> {
     }
 
     /// Returns the fault of parts that end before the rest.
-    pub(crate) fn of_parts(&self, fault: Fault) -> TextFault {
+    pub(crate) fn of_parts(&self, error: SavedError) -> TextFault {
         match fault {
-            Fault::Invalid(condition) => self.not_a_state(condition),
-            Fault::OutOfMemory => DVS_OUT_OF_MEMORY.into(),
+            SavedError::Violated(condition) => self.not_a_state(conditions::text_of(condition)),
+            SavedError::OutOfMemory => DVS_OUT_OF_MEMORY.into(),
         }
     }
 

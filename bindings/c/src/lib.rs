@@ -12,13 +12,13 @@
 
 extern crate alloc;
 
+#[path = "../../rust/divsharun/src/saved/conditions.rs"]
+mod conditions;
 mod devices;
 mod handle;
 mod ids;
 mod json;
 mod lists;
-#[path = "../../rust/divsharun/src/saved/parts.rs"]
-mod parts;
 // The eraser writes it. The library calls a part of it.
 #[allow(dead_code, unused_imports)]
 #[rustfmt::skip]

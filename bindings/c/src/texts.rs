@@ -2,15 +2,13 @@
 
 use crate::handle::{non_null, Handle};
 use crate::json::{dvs_text_limits, Read, Reader, TextFault};
-use crate::parts::{
-    begin, device_manager, end, id_allocator, push_ascending, repaired, strict, Fault, VERSION,
-};
 use crate::proved::vm_allocator::allocation_engine::NodeState;
 use crate::proved::vm_allocator::{
-    AddressAllocator, IdAllocator, RangeInclusive, ReadNodes, Span, WrittenBlocks, WrittenTree,
+    AddressAllocator, IdAllocator, RangeInclusive, ReadIds, ReadNodes, Span, WrittenBlocks,
+    WrittenTree,
 };
-use crate::proved::vm_devices::{DeviceManager, DeviceSlot};
-use crate::rattle::Global;
+use crate::proved::vm_devices::{DeviceManager, DeviceSlot, ReadDevices, SAVED_VERSION};
+use crate::rattle::{AllocError, Global};
 use crate::status::{
     dvs_status, dvs_status_text, DVS_LIMIT_EXCEEDED, DVS_NOT_A_STATE, DVS_NOT_JSON, DVS_NULL,
     DVS_OK, DVS_OUT_OF_MEMORY,
@@ -37,7 +35,7 @@ pub(crate) trait Saved {
     /// The parts that are found before the text is written.
     type Parts;
 
-    fn parts(&self) -> Result<Self::Parts, Fault>;
+    fn parts(&self) -> Result<Self::Parts, AllocError>;
 
     fn write(&self, parts: &Self::Parts, to: &mut impl Sink);
 }
@@ -138,8 +136,8 @@ fn write_list<T, S: Sink>(items: impl Iterator<Item = T>, to: &mut S, write: fn(
 impl Saved for AddressAllocator {
     type Parts = WrittenBlocks;
 
-    fn parts(&self) -> Result<WrittenBlocks, Fault> {
-        self.written_blocks(Global).map_err(|_| Fault::OutOfMemory)
+    fn parts(&self) -> Result<WrittenBlocks, AllocError> {
+        self.written_blocks(Global)
     }
 
     fn write(&self, blocks: &WrittenBlocks, to: &mut impl Sink) {
@@ -154,7 +152,7 @@ impl Saved for AddressAllocator {
 impl Saved for IdAllocator {
     type Parts = ();
 
-    fn parts(&self) -> Result<(), Fault> {
+    fn parts(&self) -> Result<(), AllocError> {
         Ok(())
     }
 
@@ -177,13 +175,13 @@ impl Saved for IdAllocator {
 impl Saved for DeviceManager {
     type Parts = WrittenBlocks;
 
-    fn parts(&self) -> Result<WrittenBlocks, Fault> {
+    fn parts(&self) -> Result<WrittenBlocks, AllocError> {
         self.addresses().parts()
     }
 
     fn write(&self, blocks: &WrittenBlocks, to: &mut impl Sink) {
         to.text(r#"{"version":"#);
-        to.number(VERSION);
+        to.number(SAVED_VERSION);
         to.text(r#","id_allocator":"#);
         self.ids().write(&(), to);
         to.text(r#","mmio_allocator":"#);
@@ -316,7 +314,7 @@ fn read_subtree(from: &mut Reader<'_>, nodes: &mut ReadNodes) -> Read<Option<Spa
     if from.skip_null()? {
         return Ok(None);
     }
-    begin(nodes).map_err(|fault| from.of_parts(fault))?;
+    nodes.begin().map_err(|error| from.of_parts(error))?;
     let (mut key, mut state, mut children, mut height) = (None, NodeState::Free, [None; 2], 0);
     let names = [c"key", c"node_state", c"left", c"right", c"height"];
     from.object(names, |from, at| {
@@ -329,8 +327,8 @@ fn read_subtree(from: &mut Reader<'_>, nodes: &mut ReadNodes) -> Read<Option<Spa
         Ok(())
     })?;
     let (key, [left, right]) = (from.some(key)?, children);
-    let span = end(nodes, left, key, state, right, height);
-    span.map(Some).map_err(|fault| from.of_parts(fault))
+    let span = nodes.end(left, key, state, right, height);
+    span.map(Some).map_err(|error| from.of_parts(error))
 }
 
 /// Reads an address allocator. If `is_strict`, its tree must be one that this library writes or
@@ -347,9 +345,13 @@ pub(crate) fn read_space(from: &mut Reader<'_>, is_strict: bool) -> Read<Address
             Ok(())
         })
     })?;
-    let allocator = if is_strict { strict } else { repaired };
-    let made = allocator(from.some(space)?, &nodes, root);
-    made.map_err(|fault| from.of_parts(fault))
+    let allocator = if is_strict {
+        AddressAllocator::from_nodes
+    } else {
+        AddressAllocator::from_nodes_repaired
+    };
+    let made = allocator(Global, from.some(space)?, &nodes, root);
+    made.map_err(|error| from.of_parts(error))
 }
 
 fn read_id(from: &mut Reader<'_>) -> Read<u32> {
@@ -357,7 +359,7 @@ fn read_id(from: &mut Reader<'_>) -> Read<u32> {
 }
 
 pub(crate) fn read_ids(from: &mut Reader<'_>) -> Read<IdAllocator> {
-    let (mut ends, mut next, mut freed) = ([0; 2], None, Vec::new());
+    let (mut ends, mut next, mut freed) = ([0; 2], None, ReadIds::new(Global));
     let names = [c"range_base", c"range_end", c"next_id", c"freed_ids"];
     from.object(names, |from, at| {
         match at {
@@ -366,12 +368,13 @@ pub(crate) fn read_ids(from: &mut Reader<'_>) -> Read<IdAllocator> {
             2 => next = Some(read_id(from)?),
             _ => from.list(|from| {
                 let id = read_id(from)?;
-                push_ascending(&mut freed, id, |id| *id).map_err(|fault| from.of_parts(fault))
+                freed.push(id).map_err(|error| from.of_parts(error))
             })?,
         }
         Ok(())
     })?;
-    id_allocator(ends, next, &freed).map_err(|fault| from.of_parts(fault))
+    let made = IdAllocator::from_ids(ends[0], next, ends[1], freed);
+    made.map_err(|error| from.of_parts(error))
 }
 
 fn read_slot(from: &mut Reader<'_>) -> Read<DeviceSlot> {
@@ -388,7 +391,8 @@ fn read_slot(from: &mut Reader<'_>) -> Read<DeviceSlot> {
 }
 
 pub(crate) fn read_devices(from: &mut Reader<'_>) -> Read<DeviceManager> {
-    let (mut version, mut ids, mut space, mut slots) = (0, None, None, Vec::new());
+    let (mut version, mut ids, mut space) = (0, None, None);
+    let mut slots = ReadDevices::new(Global);
     let names = [c"version", c"id_allocator", c"mmio_allocator", c"slots"];
     from.object(names, |from, at| {
         match at {
@@ -397,15 +401,14 @@ pub(crate) fn read_devices(from: &mut Reader<'_>) -> Read<DeviceManager> {
             2 => space = Some(read_space(from, true)?),
             _ => from.list(|from| {
                 let slot = read_slot(from)?;
-                push_ascending(&mut slots, slot, |slot| slot.id)
-                    .map_err(|fault| from.of_parts(fault))
+                slots.push(slot).map_err(|error| from.of_parts(error))
             })?,
         }
         Ok(())
     })?;
     let (ids, space) = (from.some(ids)?, from.some(space)?);
-    let made = device_manager(version, ids, space, &slots);
-    made.map_err(|fault| from.of_parts(fault))
+    let made = DeviceManager::from_devices(Global, version, ids, space, &slots);
+    made.map_err(|error| from.of_parts(error))
 }
 
 /// # Safety

@@ -3,20 +3,22 @@
 //! Ranges, states and allocators have the names and fields that the derives of `vm-allocator`
 //! write, in the same order. A tree is written balanced, so equal allocators have equal bytes.
 //!
-//! Proved code decides which trees are valid, and which tree is written. `parts` decides it for ids
-//! and devices. The C library also has this file.
+//! Proved code decides which values are valid, and which tree is written. These modules pass fields
+//! on to it, one node, id or device at a time.
 
-mod parts;
+mod conditions;
 mod reading;
 mod writing;
 
 use crate::error::out_of_memory;
-use parts::Fault;
+use crate::proved::vm_allocator::SavedError;
 
-/// Returns the condition that a value violates. Ends the process if an allocation failed.
-fn text_of(fault: Fault) -> &'static str {
-    match fault {
-        Fault::Invalid(text) => text.to_str().unwrap_or_default(),
-        Fault::OutOfMemory => out_of_memory(),
+/// Returns the text of an error. Ends the process if an allocation failed.
+fn text_of(error: SavedError) -> &'static str {
+    match error {
+        SavedError::Violated(condition) => {
+            conditions::text_of(condition).to_str().unwrap_or_default()
+        }
+        SavedError::OutOfMemory => out_of_memory(),
     }
 }

@@ -1,21 +1,19 @@
 //! Reads objects with serde. Fields can come in any order, and are checked as they come.
 
-use super::parts::{
-    begin, device_manager, end, id_allocator, push_ascending, repaired, strict, Fault,
-};
 use super::text_of;
-use crate::proved::vm_allocator::{AddressAllocator, IdAllocator, RangeInclusive, ReadNodes, Span};
-use crate::proved::vm_devices::{DeviceManager, DeviceSlot};
+use crate::proved::vm_allocator::{
+    AddressAllocator, IdAllocator, RangeInclusive, ReadIds, ReadNodes, SavedError, Span,
+};
+use crate::proved::vm_devices::{DeviceManager, ReadDevices};
 use crate::rattle::Global;
-use crate::NodeState;
-use alloc::vec::Vec;
+use crate::{DeviceSlot, NodeState};
 use core::fmt;
 use serde::de::{DeserializeSeed, Error, MapAccess, SeqAccess, Visitor};
 use serde::{Deserialize, Deserializer};
 
-/// Returns the error of a format for a fault. Ends the process if an allocation failed.
-fn invalid<E: Error>(fault: Fault) -> E {
-    E::custom(text_of(fault))
+/// Returns the error of a format. Ends the process if an allocation failed.
+fn invalid<E: Error>(error: SavedError) -> E {
+    E::custom(text_of(error))
 }
 
 #[derive(Deserialize)]
@@ -56,8 +54,12 @@ impl Space {
     /// Returns the allocator. If `is_strict`, the tree must be one that the proved code builds.
     fn allocator<E: Error>(self, is_strict: bool) -> Result<AddressAllocator, E> {
         let (nodes, root) = self.interval_tree.root;
-        let allocator = if is_strict { strict } else { repaired };
-        allocator(self.address_space, &nodes, root).map_err(invalid)
+        let allocator = if is_strict {
+            AddressAllocator::from_nodes
+        } else {
+            AddressAllocator::from_nodes_repaired
+        };
+        allocator(Global, self.address_space, &nodes, root).map_err(invalid)
     }
 }
 
@@ -94,7 +96,7 @@ impl<'de> Visitor<'de> for Subtree<'_> {
     }
 
     fn visit_some<D: Deserializer<'de>>(self, from: D) -> Result<Option<Span>, D::Error> {
-        begin(self.0).map_err(invalid)?;
+        self.0.begin().map_err(invalid)?;
         from.deserialize_struct("InnerNode", FIELDS, InnerNode(self.0))
             .map(Some)
     }
@@ -134,7 +136,8 @@ impl InnerNode<'_> {
         let left = fields.left.ok_or_else(|| missing(Field::Left))?;
         let right = fields.right.ok_or_else(|| missing(Field::Right))?;
         let height = fields.height.ok_or_else(|| missing(Field::Height))?;
-        end(self.0, left, key, state.proved(), right, height).map_err(invalid)
+        let span = self.0.end(left, key, state.proved(), right, height);
+        span.map_err(invalid)
     }
 }
 
@@ -194,18 +197,18 @@ struct Ids {
     next_id: Option<u32>,
     range_end: u32,
     #[serde(deserialize_with = "freed_ids")]
-    freed_ids: Vec<u32>,
+    freed_ids: ReadIds,
 }
 
-fn freed_ids<'de, D: Deserializer<'de>>(from: D) -> Result<Vec<u32>, D::Error> {
-    from.deserialize_seq(List(|id: u32| id, |id| *id))
+fn freed_ids<'de, D: Deserializer<'de>>(from: D) -> Result<ReadIds, D::Error> {
+    from.deserialize_seq(List(ReadIds::new(Global), ReadIds::push))
 }
 
 impl<'de> Deserialize<'de> for IdAllocator {
     fn deserialize<D: Deserializer<'de>>(from: D) -> Result<Self, D::Error> {
         let ids = Ids::deserialize(from)?;
-        let range = [ids.range_base, ids.range_end];
-        id_allocator(range, ids.next_id, &ids.freed_ids).map_err(invalid)
+        IdAllocator::from_ids(ids.range_base, ids.next_id, ids.range_end, ids.freed_ids)
+            .map_err(invalid)
     }
 }
 
@@ -216,35 +219,37 @@ struct Devices {
     id_allocator: IdAllocator,
     mmio_allocator: Space,
     #[serde(deserialize_with = "slots")]
-    slots: Vec<DeviceSlot>,
+    slots: ReadDevices,
 }
 
-fn slots<'de, D: Deserializer<'de>>(from: D) -> Result<Vec<DeviceSlot>, D::Error> {
-    from.deserialize_seq(List(crate::DeviceSlot::proved, |slot| slot.id))
+fn slots<'de, D: Deserializer<'de>>(from: D) -> Result<ReadDevices, D::Error> {
+    let push = |list: &mut ReadDevices, device: DeviceSlot| list.push(device.proved());
+    from.deserialize_seq(List(ReadDevices::new(Global), push))
 }
 
 impl<'de> Deserialize<'de> for DeviceManager {
     fn deserialize<D: Deserializer<'de>>(from: D) -> Result<Self, D::Error> {
         let saved = Devices::deserialize(from)?;
         let space = saved.mmio_allocator.allocator(true)?;
-        device_manager(saved.version, saved.id_allocator, space, &saved.slots).map_err(invalid)
+        let ids = saved.id_allocator;
+        DeviceManager::from_devices(Global, saved.version, ids, space, &saved.slots).map_err(invalid)
     }
 }
 
-/// Reads a list with ascending ids. The functions return what is kept of an item, and its id.
-struct List<T, K>(fn(T) -> K, fn(&K) -> u32);
+/// Reads the items of a list. The function adds an item.
+struct List<L, T>(L, fn(&mut L, T) -> Result<(), SavedError>);
 
-impl<'de, T: Deserialize<'de>, K> Visitor<'de> for List<T, K> {
-    type Value = Vec<K>;
+impl<'de, L, T: Deserialize<'de>> Visitor<'de> for List<L, T> {
+    type Value = L;
 
     fn expecting(&self, f: &mut fmt::Formatter<'_>) -> fmt::Result {
         f.write_str("a list")
     }
 
-    fn visit_seq<A: SeqAccess<'de>>(self, mut from: A) -> Result<Vec<K>, A::Error> {
-        let mut list = Vec::new();
+    fn visit_seq<A: SeqAccess<'de>>(self, mut from: A) -> Result<L, A::Error> {
+        let List(mut list, push) = self;
         while let Some(item) = from.next_element()? {
-            push_ascending(&mut list, (self.0)(item), self.1).map_err(invalid)?;
+            push(&mut list, item).map_err(invalid)?;
         }
         Ok(list)
     }

@@ -1,11 +1,11 @@
 //! Writes objects with serde.
 
-use super::parts::{Fault, VERSION};
 use super::text_of;
 use crate::proved::vm_allocator::{
-    AddressAllocator, IdAllocator, RangeInclusive, WrittenBlocks, WrittenNode, WrittenTree,
+    AddressAllocator, IdAllocator, RangeInclusive, SavedError, WrittenBlocks, WrittenNode,
+    WrittenTree,
 };
-use crate::proved::vm_devices::DeviceManager;
+use crate::proved::vm_devices::{DeviceManager, SAVED_VERSION};
 use crate::rattle::Global;
 use crate::{DeviceSlot, NodeState};
 use serde::ser::{Error, SerializeSeq, SerializeStruct};
@@ -34,7 +34,10 @@ write_fields! {
     Space as "RangeInclusive", this: start = this.0, end = this.1;
     AddressAllocator as "AddressAllocator", this:
         address_space = Space(this.base(), this.end()),
-        interval_tree = Root(this.written_blocks(Global).map_err(|_| S::Error::custom(text_of(Fault::OutOfMemory)))?);
+        interval_tree = Root(
+            this.written_blocks(Global)
+                .map_err(|error| S::Error::custom(text_of(SavedError::from(error))))?
+        );
     Root as "IntervalTree", this: root = this.0.tree();
     // A call for each node is faster than one for each link, of which there are twice as many.
     #[inline(never)]
@@ -50,7 +53,7 @@ write_fields! {
         range_end = this.range_end(),
         freed_ids = List(this.freed_ids().count(), || this.freed_ids());
     DeviceManager as "DeviceManager", this:
-        version = VERSION,
+        version = SAVED_VERSION,
         id_allocator = this.ids(),
         mmio_allocator = this.addresses(),
         slots = List(this.device_count() as usize, || this.devices().map(DeviceSlot::of));
