@@ -12,7 +12,9 @@ mod saved;
 
 pub use address_allocator::AddressAllocator;
 pub use id_allocator::{FreedIds, HeldIds, IdAllocator};
+pub use saved::ReadIds;
 pub use vm_engine::{Gaps, HeldRanges, ReadNodes, Span, WrittenBlocks, WrittenNode, WrittenTree};
 pub use vm_ranges::{
-    AllocPolicy, Constraint, DEFAULT_CONSTRAINT_ALIGN, Error, RangeInclusive, Result, ValueError,
+    AllocPolicy, Condition, Constraint, DEFAULT_CONSTRAINT_ALIGN, Error, RangeInclusive, Result,
+    SavedError, ValueError,
 };
