@@ -1,5 +1,5 @@
 -- Freed ids that are read one by one, and id allocators that are created of them.
-use Rattle.std.specs.Prelude.{◌≡◌, ℕ, ◌+◌, ◌&&◌, ◌==◌, nat_lt, nat_le, if◌then◌else◌, Bool, ◌<◌, ◌≤◌, List, [], ◌∷◌, ◌++◌, Option, None, Some, Result, Ok, Err}
+use Rattle.std.specs.Prelude.{◌≡◌, ℕ, ◌+◌, ◌&&◌, ◌==◌, not, nat_lt, nat_le, if◌then◌else◌, Bool, ◌<◌, ◌≤◌, List, [], ◌∷◌, ◌++◌, Option, None, Some, Result, Ok, Err}
 use Rattle.std.specs.List.{Contains}
 use Rattle.std.specs.List.Sorted.{IsStrictlySortedBy}
 use Rattle.std.specs.Ordering.{nat_cmp}
@@ -28,12 +28,12 @@ abbrev pub is_next : Option ℕ → ℕ → ℕ → Bool
 is_next None lo hi = hi == MAX_ID
 is_next (Some n) lo hi = nat_le lo n && nat_le n (hi + 1)
 
--- The condition that parts violate if they are not those of an allocator: the first of the range, the next id and the freed
--- ids that is not valid.
+-- The condition that parts violate if they are not those of an allocator: that of the range, else that of the next id, else
+-- that of the freed ids.
 abbrev pub violated_by : ℕ → ℕ → Option ℕ → Condition
 violated_by lo hi next =
     if nat_lt hi lo then conditions.IdRange else
-    if is_next next lo hi then conditions.FreedIds else conditions.NextId
+    if not (is_next next lo hi) then conditions.NextId else conditions.FreedIds
 
 -- The result of `from_ids`: the state with these parts, or the first condition that they violate. It needs no memory.
 abbrev pub MakesOfIds : ℕ → ℕ → Option ℕ → List ℕ → Result IdState SavedError → Type 0

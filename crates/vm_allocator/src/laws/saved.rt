@@ -50,8 +50,8 @@ fn both_readers_agree()
 {}
 
 /// Proves that the parts of an id allocator are read as this allocator, unless memory runs out: its
-/// range, its next id and its freed ids, which are added one by one. Allocators are equal if and only
-/// if their parts are.
+/// range, its next id and its freed ids, which are added one by one. Allocators are equal if and
+/// only if their parts are.
 #[tactic(auto, using(crate::proofs::Ids::WrittenIds::written))]
 fn written_ids_are_read()
     ensures read { WrittenIdsAreRead }

@@ -140,8 +140,8 @@ fn next_in(value: &Value, name: &str) -> Option<Option<u32>>
     decode_next(value.get(name)?)
 }
 
-/// Returns the first and the last of the items, or `None` if they are not 32-bit numbers in strictly
-/// increasing order.
+/// Returns the first and the last of the items. Returns `None` if they are not 32-bit numbers in
+/// strictly increasing order.
 fn ends_in(list: &[Value]) -> Option<Option<Ends>>
     ensures { result ≡ option_map ends_of (ids_in (items_view list.now)) }
 {
@@ -153,7 +153,7 @@ fn ends_in(list: &[Value]) -> Option<Option<Ends>>
     Some(ends)
 }
 
-/// Collects the freed ids of a checked value.
+/// Collects the items, which are 32-bit numbers in strictly increasing order.
 fn collect_ids(alloc: Global, list: &[Value]) -> std::result::Result<ReadIds, SavedError>
     requires { IsSome (ids_in (items_view list.now)) }
     ensures { MatchResult result (λ ids. ids_in (items_view list.now) ≡ Some ids)

@@ -76,9 +76,9 @@ impl ReadIds {
 impl IdAllocator {
     /// Creates an allocator with this range, this next id and these freed ids.
     ///
-    /// The next id is the lowest that was never allocated, or `None` if it would be past `u32::MAX`.
-    /// All ids of the range below it are allocated, except the freed ones. The parts can be untrusted
-    /// input. It does not allocate memory, and does not visit the ids.
+    /// The next id is the lowest that was never allocated, or `None` if it would be past
+    /// `u32::MAX`. All ids of the range below it are allocated, except the freed ones. The parts can
+    /// be untrusted input. It does not allocate memory, and does not visit the ids.
     ///
     /// # Errors
     ///
@@ -122,7 +122,8 @@ pub(super) fn ends_with(ends: Option<Ends>, id: u32) -> Option<Ends>
     }
 }
 
-/// Checks the parts of an id allocator. Of its freed ids it takes the first and the last.
+/// Returns the first condition that the parts of an id allocator violate, as an error: of the range,
+/// the next id and the freed ids. Of the freed ids it takes the first and the last.
 #[tactic(auto, using(crate::proofs::Ids::FreedParts::parts))]
 pub(super) fn check_parts(
     base: u32,

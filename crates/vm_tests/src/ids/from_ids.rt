@@ -53,8 +53,8 @@ fn of_parts_as_allocated(rt: HostRuntime) {
     replay(&rt, &mut made_of(&rt, LOW, None, HIGH, &[HIGH]), calls);
 }
 
-/// Checks that an id is not in order after others, that the call does not allocate, and that an id in
-/// order can follow.
+/// Checks that an id is not in order after others, that the call does not allocate, and that an id
+/// in order can follow.
 fn expect_out_of_order(rt: &(impl Abort + AllocGlobal), list: &[u32], id: u32) {
     let mut ids = pushed(rt.alloc(), list).expect(rt, "they are in order");
     count_allocations(rt.alloc());
