@@ -1,7 +1,6 @@
 -- Lists of numbers in strictly increasing order.
-use Rattle.std.proofs.Common.{◌≡◌, ℕ, ◌+◌, ◌<◌, ◌≤◌, Bool, true, false, ◌&&◌, leb, ltb, List, [], ◌∷◌, ◌++◌, length, get_or, drop, Option, Some, None, is_some, option_map, refl, sym, ap, ◌∙◌, ⊎_elim, subst, arith, append_assoc, append-nil, nat_cmp, IsSome}
-use Rattle.std.proofs.lemmas.Bool.{cases_lt, le-leb, lt-ltb, leb-true, ltb-true, lt-leb, le-ltb, and_parts}
-use Rattle.std.proofs.lemmas.List.{drop_all}
+use Rattle.std.proofs.Common.{◌≡◌, ℕ, ◌+◌, ◌<◌, ◌≤◌, ◌&&◌, leb, ltb, List, [], ◌∷◌, ◌++◌, length, get_or, drop, Option, Some, None, is_some, option_map, refl, sym, ap, ◌∙◌, ⊎_elim, subst, arith, append_assoc, nat_cmp, IsSome}
+use Rattle.std.proofs.lemmas.Bool.{cases_lt, le-leb, lt-ltb, leb-true, ltb-true, lt-leb, and_parts}
 use Rattle.std.specs.List.Sorted.{IsStrictlySortedBy}
 use Rattle.serde_json.specs.Data.{Items, no_items, item}
 use Rattle.serde_json.specs.View.{view, items_view}
@@ -18,18 +17,8 @@ use Rattle.vm_allocator.proofs.Ids.AddedIds.{last_is, above_last, sorted_more}
 
 -- The items one by one.
 
-no_number : (lowest bound i : ℕ) (vs : List Value) (v : Value) → i < length vs → v ≡ get_or vs i v → whole_number (view v) ≡ None → increasing lowest bound (items_view (drop i vs)) ≡ None
-no_number lowest bound i vs v h e w = rw (items_from vs i v h e, w) refl
-
 too_low : (lowest bound i n : ℕ) (vs : List Value) (v : Value) → i < length vs → v ≡ get_or vs i v → whole_number (view v) ≡ Some n → n < lowest → increasing lowest bound (items_view (drop i vs)) ≡ None
 too_low lowest bound i n vs v h e w p = rw (items_from vs i v h e, w, lt-leb lowest n p) refl
-
-and_false : (b : Bool) → (b && false) ≡ false
-and_false true = refl
-and_false false = refl
-
-too_high : (lowest bound i n : ℕ) (vs : List Value) (v : Value) → i < length vs → v ≡ get_or vs i v → whole_number (view v) ≡ Some n → bound ≤ n → increasing lowest bound (items_view (drop i vs)) ≡ None
-too_high lowest bound i n vs v h e w p = rw (items_from vs i v h e, w, le-ltb n bound p, and_false (leb lowest n)) refl
 
 next_increases : (lowest bound i n : ℕ) (vs : List Value) (v : Value) → i < length vs → v ≡ get_or vs i v → whole_number (view v) ≡ Some n → lowest ≤ n → n < bound →
     increasing lowest bound (items_view (drop i vs)) ≡ option_map (λ ns. n ∷ ns) (increasing (n + 1) bound (items_view (drop (i + 1) vs)))
@@ -94,21 +83,6 @@ one_gathered i n vs v ids h e w m s g =
     g ∙ ap (option_map (λ (ns : List ℕ). ids ++ ns)) (next_increases (next_after ids) (MAX_ID + 1) i n vs v h e w (follows n ids s) (omega (arith, m)))
     ∙ front_and_rest ids n _
     ∙ ap (λ (l : ℕ). option_map (λ (ns : List ℕ). (ids ++ n ∷ []) ++ ns) (increasing l (MAX_ID + 1) (items_view (drop (i + 1) vs)))) (sym (after_last n ids))
-
-pub all_gathered : (i : ℕ) (vs : List Value) (ids : List ℕ) → length vs ≤ i → Gathers i vs ids → ids_in (items_view vs) ≡ Some ids
-all_gathered i vs ids h g =
-    g ∙ ap (λ (ws : List Value). option_map (λ (ns : List ℕ). ids ++ ns) (increasing (next_after ids) (MAX_ID + 1) (items_view ws))) (drop_all i vs h)
-    ∙ ap Some (append-nil ids)
-
--- Items that do not follow.
-
-pub no_id : (i : ℕ) (vs : List Value) (v : Value) (ids : List ℕ) → i < length vs → v ≡ get_or vs i v → whole_number (view v) ≡ None → Gathers i vs ids → ids_in (items_view vs) ≡ None
-no_id i vs v ids h e w g =
-    g ∙ ap (option_map (λ (ns : List ℕ). ids ++ ns)) (no_number (next_after ids) (MAX_ID + 1) i vs v h e w)
-
-pub large_id : (i n : ℕ) (vs : List Value) (v : Value) (ids : List ℕ) → i < length vs → v ≡ get_or vs i v → whole_number (view v) ≡ Some n → MAX_ID < n → Gathers i vs ids → ids_in (items_view vs) ≡ None
-large_id i n vs v ids h e w m g =
-    g ∙ ap (option_map (λ (ns : List ℕ). ids ++ ns)) (too_high (next_after ids) (MAX_ID + 1) i n vs v h e w (omega (arith, m)))
 
 pub low_id : (i n : ℕ) (vs : List Value) (v : Value) (ids : List ℕ) → i < length vs → v ≡ get_or vs i v → whole_number (view v) ≡ Some n →
     IsStrictlySortedBy nat_cmp ids → ¬ IsStrictlySortedBy nat_cmp (ids ++ n ∷ []) → Gathers i vs ids → ids_in (items_view vs) ≡ None
