@@ -15,7 +15,9 @@ pub mod IncreasingNumbers
 pub mod IncreasingBounds
 pub mod ReadIds
 pub mod ReadIdStates
+pub mod AddedIds
 pub mod FreedParts
+pub mod WrittenIds
 pub mod ExactIds
 pub mod LowestIds
 pub mod FreeIds

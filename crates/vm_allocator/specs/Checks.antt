@@ -2,3 +2,4 @@ pub mod AllocatorChecks
 pub mod IdChecks
 pub mod IdQueries
 pub mod FreedBetween
+pub mod FreedChecks

@@ -8,9 +8,9 @@ use std::process::Abort;
 use vm_allocator::{Error, IdAllocator, Result};
 
 mod counts;
+mod from_ids;
 mod held;
 mod requests;
-mod with_freed;
 
 /// Returns the results of the calls that only read: whether some ids are allocated, the number of
 /// allocated ids, and the next id.

@@ -10,7 +10,9 @@ use crate::fixtures::{
 use serde_json::Value;
 use std::cmp::Ordering;
 use std::process::Abort;
-use vm_allocator::{AddressAllocator, AllocPolicy, Constraint, Error, IdAllocator, ListError};
+use vm_allocator::{
+    AddressAllocator, AllocPolicy, Constraint, Error, IdAllocator, ListError, ReadIds,
+};
 use vm_devices::DeviceManager;
 
 /// The number of allocated ranges, ids or devices.
@@ -195,21 +197,20 @@ fn ids_looked_up_and_saved(rt: HostRuntime) {
     take_ids(&rt, &mut again, MANY_IDS, 2);
 }
 
-/// Returns a list of the ids from 0, `step` apart.
-fn listed_ids(rt: &(impl Abort + AllocGlobal), count: u32, step: u32) -> Vec<u32> {
-    let mut list = list_for(rt, 0);
+/// Returns the ids from 0, `step` apart, as they are read.
+fn read_ones(rt: &(impl Abort + AllocGlobal), count: u32, step: u32) -> ReadIds {
+    let mut ids = ReadIds::new(rt.alloc());
     for number in 0..count {
-        let pushed = list.push(step.saturating_mul(number));
-        assert!(rt; pushed.is_ok());
+        assert!(rt; ids.push(step.saturating_mul(number)).is_ok());
     }
-    list
+    ids
 }
 
 /// Lists, compares and creates ids of which each even one is freed.
 #[test]
 fn ids_listed_and_compared(rt: HostRuntime) {
-    let freed = listed_ids(&rt, MANY_IDS, 2);
-    let made = IdAllocator::with_freed(rt.alloc(), 0, Some(2 * MANY_IDS), u32::MAX, &freed);
+    let freed = read_ones(&rt, MANY_IDS, 2);
+    let made = IdAllocator::from_ids(0, Some(2 * MANY_IDS), u32::MAX, freed);
     let ids = made.expect(&rt, ENOUGH);
     let mut next = 0u32;
     for (freed, held) in ids.freed_ids().zip(ids.held_ids()) {

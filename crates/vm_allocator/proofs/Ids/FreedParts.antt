@@ -1,74 +1,84 @@
 -- The parts of an id allocator: its range, its next id and the list of its freed ids.
-use Rattle.std.proofs.Common.{◌≡◌, ◌↔◌, ◌⊎◌, ℕ, zero, suc, ◌+◌, ◌<◌, ◌≤◌, true, false, IsTrue, Option, List, [], ◌∷◌, length, get_or, drop, refl, sym, ap, ◌∙◌, subst, arith, nat_cmp}
-use Rattle.std.proofs.lemmas.List.{drop_more, drop_all}
-use Rattle.std.proofs.lemmas.Map.Keys.{sorted_tail}
-use Rattle.std.proofs.lemmas.List.Elements.{All-contains, All-contains_itself}
+use Rattle.std.proofs.Common.{◌≡◌, ℕ, ◌<◌, ◌≤◌, true, false, Option, Some, None, List, [], ◌∷◌, refl, subst, arith, nat_cmp}
+use Rattle.std.proofs.lemmas.Bool.{le-ltb, lt-ltb}
+use Rattle.std.proofs.lemmas.List.Elements.{All-contains, All-contains_itself, recursion_from_All, All-from_recursion}
 use Rattle.std.proofs.lemmas.Map.Views.{Contains-from_any}
-use Rattle.std.specs.BTreeSet.{BTreeSet, insert_key}
-use Rattle.std.specs.List.{All, list_any}
+use Rattle.std.specs.BTreeSet.{BTreeSet}
+use Rattle.std.specs.List.{AllByRecursion, Contains, list_any}
 use Rattle.std.specs.List.Sorted.{IsStrictlySortedBy}
 use Rattle.std.specs.Ordering.{eq_by_cmp}
+use Rattle.vm_ranges.proofs.Items.{less_is}
 use Rattle.vm_ranges.proofs.NumberSets.{tied_is}
+use Rattle.vm_ranges.specs.declared.saved.Condition.TheVariants.{IdRange, NextId, FreedIds}
+use Rattle.vm_allocator.specs.declared.saved.read_ids.Ends.{Ends}
 use Rattle.vm_allocator.specs.Ids.{MAX_ID, IsNext, AreIds, bound_of}
-use Rattle.vm_allocator.specs.FreedLists.{AreFreedOf}
-use Rattle.vm_allocator.proofs.Ids.IncreasingBounds.{IncreaseWithin, sorted, within, rise}
+use Rattle.vm_allocator.specs.FreedLists.{AreFreedOf, is_next, violated_by}
+use Rattle.vm_allocator.specs.Checks.FreedChecks.{last_of, AreEndsOf}
+use Rattle.vm_allocator.proofs.Ids.AddedIds.{above_first, last_end, first_of_ends}
 
--- The ids from the lowest to the highest.
+-- The bounds of the ids.
 
--- The ids increase within the bounds if and only if those that are left do.
-abbrev Decide : ℕ → ℕ → ℕ → ℕ → List ℕ → Type 0
-Decide lowest next bound i ids = IncreaseWithin lowest bound ids ↔ IncreaseWithin next bound (drop i ids)
+abbrev pub IsWithin : ℕ → ℕ → ℕ → Type 0
+IsWithin lowest bound i = (lowest ≤ i) × (i < bound)
 
-pub one_outside : (lowest next bound i n : ℕ) (ids : List ℕ) → i < length ids → n ≡ get_or ids i 0 → (n < next) ⊎ ((next ≤ n) × (bound ≤ n)) → Decide lowest next bound i ids →
-    IsTrue false ↔ (IsStrictlySortedBy nat_cmp ids × All (λ k. (lowest ≤ k) × (k < bound)) ids)
-one_outside lowest next bound i n ids h is out left = (
-  λ t. absurd (cc),
-  λ k.
-      let all = left.0 (rise lowest bound ids k.0 k.1) in
-      let here = subst (IncreaseWithin next bound) (drop_more ids i 0 h) all in
-      let above = here.0 in
-      let below = here.1 in
-      absurd (omega (arith, is, out, above, below)),
-)
-
-pub all_within : (lowest next bound i : ℕ) (ids : List ℕ) → length ids ≤ i → Decide lowest next bound i ids →
-    IsTrue true ↔ (IsStrictlySortedBy nat_cmp ids × All (λ k. (lowest ≤ k) × (k < bound)) ids)
-all_within lowest next bound i ids h left =
-    let all = left.1 (subst (IncreaseWithin next bound) (sym (drop_all i ids h)) tt) in (
-      λ t. (sorted lowest bound ids all, within lowest bound ids all),
-      λ k. refl,
-    )
-
--- The ids from the highest to the lowest.
-
-sorted_drop : (i : ℕ) (ids : List ℕ) → IsStrictlySortedBy nat_cmp ids → IsStrictlySortedBy nat_cmp (drop i ids)
-sorted_drop zero ids s = s
-sorted_drop (suc i) [] s = s
-sorted_drop (suc i) (n ∷ ns) s = sorted_drop i ns (sorted_tail nat_cmp n ns s)
-
-put_first : (n : ℕ) (ks : List ℕ) → IsStrictlySortedBy nat_cmp (n ∷ ks) → insert_key nat_cmp ks n ≡ n ∷ ks
+row_within : (lowest bound first : ℕ) (ids : List ℕ) → IsStrictlySortedBy nat_cmp (first ∷ ids) → lowest ≤ first → last_of first ids < bound → AllByRecursion (IsWithin lowest bound) (first ∷ ids)
 unfolding IsStrictlySortedBy
-put_first n [] s = refl
-put_first n (k ∷ ks) s = rw s.0.0 refl
+row_within lowest bound first [] s l h = ((l, h), tt)
+row_within lowest bound first (i ∷ ids) s l h =
+    let n = less_is first i s.0.0 in
+    let r = above_first first (i ∷ ids) s in
+    ((l, omega (arith, r, h)), row_within lowest bound i ids s.1 (omega (arith, n)) h)
 
-pub one_lower : (i j : ℕ) (ids ks ms : List ℕ) → j ≡ i + 1 → i < length ids → IsStrictlySortedBy nat_cmp ids → ks ≡ drop j ids → ms ≡ insert_key nat_cmp ks (get_or ids i 0) → ms ≡ drop i ids
-one_lower i j ids ks ms is h s e put =
-    let d = drop_more ids i 0 h in
-    put ∙ ap (λ (l : List ℕ). insert_key nat_cmp l (get_or ids i 0)) (e ∙ ap (λ (k : ℕ). drop k ids) is)
-    ∙ put_first (get_or ids i 0) (drop (i + 1) ids) (subst (IsStrictlySortedBy nat_cmp) d (sorted_drop i ids s)) ∙ sym d
+last_within : (lowest bound first : ℕ) (ids : List ℕ) → AllByRecursion (IsWithin lowest bound) (first ∷ ids) → last_of first ids < bound
+last_within lowest bound first [] a = a.0.1
+last_within lowest bound first (i ∷ ids) a = last_within lowest bound i ids a.1
+
+-- Each of the ids is within the bounds.
+abbrev pub AreWithin : ℕ → ℕ → List ℕ → Type 0
+AreWithin lowest bound ids = (i : ℕ) → Contains ids i → IsWithin lowest bound i
+
+within_row : (lowest bound : ℕ) (ids : List ℕ) → AreWithin lowest bound ids → AllByRecursion (IsWithin lowest bound) ids
+within_row lowest bound ids w = recursion_from_All (IsWithin lowest bound) ids (λ k d l. w _ (All-contains_itself ids k d l))
+
+pub none_within : (lowest bound i : ℕ) (ids : List ℕ) → AreEndsOf None ids → Contains ids i → (lowest ≤ i) × (i < bound)
+none_within lowest bound i [] a c = absurd (omega (arith, c.1))
+none_within lowest bound i (id ∷ ids) a c = absurd (cc (a.1))
+
+pub ends_within : (lowest bound : ℕ) (ends : Ends) (ids : List ℕ) → AreEndsOf (Some ends) ids → lowest ≤ ends.first → ends.last < bound → AreWithin lowest bound ids
+ends_within lowest bound ends [] a l h = absurd (cc (a.1))
+ends_within lowest bound ends (first ∷ ids) a l h =
+    let f = first_of_ends ends first ids a in
+    let e = last_end ends first ids a in
+    let row = row_within lowest bound first ids a.0 (omega (arith, f)) (omega (arith, e)) in
+    λ i c. All-contains (IsWithin lowest bound) (first ∷ ids) i (All-from_recursion (IsWithin lowest bound) (first ∷ ids) row) c
+
+pub within_ends : (lowest bound : ℕ) (ends : Ends) (ids : List ℕ) → AreEndsOf (Some ends) ids → AreWithin lowest bound ids → (lowest ≤ ends.first) × (ends.last < bound)
+within_ends lowest bound ends [] a w = absurd (cc (a.1))
+within_ends lowest bound ends (first ∷ ids) a w =
+    let f = first_of_ends ends first ids a in
+    let e = last_end ends first ids a in
+    let row = within_row lowest bound (first ∷ ids) w in
+    let r = last_within lowest bound first ids row in
+    let n = row.0.0 in
+    (omega (arith, f, n), omega (arith, e, r))
+
+pub ruleset bounds = (none_within, ends_within, within_ends)
 
 -- The parts of an allocator.
 
-pub parts_from : (lo hi : ℕ) (next : Option ℕ) (freed : List ℕ) → lo ≤ hi → IsNext lo hi next → IsStrictlySortedBy nat_cmp freed × All (λ k. (lo ≤ k) × (k < bound_of next hi)) freed → AreFreedOf lo hi next freed
-parts_from lo hi next freed l n w = record {
-  range = l;
-  next_id = n;
-  increasing = w.0;
-  freed_ids = λ i c. All-contains (λ k. (lo ≤ k) × (k < bound_of next hi)) freed i w.1 c;
-}
+pub range_violated : (lo hi : ℕ) (next : Option ℕ) (freed : List ℕ) → hi < lo → (IdRange ≡ violated_by lo hi next) × ¬ AreFreedOf lo hi next freed
+range_violated lo hi next freed h = (rw (lt-ltb hi lo h) refl, λ p. let r = p.range in omega (arith, r))
 
-pub from_parts : (lo hi : ℕ) (next : Option ℕ) (freed : List ℕ) → AreFreedOf lo hi next freed → IsStrictlySortedBy nat_cmp freed × All (λ k. (lo ≤ k) × (k < bound_of next hi)) freed
-from_parts lo hi next freed p = (p.increasing, λ k d l. p.freed_ids _ (All-contains_itself freed k d l))
+pub next_violated : (lo hi : ℕ) (next : Option ℕ) (freed : List ℕ) → lo ≤ hi → is_next next lo hi ≡ false → ¬ IsNext lo hi next → (NextId ≡ violated_by lo hi next) × ¬ AreFreedOf lo hi next freed
+next_violated lo hi next freed h e n = (rw (le-ltb hi lo h, e) refl, λ p. n p.next_id)
+
+pub freed_violated : (lo hi : ℕ) (next : Option ℕ) (freed : List ℕ) → lo ≤ hi → is_next next lo hi ≡ true → ¬ AreWithin lo (bound_of next hi) freed → (FreedIds ≡ violated_by lo hi next) × ¬ AreFreedOf lo hi next freed
+freed_violated lo hi next freed h e n = (rw (le-ltb hi lo h, e) refl, λ p. n p.freed_ids)
+
+pub parts_from : (lo hi : ℕ) (next : Option ℕ) (freed : List ℕ) → lo ≤ hi → IsNext lo hi next → IsStrictlySortedBy nat_cmp freed → AreWithin lo (bound_of next hi) freed → AreFreedOf lo hi next freed
+parts_from lo hi next freed l n s w = record { range = l; next_id = n; increasing = s; freed_ids = w }
+
+pub ruleset parts = (range_violated, next_violated, freed_violated, parts_from)
 
 pub parts_are_ids : (lo hi : ℕ) (next : Option ℕ) (freed : List ℕ) (set : BTreeSet ℕ) → hi ≤ MAX_ID → AreFreedOf lo hi next freed → set.keys ≡ freed → AreIds lo hi next set
 parts_are_ids lo hi next freed set m p e = record {
@@ -77,5 +87,3 @@ parts_are_ids lo hi next freed set m p e = record {
   next_id = p.next_id;
   freed_ids = λ i h. p.freed_ids i (Contains-from_any tied_is i freed (subst (λ (ks : List ℕ). list_any (eq_by_cmp nat_cmp i) ks ≡ true) e h));
 }
-
-pub ruleset parts = (parts_from, from_parts)

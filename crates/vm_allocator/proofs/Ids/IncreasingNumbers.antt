@@ -1,8 +1,7 @@
 -- Lists of numbers in strictly increasing order.
-use Rattle.std.proofs.Common.{◌≡◌, ℕ, ◌+◌, ◌<◌, ◌≤◌, Bool, true, false, ◌&&◌, leb, ltb, List, [], ◌∷◌, ◌++◌, length, get_or, drop, Option, Some, None, is_some, option_map, refl, sym, ap, ◌∙◌, subst, arith, append_assoc, nat_cmp, Greater, IsSome}
-use Rattle.std.proofs.lemmas.Bool.{le-leb, lt-ltb, leb-true, ltb-true, lt-leb, le-ltb, and_parts}
-use Rattle.std.specs.Cmp.{nat_cmp_is}
-use Rattle.std.specs.BTreeSet.{insert_key}
+use Rattle.std.proofs.Common.{◌≡◌, ℕ, ◌+◌, ◌<◌, ◌≤◌, ◌&&◌, leb, ltb, List, [], ◌∷◌, ◌++◌, length, get_or, drop, Option, Some, None, is_some, option_map, refl, sym, ap, ◌∙◌, ⊎_elim, subst, arith, append_assoc, nat_cmp, IsSome}
+use Rattle.std.proofs.lemmas.Bool.{cases_lt, le-leb, lt-ltb, leb-true, ltb-true, lt-leb, and_parts}
+use Rattle.std.specs.List.Sorted.{IsStrictlySortedBy}
 use Rattle.serde_json.specs.Data.{Items, no_items, item}
 use Rattle.serde_json.specs.View.{view, items_view}
 use Rattle.serde_json.specs.declared.value.Value.{Value}
@@ -11,22 +10,15 @@ use Rattle.vm_ranges.specs.Numbers.{whole_number}
 use Rattle.vm_ranges.proofs.Items.{items_from}
 use Rattle.vm_ranges.specs.Lists.{EncodesItems}
 use Rattle.vm_allocator.specs.Values.IdValues.{EncodesNumber}
-use Rattle.vm_allocator.specs.Checks.IdChecks.{increasing}
+use Rattle.vm_allocator.specs.Ids.{MAX_ID}
+use Rattle.vm_allocator.specs.Checks.IdChecks.{increasing, ids_in}
+use Rattle.vm_allocator.specs.Checks.FreedChecks.{last_of}
+use Rattle.vm_allocator.proofs.Ids.AddedIds.{last_is, above_last, sorted_more}
 
 -- The items one by one.
 
-pub no_number : (lowest bound i : ℕ) (vs : List Value) (v : Value) → i < length vs → v ≡ get_or vs i v → whole_number (view v) ≡ None → increasing lowest bound (items_view (drop i vs)) ≡ None
-no_number lowest bound i vs v h e w = rw (items_from vs i v h e, w) refl
-
-pub too_low : (lowest bound i n : ℕ) (vs : List Value) (v : Value) → i < length vs → v ≡ get_or vs i v → whole_number (view v) ≡ Some n → n < lowest → increasing lowest bound (items_view (drop i vs)) ≡ None
+too_low : (lowest bound i n : ℕ) (vs : List Value) (v : Value) → i < length vs → v ≡ get_or vs i v → whole_number (view v) ≡ Some n → n < lowest → increasing lowest bound (items_view (drop i vs)) ≡ None
 too_low lowest bound i n vs v h e w p = rw (items_from vs i v h e, w, lt-leb lowest n p) refl
-
-and_false : (b : Bool) → (b && false) ≡ false
-and_false true = refl
-and_false false = refl
-
-pub too_high : (lowest bound i n : ℕ) (vs : List Value) (v : Value) → i < length vs → v ≡ get_or vs i v → whole_number (view v) ≡ Some n → bound ≤ n → increasing lowest bound (items_view (drop i vs)) ≡ None
-too_high lowest bound i n vs v h e w p = rw (items_from vs i v h e, w, le-ltb n bound p, and_false (leb lowest n)) refl
 
 next_increases : (lowest bound i n : ℕ) (vs : List Value) (v : Value) → i < length vs → v ≡ get_or vs i v → whole_number (view v) ≡ Some n → lowest ≤ n → n < bound →
     increasing lowest bound (items_view (drop i vs)) ≡ option_map (λ ns. n ∷ ns) (increasing (n + 1) bound (items_view (drop (i + 1) vs)))
@@ -35,12 +27,6 @@ next_increases lowest bound i n vs v h e w p q = rw (items_from vs i v h e, w, l
 is_some-map : {A B : Type 0} (f : A → B) (o : Option A) → is_some (option_map f o) ≡ is_some o
 is_some-map f None = refl
 is_some-map f (Some a) = refl
-
-pub rest_increases : (lowest bound i n : ℕ) (vs : List Value) (v : Value) → i < length vs → v ≡ get_or vs i v → whole_number (view v) ≡ Some n → lowest ≤ n → n < bound →
-    is_some (increasing lowest bound (items_view (drop i vs))) ≡ is_some (increasing (n + 1) bound (items_view (drop (i + 1) vs)))
-rest_increases lowest bound i n vs v h e w p q = ap is_some (next_increases lowest bound i n vs v h e w p q) ∙ is_some-map (λ ns. n ∷ ns) _
-
-pub ruleset increasing_steps = (no_number, too_low, too_high, rest_increases)
 
 pub some_of : {A : Type 0} (o : Option A) → IsSome o → (a : A) × (o ≡ Some a)
 some_of None h = absurd (cc)
@@ -56,40 +42,63 @@ next_number lowest bound i vs v h e s =
     let c = and_parts (leb lowest a.0) (ltb a.0 bound) b.0 in
     (a.0, a.1, leb-true lowest a.0 c.0, ltb-true a.0 bound c.1)
 
--- Numbers collected in a set.
+-- Ids gathered one by one.
 
--- All numbers are below the bound.
-abbrev pub AreBelow : ℕ → List ℕ → Type 0
-AreBelow n [] = Unit {0}
-AreBelow n (k ∷ ks) = (k < n) × AreBelow n ks
+-- The lowest number that can follow the ids.
+abbrev pub next_after : List ℕ → ℕ
+next_after [] = 0
+next_after (id ∷ ids) = last_of id ids + 1
 
-put_last : (lowest n : ℕ) (ks : List ℕ) → AreBelow lowest ks → lowest ≤ n → insert_key nat_cmp ks n ≡ ks ++ n ∷ []
-put_last lowest n [] a p = refl
-put_last lowest n (k ∷ ks) a p =
-    let g : nat_cmp n k ≡ Greater = sym (nat_cmp_is n k Greater (omega arith)) in
-    rw (g, put_last lowest n ks a.1 p) refl
+-- The ids are those of the first i items: the others follow them.
+abbrev pub Gathers : ℕ → List Value → List ℕ → Type 0
+Gathers i vs ids = ids_in (items_view vs) ≡ option_map (λ ns. ids ++ ns) (increasing (next_after ids) (MAX_ID + 1) (items_view (drop i vs)))
 
-last_below : (lowest n : ℕ) (ks : List ℕ) → AreBelow lowest ks → lowest ≤ n → AreBelow (n + 1) (ks ++ n ∷ [])
-last_below lowest n [] a p = (omega arith, tt)
-last_below lowest n (k ∷ ks) a p = (omega arith, last_below lowest n ks a.1 p)
+pub none_gathered : (vs : List Value) → Gathers 0 vs []
+none_gathered vs = same (ids_in (items_view vs)) where
+  same : (o : Option (List ℕ)) → o ≡ option_map (λ ns. [] ++ ns) o
+  same None = refl
+  same (Some ns) = refl
+
+after_last : (id : ℕ) (ids : List ℕ) → next_after (ids ++ id ∷ []) ≡ id + 1
+after_last id [] = refl
+after_last id (i ∷ ids) = ap (λ (n : ℕ). n + 1) (last_is i id ids)
+
+-- An id can follow the ids if and only if they are in increasing order with it.
+follows : (id : ℕ) (ids : List ℕ) → IsStrictlySortedBy nat_cmp (ids ++ id ∷ []) → next_after ids ≤ id
+follows id [] s = omega arith
+follows id (i ∷ ids) s = let h = above_last i id ids s in omega (arith, h)
+
+pub increase : (id : ℕ) (ids : List ℕ) → IsStrictlySortedBy nat_cmp ids → next_after ids ≤ id → IsStrictlySortedBy nat_cmp (ids ++ id ∷ [])
+unfolding IsStrictlySortedBy
+increase id [] s h = (tt, tt)
+increase id (i ∷ ids) s h = sorted_more i id ids s (omega (arith, h))
 
 front_and_rest : (ks : List ℕ) (n : ℕ) (o : Option (List ℕ)) → option_map (λ ns. ks ++ ns) (option_map (λ ns. n ∷ ns) o) ≡ option_map (λ ns. (ks ++ n ∷ []) ++ ns) o
 front_and_rest ks n None = refl
 front_and_rest ks n (Some ns) = ap Some (sym (append_assoc ks (n ∷ []) ns))
 
-pub collect_step : (first lowest bound i n : ℕ) (vs : List Value) (v : Value) (ks ms : List ℕ) → i < length vs → v ≡ get_or vs i v → whole_number (view v) ≡ Some n →
-    increasing first bound (items_view vs) ≡ option_map (λ ns. ks ++ ns) (increasing lowest bound (items_view (drop i vs))) → AreBelow lowest ks → IsSome (increasing lowest bound (items_view (drop i vs))) → ms ≡ insert_key nat_cmp ks n →
-    (increasing first bound (items_view vs) ≡ option_map (λ ns. ms ++ ns) (increasing (n + 1) bound (items_view (drop (i + 1) vs)))) × AreBelow (n + 1) ms × IsSome (increasing (n + 1) bound (items_view (drop (i + 1) vs)))
-collect_step first lowest bound i n vs v ks ms h e w so_far below rest put =
-    let a = next_number lowest bound i vs v h e rest in
-    let same : a.0 ≡ n = let x = sym a.1 ∙ w in cc in
-    let p : lowest ≤ n = omega (arith, a.2) in
-    let q : n < bound = omega (arith, a.3) in
-    let is : ms ≡ ks ++ n ∷ [] = put ∙ put_last lowest n ks below p in (
-      so_far ∙ ap (option_map (λ (ns : List ℕ). ks ++ ns)) (next_increases lowest bound i n vs v h e w p q) ∙ front_and_rest ks n _ ∙ ap (λ (l : List ℕ). option_map (λ (ns : List ℕ). l ++ ns) (increasing (n + 1) bound (items_view (drop (i + 1) vs)))) (sym is),
-      subst (AreBelow (n + 1)) (sym is) (last_below lowest n ks below p),
-      sym (rest_increases lowest bound i n vs v h e w p q) ∙ rest,
-    )
+pub one_gathered : (i n : ℕ) (vs : List Value) (v : Value) (ids : List ℕ) → i < length vs → v ≡ get_or vs i v → whole_number (view v) ≡ Some n → n ≤ MAX_ID →
+    IsStrictlySortedBy nat_cmp (ids ++ n ∷ []) → Gathers i vs ids → Gathers (i + 1) vs (ids ++ n ∷ [])
+one_gathered i n vs v ids h e w m s g =
+    g ∙ ap (option_map (λ (ns : List ℕ). ids ++ ns)) (next_increases (next_after ids) (MAX_ID + 1) i n vs v h e w (follows n ids s) (omega (arith, m)))
+    ∙ front_and_rest ids n _
+    ∙ ap (λ (l : ℕ). option_map (λ (ns : List ℕ). (ids ++ n ∷ []) ++ ns) (increasing l (MAX_ID + 1) (items_view (drop (i + 1) vs)))) (sym (after_last n ids))
+
+pub low_id : (i n : ℕ) (vs : List Value) (v : Value) (ids : List ℕ) → i < length vs → v ≡ get_or vs i v → whole_number (view v) ≡ Some n →
+    IsStrictlySortedBy nat_cmp ids → ¬ IsStrictlySortedBy nat_cmp (ids ++ n ∷ []) → Gathers i vs ids → ids_in (items_view vs) ≡ None
+low_id i n vs v ids h e w s not_sorted g =
+    ⊎_elim
+    (λ (l : n < next_after ids). g ∙ ap (option_map (λ (ns : List ℕ). ids ++ ns)) (too_low (next_after ids) (MAX_ID + 1) i n vs v h e w l))
+    (λ (l : next_after ids ≤ n). absurd (not_sorted (increase n ids s l)))
+    (cases_lt n (next_after ids))
+
+-- If all items are ids in order, the next one follows those before it.
+pub next_follows : (i : ℕ) (vs : List Value) (v : Value) (ids : List ℕ) → i < length vs → v ≡ get_or vs i v → IsSome (ids_in (items_view vs)) → IsStrictlySortedBy nat_cmp ids → Gathers i vs ids →
+    (n : ℕ) × (whole_number (view v) ≡ Some n) × (n ≤ MAX_ID) × IsStrictlySortedBy nat_cmp (ids ++ n ∷ [])
+next_follows i vs v ids h e some s g =
+    let rest : IsSome (increasing (next_after ids) (MAX_ID + 1) (items_view (drop i vs))) = sym (ap is_some g ∙ is_some-map (λ (ns : List ℕ). ids ++ ns) _) ∙ some in
+    let a = next_number (next_after ids) (MAX_ID + 1) i vs v h e rest in
+    (a.0, a.1, omega (arith, a.3), increase a.0 ids s a.2)
 
 pub one_list : (ds : Items) (xs ys : List ℕ) → EncodesItems EncodesNumber ds xs → EncodesItems EncodesNumber ds ys → xs ≡ ys
 one_list no_items [] [] p q = refl

@@ -1,6 +1,7 @@
 -- The state that a value encodes, and the fields of an allocator with this state.
-use Rattle.std.proofs.Common.{◌≡◌, ℕ, zero, suc, ◌≤◌, ◌<◌, true, false, List, [], ◌∷◌, length, Option, Some, None, is_some, codes, IsTrue, refl, sym, ap, ◌∙◌, subst, arith, true≢false}
+use Rattle.std.proofs.Common.{◌≡◌, ℕ, zero, suc, ◌≤◌, ◌<◌, true, false, List, [], ◌∷◌, length, Option, Some, None, is_some, IsSome, Result, Ok, Err, codes, IsTrue, refl, sym, ap, ◌∙◌, subst, arith, true≢false}
 use Rattle.std.proofs.lemmas.Option.{same_Some}
+use Rattle.std.proofs.lemmas.List.Elements.{All-contains}
 use Rattle.std.proofs.lemmas.Map.Views.{Contains-from_any, list_any-from_Contains}
 use Rattle.std.proofs.lemmas.Bool.{both_ways}
 use Rattle.std.specs.List.{All, Contains}
@@ -15,10 +16,13 @@ use Rattle.vm_ranges.proofs.FieldSteps.{field_is}
 use Rattle.vm_ranges.proofs.NumberSets.{same_members, tied_is}
 use Rattle.vm_allocator.specs.Ids.{IdState, IsIdState, AreIds, bound_of, ids_of}
 use Rattle.vm_allocator.specs.Values.IdValues.{IdFields, HasIdFields, AreIdFields, AreIdsOf, EncodesNext, EncodesList, EncodesIds}
-use Rattle.vm_allocator.specs.Checks.IdChecks.{IdParts, increasing, decoded_ids}
+use Rattle.vm_ranges.specs.declared.saved.SavedError.{SavedError}
+use Rattle.vm_ranges.specs.declared.saved.SavedError.TheVariants.{Violated, OutOfMemory}
+use Rattle.vm_allocator.specs.FreedLists.{AreFreedOf, MakesOfIds}
+use Rattle.vm_allocator.specs.Checks.IdChecks.{IdParts, increasing, ids_in, decoded_ids}
 use Rattle.vm_allocator.proofs.Ids.IdSets.{holds_from, from_holds}
 use Rattle.vm_allocator.proofs.Ids.IdFields.{is_state}
-use Rattle.vm_allocator.proofs.Ids.ReadIds.{Found, fields_of, checks, passes, one_fields}
+use Rattle.vm_allocator.proofs.Ids.ReadIds.{Found, fields_of, widened, bound_fits_ids, checks, passes, one_fields}
 
 among : (freed : BTreeSet ℕ) (i : ℕ) → Contains freed.keys i → contains nat_cmp freed i ≡ true
 among freed i c = list_any-from_Contains (eq_by_cmp_equiv nat_cmp_total) i freed.keys c
@@ -85,13 +89,7 @@ one_state f a b p q =
 pub none_encoded : (d : Data) → decoded_ids d ≡ None → ((state : IdState) × EncodesIds d state) → ⊥
 none_encoded d e p = true≢false (sym (passes d p.1.fields p.1.written p.1.valid) ∙ ap is_some e)
 
-pub built_ids : (d : Data) (p : Found) (freed : BTreeSet ℕ) → decoded_ids d ≡ Some p → increasing p.0 (bound_of p.1 p.2) p.3 ≡ Some freed.keys → AreIds p.0 p.2 p.1 freed
-built_ids d p freed e r =
-    let c = checks d p e in
-    let same : c.freed ≡ freed.keys = same_Some c.freed freed.keys (sym c.increases ∙ r) in
-    are_ids p.0 p.2 p.1 freed (subst (λ (ns : List ℕ). AreIdFields (fields_of p.0 p.1 p.2 ns)) same c.valid)
-
-pub built_states : (d : Data) (p : Found) (freed : BTreeSet ℕ) → decoded_ids d ≡ Some p → increasing p.0 (bound_of p.1 p.2) p.3 ≡ Some freed.keys → EncodesIds d (ids_of p.0 p.2 p.1 freed)
+built_states : (d : Data) (p : Found) (freed : BTreeSet ℕ) → decoded_ids d ≡ Some p → increasing p.0 (bound_of p.1 p.2) p.3 ≡ Some freed.keys → EncodesIds d (ids_of p.0 p.2 p.1 freed)
 built_states d p freed e r =
     let c = checks d p e in
     let same : c.freed ≡ freed.keys = same_Some c.freed freed.keys (sym c.increases ∙ r) in record {
@@ -106,6 +104,31 @@ some_encoded d p e =
     let c = checks d p e in
     let freed : BTreeSet ℕ = record { keys = c.freed } in
     (ids_of p.0 p.2 p.1 freed, built_states d p freed e c.increases)
+
+-- The freed ids of a value that is decoded are ids in order.
+in_order : (d : Data) (p : Found) (e : decoded_ids d ≡ Some p) → ids_in p.3 ≡ Some (checks d p e).freed
+in_order d p e = let c = checks d p e in widened p.0 (bound_of p.1 p.2) p.3 c.freed (bound_fits_ids p.0 p.2 p.1 c.valid.ids c.valid.next_id) c.increases
+
+pub ids_listed_in : (d : Data) (p : Found) → decoded_ids d ≡ Some p → IsSome (ids_in p.3)
+ids_listed_in d p e = ap is_some (in_order d p e)
+
+-- The state of the parts of a value that is decoded.
+pub state_read : (d : Data) (p : Found) (freed : List ℕ) (answer : Result IdState SavedError) → decoded_ids d ≡ Some p → ids_in p.3 ≡ Some freed → MakesOfIds p.0 p.2 p.1 freed answer → (state : IdState) × (answer ≡ Ok state) × EncodesIds d state
+state_read d p freed (Ok state) e i m =
+    let c = checks d p e in
+    let same : c.freed ≡ freed = same_Some c.freed freed (sym (in_order d p e) ∙ i) in
+    let set : BTreeSet ℕ = record { keys = freed } in
+    (state, refl, subst (EncodesIds d) (sym m.1) (built_states d p set e (c.increases ∙ ap Some same)))
+state_read d p freed (Err (Violated v)) e i m =
+    let c = checks d p e in
+    let same : c.freed ≡ freed = same_Some c.freed freed (sym (in_order d p e) ∙ i) in
+    absurd (m.1 (subst (λ (ids : List ℕ). AreFreedOf p.0 p.2 p.1 ids) same (record {
+      range = c.valid.range;
+      next_id = c.valid.next_id;
+      increasing = c.valid.increasing;
+      freed_ids = λ i k. All-contains (λ n. (p.0 ≤ n) × (n < bound_of p.1 p.2)) c.freed i c.valid.ever_allocated k;
+    })))
+state_read d p freed (Err OutOfMemory) e i m = absurd m
 
 pub encoded_state : (d : Data) (state : IdState) → EncodesIds d state → IsIdState state
 encoded_state d state s =

@@ -1,7 +1,10 @@
 -- The check of a value finds exactly the id allocators that values encode.
-use Rattle.std.proofs.Common.{◌≡◌, ℕ, ◌+◌, ◌≤◌, true, false, cond, ◌&&◌, leb, List, Option, Some, None, is_some, option_map, option_and_then, MatchOption, codes, refl, sym, ap, ◌∙◌, subst, arith}
+use Rattle.std.proofs.Common.{◌≡◌, ℕ, ◌+◌, ◌<◌, ◌≤◌, Bool, true, false, cond, ◌&&◌, leb, List, [], ◌∷◌, Option, Some, None, is_some, option_map, option_and_then, Result, Ok, Err, MatchOption, codes, refl, sym, ap, ◌∙◌, subst, arith}
 use Rattle.std.proofs.lemmas.Bool.{le-leb, leb-true, eq-eqb, eqb-true, and_parts}
 use Rattle.std.proofs.lemmas.Option.{same_Some}
+use Rattle.std.proofs.lemmas.List.Elements.{All-contains, All-contains_itself}
+use Rattle.std.specs.List.{All}
+use Rattle.std.specs.Result.{result_ok}
 use Rattle.serde_json.specs.Data.{Data, null, boolean, number, string, array, object, Items}
 use Rattle.serde_json.specs.Find.{get, as_array, as_null}
 use Rattle.vm_ranges.proofs.NumberSteps.{u32-some, some-u32, u32_in-some}
@@ -11,12 +14,17 @@ use Rattle.vm_ranges.proofs.FieldSteps.{count-true, true-count, in_field, field_
 use Rattle.vm_ranges.proofs.Steps.{and_then_some, if_some}
 use Rattle.vm_ranges.specs.Fields.{field_count, is_count}
 use Rattle.vm_ranges.specs.Numbers.{whole_number, u32_from, u32_in}
+use Rattle.vm_ranges.specs.declared.saved.SavedError.{SavedError}
+use Rattle.vm_ranges.specs.declared.saved.SavedError.TheVariants.{Violated, OutOfMemory}
+use Rattle.vm_allocator.specs.declared.saved.read_ids.Ends.{Ends}
 use Rattle.vm_allocator.specs.Ids.{MAX_ID, bound_of, IsNext}
 use Rattle.vm_allocator.specs.Values.IdValues.{IdFields, EncodesNext, EncodesNumber, EncodesList, HasIdFields, AreIdFields}
-use Rattle.vm_allocator.specs.Checks.IdChecks.{increasing, decoded_next, is_next, decoded_ids}
+use Rattle.vm_allocator.specs.FreedLists.{AreFreedOf, is_next}
+use Rattle.vm_allocator.specs.Checks.FreedChecks.{ends_of, AreEndsOf, ChecksParts}
+use Rattle.vm_allocator.specs.Checks.IdChecks.{increasing, ids_in, decoded_next, decoded_ids}
 use Rattle.vm_ranges.proofs.Nulls.{null_of}
 use Rattle.vm_allocator.proofs.Ids.IncreasingNumbers.{some_of, one_list}
-use Rattle.vm_allocator.proofs.Ids.IncreasingBounds.{increasing-states, states-increasing, sorted, within, rise}
+use Rattle.vm_allocator.proofs.Ids.IncreasingBounds.{IncreaseWithin, increasing-states, states-increasing, sorted, within, rise}
 
 -- The next id.
 
@@ -136,6 +144,142 @@ passes d f w s =
       next_fits-true f.next_id f.range_base f.range_end s.next_id,
       states-increasing f.freed_ids f.range_base (bound_of f.next_id f.range_end) list.0 list.2 (rise f.range_base (bound_of f.next_id f.range_end) f.freed_ids s.increasing s.ever_allocated),
     ) refl
+
+-- The fields are found, one by one.
+
+-- The fields of the value, of which the freed ids are not checked.
+pub record HasParts (d : Data) (p : Found) : Type 0 where
+  pub four : is_count 4 (field_count d) ≡ true
+  pub base : u32_in (codes "range_base") d ≡ Some p.0
+  pub end : u32_in (codes "range_end") d ≡ Some p.2
+  pub next : option_and_then decoded_next (get (codes "next_id") d) ≡ Some p.1
+  pub freed : option_and_then as_array (get (codes "freed_ids") d) ≡ Some p.3
+
+-- The test of the parts.
+abbrev are_parts : Found → Bool
+are_parts p = leb p.0 p.2 && (is_next p.1 p.0 p.2 && is_some (increasing p.0 (bound_of p.1 p.2) p.3))
+
+decided : (d : Data) (p : Found) → HasParts d p → decoded_ids d ≡ cond (are_parts p) (Some p) None
+decided d p h = rw (h.four, h.base, h.end, h.next, h.freed) refl
+
+refused : (t : Bool) (p : Found) → ¬ (t ≡ true) → cond t (Some p) None ≡ None
+refused true p n = absurd (n refl)
+refused false p n = refl
+
+record IsTested (p : Found) : Type 0 where
+  pub range : p.0 ≤ p.2
+  pub next : is_next p.1 p.0 p.2 ≡ true
+  pub freed : List ℕ
+  pub increases : increasing p.0 (bound_of p.1 p.2) p.3 ≡ Some freed
+
+tested : (p : Found) → are_parts p ≡ true → IsTested p
+tested p e =
+    let t = and_parts (leb p.0 p.2) (is_next p.1 p.0 p.2 && is_some (increasing p.0 (bound_of p.1 p.2) p.3)) e in
+    let u = and_parts (is_next p.1 p.0 p.2) (is_some (increasing p.0 (bound_of p.1 p.2) p.3)) t.1 in
+    let ns = some_of (increasing p.0 (bound_of p.1 p.2) p.3) u.1 in
+    record { range = leb-true p.0 p.2 t.0; next = u.0; freed = ns.0; increases = ns.1 }
+
+-- The numbers fit into 32 bits.
+is_id_of : (d : Data) (p : Found) → HasParts d p → IsIdIf p.1
+is_id_of d p h = let n = and_then_some decoded_next (get (codes "next_id") d) p.1 h.next in (next-some n.0 p.1 n.2).1
+
+fits : (next : Option ℕ) (hi : ℕ) → IsIdIf next → hi ≤ MAX_ID → bound_of next hi ≤ MAX_ID + 1
+unfolding IsIdIf
+fits None hi n m = omega (arith, m)
+fits (Some i) hi n m = omega (arith, n)
+
+-- The bound of valid parts is at most one past the ids.
+pub bound_fits_ids : (lo hi : ℕ) (next : Option ℕ) → hi ≤ MAX_ID → IsNext lo hi next → bound_of next hi ≤ MAX_ID + 1
+bound_fits_ids lo hi next m n = fits next hi (next_is_id next lo hi n) m
+
+bound_is_id : (d : Data) (p : Found) → HasParts d p → bound_of p.1 p.2 ≤ MAX_ID + 1
+bound_is_id d p h = fits p.1 p.2 (is_id_of d p h) (u32_in-some (codes "range_end") d p.2 h.end).1
+
+-- Numbers in order between narrower bounds are ids in order.
+wider : (lo low bound : ℕ) (ns : List ℕ) → low ≤ lo → bound ≤ MAX_ID + 1 → IncreaseWithin lo bound ns → IncreaseWithin low (MAX_ID + 1) ns
+wider lo low bound [] l b r = tt
+wider lo low bound (n ∷ ns) l b r =
+    let f = r.0 in
+    let u = r.1 in
+    (omega (arith, f, l), omega (arith, u, b), wider (n + 1) (n + 1) bound ns (omega arith) b r.2)
+
+pub widened : (lo bound : ℕ) (ds : Items) (ns : List ℕ) → bound ≤ MAX_ID + 1 → increasing lo bound ds ≡ Some ns → ids_in ds ≡ Some ns
+widened lo bound ds ns b e =
+    let s = increasing-states lo bound ds ns e in
+    states-increasing ns 0 (MAX_ID + 1) ds s.0 (wider lo 0 bound ns (omega arith) b s.1)
+
+none_in_order : (d : Data) (p : Found) → HasParts d p → ids_in p.3 ≡ None → decoded_ids d ≡ None
+none_in_order d p h e =
+    decided d p h ∙ refused (are_parts p) p (λ t.
+    let is = tested p t in
+    let w = widened p.0 (bound_of p.1 p.2) p.3 is.freed (bound_is_id d p h) is.increases in
+    cc)
+
+parts_found : (d : Data) (p : Found) (freed : List ℕ) → HasParts d p → ids_in p.3 ≡ Some freed → AreFreedOf p.0 p.2 p.1 freed → decoded_ids d ≡ Some p
+parts_found d p freed h e a =
+    let s = increasing-states 0 (MAX_ID + 1) p.3 freed e in
+    let w : All (λ i. (p.0 ≤ i) × (i < bound_of p.1 p.2)) freed = λ k x l. a.freed_ids _ (All-contains_itself freed k x l) in
+    decided d p h ∙ rw (
+      le-leb p.0 p.2 a.range,
+      next_fits-true p.1 p.0 p.2 a.next_id,
+      states-increasing freed p.0 (bound_of p.1 p.2) p.3 s.0 (rise p.0 (bound_of p.1 p.2) freed a.increasing w),
+    ) refl
+
+no_parts : (d : Data) (p : Found) (freed : List ℕ) → HasParts d p → ids_in p.3 ≡ Some freed → ¬ AreFreedOf p.0 p.2 p.1 freed → decoded_ids d ≡ None
+no_parts d p freed h e n =
+    decided d p h ∙ refused (are_parts p) p (λ t.
+    let is = tested p t in
+    let w = widened p.0 (bound_of p.1 p.2) p.3 is.freed (bound_is_id d p h) is.increases in
+    let same : is.freed ≡ freed = same_Some is.freed freed (sym w ∙ e) in
+    let r = (increasing-states p.0 (bound_of p.1 p.2) p.3 is.freed is.increases).1 in
+    n (subst (λ (ids : List ℕ). AreFreedOf p.0 p.2 p.1 ids) same (record {
+      range = is.range;
+      next_id = next_fits p.1 p.0 p.2 is.next (is_id_of d p h);
+      increasing = sorted p.0 (bound_of p.1 p.2) is.freed r;
+      freed_ids = λ i c. All-contains (λ k. (p.0 ≤ k) × (k < bound_of p.1 p.2)) is.freed i (within p.0 (bound_of p.1 p.2) is.freed r) c;
+    })))
+
+-- The same with what the code keeps of the ids.
+
+pub no_ids : (d : Data) (p : Found) → HasParts d p → option_map ends_of (ids_in p.3) ≡ None → decoded_ids d ≡ None
+no_ids d p h e = none_in_order d p h (none (ids_in p.3) e) where
+  none : (o : Option (List ℕ)) → option_map ends_of o ≡ None → o ≡ None
+  none None e = refl
+  none (Some ids) e = absurd (cc)
+
+record Kept (ends : Option Ends) (ds : Items) : Type 0 where
+  pub ids : List ℕ
+  pub listed : ids_in ds ≡ Some ids
+  pub are_ends : AreEndsOf ends ids
+
+kept : (ends : Option Ends) (ds : Items) → option_map ends_of (ids_in ds) ≡ Some ends → Kept ends ds
+kept ends ds e = some (ids_in ds) refl e where
+  some : (o : Option (List ℕ)) → ids_in ds ≡ o → option_map ends_of o ≡ Some ends → Kept ends ds
+  some None i e = absurd (cc)
+  some (Some ids) i e = record {
+    ids = ids;
+    listed = i;
+    are_ends = (sorted 0 (MAX_ID + 1) ids (increasing-states 0 (MAX_ID + 1) ds ids i).1, sym (same_Some (ends_of ids) ends e));
+  }
+
+pub parts_refused : (d : Data) (p : Found) (ends : Option Ends) (answer : Result (Unit {0}) SavedError) → HasParts d p → option_map ends_of (ids_in p.3) ≡ Some ends →
+    ((ids : List ℕ) → AreEndsOf ends ids → ChecksParts p.0 p.2 p.1 ids answer) → None ≡ result_ok answer → decoded_ids d ≡ None
+parts_refused d p ends answer h e checks is =
+    let k = kept ends p.3 e in
+    no_parts d p k.ids h k.listed (not_parts answer (checks k.ids k.are_ends) is) where
+      not_parts : {ids : List ℕ} (answer : Result (Unit {0}) SavedError) → ChecksParts p.0 p.2 p.1 ids answer → None ≡ result_ok answer → ¬ AreFreedOf p.0 p.2 p.1 ids
+      not_parts (Ok u) r is = absurd (cc)
+      not_parts (Err (Violated c)) r is = r.1
+      not_parts (Err OutOfMemory) r is = absurd r
+
+pub parts_accepted : (d : Data) (p : Found) (ends : Option Ends) (answer : Result (Unit {0}) SavedError) (u : Unit {0}) → HasParts d p → option_map ends_of (ids_in p.3) ≡ Some ends →
+    ((ids : List ℕ) → AreEndsOf ends ids → ChecksParts p.0 p.2 p.1 ids answer) → Some u ≡ result_ok answer → Some p ≡ decoded_ids d
+parts_accepted d p ends answer u h e checks is =
+    let k = kept ends p.3 e in
+    sym (parts_found d p k.ids h k.listed (are answer (checks k.ids k.are_ends) is)) where
+      are : {ids : List ℕ} (answer : Result (Unit {0}) SavedError) → ChecksParts p.0 p.2 p.1 ids answer → Some u ≡ result_ok answer → AreFreedOf p.0 p.2 p.1 ids
+      are (Ok v) r is = r
+      are (Err e) r is = absurd (cc)
 
 one_next : (d : Data) (a b : Option ℕ) → EncodesNext d a → EncodesNext d b → a ≡ b
 one_next d None None p q = refl

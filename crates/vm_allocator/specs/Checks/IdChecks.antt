@@ -1,11 +1,12 @@
--- The checks of an id allocator's value, part by part, in the order of the code. The lemmas in proofs/Ids show that
--- they find exactly what the value encodes.
-use Rattle.std.specs.Prelude.{◌≡◌, ℕ, ◌+◌, ◌&&◌, ◌==◌, nat_lt, nat_le, if◌then◌else◌, Bool, List, [], ◌∷◌, Option, Some, None, is_some, option_map, option_and_then, codes}
+-- The checks of an id allocator's value, part by part. The lemmas in proofs/Ids show that they find exactly what the
+-- value encodes.
+use Rattle.std.specs.Prelude.{◌≡◌, ℕ, ◌+◌, ◌&&◌, nat_lt, nat_le, if◌then◌else◌, List, [], ◌∷◌, Option, Some, None, is_some, option_map, option_and_then, codes}
 use Rattle.serde_json.specs.Data.{Data, Items, no_items, item}
 use Rattle.serde_json.specs.Find.{get, as_array, as_null}
 use Rattle.vm_ranges.specs.Fields.{field_count, is_count}
 use Rattle.vm_ranges.specs.Numbers.{whole_number, number_in, u32_from, u32_in}
 use Rattle.vm_allocator.specs.Ids.{MAX_ID, bound_of}
+use Rattle.vm_allocator.specs.FreedLists.{is_next}
 
 -- The numbers of the items, if they are whole, in strictly increasing order, at least `lowest` and below `bound`.
 abbrev pub increasing : ℕ → ℕ → Items → Option (List ℕ)
@@ -15,15 +16,14 @@ increasing lowest bound (item d ds) =
     if nat_le lowest n && nat_lt n bound then option_map (λ ns. n ∷ ns) (increasing (n + 1) bound ds) else None)
     (whole_number d)
 
+-- The numbers of the items, if they are ids in strictly increasing order.
+abbrev pub ids_in : Items → Option (List ℕ)
+ids_in ds = increasing 0 (MAX_ID + 1) ds
+
 -- The next id that a value encodes: `Some None` for null, and `None` if the value is not valid.
 abbrev pub decoded_next : Data → Option (Option ℕ)
 decoded_next d =
     if is_some (as_null d) then Some None else option_map (λ n. Some n) (option_and_then u32_from (whole_number d))
-
--- The next id is valid for the range from lo to hi: it is in the range or one past it, or None if hi is MAX_ID.
-abbrev pub is_next : Option ℕ → ℕ → ℕ → Bool
-is_next None lo hi = hi == MAX_ID
-is_next (Some n) lo hi = nat_le lo n && nat_le n (hi + 1)
 
 -- The range, the next id and the items of the freed ids, if the value encodes an id allocator.
 abbrev pub decoded_ids : Data → Option (ℕ × Option ℕ × ℕ × Items)

@@ -7,7 +7,7 @@ use Rattle.std.specs.Result.{result_unwrap_or}
 use Rattle.serde_json.specs.Data.{Data}
 use Rattle.vm_ranges.specs.Cloning.{Clones}
 use Rattle.vm_allocator.specs.Values.IdValues.{EncodesIds}
-use Rattle.vm_allocator.specs.FreedLists.{MakesWithFreed}
+use Rattle.vm_allocator.specs.FreedLists.{MakesOfIds}
 use Rattle.vm_allocator.specs.Ids.{MAX_ID, IdState, MakesIds, AllocatesId, FreesId}
 use Rattle.vm_allocator.specs.IdRequests.{AllocatesExactId, AllocatesIdIn, AllocatesIds, MakesWithHeld}
 use Rattle.vm_ranges.specs.declared.error.Error.{Error}
@@ -79,7 +79,7 @@ pub record AreIdsMadeOfFreed (state : IdState) : Type 0 where
   pub next : Option ℕ
   pub freed : List ℕ
   pub word : hi ≤ MAX_ID
-  pub made : MakesWithFreed lo hi next freed (Ok state)
+  pub made : MakesOfIds lo hi next freed (Ok state)
 
 -- The state of an id allocator that was created of its held ids.
 pub record AreIdsMadeOfHeld (state : IdState) : Type 0 where

@@ -3,7 +3,14 @@ ghost use Rattle.vm_ranges.specs.RangeValues.{EncodesRange, EncodesState};
 ghost use Rattle.vm_allocator.specs.Values.AllocatorValues.{EncodesAllocator};
 ghost use Rattle.vm_allocator.specs.Values.RepairedValues.{EncodesRepaired};
 ghost use Rattle.vm_allocator.specs.Values.IdValues.{EncodesIds};
-ghost use Rattle.vm_allocator.specs.Laws.ValueLaws.{EncodesAtMostOne, ReadsWritten, ReadsText, ReadersAgree};
+ghost use Rattle.vm_allocator.specs.Laws.ValueLaws.{
+  EncodesAtMostOne,
+  ReadsWritten,
+  ReadsText,
+  ReadersAgree,
+  WrittenIdsAreRead,
+  PartsDecideIds,
+};
 
 /// Proves that a value encodes at most one object of each type.
 #[tactic(auto, using(crate::proofs::Reading::ReadAgain::one_object))]
@@ -40,4 +47,13 @@ fn texts_are_read()
 /// This is true for each value that `from_value` reads with at most 6,293,134,512 allocated ranges.
 fn both_readers_agree()
     ensures { ReadersAgree }
+{}
+
+/// Proves that the parts of an id allocator are read as this allocator, unless memory runs out: its
+/// range, its next id and its freed ids, which are added one by one. Allocators are equal if and
+/// only if their parts are.
+#[tactic(auto, using(crate::proofs::Ids::WrittenIds::written))]
+fn written_ids_are_read()
+    ensures read { WrittenIdsAreRead }
+    ensures equal { PartsDecideIds }
 {}

@@ -1,20 +1,22 @@
 //! The saved value of an id allocator.
-ghost use Rattle.std.specs.Prelude.{◌≡◌, ◌≤◌, ◌<◌, ◌+◌, ◌^◌, ◌↔◌, IfOk, IsSome, IsTrue, Some, is_some, option_map, option_and_then};
+ghost use Rattle.std.specs.Prelude.{◌≡◌, IfOk, MatchResult, IsSome, Some, option_map, option_and_then};
 ghost use Rattle.std.specs.List.Sorted.{IsStrictlySortedBy};
 ghost use Rattle.std.specs.Ordering.{nat_cmp};
 ghost use Rattle.serde_json.specs.View.{view, items_view};
 ghost use Rattle.serde_json.specs.Find.{get};
-ghost use Rattle.vm_ranges.specs.Numbers.{u32_from, u32_in};
-ghost use Rattle.vm_allocator.specs.Ids.{IsIdState, IsNext, bound_of};
+ghost use Rattle.vm_ranges.specs.declared.saved.SavedError.TheVariants.{OutOfMemory};
+ghost use Rattle.vm_allocator.specs.Ids.{IsIdState};
 ghost use Rattle.vm_allocator.specs.Values.IdValues.{EncodesNext, EncodesList, EncodesIds};
-ghost use Rattle.vm_allocator.specs.Checks.IdChecks.{increasing, decoded_next, is_next, decoded_ids, IdParts};
+ghost use Rattle.vm_allocator.specs.Checks.FreedChecks.{ends_of};
+ghost use Rattle.vm_allocator.specs.Checks.IdChecks.{ids_in, decoded_next, decoded_ids, IdParts};
 ghost use Rattle.vm_ranges.specs.Saving.{Saves, Reads};
 
-use crate::id_allocator::{IdAllocator, bound_of};
+use super::read_ids::{Ends, ReadIds, check_parts, ends_with};
+use crate::id_allocator::IdAllocator;
 use serde_json::{Value, json};
 use std::alloc::{AllocError, Global};
 use std::collections::BTreeSet;
-use vm_ranges::{Result, ValueError, has_fields, list_in, u32_from, u32_in};
+use vm_ranges::{Result, SavedError, ValueError, has_fields, list_in, u32_from, u32_in};
 
 impl IdAllocator {
     /// Encodes the allocator as a value: its range, the next id and the freed ids.
@@ -48,13 +50,8 @@ impl IdAllocator {
         let Some(ids) = check_ids(value) else {
             return Err(ValueError::NotAState);
         };
-        let freed_ids = collect_ids(alloc, &ids)?;
-        Ok(IdAllocator {
-            range_base: ids.base,
-            next_id: ids.next,
-            range_end: ids.end,
-            freed_ids,
-        })
+        let freed = collect_ids(alloc, ids.freed)?;
+        Ok(IdAllocator::from_ids(ids.base, ids.next, ids.end, freed)?)
     }
 }
 
@@ -115,18 +112,14 @@ fn check_ids(value: &Value) -> Option<CheckedIds<'_>>
     let end = u32_in(value, "range_end")?;
     let next = next_in(value, "next_id")?;
     let freed = list_in(value, "freed_ids")?;
-    if base <= end
-        && is_next(next, base, end)
-        && are_increasing(freed, base.into(), bound_of(next, end))
-    {
-        return Some(CheckedIds {
-            base,
-            next,
-            end,
-            freed,
-        });
-    }
-    None
+    let ends = ends_in(freed)?;
+    check_parts(base, next, end, ends).ok()?;
+    Some(CheckedIds {
+        base,
+        next,
+        end,
+        freed,
+    })
 }
 
 /// Decodes a next id. Returns `Some(None)` for null, and `None` if the value is not a 32-bit
@@ -147,53 +140,29 @@ fn next_in(value: &Value, name: &str) -> Option<Option<u32>>
     decode_next(value.get(name)?)
 }
 
-/// Returns whether `next` can be the next id of the range from `base` to `end`.
-pub(super) fn is_next(next: Option<u32>, base: u32, end: u32) -> bool
-    ensures value { result ≡ is_next next base end }
-    ensures valid { IsTrue result ↔ IsNext base end next }
+/// Returns the first and the last of the items. Returns `None` if they are not 32-bit numbers in
+/// strictly increasing order.
+fn ends_in(list: &[Value]) -> Option<Option<Ends>>
+    ensures { result ≡ option_map ends_of (ids_in (items_view list.now)) }
 {
-    match next {
-        None => end == u32::MAX,
-        Some(next) => base <= next && u64::from(next) <= u64::from(end) + 1,
-    }
-}
-
-/// Returns whether the items are whole numbers in strictly increasing order, at least `lowest` and
-/// below `bound`.
-#[tactic(auto, using(crate::proofs::Ids::IncreasingNumbers::increasing_steps))]
-fn are_increasing(list: &[Value], lowest: u64, bound: u64) -> bool
-    requires { bound < 2 ^ 64 }
-    ensures { result ≡ is_some (increasing lowest bound (items_view list.now)) }
-{
-    let mut next = lowest;
+    let mut ends = None;
     for item in list {
-        let Some(id) = item.as_u64() else {
-            return false;
-        };
-        if id < next || id >= bound {
-            return false;
-        }
-        next = id + 1;
+        let id = u32_from(item.as_u64()?)?;
+        ends = Some(ends_with(ends, id)?);
     }
-    true
+    Some(ends)
 }
 
-/// Collects the freed ids of a checked value into a set.
-fn collect_ids(
-    alloc: Global,
-    checked: &CheckedIds<'_>,
-) -> std::result::Result<BTreeSet<u32>, AllocError>
-    requires bound_fits { bound_of checked.now.next checked.now.end ≤ 2 ^ 32 }
-    requires rise { IsSome (increasing checked.now.base (bound_of checked.now.next checked.now.end)
-        (items_view checked.now.freed.now.items)) }
-    ensures { IfOk result (λ ids. increasing checked.now.base (bound_of checked.now.next checked.now.end)
-        (items_view checked.now.freed.now.items) ≡ Some ids.keys) }
+/// Collects the items, which are 32-bit numbers in strictly increasing order.
+fn collect_ids(alloc: Global, list: &[Value]) -> std::result::Result<ReadIds, SavedError>
+    requires { IsSome (ids_in (items_view list.now)) }
+    ensures { MatchResult result (λ ids. ids_in (items_view list.now) ≡ Some ids)
+        (λ e. e ≡ OutOfMemory) }
 {
-    let list: &[Value] = checked.freed;
-    let mut ids = BTreeSet::new(alloc);
+    let mut ids = ReadIds::new(alloc);
     for item in list {
         let id = item.as_u64().unwrap();
-        ids.insert(id as u32)?;
+        ids.push(id as u32)?;
     }
     Ok(ids)
 }
