@@ -13,7 +13,7 @@ use Rattle.vm_devices.specs.Devices.{DeviceState, IsDeviceState}
 use Rattle.vm_devices.specs.Checks.{IsNew, HaveDifferentStarts}
 
 -- Held ranges with the same start are the same range.
-one_start : (space : AddressState) → IsAddressState space → (q r : Range) → Contains space.held q → Contains space.held r → q.start ≡ r.start → q ≡ r
+pub one_start : (space : AddressState) → IsAddressState space → (q r : Range) → Contains space.held q → Contains space.held r → q.start ≡ r.start → q ≡ r
 unfolding Overlaps
 one_start space i q r c d e =
     let l = lie_apart space i in
