@@ -54,11 +54,11 @@ ranges_differ (e ∷ es) s own =
 -- ---- The pairs of a table
 -- The entries of a map, as the devices of a state.
 module _ (state : DeviceState) (es : List (ℕ × Range)) (is : state.devices ≡ map.from_entries es) (s : Rise es) where
-  pub device_entry : (id : ℕ) (r : Range) → IsDevice state id r → IsEntry es id r
+  device_entry : (id : ℕ) (r : Range) → IsDevice state id r → IsEntry es id r
   device_entry id r d =
       found_entry es id r (sym (map.get-from_entries nat_cmp_total es id) ∙ ap (λ (m : map.FinMap nat_cmp Range). map.get m id) (sym is) ∙ d)
 
-  pub entry_device : (id : ℕ) (r : Range) → IsEntry es id r → IsDevice state id r
+  entry_device : (id : ℕ) (r : Range) → IsEntry es id r → IsDevice state id r
   entry_device id r h =
       ap (λ (m : map.FinMap nat_cmp Range). map.get m id) is ∙ map.get-from_entries nat_cmp_total es id ∙ entry_found es id r s h
 

@@ -8,15 +8,15 @@ pub returns-then-held_ids-count-clause-answer : goal.returns-then-held_ids-count
 returns-then-held_ids-count-clause-answer c =
     elim c.then-held_ids-count.branch [
       | then-held_ids-count-via-then-held_ids-count w ↦ (
-          refl,
-          other_ids_held c.args.ids.now (state_of c.args.space.now) c.args.devices.now c.held_count-held_ranges.ensures.state
-          (λ e. w.if-held_ids-count.true (c.held_count-held_ids.ensures.value ∙ e)),
-        )
+        refl,
+        other_ids_held c.args.ids.now (state_of c.args.space.now) c.args.devices.now c.held_count-held_ranges.ensures.state
+            (λ e. w.if-held_ids-count.true (c.held_count-held_ids.ensures.value ∙ e)),
+      )
       | then-held_ids-count-via-else-held_ids-count+then-held_ranges-count w ↦ (
-          refl,
-          other_ranges_held c.args.ids.now (state_of c.args.space.now) c.args.devices.now c.held_count-held_ranges.ensures.state
-          (λ e. w.if-held_ranges-count.true (c.held_count-held_ranges.ensures.value ∙ e)),
-        )
+        refl,
+        other_ranges_held c.args.ids.now (state_of c.args.space.now) c.args.devices.now c.held_count-held_ranges.ensures.state
+            (λ e. w.if-held_ranges-count.true (c.held_count-held_ranges.ensures.value ∙ e)),
+      )
     ]
 
 pub returns-then-not-can_be_inserted-clause-answer : goal.returns-then-not-can_be_inserted-clause-answer

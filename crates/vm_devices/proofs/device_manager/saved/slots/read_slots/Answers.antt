@@ -1,4 +1,4 @@
-use Rattle.std.proofs.Common.{◌≡◌, ◌≤◌, length, Err, arith, sym, ◌∙◌, subst, rules}
+use Rattle.std.proofs.Common.{◌≡◌, ◌≤◌, length, Err, arith, sym, rules}
 use Rattle.vm_ranges.specs.Saving.{value_error}
 use Rattle.vm_devices.proofs.SavedDevices.{none_read, no_device, one_read, push_refused, all_read}
 use Rattle.vm_devices.proofs.device_manager.saved.slots.read_slots.Goals as goal
