@@ -1,11 +1,11 @@
 -- Facts for callers about reserved devices.
-use Rattle.std.proofs.Common.{◌≡◌, ℕ, ◌%◌, sym, ap, ⊎_elim, subst, Result, Ok, Err, IfSome, IfOk, OnOk}
-use Rattle.vm_ranges.specs.Range.{Range, Overlaps, Covers, address_count}
+use Rattle.std.proofs.Common.{◌≡◌, ℕ, sym, ap, ⊎_elim, subst, Result, Ok, Err, IfOk, OnOk}
+use Rattle.vm_ranges.specs.Range.{Range, Overlaps}
 use Rattle.vm_engine.specs.Address.{holding}
 use Rattle.vm_ranges.specs.Request.{Request}
-use Rattle.vm_engine.specs.Answer.{Allocates, IsChosen}
+use Rattle.vm_engine.specs.Answer.{Allocates}
 use Rattle.vm_ranges.specs.declared.error.Error.{Error}
-use Rattle.vm_allocator.proofs.Callers.{request_fits, request_inside, allocated_apart, allocated_chosen}
+use Rattle.vm_allocator.proofs.Callers.{allocated_apart}
 use Rattle.vm_allocator.specs.Ids.{IsLowestNotHeld}
 use Rattle.vm_devices.specs.declared.device_slot.DeviceSlot.{DeviceSlot}
 use Rattle.vm_devices.specs.Devices.{DeviceState, IsDevice, IsDeviceState, Reserves, Releases, with_device, without_device}
@@ -14,29 +14,6 @@ use Rattle.vm_devices.proofs.Reserving.{reserved_device, releasing_outcome}
 use Rattle.vm_devices.proofs.Tables.{with_here}
 -- A saved manager survives its text.
 pub use Rattle.vm_devices.proofs.NestedManagers.{manager_through_text}
-
--- The range of a device has the requested number of addresses, and starts at a multiple of the alignment.
-pub device_fits : (old new : DeviceState) (request : Request) (answer : Result DeviceSlot Error) →
-    Reserves old request answer new → IfOk answer (λ slot. (address_count slot.range ≡ request.size) × (slot.range.start % request.align ≡ 0))
-device_fits old new request (Ok slot) h =
-    let d = reserved_device old new request slot h in
-    request_fits old.space (holding slot.range old.space) request (Ok slot.range) d.given
-device_fits old new request (Err e) h = tt
-
--- The range of a device lies in the window of the request.
-pub device_in_window : (old new : DeviceState) (request : Request) (answer : Result DeviceSlot Error) →
-    Reserves old request answer new → IfOk answer (λ slot. IfSome request.window (λ window. Covers window slot.range))
-device_in_window old new request (Ok slot) h =
-    let d = reserved_device old new request slot h in
-    request_inside old.space (holding slot.range old.space) request (Ok slot.range) d.given
-device_in_window old new request (Err e) h = tt
-
--- The range of a device is at the place that the policy chooses.
-pub device_chosen : (old new : DeviceState) (request : Request) (answer : Result DeviceSlot Error) → Reserves old request answer new → IfOk answer (λ slot. IsChosen request old.space slot.range.start)
-device_chosen old new request (Ok slot) h =
-    let d = reserved_device old new request slot h in
-    allocated_chosen old.space (holding slot.range old.space) request (Ok slot.range) d.given
-device_chosen old new request (Err e) h = tt
 
 -- The id of a device is the lowest that was not held.
 pub device_lowest : (old new : DeviceState) (request : Request) (answer : Result DeviceSlot Error) → Reserves old request answer new → IfOk answer (λ slot. IsLowestNotHeld old.ids slot.id)
@@ -95,8 +72,5 @@ released_fits_again old mid new request slot i s f = record { by = λ later answ
 pub fits_again_is_reserved : (new later : DeviceState) (request : Request) (slot : DeviceSlot) (answer : Result DeviceSlot Error) →
     DeviceFitsAgain request slot new → Reserves new request answer later → IfOk answer (λ again. again ≡ slot)
 fits_again_is_reserved new later request slot answer i h = i.by later answer h
-
--- The facts on which a caller of `reserve` relies.
-pub ruleset reserved = (device_lowest, device_fits, device_in_window, device_chosen, device_state)
 
 pub ruleset callers = (device_there, devices_share_none, released_fits_again, fits_again_is_reserved)

@@ -23,7 +23,7 @@ unfolding DeviceAt
 device_found {state} {x} {r} id f =
     let owner = f.valid.pairs.owned r f.held.0 in
     let same : owner.0 ≡ id =
-    devices_start_apart state f.valid owner.0 id r.start (record { range = r; found = owner.1; start_is = refl }) ((f.ids id).0 refl) in
+    devices_start_apart state owner.0 id r.start f.valid (record { range = r; found = owner.1; start_is = refl }) ((f.ids id).0 refl) in
     (subst (λ (v : ℕ). IsDevice state v r) same owner.1, f.held.1)
 
 -- A held range has a device.

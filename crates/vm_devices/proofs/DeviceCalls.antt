@@ -6,13 +6,11 @@ use Rattle.std.specs.FinMap as map
 use Rattle.std.specs.List.{Contains}
 use Rattle.vm_ranges.specs.Range.{Range}
 use Rattle.vm_engine.specs.Address.{AddressState, releasing}
-use Rattle.vm_ranges.specs.Request.{Request, MakesConstraint}
+use Rattle.vm_ranges.specs.Request.{Request}
 use Rattle.vm_engine.specs.Answer.{Allocates, Frees, Makes}
 use Rattle.vm_allocator.specs.Ids.{IdState, IsHeld, MakesIds, ByLowestNotHeld, PeeksId, AllocatesId, FreesId, releasing_id}
 use Rattle.vm_ranges.specs.declared.error.Error.{Error}
 use Rattle.vm_ranges.specs.declared.error.Error.TheVariants.{Overflow, ResourceNotAvailable, NeverAllocated, OutOfMemory}
-use Rattle.vm_ranges.proofs.Requests.{constraint_made}
-use Rattle.vm_engine.proofs.Answers.Requests.{allocates_refused}
 use Rattle.vm_engine.proofs.Answers.AddressAnswers.{freeing_undoes}
 use Rattle.vm_allocator.proofs.Answers.EveryAddressCall.{every_call}
 use Rattle.vm_allocator.proofs.Callers.{given}

@@ -32,7 +32,7 @@ history_state (call ∷ calls) first last h i = history_state calls h.0 last h.2
 
 first_state : (first : DeviceState) → IsManagerMade first ⊎ BeginsWithDevices first → IsDeviceState first
 first_state first (inl m) = (made_state m.lo m.hi m.base m.size first m.id m.word m.made).0
-first_state first (inr (inl m)) = subst IsDeviceState (sym m.made.1) (record { ids = m.valid_ids; space = m.valid_space; pairs = m.made.0.pairs })
+first_state first (inr (inl m)) = subst IsDeviceState (sym m.made.2) (record { ids = m.valid_ids; space = m.valid_space; pairs = m.made.1.pairs })
 first_state first (inr (inr r)) = encoded_state r.value first r.encoded
 
 reached_state : (calls : List DeviceCall) (old : DeviceState) → AreDevicesReached calls old → IsDeviceState old

@@ -10,10 +10,10 @@ use Rattle.vm_allocator.specs.Ids.{IdState, IsHeld, IsLowestNotHeld, ByLowestNot
 use Rattle.vm_engine.proofs.Answers.AddressAnswers.{adds_range, state_is_preserved, lie_apart}
 use Rattle.vm_allocator.proofs.Callers.{range_was_free}
 use Rattle.vm_devices.specs.Devices.{DeviceState, IsDeviceState}
-use Rattle.vm_devices.specs.Checks.{IsNew, HaveDifferentStarts}
+use Rattle.vm_devices.specs.Checks.{StartsAt, IsNew}
 
 -- Held ranges with the same start are the same range.
-one_start : (space : AddressState) → IsAddressState space → (q r : Range) → Contains space.held q → Contains space.held r → q.start ≡ r.start → q ≡ r
+pub one_start : (space : AddressState) → IsAddressState space → (q r : Range) → Contains space.held q → Contains space.held r → q.start ≡ r.start → q ≡ r
 unfolding Overlaps
 one_start space i q r c d e =
     let l = lie_apart space i in
@@ -21,8 +21,8 @@ one_start space i q r c d e =
     let second = (l.inside r d).0 in
     l.apart q r c d (q.start, (omega arith, omega (arith, first)), (omega (arith, e), omega (arith, e, second)))
 
-pub devices_start_apart : (state : DeviceState) → IsDeviceState state → HaveDifferentStarts state.devices
-devices_start_apart state i j k start a b =
+pub devices_start_apart : (state : DeviceState) (j k start : ℕ) → IsDeviceState state → StartsAt state.devices j start → StartsAt state.devices k start → j ≡ k
+devices_start_apart state j k start i a b =
     let first = i.pairs.held j a.range a.found in
     let second = i.pairs.held k b.range b.found in
     let one : a.range ≡ b.range = one_start state.space i.space a.range b.range first second (a.start_is ∙ sym b.start_is) in

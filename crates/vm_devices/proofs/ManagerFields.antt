@@ -1,5 +1,5 @@
 -- The fields of a manager's value: their contents, and the error of the whole if a part has one.
-use Rattle.std.proofs.Common.{◌≡◌, ℕ, List, Some, None, Err, codes, refl, sym, ◌∙◌, subst}
+use Rattle.std.proofs.Common.{◌≡◌, ℕ, List, map as map_list, Some, None, Err, codes, refl, sym, ap, ◌∙◌, subst}
 use Rattle.std.proofs.lemmas.Option.{same_Some}
 use Rattle.serde_json.specs.Data.{Data, Items}
 use Rattle.vm_ranges.specs.Lists.{EncodesItems}
@@ -16,8 +16,10 @@ use Rattle.vm_ranges.specs.declared.saved.ValueError.{ValueError}
 use Rattle.vm_ranges.specs.declared.saved.ValueError.TheVariants.{NotAState, OutOfMemory}
 use Rattle.vm_devices.specs.Devices.{DeviceState}
 use Rattle.vm_devices.specs.Saved.{EncodesDevice, EncodesList, EncodesManager, ReadsInParts}
-use Rattle.vm_devices.specs.SavedChecks.{increasing_devices, decoded_manager}
-use Rattle.vm_devices.proofs.SavedDevices.{states-increasing}
+use Rattle.vm_devices.specs.Queries.{device_of}
+use Rattle.vm_devices.specs.SavedChecks.{decoded_manager, EncodesDevices}
+use Rattle.vm_devices.proofs.DeviceLists.{entries_again}
+use Rattle.vm_devices.proofs.Entries.{Rise}
 
 -- The value does not encode a manager.
 abbrev pub EncodesNothing : Data → Type 0
@@ -28,7 +30,7 @@ pub record ArePartsOf (d : Data) (state : DeviceState) (listed : List (ℕ × Ra
   pub ids : Data
   pub space : Data
   pub slots : Items
-  pub found : decoded_manager d ≡ Some (ids, space, slots)
+  pub found : decoded_manager d ≡ Some (1, ids, space, slots)
   pub ids_encoded : EncodesIds ids state.ids
   pub space_encoded : EncodesAddresses space state.space
   pub slots_encoded : EncodesItems EncodesDevice slots listed
@@ -51,13 +53,14 @@ parts_of d state s =
 
 -- The decoded fields of a value.
 pub record FieldsOf (d : Data) : Type 0 where
+  pub version : ℕ
   pub ids : Data
   pub space : Data
   pub slots : Items
-  pub found : decoded_manager d ≡ Some (ids, space, slots)
+  pub found : decoded_manager d ≡ Some (version, ids, space, slots)
 
-abbrev pub fields_found : (d ids space : Data) (slots : Items) → decoded_manager d ≡ Some (ids, space, slots) → FieldsOf d
-fields_found d ids space slots e = record { ids = ids; space = space; slots = slots; found = e }
+abbrev pub fields_found : (d : Data) (version : ℕ) (ids space : Data) (slots : Items) → decoded_manager d ≡ Some (version, ids, space, slots) → FieldsOf d
+fields_found d version ids space slots e = record { version = version; ids = ids; space = space; slots = slots; found = e }
 
 -- The decoded fields of a value, and the ids and the space that two of them encode.
 pub record ReadOf (d : Data) : Type 0 where
@@ -75,17 +78,20 @@ read_of d fields ids space i s = record { fields = fields; ids = ids; space = sp
 -- The fields of a manager that the value encodes.
 module _ {d : Data} (f : FieldsOf d) where
   module _ (state : DeviceState) (s : EncodesManager d state) where
-    same_parts : ◌≡◌ {A = Data × Data × Items} (f.ids, f.space, f.slots) ((parts_of d state s).ids, (parts_of d state s).space, (parts_of d state s).slots)
+    same_parts : ◌≡◌ {A = ℕ × Data × Data × Items} (f.version, f.ids, f.space, f.slots) (1, (parts_of d state s).ids, (parts_of d state s).space, (parts_of d state s).slots)
     same_parts = same_Some _ _ (sym f.found ∙ (parts_of d state s).found)
 
+    pub its_version : f.version ≡ 1
+    its_version = ap (λ (p : ℕ × Data × Data × Items). p.0) same_parts
+
     pub its_ids : EncodesIds f.ids state.ids
-    its_ids = subst (λ (p : Data × Data × Items). EncodesIds p.0 state.ids) (sym same_parts) (parts_of d state s).ids_encoded
+    its_ids = subst (λ (p : ℕ × Data × Data × Items). EncodesIds p.1 state.ids) (sym same_parts) (parts_of d state s).ids_encoded
 
     pub its_space : EncodesAddresses f.space state.space
-    its_space = subst (λ (p : Data × Data × Items). EncodesAddresses p.1 state.space) (sym same_parts) (parts_of d state s).space_encoded
+    its_space = subst (λ (p : ℕ × Data × Data × Items). EncodesAddresses p.2 state.space) (sym same_parts) (parts_of d state s).space_encoded
 
-    pub its_slots : increasing_devices 0 f.slots ≡ Some s.listed
-    its_slots = states-increasing f.slots s.listed (subst (λ (p : Data × Data × Items). EncodesItems EncodesDevice p.2 s.listed) (sym same_parts) (parts_of d state s).slots_encoded) s.increasing
+    pub its_slots : EncodesItems EncodesDevice f.slots s.listed
+    its_slots = subst (λ (p : ℕ × Data × Data × Items). EncodesItems EncodesDevice p.3 s.listed) (sym same_parts) (parts_of d state s).slots_encoded
 
   -- ---- If a part encodes nothing, the value does not encode a manager
   no_ids : ¬ ((i : IdState) × EncodesIds f.ids i) → EncodesNothing d
@@ -103,8 +109,15 @@ module _ {d : Data} (f : FieldsOf d) where
   space_refused NotAState r = no_space r
   space_refused OutOfMemory r = tt
 
+  pub slots_refused : (e : ValueError) → ReadsInParts (EncodesDevices f.slots) (Err e) → ReadsInParts (EncodesManager d) (Err e)
+  slots_refused NotAState none = λ h.
+      let listed = h.1.listed in
+      let same = sym (entries_again listed) in
+      none (map_list device_of listed, record { encoded = subst (EncodesItems EncodesDevice f.slots) same (its_slots h.0 h.1); increasing = subst Rise same h.1.increasing })
+  slots_refused OutOfMemory r = tt
+
 pub no_fields : (d : Data) → decoded_manager d ≡ None → EncodesNothing d
 no_fields d none h =
     let p = parts_of d h.0 h.1 in
-    let e : None ≡ Some (p.ids, p.space, p.slots) = sym none ∙ p.found in
+    let e : None ≡ Some (1, p.ids, p.space, p.slots) = sym none ∙ p.found in
     absurd (cc (e))

@@ -1,29 +1,31 @@
--- The list of devices in a value: decoding finds exactly the devices that it encodes.
-use Rattle.std.proofs.Common.{◌≡◌, ℕ, suc, ◌+◌, ◌<◌, ◌≤◌, leb, List, [], ◌∷◌, ◌++◌, length, get_or, drop, Option, Some, None, option_map, option_and_then, refl, sym, ap, ◌∙◌, subst, arith, append_assoc, Greater, Less, codes}
-use Rattle.std.proofs.lemmas.Bool.{le-leb, lt-leb}
-use Rattle.std.specs.Cmp.{nat_cmp_is}
-use Rattle.std.specs.BTreeMap.{insert_entry}
-use Rattle.std.specs.List.{AllByRecursion}
-use Rattle.std.specs.List.Sorted.{IsStrictlySortedBy}
-use Rattle.std.specs.Map.{keys_of}
-use Rattle.std.specs.Ordering.{nat_cmp}
+-- The list of devices in a value: the devices that are read are those that it encodes.
+use Rattle.std.proofs.Common.{◌≡◌, ℕ, ◌+◌, ◌<◌, ◌≤◌, List, [], ◌∷◌, ◌++◌, length, get_or, take, zero, suc, Some, None, option_and_then, Ok, Err, refl, sym, ap, ◌∙◌, subst, arith, codes}
+use Rattle.std.proofs.lemmas.List.{take_more, take_all}
+use Rattle.std.proofs.lemmas.Option.{same_Some}
 use Rattle.serde_json.specs.Data.{Data, Items, no_items, item}
-use Rattle.serde_json.specs.Events.{items_len}
 use Rattle.serde_json.specs.Find.{get}
 use Rattle.serde_json.specs.View.{view, items_view}
 use Rattle.serde_json.specs.declared.value.Value.{Value}
 use Rattle.vm_ranges.specs.Lists.{EncodesItems}
 use Rattle.vm_ranges.proofs.FieldSteps.{count-true, true-count, in_field, field_is}
-use Rattle.vm_ranges.proofs.Items.{items_from, less_is}
+use Rattle.vm_ranges.proofs.Lists.{encodes_more}
 use Rattle.vm_ranges.proofs.NumberSteps.{u32_in-some, some-u32}
 use Rattle.vm_ranges.proofs.Steps.{and_then_some, map_some, if_some}
 use Rattle.vm_ranges.specs.Fields.{field_count, is_count}
 use Rattle.vm_ranges.specs.Numbers.{u32_in}
 use Rattle.vm_ranges.specs.Range.{Range}
 use Rattle.vm_ranges.specs.RangeValues.{EncodesRange, decoded_range}
+use Rattle.vm_ranges.specs.Saving.{value_error}
+use Rattle.vm_ranges.specs.declared.saved.SavedError.{SavedError}
+use Rattle.vm_ranges.specs.declared.saved.SavedError.TheVariants.{Violated, OutOfMemory}
 use Rattle.vm_allocator.proofs.Callers.{found-states, states-found}
-use Rattle.vm_devices.specs.Saved.{EncodesDevice}
-use Rattle.vm_devices.specs.SavedChecks.{decoded_device, increasing_devices}
+use Rattle.vm_devices.specs.declared.device_slot.DeviceSlot.{DeviceSlot}
+use Rattle.vm_devices.specs.Listed.{entries_of, PushesDevice}
+use Rattle.vm_devices.specs.Queries.{entry_of}
+use Rattle.vm_devices.specs.Saved.{EncodesDevice, ReadsInParts}
+use Rattle.vm_devices.specs.SavedChecks.{decoded_device, EncodesDevices}
+use Rattle.vm_devices.proofs.Entries.{Rise}
+use Rattle.vm_devices.proofs.IncreasingIds.{none_rises, front_rises}
 
 -- ---- One device
 device-states : (d : Data) (e : ℕ × Range) → decoded_device d ≡ Some e → EncodesDevice d e
@@ -45,99 +47,68 @@ states-device d e s =
     let range = in_field (codes "mmio_range") d (λ v. EncodesRange v e.1) s.mmio_range in
     rw (true-count 2 (field_count d) s.two_fields, s.id, some-u32 e.0 s.word, range.1, states-found range.0 e.1 range.2) refl
 
+one_device : (d : Data) (e f : ℕ × Range) → EncodesDevice d e → EncodesDevice d f → e ≡ f
+one_device d e f s t = same_Some e f (sym (states-device d e s) ∙ states-device d f t)
+
 -- ---- The list
-pub increasing-states : (lowest : ℕ) (ds : Items) (es : List (ℕ × Range)) → increasing_devices lowest ds ≡ Some es → EncodesItems EncodesDevice ds es
-increasing-states lowest no_items [] h = tt
-increasing-states lowest no_items (e ∷ es) h = absurd (cc)
-increasing-states lowest (item d ds) es h =
-    let a = and_then_some _ (decoded_device d) es h in
-    let b = if_some (leb lowest a.0.0) _ es a.2 in
-    let m = map_some _ (increasing_devices (a.0.0 + 1) ds) es b.1 in
-    subst (EncodesItems EncodesDevice (item d ds)) m.2 (device-states d a.0 a.1, increasing-states (a.0.0 + 1) ds m.0 m.1)
+-- Items encode one list of devices.
+pub one_list : (ds : Items) (es fs : List (ℕ × Range)) → EncodesItems EncodesDevice ds es → EncodesItems EncodesDevice ds fs → es ≡ fs
+one_list no_items [] [] s t = refl
+one_list no_items [] (f ∷ fs) s t = absurd t
+one_list no_items (e ∷ es) fs s t = absurd s
+one_list (item d ds) [] fs s t = absurd s
+one_list (item d ds) (e ∷ es) [] s t = absurd t
+one_list (item d ds) (e ∷ es) (f ∷ fs) s t =
+    ap (λ (x : ℕ × Range). x ∷ es) (one_device d e f s.0 t.0) ∙ ap (λ (xs : List (ℕ × Range)). f ∷ xs) (one_list ds es fs s.1 t.1)
 
--- Each item is a device.
-pub increasing-length : (lowest : ℕ) (ds : Items) (es : List (ℕ × Range)) → increasing_devices lowest ds ≡ Some es → length es ≡ items_len ds
-increasing-length lowest no_items [] h = refl
-increasing-length lowest no_items (e ∷ es) h = absurd (cc)
-increasing-length lowest (item d ds) es h =
-    let a = and_then_some _ (decoded_device d) es h in
-    let b = if_some (leb lowest a.0.0) _ es a.2 in
-    let m = map_some _ (increasing_devices (a.0.0 + 1) ds) es b.1 in
-    ap (λ (v : List (ℕ × Range)). length v) (sym m.2) ∙ ap suc (increasing-length (a.0.0 + 1) ds m.0 m.1)
+-- The first items encode the first devices.
+front_encoded : (vs : List Value) (i : ℕ) (es : List (ℕ × Range)) → EncodesItems EncodesDevice (items_view vs) es →
+    (fs : List (ℕ × Range)) × (rest : List (ℕ × Range)) × EncodesItems EncodesDevice (items_view (take i vs)) fs × (es ≡ fs ++ rest)
+front_encoded vs zero es s = ([], es, tt, refl)
+front_encoded [] (suc i) es s = ([], es, tt, refl)
+front_encoded (v ∷ vs) (suc i) [] s = absurd s
+front_encoded (v ∷ vs) (suc i) (e ∷ es) s =
+    let f = front_encoded vs i es s.1 in
+    (e ∷ f.0, f.1, (s.0, f.2), ap (λ (xs : List (ℕ × Range)). e ∷ xs) f.3)
 
--- The ids are strictly increasing, and at least `lowest`.
-abbrev pub IncreaseFrom : ℕ → List (ℕ × Range) → Type 0
-IncreaseFrom lowest [] = Unit {0}
-IncreaseFrom lowest (e ∷ es) = (lowest ≤ e.0) × IncreaseFrom (e.0 + 1) es
-
-increases_from : (e : ℕ × Range) (es : List (ℕ × Range)) → AllByRecursion (λ k. nat_cmp e.0 k ≡ Less) (keys_of es) → IsStrictlySortedBy nat_cmp (keys_of es) → IncreaseFrom (e.0 + 1) es
-unfolding IsStrictlySortedBy
-increases_from e [] a s = tt
-increases_from e (f ∷ es) a s = let l = less_is e.0 f.0 a.0 in (omega arith, increases_from f es s.0 s.1)
-
-pub from_sorted : (es : List (ℕ × Range)) → IsStrictlySortedBy nat_cmp (keys_of es) → IncreaseFrom 0 es
-unfolding IsStrictlySortedBy
-from_sorted [] s = tt
-from_sorted (e ∷ es) s = (omega arith, increases_from e es s.0 s.1)
-
-increasing_from : (lowest : ℕ) (ds : Items) (es : List (ℕ × Range)) → EncodesItems EncodesDevice ds es → IncreaseFrom lowest es → increasing_devices lowest ds ≡ Some es
-increasing_from lowest no_items [] s r = refl
-increasing_from lowest no_items (e ∷ es) s r = absurd s
-increasing_from lowest (item d ds) [] s r = absurd s
-increasing_from lowest (item d ds) (e ∷ es) s r =
-    rw (states-device d e s.0, le-leb lowest e.0 r.0, increasing_from (e.0 + 1) ds es s.1 r.1) refl
-
-pub states-increasing : (ds : Items) (es : List (ℕ × Range)) → EncodesItems EncodesDevice ds es → IsStrictlySortedBy nat_cmp (keys_of es) → increasing_devices 0 ds ≡ Some es
-states-increasing ds es s r = increasing_from 0 ds es s (from_sorted es r)
+-- Each item encodes a device.
+some_device : (vs : List Value) (i : ℕ) (v : Value) (es : List (ℕ × Range)) → i < length vs → EncodesItems EncodesDevice (items_view vs) es → (e : ℕ × Range) × EncodesDevice (view (get_or vs i v)) e
+some_device [] i v es l s = absurd (omega (arith, l))
+some_device (w ∷ vs) i v [] l s = absurd s
+some_device (w ∷ vs) zero v (e ∷ es) l s = (e, s.0)
+some_device (w ∷ vs) (suc i) v (e ∷ es) l s = some_device vs i v es (omega (arith, l)) s.1
 
 -- ---- Item by item
-pub no_device : (lowest i : ℕ) (vs : List Value) (v : Value) → i < length vs → v ≡ get_or vs i v → decoded_device (view v) ≡ None → increasing_devices lowest (items_view (drop i vs)) ≡ None
-no_device lowest i vs v h e w = rw (items_from vs i v h e, w) refl
+-- The items so far encode the devices so far.
+abbrev pub AreReadSoFar : List Value → ℕ → List DeviceSlot → Type 0
+AreReadSoFar vs i devices = EncodesDevices (items_view (take i vs)) devices
 
-pub too_low : (lowest i : ℕ) (vs : List Value) (v : Value) (f : ℕ × Range) → i < length vs → v ≡ get_or vs i v → decoded_device (view v) ≡ Some f → f.0 < lowest →
-    increasing_devices lowest (items_view (drop i vs)) ≡ None
-too_low lowest i vs v f h e w p = rw (items_from vs i v h e, w, lt-leb lowest f.0 p) refl
+pub none_read : (vs : List Value) (devices : List DeviceSlot) → devices ≡ [] → AreReadSoFar vs 0 devices
+none_read vs devices e = rw e (record { encoded = tt; increasing = none_rises })
 
-next_increases : (lowest i : ℕ) (vs : List Value) (v : Value) (f : ℕ × Range) → i < length vs → v ≡ get_or vs i v → decoded_device (view v) ≡ Some f → lowest ≤ f.0 →
-    increasing_devices lowest (items_view (drop i vs)) ≡ option_map (λ es. f ∷ es) (increasing_devices (f.0 + 1) (items_view (drop (i + 1) vs)))
-next_increases lowest i vs v f h e w p = rw (items_from vs i v h e, w, le-leb lowest f.0 p) refl
+module _ (vs : List Value) (i : ℕ) (v : Value) (l : i < length vs) (e : v ≡ get_or vs i v) where
+  pub no_device : decoded_device (view v) ≡ None → ¬ ((all : List DeviceSlot) × EncodesDevices (items_view vs) all)
+  no_device none s =
+      let some = some_device vs i v (entries_of s.0) l s.1.encoded in
+      let found = states-device (view v) some.0 (subst (λ (x : Value). EncodesDevice (view x) some.0) (sym e) some.1) in
+      let both : None ≡ Some some.0 = sym none ∙ found in
+      absurd (cc (both))
 
--- All ids so far are below the bound.
-abbrev pub AreBelow : ℕ → List (ℕ × Range) → Type 0
-AreBelow n [] = Unit {0}
-AreBelow n (e ∷ es) = (e.0 < n) × AreBelow n es
+  module _ (devices : List DeviceSlot) (d : DeviceSlot) (s : AreReadSoFar vs i devices) (f : decoded_device (view v) ≡ Some (entry_of d)) where
+    one_more : EncodesItems EncodesDevice (items_view (take (i + 1) vs)) (entries_of (devices ++ d ∷ []))
+    one_more =
+        encodes_more EncodesDevice entry_of (take i vs) (take (i + 1) vs) v devices d
+        (take_more vs i v l ∙ ap (λ (x : Value). take i vs ++ x ∷ []) (sym e)) (device-states (view v) (entry_of d) f) s.encoded
 
-pub put_last : (lowest : ℕ) (f : ℕ × Range) (es : List (ℕ × Range)) → AreBelow lowest es → lowest ≤ f.0 → insert_entry nat_cmp es f.0 f.1 ≡ es ++ f ∷ []
-put_last lowest f [] a p = refl
-put_last lowest f (e ∷ es) a p =
-    let g : nat_cmp f.0 e.0 ≡ Greater = sym (nat_cmp_is f.0 e.0 Greater (omega arith)) in
-    rw (g, put_last lowest f es a.1 p) refl
+    pub one_read : (new : List DeviceSlot) → PushesDevice devices d (Ok tt) new → AreReadSoFar vs (i + 1) new
+    one_read new p = record { encoded = rw p.0 one_more; increasing = p.1 }
 
-pub last_below : (lowest : ℕ) (f : ℕ × Range) (es : List (ℕ × Range)) → AreBelow lowest es → lowest ≤ f.0 → AreBelow (f.0 + 1) (es ++ f ∷ [])
-last_below lowest f [] a p = (omega arith, tt)
-last_below lowest f (e ∷ es) a p = (omega arith, last_below lowest f es a.1 p)
+    pub push_refused : (error : SavedError) (new : List DeviceSlot) → PushesDevice devices d (Err error) new → ReadsInParts (EncodesDevices (items_view vs)) (Err (value_error error))
+    push_refused (Violated c) new p = λ t.
+        let front = front_encoded vs (i + 1) (entries_of t.0) t.1.encoded in
+        let same : front.0 ≡ entries_of (devices ++ d ∷ []) = one_list (items_view (take (i + 1) vs)) front.0 (entries_of (devices ++ d ∷ [])) front.2 one_more in
+        p.2 (subst Rise same (front_rises front.0 front.1 (subst Rise front.3 t.1.increasing)))
+    push_refused OutOfMemory new p = tt
 
-front_and_rest : (es : List (ℕ × Range)) (f : ℕ × Range) (o : Option (List (ℕ × Range))) → option_map (λ fs. es ++ fs) (option_map (λ fs. f ∷ fs) o) ≡ option_map (λ fs. (es ++ f ∷ []) ++ fs) o
-front_and_rest es f None = refl
-front_and_rest es f (Some fs) = ap Some (sym (append_assoc es (f ∷ []) fs))
-
--- The devices so far, and the devices that are left.
-pub record IsSoFar (vs : List Value) (i lowest : ℕ) (es : List (ℕ × Range)) : Type 0 where
-  pub so_far : increasing_devices 0 (items_view vs) ≡ option_map (λ fs. es ++ fs) (increasing_devices lowest (items_view (drop i vs)))
-  pub below : AreBelow lowest es
-
-pub one_more : (vs : List Value) (i lowest : ℕ) (es fs : List (ℕ × Range)) (v : Value) (f : ℕ × Range) → i < length vs → v ≡ get_or vs i v → decoded_device (view v) ≡ Some f →
-    lowest ≤ f.0 → IsSoFar vs i lowest es → fs ≡ insert_entry nat_cmp es f.0 f.1 → IsSoFar vs (i + 1) (f.0 + 1) fs
-one_more vs i lowest es fs v f h e w p s put =
-    let is : fs ≡ es ++ f ∷ [] = put ∙ put_last lowest f es s.below p in
-    let rest = increasing_devices (f.0 + 1) (items_view (drop (i + 1) vs)) in
-    record {
-      so_far = s.so_far ∙ ap (option_map (λ gs. es ++ gs)) (next_increases lowest i vs v f h e w p) ∙ front_and_rest es f rest ∙ ap (λ (l : List (ℕ × Range)). option_map (λ gs. l ++ gs) rest) (sym is);
-      below = subst (AreBelow (f.0 + 1)) (sym is) (last_below lowest f es s.below p);
-    }
-
--- If the items that are left are not valid, the whole list is not valid.
-pub none_left : (vs : List Value) (i lowest : ℕ) (es : List (ℕ × Range)) → IsSoFar vs i lowest es → increasing_devices lowest (items_view (drop i vs)) ≡ None → increasing_devices 0 (items_view vs) ≡ None
-none_left vs i lowest es s none = s.so_far ∙ ap (option_map (λ fs. es ++ fs)) none
-
-pub ruleset tables = (no_device, too_low, one_more, none_left)
+pub all_read : (vs : List Value) (i : ℕ) (devices : List DeviceSlot) → length vs ≤ i → AreReadSoFar vs i devices → EncodesDevices (items_view vs) devices
+all_read vs i devices l s = subst (λ (ws : List Value). EncodesDevices (items_view ws) devices) (take_all i vs l) s

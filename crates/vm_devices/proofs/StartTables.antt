@@ -1,5 +1,5 @@
 -- The ids by starts, after a device is inserted or removed.
-use Rattle.std.proofs.Common.{◌≡◌, ◌↔◌, ℕ, ◌⊎◌, List, [], ◌∷◌, ◌++◌, refl, sym, ap, ◌∙◌, inl, inr, ⊎_elim, subst, cond, arith, Option, Some, None}
+use Rattle.std.proofs.Common.{◌≡◌, ℕ, ◌⊎◌, List, refl, sym, ap, ◌∙◌, inl, inr, ⊎_elim, subst, Option, Some, None}
 use Rattle.std.proofs.lemmas.Bool.{cases_eq}
 use Rattle.std.proofs.lemmas.Option.{same_Some}
 use Rattle.std.specs.Ordering.{nat_cmp}
@@ -8,9 +8,8 @@ use Rattle.std.specs.BTreeMap.{BTreeMap, IsEmpty, IsUnchanged, Updates}
 use Rattle.std.specs.FinMap as map
 use Rattle.vm_ranges.specs.Range.{Range}
 use Rattle.vm_allocator.proofs.Callers.{keys_rise, entries_of_sorted}
-use Rattle.vm_devices.specs.Checks.{StartsAt, AreIdsByStart, IsNew, HaveDifferentStarts}
+use Rattle.vm_devices.specs.Checks.{StartsAt, AreIdsByStart, IsNew}
 use Rattle.vm_devices.proofs.Tables.{table, table_with, table_without, no_entries, with_here, with_other, without_here, without_other}
-use Rattle.vm_devices.proofs.Entries.{IsEntry, Rise, found_entry, entry_found, head_below, rest_increases, not_tied}
 
 one_value : {X : Type 0} {x y : X} {o : Option X} → o ≡ Some x → o ≡ Some y → x ≡ y
 one_value {x = x} {y = y} e f = same_Some x y (sym e ∙ f)
@@ -145,85 +144,3 @@ undone_match {slots} {ids} {id} {start} {r} left mid later h e u v =
 pub left_match : (slots without : map.FinMap nat_cmp Range) (ids later : BTreeMap ℕ ℕ) (id start : ℕ) (r : Range) → Match slots ids → map.get slots id ≡ Some r → start ≡ r.start →
     without ≡ map.remove slots id → Updates nat_cmp ids later start None → Match without later
 left_match slots without ids later id start r a d e u v = rw (u, table_without ids later start v, e) (ids_without slots (table ids) id r a d)
-
--- ---- The ids of a list of entries
--- The ids are those of the entries, by the starts of their ranges.
-abbrev pub IdsOf : List (ℕ × Range) → map.FinMap nat_cmp ℕ → Type 0
-IdsOf es ids = (start id : ℕ) → (map.get ids start ≡ Some id) ↔ ((r : Range) × IsEntry es id r × (r.start ≡ start))
-
-pub no_ids : (ids : BTreeMap ℕ ℕ) → IsEmpty ids → IdsOf [] (table ids)
-no_ids ids e start id = (
-  λ h. absurd (no_value (ap (λ (m : map.FinMap nat_cmp ℕ). map.get m start) (no_entries ids e) ∙ map.get-empty nat_cmp start) h),
-  λ h. absurd h.1,
-)
-
-entry_last : (es : List (ℕ × Range)) (e : ℕ × Range) (id : ℕ) (r : Range) → IsEntry (es ++ e ∷ []) id r → IsEntry es id r ⊎ (e ≡ (id, r))
-entry_last [] e id r (inl k) = inr k
-entry_last [] e id r (inr k) = absurd k
-entry_last (f ∷ es) e id r (inl k) = inl (inl k)
-entry_last (f ∷ es) e id r (inr k) = ⊎_elim (λ h. inl (inr h)) (λ h. inr h) (entry_last es e id r k)
-
-entry_before : (es fs : List (ℕ × Range)) (id : ℕ) (r : Range) → IsEntry es id r → IsEntry (es ++ fs) id r
-entry_before [] fs id r h = absurd h
-entry_before (f ∷ es) fs id r (inl k) = inl k
-entry_before (f ∷ es) fs id r (inr k) = inr (entry_before es fs id r k)
-
-entry_at : (es fs : List (ℕ × Range)) (e : ℕ × Range) → IsEntry (es ++ e ∷ fs) e.0 e.1
-entry_at [] fs e = inl refl
-entry_at (f ∷ es) fs e = inr (entry_at es fs e)
-
-entry_start : (all : List (ℕ × Range)) (id : ℕ) (r : Range) → Rise all → IsEntry all id r → StartsAt (map.from_entries all) id r.start
-entry_start all id r s h = record { range = r; found = map.get-from_entries nat_cmp_total all id ∙ entry_found all id r s h; start_is = refl }
-
--- The walk over the entries `all` visited `es`, and `e` is the next one.
-pub record IsNext (all es rest : List (ℕ × Range)) (e : ℕ × Range) : Type 0 where
-  pub rises : Rise all
-  pub apart : HaveDifferentStarts (map.from_entries all)
-  pub whole : es ++ e ∷ rest ≡ all
-
--- The next entry is new.
-not_before : (es rest : List (ℕ × Range)) (e : ℕ × Range) → Rise (es ++ e ∷ rest) → map.find nat_cmp e.0 es ≡ None
-not_before [] rest e s = refl
-not_before (f ∷ es) rest e s =
-    let above = head_below f (es ++ e ∷ rest) e.0 e.1 s (entry_at es rest e) in
-    ap (λ t. cond t (Some f.1) (map.find nat_cmp e.0 es)) (not_tied e.0 f.0 (λ k. omega (arith, above, k)))
-    ∙ not_before es rest e (rest_increases f (es ++ e ∷ rest) s)
-
-pub pushed_entry : {all : List (ℕ × Range)} (es rest : List (ℕ × Range)) (e : ℕ × Range) → IsNext all es rest e
-    → map.from_entries {R = nat_cmp} (es ++ e ∷ []) ≡ map.insert (map.from_entries es) e.0 e.1
-pushed_entry es rest e n = map.from_entries_push nat_cmp_total map.nat_cmp-IsAntisymmetric es e.0 e.1 (not_before es rest e (rw n.whole n.rises))
-
-pub more_ids : {all es rest : List (ℕ × Range)} {e : ℕ × Range} (old new : BTreeMap ℕ ℕ) (start : ℕ) → IsNext all es rest e → start ≡ e.1.start →
-    Updates nat_cmp old new start (Some e.0) → IdsOf es (table old) → IdsOf (es ++ e ∷ []) (table new)
-more_ids {all} {es} {rest} {e} old new start n s u h q id =
-    rw (table_with old new start e.0 u)
-    (⊎_elim
-    (λ (k : q ≡ start).
-    let here : map.get (map.insert (table old) start e.0) q ≡ Some e.0 = ap (λ (v : ℕ). map.get (map.insert (table old) start e.0) v) k ∙ with_here (table old) start e.0 in (
-      λ g. subst (λ (v : ℕ). (r : Range) × IsEntry (es ++ e ∷ []) v r × (r.start ≡ q)) (one_value here g) (e.1, entry_at es [] e, sym s ∙ sym k),
-      λ g.
-          ⊎_elim
-          (λ (t : IsEntry es id g.0).
-          let first = entry_start all id g.0 n.rises (subst (λ (l : List (ℕ × Range)). IsEntry l id g.0) n.whole (entry_before es (e ∷ rest) id g.0 t)) in
-          let second = entry_start all e.0 e.1 n.rises (subst (λ (l : List (ℕ × Range)). IsEntry l e.0 e.1) n.whole (entry_at es rest e)) in
-          let alike : g.0.start ≡ e.1.start = g.2 ∙ k ∙ s in
-          here ∙ ap Some (sym (n.apart id e.0 e.1.start (subst (StartsAt (map.from_entries all) id) alike first) second)))
-          (λ (t : e ≡ (id, g.0)). here ∙ ap (λ (v : ℕ × Range). Some v.0) t)
-          (entry_last es e id g.0 g.1),
-    ))
-    (λ (k : q ≡ start → ⊥).
-    let same = with_other (table old) start e.0 q k in (
-      λ g. let f = (h q id).0 (sym same ∙ g) in (f.0, entry_before es (e ∷ []) id f.0 f.1, f.2),
-      λ g.
-          ⊎_elim
-          (λ (t : IsEntry es id g.0). same ∙ (h q id).1 (g.0, t, g.2))
-          (λ (t : e ≡ (id, g.0)). absurd (k (sym g.2 ∙ sym (ap (λ (v : ℕ × Range). v.1.start) t) ∙ sym s)))
-          (entry_last es e id g.0 g.1),
-    ))
-    (cases_eq q start))
-
-pub all_ids : (es : List (ℕ × Range)) (ids : BTreeMap ℕ ℕ) → Rise es → IdsOf es (table ids) → Match (map.from_entries es) ids
-all_ids es ids s h start id = (
-  λ g. let f = (h start id).0 g in subst (StartsAt (map.from_entries es) id) f.2 (entry_start es id f.0 s f.1),
-  λ g. (h start id).1 (g.range, found_entry es id g.range (sym (map.get-from_entries nat_cmp_total es id) ∙ g.found), g.start_is),
-)

@@ -25,10 +25,6 @@ pub record IsNew (devices : map.FinMap nat_cmp Range) (id start : ℕ) : Type 0 
   pub id_is_new : map.get devices id ≡ None
   pub start_is_new : (other : ℕ) → ¬ StartsAt devices other start
 
--- No two ranges of devices start at the same address.
-abbrev pub HaveDifferentStarts : map.FinMap nat_cmp Range → Type 0
-HaveDifferentStarts devices = (i j start : ℕ) → StartsAt devices i start → StartsAt devices j start → i ≡ j
-
 -- The managers have equal allocators.
 abbrev pub HaveSameAllocators : DeviceState → DeviceState → Type 0
 HaveSameAllocators a b = (a.ids ≡ b.ids) × (a.space ≡ b.space)

@@ -12,7 +12,7 @@ use Rattle.vm_ranges.specs.declared.error.Error.{Error}
 use Rattle.vm_ranges.specs.declared.error.Error.TheVariants.{OutOfMemory}
 use Rattle.vm_devices.specs.declared.device_slot.DeviceSlot.{DeviceSlot}
 use Rattle.vm_devices.specs.Devices.{DeviceState, IsDevice, MakesManager, Reserves, Releases}
-use Rattle.vm_devices.specs.Listed.{MakesListed}
+use Rattle.vm_devices.specs.Listed.{MakesOfDevices}
 use Rattle.vm_devices.specs.Saved.{EncodesManager}
 
 -- A call with its result: a reservation by a request, a release by an id, or the creation of a clone.
@@ -64,12 +64,13 @@ pub record IsManagerMade (state : DeviceState) : Type 0 where
 
 -- The state of a manager that was created of both allocators and their devices.
 pub record IsManagerListed (state : DeviceState) : Type 0 where
+  pub version : ℕ
   pub ids : IdState
   pub space : AddressState
   pub devices : List DeviceSlot
   pub valid_ids : IsIdState ids
   pub valid_space : IsAddressState space
-  pub made : MakesListed ids space devices (Ok state)
+  pub made : MakesOfDevices version ids space devices (Ok state)
 
 -- A state that a saved value encodes.
 pub record IsManagerRead (state : DeviceState) : Type 0 where

@@ -1,5 +1,5 @@
 -- Laws of every history of a manager of devices that was made or read.
-use Rattle.std.specs.Prelude.{◌≡◌, ◌≢◌, ℕ, ◌<◌, ◌≤◌, ◌⊎◌, ◌↔◌, List, map, length, Option, Some, Result, Ok, Err, MatchResult}
+use Rattle.std.specs.Prelude.{◌≡◌, ◌≢◌, ℕ, ◌<◌, ◌≤◌, ◌⊎◌, ◌↔◌, List, ◌∷◌, ◌++◌, map, length, Option, Some, Result, Ok, Err, MatchResult}
 use Rattle.std.specs.List.{All, Contains}
 use Rattle.serde_json.specs.Data.{Data}
 use Rattle.serde_json.specs.Errors.{IsMemory}
@@ -14,11 +14,14 @@ use Rattle.vm_engine.specs.Answer.{SPLIT_LIMIT_MIN_HELD}
 use Rattle.vm_allocator.specs.Ids.{IsOfRange, held_count, held_ids}
 use Rattle.vm_ranges.specs.declared.error.Error.{Error}
 use Rattle.vm_ranges.specs.declared.error.Error.TheVariants.{Overflow, OutOfMemory}
+use Rattle.vm_ranges.specs.declared.saved.SavedError.{SavedError}
+use Rattle.vm_ranges.specs.declared.saved.SavedError.TheVariants as saved_errors
 use Rattle.vm_ranges.specs.declared.saved.ValueError.{ValueError}
 use Rattle.vm_ranges.specs.declared.saved.ValueError.TheVariants as unread
 use Rattle.vm_ranges.specs.declared.constraint.AllocPolicy.TheVariants.{ExactMatch}
 use Rattle.vm_devices.specs.declared.device_slot.DeviceSlot.{DeviceSlot}
 use Rattle.vm_devices.specs.Devices.{DeviceState, IsDevice, IsDeviceState, MakesManager, Reserves, Releases}
+use Rattle.vm_devices.specs.Listed.{HaveIncreasingIds, PushesDevice, listed_state, AreDevicesOf, MakesOfDevices}
 use Rattle.vm_devices.specs.Queries.{device_list, device_count, DeviceAt}
 use Rattle.vm_devices.specs.Saved.{EncodesManager, ReadsInParts}
 use Rattle.vm_devices.specs.Histories.{DeviceCall, DeviceAsked, device_asked_by, RunsOutOfMemory, IsDeviceHistoryFrom, AreDevicesReached, WasReserved, WasThereFirst}
@@ -115,6 +118,25 @@ pub record DevicesAreListed : Type 0 where
   pub counted : (state : DeviceState) → IsDeviceState state →
       (length (device_list state) ≡ device_count state) × (device_count state ≡ held_count state.ids)
       × (device_count state ≡ length state.space.held)
+
+-- The parts of a manager are read as this manager: its ids, its space and the devices that `devices` returns. `push`
+-- accepts each of these devices, and `from_devices` returns the manager, unless memory runs out.
+pub record WrittenManagersAreRead : Type 0 where
+  pub increasing : (state : DeviceState) → IsDeviceState state → HaveIncreasingIds (device_list state)
+  pub accepted : (state : DeviceState) → IsDeviceState state → AreDevicesOf state.ids state.space (device_list state)
+  pub same : (state : DeviceState) → IsDeviceState state → listed_state state.ids state.space (device_list state) ≡ state
+  pub pushed : (state : DeviceState) (front rest : List DeviceSlot) (device : DeviceSlot)
+      (answer : Result (Unit {0}) SavedError) (new : List DeviceSlot) →
+      IsDeviceState state → device_list state ≡ front ++ device ∷ rest →
+      PushesDevice front device answer new → (answer ≡ Ok tt) ⊎ (answer ≡ Err saved_errors.OutOfMemory)
+  pub read : (state : DeviceState) (answer : Result DeviceState SavedError) → IsDeviceState state →
+      MakesOfDevices 1 state.ids state.space (device_list state) answer →
+      (answer ≡ Ok state) ⊎ (answer ≡ Err saved_errors.OutOfMemory)
+
+-- Managers are equal if and only if their ids, their spaces and the lists of their devices are.
+abbrev pub EqualManagersHaveEqualParts : Type 0
+EqualManagersHaveEqualParts =
+    (a b : DeviceState) → (a ≡ b) ↔ ((a.ids ≡ b.ids) × (a.space ≡ b.space) × (device_list a ≡ device_list b))
 
 -- The device at an address of a device's range is this device.
 abbrev pub DeviceIsAtItsAddresses : Type 0

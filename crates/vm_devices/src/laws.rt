@@ -11,6 +11,8 @@ ghost use Rattle.vm_devices.specs.Laws.{
   ManagerIsReadAgain,
   ManagerIsReadFromText,
   DevicesAreListed,
+  WrittenManagersAreRead,
+  EqualManagersHaveEqualParts,
   DeviceIsAtItsAddresses,
 };
 
@@ -62,6 +64,14 @@ fn texts_are_read()
 #[tactic(auto, using(crate::proofs::DeviceQueries::queries))]
 fn devices_are_listed()
     ensures { DevicesAreListed }
+{}
+
+/// Proves that the ids, the space and the devices of a manager are accepted by `push` and
+/// `from_devices`, and make the same manager. Managers with equal parts are equal.
+#[tactic(auto, using(crate::proofs::WrittenManagers::written))]
+fn written_managers_are_read()
+    ensures read { WrittenManagersAreRead }
+    ensures equal { EqualManagersHaveEqualParts }
 {}
 
 /// Proves that `device_at` returns the device of each address of a device's range.

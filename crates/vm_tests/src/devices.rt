@@ -9,7 +9,7 @@ use vm_allocator::allocation_engine::NodeState::Allocated;
 use vm_allocator::{AddressAllocator, AllocPolicy, Constraint, Error, RangeInclusive, Result};
 use vm_devices::DeviceManager;
 
-mod listed;
+mod read_devices;
 mod reserving;
 mod saved;
 mod without_memory;

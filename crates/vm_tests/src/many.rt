@@ -13,7 +13,7 @@ use std::process::Abort;
 use vm_allocator::{
     AddressAllocator, AllocPolicy, Constraint, Error, IdAllocator, ListError, ReadIds,
 };
-use vm_devices::DeviceManager;
+use vm_devices::{DeviceManager, ReadDevices};
 
 /// The number of allocated ranges, ids or devices.
 const MANY: u64 = 100_000;
@@ -263,7 +263,7 @@ fn devices_listed_and_compared(rt: HostRuntime) {
     let devices = reserved(&rt);
     let clone = devices.try_clone(rt.alloc()).expect(&rt, ENOUGH);
     assert!(rt; clone == devices);
-    let mut list = list_for(&rt, 0);
+    let mut list = ReadDevices::new(rt.alloc());
     let mut id = 0u32;
     for device in devices.devices() {
         let want = (id, u64::from(id).saturating_mul(16));
@@ -273,7 +273,7 @@ fn devices_listed_and_compared(rt: HostRuntime) {
     }
     let ids = devices.ids().try_clone(rt.alloc()).expect(&rt, ENOUGH);
     let space = cloned(&rt, devices.addresses());
-    let again = DeviceManager::with_devices(rt.alloc(), ids, space, &list);
+    let again = DeviceManager::from_devices(rt.alloc(), 1, ids, space, &list);
     assert!(rt; again.expect(&rt, ENOUGH) == devices);
 }
 

@@ -1,7 +1,7 @@
 //! The table of the devices. It finds a range by its id, and an id by the start of its range.
 ghost use Rattle.std.specs.Prelude.{◌≡◌, ◌↔◌, ℕ, Some, map as map_list, IfOk, OnOk, OnErr};
 ghost use Rattle.std.specs.FinMap as map;
-ghost use Rattle.vm_devices.specs.Checks.{StartsAt, IsNew, HaveDifferentStarts};
+ghost use Rattle.vm_devices.specs.Checks.{StartsAt, IsNew};
 ghost use Rattle.vm_devices.specs.Queries.{device_of};
 
 use super::slots::{Devices, Slots};
@@ -44,27 +44,6 @@ impl DeviceTable {
             slots: Slots::new(alloc),
             ids_by_start: BTreeMap::new(alloc),
         }
-    }
-
-    /// Creates a table from the ranges by ids. It has a slot for each id between the lowest and the
-    /// highest, so the ids must be checked first.
-    pub(super) fn from_map(
-        alloc: Global,
-        ranges: BTreeMap<u32, RangeInclusive>,
-    ) -> Result<DeviceTable, AllocError>
-        requires { HaveDifferentStarts (map.from_entries ranges.entries) }
-        ensures { IfOk result (λ table. table ≡ map.from_entries ranges.entries) }
-    {
-        let mut slots = Slots::new(alloc);
-        let mut ids_by_start = BTreeMap::new(alloc);
-        for (id, range) in ranges.iter() {
-            slots.insert(alloc, *id, *range)?;
-            ids_by_start.insert(range.start(), *id)?;
-        }
-        Ok(DeviceTable {
-            slots,
-            ids_by_start,
-        })
     }
 
     /// Returns a copy.

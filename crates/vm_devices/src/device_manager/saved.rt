@@ -6,21 +6,16 @@ ghost use Rattle.vm_devices.specs.Devices.{IsDeviceState};
 ghost use Rattle.vm_devices.specs.Saved.{EncodesManager, ReadsInParts};
 ghost use Rattle.vm_devices.specs.SavedChecks.{decoded_manager, ManagerParts};
 
-mod listed;
-mod pairing;
+pub(super) mod read_devices;
 mod slots;
 
-use self::pairing::read_devices;
-use self::slots::encode_slots;
+use self::read_devices::VERSION;
+use self::slots::{encode_slots, read_slots};
 use super::DeviceManager;
-use super::device_table::DeviceTable;
 use serde_json::{Value, json};
 use std::alloc::{AllocError, Global};
 use vm_allocator::{AddressAllocator, IdAllocator, Result, ValueError};
 use vm_ranges::{has_fields, list_in, number_in};
-
-/// The version of the saved value.
-const VERSION: u64 = 1;
 
 impl DeviceManager {
     /// Encodes the manager as a value: its version, its ids, its space and its devices, by
@@ -61,15 +56,10 @@ impl DeviceManager {
         let Some(fields) = decode_fields(value) else {
             return Err(ValueError::NotAState);
         };
-        let id_allocator = IdAllocator::from_value(alloc, fields.ids)?;
-        let mmio_allocator = AddressAllocator::from_value(alloc, fields.space)?;
-        let listed = read_devices(alloc, &id_allocator, &mmio_allocator, fields.slots)?;
-        let slots = DeviceTable::from_map(alloc, listed)?;
-        Ok(DeviceManager {
-            id_allocator,
-            mmio_allocator,
-            slots,
-        })
+        let ids = IdAllocator::from_value(alloc, fields.ids)?;
+        let space = AddressAllocator::from_value(alloc, fields.space)?;
+        let devices = read_slots(alloc, fields.slots)?;
+        Ok(Self::from_devices(alloc, fields.version, ids, space, &devices)?)
     }
 }
 
@@ -89,21 +79,28 @@ fn manager_object(
 /// The values of the fields of a manager's value.
 #[derive(Drop)]
 struct Fields<'a> {
+    version: u64,
     ids: &'a Value,
     space: &'a Value,
     slots: &'a Vec<Value>,
 }
 
-/// Returns the fields of a value, or `None` if they are not those of a manager of this version.
+/// Returns the fields of a value, or `None` if they are not those of a manager.
 fn decode_fields(value: &Value) -> Option<Fields<'_>>
-    ensures { option_map (λ f. (view f.ids.now, view f.space.now, items_view f.slots.now.items)) result
+    ensures { option_map (λ f. (f.version, view f.ids.now, view f.space.now, items_view f.slots.now.items)) result
         ≡ decoded_manager (view value.now) }
 {
-    if !has_fields(value, 4) || number_in(value, "version")? != VERSION {
+    if !has_fields(value, 4) {
         return None;
     }
+    let version = number_in(value, "version")?;
     let ids = value.get("id_allocator")?;
     let space = value.get("mmio_allocator")?;
     let slots = list_in(value, "slots")?;
-    Some(Fields { ids, space, slots })
+    Some(Fields {
+        version,
+        ids,
+        space,
+        slots,
+    })
 }

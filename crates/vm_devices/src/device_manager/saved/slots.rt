@@ -3,15 +3,15 @@ ghost use Rattle.std.specs.Prelude.{◌≡◌, map, IfOk, option_map};
 ghost use Rattle.serde_json.specs.View.{view, items_view};
 ghost use Rattle.vm_ranges.specs.Saving.{Saves};
 ghost use Rattle.vm_devices.specs.Queries.{entry_of};
-ghost use Rattle.vm_devices.specs.Saved.{EncodesDevice, EncodesList};
-ghost use Rattle.vm_devices.specs.SavedChecks.{decoded_device, FindsDevices, DeviceParts};
+ghost use Rattle.vm_devices.specs.Saved.{EncodesDevice, EncodesList, ReadsInParts};
+ghost use Rattle.vm_devices.specs.SavedChecks.{decoded_device, EncodesDevices, DeviceParts};
 
+use super::read_devices::ReadDevices;
 use crate::device_manager::slots::Devices;
 use crate::device_slot::DeviceSlot;
 use serde_json::{Value, json};
 use std::alloc::{AllocError, Global};
-use std::collections::BTreeMap;
-use vm_allocator::{RangeInclusive, Result, ValueError};
+use vm_allocator::{Result, ValueError};
 use vm_ranges::{has_fields, range_in, u32_in};
 
 /// Encodes the devices as a list.
@@ -41,33 +41,27 @@ fn slot_object(alloc: Global, id: u32, range: Value) -> std::result::Result<Valu
     json!(in alloc; {"id": id, "mmio_range": range})
 }
 
-/// Reads the table of the devices of a list. Returns `NotAState` if an item is not a device, or if
-/// the ids are not in strictly increasing order.
-#[tactic(auto, using(crate::proofs::SavedDevices::tables))]
+/// Reads the devices of a list. Returns `NotAState` if an item is not a device, or if the ids are
+/// not in strictly increasing order.
 pub(super) fn read_slots(
     alloc: Global,
     list: &[Value],
-) -> std::result::Result<BTreeMap<u32, RangeInclusive>, ValueError>
-    ensures { FindsDevices (items_view list.now) result }
+) -> std::result::Result<ReadDevices, ValueError>
+    ensures { ReadsInParts (EncodesDevices (items_view list.now)) result }
 {
-    let mut slots = BTreeMap::new(alloc);
-    let mut lowest = 0u64;
+    let mut devices = ReadDevices::new(alloc);
     for item in list {
-        let Some(slot) = decode_slot(item) else {
+        let Some(device) = decode_slot(item) else {
             return Err(ValueError::NotAState);
         };
-        if u64::from(slot.id) < lowest {
-            return Err(ValueError::NotAState);
-        }
-        slots.insert(slot.id, slot.range)?;
-        lowest = u64::from(slot.id) + 1;
+        devices.push(device)?;
     }
-    Ok(slots)
+    Ok(devices)
 }
 
 /// Decodes a device. Returns `None` if the value is not a device.
 fn decode_slot(value: &Value) -> Option<DeviceSlot>
-    ensures { option_map (λ slot. (slot.id, slot.range)) result ≡ decoded_device (view value.now) }
+    ensures { option_map entry_of result ≡ decoded_device (view value.now) }
 {
     if !has_fields(value, 2) {
         return None;

@@ -3,7 +3,7 @@ use Rattle.vm_ranges.specs.Request.{request_for}
 use Rattle.vm_allocator.specs.Allocator.{state_of}
 use Rattle.vm_devices.specs.Devices.{devices_of}
 use Rattle.vm_devices.proofs.Callers.{device_lowest, device_state}
-use Rattle.vm_devices.proofs.DeviceCalls.{Parts, range_refused, outcome}
+use Rattle.vm_devices.proofs.DeviceCalls.{range_refused, outcome}
 use Rattle.vm_devices.proofs.DeviceStarts.{new_device}
 use Rattle.vm_devices.proofs.device_manager.DeviceManager.reserve.Goals as goal
 

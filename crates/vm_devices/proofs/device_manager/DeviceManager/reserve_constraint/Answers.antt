@@ -2,7 +2,7 @@ use Rattle.std.proofs.Common.{◌≡◌, ap, Err, rules}
 use Rattle.vm_allocator.specs.Allocator.{state_of}
 use Rattle.vm_devices.specs.Devices.{devices_of}
 use Rattle.vm_devices.proofs.Callers.{device_lowest, device_state}
-use Rattle.vm_devices.proofs.DeviceCalls.{Parts, range_refused, outcome}
+use Rattle.vm_devices.proofs.DeviceCalls.{range_refused, outcome}
 use Rattle.vm_devices.proofs.DeviceStarts.{new_device}
 use Rattle.vm_devices.proofs.device_manager.DeviceManager.reserve_constraint.Goals as goal
 

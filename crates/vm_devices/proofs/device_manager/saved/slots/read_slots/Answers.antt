@@ -1,12 +1,29 @@
-use Rattle.std.proofs.Common.{ℕ, ◌≤◌, sym, arith}
-use Rattle.vm_ranges.specs.Range.{Range}
-use Rattle.vm_devices.proofs.SavedDevices.{one_more}
+use Rattle.std.proofs.Common.{◌≡◌, ◌≤◌, length, Err, arith, sym, rules}
+use Rattle.vm_ranges.specs.Saving.{value_error}
+use Rattle.vm_devices.proofs.SavedDevices.{none_read, no_device, one_read, push_refused, all_read}
 use Rattle.vm_devices.proofs.device_manager.saved.slots.read_slots.Goals as goal
+
+pub loop-item-init : goal.loop-item-init
+loop-item-init c = none_read c.args.list.now c.new-devices.result c.new-devices.ensures
+
+pub returns-in_default : goal.returns-in_default
+returns-in_default c =
+    no_device c.args.list.now c.loop-item.item-index c.item-item.result c.loop-item-test.true c.item-item.is (sym c.in_default.ensures)
+
+pub returns-in_err-push : goal.returns-in_err-push
+returns-in_err-push c =
+    let e = c.in_err-push.field-0.0 in
+    let is : c.from_residual.result ≡ Err (value_error e) = search rules in
+    rw is
+    (push_refused c.args.list.now c.loop-item.item-index c.item-item.result c.loop-item-test.true c.item-item.is c.loop-item.devices c.in-Some.device c.loop-item.invariant (sym c.in-Some.ensures)
+    e c.push.new.self c.in_err-push.ensures)
 
 pub loop-item-preserved : goal.loop-item-preserved
 loop-item-preserved c =
-    let device : ℕ × Range = (c.in-Some.slot.id, c.in-Some.slot.range) in
-    let above : c.loop-item.lowest ≤ device.0 = omega (arith, c.if-from-lowest.false, c.from.ensures) in
-    rw c.from-lowest.ensures
-    (one_more c.args.list.now c.loop-item.item-index c.loop-item.lowest c.loop-item.slots.entries c.insert.new.self.entries c.item-item.result device
-    c.loop-item-test.true c.item-item.is (sym c.in-Some.ensures) above c.loop-item.invariant c.in_ok-insert.ensures.entries)
+    one_read c.args.list.now c.loop-item.item-index c.item-item.result c.loop-item-test.true c.item-item.is c.loop-item.devices c.in-Some.device c.loop-item.invariant (sym c.in-Some.ensures)
+    c.push.new.self c.in_ok-push.ensures
+
+pub returns : goal.returns
+returns c =
+    let all : length c.args.list.now ≤ c.loop-item.item-index = omega (arith, c.loop-item-test.false) in
+    all_read c.args.list.now c.loop-item.item-index c.loop-item.devices all c.loop-item.invariant

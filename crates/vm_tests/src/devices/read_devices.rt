@@ -1,8 +1,9 @@
-//! Tests of the list of devices, of the device at an address, of equality and of copies.
+//! Tests of the list of devices, of the device at an address, of equality, of copies, and of devices
+//! that are read one by one.
 use super::*;
 use crate::fixtures::{fail_from_here, holds_exactly};
-use vm_allocator::ValueError;
-use vm_devices::DeviceSlot;
+use vm_devices::{DeviceSlot, ReadDevices};
+use vm_ranges::{Condition, SavedError};
 
 /// Returns the id of a device, and the ends of its range.
 fn parts(device: DeviceSlot) -> (u32, u64, u64) {
@@ -144,36 +145,42 @@ fn equal_and_cloned(rt: HostRuntime) {
     expect_true(&rt, same_parts && clone != devices, &"other pairs");
 }
 
-/// Creates a manager of the allocators of another one, and of its devices with these ids.
+/// A version, and devices that have the ids and the ranges of devices with these ids.
+#[derive(Clone, Copy)]
+struct Parts<'a> {
+    version: u64,
+    devices: &'a [(u32, u32)],
+}
+
+/// Creates a manager of the allocators of another one, and of other parts.
 fn of_parts(
     alloc: Global,
     devices: &DeviceManager,
-    listed: &[u32],
-) -> std::result::Result<DeviceManager, ValueError> {
+    parts: Parts<'_>,
+) -> std::result::Result<DeviceManager, SavedError> {
     let Ok(ids) = devices.ids().try_clone(alloc) else {
-        return Err(ValueError::OutOfMemory);
+        return Err(SavedError::OutOfMemory);
     };
     let Ok(space) = devices.addresses().try_clone(alloc) else {
-        return Err(ValueError::OutOfMemory);
+        return Err(SavedError::OutOfMemory);
     };
-    let mut slots = Vec::new(alloc);
-    for id in listed {
-        let Some(range) = devices.slot(*id) else {
-            return Err(ValueError::NotAState);
-        };
-        slots.push(DeviceSlot { id: *id, range })?;
+    let mut read = ReadDevices::new(alloc);
+    for (id, other) in parts.devices {
+        if let Some(range) = devices.slot(*other) {
+            read.push(DeviceSlot { id: *id, range })?;
+        }
     }
-    DeviceManager::with_devices(alloc, ids, space, &slots)
+    DeviceManager::from_devices(alloc, parts.version, ids, space, &read)
 }
 
 /// Creates a manager of parts. If memory runs out, it repeats the call.
 fn made_of_parts(
     alloc: Global,
     devices: &DeviceManager,
-    listed: &[u32],
-) -> std::result::Result<DeviceManager, ValueError> {
-    match of_parts(alloc, devices, listed) {
-        Err(ValueError::OutOfMemory) => of_parts(alloc, devices, listed),
+    parts: Parts<'_>,
+) -> std::result::Result<DeviceManager, SavedError> {
+    match of_parts(alloc, devices, parts) {
+        Err(SavedError::OutOfMemory) => of_parts(alloc, devices, parts),
         answer => answer,
     }
 }
@@ -181,11 +188,36 @@ fn made_of_parts(
 #[test]
 fn created_of_parts(rt: HostRuntime) {
     let devices = three(&rt);
-    let again = made_of_parts(rt.alloc(), &devices, &[3, 4, 5]).expect(&rt, "the same parts");
+    let parts = Parts {
+        version: 1,
+        devices: &[(3, 3), (4, 4), (5, 5)],
+    };
+    let again = made_of_parts(rt.alloc(), &devices, parts).expect(&rt, "the same parts");
     expect_true(&rt, again == devices, &"the same manager");
     expect_three(&rt, &again);
-    let too_few = made_of_parts(rt.alloc(), &devices, &[3, 4]).is_err();
-    let wrong_order = made_of_parts(rt.alloc(), &devices, &[3, 5, 4]).is_err();
-    let twice = made_of_parts(rt.alloc(), &devices, &[3, 4, 4]).is_err();
-    expect_true(&rt, too_few && wrong_order && twice, &"other lists");
+    let other = Parts {
+        version: 2,
+        ..parts
+    };
+    let error = made_of_parts(rt.alloc(), &devices, other).err();
+    expect_true(
+        &rt,
+        error == Some(SavedError::Violated(Condition::Version)),
+        &"another version",
+    );
+    let rows: &[(&[(u32, u32)], Condition)] = &[
+        (&[(3, 3), (4, 4)], Condition::Devices),
+        (&[(3, 3), (5, 5), (4, 4)], Condition::Order),
+        (&[(3, 3), (4, 4), (4, 4)], Condition::Order),
+        (&[(3, 3), (4, 4), (5, 4)], Condition::Devices),
+        (&[(3, 3), (4, 4), (6, 5)], Condition::Devices),
+    ];
+    for (listed, condition) in rows {
+        let other = Parts {
+            version: 1,
+            devices: listed,
+        };
+        let error = made_of_parts(rt.alloc(), &devices, other).err();
+        expect_true(&rt, error == Some(SavedError::Violated(*condition)), listed);
+    }
 }
