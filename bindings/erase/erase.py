@@ -6,7 +6,8 @@ the prover uses.
 
 PROJECT/crates.txt names the crates and their dependencies. Each library that a program needs is written to
 OUT/NAME, and the module of all of them is OUT/mod.rs. The crate has it as `proved`, and `rattle` next to it.
-With --tests, every library is written, with its tests, and the crate also needs a module `testing`.
+Files that import serde_json are left out. With --tests, every file of every library is written, with its
+tests, and the crate also needs the modules `testing` and `value`.
 
 README.md lists what the eraser removes, what it changes, and what it rejects: an error names the file, the
 line and the text. The compiler checks the names that tests use."""
@@ -24,13 +25,12 @@ FOLDERS = {
     "std::alloc": ("crate::rattle", {"AllocError", "AllocFailed", "Global"}),
     "std::cmp": ("core::cmp", {"Ordering"}),
     "std::collections": ("crate::rattle", {"BTreeMap", "BTreeSet"}),
-    "std::collections::btree_map": ("crate::rattle::btree_map", {"Iter"}),
     "std::collections::btree_set": ("crate::rattle::btree_set", {"Iter"}),
     "std::io": ("std::io", {"Read", "Write"}),
     "std::marker": (None, {"Model"}),
     "std::result": ("core::result", {"Result"}),
     "std::simd::prelude": ("crate::rattle::simd", {"*"}),
-    "serde_json": ("crate::rattle", {"Value", "json"}),
+    "serde_json": ("crate::value", {"Value", "json"}),
     "thiserror": (None, {"Error"}),
 }
 FOLDERS_OF_TESTS = {
@@ -75,6 +75,9 @@ REFUSED_WORDS = set("""async await become box char decreases dyn extern f32 f64 
     i128 invariant isize macro_rules prove prove_eq trait try union unsafe where yield""".split())
 CLAUSES = {"ensures", "requires"}
 
+# What makes a file one of values.
+IMPORT_OF_VALUES = "\nuse serde_json::"
+
 # ---- Text that is added ----
 
 ORIGIN = "// Written by bindings/erase from {}: do not edit.\n"
@@ -85,8 +88,11 @@ MODULES = ORIGIN.format("crates.txt") + """
 #![allow(clippy::enum_variant_names, clippy::wrong_self_convention)]
 #![allow(clippy::needless_range_loop, clippy::only_used_in_recursion)]
 #![allow(clippy::question_mark, clippy::while_let_on_iterator)]
+#![allow(unused_imports)]
 """
-ATTRIBUTES_WITH_TESTS = "#![allow(dead_code, unused_assignments, unused_imports, unused_variables)]\n"
+ATTRIBUTES_WITH_TESTS = "#![allow(dead_code, unused_assignments, unused_variables)]\n"
+# The code that is only for values in a file that is not, and the error that only vm-allocator returns.
+UNREACHED = re.compile(r"^ *(?=(?:pub\(.*\) fn (?:count_clear|count_held)|Overlap)\()", re.MULTILINE)
 PRELUDE_OF_TESTS = "use crate::testing::*;\nuse crate::testing::{assert, assert_eq};\n"
 RUNTIME = "{\n    let rt = HostRuntime;"
 DISPLAY = """
@@ -377,6 +383,9 @@ class File(Tokens):
                 self.import_of_crate(first, index)
         if folder and folder[0] and folder[0] != name:
             self.cut(first, rest - 1, folder[0])
+        words = [token.text for token in self.tokens[first:end] if token.kind == "word"]
+        if os.path.join(self.children, *words[:-len(leaves)]) in self.crate.left_out:
+            return end + 1, False
         if not self.at(item.keyword - 1, "pub") and not self.at(item.keyword - 1, ")"):
             self.imports.append((item.start, end, leaves))
         return end + 1, not (folder and folder[0] is None)
@@ -626,7 +635,8 @@ class File(Tokens):
             text, last = text + instead, max(end, last)
             if text.endswith("\n\n") and self.text[last:].lstrip(" ").startswith("}"):
                 text = text[:-1]
-        return ORIGIN.format(self.path) + "\n" + (text + self.text[last:]).strip("\n") + "\n"
+        text = UNREACHED.sub(r"\g<0>#[allow(dead_code)] ", text + self.text[last:])
+        return ORIGIN.format(self.path) + "\n" + text.strip("\n") + "\n"
 
     def modules_of_crates(self):
         """Returns the replacements of the names of crates by their modules."""
@@ -670,7 +680,7 @@ class Crate:
         self.asks_for_std = False
         self.root = os.path.join(self.folder, "lib.rt")
         self.names, self.functions, self.guarded = set(), set(), set()  # guarded: types with ghosts
-        self.files = {}
+        self.files, self.left_out = {}, set()  # left_out: files of values, without `.rt`
         self.files[self.root] = File(self, self.root, of_tests)
         for file in self.files.values():
             file.check()
@@ -680,6 +690,9 @@ class Crate:
         path = os.path.join(parent.children, name + ".rt")
         if not os.path.exists(path):
             raise Refused(f"{parent.path}: no file for the module {name!r}")
+        if not self.project.with_tests and IMPORT_OF_VALUES in pathlib.Path(path).read_text(encoding="utf-8"):
+            self.left_out.add(path[:-len(".rt")])
+            return False
         file = File(self, path, of_tests)
         kept = file.first_kept is not None
         self.files.update({path: file} if kept else {})

@@ -184,16 +184,11 @@ mod error;
 mod id_allocator;
 mod layout;
 mod node_state;
-// The eraser writes it. This crate calls a part of it, and only by its public names.
-#[allow(dead_code, unused_imports)]
+// The eraser writes it. Some of it is only for saved objects, and some for lines.
+#[cfg_attr(not(all(feature = "serde", feature = "std")), allow(dead_code))]
 #[rustfmt::skip]
 mod proved;
-#[cfg(test)]
-mod proved_calls;
-#[cfg(all(test, feature = "serde"))]
-mod proved_readers;
 mod range;
-#[allow(dead_code, unused_imports)]
 mod rattle;
 #[cfg(feature = "std")]
 pub mod replay;

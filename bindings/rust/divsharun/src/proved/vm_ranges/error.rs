@@ -28,7 +28,7 @@ pub enum Error {
     /// The alignment is not a power of two.
     InvalidAlignment,
     /// The first range overlaps the second, which is already in a tree.
-    Overlap(RangeInclusive, RangeInclusive),
+    #[allow(dead_code)] Overlap(RangeInclusive, RangeInclusive),
     /// Exactly the requested range is already allocated.
     InvalidStateTransition(RangeInclusive, NodeState),
     /// The requested start is not a multiple of the alignment.
@@ -72,6 +72,33 @@ impl From<AllocError> for Error {
 impl<T> From<AllocFailed<T>> for Error {
     fn from(_error: AllocFailed<T>) -> Error {
         Error::OutOfMemory
+    }
+}
+
+/// The error of a call with a list. It names the item of the list that failed.
+#[derive(Clone, Debug, PartialEq, Eq)]
+pub struct ListError {
+    /// The index of the item that failed, or `None` if no item is the cause.
+    pub index: Option<usize>,
+    /// The error.
+    pub error: Error,
+}
+
+impl From<Error> for ListError {
+    fn from(error: Error) -> ListError {
+        ListError { index: None, error }
+    }
+}
+
+impl From<AllocError> for ListError {
+    fn from(error: AllocError) -> ListError {
+        ListError::from(Error::from(error))
+    }
+}
+
+impl From<ListError> for Error {
+    fn from(failure: ListError) -> Error {
+        failure.error
     }
 }
 

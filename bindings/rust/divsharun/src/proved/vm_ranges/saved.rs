@@ -5,11 +5,6 @@
 //! A value can be untrusted input. It is accepted if and only if it encodes an object: it has
 //! exactly the fields of the object, and they are valid. The order of the fields does not matter.
 
-pub(in crate::proved::vm_ranges) mod fields;
-pub(in crate::proved::vm_ranges) mod numbers;
-pub(in crate::proved::vm_ranges) mod range;
-pub(in crate::proved::vm_ranges) mod state;
-
 use crate::rattle::{AllocError, AllocFailed};
 
 /// The error of reading a saved value.
@@ -41,5 +36,64 @@ impl From<AllocError> for ValueError {
 impl<T> From<AllocFailed<T>> for ValueError {
     fn from(_error: AllocFailed<T>) -> ValueError {
         ValueError::OutOfMemory
+    }
+}
+
+/// A condition that the parts of a saved object meet.
+#[derive(Clone, Copy, Debug, PartialEq, Eq)]
+#[allow(dead_code)]
+pub enum Condition {
+    /// Nodes are nested at most 50 deep.
+    Nesting,
+    /// Keys are in increasing order and share no address, no allocated key ends at `u64::MAX`, and
+    /// nodes are nested at most 50 deep.
+    Keys,
+    /// All keys are in the space, and at most 6,293,134,512 keys are allocated.
+    Inside,
+    /// The tree is balanced, its heights are correct, its keys cover the space, and no two free ones
+    /// are neighbours.
+    Tree,
+    /// The ids of a list are in strictly increasing order.
+    Order,
+    /// `range_base` is not past `range_end`.
+    IdRange,
+    /// The next id is in the range or right after it.
+    NextId,
+    /// Each freed id is in the range and below the next id.
+    FreedIds,
+    /// The version is 1.
+    Version,
+    /// The devices pair the allocated ids with the allocated ranges.
+    Devices,
+}
+
+/// The error of reading the parts of a saved object.
+#[derive(Clone, Copy, Debug, PartialEq, Eq)]
+#[allow(dead_code)]
+pub enum SavedError {
+    /// The parts do not meet a condition.
+    Violated(Condition),
+    /// An allocation of memory failed.
+    OutOfMemory,
+}
+
+impl From<AllocError> for SavedError {
+    fn from(_error: AllocError) -> SavedError {
+        SavedError::OutOfMemory
+    }
+}
+
+impl<T> From<AllocFailed<T>> for SavedError {
+    fn from(_error: AllocFailed<T>) -> SavedError {
+        SavedError::OutOfMemory
+    }
+}
+
+impl From<SavedError> for ValueError {
+    fn from(error: SavedError) -> ValueError {
+        match error {
+            SavedError::Violated(_) => ValueError::NotAState,
+            SavedError::OutOfMemory => ValueError::OutOfMemory,
+        }
     }
 }

@@ -2,7 +2,6 @@
 
 //! Creates an id allocator of its range, its next id and the list of its freed ids.
 
-use super::ids::is_next;
 use crate::proved::vm_allocator::id_allocator::{IdAllocator, bound_of};
 use crate::rattle::{AllocError, Global};
 use crate::rattle::BTreeSet;
@@ -73,4 +72,12 @@ fn collect_increasing(alloc: Global, ids: &[u32]) -> core::result::Result<BTreeS
         set.insert(ids[left])?;
     }
     Ok(set)
+}
+
+/// Returns whether `next` can be the next id of the range from `base` to `end`.
+pub(super) fn is_next(next: Option<u32>, base: u32, end: u32) -> bool {
+    match next {
+        None => end == u32::MAX,
+        Some(next) => base <= next && u64::from(next) <= u64::from(end) + 1,
+    }
 }

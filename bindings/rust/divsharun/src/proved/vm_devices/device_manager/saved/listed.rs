@@ -2,12 +2,11 @@
 
 //! Creates a manager of both allocators and the list of its devices.
 
-use super::pairing::are_held_and_distinct;
 use crate::proved::vm_devices::device_manager::DeviceManager;
 use crate::proved::vm_devices::device_manager::device_table::DeviceTable;
 use crate::proved::vm_devices::device_slot::DeviceSlot;
-use crate::rattle::Global;
-use crate::rattle::BTreeMap;
+use crate::rattle::{AllocError, Global};
+use crate::rattle::{BTreeMap, BTreeSet};
 use crate::proved::vm_allocator::{AddressAllocator, IdAllocator, RangeInclusive, ValueError};
 
 impl DeviceManager {
@@ -77,4 +76,24 @@ fn collect_devices(
         lowest = u64::from(device.id) + 1;
     }
     Ok(slots)
+}
+
+/// Returns whether the id and the range of each device are allocated, and no two ranges have the
+/// same start.
+pub(super) fn are_held_and_distinct(
+    alloc: Global,
+    ids: &IdAllocator,
+    space: &AddressAllocator,
+    slots: &BTreeMap<u32, RangeInclusive>,
+) -> core::result::Result<bool, AllocError> {
+    let mut starts = BTreeSet::new(alloc);
+    for (id, range) in slots.iter() {
+        if !ids.is_allocated(*id) || !space.holds(range) {
+            return Ok(false);
+        }
+        if !starts.insert(range.start())? {
+            return Ok(false);
+        }
+    }
+    Ok(true)
 }
