@@ -6,8 +6,8 @@ the prover uses.
 
 PROJECT/crates.txt names the crates and their dependencies. Each library that a program needs is written to
 OUT/NAME, and the module of all of them is OUT/mod.rs. The crate has it as `proved`, and `rattle` next to it.
-Files that import serde_json are left out. With --tests, every file of every library is written, with its
-tests, and the crate also needs the modules `testing` and `value`.
+Of a file that imports serde_json, only the modules are written. With --tests, every library is written as a
+whole, with its tests, and the crate also needs the modules `testing` and `value`.
 
 README.md lists what the eraser removes, what it changes, and what it rejects: an error names the file, the
 line and the text. The compiler checks the names that tests use."""
@@ -74,9 +74,6 @@ KEYWORDS = set("""_ as bool break const continue crate else enum false fn for if
 REFUSED_WORDS = set("""async await become box char decreases dyn extern f32 f64 gen ghost i8 i16 i32 i64
     i128 invariant isize macro_rules prove prove_eq trait try union unsafe where yield""".split())
 CLAUSES = {"ensures", "requires"}
-
-# What makes a file one of values.
-IMPORT_OF_VALUES = "\nuse serde_json::"
 
 # ---- Text that is added ----
 
@@ -229,6 +226,8 @@ class File(Tokens):
         self.uses, self.public_fields = [], []  # (position, kind of name, name), (position, name of the type)
         self.imports = []  # (the first index, the index after the last, the indices of the names)
         self.first_kept, self.kept = None, 0
+        self.is_of_values = "\nuse serde_json::" in self.text and not crate.project.with_tests
+        crate.of_values |= {path[:-len(".rt")]} if self.is_of_values else set()
         end = self.items(self.head(), None)
         self.refuse_if(self.tokens[end].kind != "end", "a brace that closes nothing", end)
 
@@ -282,8 +281,9 @@ class File(Tokens):
             item = types.SimpleNamespace(start=index, owner=owner, public=False)
             item.of_tests = item.is_test = item.is_error = False
             index = self.visibility(item, self.attributes(item))
-            if item.of_tests and not self.crate.project.with_tests:
-                behind, kept = self.matching(self.next_of(index, ";", "{")), False
+            if item.of_tests and not self.crate.project.with_tests or self.is_of_values and not self.at(index, "mod"):
+                end = self.next_of(index, ";") if self.at(index, "use") else self.next_of(index, ";", "{")
+                behind, kept = self.matching(end), False
             else:
                 behind, kept = self.item(item, index)
             if not kept:
@@ -383,8 +383,8 @@ class File(Tokens):
                 self.import_of_crate(first, index)
         if folder and folder[0] and folder[0] != name:
             self.cut(first, rest - 1, folder[0])
-        words = [token.text for token in self.tokens[first:end] if token.kind == "word"]
-        if os.path.join(self.children, *words[:-len(leaves)]) in self.crate.left_out:
+        words = [token.text for token in self.tokens[first:end] if token.kind == "word" and token.text != "self"]
+        if os.path.join(self.children, *words[:-len(leaves)]) in self.crate.of_values:
             return end + 1, False
         if not self.at(item.keyword - 1, "pub") and not self.at(item.keyword - 1, ")"):
             self.imports.append((item.start, end, leaves))
@@ -680,7 +680,7 @@ class Crate:
         self.asks_for_std = False
         self.root = os.path.join(self.folder, "lib.rt")
         self.names, self.functions, self.guarded = set(), set(), set()  # guarded: types with ghosts
-        self.files, self.left_out = {}, set()  # left_out: files of values, without `.rt`
+        self.files, self.of_values = {}, set()  # of_values: files that import serde_json, without `.rt`
         self.files[self.root] = File(self, self.root, of_tests)
         for file in self.files.values():
             file.check()
@@ -690,9 +690,6 @@ class Crate:
         path = os.path.join(parent.children, name + ".rt")
         if not os.path.exists(path):
             raise Refused(f"{parent.path}: no file for the module {name!r}")
-        if not self.project.with_tests and IMPORT_OF_VALUES in pathlib.Path(path).read_text(encoding="utf-8"):
-            self.left_out.add(path[:-len(".rt")])
-            return False
         file = File(self, path, of_tests)
         kept = file.first_kept is not None
         self.files.update({path: file} if kept else {})
@@ -752,6 +749,8 @@ def erase(folder, out, with_tests):
     for path in [path for name in project.libraries for path in pathlib.Path(out, name).rglob("*.rs")]:
         if str(path.relative_to(out)) not in texts:
             path.unlink()
+            if not any(path.parent.iterdir()):
+                path.parent.rmdir()
     for path, text in texts.items():
         write(os.path.join(out, path), text)
     return project.crates

@@ -5,8 +5,8 @@ extern crate alloc;
 extern crate std;
 
 pub mod json;
-// `bindings/erase/erase.py . bindings/rust/box_count/src/proved --tests` writes it. clippy checks the same code in
-// divsharun.
+// `bindings/erase/erase.py . bindings/rust/box_count/src/proved --tests` writes it. clippy checks
+// the code without tests in divsharun.
 #[allow(clippy::all)]
 #[rustfmt::skip]
 pub mod proved;

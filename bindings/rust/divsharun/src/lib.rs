@@ -184,7 +184,8 @@ mod error;
 mod id_allocator;
 mod layout;
 mod node_state;
-// The eraser writes it. Some of it is only for saved objects, and some for lines.
+// The eraser writes it. Without `serde`, nothing reaches the calls for saved objects, and without
+// `std`, nothing reaches those that only `vm_lines` makes.
 #[cfg_attr(not(all(feature = "serde", feature = "std")), allow(dead_code))]
 #[rustfmt::skip]
 mod proved;

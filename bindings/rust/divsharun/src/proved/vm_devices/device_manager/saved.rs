@@ -1,5 +1,5 @@
 // Written by bindings/erase from crates/vm_devices/src/device_manager/saved.rt: do not edit.
 
-//! Saved values of managers.
+//! The saved value of a manager: its version, both allocators, and the list of its devices.
 
 mod listed;
