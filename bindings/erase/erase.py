@@ -6,7 +6,8 @@ the prover uses.
 
 PROJECT/crates.txt names the crates and their dependencies. Each library that a program needs is written to
 OUT/NAME, and the module of all of them is OUT/mod.rs. The crate has it as `proved`, and `rattle` next to it.
-With --tests, every library is written, with its tests, and the crate also needs a module `testing`.
+Of a file that imports serde_json, only the modules are written. With --tests, every library is written as a
+whole, with its tests, and the crate also needs the modules `testing` and `value`.
 
 README.md lists what the eraser removes, what it changes, and what it rejects: an error names the file, the
 line and the text. The compiler checks the names that tests use."""
@@ -24,13 +25,12 @@ FOLDERS = {
     "std::alloc": ("crate::rattle", {"AllocError", "AllocFailed", "Global"}),
     "std::cmp": ("core::cmp", {"Ordering"}),
     "std::collections": ("crate::rattle", {"BTreeMap", "BTreeSet"}),
-    "std::collections::btree_map": ("crate::rattle::btree_map", {"Iter"}),
     "std::collections::btree_set": ("crate::rattle::btree_set", {"Iter"}),
     "std::io": ("std::io", {"Read", "Write"}),
     "std::marker": (None, {"Model"}),
     "std::result": ("core::result", {"Result"}),
     "std::simd::prelude": ("crate::rattle::simd", {"*"}),
-    "serde_json": ("crate::rattle", {"Value", "json"}),
+    "serde_json": ("crate::value", {"Value", "json"}),
     "thiserror": (None, {"Error"}),
 }
 FOLDERS_OF_TESTS = {
@@ -85,8 +85,11 @@ MODULES = ORIGIN.format("crates.txt") + """
 #![allow(clippy::enum_variant_names, clippy::wrong_self_convention)]
 #![allow(clippy::needless_range_loop, clippy::only_used_in_recursion)]
 #![allow(clippy::question_mark, clippy::while_let_on_iterator)]
+#![allow(unused_imports)]
 """
-ATTRIBUTES_WITH_TESTS = "#![allow(dead_code, unused_assignments, unused_imports, unused_variables)]\n"
+ATTRIBUTES_WITH_TESTS = "#![allow(dead_code, unused_assignments, unused_variables)]\n"
+# The code that is only for values in a file that is not, and the error that only vm-allocator returns.
+UNREACHED = re.compile(r"^ *(?=(?:pub\(.*\) fn (?:count_clear|count_held)|Overlap)\()", re.MULTILINE)
 PRELUDE_OF_TESTS = "use crate::testing::*;\nuse crate::testing::{assert, assert_eq};\n"
 RUNTIME = "{\n    let rt = HostRuntime;"
 DISPLAY = """
@@ -223,6 +226,8 @@ class File(Tokens):
         self.uses, self.public_fields = [], []  # (position, kind of name, name), (position, name of the type)
         self.imports = []  # (the first index, the index after the last, the indices of the names)
         self.first_kept, self.kept = None, 0
+        self.is_of_values = "\nuse serde_json::" in self.text and not crate.project.with_tests
+        crate.of_values |= {path[:-len(".rt")]} if self.is_of_values else set()
         end = self.items(self.head(), None)
         self.refuse_if(self.tokens[end].kind != "end", "a brace that closes nothing", end)
 
@@ -276,8 +281,9 @@ class File(Tokens):
             item = types.SimpleNamespace(start=index, owner=owner, public=False)
             item.of_tests = item.is_test = item.is_error = False
             index = self.visibility(item, self.attributes(item))
-            if item.of_tests and not self.crate.project.with_tests:
-                behind, kept = self.matching(self.next_of(index, ";", "{")), False
+            if item.of_tests and not self.crate.project.with_tests or self.is_of_values and not self.at(index, "mod"):
+                end = self.next_of(index, ";") if self.at(index, "use") else self.next_of(index, ";", "{")
+                behind, kept = self.matching(end), False
             else:
                 behind, kept = self.item(item, index)
             if not kept:
@@ -377,6 +383,9 @@ class File(Tokens):
                 self.import_of_crate(first, index)
         if folder and folder[0] and folder[0] != name:
             self.cut(first, rest - 1, folder[0])
+        words = [token.text for token in self.tokens[first:end] if token.kind == "word" and token.text != "self"]
+        if os.path.join(self.children, *words[:-len(leaves)]) in self.crate.of_values:
+            return end + 1, False
         if not self.at(item.keyword - 1, "pub") and not self.at(item.keyword - 1, ")"):
             self.imports.append((item.start, end, leaves))
         return end + 1, not (folder and folder[0] is None)
@@ -626,7 +635,8 @@ class File(Tokens):
             text, last = text + instead, max(end, last)
             if text.endswith("\n\n") and self.text[last:].lstrip(" ").startswith("}"):
                 text = text[:-1]
-        return ORIGIN.format(self.path) + "\n" + (text + self.text[last:]).strip("\n") + "\n"
+        text = UNREACHED.sub(r"\g<0>#[allow(dead_code)] ", text + self.text[last:])
+        return ORIGIN.format(self.path) + "\n" + text.strip("\n") + "\n"
 
     def modules_of_crates(self):
         """Returns the replacements of the names of crates by their modules."""
@@ -670,7 +680,7 @@ class Crate:
         self.asks_for_std = False
         self.root = os.path.join(self.folder, "lib.rt")
         self.names, self.functions, self.guarded = set(), set(), set()  # guarded: types with ghosts
-        self.files = {}
+        self.files, self.of_values = {}, set()  # of_values: files that import serde_json, without `.rt`
         self.files[self.root] = File(self, self.root, of_tests)
         for file in self.files.values():
             file.check()
@@ -739,6 +749,8 @@ def erase(folder, out, with_tests):
     for path in [path for name in project.libraries for path in pathlib.Path(out, name).rglob("*.rs")]:
         if str(path.relative_to(out)) not in texts:
             path.unlink()
+            if not any(path.parent.iterdir()):
+                path.parent.rmdir()
     for path, text in texts.items():
         write(os.path.join(out, path), text)
     return project.crates

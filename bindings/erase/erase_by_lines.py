@@ -4,9 +4,10 @@
     erase_by_lines.py PROJECT PROVED
 
 It works by lines, on the layout of `rt fmt`, where the first one works by tokens. A line that begins a
-clause, a ghost, a test or a model extends to the line that closes its braces. The rest of each source is
-compared with the output of the first eraser in PROVED: each token, and each comment line. The exit
-status is 1 if there is a difference, or if a file is only on one side."""
+clause, a ghost, a test or a model extends to the line that closes its braces. Of a file that imports
+serde_json, only the modules are left. The rest of each source is compared with the output of the first
+eraser in PROVED: each token, and each comment line. The exit status is 1 if there is a difference, or if
+a file is only on one side."""
 import os
 import re
 import sys
@@ -20,12 +21,14 @@ CHANGED = [
     (r"\bcrate::(?!proved)", "crate::proved::NAME::"),
     (r"(?<![\w:])(vm_\w+)::", r"crate::proved::\1::"),
     (r"use (std::marker::Model|thiserror::Error);", ""),
-    (r"\b(std::alloc|std::collections|serde_json)::", "crate::rattle::"),
+    (r"\b(std::alloc|std::collections)::", "crate::rattle::"),
     (r"\bstd::(cmp|result)::", r"core::\1::"),
     (r"\bstd::simd::prelude::", "crate::rattle::simd::"),
     (r"<T: Drop>", "<T>"),
 ]
 PRELUDE = ("Box", "Vec")
+# What the first eraser adds to what divsharun does not reach.
+UNREACHED = re.compile(r"#\[allow\(dead_code\)\] (pub\(in [\w:]+\) fn count_(?:clear|held)\(|Overlap\()")
 # The code that the derive of `Error` stands for, with an arm for each variant.
 ARM = r" +\w+::(\w+)(?:\(field_0(?:, field_1)?\))? => write!\(f, (\".*\")\),\n"
 DISPLAY = re.compile(r"""
@@ -130,14 +133,23 @@ def tokens(lines):
     return found[:-1]
 
 
+def is_of_values(path):
+    """Returns whether there is a file at a path that imports serde_json."""
+    return os.path.exists(path) and any(line.startswith("use serde_json::") for line in lines_of(path))
+
+
 def modules(folder, name, found):
     """Erases a module and its submodules. `found` receives the lines of each. Returns whether there is any
     code."""
-    kept = erased(lines_of(os.path.join(folder, name + ".rt")))
+    path = os.path.join(folder, name + ".rt")
+    kept = [line for line in erased(lines_of(path)) if not is_of_values(path) or re.match("//!|.*\\bmod ", line)]
     inside = folder if name == "lib" else os.path.join(folder, name)
     for line in list(kept):
         module = re.match(r"(?:pub(?:\(\w+\))? )?mod (\w+);$", line)
+        used = re.match(r"(?:pub )?use (?:self::)?((?:\w+::)+)[\w{}, ]+;$", line)
         if module and not modules(inside, module[1], found):
+            kept.remove(line)
+        elif used and is_of_values(os.path.join(inside, *used[1].split("::")[:-1]) + ".rt"):
             kept.remove(line)
     has_code = any(not token.startswith("//") for token in tokens(kept))
     if has_code:
@@ -170,6 +182,7 @@ def written(path):
     """Returns the same of what the first eraser wrote, without the lines that it added."""
     prelude, kept = [], []
     for line in lines_of(path)[1:]:
+        line = UNREACHED.sub(r"\1", line)
         found = re.match(r"use crate::rattle::\{?([\w, ]+)\}?;$", line)
         if found and not prelude and set(found[1].split(", ")) <= set(PRELUDE):
             prelude = found[1].split(", ")

@@ -10,8 +10,8 @@ import erase
 
 # An edit is (file, old, new). The rest has the other keys, for example the reason for rejecting the mutant.
 Mutant = namedtuple("Mutant", "name edits rest")
-# The folder of bindings/rust that the eraser writes.
-PROVED = os.path.join("divsharun", "src", "proved")
+# The folder of bindings/rust that the eraser writes with the tests.
+PROVED = os.path.join("box_count", "src", "proved")
 NOTHING = Mutant("nothing", [], {})
 
 

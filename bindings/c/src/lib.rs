@@ -20,12 +20,11 @@ mod ids;
 mod json;
 mod lists;
 // The eraser writes it. The library calls a part of it.
-#[allow(dead_code, unused_imports)]
+#[allow(dead_code)]
 #[rustfmt::skip]
 #[path = "../../rust/divsharun/src/proved/mod.rs"]
 mod proved;
 mod ranges;
-#[allow(dead_code, unused_imports)]
 #[path = "../../rust/divsharun/src/rattle/mod.rs"]
 mod rattle;
 mod requests;

@@ -35,7 +35,7 @@ mod saved;
 mod slots;
 
 use self::device_table::DeviceTable;
-pub use self::saved::read_devices::ReadDevices;
+pub use self::saved::read_devices::{ReadDevices, SAVED_VERSION};
 pub use self::slots::Devices;
 
 /// Reserves an id and a range of addresses for each device, both or neither.

@@ -5,5 +5,5 @@ mod device_manager;
 mod device_slot;
 mod laws;
 
-pub use device_manager::{DeviceManager, Devices, ReadDevices};
+pub use device_manager::{DeviceManager, Devices, ReadDevices, SAVED_VERSION};
 pub use device_slot::DeviceSlot;

@@ -1,5 +1,6 @@
 //! A reader of JSON after RFC 8259. It keeps duplicate names of an object.
-use crate::rattle::{add_to, AllocError, AllocFailed, Field, Global, Number, Value, Vec};
+use crate::rattle::{AllocError, AllocFailed, Global, Vec};
+use crate::value::{add_to, Field, Number, Value};
 use std::fmt;
 use std::str::FromStr;
 use std::string::String;

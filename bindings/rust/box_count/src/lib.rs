@@ -1,16 +1,19 @@
-//! The proved code with boxes that count how often they are followed, and with its tests if the
-//! eraser writes them.
+//! The proved code with its tests, and with boxes that count how often they are followed.
 #![no_std]
 
 extern crate alloc;
 extern crate std;
 
 pub mod json;
+// `bindings/erase/erase.py . bindings/rust/box_count/src/proved --tests` writes it. clippy checks
+// the code without tests in divsharun.
+#[allow(clippy::all)]
 #[rustfmt::skip]
-#[path = "../../divsharun/src/proved/mod.rs"]
 pub mod proved;
+#[allow(clippy::len_without_is_empty)]
 #[path = "../../divsharun/src/rattle/mod.rs"]
 pub mod rattle;
 #[cfg(test)]
 mod rattle_tests;
 pub mod testing;
+pub mod value;

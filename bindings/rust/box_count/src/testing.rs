@@ -1,5 +1,5 @@
 //! Items that the tests of the sources use. They are in scope in every test, as in Rattle's prelude.
-use crate::rattle::{Number, Value};
+use crate::value::{Number, Value};
 use core::fmt;
 use core::ops::{Deref, Index};
 

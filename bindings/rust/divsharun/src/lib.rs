@@ -185,16 +185,12 @@ mod error;
 mod id_allocator;
 mod layout;
 mod node_state;
-// The eraser writes it. This crate calls a part of it, and only by its public names.
-#[allow(dead_code, unused_imports)]
+// The eraser writes it. Without `serde`, nothing reaches the calls for saved objects, and without
+// `std`, nothing reaches those that only `vm_lines` makes.
+#[cfg_attr(not(all(feature = "serde", feature = "std")), allow(dead_code))]
 #[rustfmt::skip]
 mod proved;
-#[cfg(test)]
-mod proved_calls;
-#[cfg(all(test, feature = "serde"))]
-mod proved_readers;
 mod range;
-#[allow(dead_code, unused_imports)]
 mod rattle;
 #[cfg(feature = "std")]
 pub mod replay;

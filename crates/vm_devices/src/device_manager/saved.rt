@@ -9,7 +9,7 @@ ghost use Rattle.vm_devices.specs.SavedChecks.{decoded_manager, ManagerParts};
 pub(super) mod read_devices;
 mod slots;
 
-use self::read_devices::VERSION;
+use self::read_devices::SAVED_VERSION;
 use self::slots::{encode_slots, read_slots};
 use super::DeviceManager;
 use serde_json::{Value, json};
@@ -73,7 +73,7 @@ fn manager_object(
     ensures { IfOk result (λ value. ManagerParts (view value) (view ids) (view space) (view slots)) }
 {
     // The version is last: if an allocation for it fails, only the object has to be dropped.
-    json!(in alloc; {"id_allocator": ids, "mmio_allocator": space, "slots": slots, "version": VERSION})
+    json!(in alloc; {"id_allocator": ids, "mmio_allocator": space, "slots": slots, "version": SAVED_VERSION})
 }
 
 /// The values of the fields of a manager's value.

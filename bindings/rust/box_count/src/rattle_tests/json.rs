@@ -1,7 +1,8 @@
 //! Checks the reader of JSON against the grammar of RFC 8259.
 
 use crate::json::TextError;
-use crate::rattle::{Global, Value};
+use crate::rattle::Global;
+use crate::value::Value;
 use std::string::ToString;
 
 /// Texts, and the output of their values.

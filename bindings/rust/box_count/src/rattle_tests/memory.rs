@@ -5,7 +5,8 @@
 mod refusing;
 
 use crate::json::TextError;
-use crate::rattle::{json, AllocError, AllocFailed, BTreeMap, BTreeSet, Box, Global, Value, Vec};
+use crate::rattle::{AllocError, AllocFailed, BTreeMap, BTreeSet, Box, Global, Vec};
+use crate::value::{json, Value};
 use refusing::{blocks, refusing};
 use std::collections;
 use std::string::ToString;
@@ -105,7 +106,7 @@ fn maps() {
                 assert_eq!((removed, made), (rust.remove(&key), 0));
             }
             assert_eq!(map.get(&key), rust.get(&key));
-            assert_eq!((map.len(), map.is_empty()), (rust.len(), rust.is_empty()));
+            assert_eq!(map.len(), rust.len());
             if step % (keys / 4) == 0 {
                 assert!(map.iter().eq(rust.iter()));
                 let (mut clone, _) = until_allowed(|| map.clone(), |_| {});

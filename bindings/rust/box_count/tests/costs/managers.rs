@@ -7,7 +7,8 @@ use box_count::proved::vm_allocator::AllocPolicy::{self, FirstMatch};
 use box_count::proved::vm_allocator::Error::NeverAllocated;
 use box_count::proved::vm_allocator::{AddressAllocator, IdAllocator, RangeInclusive};
 use box_count::proved::vm_devices::{DeviceManager, DeviceSlot};
-use box_count::rattle::{BTreeMap, BTreeSet, Global, Value};
+use box_count::rattle::{BTreeMap, BTreeSet, Global};
+use box_count::value::Value;
 
 /// A manager, and separate parts that get the same calls, so their trees are the same.
 struct Pair {

@@ -2,7 +2,8 @@
 use box_count::proved::vm_allocator::AllocPolicy::{ExactMatch, FirstMatch};
 use box_count::proved::vm_allocator::{AddressAllocator, IdAllocator, RangeInclusive};
 use box_count::proved::vm_devices::DeviceManager;
-use box_count::rattle::{BTreeSet, Global, Value};
+use box_count::rattle::{BTreeSet, Global};
+use box_count::value::Value;
 
 /// The layout of objects with `held` allocated ranges, ids or devices.
 #[derive(Clone, Copy, Debug)]

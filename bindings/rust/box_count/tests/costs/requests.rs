@@ -10,7 +10,8 @@ use box_count::proved::vm_allocator::AllocPolicy::{self, ExactMatch, FirstMatch,
 use box_count::proved::vm_allocator::Error::{self, *};
 use box_count::proved::vm_allocator::ValueError::NotAState;
 use box_count::proved::vm_allocator::{AddressAllocator, Constraint, IdAllocator, RangeInclusive};
-use box_count::rattle::{AllocError, BTreeMap, BTreeSet, Global, Value};
+use box_count::rattle::{AllocError, BTreeMap, BTreeSet, Global};
+use box_count::value::Value;
 use std::fmt::Debug;
 
 /// An object allocates its list of fields, and each name.

@@ -6,7 +6,8 @@ use box_count::proved::vm_allocator::AllocPolicy::{ExactMatch, FirstMatch};
 use box_count::proved::vm_allocator::{AddressAllocator, Constraint, IdAllocator};
 use box_count::proved::vm_devices::DeviceManager;
 use box_count::proved::vm_lines::run;
-use box_count::rattle::{Global, Value};
+use box_count::rattle::Global;
+use box_count::value::Value;
 use std::hint::black_box;
 
 const SMALL: u64 = 2_000;

@@ -6,6 +6,7 @@
 #![allow(clippy::enum_variant_names, clippy::wrong_self_convention)]
 #![allow(clippy::needless_range_loop, clippy::only_used_in_recursion)]
 #![allow(clippy::question_mark, clippy::while_let_on_iterator)]
+#![allow(unused_imports)]
 
 pub mod vm_allocator;
 pub mod vm_devices;

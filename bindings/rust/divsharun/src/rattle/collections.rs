@@ -207,12 +207,6 @@ impl<K: Ord + Copy, V> BTreeMap<K, V> {
         self.len
     }
 
-    /// Returns whether the map is empty.
-    #[must_use]
-    pub fn is_empty(&self) -> bool {
-        self.len == 0
-    }
-
     /// Returns an iterator over the entries in ascending order of keys.
     #[must_use]
     pub fn iter(&self) -> btree_map::Iter<'_, K, V> {
@@ -340,12 +334,6 @@ impl<T: Ord + Copy> BTreeSet<T> {
     #[must_use]
     pub fn len(&self) -> usize {
         self.0.len()
-    }
-
-    /// Returns whether the set is empty.
-    #[must_use]
-    pub fn is_empty(&self) -> bool {
-        self.0.is_empty()
     }
 
     /// Returns an iterator over the values in ascending order.

@@ -1,22 +1,20 @@
 //! Replacements for the items of Rattle's library that Rust does not have or defines differently.
 //!
-//! Boxes, vectors, values, sets and maps report a failed allocation, as in Rattle.
+//! Boxes, vectors, sets and maps report a failed allocation, as in Rattle.
 #![forbid(unsafe_code)]
 #![warn(clippy::must_use_candidate)]
 #![deny(missing_docs)]
 
 mod boxed;
 mod collections;
+#[cfg(feature = "std")]
 pub mod simd;
-mod value;
 mod vec;
 
 #[cfg(count_boxes)]
 pub use boxed::boxes_followed;
 pub use boxed::Box;
-pub use collections::{btree_map, btree_set, BTreeMap, BTreeSet};
-pub(crate) use value::json;
-pub use value::{add_to, Field, Fields, Number, Value};
+pub use collections::{btree_set, BTreeMap, BTreeSet};
 pub use vec::Vec;
 
 use core::fmt;

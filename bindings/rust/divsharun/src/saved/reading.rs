@@ -232,7 +232,8 @@ impl<'de> Deserialize<'de> for DeviceManager {
         let saved = Devices::deserialize(from)?;
         let space = saved.mmio_allocator.allocator(true)?;
         let ids = saved.id_allocator;
-        DeviceManager::from_devices(Global, saved.version, ids, space, &saved.slots).map_err(invalid)
+        DeviceManager::from_devices(Global, saved.version, ids, space, &saved.slots)
+            .map_err(invalid)
     }
 }
 

@@ -17,7 +17,7 @@ use vm_allocator::{AddressAllocator, IdAllocator};
 use vm_ranges::{Condition, SavedError};
 
 /// The version of a saved manager.
-pub(super) const VERSION: u64 = 1;
+pub const SAVED_VERSION: u64 = 1;
 
 /// The devices of a saved manager that were read so far, in the order of their ids.
 ///
@@ -107,7 +107,7 @@ impl DeviceManager {
         ensures answer { MakesOfDevices version ids (state_of space) devices.now result }
         ensures state { IfOk result IsDeviceState }
     {
-        if version != VERSION {
+        if version != SAVED_VERSION {
             return Err(SavedError::Violated(Condition::Version));
         }
         let slots = pair_devices(alloc, &ids, &space, &devices.devices)?;

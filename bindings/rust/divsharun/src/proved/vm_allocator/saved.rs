@@ -1,7 +1,7 @@
 // Written by bindings/erase from crates/vm_allocator/src/saved.rt: do not edit.
 
 //! Saved values of both allocators, and of the address allocators that the Rust crate saved.
-mod allocator;
-mod ids;
-mod listed_ids;
 mod nodes;
+mod read_ids;
+
+pub use read_ids::ReadIds;

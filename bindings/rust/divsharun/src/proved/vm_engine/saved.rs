@@ -3,10 +3,6 @@
 //! Saved trees.
 //!
 //! A value can be untrusted input, so the whole value is checked before the first allocation.
-mod check;
-pub(in crate::proved::vm_engine) mod node;
 pub(in crate::proved::vm_engine) mod nodes;
-mod repaired;
 pub(in crate::proved::vm_engine) mod span;
-mod tree;
 pub(in crate::proved::vm_engine) mod written;

@@ -28,7 +28,7 @@ pub enum Error {
     /// The alignment is not a power of two.
     InvalidAlignment,
     /// The first range overlaps the second, which is already in a tree.
-    Overlap(RangeInclusive, RangeInclusive),
+    #[allow(dead_code)] Overlap(RangeInclusive, RangeInclusive),
     /// Exactly the requested range is already allocated.
     InvalidStateTransition(RangeInclusive, NodeState),
     /// The requested start is not a multiple of the alignment.

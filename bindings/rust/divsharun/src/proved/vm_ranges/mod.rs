@@ -15,8 +15,4 @@ pub use constraint::{AllocPolicy, Constraint, DEFAULT_CONSTRAINT_ALIGN};
 pub use error::{Error, ListError, Result};
 pub use range::RangeInclusive;
 pub use saved::{Condition, SavedError, ValueError};
-pub use saved::fields::{has_fields, list_in};
-pub use saved::numbers::{number_in, u32_from, u32_in};
-pub use saved::range::range_in;
-pub use saved::state::state_in;
 pub use state::NodeState;

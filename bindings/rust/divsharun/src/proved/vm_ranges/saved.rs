@@ -5,11 +5,6 @@
 //! A value can be untrusted input. It is accepted if and only if it encodes an object: it has
 //! exactly the fields of the object, and they are valid. The order of the fields does not matter.
 
-pub(in crate::proved::vm_ranges) mod fields;
-pub(in crate::proved::vm_ranges) mod numbers;
-pub(in crate::proved::vm_ranges) mod range;
-pub(in crate::proved::vm_ranges) mod state;
-
 use crate::rattle::{AllocError, AllocFailed};
 
 /// The error of reading a saved value.

@@ -25,24 +25,6 @@ impl DeviceTable {
         }
     }
 
-    /// Creates a table from the ranges by ids. It has a slot for each id between the lowest and the
-    /// highest, so the ids must be checked first.
-    pub(super) fn from_map(
-        alloc: Global,
-        ranges: BTreeMap<u32, RangeInclusive>,
-    ) -> Result<DeviceTable, AllocError> {
-        let mut slots = Slots::new(alloc);
-        let mut ids_by_start = BTreeMap::new(alloc);
-        for (id, range) in ranges.iter() {
-            slots.insert(alloc, *id, *range)?;
-            ids_by_start.insert(range.start(), *id)?;
-        }
-        Ok(DeviceTable {
-            slots,
-            ids_by_start,
-        })
-    }
-
     /// Returns a copy.
     pub(super) fn try_clone(&self) -> Result<DeviceTable, AllocError> {
         let slots = self.slots.try_clone()?;

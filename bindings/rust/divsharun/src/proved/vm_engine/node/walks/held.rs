@@ -22,7 +22,7 @@ pub(in crate::proved::vm_engine) fn has_held(tree: &Child, key: &RangeInclusive)
 }
 
 /// Returns the number of allocated blocks.
-pub(in crate::proved::vm_engine) fn count_held(tree: &Child) -> u64 {
+#[allow(dead_code)] pub(in crate::proved::vm_engine) fn count_held(tree: &Child) -> u64 {
     let Some(node) = tree else { return 0 };
     let node: &InnerNode = node;
     let beside = count_held(&node.left) + count_held(&node.right);

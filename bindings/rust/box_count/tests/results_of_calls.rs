@@ -1,8 +1,36 @@
-//! Checks that each call returns the result of the proved call, for arguments of all magnitudes.
+//! Guards against a call of divsharun that passes other arguments to the proved call, or returns
+//! another result. Compares both, for arguments of all magnitudes.
+//!
+//! The modules of divsharun are a part of the test, because it compares private objects.
+#![allow(dead_code, unused_imports)]
 
-#[path = "../tests/draw/mod.rs"]
+extern crate alloc;
+
+#[path = "../../divsharun/src/address_allocator.rs"]
+mod address_allocator;
+#[path = "../../divsharun/src/constraint.rs"]
+mod constraint;
+#[path = "../../divsharun/src/device_manager.rs"]
+mod device_manager;
+#[path = "../../divsharun/tests/draw/mod.rs"]
 mod draw;
+#[path = "../../divsharun/src/error.rs"]
+mod error;
+#[path = "../../divsharun/src/id_allocator.rs"]
+mod id_allocator;
+#[path = "../../divsharun/src/layout.rs"]
+mod layout;
+#[path = "../../divsharun/src/node_state.rs"]
+mod node_state;
+#[rustfmt::skip]
+#[path = "../../divsharun/src/proved/mod.rs"]
+mod proved;
+#[path = "../../divsharun/src/range.rs"]
+mod range;
+#[path = "../../divsharun/src/rattle/mod.rs"]
+mod rattle;
 
+<<<<<<< HEAD:bindings/rust/divsharun/src/proved_calls.rs
 use crate::proved::vm_allocator as proved;
 use crate::proved::vm_devices as proved_devices;
 use crate::rattle::Global;
@@ -11,8 +39,20 @@ use crate::{
     RangeInclusive, TryError,
 };
 use alloc::{format, vec::Vec};
+=======
+pub use address_allocator::{AddressAllocator, HeldRanges};
+pub use constraint::{AllocPolicy, Constraint};
+>>>>>>> 93a8e16eabf324addab33d8f4699773b64ffcf0a:bindings/rust/box_count/tests/results_of_calls.rs
 use core::fmt::Debug;
+pub use device_manager::DeviceManager;
 use draw::Draw;
+pub use error::{Error, ListError, Result, TryError};
+pub use id_allocator::IdAllocator;
+pub use layout::Layout;
+pub use node_state::NodeState;
+use proved::{vm_allocator, vm_devices};
+pub use range::RangeInclusive;
+use rattle::Global;
 
 /// Numbers at both ends and between.
 const NUMBERS: [u64; 6] = [0, 1, 2, 16, u64::MAX - 1, u64::MAX];
@@ -29,9 +69,14 @@ fn same(library: impl Debug, proved: impl Debug) {
     assert_eq!(format!("{library:?}"), format!("{proved:?}"));
 }
 
-fn range(start: u64, end: u64) -> Option<(RangeInclusive, proved::RangeInclusive)> {
+/// Checks that both return items with the same debug texts.
+fn same_items(library: impl Iterator<Item: Debug>, proved: impl Iterator<Item: Debug>) {
+    same(library.collect::<Vec<_>>(), proved.collect::<Vec<_>>());
+}
+
+fn range(start: u64, end: u64) -> Option<(RangeInclusive, vm_allocator::RangeInclusive)> {
     let range = RangeInclusive::new(start, end);
-    let proved = proved::RangeInclusive::new(start, end);
+    let proved = vm_allocator::RangeInclusive::new(start, end);
     same(range, &proved);
     Some((range.ok()?, proved.ok()?))
 }
@@ -47,20 +92,10 @@ fn ranges() {
             (start, end, end - start + 1)
         );
         for (two, proved_two) in pairs().filter_map(|(start, end)| range(start, end)) {
-            same(
-                (
-                    one.overlaps(&two),
-                    one.contains(&two),
-                    one == two,
-                    one.cmp(&two),
-                ),
-                (
-                    proved_one.overlaps(&proved_two),
-                    proved_one.contains(&proved_two),
-                    proved_one == proved_two,
-                    proved_one.cmp(&proved_two),
-                ),
-            );
+            same(one.overlaps(&two), proved_one.overlaps(&proved_two));
+            same(one.contains(&two), proved_one.contains(&proved_two));
+            same(one == two, proved_one == proved_two);
+            same(one.cmp(&two), proved_one.cmp(&proved_two));
         }
     }
 }
@@ -72,7 +107,7 @@ fn requests() {
             let request = Constraint::new(size, align, policy);
             same(
                 request,
-                proved::Constraint::new(size, align, policy.proved()),
+                vm_allocator::Constraint::new(size, align, policy.proved()),
             );
             let parts = request.map(|request| (request.size(), request.align()));
             assert!(parts.is_err() || parts == Ok((size, align)));
@@ -84,7 +119,7 @@ fn requests() {
 const WIDTH: u64 = 1 << 12;
 
 /// Returns a random request for a space of `width` addresses at `base`, with a window or without.
-fn drawn_request(draw: &mut Draw, base: u64, width: u64) -> (Constraint, proved::Constraint) {
+fn drawn_request(draw: &mut Draw, base: u64, width: u64) -> (Constraint, vm_allocator::Constraint) {
     let (size, align) = (1 + draw.below(6), 1 << draw.below(12));
     let at = base + draw.below(width);
     let policy = match draw.below(4) {
@@ -93,7 +128,7 @@ fn drawn_request(draw: &mut Draw, base: u64, width: u64) -> (Constraint, proved:
         _ => AllocPolicy::ExactMatch(at - at % align),
     };
     let request = Constraint::new(size, align, policy).unwrap();
-    let proved_request = proved::Constraint::new(size, align, policy.proved()).unwrap();
+    let proved_request = vm_allocator::Constraint::new(size, align, policy.proved()).unwrap();
     same(request.window(), proved_request.window());
     if draw.below(3) == 0 {
         return (request, proved_request);
@@ -108,7 +143,7 @@ fn drawn_request(draw: &mut Draw, base: u64, width: u64) -> (Constraint, proved:
 }
 
 /// Checks that the result of a `try_` call is that of the proved call.
-fn same_or_refused<T: Debug>(library: Result<T, TryError>, proved: impl Debug) {
+fn same_or_refused<T: Debug>(library: core::result::Result<T, TryError>, proved: impl Debug) {
     match library {
         Err(TryError::Refused(error)) => same(Err::<(), _>(error), proved),
         answer => same(answer, proved),
@@ -121,7 +156,7 @@ struct Spaces {
     plain: AddressAllocator,
     counted: AddressAllocator,
     or_try_error: AddressAllocator,
-    proved: proved::AddressAllocator,
+    proved: vm_allocator::AddressAllocator,
 }
 
 impl Spaces {
@@ -131,7 +166,7 @@ impl Spaces {
             plain: space(),
             counted: space(),
             or_try_error: space(),
-            proved: proved::AddressAllocator::new(Global, base, WIDTH).unwrap(),
+            proved: vm_allocator::AddressAllocator::new(Global, base, WIDTH).unwrap(),
         }
     }
 
@@ -179,7 +214,7 @@ impl Spaces {
         let index = answer.as_ref().err().and_then(|failure| failure.index);
         let proved_index = proved.as_ref().err().and_then(|failure| failure.index);
         assert_eq!(index, proved_index);
-        let proved = proved.map_err(proved::Error::from);
+        let proved = proved.map_err(vm_allocator::Error::from);
         same_or_refused(answer.map_err(TryError::from), proved);
     }
 
@@ -203,59 +238,34 @@ impl Spaces {
         same(self.plain.holds(&key), self.proved.holds(&proved_key));
     }
 
-    fn compare(&self, before: &(AddressAllocator, proved::AddressAllocator)) {
+    fn compare(&self, before: &(AddressAllocator, vm_allocator::AddressAllocator)) {
         let (space, proved) = (&self.plain, &self.proved);
         same(&space.0, proved);
         assert!(*space == self.counted && *space == self.or_try_error);
-        same(
-            (
-                space.base(),
-                space.end(),
-                space.height(),
-                space.held_count(),
-            ),
-            (
-                proved.base(),
-                proved.end(),
-                proved.height(),
-                proved.held_count(),
-            ),
-        );
-        same(
-            space.held_ranges().collect::<Vec<_>>(),
-            proved.held_ranges().collect::<Vec<_>>(),
-        );
-        same(
-            space.gaps().collect::<Vec<_>>(),
-            proved.gaps().collect::<Vec<_>>(),
-        );
-        same(
-            (space.longest_gap(), space.free_len()),
-            (proved.longest_gap(), proved.clear_count()),
-        );
+        same(space.base(), proved.base());
+        same(space.end(), proved.end());
+        same(space.height(), proved.height());
+        same(space.held_count(), proved.held_count());
+        same_items(space.held_ranges(), proved.held_ranges());
+        same_items(space.gaps(), proved.gaps());
+        same(space.longest_gap(), proved.longest_gap());
+        same(space.free_len(), proved.clear_count());
         for address in space.base()..space.base().saturating_add(WIDTH) {
             same(space.held_at(address), proved.held_at(address));
             same(space.gap_at(address), proved.gap_at(address));
             let window = range(address, address.saturating_add(7));
             let (window, proved_window) = window.unwrap();
-            same(
-                space.held_ranges_in(&window).collect::<Vec<_>>(),
-                proved.held_ranges_in(&proved_window).collect::<Vec<_>>(),
-            );
-            same(
-                space.gaps_in(&window).collect::<Vec<_>>(),
-                proved.gaps_in(&proved_window).collect::<Vec<_>>(),
-            );
+            let held = proved.held_ranges_in(&proved_window);
+            same_items(space.held_ranges_in(&window), held);
+            same_items(space.gaps_in(&window), proved.gaps_in(&proved_window));
         }
-        same(
-            (*space == before.0, space.cmp(&before.0)),
-            (*proved == before.1, proved.cmp(&before.1)),
-        );
+        same(*space == before.0, *proved == before.1);
+        same(space.cmp(&before.0), proved.cmp(&before.1));
         let held: Vec<_> = space.held_ranges().collect();
         let proved_held: Vec<_> = proved.held_ranges().collect();
         same(
             AddressAllocator::with_held(space.base(), WIDTH, &held).map(|space| space.0),
-            proved::AddressAllocator::with_held(Global, proved.base(), WIDTH, &proved_held),
+            vm_allocator::AddressAllocator::with_held(Global, proved.base(), WIDTH, &proved_held),
         );
     }
 }
@@ -289,7 +299,7 @@ fn spaces() {
         let space = AddressAllocator::new(base, size);
         same(
             space.as_ref().map(|space| &space.0),
-            proved::AddressAllocator::new(Global, base, size),
+            vm_allocator::AddressAllocator::new(Global, base, size),
         );
         let or_try_error = AddressAllocator::try_new(base, size);
         assert_eq!(or_try_error, space.map_err(TryError::Refused));
@@ -306,7 +316,8 @@ fn spaces_with_ranges() {
             for (two, proved_two) in &ranges {
                 let (held, proved_held) = ([*one, *two], [*proved_one, *proved_two]);
                 let space = AddressAllocator::with_held(base, size, &held);
-                let proved = proved::AddressAllocator::with_held(Global, base, size, &proved_held);
+                let proved =
+                    vm_allocator::AddressAllocator::with_held(Global, base, size, &proved_held);
                 same(space.as_ref().map(|space| &space.0), proved);
                 let or_try_error = AddressAllocator::try_with_held(base, size, &held);
                 let with_refused = |ListError { index, error }| ListError {
@@ -324,37 +335,27 @@ fn ids() {
     let mut draw = Draw(3);
     for first in [0, 5, u32::MAX - 30] {
         let mut ids = IdAllocator::new(first, first + 30).unwrap();
-        let mut proved = proved::IdAllocator::new(Global, first, first + 30).unwrap();
+        let mut proved = vm_allocator::IdAllocator::new(Global, first, first + 30).unwrap();
         for _ in 0..1000 {
             let id = first.wrapping_add(draw.below(33) as u32).wrapping_sub(1);
             match draw.below(2) {
                 0 => same(ids.allocate_id(), proved.allocate_id()),
                 _ => same(ids.free_id(id), proved.free_id(id)),
             }
-            same(
-                (ids.peek_id(), ids.is_allocated(id), ids.held_count()),
-                (
-                    proved.peek_id(),
-                    proved.is_allocated(id),
-                    proved.held_count(),
-                ),
-            );
+            same(ids.peek_id(), proved.peek_id());
+            same(ids.is_allocated(id), proved.is_allocated(id));
+            same(ids.held_count(), proved.held_count());
             same(&ids, &proved);
             same(ids.clone(), &ids);
-            same(
-                (ids.range_base(), ids.range_end()),
-                (proved.range_base(), proved.range_end()),
-            );
-            same(
-                ids.held_ids().collect::<Vec<_>>(),
-                proved.held_ids().collect::<Vec<_>>(),
-            );
+            same(ids.range_base(), proved.range_base());
+            same(ids.range_end(), proved.range_end());
+            same_items(ids.held_ids(), proved.held_ids());
         }
     }
     for (first, last) in [(1, 0), (0, 0), (u32::MAX, 0), (0, u32::MAX)] {
         same(
             IdAllocator::new(first, last),
-            proved::IdAllocator::new(Global, first, last),
+            vm_allocator::IdAllocator::new(Global, first, last),
         );
     }
 }
@@ -364,14 +365,14 @@ fn ids() {
 struct Managers {
     plain: DeviceManager,
     or_try_error: DeviceManager,
-    proved: proved_devices::DeviceManager,
+    proved: vm_devices::DeviceManager,
 }
 
 impl Managers {
     /// Creates managers of ten ids and 64 addresses.
     fn new(first: u32, base: u64) -> Managers {
         let devices = || DeviceManager::new(first, first + 9, base, 64).unwrap();
-        let proved = proved_devices::DeviceManager::new(Global, first, first + 9, base, 64);
+        let proved = vm_devices::DeviceManager::new(Global, first, first + 9, base, 64);
         Managers {
             plain: devices(),
             or_try_error: devices(),
@@ -408,13 +409,8 @@ impl Managers {
         let (devices, proved) = (&self.plain, &self.proved);
         same(devices.slot(id), proved.slot(id));
         same(devices.device_at(address), proved.device_at(address));
-        same(
-            (
-                devices.device_count(),
-                devices.devices().collect::<Vec<_>>(),
-            ),
-            (proved.device_count(), proved.devices().collect::<Vec<_>>()),
-        );
+        same(devices.device_count(), proved.device_count());
+        same_items(devices.devices(), proved.devices());
         assert_eq!(devices.clone(), *devices);
         assert_eq!(self.or_try_error, *devices);
         same(&devices.0, proved);
@@ -444,7 +440,7 @@ fn devices() {
     ] {
         same(
             DeviceManager::new(first, last, base, size).map(|devices| devices.0),
-            proved_devices::DeviceManager::new(Global, first, last, base, size),
+            vm_devices::DeviceManager::new(Global, first, last, base, size),
         );
     }
 }

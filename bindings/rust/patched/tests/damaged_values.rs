@@ -1,21 +1,20 @@
-//! Compares serde with the proved readers.
+//! Guards against a reader of saved objects that accepts what is not valid, rejects what is valid, or
+//! reads another object.
 //!
 //! The proved strict readers must accept what serde writes. Damaged values are read by serde and by
-//! the proved reader, which must accept the same ones.
+//! the proved reader of values, which must accept the same ones, and read the same objects.
 
-use crate::proved::vm_allocator as proved;
-use crate::proved::vm_devices as proved_devices;
-use crate::rattle::{self, Fields, Global, Number};
-use crate::{AddressAllocator, AllocPolicy, DeviceManager, IdAllocator};
-use alloc::format;
-use alloc::string::{String, ToString};
-use alloc::vec::Vec;
-use core::fmt::Debug;
+use box_count::proved::vm_allocator as proved;
+use box_count::proved::vm_devices as proved_devices;
+use box_count::rattle::Global;
+use box_count::value::{self, Fields, Number};
+use divsharun::{AddressAllocator, AllocPolicy, DeviceManager, IdAllocator};
 use serde::de::DeserializeOwned;
 use serde::Serialize;
 use serde_json::{json, Value};
+use std::fmt::Debug;
 
-#[path = "../tests/packed/mod.rs"]
+#[path = "../../divsharun/tests/packed/mod.rs"]
 mod packed;
 
 /// Returns the number of objects of each kind that are damaged: 15,000, or the value of the
@@ -38,24 +37,24 @@ impl Draw {
 }
 
 /// Converts a JSON value to a value of the proved readers.
-fn to_proved_value(value: &Value) -> rattle::Value {
+fn to_proved_value(value: &Value) -> value::Value {
     match value {
-        Value::Null => rattle::Value::Null,
-        Value::Bool(truth) => rattle::Value::Bool(*truth),
-        Value::Number(number) => rattle::Value::Number(match number.as_u64() {
+        Value::Null => value::Value::Null,
+        Value::Bool(truth) => value::Value::Bool(*truth),
+        Value::Number(number) => value::Value::Number(match number.as_u64() {
             Some(whole) => Number::Whole(whole),
             None => Number::Other(number.as_f64().unwrap_or_default()),
         }),
-        Value::String(text) => rattle::Value::String(text.clone()),
+        Value::String(text) => value::Value::String(text.clone()),
         Value::Array(items) => {
-            let items: Vec<rattle::Value> = items.iter().map(to_proved_value).collect();
-            rattle::Value::Array(items.into())
+            let items: Vec<value::Value> = items.iter().map(to_proved_value).collect();
+            value::Value::Array(items.into())
         }
         Value::Object(fields) => {
             let fields = fields
                 .iter()
                 .map(|(name, value)| (name.clone(), to_proved_value(value)));
-            rattle::Value::from(fields.collect::<Fields>())
+            value::Value::from(fields.collect::<Fields>())
         }
     }
 }
@@ -144,40 +143,56 @@ fn write_shuffled(value: &Value, draw: &mut Draw, text: &mut String) -> bool {
 }
 
 /// A type with a proved reader.
-trait Saved: Serialize + DeserializeOwned + PartialEq + Debug {
-    /// Returns an object after some calls.
-    fn after_calls(draw: &mut Draw) -> Self;
+trait Saved: Serialize + DeserializeOwned + Debug {
+    /// The proved type.
+    type Proved;
+    /// Returns an object after some calls, and the proved object after the same calls.
+    fn after_calls(draw: &mut Draw) -> (Self, Self::Proved);
     /// Reads a value by the proved reader.
-    fn read(value: &rattle::Value) -> Option<Self>;
-    /// Writes a value by the proved writer.
-    fn write(&self) -> rattle::Value;
+    fn read(value: &value::Value) -> Option<Self::Proved>;
+    /// Writes an object by the proved writer.
+    fn write(object: &Self::Proved) -> value::Value;
+    /// Returns the `Debug` of the object with the state of a proved object. It shows the whole state.
+    fn text_of(object: &Self::Proved) -> String;
     /// Returns the value that the next bytes encode.
     fn value_of(bytes: &mut dyn Iterator<Item = u8>) -> Option<Value>;
 }
 
 impl Saved for AddressAllocator {
+    type Proved = proved::AddressAllocator;
+
     /// Returns a space of 32 addresses.
-    fn after_calls(draw: &mut Draw) -> Self {
+    fn after_calls(draw: &mut Draw) -> (Self, Self::Proved) {
         let base = [0, 1, 100, u64::MAX - 31][draw.below(4) as usize];
         let mut space = AddressAllocator::new(base, 32).unwrap();
+        let mut proved = proved::AddressAllocator::new(Global, base, 32).unwrap();
         for _ in 0..draw.below(8) {
-            let _ = space.allocate(1 + draw.below(6), 1, AllocPolicy::FirstMatch);
+            let size = 1 + draw.below(6);
+            let _ = space.allocate(size, 1, AllocPolicy::FirstMatch);
+            let _ = proved.allocate(Global, size, 1, proved::AllocPolicy::FirstMatch);
         }
         for range in space.held_ranges().collect::<Vec<_>>() {
             if draw.below(2) == 0 {
                 space.free(&range).unwrap();
+                let key = proved::RangeInclusive::new(range.start(), range.end()).unwrap();
+                proved.free(&key).unwrap();
             }
         }
-        space
+        (space, proved)
     }
 
-    fn read(value: &rattle::Value) -> Option<Self> {
-        let read = proved::AddressAllocator::from_value_repaired(Global, value);
-        read.ok().map(AddressAllocator)
+    fn read(value: &value::Value) -> Option<Self::Proved> {
+        proved::AddressAllocator::from_value_repaired(Global, value).ok()
     }
 
-    fn write(&self) -> rattle::Value {
-        self.0.to_value(Global).unwrap()
+    fn write(object: &Self::Proved) -> value::Value {
+        object.to_value(Global).unwrap()
+    }
+
+    fn text_of(object: &Self::Proved) -> String {
+        let (base, end, count) = (object.base(), object.end(), object.held_count());
+        let held: Vec<_> = object.held_ranges().collect();
+        format!("AddressAllocator {{ base: {base}, end: {end}, held_count: {count}, held_ranges: {held:?} }}")
     }
 
     fn value_of(bytes: &mut dyn Iterator<Item = u8>) -> Option<Value> {
@@ -187,26 +202,33 @@ impl Saved for AddressAllocator {
 }
 
 impl Saved for IdAllocator {
+    type Proved = proved::IdAllocator;
+
     /// Returns an allocator of seven ids.
-    fn after_calls(draw: &mut Draw) -> Self {
+    fn after_calls(draw: &mut Draw) -> (Self, Self::Proved) {
         let base = [0, 5, u32::MAX - 6][draw.below(3) as usize];
         let mut ids = IdAllocator::new(base, base + 6).unwrap();
+        let mut proved = proved::IdAllocator::new(Global, base, base + 6).unwrap();
         for _ in 0..draw.below(9) {
-            let _ = ids.allocate_id();
+            let _ = (ids.allocate_id(), proved.allocate_id());
         }
         for _ in 0..draw.below(6) {
-            let _ = ids.free_id(base + draw.below(7) as u32);
+            let id = base + draw.below(7) as u32;
+            let _ = (ids.free_id(id), proved.free_id(id));
         }
-        ids
+        (ids, proved)
     }
 
-    fn read(value: &rattle::Value) -> Option<Self> {
-        let read = proved::IdAllocator::from_value(Global, value);
-        read.ok().map(IdAllocator)
+    fn read(value: &value::Value) -> Option<Self::Proved> {
+        proved::IdAllocator::from_value(Global, value).ok()
     }
 
-    fn write(&self) -> rattle::Value {
-        self.0.to_value(Global).unwrap()
+    fn write(object: &Self::Proved) -> value::Value {
+        object.to_value(Global).unwrap()
+    }
+
+    fn text_of(object: &Self::Proved) -> String {
+        format!("{object:?}")
     }
 
     fn value_of(bytes: &mut dyn Iterator<Item = u8>) -> Option<Value> {
@@ -224,26 +246,36 @@ impl Saved for IdAllocator {
 }
 
 impl Saved for DeviceManager {
-    fn after_calls(draw: &mut Draw) -> Self {
+    type Proved = proved_devices::DeviceManager;
+
+    fn after_calls(draw: &mut Draw) -> (Self, Self::Proved) {
         let mut devices = DeviceManager::new(3, 9, 64, 64).unwrap();
+        let mut proved = proved_devices::DeviceManager::new(Global, 3, 9, 64, 64).unwrap();
         for _ in 0..draw.below(6) {
-            let _ = devices.reserve(1 + draw.below(20), 1, AllocPolicy::FirstMatch);
+            let size = 1 + draw.below(20);
+            let _ = devices.reserve(size, 1, AllocPolicy::FirstMatch);
+            let _ = proved.reserve(Global, size, 1, proved::AllocPolicy::FirstMatch);
         }
         for id in 3..9 {
             if draw.below(3) == 0 {
-                let _ = devices.release(id);
+                let _ = (devices.release(id), proved.release(id));
             }
         }
-        devices
+        (devices, proved)
     }
 
-    fn read(value: &rattle::Value) -> Option<Self> {
-        let read = proved_devices::DeviceManager::from_value(Global, value);
-        read.ok().map(DeviceManager)
+    fn read(value: &value::Value) -> Option<Self::Proved> {
+        proved_devices::DeviceManager::from_value(Global, value).ok()
     }
 
-    fn write(&self) -> rattle::Value {
-        self.0.to_value(Global).unwrap()
+    fn write(object: &Self::Proved) -> value::Value {
+        object.to_value(Global).unwrap()
+    }
+
+    fn text_of(object: &Self::Proved) -> String {
+        let (ids, space) = (object.ids(), AddressAllocator::text_of(object.addresses()));
+        let devices: Vec<_> = object.devices().collect();
+        format!("DeviceManager {{ ids: {ids:?}, addresses: {space}, devices: {devices:?} }}")
     }
 
     fn value_of(bytes: &mut dyn Iterator<Item = u8>) -> Option<Value> {
@@ -256,6 +288,12 @@ impl Saved for DeviceManager {
             })?
         }))
     }
+}
+
+/// Checks that both are one object, or none.
+fn same<T: Saved>(object: Option<&T>, proved: Option<&T::Proved>, saved: impl Debug) {
+    let text = object.map(|object| format!("{object:?}"));
+    assert_eq!(text, proved.map(T::text_of), "{saved:?}");
 }
 
 /// Returns the number that the next bytes encode.
@@ -306,10 +344,11 @@ fn damage_each(mut is_read: impl FnMut(&mut Draw) -> bool) {
 /// Damages the text of an object, and reads it with both readers, which must read the same. Returns
 /// whether it is accepted.
 fn read_text<T: Saved>(draw: &mut Draw) -> bool {
-    let object = T::after_calls(draw);
+    let (object, proved) = T::after_calls(draw);
+    same(Some(&object), Some(&proved), "calls");
     let mut value = match draw.below(2) {
         0 => serde_json::to_value(&object).unwrap(),
-        _ => serde_json::from_str(&object.write().to_string()).unwrap(),
+        _ => serde_json::from_str(&T::write(&proved).to_string()).unwrap(),
     };
     for _ in 0..draw.below(4) {
         damage(&mut value, draw);
@@ -318,13 +357,13 @@ fn read_text<T: Saved>(draw: &mut Draw) -> bool {
     let is_twice = write_shuffled(&value, draw, &mut text);
     let serde: Option<T> = serde_json::from_str(&text).ok();
     let proved = T::read(&to_proved_value(&value)).filter(|_| !is_twice);
-    assert_eq!(serde, proved, "{text}");
+    same(serde.as_ref(), proved.as_ref(), &text);
     serde.is_some()
 }
 
 /// Damages the bytes of an object, and reads them with both readers, like [`read_text`].
 fn read_bytes<T: Saved>(draw: &mut Draw) -> bool {
-    let mut bytes = packed::to_bytes(&T::after_calls(draw)).unwrap();
+    let mut bytes = packed::to_bytes(&T::after_calls(draw).0).unwrap();
     for _ in 0..draw.below(3) {
         let place = draw.below(bytes.len() as u64) as usize;
         match draw.below(16) {
@@ -337,7 +376,7 @@ fn read_bytes<T: Saved>(draw: &mut Draw) -> bool {
     let value = T::value_of(&mut bytes.iter().copied());
     let proved = value.and_then(|value| T::read(&to_proved_value(&value)));
     let serde: Option<T> = packed::from_bytes(bytes.iter().copied()).ok();
-    assert_eq!(serde, proved, "{bytes:?}");
+    same(serde.as_ref(), proved.as_ref(), &bytes);
     serde.is_some()
 }
 
@@ -359,14 +398,18 @@ fn bytes_are_read_as_the_proved_readers_do() {
 fn written_ids_and_devices_are_valid() {
     let mut draw = Draw(1);
     for _ in 0..600 {
-        let ids = IdAllocator::after_calls(&mut draw);
-        let devices = DeviceManager::after_calls(&mut draw);
+        let (ids, proved) = IdAllocator::after_calls(&mut draw);
+        let (devices, _) = DeviceManager::after_calls(&mut draw);
         assert_eq!(
             to_proved_value(&serde_json::to_value(&ids).unwrap()),
-            ids.write()
+            IdAllocator::write(&proved)
         );
         let value = to_proved_value(&serde_json::to_value(&devices).unwrap());
-        assert_eq!(DeviceManager::read(&value), Some(devices));
+        same(
+            Some(&devices),
+            DeviceManager::read(&value).as_ref(),
+            "devices",
+        );
     }
 }
 
@@ -374,7 +417,7 @@ fn written_ids_and_devices_are_valid() {
 fn written_spaces_are_valid_and_depend_on_the_state_alone() {
     let mut draw = Draw(1);
     for round in 0..600 {
-        let mut space = AddressAllocator::after_calls(&mut draw);
+        let (mut space, _) = AddressAllocator::after_calls(&mut draw);
         if round >= 300 {
             // More blocks, and a tree of another shape.
             space = AddressAllocator::new(0, 1 << 20).unwrap();
@@ -387,7 +430,7 @@ fn written_spaces_are_valid_and_depend_on_the_state_alone() {
         let text = serde_json::to_string(&space).unwrap();
         let value = to_proved_value(&serde_json::from_str(&text).unwrap());
         let read = proved::AddressAllocator::from_value(Global, &value).unwrap();
-        assert!(AddressAllocator(read) == space);
+        same(Some(&space), Some(&read), "a space");
         let held: Vec<_> = space.held_ranges().collect();
         let size = space.end() - space.base() + 1;
         let other = AddressAllocator::with_held(space.base(), size, &held).unwrap();

@@ -1,4 +1,5 @@
-use super::{AllocError, Global, Vec};
+//! Rattle's JSON values, which only the readers and writers of values use.
+use crate::rattle::{AllocError, Global, Vec};
 use alloc::string::String;
 use core::fmt;
 use core::slice::{Iter, IterMut};
@@ -263,17 +264,17 @@ fn write_text(text: &str, f: &mut fmt::Formatter<'_>) -> fmt::Result {
 macro_rules! json {
     (in $alloc:expr; {$($fields:tt)*}) => {{
         let _: $crate::rattle::Global = $alloc;
-        $crate::rattle::json!(@object [] $($fields)*)
+        $crate::value::json!(@object [] $($fields)*)
     }};
-    (@object [$($done:tt)*]) => { $crate::rattle::Value::object([$($done)*]) };
+    (@object [$($done:tt)*]) => { $crate::value::Value::object([$($done)*]) };
     (@object [$($done:tt)*] $name:tt: {$($fields:tt)*} $(, $($rest:tt)*)?) => {
-        $crate::rattle::json!(@object [$($done)* ($name, $crate::rattle::json!(@object [] $($fields)*)),] $($($rest)*)?)
+        $crate::value::json!(@object [$($done)* ($name, $crate::value::json!(@object [] $($fields)*)),] $($($rest)*)?)
     };
     (@object [$($done:tt)*] $name:tt: null $(, $($rest:tt)*)?) => {
-        $crate::rattle::json!(@object [$($done)* ($name, Ok($crate::rattle::Value::Null)),] $($($rest)*)?)
+        $crate::value::json!(@object [$($done)* ($name, Ok($crate::value::Value::Null)),] $($($rest)*)?)
     };
     (@object [$($done:tt)*] $name:tt: $value:expr $(, $($rest:tt)*)?) => {
-        $crate::rattle::json!(@object [$($done)* ($name, Ok($crate::rattle::Value::from($value))),] $($($rest)*)?)
+        $crate::value::json!(@object [$($done)* ($name, Ok($crate::value::Value::from($value))),] $($($rest)*)?)
     };
 }
 
