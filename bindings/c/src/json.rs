@@ -96,7 +96,7 @@ impl<'a> Reader<'a> {
 
     /// Returns the fault of parts that end before the rest.
     pub(crate) fn of_parts(&self, error: SavedError) -> TextFault {
-        match fault {
+        match error {
             SavedError::Violated(condition) => self.not_a_state(conditions::text_of(condition)),
             SavedError::OutOfMemory => DVS_OUT_OF_MEMORY.into(),
         }

@@ -453,7 +453,7 @@ static const struct call {
     {"free an id", free_id, 1},
     {"with ids", make_ids_with_held, 3},
     {"an id above others", allocate_id_above, 3},
-    {"read ids", read_ids, 8},
+    {"read ids", read_ids, 3},
     {"release a device", release_device, 2},
     {"reserve first", reserve_first, 1},
     {"reserve last", reserve_last, 1},

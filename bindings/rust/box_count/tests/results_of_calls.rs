@@ -30,19 +30,8 @@ mod range;
 #[path = "../../divsharun/src/rattle/mod.rs"]
 mod rattle;
 
-<<<<<<< HEAD:bindings/rust/divsharun/src/proved_calls.rs
-use crate::proved::vm_allocator as proved;
-use crate::proved::vm_devices as proved_devices;
-use crate::rattle::Global;
-use crate::{
-    AddressAllocator, AllocPolicy, Constraint, DeviceManager, IdAllocator, ListError,
-    RangeInclusive, TryError,
-};
-use alloc::{format, vec::Vec};
-=======
 pub use address_allocator::{AddressAllocator, HeldRanges};
 pub use constraint::{AllocPolicy, Constraint};
->>>>>>> 93a8e16eabf324addab33d8f4699773b64ffcf0a:bindings/rust/box_count/tests/results_of_calls.rs
 use core::fmt::Debug;
 pub use device_manager::DeviceManager;
 use draw::Draw;

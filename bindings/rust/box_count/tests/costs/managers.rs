@@ -99,7 +99,7 @@ fn calls() {
     }
 }
 
-/// Checks each part of a value in turn: ids, space, table, and the starts of its ranges.
+/// Checks each part of a value in turn: ids, space, the list of devices, and their table.
 #[test]
 fn saved() {
     for s in SETTINGS {
@@ -115,26 +115,25 @@ fn saved() {
         at_most(&s, &parts, || manager.to_value(Global)).unwrap();
 
         let counted = cost(|| space.held_count()).1;
-        let table = [map(s.held_ids().zip(space.held_ranges())), 0];
+        let listed = [list(s.held), 0];
         let (first, last) = (s.held_ids().min().unwrap(), s.held_ids().max().unwrap());
         let slots = [list(u64::from(last - first) + 1), 0];
         let starts = || space.held_ranges().map(|range| range.start());
-        let seen = [map(starts().map(|start| (start, ()))), 0];
         let by_start = [map(starts().map(|start| (start, 0u32))), 0];
         let find = |id| assert!(space.holds(&manager.slot(id).unwrap()));
         let found = cost(|| s.held_ids().for_each(find)).1;
         let parts = [
-            read_ids, read_space, counted, table, seen, found, slots, by_start,
+            read_ids, read_space, listed, counted, found, slots, by_start,
         ];
         let last_device = format!("/slots/{}", s.held - 1);
         let rows = [
-            ("/version".into(), 1, 8),
-            (format!("{last_device}/mmio_range/end"), u32::MAX, 6),
-            (format!("{last_device}/id"), 0, 4),
+            ("/version".into(), 1, 7),
+            (format!("{last_device}/mmio_range/end"), u32::MAX, 7),
+            (format!("{last_device}/id"), 0, 3),
             ("/slots".into(), 0, 0),
             ("/mmio_allocator/interval_tree/root/height".into(), 0, 1),
             ("/id_allocator/next_id".into(), 0, 0),
-            ("/version".into(), 2, 0),
+            ("/version".into(), 2, 3),
         ];
         for (path, part, count) in rows {
             with_part(&mut value, &path, Value::from(part), |value| {
