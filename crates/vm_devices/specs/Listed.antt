@@ -24,7 +24,7 @@ abbrev pub HaveIncreasingIds : List DeviceSlot → Type 0
 HaveIncreasingIds devices = IsStrictlySortedBy nat_cmp (keys_of (entries_of devices))
 
 -- The result of `push`: the device is the last of the list, or Violated(Order) if its id is not above the ids before it.
--- OutOfMemory is possible only if it is. An error changes nothing.
+-- OutOfMemory is possible only for an id above them. An error changes nothing.
 abbrev pub PushesDevice : List DeviceSlot → DeviceSlot → Result (Unit {0}) SavedError → List DeviceSlot → Type 0
 PushesDevice old device (Ok _) new = (new ≡ old ++ device ∷ []) × HaveIncreasingIds new
 PushesDevice old device (Err (Violated c)) new = (c ≡ Order) × (new ≡ old) × ¬ HaveIncreasingIds (old ++ device ∷ [])

@@ -147,7 +147,7 @@ fn equal_and_cloned(rt: HostRuntime) {
 
 /// A version, and devices that have the ids and the ranges of devices with these ids.
 #[derive(Clone, Copy)]
-struct Parts<'a> {
+struct SavedParts<'a> {
     version: u64,
     devices: &'a [(u32, u32)],
 }
@@ -156,7 +156,7 @@ struct Parts<'a> {
 fn of_parts(
     alloc: Global,
     devices: &DeviceManager,
-    parts: Parts<'_>,
+    parts: SavedParts<'_>,
 ) -> std::result::Result<DeviceManager, SavedError> {
     let Ok(ids) = devices.ids().try_clone(alloc) else {
         return Err(SavedError::OutOfMemory);
@@ -177,7 +177,7 @@ fn of_parts(
 fn made_of_parts(
     alloc: Global,
     devices: &DeviceManager,
-    parts: Parts<'_>,
+    parts: SavedParts<'_>,
 ) -> std::result::Result<DeviceManager, SavedError> {
     match of_parts(alloc, devices, parts) {
         Err(SavedError::OutOfMemory) => of_parts(alloc, devices, parts),
@@ -188,14 +188,14 @@ fn made_of_parts(
 #[test]
 fn created_of_parts(rt: HostRuntime) {
     let devices = three(&rt);
-    let parts = Parts {
+    let parts = SavedParts {
         version: 1,
         devices: &[(3, 3), (4, 4), (5, 5)],
     };
     let again = made_of_parts(rt.alloc(), &devices, parts).expect(&rt, "the same parts");
     expect_true(&rt, again == devices, &"the same manager");
     expect_three(&rt, &again);
-    let other = Parts {
+    let other = SavedParts {
         version: 2,
         ..parts
     };
@@ -213,7 +213,7 @@ fn created_of_parts(rt: HostRuntime) {
         (&[(3, 3), (4, 4), (6, 5)], Condition::Devices),
     ];
     for (listed, condition) in rows {
-        let other = Parts {
+        let other = SavedParts {
             version: 1,
             devices: listed,
         };
