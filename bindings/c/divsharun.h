@@ -554,6 +554,9 @@ dvs_status dvs_address_allocator_save(const dvs_address_allocator *allocator, ch
  * terminating zero, and can be untrusted. Destroy the allocator with
  * dvs_address_allocator_destroy().
  *
+ * Proved code decides whether the nodes, ids and devices of a text are valid. The
+ * code that reads JSON and passes them on is tested.
+ *
  * Errors, in order:
  * - DVS_NOT_JSON if the text is not JSON.
  * - DVS_NOT_A_STATE if a field is missing, duplicate or unknown, or the values

@@ -131,8 +131,8 @@
 //! address allocators have the same bytes. A [`DeviceManager`] is saved as its version, both
 //! allocators, and its devices in ascending order of ids.
 //!
-//! A value is accepted if and only if it is valid. Any other value is an error of the format. An
-//! address allocator is valid under these conditions:
+//! Proved code accepts the nodes, ids and devices of a value if and only if they are valid. Any other
+//! value is an error of the format. An address allocator is valid under these conditions:
 //!
 //! - The fields are those that this crate writes, and each number fits its type.
 //! - The keys of the nodes, in order, ascend, share no address and are inside the space.
@@ -145,9 +145,10 @@
 //!
 //! Nodes that are nested more than 50 deep are an error before they are checked.
 //!
-//! An address allocator is written from a list of its blocks. An object is read into lists of its
-//! allocated ranges, freed ids and devices. An item has at most 24 bytes, and a list has at most an
-//! eighth more capacity than it needs.
+//! An address allocator is written from a list of its blocks, and read into a list of its allocated
+//! ranges. The ids of an allocator are read without another list, and devices into a list of them. An
+//! item has at most 24 bytes. A list of ranges has at most an eighth more capacity than it needs, and
+//! one of devices at most twice as much.
 //!
 //! An error names the unknown, missing or duplicate field or the unknown variant, or the condition
 //! that the value violates.
