@@ -28,7 +28,7 @@ CHANGED = [
 ]
 PRELUDE = ("Box", "Vec")
 # What the first eraser adds to what divsharun does not reach.
-UNREACHED = re.compile(r"#\[allow\(dead_code\)\] (pub\(in [\w:]+\) fn count_(?:clear|held)\(|Overlap\()")
+UNREACHED = re.compile(r"#\[allow\(dead_code\)\] (pub\(in [\w:]+\) fn count_(?:clear|held)\(|Overlap\(|pub enum ValueError\b)")
 # The code that the derive of `Error` stands for, with an arm for each variant.
 ARM = r" +\w+::(\w+)(?:\(field_0(?:, field_1)?\))? => write!\(f, (\".*\")\),\n"
 DISPLAY = re.compile(r"""
