@@ -2,8 +2,8 @@
 //! that are read one by one.
 use super::*;
 use crate::fixtures::{fail_from_here, holds_exactly};
+use vm_allocator::{Condition, SavedError};
 use vm_devices::{DeviceSlot, ReadDevices};
-use vm_ranges::{Condition, SavedError};
 
 /// Returns the id of a device, and the ends of its range.
 fn parts(device: DeviceSlot) -> (u32, u64, u64) {
