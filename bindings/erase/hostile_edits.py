@@ -11,7 +11,9 @@ import sys
 import tempfile
 
 import erase
-import mutants
+
+sys.path.append(os.path.join(os.path.dirname(os.path.abspath(__file__)), "..", "..", "tests"))
+import mutants  # noqa: E402
 
 RANGE, CONSTRAINT = "vm_ranges/src/range.rt", "vm_ranges/src/constraint.rt"
 CLAUSE, BODY = "ensures { result ≡ address_count self.now }", "        1 + (self.end - self.start)"

@@ -6,7 +6,8 @@ import shutil
 import sys
 from collections import namedtuple
 
-import erase
+sys.path.append(os.path.join(os.path.dirname(os.path.abspath(__file__)), "..", "bindings", "erase"))
+import erase  # noqa: E402
 
 # An edit is (file, old, new). The rest has the other keys, for example the reason for rejecting the mutant.
 Mutant = namedtuple("Mutant", "name edits rest")

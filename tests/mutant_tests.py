@@ -14,14 +14,14 @@ import itertools
 import json
 import math
 import os
+import pathlib
+import re
 import subprocess
 import sys
 
-import erase
 import mutants
-
-sys.path.append(os.path.join(os.path.dirname(os.path.abspath(__file__)), "..", "..", "tests"))
-from processor_time import HANG, limited_to, used_by_children  # noqa: E402
+from mutants import erase
+from processor_time import HANG, limited_to, used_by_children
 
 LISTS = ("count_rule_mutants", "test_mutants")
 # Mutants that no check can distinguish from the original.
@@ -32,8 +32,8 @@ UNSEEN = dict.fromkeys(WITHOUT_BOXES, "it follows no box") | {
 # The check that must notice a mutant: a test, run in a certain way, or box_count.
 Check = collections.namedtuple("Check", "test how")
 BOX_COUNT = Check("", None)
-# The constant COUNT_ALLOCATION of the tests, and the bytes of a small stack.
-COUNT_ALLOCATION, SMALL_STACK = "1000100", str(256 * 1024)
+# The bytes of a small stack.
+SMALL_STACK = str(256 * 1024)
 BUILD_TESTS = ("test", "--no-run", "--lib", "--profile=dev", "--config=profile.dev.debug=0")
 # Seconds of processor time without a mutant. They only end a test that does not end.
 LONGEST = 600
@@ -57,6 +57,8 @@ class Runner:
         self.copy, self.target = (os.path.join(scratch, name) for name in ("project", "target"))
         self.workspace = mutants.copy_workspace(project, os.path.join(scratch, "bindings"))
         self.counter = os.path.join(scratch, "refuse.so")
+        fixtures = pathlib.Path(project, "crates", "vm_tests", "src", "fixtures.rt").read_text(encoding="utf-8")
+        self.count_allocation = re.search(r"COUNT_ALLOCATION: usize = ([\d_]+);", fixtures)[1].replace("_", "")
         source = os.path.join(project, "tests", "refuse.c")
         subprocess.run([os.environ.get("CC", "cc"), "-O2", "-shared", "-fPIC", "-o", self.counter, source, "-ldl"], check=True)
 
@@ -76,7 +78,7 @@ class Runner:
         """Returns whether a check passes in this number of seconds."""
         if check.how == "refused":
             return self.passes_when_refused(program, check, seconds)
-        ways = {"counted": {"COUNT": COUNT_ALLOCATION, "LD_PRELOAD": self.counter}, "small": {"RUST_MIN_STACK": SMALL_STACK}}
+        ways = {"counted": {"COUNT": self.count_allocation, "LD_PRELOAD": self.counter}, "small": {"RUST_MIN_STACK": SMALL_STACK}}
         done = self.ran(program, check, ways.get(check.how, {}), seconds)
         if done and done.returncode == 0 and check.test and "1 passed" not in done.stdout:
             sys.exit(f"there is no test {check.test}")
