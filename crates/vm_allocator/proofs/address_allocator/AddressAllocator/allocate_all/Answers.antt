@@ -29,8 +29,11 @@ invariant_of-self-in-Err c = record {
 
 pub returns-in-Err-clause-answer : goal.returns-in-Err-clause-answer
 returns-in-Err-clause-answer c =
-    rw (← c.self.view_is) (state_again c, inr (refused_state c.args.requests.now c.self.inside.interval_tree c.in-Err.error
-    (refused_by AllocatesInTree c.self.inside.interval_tree c.args.requests.now c.loop-index.index c.in-Err.error (failed_at c))))
+    rw (← c.self.view_is) (
+      state_again c,
+      inr (refused_state c.args.requests.now c.self.inside.interval_tree c.in-Err.error
+          (refused_by AllocatesInTree c.self.inside.interval_tree c.args.requests.now c.loop-index.index c.in-Err.error (failed_at c))),
+    )
 
 pub returns-in-Err-clause-failed : goal.returns-in-Err-clause-failed
 returns-in-Err-clause-failed c = rw (← c.self.view_is) (failed_at c)
