@@ -29,6 +29,8 @@ mod proved;
 mod range;
 #[path = "../../divsharun/src/rattle/mod.rs"]
 mod rattle;
+#[path = "../../divsharun/src/texts.rs"]
+mod texts;
 
 pub use address_allocator::{AddressAllocator, HeldRanges};
 pub use constraint::{AllocPolicy, Constraint};

@@ -1,6 +1,10 @@
 use crate::proved::vm_allocator as proved;
+use crate::texts::pad;
 use crate::{AddressAllocator, NodeState, RangeInclusive};
 use core::fmt;
+
+/// The text of a failed allocation of memory.
+pub(crate) const NO_MEMORY: &str = "There is not enough memory.";
 
 /// The error of a call. A call that returns an error leaves the same ranges and ids allocated.
 ///
@@ -50,38 +54,41 @@ impl fmt::Display for Error {
     fn fmt(&self, f: &mut fmt::Formatter<'_>) -> fmt::Result {
         match self {
             Error::Overflow => {
-                f.write_str("Management operations on desired resource resulted in overflow.")
+                f.pad("Management operations on desired resource resulted in overflow.")
             }
-            Error::OutOfRange(id) => write!(f, "Specified id: {id} is not in the range."),
-            Error::AlreadyReleased(id) => write!(f, "Specified id: {id} is already released."),
-            Error::NeverAllocated(id) => {
-                write!(
-                    f,
-                    "Specified id: {id} was never allocated, can't release it."
-                )
+            Error::OutOfRange(id) => {
+                pad(f, format_args!("Specified id: {id} is not in the range."))
             }
-            Error::ResourceNotAvailable => f.write_str("The requested resource is not available."),
-            Error::InvalidRange(start, end) => {
-                write!(f, "The range specified: {start}-{end} is not valid.")
+            Error::AlreadyReleased(id) => {
+                pad(f, format_args!("Specified id: {id} is already released."))
             }
-            Error::InvalidAlignment => f.write_str("Alignment value is invalid."),
-            Error::Overlap(new, old) => {
-                write!(
-                    f,
-                    "Addresses are overlapping.{new:?} intersects with existing {old:?}"
-                )
-            }
-            Error::InvalidStateTransition(range, state) => {
-                write!(
-                    f,
+            Error::NeverAllocated(id) => pad(
+                f,
+                format_args!("Specified id: {id} was never allocated, can't release it."),
+            ),
+            Error::ResourceNotAvailable => f.pad("The requested resource is not available."),
+            Error::InvalidRange(start, end) => pad(
+                f,
+                format_args!("The range specified: {start}-{end} is not valid."),
+            ),
+            Error::InvalidAlignment => f.pad("Alignment value is invalid."),
+            Error::Overlap(new, old) => pad(
+                f,
+                format_args!("Addresses are overlapping.{new:?} intersects with existing {old:?}"),
+            ),
+            Error::InvalidStateTransition(range, state) => pad(
+                f,
+                format_args!(
                     "Invalid state transition for node {range:?} from {state:?} to NodeState::Free"
-                )
-            }
-            Error::UnalignedAddress => f.write_str("The address is not aligned."),
+                ),
+            ),
+            Error::UnalignedAddress => f.pad("The address is not aligned."),
             Error::Underflow => {
-                f.write_str("Management operations on desired resource resulted in underflow.")
+                f.pad("Management operations on desired resource resulted in underflow.")
             }
-            Error::InvalidSize(size) => write!(f, "The specified size: {size} is not valid."),
+            Error::InvalidSize(size) => {
+                pad(f, format_args!("The specified size: {size} is not valid."))
+            }
         }
     }
 }
@@ -135,7 +142,7 @@ impl fmt::Display for TryError {
     fn fmt(&self, f: &mut fmt::Formatter<'_>) -> fmt::Result {
         match self {
             TryError::Refused(error) => error.fmt(f),
-            TryError::OutOfMemory => f.write_str("There is not enough memory."),
+            TryError::OutOfMemory => f.pad(NO_MEMORY),
         }
     }
 }
@@ -182,10 +189,10 @@ pub struct ListError<E = Error> {
 
 impl<E: fmt::Display> fmt::Display for ListError<E> {
     fn fmt(&self, f: &mut fmt::Formatter<'_>) -> fmt::Result {
-        if let Some(index) = self.index {
-            write!(f, "item {index}: ")?;
+        match self.index {
+            Some(index) => pad(f, format_args!("item {index}: {}", self.error)),
+            None => self.error.fmt(f),
         }
-        self.error.fmt(f)
     }
 }
 

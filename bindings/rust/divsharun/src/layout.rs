@@ -111,7 +111,7 @@ impl fmt::Display for Block<'_> {
             NodeState::Free => "gap",
             NodeState::Allocated => "held",
         };
-        f.write_str(self.name.unwrap_or(by_state))
+        f.pad(self.name.unwrap_or(by_state))
     }
 }
 

@@ -79,6 +79,10 @@
 //! [`DeviceManager::try_reserve`]. They return a [`TryError`] and change nothing on an error. Both
 //! kinds can be called on the same object.
 //!
+//! With serde, an allocation that fails is an error of the format. A view that `try_saved` returns
+//! is saved without an allocation. The memory of a format is its own: serde_json ends the process if
+//! the allocation of its text fails.
+//!
 //! Freeing a range, [`IdAllocator::allocate_id`], comparisons and queries do not allocate.
 //!
 //! # Threads
@@ -126,7 +130,8 @@
 //! # Saved values
 //!
 //! With `serde`, the first four types have the fields of `vm-allocator` in the same order, so
-//! either crate reads what the other wrote, in every format. The tree of an address allocator is
+//! either crate reads what the other wrote, in every format that writes `None`. TOML leaves it out, and
+//! cannot write a tree or ids without a next one. The tree of an address allocator is
 //! written balanced. Its shape depends only on the space and the allocated ranges, so equal
 //! address allocators have the same bytes. A [`DeviceManager`] is saved as its version, both
 //! allocators, and its devices in ascending order of ids.
@@ -142,6 +147,8 @@
 //! free neighbours, because bugs of `vm-allocator` led to these trees. The allocated keys become
 //! the allocated ranges of a new tree. The space of a [`DeviceManager`] is read more strictly:
 //! heights must be correct, and the tree must be balanced, without gaps and free neighbours.
+//! `AddressAllocator::deserialize_strict` reads an address allocator in this way, so it notices a tree
+//! that was cut.
 //!
 //! Nodes that are nested more than 50 deep are an error before they are checked.
 //!
@@ -197,6 +204,7 @@ mod rattle;
 pub mod replay;
 #[cfg(feature = "serde")]
 mod saved;
+mod texts;
 
 pub use address_allocator::{AddressAllocator, Gaps, HeldRanges};
 pub use constraint::{AllocPolicy, Constraint, DEFAULT_CONSTRAINT_ALIGN};
@@ -206,6 +214,8 @@ pub use id_allocator::{HeldIds, IdAllocator};
 pub use layout::{Block, Blocks, Layout};
 pub use node_state::NodeState;
 pub use range::RangeInclusive;
+#[cfg(feature = "serde")]
+pub use saved::Saved;
 
 /// Checks that every public type is `Send` and `Sync`.
 const _: () = {

@@ -1,4 +1,5 @@
 use crate::proved::vm_allocator as proved;
+use crate::texts::pad;
 use crate::{Error, Result};
 use core::{fmt, ops};
 
@@ -7,8 +8,8 @@ use core::{fmt, ops};
 /// It is never empty and never has all 2^64 addresses, so its length fits a `u64`. Ranges are
 /// ordered by start, then by end.
 ///
-/// `Display` writes both ends in hexadecimal, like `/proc/iomem`. `LowerHex` applies the flags of
-/// the format to each end.
+/// `Display` writes both ends in hexadecimal, like `/proc/iomem`, and applies a width to both
+/// together. `LowerHex` applies the flags of the format to each end.
 ///
 /// # Example
 ///
@@ -22,6 +23,7 @@ use core::{fmt, ops};
 /// assert!(window.contains(&registers) && registers.overlaps(&window));
 ///
 /// assert_eq!(window.to_string(), "d0000000-d0000fff");
+/// assert_eq!(format!("{window:>20}|"), "   d0000000-d0000fff|");
 /// assert_eq!(format!("{registers:#x}"), "0xd0000100-0xd00001ff");
 /// assert_eq!(RangeInclusive::try_from(0xd000_0000..=0xd000_0fff)?, window);
 /// # Ok::<(), divsharun::Error>(())
@@ -157,7 +159,7 @@ impl fmt::LowerHex for RangeInclusive {
 
 impl fmt::Display for RangeInclusive {
     fn fmt(&self, f: &mut fmt::Formatter<'_>) -> fmt::Result {
-        fmt::LowerHex::fmt(self, f)
+        pad(f, format_args!("{self:x}"))
     }
 }
 

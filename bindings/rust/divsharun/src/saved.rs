@@ -10,15 +10,17 @@ mod conditions;
 mod reading;
 mod writing;
 
-use crate::error::out_of_memory;
+pub use writing::Saved;
+
+use crate::error::NO_MEMORY;
 use crate::proved::vm_allocator::SavedError;
 
-/// Returns the text of an error. Ends the process if an allocation failed.
+/// Returns the text of an error.
 fn text_of(error: SavedError) -> &'static str {
     match error {
         SavedError::Violated(condition) => {
             conditions::text_of(condition).to_str().unwrap_or_default()
         }
-        SavedError::OutOfMemory => out_of_memory(),
+        SavedError::OutOfMemory => NO_MEMORY,
     }
 }

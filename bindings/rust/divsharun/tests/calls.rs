@@ -488,6 +488,44 @@ fn ranges_convert_and_are_written_in_hexadecimal() {
     assert_eq!(RangeInclusive::try_from(spent), refused(7, 7));
 }
 
+/// Checks that a width applies to a whole text.
+#[test]
+fn texts_are_padded_as_a_whole() {
+    let range = RangeInclusive::new(0xd0, 0xd7).unwrap();
+    let texts: [(&dyn std::fmt::Display, &str); 6] = [
+        (&range, "d0-d7"),
+        (
+            &Error::OutOfRange(7),
+            "Specified id: 7 is not in the range.",
+        ),
+        (&Error::InvalidAlignment, "Alignment value is invalid."),
+        (&TryError::OutOfMemory, "There is not enough memory."),
+        (
+            &ListError {
+                index: Some(2),
+                error: Error::InvalidAlignment,
+            },
+            "item 2: Alignment value is invalid.",
+        ),
+        (
+            &Error::Overlap(range, range),
+            "Addresses are overlapping.RangeInclusive { start: 208, end: 215 } intersects with \
+             existing RangeInclusive { start: 208, end: 215 }",
+        ),
+    ];
+    for (object, text) in texts {
+        let padding = " ".repeat(160 - text.len());
+        assert_eq!(format!("{object:>160}"), format!("{padding}{text}"));
+        assert_eq!(format!("{object:<160}"), format!("{text}{padding}"));
+        assert_eq!(format!("{object:.3}"), text[..3]);
+        assert_eq!(object.to_string(), text);
+    }
+    let space = AddressAllocator::new(0, 8).unwrap();
+    let layout = space.layout();
+    let gap = layout.blocks().next().unwrap();
+    assert_eq!(format!("{gap:>5}|{gap:^5}|"), "  gap| gap |");
+}
+
 /// Requests by size, alignment and policy, with a window or without, and their texts.
 type WrittenRequest = ((u64, u64, AllocPolicy), Option<(u64, u64)>, &'static str);
 

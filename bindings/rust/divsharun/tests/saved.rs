@@ -6,9 +6,9 @@ mod refusing;
 
 use divsharun::{
     AddressAllocator, AllocPolicy, DeviceManager, DeviceSlot, IdAllocator, NodeState,
-    RangeInclusive,
+    RangeInclusive, TryError,
 };
-use refusing::peak_of;
+use refusing::{peak_of, refusing};
 use serde::de::value::{Error, MapDeserializer};
 use serde::de::{DeserializeOwned, IntoDeserializer};
 use serde::{Deserialize, Serialize};
@@ -529,11 +529,11 @@ fn lists_are_refused_at_their_first_fault() {
     assert!(packed::from_bytes::<IdAllocator>(counted(bytes, &asked)).is_err());
     assert_eq!(asked.get(), 21 + 8);
 
-    // The announced length allocates nothing.
+    // The announced length allocates nothing. The first ids need a block of 1 KiB.
     asked.set(0);
     let bytes = counted(ids_freed(u64::MAX, 0..3), &asked);
     let (read, most) = peak_of(|| packed::from_bytes::<IdAllocator>(bytes).map(drop));
-    assert!(read.is_err() && most < 1000, "{most}");
+    assert!(read.is_err() && most < 1200, "{most}");
     assert_eq!(asked.get(), 21 + 12);
 }
 
@@ -612,4 +612,82 @@ fn hostile_bytes_cost_memory_of_their_length() {
     costs::<DeviceManager>(&bytes, true, 5.0);
     bytes.pop();
     costs::<DeviceManager>(&bytes, false, 1.0);
+}
+
+/// Fails each allocation of a call in turn. The call returns an error with the text of a failed
+/// allocation, until no allocation is left to fail.
+fn fails_each<T>(mut call: impl FnMut() -> Result<T, packed::Failure>) {
+    for number in 1.. {
+        let (result, requests) = refusing(number, || call().map(drop));
+        if requests < number {
+            assert!(result.is_ok() && number > 1);
+            return;
+        }
+        let text = result.unwrap_err().to_string();
+        assert_eq!(text, "There is not enough memory.");
+    }
+}
+
+fn read_fails_each<T: DeserializeOwned>(bytes: &[u8]) {
+    fails_each(|| packed::from_bytes::<T>(bytes.iter().copied()));
+}
+
+/// A space of four addresses, of which the second one is allocated.
+fn second_held() -> AddressAllocator {
+    let mut space = AddressAllocator::new(16, 4).unwrap();
+    space.allocate(1, 1, AllocPolicy::ExactMatch(17)).unwrap();
+    space
+}
+
+#[test]
+fn failed_allocations_are_errors_of_the_format() {
+    let (manager, space) = (manager(), second_held());
+    read_fails_each::<DeviceManager>(&packed::to_bytes(&manager).unwrap());
+    read_fails_each::<AddressAllocator>(&packed::to_bytes(&space).unwrap());
+    read_fails_each::<IdAllocator>(&packed::to_bytes(&seven_ids()).unwrap());
+    let mut bytes = Vec::with_capacity(10_000);
+    fails_each(|| packed::to_bytes_in(&manager, &mut bytes));
+    fails_each(|| packed::to_bytes_in(&space, &mut bytes));
+}
+
+#[test]
+fn a_saved_view_is_written_without_an_allocation() {
+    let (manager, space) = (manager(), second_held());
+    let views = (manager.try_saved().unwrap(), space.try_saved().unwrap());
+    assert_eq!(json(&views.0), json(&manager));
+    assert_eq!(json(&views.1), json(&space));
+    let mut bytes = Vec::with_capacity(10_000);
+    let (written, requests) = refusing(0, || {
+        packed::to_bytes_in(&views.0, &mut bytes).and(packed::to_bytes_in(&views.1, &mut bytes))
+    });
+    assert!(written.is_ok() && requests == 0);
+    for number in 1.. {
+        let (view, requests) = refusing(number, || manager.try_saved().map(drop));
+        if requests < number {
+            assert!(view.is_ok() && number > 1);
+            break;
+        }
+        assert_eq!(view, Err(TryError::OutOfMemory));
+    }
+}
+
+#[test]
+fn a_strict_read_accepts_only_what_is_built() {
+    let space = second_held();
+    let strict = |text: &str| {
+        let mut from = serde_json::Deserializer::from_str(text);
+        AddressAllocator::deserialize_strict(&mut from)
+    };
+    let text = json(&space);
+    assert_eq!(strict(&text).unwrap(), space);
+    let other_height = text.replace(r#""height":2"#, r#""height":3"#);
+    for cut in [
+        space_over("null"),
+        space_over(&node((17, 17), "Allocated", "null")),
+        other_height,
+    ] {
+        assert!(serde_json::from_str::<AddressAllocator>(&cut).is_ok());
+        let error = strict(&cut).unwrap_err().to_string();
+        assert!(error.contains("unbalanced"), "{error}");
+    }
 }

@@ -11,7 +11,7 @@ use core::fmt;
 use serde::de::{DeserializeSeed, Error, MapAccess, SeqAccess, Visitor};
 use serde::{Deserialize, Deserializer};
 
-/// Returns the error of a format. Ends the process if an allocation failed.
+/// Returns the error of a format.
 fn invalid<E: Error>(error: SavedError) -> E {
     E::custom(text_of(error))
 }
@@ -66,6 +66,44 @@ impl Space {
 impl<'de> Deserialize<'de> for AddressAllocator {
     fn deserialize<D: Deserializer<'de>>(from: D) -> Result<Self, D::Error> {
         Space::deserialize(from)?.allocator(false)
+    }
+}
+
+impl crate::AddressAllocator {
+    /// Reads an allocator like `Deserialize`, but accepts only a tree that this crate writes or builds:
+    /// heights must be correct, and the tree must be balanced, without gaps and free neighbours.
+    ///
+    /// `Deserialize` also accepts the trees that a bug of `vm-allocator` led to, with gaps and without
+    /// nodes. So it cannot notice that a subtree is missing, and its ranges with it. Read with this
+    /// call what this crate saved, and what a `vm-allocator` without these bugs saved. After any other
+    /// restore, check with [`holds`](Self::holds) that the range of each device is allocated.
+    ///
+    /// # Errors
+    ///
+    /// An error of the format that names the condition that the value violates.
+    ///
+    /// # Example
+    ///
+    /// ```rust
+    /// # #[cfg(feature = "serde")]
+    /// # fn main() -> Result<(), Box<dyn std::error::Error>> {
+    /// use divsharun::AddressAllocator;
+    ///
+    /// let mut cut = serde_json::to_value(AddressAllocator::new(0, 16)?)?;
+    /// cut["interval_tree"]["root"] = serde_json::Value::Null;
+    /// assert!(AddressAllocator::deserialize_strict(&cut).is_err());
+    /// assert_eq!(serde_json::from_value::<AddressAllocator>(cut)?.held_count(), 0);
+    /// # Ok(())
+    /// # }
+    /// # #[cfg(not(feature = "serde"))]
+    /// # fn main() {}
+    /// ```
+    ///
+    /// In a structure, name it with
+    /// `#[serde(deserialize_with = "AddressAllocator::deserialize_strict")]`.
+    pub fn deserialize_strict<'de, D: Deserializer<'de>>(from: D) -> Result<Self, D::Error> {
+        let allocator = Space::deserialize(from)?.allocator(true)?;
+        Ok(crate::AddressAllocator(allocator))
     }
 }
 

@@ -7,7 +7,8 @@ use crate::proved::vm_allocator::{
 };
 use crate::proved::vm_devices::{DeviceManager, SAVED_VERSION};
 use crate::rattle::Global;
-use crate::{DeviceSlot, NodeState};
+use crate::{DeviceSlot, NodeState, TryError};
+use core::fmt;
 use serde::ser::{Error, SerializeSeq, SerializeStruct};
 use serde::{Serialize, Serializer};
 
@@ -32,13 +33,10 @@ macro_rules! write_fields {
 write_fields! {
     RangeInclusive as "RangeInclusive", this: start = this.start(), end = this.end();
     Space as "RangeInclusive", this: start = this.0, end = this.1;
-    AddressAllocator as "AddressAllocator", this:
-        address_space = Space(this.base(), this.end()),
-        interval_tree = Root(
-            this.written_blocks(Global)
-                .map_err(|error| S::Error::custom(text_of(SavedError::from(error))))?
-        );
-    Root as "IntervalTree", this: root = this.0.tree();
+    WithBlocks<'_, AddressAllocator> as "AddressAllocator", this:
+        address_space = Space(this.0.base(), this.0.end()),
+        interval_tree = Root(this.1);
+    Root<'_> as "IntervalTree", this: root = this.0.tree();
     // A call for each node is faster than one for each link, of which there are twice as many.
     #[inline(never)]
     WrittenNode<'_> as "InnerNode", this:
@@ -52,17 +50,93 @@ write_fields! {
         next_id = this.next_id(),
         range_end = this.range_end(),
         freed_ids = List(this.freed_ids().count(), || this.freed_ids());
-    DeviceManager as "DeviceManager", this:
+    WithBlocks<'_, DeviceManager> as "DeviceManager", this:
         version = SAVED_VERSION,
-        id_allocator = this.ids(),
-        mmio_allocator = this.addresses(),
-        slots = List(this.device_count() as usize, || this.devices().map(DeviceSlot::of));
+        id_allocator = this.0.ids(),
+        mmio_allocator = WithBlocks(this.0.addresses(), this.1),
+        slots = List(this.0.device_count() as usize, || this.0.devices().map(DeviceSlot::of));
 }
 
 /// The ends of a space.
 struct Space(u64, u64);
 
-struct Root(WrittenBlocks);
+/// An object, and the blocks that the tree of its space is written of.
+struct WithBlocks<'a, T>(&'a T, &'a WrittenBlocks);
+
+struct Root<'a>(&'a WrittenBlocks);
+
+/// Returns the blocks that the tree of a space is written of.
+fn blocks_of(space: &AddressAllocator) -> Result<WrittenBlocks, SavedError> {
+    Ok(space.written_blocks(Global)?)
+}
+
+impl Serialize for AddressAllocator {
+    fn serialize<S: Serializer>(&self, to: S) -> Result<S::Ok, S::Error> {
+        let blocks = blocks_of(self).map_err(|error| S::Error::custom(text_of(error)))?;
+        WithBlocks(self, &blocks).serialize(to)
+    }
+}
+
+impl Serialize for DeviceManager {
+    fn serialize<S: Serializer>(&self, to: S) -> Result<S::Ok, S::Error> {
+        let blocks = blocks_of(self.addresses());
+        let blocks = blocks.map_err(|error| S::Error::custom(text_of(error)))?;
+        WithBlocks(self, &blocks).serialize(to)
+    }
+}
+
+/// A view of an object, which is serialized as the object, and without an allocation.
+///
+/// [`AddressAllocator::try_saved`](crate::AddressAllocator::try_saved) and
+/// [`DeviceManager::try_saved`](crate::DeviceManager::try_saved) create it.
+pub struct Saved<'a, T> {
+    object: &'a T,
+    blocks: WrittenBlocks,
+}
+
+impl<T: fmt::Debug> fmt::Debug for Saved<'_, T> {
+    fn fmt(&self, f: &mut fmt::Formatter<'_>) -> fmt::Result {
+        f.debug_tuple("Saved").field(self.object).finish()
+    }
+}
+
+impl Serialize for Saved<'_, crate::AddressAllocator> {
+    fn serialize<S: Serializer>(&self, to: S) -> Result<S::Ok, S::Error> {
+        WithBlocks(&self.object.0, &self.blocks).serialize(to)
+    }
+}
+
+impl Serialize for Saved<'_, crate::DeviceManager> {
+    fn serialize<S: Serializer>(&self, to: S) -> Result<S::Ok, S::Error> {
+        WithBlocks(&self.object.0, &self.blocks).serialize(to)
+    }
+}
+
+/// Implements the call that creates a view.
+macro_rules! try_saved {
+    ($($object:ident, $space:expr;)*) => {$(
+        impl crate::$object {
+            /// Returns a view that is serialized as this object, and without an allocation.
+            ///
+            /// The memory of a format is not part of this: `serde_json::to_string` allocates its text,
+            /// and ends the process if that fails.
+            ///
+            /// # Errors
+            ///
+            /// - `OutOfMemory` if the allocation of a list of the blocks fails.
+            pub fn try_saved(&self) -> Result<Saved<'_, Self>, TryError> {
+                let space: fn(&Self) -> &AddressAllocator = $space;
+                let blocks = blocks_of(space(self)).map_err(|_| TryError::OutOfMemory)?;
+                Ok(Saved { object: self, blocks })
+            }
+        }
+    )*};
+}
+
+try_saved! {
+    AddressAllocator, |allocator| &allocator.0;
+    DeviceManager, |manager| manager.0.addresses();
+}
 
 impl Serialize for WrittenTree<'_> {
     #[inline]

@@ -31,8 +31,14 @@ fn note(name: &'static str) {
 /// Returns the bytes of an object.
 pub fn to_bytes<T: Serialize>(object: &T) -> Result<Vec<u8>, Failure> {
     let mut bytes = Vec::new();
-    object.serialize(Packer(&mut bytes))?;
+    to_bytes_in(object, &mut bytes)?;
     Ok(bytes)
+}
+
+/// Writes the bytes of an object to a list instead of what is there.
+pub fn to_bytes_in<T: Serialize>(object: &T, bytes: &mut Vec<u8>) -> Result<(), Failure> {
+    bytes.clear();
+    object.serialize(Packer(bytes))
 }
 
 /// Returns the object that the next bytes encode.
