@@ -5,13 +5,11 @@
 //! at most 1 KiB, and a few changes in a hundred create or remove a chunk.
 //!
 //! Keys descend along a chunk and from chunk to chunk. So the lowest key is at an end, and removing it
-//! moves nothing. The chunks are in a ring buffer, so a chunk at either end moves no other one.
+//! moves nothing.
 
 use super::{AllocError, AllocFailed, Global};
-use alloc::collections::VecDeque;
 use alloc::vec::Vec;
 use core::fmt;
-use core::mem;
 use core::ops::RangeInclusive;
 
 /// The maximum size of a chunk in bytes, unless its entries are large.
@@ -29,10 +27,10 @@ const fn max_entries<E>() -> usize {
 /// An ordered map.
 pub struct BTreeMap<K, V> {
     // Each has capacity for `MAX_ENTRIES`. If there are several chunks, none of them is empty.
-    chunks: VecDeque<Vec<(K, V)>>,
+    chunks: Vec<Vec<(K, V)>>,
     // A bound for each chunk but the first: no key of the chunk is greater, and all keys of the chunk
     // before it are greater.
-    bounds: VecDeque<K>,
+    bounds: Vec<K>,
     len: usize,
 }
 
@@ -50,8 +48,8 @@ impl<K: Ord + Copy, V> BTreeMap<K, V> {
     #[must_use]
     pub fn new(_alloc: Global) -> Self {
         BTreeMap {
-            chunks: VecDeque::new(),
-            bounds: VecDeque::new(),
+            chunks: Vec::new(),
+            bounds: Vec::new(),
             len: 0,
         }
     }
@@ -63,23 +61,17 @@ impl<K: Ord + Copy, V> BTreeMap<K, V> {
         V: Copy,
     {
         let mut copy = BTreeMap::new(Global);
-        try_reserve(&mut copy.chunks, self.chunks.len())?;
-        try_reserve(&mut copy.bounds, self.bounds.len())?;
+        reserve(&mut copy.chunks, self.chunks.len())?;
+        reserve(&mut copy.bounds, self.bounds.len())?;
         for chunk in &self.chunks {
-            let mut entries = Self::chunk()?;
+            let mut entries = Vec::new();
+            reserve(&mut entries, Self::MAX_ENTRIES)?;
             entries.extend_from_slice(chunk);
-            copy.chunks.push_back(entries);
+            copy.chunks.push(entries);
         }
-        copy.bounds.extend(&self.bounds);
+        copy.bounds.extend_from_slice(&self.bounds);
         copy.len = self.len;
         Ok(copy)
-    }
-
-    /// Returns an empty chunk.
-    fn chunk() -> Result<Vec<(K, V)>, AllocError> {
-        let mut chunk = Vec::new();
-        let allocated = chunk.try_reserve_exact(Self::MAX_ENTRIES);
-        allocated.map(|()| chunk).map_err(|_| AllocError)
     }
 
     /// Returns the place of a key, or the place where it would be inserted.
@@ -107,7 +99,7 @@ impl<K: Ord + Copy, V> BTreeMap<K, V> {
         match self.place_of(&key) {
             Ok(place) => {
                 let entry = &mut self.chunks[place.chunk][place.entry];
-                Ok(Some(mem::replace(&mut entry.1, value)))
+                Ok(Some(core::mem::replace(&mut entry.1, value)))
             }
             Err(place) => {
                 let Ok(place) = self.make_room(place, key) else {
@@ -124,9 +116,10 @@ impl<K: Ord + Copy, V> BTreeMap<K, V> {
     /// entry.
     fn make_room(&mut self, place: Place, key: K) -> Result<Place, AllocError> {
         let Some(chunk) = self.chunks.get(place.chunk) else {
-            let chunk = Self::chunk()?;
-            try_reserve(&mut self.chunks, 1)?;
-            self.chunks.push_back(chunk);
+            let mut chunk = Vec::new();
+            reserve(&mut chunk, Self::MAX_ENTRIES)?;
+            try_reserve(&mut self.chunks)?;
+            self.chunks.push(chunk);
             return Ok(place);
         };
         if chunk.len() < Self::MAX_ENTRIES {
@@ -140,9 +133,10 @@ impl<K: Ord + Copy, V> BTreeMap<K, V> {
     /// Half of the chunk is moved. If keys come in order, all of it or nothing is moved.
     #[cold]
     fn split(&mut self, place: Place, key: K) -> Result<Place, AllocError> {
-        let mut lower = Self::chunk()?;
-        try_reserve(&mut self.chunks, 1)?;
-        try_reserve(&mut self.bounds, 1)?;
+        let mut lower = Vec::new();
+        reserve(&mut lower, Self::MAX_ENTRIES)?;
+        try_reserve(&mut self.chunks)?;
+        try_reserve(&mut self.bounds)?;
         let is_last = place.chunk + 1 == self.chunks.len();
         let chunk = &mut self.chunks[place.chunk];
         let kept = match place {
@@ -180,11 +174,11 @@ impl<K: Ord + Copy, V> BTreeMap<K, V> {
             return;
         };
         let at = at.min(last);
-        let [upper, lower] = [at, at + 1].map(|chunk| self.chunks[chunk].len());
-        let are_small = upper + lower <= Self::MAX_ENTRIES / 2;
-        if are_small || upper == 0 || lower == 0 {
-            let mut lower = mem::take(&mut self.chunks[at + 1]);
-            self.chunks[at].append(&mut lower);
+        let (before, after) = self.chunks.split_at_mut(at + 1);
+        let (upper, lower) = (&mut before[at], &mut after[0]);
+        let are_small = upper.len() + lower.len() <= Self::MAX_ENTRIES / 2;
+        if are_small || upper.is_empty() || lower.is_empty() {
+            upper.append(lower);
             self.chunks.remove(at + 1);
             self.bounds.remove(at);
         }
@@ -192,11 +186,11 @@ impl<K: Ord + Copy, V> BTreeMap<K, V> {
 
     /// Removes and returns the entry with the lowest key. It does not allocate.
     fn pop_first(&mut self) -> Option<(K, V)> {
-        let chunk = self.chunks.back_mut()?;
+        let chunk = self.chunks.last_mut()?;
         let entry = chunk.pop()?;
         self.len -= 1;
-        if chunk.is_empty() && self.bounds.pop_back().is_some() {
-            self.chunks.pop_back();
+        if chunk.is_empty() && self.bounds.pop().is_some() {
+            self.chunks.pop();
         }
         Some(entry)
     }
@@ -217,7 +211,7 @@ impl<K: Ord + Copy, V> BTreeMap<K, V> {
     #[must_use]
     pub fn iter(&self) -> btree_map::Iter<'_, K, V> {
         btree_map::Iter {
-            chunks: self.chunks.iter(),
+            chunks: &self.chunks,
             entries: &[],
         }
     }
@@ -229,7 +223,7 @@ impl<K: Ord + Copy, V> BTreeMap<K, V> {
             Err(place) => (place.chunk, place.entry),
         };
         btree_map::Iter {
-            chunks: self.chunks.range(..chunk),
+            chunks: &self.chunks[..chunk],
             entries: self
                 .chunks
                 .get(chunk)
@@ -238,9 +232,14 @@ impl<K: Ord + Copy, V> BTreeMap<K, V> {
     }
 }
 
-/// Allocates capacity for so many more values.
-fn try_reserve<T>(list: &mut VecDeque<T>, more: usize) -> Result<(), AllocError> {
-    list.try_reserve(more).map_err(|_| AllocError)
+/// Allocates capacity for exactly this number of values in an empty list.
+fn reserve<T>(list: &mut Vec<T>, length: usize) -> Result<(), AllocError> {
+    list.try_reserve_exact(length).map_err(|_| AllocError)
+}
+
+/// Allocates capacity for one more value.
+fn try_reserve<T>(list: &mut Vec<T>) -> Result<(), AllocError> {
+    list.try_reserve(1).map_err(|_| AllocError)
 }
 
 impl<K: Ord + Copy, V: PartialEq> PartialEq for BTreeMap<K, V> {
@@ -259,13 +258,12 @@ impl<K: Ord + Copy + fmt::Debug, V: fmt::Debug> fmt::Debug for BTreeMap<K, V> {
 
 /// The iterator of a map.
 pub mod btree_map {
-    use alloc::collections::vec_deque;
     use alloc::vec::Vec;
 
     /// An iterator over the entries of a map in ascending order of keys.
     pub struct Iter<'a, K, V> {
         // The chunks that were not begun yet, and the entries that are left of the current one.
-        pub(super) chunks: vec_deque::Iter<'a, Vec<(K, V)>>,
+        pub(super) chunks: &'a [Vec<(K, V)>],
         pub(super) entries: &'a [(K, V)],
     }
 
@@ -274,7 +272,8 @@ pub mod btree_map {
 
         fn next(&mut self) -> Option<Self::Item> {
             while self.entries.is_empty() {
-                self.entries = self.chunks.next_back()?;
+                let (lowest, rest) = self.chunks.split_last()?;
+                (self.chunks, self.entries) = (rest, lowest);
             }
             let ((key, value), rest) = self.entries.split_last()?;
             self.entries = rest;
@@ -322,7 +321,7 @@ impl<T: Ord + Copy> BTreeSet<T> {
     /// Returns the lowest value.
     #[must_use]
     pub fn first(&self) -> Option<&T> {
-        self.0.chunks.back()?.last().map(|(value, ())| value)
+        self.0.chunks.last()?.last().map(|(value, ())| value)
     }
 
     /// Returns whether the set has the value.
