@@ -36,9 +36,9 @@
  * not make a call on an object, because the signal can interrupt another call.
  * A thread must not be cancelled asynchronously in a call.
  *
- * Memory. If an allocation fails, a call frees what it has allocated and
- * returns DVS_OUT_OF_MEMORY. No call ends the process when memory runs out. This
- * is the last error, except in a call that reads a text or takes an array.
+ * Memory. If memory runs out, a call frees what it has made and returns
+ * DVS_OUT_OF_MEMORY. No call ends the process then. This is the last error, except
+ * in a call that reads a text or takes an array.
  *
  * Freeing a range, dvs_id_allocate() and queries do not allocate memory. Saving
  * and reading allocate less than 100 bytes for each allocated range, freed id
@@ -127,7 +127,7 @@ enum {
     DVS_UNDERFLOW = 11,
     /* The size of a requested range is 0. */
     DVS_INVALID_SIZE = 12,
-    /* An allocation failed. */
+    /* Memory ran out. */
     DVS_OUT_OF_MEMORY = 13,
     /* A pointer is null that must not be. */
     DVS_NULL = 14,
@@ -280,7 +280,7 @@ dvs_status dvs_address_allocator_new(uint64_t base, uint64_t size,
  *
  * Errors, in order:
  * - DVS_INVALID_RANGE, with the first range that is not a valid range.
- * - DVS_OUT_OF_MEMORY if the allocation of a copy of the list fails.
+ * - DVS_OUT_OF_MEMORY if there is no memory for a copy of the list.
  * - DVS_UNDERFLOW if `size` is 0.
  * - DVS_OVERFLOW if the space would end past UINT64_MAX.
  * - For the first range that cannot be allocated:
@@ -412,7 +412,7 @@ dvs_status dvs_range_allocate(dvs_address_allocator *allocator, const dvs_reques
  * - For the first request that is invalid for every allocator:
  *   DVS_INVALID_POLICY, DVS_INVALID_RANGE, DVS_INVALID_SIZE,
  *   DVS_INVALID_ALIGNMENT or DVS_UNALIGNED_ADDRESS.
- * - DVS_OUT_OF_MEMORY if the allocation of a list fails.
+ * - DVS_OUT_OF_MEMORY if there is no memory for a list.
  * - For the first request that fails: the error of dvs_range_allocate().
  */
 DVS_WARN_UNUSED

@@ -53,14 +53,14 @@ impl AddressAllocator {
         or_abort(proved::AddressAllocator::new(Global, base, size)).map(AddressAllocator)
     }
 
-    /// Creates an allocator like [`new`](Self::new), but returns an error if an allocation fails.
+    /// Creates an allocator like [`new`](Self::new), but returns an error if memory runs out.
     ///
     /// # Errors
     ///
     /// In this order:
     /// - `Refused(Underflow)` if `size` is 0.
     /// - `Refused(Overflow)` if the last address would be past `u64::MAX`.
-    /// - `OutOfMemory` if the allocation of the node fails.
+    /// - `OutOfMemory` if there is no memory for the node.
     pub fn try_new(base: u64, size: u64) -> core::result::Result<Self, TryError> {
         or_try_error(proved::AddressAllocator::new(Global, base, size)).map(AddressAllocator)
     }
@@ -108,16 +108,16 @@ impl AddressAllocator {
         unless_list_out_of_memory(Self::try_with_held(base, size, held))
     }
 
-    /// Creates an allocator like [`with_held`](Self::with_held), but returns an error if an
-    /// allocation fails.
+    /// Creates an allocator like [`with_held`](Self::with_held), but returns an error if
+    /// memory runs out.
     ///
     /// # Errors
     ///
     /// In this order:
-    /// - `OutOfMemory` without an index if the allocation of a copy of the list fails.
+    /// - `OutOfMemory` without an index if there is no memory for a copy of the list.
     /// - `Refused` with `Underflow`, `Overflow` or `ResourceNotAvailable`, if `with_held` returns
     ///   that error, with the same index.
-    /// - `OutOfMemory` without an index if the allocation of a node fails. The nodes built so far are
+    /// - `OutOfMemory` without an index if there is no memory for a node. The nodes built so far are
     ///   freed.
     ///
     /// # Example
@@ -178,15 +178,15 @@ impl AddressAllocator {
         or_abort(self.0.allocate(Global, size, alignment, policy.proved())).map(RangeInclusive)
     }
 
-    /// Allocates a range like [`allocate`](Self::allocate), but returns an error if an allocation
-    /// fails.
+    /// Allocates a range like [`allocate`](Self::allocate), but returns an error if memory
+    /// runs out.
     ///
     /// # Errors
     ///
     /// An error changes nothing. In this order:
     /// - `Refused` with `InvalidSize`, `InvalidAlignment`, `UnalignedAddress`, `Overflow`,
     ///   `ResourceNotAvailable` or `InvalidStateTransition`, if `allocate` returns that error.
-    /// - `OutOfMemory` if the allocation of a node fails. A range that fills its gap does not
+    /// - `OutOfMemory` if there is no memory for a node. A range that fills its gap does not
     ///   allocate.
     pub fn try_allocate(
         &mut self,
@@ -375,17 +375,17 @@ impl AddressAllocator {
         unless_list_out_of_memory(self.try_allocate_all(requests))
     }
 
-    /// Allocates ranges like [`allocate_all`](Self::allocate_all), but returns an error if an
-    /// allocation fails. Each request can have its own window.
+    /// Allocates ranges like [`allocate_all`](Self::allocate_all), but returns an error if
+    /// memory runs out. Each request can have its own window.
     ///
     /// # Errors
     ///
     /// An error allocates no range. In this order:
-    /// - `OutOfMemory` without an index if the allocation of a list fails.
+    /// - `OutOfMemory` without an index if there is no memory for a list.
     /// - For the first request that fails, with its index:
     ///   - `Refused` with `Overflow`, `ResourceNotAvailable` or `InvalidStateTransition`, if
     ///     `allocate_all` returns that error.
-    ///   - `OutOfMemory` if the allocation of a node fails.
+    ///   - `OutOfMemory` if there is no memory for a node.
     ///
     /// # Example
     ///
@@ -686,11 +686,11 @@ impl AddressAllocator {
         Layout::of(self)
     }
 
-    /// Returns a copy, or an error if an allocation fails.
+    /// Returns a copy, or an error if memory runs out.
     ///
     /// # Errors
     ///
-    /// - `OutOfMemory` if the allocation of a node fails. The nodes copied so far are freed.
+    /// - `OutOfMemory` if there is no memory for a node. The nodes copied so far are freed.
     pub fn try_clone(&self) -> core::result::Result<Self, TryError> {
         or_try_error(self.0.try_clone(Global)).map(AddressAllocator)
     }

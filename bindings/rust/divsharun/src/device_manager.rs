@@ -128,13 +128,13 @@ impl DeviceManager {
         .map(DeviceManager)
     }
 
-    /// Creates a manager like [`new`](Self::new), but returns an error if an allocation fails.
+    /// Creates a manager like [`new`](Self::new), but returns an error if memory runs out.
     ///
     /// # Errors
     ///
     /// In this order:
     /// - `Refused` with `InvalidRange`, `Underflow` or `Overflow`, if `new` returns that error.
-    /// - `OutOfMemory` if the allocation of a node fails.
+    /// - `OutOfMemory` if there is no memory for a node.
     pub fn try_new(
         id_lo: u32,
         id_hi: u32,
@@ -161,13 +161,13 @@ impl DeviceManager {
         or_abort(self.0.reserve(Global, size, align, policy.proved())).map(DeviceSlot::of)
     }
 
-    /// Reserves like [`reserve`](Self::reserve), but returns an error if an allocation fails.
+    /// Reserves like [`reserve`](Self::reserve), but returns an error if memory runs out.
     ///
     /// # Errors
     ///
     /// An error leaves ids, ranges and devices unchanged. In this order:
     /// - `Refused` with the error of `reserve`.
-    /// - `OutOfMemory` if the allocation of a node or for the table of devices fails.
+    /// - `OutOfMemory` if there is no memory for a node or for the table of devices.
     pub fn try_reserve(
         &mut self,
         size: u64,
@@ -244,8 +244,8 @@ impl DeviceManager {
         or_abort(self.0.release(id))
     }
 
-    /// Releases a device like [`release`](Self::release), but returns an error if an allocation
-    /// fails.
+    /// Releases a device like [`release`](Self::release), but returns an error if memory
+    /// runs out.
     ///
     /// # Errors
     ///
@@ -289,11 +289,11 @@ impl DeviceManager {
         self.0.device_at(address).map(DeviceSlot::of)
     }
 
-    /// Returns a copy, or an error if an allocation fails.
+    /// Returns a copy, or an error if memory runs out.
     ///
     /// # Errors
     ///
-    /// - `OutOfMemory` if an allocation fails.
+    /// - `OutOfMemory` if memory runs out.
     pub fn try_clone(&self) -> core::result::Result<Self, TryError> {
         or_try_error(self.0.try_clone(Global)).map(DeviceManager)
     }

@@ -3,7 +3,7 @@ use crate::texts::pad;
 use crate::{AddressAllocator, NodeState, RangeInclusive};
 use core::fmt;
 
-/// The text of a failed allocation of memory.
+/// The text of the error if memory runs out.
 pub(crate) const NO_MEMORY: &str = "There is not enough memory.";
 
 /// The error of a call. A call that returns an error leaves the same ranges and ids allocated.
@@ -133,8 +133,8 @@ pub type Result<T> = core::result::Result<T, Error>;
 pub enum TryError {
     /// The error that the call without `try_` would return.
     Refused(Error),
-    /// An allocation failed. This error comes after every other one. In a call with a list, that of
-    /// a copy of the list comes first.
+    /// Memory ran out. This error comes after every other one. In a call with a list, that of a copy of
+    /// the list comes first.
     OutOfMemory,
 }
 
@@ -271,24 +271,24 @@ pub(crate) fn or_list_error<T>(
     })
 }
 
-/// Converts a result of the proved code. Ends the process if an allocation failed.
+/// Converts a result of the proved code. Ends the process if memory ran out.
 pub(crate) fn or_abort<T>(answer: proved::Result<T>) -> Result<T> {
     unless_out_of_memory(or_try_error(answer))
 }
 
-/// Converts a result of a `try_` call. Ends the process if an allocation failed.
+/// Converts a result of a `try_` call. Ends the process if memory ran out.
 pub(crate) fn unless_out_of_memory<T>(answer: core::result::Result<T, TryError>) -> Result<T> {
     answer.map_err(refused)
 }
 
-/// Converts a result of a `try_` call with a list. Ends the process if an allocation failed.
+/// Converts a result of a `try_` call with a list. Ends the process if memory ran out.
 pub(crate) fn unless_list_out_of_memory<T>(
     answer: core::result::Result<T, ListError<TryError>>,
 ) -> core::result::Result<T, ListError> {
     answer.map_err(|failure| failure.with(refused))
 }
 
-/// Returns the error of a call that was refused. Ends the process if an allocation failed.
+/// Returns the error of a call that was refused. Ends the process if memory ran out.
 fn refused(error: TryError) -> Error {
     match error {
         TryError::Refused(error) => error,

@@ -93,8 +93,8 @@ impl IdAllocator {
         unless_out_of_memory(Self::try_with_held(range_base, range_end, held))
     }
 
-    /// Creates an allocator like [`with_held`](Self::with_held), but returns an error if an allocation
-    /// fails.
+    /// Creates an allocator like [`with_held`](Self::with_held), but returns an error if memory
+    /// runs out.
     ///
     /// # Errors
     ///
@@ -149,8 +149,8 @@ impl IdAllocator {
         unless_out_of_memory(self.try_allocate_exact(id))
     }
 
-    /// Allocates an id like [`allocate_exact`](Self::allocate_exact), but returns an error if an
-    /// allocation fails.
+    /// Allocates an id like [`allocate_exact`](Self::allocate_exact), but returns an error if
+    /// memory runs out.
     ///
     /// # Errors
     ///
@@ -188,8 +188,8 @@ impl IdAllocator {
         unless_out_of_memory(self.try_allocate_in(first, last))
     }
 
-    /// Allocates an id like [`allocate_in`](Self::allocate_in), but returns an error if an allocation
-    /// fails.
+    /// Allocates an id like [`allocate_in`](Self::allocate_in), but returns an error if memory
+    /// runs out.
     ///
     /// # Errors
     ///
@@ -228,14 +228,14 @@ impl IdAllocator {
         unless_out_of_memory(self.try_allocate_ids(count))
     }
 
-    /// Allocates ids like [`allocate_ids`](Self::allocate_ids), but returns an error if an allocation
-    /// fails.
+    /// Allocates ids like [`allocate_ids`](Self::allocate_ids), but returns an error if memory
+    /// runs out.
     ///
     /// # Errors
     ///
     /// An error changes nothing. In this order:
     /// - `Refused` with `Overflow` or `ResourceNotAvailable`, if `allocate_ids` returns that error.
-    /// - `OutOfMemory` if the allocation of the list fails.
+    /// - `OutOfMemory` if there is no memory for the list.
     pub fn try_allocate_ids(&mut self, count: usize) -> core::result::Result<Vec<u32>, TryError> {
         or_try_error(self.0.allocate_ids(Global, count)).map(Vec::from)
     }
@@ -270,7 +270,7 @@ impl IdAllocator {
         or_abort(self.0.free_id(id))
     }
 
-    /// Frees an id like [`free_id`](Self::free_id), but returns an error if an allocation fails.
+    /// Frees an id like [`free_id`](Self::free_id), but returns an error if memory runs out.
     ///
     /// # Errors
     ///
@@ -315,7 +315,7 @@ impl IdAllocator {
         HeldIds(self.0.held_ids())
     }
 
-    /// Returns a copy, or an error if an allocation fails.
+    /// Returns a copy, or an error if memory runs out.
     ///
     /// # Errors
     ///

@@ -73,13 +73,13 @@
 //!
 //! # Out of memory
 //!
-//! If an allocation fails, the process ends, as with Rust's collections. To handle the error
+//! If memory runs out, the process ends, as with Rust's collections. To handle the error
 //! instead, use the `try_` variants, for example
 //! [`AddressAllocator::try_allocate`], [`IdAllocator::try_free_id`] and
 //! [`DeviceManager::try_reserve`]. They return a [`TryError`] and change nothing on an error. Both
 //! kinds can be called on the same object.
 //!
-//! With serde, an allocation that fails is an error of the format. A view that `try_saved` returns
+//! With serde, it is an error of the format if memory runs out. A view that `try_saved` returns
 //! is saved without an allocation. The memory of a format is its own: serde_json ends the process if
 //! the allocation of its text fails.
 //!

@@ -1,6 +1,6 @@
 //! The allocations of each call.
 //!
-//! If an allocation fails, a `try_` call returns `OutOfMemory` and changes nothing, and any other
+//! If memory runs out, a `try_` call returns `OutOfMemory` and changes nothing, and any other
 //! call ends the process. The program starts itself again to observe that.
 
 mod refusing;
@@ -251,7 +251,7 @@ fn refuse_each_request() {
     }
 }
 
-/// Checks that ids and devices do not change if an allocation fails.
+/// Checks that ids and devices do not change if memory runs out.
 fn objects_stay_the_same() {
     let mut ids = one_held_id();
     unchanged_until_allowed(&mut ids, IdAllocator::clone, |ids| ids.try_free_id(0));
