@@ -5,8 +5,8 @@
  * a function for each item.
  *
  * A method has the rules of its call. It returns the code of the status, which
- * converts to false for DVS_OK. Only methods with a vector, a string or a
- * function of the caller can throw.
+ * converts to false for DVS_OK, and the compiler warns if the code is ignored.
+ * Only methods with a vector, a string or a function of the caller can throw.
  */
 #ifndef DIVSHARUN_HPP
 #define DIVSHARUN_HPP
@@ -19,6 +19,13 @@
 #include <system_error>
 #include <utility>
 #include <vector>
+
+/* The compiler reports an error that is ignored. */
+#if __cplusplus >= 201703L
+#define DVS_MUST_CHECK [[nodiscard]]
+#else
+#define DVS_MUST_CHECK DVS_WARN_UNUSED
+#endif
 
 namespace dvs {
 
@@ -41,10 +48,11 @@ inline error code(dvs_status status) noexcept {
     return {static_cast<int>(status), category()};
 }
 
-inline error range_from(uint64_t start, uint64_t length, dvs_range &range) noexcept {
+DVS_MUST_CHECK inline error range_from(uint64_t start, uint64_t length, dvs_range &range) noexcept {
     return code(dvs_range_from_start_length(start, length, &range));
 }
-inline error offset_of(dvs_range range, uint64_t address, uint64_t &offset) noexcept {
+DVS_MUST_CHECK inline error offset_of(dvs_range range, uint64_t address,
+                                      uint64_t &offset) noexcept {
     return code(dvs_range_offset_of(range, address, &offset));
 }
 
@@ -61,7 +69,7 @@ template <typename T, void (*Destroy)(T *)> class owner {
 
   protected:
     /* Replaces the object by a new one, if the call that creates it succeeds. */
-    template <typename Call> error create(Call call) {
+    template <typename Call> DVS_MUST_CHECK error create(Call call) {
         T *made = nullptr;
         dvs_status status = call(&made);
         if (status == DVS_OK)
@@ -70,12 +78,12 @@ template <typename T, void (*Destroy)(T *)> class owner {
     }
 
     template <typename Read>
-    error read_by(Read call, const std::string &text, dvs_text_fault *fault,
-                  const dvs_text_limits *limits) {
+    DVS_MUST_CHECK error read_by(Read call, const std::string &text, dvs_text_fault *fault,
+                                 const dvs_text_limits *limits) {
         return create([&](T **out) { return call(text.data(), text.size(), limits, out, fault); });
     }
 
-    template <typename Save> error save_by(Save call, std::string &text) const {
+    template <typename Save> DVS_MUST_CHECK error save_by(Save call, std::string &text) const {
         char *saved = nullptr;
         std::size_t length = 0;
         dvs_status status = call(get(), &saved, &length);
@@ -87,7 +95,7 @@ template <typename T, void (*Destroy)(T *)> class owner {
 
     /* Calls `action` with each item until it returns false. An exception ends the visit. */
     template <typename Item, typename Visit, typename Action>
-    error visit_by(Visit call, Action action) const {
+    DVS_MUST_CHECK error visit_by(Visit call, Action action) const {
         struct visit {
             Action action;
             std::exception_ptr thrown;
@@ -109,7 +117,9 @@ template <typename T, void (*Destroy)(T *)> class owner {
 
     template <typename Item, typename Visit> std::vector<Item> list_by(Visit call) const {
         std::vector<Item> items;
-        visit_by<Item>(call, [&items](Item item) { return items.push_back(item), true; });
+        error seen =
+            visit_by<Item>(call, [&items](Item item) { return items.push_back(item), true; });
+        static_cast<void>(seen);
         return items;
     }
 };
@@ -153,80 +163,97 @@ class address_allocator : public owner<dvs_address_allocator, dvs_address_alloca
     using object = dvs_address_allocator;
 
   public:
-    error make(uint64_t base, uint64_t size) {
+    DVS_MUST_CHECK error make(uint64_t base, uint64_t size) {
         return create([=](object **out) { return dvs_address_allocator_new(base, size, out); });
     }
-    error make_with_held(uint64_t base, uint64_t size, const std::vector<dvs_range> &held,
-                         std::size_t *failed = nullptr, dvs_refusal *refusal = nullptr) {
+    DVS_MUST_CHECK error make_with_held(uint64_t base, uint64_t size,
+                                        const std::vector<dvs_range> &held,
+                                        std::size_t *failed = nullptr,
+                                        dvs_refusal *refusal = nullptr) {
         return create([&](object **out) {
             return dvs_address_allocator_with_held(base, size, held.data(), held.size(), out,
                                                    failed, refusal);
         });
     }
-    error read(const std::string &text, dvs_text_fault *fault = nullptr,
-               const dvs_text_limits *limits = nullptr) {
+    DVS_MUST_CHECK error read(const std::string &text, dvs_text_fault *fault = nullptr,
+                              const dvs_text_limits *limits = nullptr) {
         return read_by(dvs_address_allocator_read_within, text, fault, limits);
     }
-    error save(std::string &text) const { return save_by(dvs_address_allocator_save, text); }
-    error allocate_first(uint64_t size, uint64_t alignment, dvs_range &range) {
+    DVS_MUST_CHECK error save(std::string &text) const {
+        return save_by(dvs_address_allocator_save, text);
+    }
+    DVS_MUST_CHECK error allocate_first(uint64_t size, uint64_t alignment, dvs_range &range) {
         return code(dvs_range_allocate_first(get(), size, alignment, &range, nullptr));
     }
-    error allocate_last(uint64_t size, uint64_t alignment, dvs_range &range) {
+    DVS_MUST_CHECK error allocate_last(uint64_t size, uint64_t alignment, dvs_range &range) {
         return code(dvs_range_allocate_last(get(), size, alignment, &range, nullptr));
     }
-    error allocate_exact(uint64_t size, uint64_t alignment, uint64_t start, dvs_range &range,
-                         dvs_refusal *refusal = nullptr) {
+    DVS_MUST_CHECK error allocate_exact(uint64_t size, uint64_t alignment, uint64_t start,
+                                        dvs_range &range, dvs_refusal *refusal = nullptr) {
         return code(dvs_range_allocate_exact(get(), size, alignment, start, &range, refusal));
     }
-    error allocate(const dvs_request &asked, dvs_range &range, dvs_refusal *refusal = nullptr) {
+    DVS_MUST_CHECK error allocate(const dvs_request &asked, dvs_range &range,
+                                  dvs_refusal *refusal = nullptr) {
         return code(dvs_range_allocate(get(), &asked, &range, refusal));
     }
-    error allocate(const request &asked, dvs_range &range, dvs_refusal *refusal = nullptr) {
+    DVS_MUST_CHECK error allocate(const request &asked, dvs_range &range,
+                                  dvs_refusal *refusal = nullptr) {
         return allocate(asked.get(), range, refusal);
     }
-    error allocate_all(const std::vector<dvs_request> &requests, std::vector<dvs_range> &ranges,
-                       std::size_t *failed = nullptr, dvs_refusal *refusal = nullptr) {
+    DVS_MUST_CHECK error allocate_all(const std::vector<dvs_request> &requests,
+                                      std::vector<dvs_range> &ranges, std::size_t *failed = nullptr,
+                                      dvs_refusal *refusal = nullptr) {
         ranges.resize(requests.size());
         return code(dvs_address_allocator_allocate_all(get(), requests.data(), requests.size(),
                                                        ranges.data(), failed, refusal));
     }
-    error allocate_all(const std::vector<request> &requests, std::vector<dvs_range> &ranges,
-                       std::size_t *failed = nullptr, dvs_refusal *refusal = nullptr) {
+    DVS_MUST_CHECK error allocate_all(const std::vector<request> &requests,
+                                      std::vector<dvs_range> &ranges, std::size_t *failed = nullptr,
+                                      dvs_refusal *refusal = nullptr) {
         std::vector<dvs_request> all;
         for (const request &one : requests)
             all.push_back(one.get());
         return allocate_all(all, ranges, failed, refusal);
     }
-    error free(dvs_range range) { return code(dvs_range_free(get(), range, nullptr)); }
-    error move_range(dvs_range range, uint64_t start, dvs_range &moved,
-                     dvs_refusal *refusal = nullptr) {
+    DVS_MUST_CHECK error free(dvs_range range) {
+        return code(dvs_range_free(get(), range, nullptr));
+    }
+    DVS_MUST_CHECK error move_range(dvs_range range, uint64_t start, dvs_range &moved,
+                                    dvs_refusal *refusal = nullptr) {
         return code(dvs_range_move(get(), range, start, &moved, refusal));
     }
-    error at(uint64_t address, dvs_range &range) const {
+    DVS_MUST_CHECK error at(uint64_t address, dvs_range &range) const {
         return code(dvs_range_at(get(), address, &range));
     }
-    error gap_at(uint64_t address, dvs_range &gap) const {
+    DVS_MUST_CHECK error gap_at(uint64_t address, dvs_range &gap) const {
         return code(dvs_gap_at(get(), address, &gap));
     }
-    error longest_gap(uint64_t &length) const { return code(dvs_longest_gap(get(), &length)); }
-    error held_count(uint64_t &count) const { return code(dvs_range_count(get(), &count)); }
-    error clear_count(uint64_t &count) const { return code(dvs_clear_count(get(), &count)); }
+    DVS_MUST_CHECK error longest_gap(uint64_t &length) const {
+        return code(dvs_longest_gap(get(), &length));
+    }
+    DVS_MUST_CHECK error held_count(uint64_t &count) const {
+        return code(dvs_range_count(get(), &count));
+    }
+    DVS_MUST_CHECK error clear_count(uint64_t &count) const {
+        return code(dvs_clear_count(get(), &count));
+    }
     std::vector<dvs_range> ranges() const { return list_by<dvs_range>(dvs_range_visit); }
     std::vector<dvs_range> gaps() const { return list_by<dvs_range>(dvs_gap_visit); }
-    error ranges_in(dvs_range within, std::vector<dvs_range> &ranges) const {
+    DVS_MUST_CHECK error ranges_in(dvs_range within, std::vector<dvs_range> &ranges) const {
         return list_in(dvs_range_visit_in, within, ranges);
     }
-    error gaps_in(dvs_range within, std::vector<dvs_range> &gaps) const {
+    DVS_MUST_CHECK error gaps_in(dvs_range within, std::vector<dvs_range> &gaps) const {
         return list_in(dvs_gap_visit_in, within, gaps);
     }
-    template <typename Action> error for_each(Action action) const {
+    template <typename Action> DVS_MUST_CHECK error for_each(Action action) const {
         return visit_by<dvs_range>(dvs_range_visit, std::move(action));
     }
 
   private:
     /* Replaces `ranges` by the result of a visit within a range. An error leaves it unchanged. */
     template <typename Visit>
-    error list_in(Visit call, dvs_range within, std::vector<dvs_range> &ranges) const {
+    DVS_MUST_CHECK error list_in(Visit call, dvs_range within,
+                                 std::vector<dvs_range> &ranges) const {
         std::vector<dvs_range> found;
         error failed = visit_by<dvs_range>(
             [&](const object *from, dvs_range_visitor *visitor, void *context) {
@@ -243,32 +270,39 @@ class id_allocator : public owner<dvs_id_allocator, dvs_id_allocator_destroy> {
     using object = dvs_id_allocator;
 
   public:
-    error make(uint32_t first, uint32_t last) {
+    DVS_MUST_CHECK error make(uint32_t first, uint32_t last) {
         return create(
             [=](object **out) { return dvs_id_allocator_new(first, last, out, nullptr); });
     }
-    error make_with_held(uint32_t first, uint32_t last, const std::vector<uint32_t> &held,
-                         dvs_refusal *refusal = nullptr) {
+    DVS_MUST_CHECK error make_with_held(uint32_t first, uint32_t last,
+                                        const std::vector<uint32_t> &held,
+                                        dvs_refusal *refusal = nullptr) {
         return create([&](object **out) {
             return dvs_id_allocator_with_held(first, last, held.data(), held.size(), out, refusal);
         });
     }
-    error read(const std::string &text, dvs_text_fault *fault = nullptr,
-               const dvs_text_limits *limits = nullptr) {
+    DVS_MUST_CHECK error read(const std::string &text, dvs_text_fault *fault = nullptr,
+                              const dvs_text_limits *limits = nullptr) {
         return read_by(dvs_id_allocator_read_within, text, fault, limits);
     }
-    error save(std::string &text) const { return save_by(dvs_id_allocator_save, text); }
-    error allocate(uint32_t &id) { return code(dvs_id_allocate(get(), &id)); }
-    error allocate_exact(uint32_t id) { return code(dvs_id_allocate_exact(get(), id, nullptr)); }
-    error allocate_in(uint32_t first, uint32_t last, uint32_t &id) {
+    DVS_MUST_CHECK error save(std::string &text) const {
+        return save_by(dvs_id_allocator_save, text);
+    }
+    DVS_MUST_CHECK error allocate(uint32_t &id) { return code(dvs_id_allocate(get(), &id)); }
+    DVS_MUST_CHECK error allocate_exact(uint32_t id) {
+        return code(dvs_id_allocate_exact(get(), id, nullptr));
+    }
+    DVS_MUST_CHECK error allocate_in(uint32_t first, uint32_t last, uint32_t &id) {
         return code(dvs_id_allocate_in(get(), first, last, &id, nullptr));
     }
     /* Allocates an id for each member of `ids`, or none. */
-    error allocate_all(std::vector<uint32_t> &ids) {
+    DVS_MUST_CHECK error allocate_all(std::vector<uint32_t> &ids) {
         return code(dvs_ids_allocate(get(), ids.data(), ids.size()));
     }
-    error free(uint32_t id) { return code(dvs_id_free(get(), id, nullptr)); }
-    error free_count(uint64_t &count) const { return code(dvs_id_free_count(get(), &count)); }
+    DVS_MUST_CHECK error free(uint32_t id) { return code(dvs_id_free(get(), id, nullptr)); }
+    DVS_MUST_CHECK error free_count(uint64_t &count) const {
+        return code(dvs_id_free_count(get(), &count));
+    }
     std::vector<uint32_t> ids() const { return list_by<uint32_t>(dvs_id_visit); }
 };
 
@@ -276,32 +310,40 @@ class device_manager : public owner<dvs_device_manager, dvs_device_manager_destr
     using object = dvs_device_manager;
 
   public:
-    error make(uint32_t first_id, uint32_t last_id, uint64_t base, uint64_t size) {
+    DVS_MUST_CHECK error make(uint32_t first_id, uint32_t last_id, uint64_t base, uint64_t size) {
         return create([=](object **out) {
             return dvs_device_manager_new(first_id, last_id, base, size, out, nullptr);
         });
     }
-    error read(const std::string &text, dvs_text_fault *fault = nullptr,
-               const dvs_text_limits *limits = nullptr) {
+    DVS_MUST_CHECK error read(const std::string &text, dvs_text_fault *fault = nullptr,
+                              const dvs_text_limits *limits = nullptr) {
         return read_by(dvs_device_manager_read_within, text, fault, limits);
     }
-    error save(std::string &text) const { return save_by(dvs_device_manager_save, text); }
-    error reserve_first(uint64_t size, uint64_t alignment, dvs_device &device) {
+    DVS_MUST_CHECK error save(std::string &text) const {
+        return save_by(dvs_device_manager_save, text);
+    }
+    DVS_MUST_CHECK error reserve_first(uint64_t size, uint64_t alignment, dvs_device &device) {
         return code(dvs_device_reserve_first(get(), size, alignment, &device, nullptr));
     }
-    error reserve(const dvs_request &asked, dvs_device &device, dvs_refusal *refusal = nullptr) {
+    DVS_MUST_CHECK error reserve(const dvs_request &asked, dvs_device &device,
+                                 dvs_refusal *refusal = nullptr) {
         return code(dvs_device_reserve(get(), &asked, &device, refusal));
     }
-    error reserve(const request &asked, dvs_device &device, dvs_refusal *refusal = nullptr) {
+    DVS_MUST_CHECK error reserve(const request &asked, dvs_device &device,
+                                 dvs_refusal *refusal = nullptr) {
         return reserve(asked.get(), device, refusal);
     }
-    error release(uint32_t id) { return code(dvs_device_release(get(), id, nullptr)); }
-    error at(uint64_t address, dvs_device &device) const {
+    DVS_MUST_CHECK error release(uint32_t id) {
+        return code(dvs_device_release(get(), id, nullptr));
+    }
+    DVS_MUST_CHECK error at(uint64_t address, dvs_device &device) const {
         return code(dvs_device_at(get(), address, &device));
     }
     std::vector<dvs_device> devices() const { return list_by<dvs_device>(dvs_device_visit); }
 };
 
 } // namespace dvs
+
+#undef DVS_MUST_CHECK
 
 #endif

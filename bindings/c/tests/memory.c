@@ -459,7 +459,7 @@ static const struct call {
     {"reserve last", reserve_last, 1},
     {"reserve exactly", reserve_exact, 1},
     {"reserve in a window", reserve_in_window, 2},
-    {"read a manager", read_manager, 15},
+    {"read a manager", read_manager, 10},
 };
 
 /* Fails each allocation of a call in turn, until a run has no failed allocation. */

@@ -153,11 +153,11 @@ static void throw_in_a_visit() {
 
     CHECK(!space.make_with_held(0, 16, {range_of(1, 1), range_of(3, 3), range_of(5, 5)}));
     try {
-        (void)space.for_each([&calls](dvs_range) -> bool {
+        CHECK(!space.for_each([&calls](dvs_range) -> bool {
             if (++calls == 2)
                 throw std::runtime_error("two");
             return true;
-        });
+        }));
         CHECK(!"the exception passes through");
     } catch (const std::runtime_error &two) {
         CHECK(calls == 2 && std::string(two.what()) == "two");
