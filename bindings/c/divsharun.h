@@ -17,10 +17,11 @@
  *
  * Errors. Each call that can fail returns a status. It writes its results
  * through its last pointers, and only if it returns DVS_OK. An error leaves the
- * results and the object unchanged. Two errors come first in every call:
- * DVS_NULL if a pointer is null that must not be, and DVS_BUSY (see
- * dvs_range_visit()). The comment of a call lists the other errors in the order
- * in which they are checked.
+ * results and the object unchanged. The pointers `failed`, `refusal` and `fault`
+ * come after the results: `refusal` and `fault` are written only on an error, and
+ * `failed` always. Two errors come first in every call: DVS_NULL if a pointer is
+ * null that must not be, and DVS_BUSY (see dvs_range_visit()). The comment of a
+ * call lists the other errors in the order in which they are checked.
  *
  * Ownership. You own an object from the call that creates it until the call
  * that destroys it. You own a saved text until dvs_text_destroy(), and free()

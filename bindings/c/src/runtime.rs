@@ -4,7 +4,7 @@
 
 use core::alloc::{GlobalAlloc, Layout};
 use core::arch::global_asm;
-use core::ffi::c_void;
+use core::ffi::{c_int, c_void};
 use core::panic::PanicInfo;
 use core::ptr::null_mut;
 
@@ -13,6 +13,7 @@ extern "C" {
     fn malloc(size: usize) -> *mut c_void;
     fn realloc(block: *mut c_void, size: usize) -> *mut c_void;
     fn free(block: *mut c_void);
+    fn write(file: c_int, text: *const c_void, length: usize) -> isize;
     fn abort() -> !;
 }
 
@@ -47,11 +48,17 @@ unsafe impl GlobalAlloc for Memory {
     }
 }
 
-/// Ends the process.
-#[panic_handler]
-fn panic(_: &PanicInfo) -> ! {
+/// Writes a line to the standard error stream, and ends the process.
+fn end(line: &str) -> ! {
+    // SAFETY: the bytes of the line are readable. If the call fails, nothing is written.
+    unsafe { write(2, line.as_ptr().cast(), line.len()) };
     // SAFETY: `abort` requires nothing.
     unsafe { abort() }
+}
+
+#[panic_handler]
+fn panic(_: &PanicInfo) -> ! {
+    end("divsharun: the process ends because of a bug in the library\n")
 }
 
 // Another library in the same program can have a function of this name.
@@ -61,6 +68,5 @@ global_asm!(".hidden rust_eh_personality");
 /// a visitor.
 #[unsafe(no_mangle)]
 extern "C" fn rust_eh_personality() -> ! {
-    // SAFETY: `abort` requires nothing.
-    unsafe { abort() }
+    end("divsharun: the process ends because a visitor did not return\n")
 }

@@ -1,7 +1,9 @@
-/* Checks that a visitor that does not return ends the process with abort(). */
+/* Checks that a visitor that does not return ends the process with abort(), and a line that says
+ * so. */
 #include "check.h"
 
 #include <csignal>
+#include <cstring>
 #include <pthread.h>
 #include <sys/wait.h>
 #include <unistd.h>
@@ -36,24 +38,29 @@ static void *visit(void *context) {
 }
 
 /* Visits in a thread, and exits if the visit returns. */
-static void visit_in_child(dvs_range_visitor *visitor) {
+static void visit_in_child(dvs_range_visitor *visitor, FILE *said) {
     pthread_t thread;
 
-    CHECK(freopen("/dev/null", "w", stderr) != nullptr);
+    CHECK(dup2(fileno(said), STDERR_FILENO) == STDERR_FILENO);
     CHECK(pthread_create(&thread, nullptr, visit, &visitor) == 0);
     pthread_join(thread, nullptr);
     _exit(2);
 }
 
 static void check_aborts(dvs_range_visitor *visitor) {
+    FILE *said = tmpfile();
+    char line[100] = "";
     pid_t child = fork();
     int ended;
 
-    CHECK(child >= 0);
+    CHECK(said != nullptr && child >= 0);
     if (child == 0)
-        visit_in_child(visitor);
+        visit_in_child(visitor, said);
     CHECK(waitpid(child, &ended, 0) == child);
     CHECK(WIFSIGNALED(ended) && WTERMSIG(ended) == SIGABRT);
+    rewind(said);
+    CHECK(fgets(line, sizeof line, said) != nullptr && fclose(said) == 0);
+    CHECK(std::strcmp(line, "divsharun: the process ends because a visitor did not return\n") == 0);
 }
 
 int main() {
