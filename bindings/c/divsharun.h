@@ -281,7 +281,7 @@ dvs_status dvs_address_allocator_new(uint64_t base, uint64_t size,
  *
  * Errors, in order:
  * - DVS_INVALID_RANGE, with the first range that is not a valid range.
- * - DVS_OUT_OF_MEMORY if there is no memory for a copy of the list.
+ * - DVS_OUT_OF_MEMORY if memory for a copy of the list runs out.
  * - DVS_UNDERFLOW if `size` is 0.
  * - DVS_OVERFLOW if the space would end past UINT64_MAX.
  * - For the first range that cannot be allocated:
@@ -413,7 +413,7 @@ dvs_status dvs_range_allocate(dvs_address_allocator *allocator, const dvs_reques
  * - For the first request that is invalid for every allocator:
  *   DVS_INVALID_POLICY, DVS_INVALID_RANGE, DVS_INVALID_SIZE,
  *   DVS_INVALID_ALIGNMENT or DVS_UNALIGNED_ADDRESS.
- * - DVS_OUT_OF_MEMORY if there is no memory for a list.
+ * - DVS_OUT_OF_MEMORY if memory for a list runs out.
  * - For the first request that fails: the error of dvs_range_allocate().
  */
 DVS_WARN_UNUSED

@@ -60,7 +60,7 @@ impl AddressAllocator {
     /// In this order:
     /// - `Refused(Underflow)` if `size` is 0.
     /// - `Refused(Overflow)` if the last address would be past `u64::MAX`.
-    /// - `OutOfMemory` if there is no memory for the node.
+    /// - `OutOfMemory` if memory for the node runs out.
     pub fn try_new(base: u64, size: u64) -> core::result::Result<Self, TryError> {
         or_try_error(proved::AddressAllocator::new(Global, base, size)).map(AddressAllocator)
     }
@@ -114,10 +114,10 @@ impl AddressAllocator {
     /// # Errors
     ///
     /// In this order:
-    /// - `OutOfMemory` without an index if there is no memory for a copy of the list.
+    /// - `OutOfMemory` without an index if memory for a copy of the list runs out.
     /// - `Refused` with `Underflow`, `Overflow` or `ResourceNotAvailable`, if `with_held` returns
     ///   that error, with the same index.
-    /// - `OutOfMemory` without an index if there is no memory for a node. The nodes built so far are
+    /// - `OutOfMemory` without an index if memory for a node runs out. The nodes built so far are
     ///   freed.
     ///
     /// # Example
@@ -186,7 +186,7 @@ impl AddressAllocator {
     /// An error changes nothing. In this order:
     /// - `Refused` with `InvalidSize`, `InvalidAlignment`, `UnalignedAddress`, `Overflow`,
     ///   `ResourceNotAvailable` or `InvalidStateTransition`, if `allocate` returns that error.
-    /// - `OutOfMemory` if there is no memory for a node. A range that fills its gap does not
+    /// - `OutOfMemory` if memory for a node runs out. A range that fills its gap does not
     ///   allocate.
     pub fn try_allocate(
         &mut self,
@@ -381,11 +381,11 @@ impl AddressAllocator {
     /// # Errors
     ///
     /// An error allocates no range. In this order:
-    /// - `OutOfMemory` without an index if there is no memory for a list.
+    /// - `OutOfMemory` without an index if memory for a list runs out.
     /// - For the first request that fails, with its index:
     ///   - `Refused` with `Overflow`, `ResourceNotAvailable` or `InvalidStateTransition`, if
     ///     `allocate_all` returns that error.
-    ///   - `OutOfMemory` if there is no memory for a node.
+    ///   - `OutOfMemory` if memory for a node runs out.
     ///
     /// # Example
     ///
@@ -690,7 +690,7 @@ impl AddressAllocator {
     ///
     /// # Errors
     ///
-    /// - `OutOfMemory` if there is no memory for a node. The nodes copied so far are freed.
+    /// - `OutOfMemory` if memory for a node runs out. The nodes copied so far are freed.
     pub fn try_clone(&self) -> core::result::Result<Self, TryError> {
         or_try_error(self.0.try_clone(Global)).map(AddressAllocator)
     }

@@ -134,7 +134,7 @@ impl DeviceManager {
     ///
     /// In this order:
     /// - `Refused` with `InvalidRange`, `Underflow` or `Overflow`, if `new` returns that error.
-    /// - `OutOfMemory` if there is no memory for a node.
+    /// - `OutOfMemory` if memory for a node runs out.
     pub fn try_new(
         id_lo: u32,
         id_hi: u32,
@@ -167,7 +167,7 @@ impl DeviceManager {
     ///
     /// An error leaves ids, ranges and devices unchanged. In this order:
     /// - `Refused` with the error of `reserve`.
-    /// - `OutOfMemory` if there is no memory for a node or for the table of devices.
+    /// - `OutOfMemory` if memory for a node or for the table of devices runs out.
     pub fn try_reserve(
         &mut self,
         size: u64,

@@ -235,7 +235,7 @@ impl IdAllocator {
     ///
     /// An error changes nothing. In this order:
     /// - `Refused` with `Overflow` or `ResourceNotAvailable`, if `allocate_ids` returns that error.
-    /// - `OutOfMemory` if there is no memory for the list.
+    /// - `OutOfMemory` if memory for the list runs out.
     pub fn try_allocate_ids(&mut self, count: usize) -> core::result::Result<Vec<u32>, TryError> {
         or_try_error(self.0.allocate_ids(Global, count)).map(Vec::from)
     }

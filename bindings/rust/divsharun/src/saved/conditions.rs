@@ -1,4 +1,4 @@
-//! The texts of the conditions that saved values can violate. Proved code says which one is violated.
+//! The texts of the conditions that saved values can violate. Proved code chooses the condition.
 //!
 //! The C library also has this file.
 
