@@ -6,7 +6,8 @@
  *
  * A method has the rules of its call. It returns the code of the status, which
  * converts to false for DVS_OK, and the compiler warns if the code is ignored.
- * Only methods with a vector, a string or a function of the caller can throw.
+ * Only methods with a vector, a string or a function of the caller can throw. The
+ * code of DVS_OUT_OF_MEMORY equals std::errc::not_enough_memory.
  */
 #ifndef DIVSHARUN_HPP
 #define DIVSHARUN_HPP
@@ -29,13 +30,30 @@
 
 namespace dvs {
 
-using error = std::error_code;
+/* The code of a status. It can be compared with a status, as in `failure == DVS_OVERFLOW`. */
+class error : public std::error_code {
+  public:
+    error() noexcept = default;
+    error(int status, const std::error_category &owner) noexcept : std::error_code(status, owner) {}
+
+    friend bool operator==(const error &code, dvs_status status) noexcept {
+        return code.value() == static_cast<int>(status);
+    }
+    friend bool operator!=(const error &code, dvs_status status) noexcept {
+        return !(code == status);
+    }
+};
 
 class status_category final : public std::error_category {
   public:
     const char *name() const noexcept override { return "divsharun"; }
     std::string message(int status) const override {
         return dvs_status_text(static_cast<dvs_status>(status));
+    }
+    std::error_condition default_error_condition(int status) const noexcept override {
+        if (status == DVS_OUT_OF_MEMORY)
+            return std::errc::not_enough_memory;
+        return {status, *this};
     }
 };
 
@@ -59,7 +77,7 @@ DVS_MUST_CHECK inline error offset_of(dvs_range range, uint64_t address,
 /* Owns an object, and destroys it. It is empty until a method has created the object. */
 template <typename T, void (*Destroy)(T *)> class owner {
     struct destroyer {
-        void operator()(T *object) const noexcept { Destroy(object); }
+        void operator()(T *owned) const noexcept { Destroy(owned); }
     };
     std::unique_ptr<T, destroyer> object;
 
@@ -101,12 +119,16 @@ template <typename T, void (*Destroy)(T *)> class owner {
             std::exception_ptr thrown;
             static int one(void *context, Item item) {
                 visit *self = static_cast<visit *>(context);
+#ifdef __cpp_exceptions
                 try {
                     return self->action(item) ? 0 : 1;
                 } catch (...) {
                     self->thrown = std::current_exception();
                     return 1;
                 }
+#else
+                return self->action(item) ? 0 : 1;
+#endif
             }
         } all = {std::move(action), nullptr};
         dvs_status status = call(get(), visit::one, &all);

@@ -147,6 +147,19 @@ static void save() {
     CHECK(moved && !space);
 }
 
+static void compare_errors() {
+    dvs::address_allocator space;
+    dvs::error failure = space.make(UINT64_MAX, 2);
+
+    CHECK(failure == DVS_OVERFLOW && failure != DVS_UNDERFLOW &&
+          failure == dvs::code(DVS_OVERFLOW));
+    CHECK(failure && failure != std::errc::not_enough_memory);
+    CHECK(dvs::code(DVS_OUT_OF_MEMORY) == std::errc::not_enough_memory);
+    CHECK(space.make(UINT64_MAX, 1) == DVS_OK);
+    std::error_code plain = failure;
+    CHECK(plain == failure && plain.message() == dvs_status_text(DVS_OVERFLOW));
+}
+
 static void throw_in_a_visit() {
     dvs::address_allocator space;
     int calls = 0;
@@ -171,6 +184,7 @@ int main() {
     allocate();
     allocate_in_windows();
     allocate_all_in_windows();
+    compare_errors();
     reserve_in_windows();
     save();
     throw_in_a_visit();
