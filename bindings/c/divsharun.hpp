@@ -201,6 +201,10 @@ class address_allocator : public owner<dvs_address_allocator, dvs_address_alloca
                               const dvs_text_limits *limits = nullptr) {
         return read_by(dvs_address_allocator_read_within, text, fault, limits);
     }
+    DVS_MUST_CHECK error read_repaired(const std::string &text, dvs_text_fault *fault = nullptr,
+                                       const dvs_text_limits *limits = nullptr) {
+        return read_by(dvs_address_allocator_read_repaired_within, text, fault, limits);
+    }
     DVS_MUST_CHECK error save(std::string &text) const {
         return save_by(dvs_address_allocator_save, text);
     }
@@ -243,6 +247,12 @@ class address_allocator : public owner<dvs_address_allocator, dvs_address_alloca
     DVS_MUST_CHECK error move_range(dvs_range range, uint64_t start, dvs_range &moved,
                                     dvs_refusal *refusal = nullptr) {
         return code(dvs_range_move(get(), range, start, &moved, refusal));
+    }
+    DVS_MUST_CHECK error space(dvs_range &space) const {
+        return code(dvs_address_allocator_space(get(), &space));
+    }
+    DVS_MUST_CHECK error is_held(dvs_range range, bool &is_held) const {
+        return code(dvs_range_is_held(get(), range, &is_held, nullptr));
     }
     DVS_MUST_CHECK error at(uint64_t address, dvs_range &range) const {
         return code(dvs_range_at(get(), address, &range));
@@ -310,6 +320,10 @@ class id_allocator : public owner<dvs_id_allocator, dvs_id_allocator_destroy> {
     DVS_MUST_CHECK error save(std::string &text) const {
         return save_by(dvs_id_allocator_save, text);
     }
+    DVS_MUST_CHECK error range(uint32_t &first, uint32_t &last) const {
+        return code(dvs_id_allocator_range(get(), &first, &last));
+    }
+    DVS_MUST_CHECK error peek(uint32_t &id) const { return code(dvs_id_peek(get(), &id)); }
     DVS_MUST_CHECK error allocate(uint32_t &id) { return code(dvs_id_allocate(get(), &id)); }
     DVS_MUST_CHECK error allocate_exact(uint32_t id) {
         return code(dvs_id_allocate_exact(get(), id, nullptr));
@@ -322,6 +336,12 @@ class id_allocator : public owner<dvs_id_allocator, dvs_id_allocator_destroy> {
         return code(dvs_ids_allocate(get(), ids.data(), ids.size()));
     }
     DVS_MUST_CHECK error free(uint32_t id) { return code(dvs_id_free(get(), id, nullptr)); }
+    DVS_MUST_CHECK error is_held(uint32_t id, bool &is_held) const {
+        return code(dvs_id_is_held(get(), id, &is_held));
+    }
+    DVS_MUST_CHECK error held_count(uint64_t &count) const {
+        return code(dvs_id_count(get(), &count));
+    }
     DVS_MUST_CHECK error free_count(uint64_t &count) const {
         return code(dvs_id_free_count(get(), &count));
     }
@@ -347,6 +367,13 @@ class device_manager : public owner<dvs_device_manager, dvs_device_manager_destr
     DVS_MUST_CHECK error reserve_first(uint64_t size, uint64_t alignment, dvs_device &device) {
         return code(dvs_device_reserve_first(get(), size, alignment, &device, nullptr));
     }
+    DVS_MUST_CHECK error reserve_last(uint64_t size, uint64_t alignment, dvs_device &device) {
+        return code(dvs_device_reserve_last(get(), size, alignment, &device, nullptr));
+    }
+    DVS_MUST_CHECK error reserve_exact(uint64_t size, uint64_t alignment, uint64_t start,
+                                       dvs_device &device, dvs_refusal *refusal = nullptr) {
+        return code(dvs_device_reserve_exact(get(), size, alignment, start, &device, refusal));
+    }
     DVS_MUST_CHECK error reserve(const dvs_request &asked, dvs_device &device,
                                  dvs_refusal *refusal = nullptr) {
         return code(dvs_device_reserve(get(), &asked, &device, refusal));
@@ -357,6 +384,18 @@ class device_manager : public owner<dvs_device_manager, dvs_device_manager_destr
     }
     DVS_MUST_CHECK error release(uint32_t id) {
         return code(dvs_device_release(get(), id, nullptr));
+    }
+    DVS_MUST_CHECK error ids(uint32_t &first, uint32_t &last) const {
+        return code(dvs_device_manager_ids(get(), &first, &last));
+    }
+    DVS_MUST_CHECK error space(dvs_range &space) const {
+        return code(dvs_device_manager_space(get(), &space));
+    }
+    DVS_MUST_CHECK error range(uint32_t id, dvs_range &range) const {
+        return code(dvs_device_range(get(), id, &range, nullptr));
+    }
+    DVS_MUST_CHECK error device_count(uint64_t &count) const {
+        return code(dvs_device_count(get(), &count));
     }
     DVS_MUST_CHECK error at(uint64_t address, dvs_device &device) const {
         return code(dvs_device_at(get(), address, &device));

@@ -160,6 +160,37 @@ static void compare_errors() {
     CHECK(plain == failure && plain.message() == dvs_status_text(DVS_OVERFLOW));
 }
 
+/* Checks the queries that no other function here uses. */
+static void ask() {
+    dvs::address_allocator space;
+    dvs::id_allocator ids;
+    dvs::device_manager devices;
+    dvs_device device;
+    dvs_range range;
+    std::string text;
+    uint64_t count = 0;
+    uint32_t first = 0, last = 0, id = 0;
+    bool is_held = false;
+
+    CHECK(!space.make_with_held(0, 16, {range_of(1, 2)}) && !space.save(text));
+    CHECK(!space.read_repaired(text) && !space.space(range) && is_range(range, 0, 15));
+    CHECK(!space.is_held({1, 2}, is_held) && is_held && !space.is_held({1, 1}, is_held) &&
+          !is_held);
+    CHECK(space.is_held({2, 1}, is_held) == DVS_INVALID_RANGE);
+    CHECK(!ids.make_with_held(5, 9, {5}) && !ids.range(first, last) && first == 5 && last == 9);
+    CHECK(!ids.peek(id) && id == 6 && !ids.held_count(count) && count == 1);
+    CHECK(!ids.is_held(5, is_held) && is_held && !ids.is_held(6, is_held) && !is_held);
+    CHECK(!devices.make(5, 9, 16, 16) && !devices.reserve_last(4, 4, device));
+    CHECK(device.id == 5 && is_range(device.range, 28, 31));
+    CHECK(!devices.reserve_exact(4, 4, 16, device) && device.id == 6);
+    CHECK(devices.reserve_exact(4, 4, 16, device) == DVS_INVALID_STATE_TRANSITION);
+    CHECK(!devices.range(6, range) && is_range(range, 16, 19));
+    CHECK(devices.range(7, range) == DVS_NEVER_ALLOCATED);
+    CHECK(!devices.ids(first, last) && first == 5 && last == 9);
+    CHECK(!devices.space(range) && is_range(range, 16, 31));
+    CHECK(!devices.device_count(count) && count == 2);
+}
+
 static void throw_in_a_visit() {
     dvs::address_allocator space;
     int calls = 0;
@@ -185,6 +216,7 @@ int main() {
     allocate_in_windows();
     allocate_all_in_windows();
     compare_errors();
+    ask();
     reserve_in_windows();
     save();
     throw_in_a_visit();
