@@ -120,8 +120,8 @@ struct Shared(Arc<Mutex<Resources>>);
 impl Shared {
     /// Does something with the resources, one thread at a time.
     fn with<T>(&self, action: impl FnOnce(&mut Resources) -> Result<T>) -> Result<T> {
-        // No call of the allocators panics. After a panic of the monitor in `plug`, the device can have
-        // an interrupt and no BARs, but each allocator is valid.
+        // No call of the allocators panics, so they are valid. If the monitor panicked within `plug`,
+        // the BARs of a device can be allocated without an interrupt.
         action(&mut self.0.lock().unwrap_or_else(PoisonError::into_inner))
     }
 }
