@@ -1,5 +1,6 @@
-use crate::{AddressAllocator, HeldRanges, NodeState, RangeInclusive};
-use alloc::collections::BTreeMap;
+use crate::error::out_of_memory;
+use crate::rattle::{BTreeMap, Global};
+use crate::{AddressAllocator, HeldRanges, NodeState, RangeInclusive, TryError};
 use core::fmt;
 use core::iter::{FusedIterator, Peekable};
 
@@ -24,7 +25,7 @@ use core::iter::{FusedIterator, Peekable};
 /// );
 /// # Ok::<(), divsharun::Error>(())
 /// ```
-#[derive(Clone, Debug)]
+#[derive(Debug)]
 pub struct Layout<'a> {
     allocator: &'a AddressAllocator,
     names: BTreeMap<RangeInclusive, &'a str>,
@@ -35,15 +36,30 @@ impl<'a> Layout<'a> {
     pub(crate) fn of(allocator: &'a AddressAllocator) -> Self {
         Layout {
             allocator,
-            names: BTreeMap::new(),
+            names: BTreeMap::new(Global),
         }
     }
 
     /// Adds names for allocated ranges. A name for any other range is not shown.
     #[must_use]
-    pub fn named(mut self, names: impl IntoIterator<Item = (RangeInclusive, &'a str)>) -> Self {
-        self.names.extend(names);
-        self
+    pub fn named(self, names: impl IntoIterator<Item = (RangeInclusive, &'a str)>) -> Self {
+        self.try_named(names).unwrap_or_else(|_| out_of_memory())
+    }
+
+    /// Adds names like [`named`](Self::named), but returns an error if memory runs out.
+    ///
+    /// # Errors
+    ///
+    /// - `OutOfMemory` if memory for the names runs out.
+    pub fn try_named(
+        mut self,
+        names: impl IntoIterator<Item = (RangeInclusive, &'a str)>,
+    ) -> Result<Self, TryError> {
+        for (range, name) in names {
+            let named = self.names.insert(range, name);
+            named.map_err(|_| TryError::OutOfMemory)?;
+        }
+        Ok(self)
     }
 
     /// Returns an iterator over the allocated ranges and the gaps, in ascending order.
@@ -63,6 +79,15 @@ impl<'a> Layout<'a> {
             4
         } else {
             8
+        }
+    }
+}
+
+impl Clone for Layout<'_> {
+    fn clone(&self) -> Self {
+        Layout {
+            allocator: self.allocator,
+            names: self.names.clone().unwrap_or_else(|_| out_of_memory()),
         }
     }
 }

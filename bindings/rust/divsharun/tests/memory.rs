@@ -29,7 +29,7 @@ type EndedCall = fn(&mut AddressAllocator);
 /// Calls that return an error, each with the number of its allocations on [`two_held`]: one for a
 /// space, one for each free part of a gap that remains, one for each block of a copy or of a space
 /// with ranges. A call with ranges copies the list, and one with requests makes three lists.
-const TRIED: [(u64, TriedCall); 28] = [
+const TRIED: [(u64, TriedCall); 29] = [
     (1, |_| AddressAllocator::try_new(0, 64).map(drop)),
     (5, |space| space.try_clone().map(drop)),
     (1, |_| of_list(AddressAllocator::try_with_held(0, 64, &[]))),
@@ -67,6 +67,10 @@ const TRIED: [(u64, TriedCall); 28] = [
     (0, |space| {
         refused(space.try_allocate_constraint(in_the_middle(16, FirstMatch)))
     }),
+    (2, |space| {
+        let named = space.layout().try_named([(both()[0], "disk")]);
+        named.map(drop)
+    }),
     (2, |space| space.try_move_range(&both()[0], 4).map(drop)),
     (0, |space| refused(space.try_move_range(&both()[0], 17))),
     (3 + 2 + 1, |space| {
@@ -98,7 +102,7 @@ const TRIED: [(u64, TriedCall); 28] = [
 
 /// Calls that end the process, each with the number of its allocations on [`two_held`]. A set or a
 /// map allocates two blocks for a few ids or devices.
-const ENDED: [(u64, EndedCall); 17] = [
+const ENDED: [(u64, EndedCall); 18] = [
     (1, |_| assert!(AddressAllocator::new(0, 64).is_ok())),
     (5, |space| drop(space.clone())),
     (1 + 5, |_| {
@@ -119,6 +123,7 @@ const ENDED: [(u64, EndedCall); 17] = [
         let request = in_the_middle(4, LastMatch);
         assert!(space.allocate_constraint_counted(request).0.is_ok())
     }),
+    (2, |space| drop(space.layout().named([(both()[0], "disk")]))),
     (2, |space| assert!(space.move_range(&both()[0], 4).is_ok())),
     (2, |_| drop(one_free_id())),
     (4, |_| drop(one_free_id().clone())),
