@@ -208,13 +208,13 @@ fn ask_for_all(
     count_allocations(rt.alloc());
     let answer = space.allocate_all(rt.alloc(), &requests);
     expect_allocations(rt.alloc(), allocations);
-    match answer {
-        Err(failure) if failure.error == Error::OutOfMemory => {
+    if let Err(failure) = &answer {
+        if failure.error == Error::OutOfMemory {
             expect_true(rt, *space == before, &"a refusal changes nothing");
-            space.allocate_all(rt.alloc(), &requests)
+            return space.allocate_all(rt.alloc(), &requests);
         }
-        answer => answer,
     }
+    answer
 }
 
 /// Checks that one call allocates the range of each call, and leads to the same allocated ranges as
