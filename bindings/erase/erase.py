@@ -88,7 +88,7 @@ MODULES = ORIGIN.format("crates.txt") + """
 #![allow(unused_imports)]
 """
 ATTRIBUTES_WITH_TESTS = "#![allow(dead_code, unused_assignments, unused_variables)]\n"
-# The code that is only for values in a file that is not, and the error that only vm-allocator returns.
+# Code that only readers of values reach, in files without serde_json, and an error that no call returns.
 UNREACHED = re.compile(r"^ *(?=(?:pub\(.*\) fn (?:count_clear|count_held)|Overlap)\(|pub enum ValueError\b)", re.MULTILINE)
 PRELUDE_OF_TESTS = "use crate::testing::*;\nuse crate::testing::{assert, assert_eq};\n"
 RUNTIME = "{\n    let rt = HostRuntime;"

@@ -27,7 +27,7 @@ CHANGED = [
     (r"<T: Drop>", "<T>"),
 ]
 PRELUDE = ("Box", "Vec")
-# What the first eraser adds to what divsharun does not reach.
+# The attribute that the first eraser gives to code that divsharun does not reach.
 UNREACHED = re.compile(r"#\[allow\(dead_code\)\] (pub\(in [\w:]+\) fn count_(?:clear|held)\(|Overlap\(|pub enum ValueError\b)")
 # The code that the derive of `Error` stands for, with an arm for each variant.
 ARM = r" +\w+::(\w+)(?:\(field_0(?:, field_1)?\))? => write!\(f, (\".*\")\),\n"

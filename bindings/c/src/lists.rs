@@ -1,6 +1,6 @@
 //! Calls with arrays of ranges and of requests.
 
-use crate::handle::{create, non_null};
+use crate::handle::{non_null, Handle};
 use crate::proved::vm_allocator::{AddressAllocator, ListError};
 use crate::ranges::dvs_address_allocator;
 use crate::rattle::Global;
@@ -110,7 +110,8 @@ pub unsafe extern "C" fn dvs_address_allocator_with_held(
         let held = unsafe { array(held, count) }?;
         let held = converted(held, |range| Ok((*range).try_into()?))?;
         let made = AddressAllocator::with_held(Global, base, size, &held)?;
-        Ok(create(Some(allocator), || Ok(made))?)
+        allocator.write(Handle::new(made)?);
+        Ok(())
     };
     status_of_array(make(), count, failed, refusal)
 }

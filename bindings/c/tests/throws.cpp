@@ -1,5 +1,5 @@
-/* Checks that a visitor that does not return ends the process with abort(), and a line that says
- * so. */
+/* Checks that a visitor that does not return ends the process with abort(), after a line that gives
+ * the reason. */
 #include "check.h"
 
 #include <csignal>

@@ -8,15 +8,15 @@ use vm_allocator::allocation_engine::NodeState;
 use vm_allocator::{AddressAllocator, AllocPolicy, IdAllocator, RangeInclusive, ValueError};
 use vm_devices::DeviceManager;
 
-/// The number of bytes that `fail_from_here` allocates. Nothing else allocates this number, and
-/// tests/refused_memory has the same number.
+/// The number of bytes that `fail_from_here` allocates. Nothing else allocates this number.
+/// tests/refused_memory reads it here, and the two below.
 const LAST_ALLOCATION: usize = 1_000_003;
 
-/// The number of bytes that `balance` allocates. tests/refused_memory has the same number.
+/// The number of bytes that `balance` allocates.
 const BALANCE_ALLOCATION: usize = 1_000_005;
 
 /// The number of bytes that `count_allocations` allocates. `expect_allocations` allocates one more,
-/// and one for each expected allocation. tests/refused_memory has the same number.
+/// and one for each expected allocation. tests/mutant_tests.py reads it here too.
 const COUNT_ALLOCATION: usize = 1_000_100;
 
 /// The message if the second try fails too.

@@ -69,6 +69,8 @@
 //!   [`contains_address`](RangeInclusive::contains_address) and
 //!   [`intersection`](RangeInclusive::intersection);
 //! - [`ListError`], which names the item of a list that failed;
+//! - with the feature `serde`, `AddressAllocator::deserialize_strict` and `try_saved` of address
+//!   allocators and managers;
 //! - the `try_` variants of all calls that allocate.
 //!
 //! # Out of memory
@@ -130,11 +132,12 @@
 //! # Saved values
 //!
 //! With `serde`, the first four types have the fields of `vm-allocator` in the same order, so
-//! either crate reads what the other wrote, in every format that writes `None`. TOML leaves it out, and
-//! cannot write a tree or ids without a next one. The tree of an address allocator is
-//! written balanced. Its shape depends only on the space and the allocated ranges, so equal
-//! address allocators have the same bytes. A [`DeviceManager`] is saved as its version, both
-//! allocators, and its devices in ascending order of ids.
+//! either crate reads what the other wrote, in every format that writes `None`. TOML leaves it out, so
+//! a tree, and ids without a next one, cannot be read from it.
+//!
+//! The tree of an address allocator is written balanced. Its shape depends only on the space and the
+//! allocated ranges, so equal address allocators have the same bytes. A [`DeviceManager`] is saved as
+//! its version, both allocators, and its devices in ascending order of ids.
 //!
 //! Proved code accepts the nodes, ids and devices of a value if and only if they are valid. Any other
 //! value is an error of the format. An address allocator is valid under these conditions:

@@ -159,7 +159,10 @@ impl fmt::LowerHex for RangeInclusive {
 
 impl fmt::Display for RangeInclusive {
     fn fmt(&self, f: &mut fmt::Formatter<'_>) -> fmt::Result {
-        pad(f, format_args!("{self:x}"))
+        match f.alternate() {
+            true => pad(f, format_args!("{self:#x}")),
+            false => pad(f, format_args!("{self:x}")),
+        }
     }
 }
 

@@ -513,6 +513,14 @@ fn texts_are_padded_as_a_whole() {
              existing RangeInclusive { start: 208, end: 215 }",
         ),
     ];
+    // The longest text.
+    let range = RangeInclusive::new(u64::MAX - 1, u64::MAX).unwrap();
+    let longest = ListError {
+        index: Some(usize::MAX),
+        error: Error::Overlap(range, range),
+    };
+    assert_eq!(format!("{longest:<300}").trim_end(), longest.to_string());
+    assert_eq!(format!("{range:#}"), format!("{range:#x}"));
     for (object, text) in texts {
         let padding = " ".repeat(160 - text.len());
         assert_eq!(format!("{object:>160}"), format!("{padding}{text}"));

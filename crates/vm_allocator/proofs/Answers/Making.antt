@@ -60,37 +60,34 @@ new_made base size sp s =
     s
 
 -- ---- An allocator of the space with some ranges held
-pub over_space : (base size : ℕ) (sp : Range) (held : List Range) (answer : Result AddressState Error) → MakesSpace base size (Ok sp) → MakesHeld sp held answer → MakesWithHeld base size held answer
+-- A fact about the space, or about the error if there is none.
+by_space : (base size : ℕ) (sp : Range) (refused : Error → Type 0) (makes : Range → Type 0) → MakesSpace base size (Ok sp) → makes sp → BySpace base size refused makes
 unfolding BySpace
-over_space base size sp held answer s h =
+by_space base size sp refused makes s h =
     ⊎_elim
     (λ l. absurd (cc (l.1)))
-    (λ r. ⊎_elim (λ l. absurd (cc (l.1))) (λ k. let e : sp ≡ span base size = cc (k.1) in inr (r.0, inr (k.0, subst (λ (v : Range). MakesHeld v held answer) e h))) r.1)
+    (λ r. ⊎_elim (λ l. absurd (cc (l.1))) (λ k. let e : sp ≡ span base size = cc (k.1) in inr (r.0, inr (k.0, subst makes e h))) r.1)
     s
+
+by_error : (base size : ℕ) (e : Error) (refused : Error → Type 0) (makes : Range → Type 0) → MakesSpace base size (Err e) → refused e → BySpace base size refused makes
+unfolding BySpace
+by_error base size e refused makes s h =
+    ⊎_elim
+    (λ l. let same : e ≡ Underflow = cc (l.1) in inl (l.0, subst refused same h))
+    (λ r. ⊎_elim (λ l. let same : e ≡ Overflow = cc (l.1) in inr (r.0, inl (l.0, subst refused same h))) (λ k. absurd (cc (k.1))) r.1)
+    s
+
+pub over_space : (base size : ℕ) (sp : Range) (held : List Range) (answer : Result AddressState Error) → MakesSpace base size (Ok sp) → MakesHeld sp held answer → MakesWithHeld base size held answer
+over_space base size sp held answer s h = by_space base size sp (λ e. answer ≡ Err e) (λ v. MakesHeld v held answer) s h
 
 pub without_space : (base size : ℕ) (held : List Range) (e : Error) → MakesSpace base size (Err e) → MakesWithHeld base size held (Err e)
-unfolding BySpace
-without_space base size held e s =
-    ⊎_elim
-    (λ l. inl (l.0, cc (l.1)))
-    (λ r. ⊎_elim (λ l. inr (r.0, inl (l.0, cc (l.1)))) (λ k. absurd (cc (k.1))) r.1)
-    s
+without_space base size held e s = by_error base size e (λ f. Err e ≡ Err f) (λ v. MakesHeld v held (Err e)) s refl
 
 pub index_over_space : (base size : ℕ) (sp : Range) (held : List Range) (index : Option ℕ) → MakesSpace base size (Ok sp) → index ≡ fault_index 0 sp.start sp.end held → HasFaultIndex base size held index
-unfolding BySpace
-index_over_space base size sp held index s h =
-    ⊎_elim
-    (λ l. absurd (cc (l.1)))
-    (λ r. ⊎_elim (λ l. absurd (cc (l.1))) (λ k. let e : sp ≡ span base size = cc (k.1) in inr (r.0, inr (k.0, subst (λ (v : Range). index ≡ fault_index 0 v.start v.end held) e h))) r.1)
-    s
+index_over_space base size sp held index s h = by_space base size sp (λ _. index ≡ None) (λ v. index ≡ fault_index 0 v.start v.end held) s h
 
 pub no_index : (base size : ℕ) (held : List Range) (index : Option ℕ) (e : Error) → MakesSpace base size (Err e) → index ≡ None → HasFaultIndex base size held index
-unfolding BySpace
-no_index base size held index e s none =
-    ⊎_elim
-    (λ l. inl (l.0, none))
-    (λ r. ⊎_elim (λ l. inr (r.0, inl (l.0, none))) (λ k. absurd (cc (k.1))) r.1)
-    s
+no_index base size held index e s none = by_error base size e (λ _. index ≡ None) (λ v. index ≡ fault_index 0 v.start v.end held) s none
 
 -- The space of a tree is the one that it was made for.
 pub space_of_made : (space : Range) (held : List Range) (s : Shape) → MakesHeld space held (Ok (tree_state s)) → space_of (blocks s) ≡ space

@@ -1,4 +1,5 @@
--- What is kept of a subtree that was read: a span. The lemmas of proofs/Saved show what it says about the nodes.
+-- The span of a subtree that was read, which is all that is kept of it besides its held keys. The lemmas of
+-- proofs/SavedNodes show which subtrees have a span.
 use Rattle.std.specs.Prelude.{◌≡◌, ℕ, ◌+◌, min, max, Bool, true, false, not, ◌&&◌, ◌||◌, ◌==◌, nat_lt, nat_le, ◌^◌, ◌-◌, if◌then◌else◌, Option, Some, None, option_and_then, List, [], ◌∷◌, ◌++◌, length, ◌<◌, ◌⊎◌, Result, OnOk}
 use Rattle.vm_ranges.specs.Saving.{ReadsParts}
 use Rattle.vm_ranges.specs.declared.saved.SavedError.{SavedError}
@@ -131,8 +132,8 @@ pub record AreAround (k : Range) (lefts rights : List Range) : Type 0 where
   pub lefts_below : StartBelow k.start lefts
   pub rights_above : StartAbove k.start rights
 
--- If the old list ends with so many keys of the left and of the right child of a node with this key, the new one has
--- them in order, and the key's place is between them. Otherwise nothing is known.
+-- The old list ends with so many keys of the left and of the right child of a node with this key. Then the new one has them
+-- in order, and the key's place is between them. Otherwise nothing is known.
 unfoldable pub Arranges : List Range → ℕ → Range → ℕ → Option ℕ → List Range → Type 0
 Arranges old left key right answer new =
     (before lefts rights : List Range) → length lefts ≡ left → length rights ≡ right → AreAround key lefts rights →

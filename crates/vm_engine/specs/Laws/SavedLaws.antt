@@ -27,7 +27,7 @@ NodesAreWritten =
     IsWritten n.left.blocks.now l → IsWritten n.right.blocks.now r →
     IsWritten bs (Node l (record { key = n.key; state = n.state }) r n.height)
 
--- What is written for an allocator's tree is a saved tree of its space, node for node, with its state.
+-- The tree that is written for an allocator's tree is a saved tree of its space, node for node, with its state.
 abbrev pub WrittenIsRead : Type 0
 WrittenIsRead =
     (s : Shape) (t : Saved) → IsSpaceTree s → IsWritten (blocks s) t → HasTreeOf (space_of (blocks s)) t (tree_state s)

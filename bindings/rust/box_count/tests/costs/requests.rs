@@ -166,7 +166,10 @@ fn several_allocations() {
             for failing in [1, number].into_iter().filter(|_| number > 0) {
                 let (result, [made, _]) =
                     cost(|| with_failing(failing, || space.allocate_all(Global, &requests)));
-                assert_eq!(result.err().map(Error::from), Some(OutOfMemory), "{name:?}");
+                // The list comes first, and has no request.
+                let failure = result.unwrap_err();
+                assert_eq!(failure.error, OutOfMemory, "{name:?}");
+                assert_eq!(failure.index.is_some(), failing > 1, "{name:?}");
                 assert_eq!(made, failing, "{name:?}");
                 assert!(space == s.space(), "{name:?}");
             }

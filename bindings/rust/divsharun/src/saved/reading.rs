@@ -75,8 +75,11 @@ impl crate::AddressAllocator {
     ///
     /// `Deserialize` also accepts the trees that a bug of `vm-allocator` led to, with gaps and without
     /// nodes. So it cannot notice that a subtree is missing, and its ranges with it. Read with this
-    /// call what this crate saved, and what a `vm-allocator` without these bugs saved. After any other
-    /// restore, check with [`holds`](Self::holds) that the range of each device is allocated.
+    /// call what this crate saved. Read with `Deserialize` what `vm-allocator` saved, and then check
+    /// with [`holds`](Self::holds) that the range of each device is allocated.
+    ///
+    /// In a structure, name it with
+    /// `#[serde(deserialize_with = "AddressAllocator::deserialize_strict")]`.
     ///
     /// # Errors
     ///
@@ -98,9 +101,6 @@ impl crate::AddressAllocator {
     /// # #[cfg(not(feature = "serde"))]
     /// # fn main() {}
     /// ```
-    ///
-    /// In a structure, name it with
-    /// `#[serde(deserialize_with = "AddressAllocator::deserialize_strict")]`.
     pub fn deserialize_strict<'de, D: Deserializer<'de>>(from: D) -> Result<Self, D::Error> {
         let allocator = Space::deserialize(from)?.allocator(true)?;
         Ok(crate::AddressAllocator(allocator))

@@ -1,9 +1,8 @@
 //! Writes objects with serde.
 
-use super::text_of;
+use crate::error::NO_MEMORY;
 use crate::proved::vm_allocator::{
-    AddressAllocator, IdAllocator, RangeInclusive, SavedError, WrittenBlocks, WrittenNode,
-    WrittenTree,
+    AddressAllocator, IdAllocator, RangeInclusive, WrittenBlocks, WrittenNode, WrittenTree,
 };
 use crate::proved::vm_devices::{DeviceManager, SAVED_VERSION};
 use crate::rattle::Global;
@@ -65,23 +64,22 @@ struct WithBlocks<'a, T>(&'a T, &'a WrittenBlocks);
 
 struct Root<'a>(&'a WrittenBlocks);
 
-/// Returns the blocks that the tree of a space is written of.
-fn blocks_of(space: &AddressAllocator) -> Result<WrittenBlocks, SavedError> {
-    Ok(space.written_blocks(Global)?)
+/// Returns the blocks that the tree of a space is written of, or an error of the format if memory runs
+/// out.
+fn blocks_of<E: Error>(space: &AddressAllocator) -> Result<WrittenBlocks, E> {
+    let blocks = space.written_blocks(Global);
+    blocks.map_err(|_| E::custom(NO_MEMORY))
 }
 
 impl Serialize for AddressAllocator {
     fn serialize<S: Serializer>(&self, to: S) -> Result<S::Ok, S::Error> {
-        let blocks = blocks_of(self).map_err(|error| S::Error::custom(text_of(error)))?;
-        WithBlocks(self, &blocks).serialize(to)
+        WithBlocks(self, &blocks_of(self)?).serialize(to)
     }
 }
 
 impl Serialize for DeviceManager {
     fn serialize<S: Serializer>(&self, to: S) -> Result<S::Ok, S::Error> {
-        let blocks = blocks_of(self.addresses());
-        let blocks = blocks.map_err(|error| S::Error::custom(text_of(error)))?;
-        WithBlocks(self, &blocks).serialize(to)
+        WithBlocks(self, &blocks_of(self.addresses())?).serialize(to)
     }
 }
 
@@ -112,30 +110,39 @@ impl Serialize for Saved<'_, crate::DeviceManager> {
     }
 }
 
-/// Implements the call that creates a view.
-macro_rules! try_saved {
-    ($($object:ident, $space:expr;)*) => {$(
-        impl crate::$object {
-            /// Returns a view that is serialized as this object, and without an allocation.
-            ///
-            /// The memory of a format is not part of this: `serde_json::to_string` allocates its text,
-            /// and ends the process if that fails.
-            ///
-            /// # Errors
-            ///
-            /// - `OutOfMemory` if the allocation of a list of the blocks fails.
-            pub fn try_saved(&self) -> Result<Saved<'_, Self>, TryError> {
-                let space: fn(&Self) -> &AddressAllocator = $space;
-                let blocks = blocks_of(space(self)).map_err(|_| TryError::OutOfMemory)?;
-                Ok(Saved { object: self, blocks })
-            }
-        }
-    )*};
+impl<'a, T> Saved<'a, T> {
+    /// Returns the view of an object with this space.
+    fn of(object: &'a T, space: &AddressAllocator) -> Result<Self, TryError> {
+        let blocks = space.written_blocks(Global);
+        let blocks = blocks.map_err(|_| TryError::OutOfMemory)?;
+        Ok(Saved { object, blocks })
+    }
 }
 
-try_saved! {
-    AddressAllocator, |allocator| &allocator.0;
-    DeviceManager, |manager| manager.0.addresses();
+impl crate::AddressAllocator {
+    /// Returns a view that is serialized as this allocator, and without an allocation.
+    ///
+    /// The memory of a format is not part of this: `serde_json::to_string` allocates its text, and ends
+    /// the process if memory for it runs out.
+    ///
+    /// # Errors
+    ///
+    /// - `OutOfMemory` if memory for a list of the blocks runs out.
+    pub fn try_saved(&self) -> Result<Saved<'_, Self>, TryError> {
+        Saved::of(self, &self.0)
+    }
+}
+
+impl crate::DeviceManager {
+    /// Returns a view that is serialized as this manager, and without an allocation, as
+    /// [`AddressAllocator::try_saved`](crate::AddressAllocator::try_saved) does.
+    ///
+    /// # Errors
+    ///
+    /// - `OutOfMemory` if memory for a list of the blocks runs out.
+    pub fn try_saved(&self) -> Result<Saved<'_, Self>, TryError> {
+        Saved::of(self, self.0.addresses())
+    }
 }
 
 impl Serialize for WrittenTree<'_> {
