@@ -282,5 +282,3 @@ impl IdAllocator {
     }
 }
 
-#[cfg(test)]
-mod tests;

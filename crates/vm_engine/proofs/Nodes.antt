@@ -1,7 +1,7 @@
 pub mod SideChange
 pub mod Rewriting
 pub mod Supersets
-pub mod FirstOverlaps
+pub mod ClearRanges
 pub mod TreeEdits
 pub mod MinNodes
 pub mod Spaces

@@ -7,7 +7,6 @@ pub mod FreedBlocks
 pub mod NeighbourNodes
 pub mod NodeFields
 pub mod NodeUpdate
-pub mod NodeAnswer
 pub mod Widening
 pub mod SplitBlocks
 pub mod CountedTrees

@@ -8,7 +8,7 @@
 //! - `comparing` compares two trees.
 //! - `counted` has the calls that count the nodes that they enter.
 //!
-//! A counted call passes a counter at 0 to `allocate_inner` or `free_inner`, and returns the final
+//! A counted call passes on a counter at 0, and returns the final
 //! count. A plain call makes the counted call and drops the count. A tree of height 49 has fewer
 //! than 2^49 nodes, so a counter that starts at 0 never overflows. This is proved once, so callers
 //! have no condition on it.
@@ -142,28 +142,6 @@ impl IntervalTree {
         ensures balanced { IsBalancedTreeOf (tree_state self.now) self.now }
     {
         self.root().height()
-    }
-
-    /// Allocates like `allocate`, and adds the number of entered nodes to a counter at 0.
-    #[tactic(auto, using(crate::proofs::Choosing::Searched::granting, crate::proofs::Counts::Granting::grantings))]
-    fn allocate_inner(
-        &mut self,
-        alloc: Global,
-        constraint: Constraint,
-        count: &mut Steps,
-    ) -> Result<RangeInclusive>
-        requires { count.old ≡ 0 }
-        ensures valid { IsRequest constraint }
-        ensures answer { Grants (tree_state self.old) constraint result (tree_state self.new) }
-        ensures unchanged { OnErr result (self.new ≡ self.old) }
-        ensures depth { SplitsIfLow (height_of self.old) (tree_state self.old) constraint result }
-        ensures count { Enters self.old constraint result 0 count.new }
-        ensures space { IsSpaceTree self.old }
-        ensures tree { OnOk result (IsTree self.old) }
-    {
-        let mut edge = Edge::new();
-        let choice = self.choose_place(constraint, &mut edge, count)?;
-        self.allocate_chosen(alloc, choice, &edge, count)
     }
 
     /// Allocates `size` free addresses that start at a multiple of the constraint's alignment, and

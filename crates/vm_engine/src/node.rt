@@ -13,7 +13,7 @@ ghost use Rattle.vm_engine.specs.Engine.NodeFields.{side};
 mod balance;
 pub(crate) mod delete;
 pub(crate) mod edge;
-mod find;
+pub(crate) mod find;
 mod laws;
 mod link;
 pub(crate) mod neighbours;
@@ -22,8 +22,6 @@ pub(crate) mod places;
 pub(crate) mod rewrite;
 pub(crate) mod split;
 mod summary;
-#[cfg(test)]
-mod tests;
 pub(crate) mod walks;
 pub(crate) mod widen;
 pub(crate) mod windows;

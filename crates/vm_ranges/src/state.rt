@@ -8,6 +8,3 @@ pub enum NodeState {
     /// The block is an allocated range.
     Allocated,
 }
-
-#[cfg(test)]
-mod tests;

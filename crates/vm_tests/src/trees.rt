@@ -6,6 +6,8 @@ use std::process::Abort;
 use vm_allocator::allocation_engine::IntervalTree;
 use vm_allocator::{AllocPolicy, Constraint, Error};
 
+mod by_name;
+
 /// Creates the tree of a space.
 fn tree_of(rt: &(impl Abort + AllocGlobal), start: u64, end: u64) -> IntervalTree {
     let space = range(rt, start, end);

@@ -1,5 +1,5 @@
 -- A search that ends at the outermost gap of a tree.
-use Rattle.std.proofs.Common.{◌≡◌, ◌≢◌, ℕ, suc, ◌+◌, ◌<◌, ◌≤◌, ◌⊎◌, inl, inr, true, Option, Some, None, List, [], ◌∷◌, ◌++◌, refl, sym, ap, ◌∙◌, subst, append_assoc, arith, ⊎_elim, Result, IfOk}
+use Rattle.std.proofs.Common.{◌≡◌, ◌≢◌, ℕ, suc, ◌+◌, ◌-◌, ◌<◌, ◌≤◌, ◌⊎◌, inl, inr, true, Option, Some, None, List, [], ◌∷◌, ◌++◌, refl, sym, ap, ◌∙◌, subst, append_assoc, arith, ⊎_elim, Result, IfOk}
 use Rattle.vm_ranges.specs.Range.{Range, span}
 use Rattle.vm_ranges.specs.RangeOrder.{Before}
 use Rattle.vm_engine.specs.Tree.Block.{Block, free_block, free_length}
@@ -9,7 +9,7 @@ use Rattle.vm_engine.specs.Tree.Multiples.{free_alignments}
 use Rattle.vm_engine.specs.Tree.Shape.{Shape, Fork, blocks, height_of, max_free_of, single, IsTree}
 use Rattle.vm_engine.specs.Engine.Choosing.{ChoosesAt, ChoosesBelowMax}
 use Rattle.vm_engine.specs.Engine.NodeUpdate.{IsSummaryOf}
-use Rattle.vm_engine.specs.Engine.Outermost.{IsUnevenAt, IsNewEdge, Passes, IsEdgeGap, KnowsGap, IsChosenGap, KnowsChoice}
+use Rattle.vm_engine.specs.Engine.Outermost.{IsUnevenAt, IsNewEdge, Passes, IsEdgeGap, KnowsGap, IsChosenGap, KnowsPlace}
 use Rattle.vm_engine.specs.Engine.Place.{FindsFirst, FindsLast}
 use Rattle.vm_engine.specs.Engine.SplitBlocks.{IsLeafAt}
 use Rattle.vm_engine.specs.Counts.NodeCounts.{may_fit_in, nodes_of_first, nodes_of_last}
@@ -17,7 +17,6 @@ use Rattle.vm_ranges.specs.Alignment.{IsAlignment}
 use Rattle.std.specs.List.{All}
 use Rattle.vm_engine.specs.declared.node.edge.Edge.{Edge}
 use Rattle.vm_engine.specs.declared.node.places.Place.{Place}
-use Rattle.vm_engine.specs.declared.node.split.Choice.{Choice}
 use Rattle.vm_engine.specs.declared.node.summary.Summary.{Summary}
 use Rattle.vm_ranges.specs.declared.error.Error.{Error}
 use Rattle.vm_ranges.specs.declared.state.NodeState.TheVariants.{Free, Allocated}
@@ -26,7 +25,7 @@ use Rattle.vm_engine.proofs.Blocks.BlockOrder.{ordered_middle}
 use Rattle.vm_engine.proofs.Blocks.OneList.{same_block}
 use Rattle.vm_engine.proofs.Blocks.Replacement.{same_range_self}
 use Rattle.vm_engine.proofs.Choosing.Fits.{no_fit_held}
-use Rattle.vm_engine.proofs.Choosing.PlaceSearch.{first_through_right, last_through_left}
+use Rattle.vm_engine.proofs.Choosing.PlaceSearch.{lowest_within, highest_within, first_through_right, last_through_left}
 use Rattle.vm_engine.proofs.Counts.Entering.{not_if_short, none_unless_searched}
 use Rattle.vm_engine.proofs.Counts.Searching.{first_nodes_passed, first_nodes_right, last_nodes_passed, last_nodes_left}
 use Rattle.vm_engine.proofs.Nodes.TreeEdits.{starts_from}
@@ -117,7 +116,7 @@ leaf_is_gap n old new k b s e f h =
     }
 
 -- A search that ended at a leaf.
-pub gap_at_leaf : (n t : ℕ) (old new : Edge) (s : Shape) (b : Block) → s ≡ single b → new.steady ≡ old.steady → b.state ≡ Free → KnowsGap n old new (Some (record { key = b.key; start = t })) s
+pub gap_at_leaf : (n t : ℕ) (old new : Edge) (s : Shape) (b : Block) → s ≡ single b → new.steady ≡ old.steady → b.state ≡ Free → KnowsGap n old new (Some (record { key = b.key; range = span t n })) s
 gap_at_leaf n t old new s b e h f = λ i. leaf_is_gap n old new b.key b s e (same_block b (free_block b.key) refl f) h
 
 -- A search that passed the node and its child.
@@ -152,26 +151,32 @@ module _ (n a : ℕ) (old mid new : Edge) (s l : Shape) (b : Block) (r : Shape) 
         uneven = rw e (uneven_over place.key l (Fork l b r) old mid new passed _ (λ j u. uneven_in_left j place.key l b r below u) (λ u. uneven_root place.key l b r (λ d. u (z.0 ∙ sym d))) p gap.uneven);
       }
 
-pub ruleset firsts = (no_fit_held, gap_at_leaf, gap_through_right)
+pub ruleset firsts = (lowest_within, no_fit_held, gap_at_leaf, gap_through_right)
 
-pub ruleset lasts = (no_fit_held, gap_at_leaf, gap_through_left)
+pub ruleset lasts = (highest_within, no_fit_held, gap_at_leaf, gap_through_left)
 
--- The range that is chosen at the place.
-chosen_gap : (edge old : Edge) (s : Shape) (k : Range) (t n : ℕ) → 0 < n → IsNewEdge old → IsEdgeGap n old edge k s → IsChosenGap edge (record { key = k; range = span t n }) s
-chosen_gap edge old s k t n z w g = record {
-  others = record { max_free = omega (arith, g.others.max_free); alignments = g.others.alignments };
-  leaf = g.leaf;
-  uneven = ⊎_elim (λ same. inl (omega (arith, same, w.1))) (λ u. let at : u.0 ≡ edge.steady = omega (arith, u.1, w.0) in inr (rw at at u.2)) g.uneven;
-}
+-- The place is in the gap at which the search ended.
+chosen_gap : (edge old : Edge) (s : Shape) (place : Place) (n : ℕ) → 0 < n → IsNewEdge old → place.range ≡ span place.range.start n → IsEdgeGap n old edge place.key s → IsChosenGap edge place s
+chosen_gap edge old s place n z w long g =
+    let end : place.range.end ≡ place.range.start + n - 1 = ap (λ (v : Range). v.end) long in
+    record {
+      others = record { max_free = omega (arith, g.others.max_free, end); alignments = g.others.alignments };
+      leaf = g.leaf;
+      uneven = ⊎_elim (λ same. inl (omega (arith, same, w.1))) (λ u. let at : u.0 ≡ edge.steady = omega (arith, u.1, w.0) in inr (rw at at u.2)) g.uneven;
+    }
 
-below_max : (edge old : Edge) (s : Shape) (place : Place) (n : ℕ) (answer : Result Choice Error) → 0 < n → IsNewEdge old → KnowsGap n old edge (Some place) s → ChoosesBelowMax place.key place.start n answer → IfOk answer (λ choice. KnowsChoice edge choice s)
+below_max : (edge old : Edge) (s : Shape) (place : Place) (n : ℕ) (answer : Result Place Error) → 0 < n → IsNewEdge old → place.range ≡ span place.range.start n → KnowsGap n old edge (Some place) s → ChoosesBelowMax place answer → IfOk answer (λ place. KnowsPlace edge place s)
 unfolding ChoosesBelowMax
-below_max edge old s place n answer z w k h =
+below_max edge old s place n answer z w long k h =
     ⊎_elim
     (λ o. rw o.1 tt)
-    (λ o. rw o.1 (λ i. chosen_gap edge old s place.key place.start n z w (k i)))
+    (λ o. rw o.1 (λ i. chosen_gap edge old s place n z w long (k i)))
     h
 
-pub knows_choice : (edge old : Edge) (s : Shape) (found : Option Place) (n : ℕ) (answer : Result Choice Error) → 0 < n → IsNewEdge old → KnowsGap n old edge found s → ChoosesAt found n answer → IfOk answer (λ choice. KnowsChoice edge choice s)
-knows_choice edge old s None n answer z w k h = rw h tt
-knows_choice edge old s (Some place) n answer z w k h = below_max edge old s place n answer z w k h
+pub knows_first : (edge old : Edge) (s : Shape) (found : Option Place) (n a : ℕ) (answer : Result Place Error) → 0 < n → IsNewEdge old → FindsFirst n a (blocks s) found → KnowsGap n old edge found s → ChoosesAt found answer → IfOk answer (λ place. KnowsPlace edge place s)
+knows_first edge old s None n a answer z w f k h = rw h tt
+knows_first edge old s (Some place) n a answer z w f k h = below_max edge old s place n answer z w f.long k h
+
+pub knows_last : (edge old : Edge) (s : Shape) (found : Option Place) (n a : ℕ) (answer : Result Place Error) → 0 < n → IsNewEdge old → FindsLast n a (blocks s) found → KnowsGap n old edge found s → ChoosesAt found answer → IfOk answer (λ place. KnowsPlace edge place s)
+knows_last edge old s None n a answer z w f k h = rw h tt
+knows_last edge old s (Some place) n a answer z w f k h = below_max edge old s place n answer z w f.long k h

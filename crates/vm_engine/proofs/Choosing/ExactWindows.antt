@@ -10,13 +10,13 @@ use Rattle.vm_engine.specs.Tree.Blocks.{TilesSpace}
 use Rattle.vm_engine.specs.Tree.BlockList.{find_superset}
 use Rattle.vm_engine.specs.Tree.Shape.{Shape, blocks}
 use Rattle.vm_engine.specs.Tree.SpaceTree.{space_of, tree_state, IsSpaceTree}
-use Rattle.vm_engine.specs.Engine.Choosing.{AllocatingGrants, Chooses, ExactChoice, ExactChoiceIn}
+use Rattle.vm_engine.specs.Engine.Choosing.{AllocatingGrants, Chooses, ExactPlace, ExactPlaceIn}
 use Rattle.vm_ranges.specs.declared.error.Error.{Error}
 use Rattle.vm_ranges.specs.declared.error.Error.TheVariants.{Overflow, ResourceNotAvailable}
 use Rattle.vm_ranges.specs.declared.state.NodeState.{NodeState}
 use Rattle.vm_ranges.specs.declared.state.NodeState.TheVariants.{Free, Allocated}
 use Rattle.vm_ranges.specs.declared.constraint.AllocPolicy.TheVariants.{ExactMatch}
-use Rattle.vm_engine.specs.declared.node.split.Choice.{Choice}
+use Rattle.vm_engine.specs.declared.node.places.Place.{Place}
 use Rattle.vm_engine.proofs.Blocks.PlainWords.{held_contains}
 use Rattle.vm_engine.proofs.Nodes.TreeEdits.{address_missed}
 use Rattle.vm_engine.proofs.Answers.Once.{clear_anywhere, place_anywhere}
@@ -65,13 +65,13 @@ module _ (w : Range) (n a t : ℕ) (old : AddressState) (z : 0 < n) (i : IsIn w 
         )) r.1,
       )) h
 
-narrow : (w : Range) (n a t : ℕ) (s : Shape) (answer : Result Choice Error) → 0 < n → IsIn w t → (AreClear n (tree_state s) t → t + n ≤ w.end + 1) → Chooses s (named n a t) answer → Chooses s (named_in w n a t) answer
+narrow : (w : Range) (n a t : ℕ) (s : Shape) (answer : Result Place Error) → 0 < n → IsIn w t → (AreClear n (tree_state s) t → t + n ≤ w.end + 1) → Chooses s (named n a t) answer → Chooses s (named_in w n a t) answer
 unfolding Chooses AllocatingGrants
-narrow w n a t s (Ok choice) z i upto h = (h.0, λ answer new k. narrow_grants w n a t (tree_state s) z i upto new answer (h.1 answer new k))
+narrow w n a t s (Ok place) z i upto h = (h.0, λ answer new k. narrow_grants w n a t (tree_state s) z i upto new answer (h.1 answer new k))
 narrow w n a t s (Err e) z i upto h = narrow_grants w n a t (tree_state s) z i upto (tree_state s) (Err e) h
 
 -- ---- Requests with a known start and a known window
-known_start_in : (request : Request) (w : Range) (t : ℕ) (s : Shape) (answer : Result Choice Error) → request.policy ≡ ExactMatch t → request.window ≡ Some w → Chooses s (named_in w request.size request.align t) answer → Chooses s request answer
+known_start_in : (request : Request) (w : Range) (t : ℕ) (s : Shape) (answer : Result Place Error) → request.policy ≡ ExactMatch t → request.window ≡ Some w → Chooses s (named_in w request.size request.align t) answer → Chooses s request answer
 known_start_in request w t s answer p e h =
     subst (λ (v : Request). Chooses s v answer) (with_policy request (ExactMatch t) p)
     (subst (λ (v : Option Range). Chooses s (request_in v request.size request.align (ExactMatch t)) answer) (sym e) h)
@@ -135,46 +135,46 @@ beyond w n a t s b x f i m o =
       ),
     )
 
-choice_narrow : (w : Range) (n a t last : ℕ) (s : Shape) (b : Block) (st : NodeState) (answer : Result Choice Error) → IsWithin (space_of (blocks s)) (blocks s) b n t → IsIn w t → st ≡ b.state → t % a ≡ 0 → last ≡ t + (n - 1) → last ≤ MAX → (st ≡ Free → last ≤ w.end) → ExactChoice b.key st t last answer → Chooses s (named_in w n a t) answer
-choice_narrow w n a t last s b st answer x i es d q o upto h =
+place_narrow : (w : Range) (n a t last : ℕ) (s : Shape) (b : Block) (st : NodeState) (answer : Result Place Error) → IsWithin (space_of (blocks s)) (blocks s) b n t → IsIn w t → st ≡ b.state → t % a ≡ 0 → last ≡ t + (n - 1) → last ≤ MAX → (st ≡ Free → last ≤ w.end) → ExactPlace b.key st t last answer → Chooses s (named_in w n a t) answer
+place_narrow w n a t last s b st answer x i es d q o upto h =
     let z = x.some in
     narrow w n a t s answer z i
     (λ c. let k = clear_in_block (space_of (blocks s)) (blocks s) b n t x c in omega (arith, upto (es ∙ k.0)))
     (chooses_in n a t last s b st answer x es d q o h)
 
-choice_within : (w : Range) (n a t last : ℕ) (s : Shape) (b : Block) (st : NodeState) (answer : Result Choice Error) → IsWithin (space_of (blocks s)) (blocks s) b n t → IsIn w t → st ≡ b.state → t % a ≡ 0 → last ≡ t + (n - 1) → last ≤ MAX → ExactChoiceIn w b.key st t last answer → Chooses s (named_in w n a t) answer
-unfolding ExactChoiceIn
-choice_within w n a t last s b Allocated answer x i es d q o h = choice_narrow w n a t last s b Allocated answer x i es d q o (λ f. absurd (cc f)) h
-choice_within w n a t last s b Free answer x i es d q o h =
+place_within : (w : Range) (n a t last : ℕ) (s : Shape) (b : Block) (st : NodeState) (answer : Result Place Error) → IsWithin (space_of (blocks s)) (blocks s) b n t → IsIn w t → st ≡ b.state → t % a ≡ 0 → last ≡ t + (n - 1) → last ≤ MAX → ExactPlaceIn w b.key st t last answer → Chooses s (named_in w n a t) answer
+unfolding ExactPlaceIn
+place_within w n a t last s b Allocated answer x i es d q o h = place_narrow w n a t last s b Allocated answer x i es d q o (λ f. absurd (cc f)) h
+place_within w n a t last s b Free answer x i es d q o h =
     let z = x.some in
     ⊎_elim
     (λ l. subst (Chooses s (named_in w n a t)) (sym l.1) (beyond w n a t s b x (sym es) i (omega arith) (omega (arith, l.0))))
-    (λ l. choice_narrow w n a t last s b Free answer x i es d q o (λ f. omega (arith, l.0)) l.1)
+    (λ l. place_narrow w n a t last s b Free answer x i es d q o (λ f. omega (arith, l.0)) l.1)
     h
 
-pub chooses_exact_in : (request : Request) (w : Range) (t last : ℕ) (k key : Range) (s : Shape) (b : Block) (st : NodeState) (answer : Result Choice Error) → IsSpaceTree s → IsRequest request → request.policy ≡ ExactMatch t → request.window ≡ Some w → t < MAX → k ≡ at_address t → find_superset k (blocks s) ≡ Some b → key ≡ b.key → st ≡ b.state → w.start ≤ t → t ≤ w.end → last ≡ t + (request.size - 1) → last ≤ MAX → ExactChoiceIn w key st t last answer → Chooses s request answer
+pub chooses_exact_in : (request : Request) (w : Range) (t last : ℕ) (k key : Range) (s : Shape) (b : Block) (st : NodeState) (answer : Result Place Error) → IsSpaceTree s → IsRequest request → request.policy ≡ ExactMatch t → request.window ≡ Some w → t < MAX → k ≡ at_address t → find_superset k (blocks s) ≡ Some b → key ≡ b.key → st ≡ b.state → w.start ≤ t → t ≤ w.end → last ≡ t + (request.size - 1) → last ≤ MAX → ExactPlaceIn w key st t last answer → Chooses s request answer
 chooses_exact_in request w t last k key s b st answer h r p v m e f ek es lo hi q o x =
     let d = aligned_if request.align t request.policy p r.start in
     known_start_in request w t s answer p v
-    (choice_within w request.size request.align t last s b st answer (within_block request.size t k s b h r.some m e f) (lo, hi) es d q o
-    (subst (λ (u : Range). ExactChoiceIn w u st t last answer) ek x))
+    (place_within w request.size request.align t last s b st answer (within_block request.size t k s b h r.some m e f) (lo, hi) es d q o
+    (subst (λ (u : Range). ExactPlaceIn w u st t last answer) ek x))
 
--- ---- The choice in the block that contains the start
-pub held_in : (w k : Range) (st : NodeState) (t last : ℕ) (answer : Result Choice Error) → st ≡ Allocated → ExactChoice k st t last answer → ExactChoiceIn w k st t last answer
-unfolding ExactChoiceIn
+-- ---- The place in the block that contains the start
+pub held_in : (w k : Range) (st : NodeState) (t last : ℕ) (answer : Result Place Error) → st ≡ Allocated → ExactPlace k st t last answer → ExactPlaceIn w k st t last answer
+unfolding ExactPlaceIn
 held_in w k Free t last answer e h = absurd (cc)
 held_in w k Allocated t last answer e h = h
 
-pub beyond_in : (w k : Range) (st : NodeState) (t last : ℕ) → st ≡ Free → w.end < last → ExactChoiceIn w k st t last (Err ResourceNotAvailable)
-unfolding ExactChoiceIn
+pub beyond_in : (w k : Range) (st : NodeState) (t last : ℕ) → st ≡ Free → w.end < last → ExactPlaceIn w k st t last (Err ResourceNotAvailable)
+unfolding ExactPlaceIn
 beyond_in w k Free t last e l = inl (l, refl)
 beyond_in w k Allocated t last e l = absurd (cc)
 
-pub free_in : (w k : Range) (st : NodeState) (t last : ℕ) (answer : Result Choice Error) → st ≡ Free → last ≤ w.end → ExactChoice k st t last answer → ExactChoiceIn w k st t last answer
-unfolding ExactChoiceIn
+pub free_in : (w k : Range) (st : NodeState) (t last : ℕ) (answer : Result Place Error) → st ≡ Free → last ≤ w.end → ExactPlace k st t last answer → ExactPlaceIn w k st t last answer
+unfolding ExactPlaceIn
 free_in w k Free t last answer e l h = inr (λ o. omega arith, h)
 free_in w k Allocated t last answer e l h = absurd (cc)
 
 pub ruleset blocks_in_windows = (held_in, beyond_in, free_in)
 
-pub ruleset exact_choices_in = (at_max_in, below_window, above_window, chooses_exact_in, exact_past)
+pub ruleset exact_places_in = (at_max_in, below_window, above_window, chooses_exact_in, exact_past)

@@ -1,5 +1,5 @@
 -- From the first or the last fit of a tree to the result of a request.
-use Rattle.std.proofs.Common.{Option, Some, None, IfSome, ◌≡◌, ℕ, ◌+◌, ◌-◌, ◌<◌, List, ◌∷◌, ◌++◌, refl, sym, arith, inl, inr, ◌⊎◌, ⊎_elim, subst, Result, Ok, Err, IfErr, ap}
+use Rattle.std.proofs.Common.{Option, Some, None, IfSome, ◌≡◌, ℕ, ◌+◌, ◌-◌, ◌<◌, ◌≤◌, List, ◌∷◌, ◌++◌, refl, sym, arith, inl, inr, ◌⊎◌, ⊎_elim, subst, Result, Ok, Err, IfErr, ap}
 use Rattle.std.specs.List.{All}
 use Rattle.vm_ranges.specs.Range.{Range, MAX, span}
 use Rattle.vm_engine.specs.Tree.Block.{Block, free_block}
@@ -7,24 +7,25 @@ use Rattle.vm_engine.specs.Address.{AddressState, IsPlace, IsLowestPlace, IsHigh
 use Rattle.vm_ranges.specs.Request.{Request, IsRequest}
 use Rattle.vm_engine.specs.Answer.{IsChosen, ByExactPolicy, ByPlace, AllocatesAt, Grants}
 use Rattle.vm_engine.specs.Tree.Fit.{HasNoFit, IsLowestFit, IsHighestFit}
-use Rattle.vm_engine.specs.Tree.BlockEdits.{IsTakenFrom, HasLength}
+use Rattle.vm_engine.specs.Tree.BlockEdits.{IsTakenFrom}
 use Rattle.vm_engine.specs.Engine.Place.{IsFirstFit, IsLastFit, FindsFirst, FindsLast}
 use Rattle.vm_engine.specs.Engine.WindowPlace.{HasNoFitIn, IsFirstFitIn, IsLastFitIn, FindsFirstIn, FindsLastIn}
 use Rattle.vm_engine.specs.Windows.{within, cut_to}
 use Rattle.vm_engine.specs.Tree.Blocks.{IsBlocksOf}
 use Rattle.vm_engine.specs.Tree.Shape.{Shape, blocks}
-use Rattle.vm_engine.specs.Engine.Choosing.{ChoosesAt, IsChoice, AllocatingGrants, Chooses, ChoosesBelowMax}
+use Rattle.vm_engine.specs.Engine.Choosing.{ChoosesAt, IsChosenPlace, AllocatingGrants, Chooses, ChoosesBelowMax}
 use Rattle.vm_engine.specs.Tree.SpaceTree.{space_of, tree_state, IsSpaceTree}
 use Rattle.vm_ranges.specs.declared.error.Error.{Error}
 use Rattle.vm_ranges.specs.declared.error.Error.TheVariants.{Overflow, ResourceNotAvailable}
 use Rattle.vm_ranges.specs.declared.constraint.AllocPolicy.{AllocPolicy}
 use Rattle.vm_ranges.specs.declared.constraint.AllocPolicy.TheVariants.{FirstMatch, LastMatch, ExactMatch}
 use Rattle.vm_engine.specs.declared.node.places.Place.{Place}
-use Rattle.vm_engine.specs.declared.node.split.Choice.{Choice}
 use Rattle.vm_engine.proofs.Answers.Requests.{request_in, with_policy}
 use Rattle.vm_engine.proofs.Answers.Once.{chosen_once}
 use Rattle.vm_engine.specs.Counts.Steps.{NoneEndsBelowMax}
 use Rattle.vm_engine.proofs.Counts.NodeCountCases.{search_first, search_last, search_first_in, search_last_in}
+use Rattle.vm_engine.proofs.Choosing.PlaceSearch.{lowest_within, highest_within}
+use Rattle.vm_engine.proofs.Choosing.WindowSearch.{lowest_cut_within, highest_cut_within}
 use Rattle.vm_engine.proofs.Choosing.Places.{lowest_place, highest_place, no_place}
 use Rattle.vm_engine.proofs.Choosing.WindowPlaces.{lowest_place_in, highest_place_in, no_place_in}
 use Rattle.vm_engine.proofs.Splitting.TakenRanges.{as_blocks}
@@ -64,21 +65,19 @@ record IsFound (request : Request) (s : Shape) (place : Place) : Type 0 where
   before : List Block
   after : List Block
   cut : blocks s ≡ before ++ free_block place.key ∷ after
-  room : HasLength place.start request.size (free_block place.key)
-  chosen : IsChosen request (tree_state s) place.start
+  within : IsTakenFrom place.key place.range
+  long : place.range ≡ span place.range.start request.size
+  chosen : IsChosen request (tree_state s) place.range.start
 
-in_room : (s n : ℕ) (k : Range) → 0 < n → HasLength s n (free_block k) → IsTakenFrom k (span s n)
-unfolding HasLength
-in_room s n k z r = record { from = r.0; some = omega arith; upto = omega (arith, r.1) }
-
-found_chooses : (request : Request) (s : Shape) (place : Place) (answer : Result Choice Error) → IsNotExact request.policy → IsFound request s place → ChoosesBelowMax place.key place.start request.size answer → Chooses s request answer
+found_chooses : (request : Request) (s : Shape) (place : Place) (answer : Result Place Error) → IsNotExact request.policy → IsFound request s place → ChoosesBelowMax place answer → Chooses s request answer
 unfolding ChoosesBelowMax Chooses AllocatingGrants
 found_chooses request s place answer p f h =
+    let end : place.range.end ≡ place.range.start + request.size - 1 = ap (λ (v : Range). v.end) f.long in
     ⊎_elim
-    (λ o. subst (λ (v : Result Choice Error). Chooses s request v) (sym o.1) (over_grants request (tree_state s) p place.start f.chosen o.0))
-    (λ o. subst (λ (v : Result Choice Error). Chooses s request v) (sym o.1) (
-      record { before = f.before; after = f.after; cut = f.cut; within = in_room place.start request.size place.key f.some f.room; below = o.0 },
-      λ answer new h. chosen_grants request (tree_state s) p place.start new answer f.chosen o.0 h,
+    (λ o. subst (λ (v : Result Place Error). Chooses s request v) (sym o.1) (over_grants request (tree_state s) p place.range.start f.chosen (omega (arith, end, o.0))))
+    (λ o. subst (λ (v : Result Place Error). Chooses s request v) (sym o.1) (
+      record { before = f.before; after = f.after; cut = f.cut; within = f.within; below = o.0 },
+      λ answer new h. chosen_grants request (tree_state s) p place.range.start new answer f.chosen (omega (arith, end, o.0)) (subst (λ (v : Range). AllocatesAt (tree_state s) v answer new) f.long h),
     ))
     h
 
@@ -112,19 +111,14 @@ lowest_chosen : (request : Request) (t : ℕ) (state : AddressState) → request
 unfolding IsChosen
 lowest_chosen request t state e l = subst (λ (v : Request). IsChosen v state t) (with_policy request FirstMatch e) l
 
-lowest_room : (n a s : ℕ) (b : Block) → IsLowestFit n a b s → HasLength s n b
-unfolding IsLowestFit HasLength
-lowest_room n a s b f = (f.0.2, f.0.3)
+taken : (k r : Range) (n : ℕ) → 0 < n → r ≡ span r.start n → (k.start ≤ r.start) × (r.start + n ≤ k.end + 1) → IsTakenFrom k r
+taken k r n z long w = let end : r.end ≡ r.start + n - 1 = ap (λ (v : Range). v.end) long in record { from = w.0; some = omega (arith, end); upto = omega (arith, end, w.1) }
 
-lowest_room_in : (w : Range) (n a s : ℕ) (b : Block) → IsLowestFit n a (cut_to w b) s → HasLength s n b
-unfolding IsLowestFit HasLength
-lowest_room_in w n a s b f = (omega (arith, f.0.2), omega (arith, f.0.3))
+first_within : (n a : ℕ) (bs : List Block) (place : Place) → 0 < n → IsFirstFit n a bs place → IsTakenFrom place.key place.range
+first_within n a bs place z f = taken place.key place.range n z f.long (lowest_within n a place.range.start (free_block place.key) f.fit)
 
-first_has_room : (n a : ℕ) (bs : List Block) (place : Place) → IsFirstFit n a bs place → HasLength place.start n (free_block place.key)
-first_has_room n a bs place f = lowest_room n a place.start (free_block place.key) f.fit
-
-first_has_room_in : (w : Range) (n a : ℕ) (bs : List Block) (place : Place) → IsFirstFitIn w n a bs place → HasLength place.start n (free_block place.key)
-first_has_room_in w n a bs place f = lowest_room_in w n a place.start (free_block place.key) f.fit
+first_within_in : (w : Range) (n a : ℕ) (bs : List Block) (place : Place) → 0 < n → IsFirstFitIn w n a bs place → IsTakenFrom place.key place.range
+first_within_in w n a bs place z f = taken place.key place.range n z f.long (lowest_cut_within w n a (free_block place.key) place.range.start f.fit)
 
 first_found : (request : Request) (s : Shape) (place : Place) → request.policy ≡ FirstMatch → request.window ≡ None → IsSpaceTree s → IsRequest request → IsFirstFit request.size request.align (blocks s) place → IsFound request s place
 first_found request s place p e t r f = record {
@@ -132,10 +126,11 @@ first_found request s place p e t r f = record {
   before = f.before;
   after = f.after;
   cut = f.cut;
-  room = first_has_room request.size request.align (blocks s) place f;
-  chosen = lowest_chosen request place.start (tree_state s) p (
-      whole (λ (v : AddressState). IsLowestPlace request.size request.align v place.start) request (tree_state s) e (
-      lowest_place (tree_state s) (blocks s) f.before f.after (free_block place.key) request.size request.align place.start (tree_is s t) f.cut r.some f.none f.fit));
+  within = first_within request.size request.align (blocks s) place r.some f;
+  long = f.long;
+  chosen = lowest_chosen request place.range.start (tree_state s) p (
+      whole (λ (v : AddressState). IsLowestPlace request.size request.align v place.range.start) request (tree_state s) e (
+      lowest_place (tree_state s) (blocks s) f.before f.after (free_block place.key) request.size request.align place.range.start (tree_is s t) f.cut r.some f.none f.fit));
 }
 
 first_found_in : (request : Request) (w : Range) (s : Shape) (place : Place) → request.policy ≡ FirstMatch → request.window ≡ Some w → IsSpaceTree s → IsRequest request → IsFirstFitIn w request.size request.align (blocks s) place → IsFound request s place
@@ -144,25 +139,18 @@ first_found_in request w s place p e t r f = record {
   before = f.before;
   after = f.after;
   cut = f.cut;
-  room = first_has_room_in w request.size request.align (blocks s) place f;
-  chosen = lowest_chosen request place.start (tree_state s) p (
-      restricted (λ (v : AddressState). IsLowestPlace request.size request.align v place.start) request w (tree_state s) e (
-      lowest_place_in w request.size request.align (tree_state s) (blocks s) (tree_is s t) r.some f.before f.after (free_block place.key) place.start f.cut f.none f.fit));
+  within = first_within_in w request.size request.align (blocks s) place r.some f;
+  long = f.long;
+  chosen = lowest_chosen request place.range.start (tree_state s) p (
+      restricted (λ (v : AddressState). IsLowestPlace request.size request.align v place.range.start) request w (tree_state s) e (
+      lowest_place_in w request.size request.align (tree_state s) (blocks s) (tree_is s t) r.some f.before f.after (free_block place.key) place.range.start f.cut f.none f.fit));
 }
 
-pub first_room : (n a : ℕ) (bs : List Block) (found : Option Place) → FindsFirst n a bs found → IfSome found (λ place. HasLength place.start n (free_block place.key))
-first_room n a bs None f = tt
-first_room n a bs (Some place) f = first_has_room n a bs place f
-
-pub first_room_in : (w : Range) (n a : ℕ) (bs : List Block) (found : Option Place) → FindsFirstIn w n a bs found → IfSome found (λ place. HasLength place.start n (free_block place.key))
-first_room_in w n a bs None f = tt
-first_room_in w n a bs (Some place) f = first_has_room_in w n a bs place f
-
-pub first_chooses : (request : Request) (s : Shape) (found : Option Place) (answer : Result Choice Error) → IsSpaceTree s → IsRequest request → request.policy ≡ FirstMatch → request.window ≡ None → FindsFirst request.size request.align (blocks s) found → ChoosesAt found request.size answer → Chooses s request answer
+pub first_chooses : (request : Request) (s : Shape) (found : Option Place) (answer : Result Place Error) → IsSpaceTree s → IsRequest request → request.policy ≡ FirstMatch → request.window ≡ None → FindsFirst request.size request.align (blocks s) found → ChoosesAt found answer → Chooses s request answer
 first_chooses request s None answer t r p e f h = subst (Chooses s request) (sym h) (none_chooses request s (inl p) (no_place_whole request s e t r f))
 first_chooses request s (Some place) answer t r p e f h = found_chooses request s place answer (inl p) (first_found request s place p e t r f) h
 
-pub first_chooses_in : (request : Request) (w : Range) (s : Shape) (found : Option Place) (answer : Result Choice Error) → IsSpaceTree s → IsRequest request → request.policy ≡ FirstMatch → request.window ≡ Some w → FindsFirstIn w request.size request.align (blocks s) found → ChoosesAt found request.size answer → Chooses s request answer
+pub first_chooses_in : (request : Request) (w : Range) (s : Shape) (found : Option Place) (answer : Result Place Error) → IsSpaceTree s → IsRequest request → request.policy ≡ FirstMatch → request.window ≡ Some w → FindsFirstIn w request.size request.align (blocks s) found → ChoosesAt found answer → Chooses s request answer
 first_chooses_in request w s None answer t r p e f h = subst (Chooses s request) (sym h) (none_chooses request s (inl p) (no_place_restricted request w s e t r f))
 first_chooses_in request w s (Some place) answer t r p e f h = found_chooses request s place answer (inl p) (first_found_in request w s place p e t r f) h
 
@@ -171,19 +159,11 @@ highest_chosen : (request : Request) (t : ℕ) (state : AddressState) → reques
 unfolding IsChosen
 highest_chosen request t state e l = subst (λ (v : Request). IsChosen v state t) (with_policy request LastMatch e) l
 
-highest_room : (n a s : ℕ) (b : Block) → IsHighestFit n a b s → HasLength s n b
-unfolding IsHighestFit HasLength
-highest_room n a s b f = (f.0.2, f.0.3)
+last_within : (n a : ℕ) (bs : List Block) (place : Place) → 0 < n → IsLastFit n a bs place → IsTakenFrom place.key place.range
+last_within n a bs place z f = taken place.key place.range n z f.long (highest_within n a place.range.start (free_block place.key) f.fit)
 
-highest_room_in : (w : Range) (n a s : ℕ) (b : Block) → IsHighestFit n a (cut_to w b) s → HasLength s n b
-unfolding IsHighestFit HasLength
-highest_room_in w n a s b f = (omega (arith, f.0.2), omega (arith, f.0.3))
-
-last_has_room : (n a : ℕ) (bs : List Block) (place : Place) → IsLastFit n a bs place → HasLength place.start n (free_block place.key)
-last_has_room n a bs place f = highest_room n a place.start (free_block place.key) f.fit
-
-last_has_room_in : (w : Range) (n a : ℕ) (bs : List Block) (place : Place) → IsLastFitIn w n a bs place → HasLength place.start n (free_block place.key)
-last_has_room_in w n a bs place f = highest_room_in w n a place.start (free_block place.key) f.fit
+last_within_in : (w : Range) (n a : ℕ) (bs : List Block) (place : Place) → 0 < n → IsLastFitIn w n a bs place → IsTakenFrom place.key place.range
+last_within_in w n a bs place z f = taken place.key place.range n z f.long (highest_cut_within w n a (free_block place.key) place.range.start f.fit)
 
 last_found : (request : Request) (s : Shape) (place : Place) → request.policy ≡ LastMatch → request.window ≡ None → IsSpaceTree s → IsRequest request → IsLastFit request.size request.align (blocks s) place → IsFound request s place
 last_found request s place p e t r f = record {
@@ -191,10 +171,11 @@ last_found request s place p e t r f = record {
   before = f.before;
   after = f.after;
   cut = f.cut;
-  room = last_has_room request.size request.align (blocks s) place f;
-  chosen = highest_chosen request place.start (tree_state s) p (
-      whole (λ (v : AddressState). IsHighestPlace request.size request.align v place.start) request (tree_state s) e (
-      highest_place (tree_state s) (blocks s) f.before f.after (free_block place.key) request.size request.align place.start (tree_is s t) f.cut r.some f.none f.fit));
+  within = last_within request.size request.align (blocks s) place r.some f;
+  long = f.long;
+  chosen = highest_chosen request place.range.start (tree_state s) p (
+      whole (λ (v : AddressState). IsHighestPlace request.size request.align v place.range.start) request (tree_state s) e (
+      highest_place (tree_state s) (blocks s) f.before f.after (free_block place.key) request.size request.align place.range.start (tree_is s t) f.cut r.some f.none f.fit));
 }
 
 last_found_in : (request : Request) (w : Range) (s : Shape) (place : Place) → request.policy ≡ LastMatch → request.window ≡ Some w → IsSpaceTree s → IsRequest request → IsLastFitIn w request.size request.align (blocks s) place → IsFound request s place
@@ -203,84 +184,77 @@ last_found_in request w s place p e t r f = record {
   before = f.before;
   after = f.after;
   cut = f.cut;
-  room = last_has_room_in w request.size request.align (blocks s) place f;
-  chosen = highest_chosen request place.start (tree_state s) p (
-      restricted (λ (v : AddressState). IsHighestPlace request.size request.align v place.start) request w (tree_state s) e (
-      highest_place_in w request.size request.align (tree_state s) (blocks s) (tree_is s t) r.some f.before f.after (free_block place.key) place.start f.cut f.none f.fit));
+  within = last_within_in w request.size request.align (blocks s) place r.some f;
+  long = f.long;
+  chosen = highest_chosen request place.range.start (tree_state s) p (
+      restricted (λ (v : AddressState). IsHighestPlace request.size request.align v place.range.start) request w (tree_state s) e (
+      highest_place_in w request.size request.align (tree_state s) (blocks s) (tree_is s t) r.some f.before f.after (free_block place.key) place.range.start f.cut f.none f.fit));
 }
 
-pub last_room : (n a : ℕ) (bs : List Block) (found : Option Place) → FindsLast n a bs found → IfSome found (λ place. HasLength place.start n (free_block place.key))
-last_room n a bs None f = tt
-last_room n a bs (Some place) f = last_has_room n a bs place f
-
-pub last_room_in : (w : Range) (n a : ℕ) (bs : List Block) (found : Option Place) → FindsLastIn w n a bs found → IfSome found (λ place. HasLength place.start n (free_block place.key))
-last_room_in w n a bs None f = tt
-last_room_in w n a bs (Some place) f = last_has_room_in w n a bs place f
-
-pub last_chooses : (request : Request) (s : Shape) (found : Option Place) (answer : Result Choice Error) → IsSpaceTree s → IsRequest request → request.policy ≡ LastMatch → request.window ≡ None → FindsLast request.size request.align (blocks s) found → ChoosesAt found request.size answer → Chooses s request answer
+pub last_chooses : (request : Request) (s : Shape) (found : Option Place) (answer : Result Place Error) → IsSpaceTree s → IsRequest request → request.policy ≡ LastMatch → request.window ≡ None → FindsLast request.size request.align (blocks s) found → ChoosesAt found answer → Chooses s request answer
 last_chooses request s None answer t r p e f h = subst (Chooses s request) (sym h) (none_chooses request s (inr p) (no_place_whole request s e t r f))
 last_chooses request s (Some place) answer t r p e f h = found_chooses request s place answer (inr p) (last_found request s place p e t r f) h
 
-pub last_chooses_in : (request : Request) (w : Range) (s : Shape) (found : Option Place) (answer : Result Choice Error) → IsSpaceTree s → IsRequest request → request.policy ≡ LastMatch → request.window ≡ Some w → FindsLastIn w request.size request.align (blocks s) found → ChoosesAt found request.size answer → Chooses s request answer
+pub last_chooses_in : (request : Request) (w : Range) (s : Shape) (found : Option Place) (answer : Result Place Error) → IsSpaceTree s → IsRequest request → request.policy ≡ LastMatch → request.window ≡ Some w → FindsLastIn w request.size request.align (blocks s) found → ChoosesAt found answer → Chooses s request answer
 last_chooses_in request w s None answer t r p e f h = subst (Chooses s request) (sym h) (none_chooses request s (inr p) (no_place_restricted request w s e t r f))
 last_chooses_in request w s (Some place) answer t r p e f h = found_chooses request s place answer (inr p) (last_found_in request w s place p e t r f) h
 
 -- ---- The error Overflow of a search
-found_over : (request : Request) (s : Shape) (place : Place) (answer : Result Choice Error) → IsFound request s place → ChoosesBelowMax place.key place.start request.size answer → answer ≡ Err Overflow → NoneEndsBelowMax (tree_state s) request
+found_over : (request : Request) (s : Shape) (place : Place) (answer : Result Place Error) → IsFound request s place → ChoosesBelowMax place answer → answer ≡ Err Overflow → NoneEndsBelowMax (tree_state s) request
 unfolding ChoosesBelowMax NoneEndsBelowMax
 found_over request s place answer f h o =
     ⊎_elim
-    (λ k t c. let e = chosen_once request t place.start (tree_state s) c f.chosen in omega (arith, k.0))
+    (λ k t c. let e = chosen_once request t place.range.start (tree_state s) c f.chosen in let end : place.range.end ≡ place.range.start + request.size - 1 = ap (λ (v : Range). v.end) f.long in omega (arith, end, k.0))
     (λ k. absurd (cc (k.1, o)))
     h
 
-first_over_is : (request : Request) (s : Shape) (found : Option Place) (answer : Result Choice Error) → IsSpaceTree s → IsRequest request → request.policy ≡ FirstMatch → request.window ≡ None → FindsFirst request.size request.align (blocks s) found → ChoosesAt found request.size answer → answer ≡ Err Overflow → NoneEndsBelowMax (tree_state s) request
+first_over_is : (request : Request) (s : Shape) (found : Option Place) (answer : Result Place Error) → IsSpaceTree s → IsRequest request → request.policy ≡ FirstMatch → request.window ≡ None → FindsFirst request.size request.align (blocks s) found → ChoosesAt found answer → answer ≡ Err Overflow → NoneEndsBelowMax (tree_state s) request
 first_over_is request s None answer t r p e f h o = absurd (cc (h, o))
 first_over_is request s (Some place) answer t r p e f h o = found_over request s place answer (first_found request s place p e t r f) h o
 
-first_over_is_in : (request : Request) (w : Range) (s : Shape) (found : Option Place) (answer : Result Choice Error) → IsSpaceTree s → IsRequest request → request.policy ≡ FirstMatch → request.window ≡ Some w → FindsFirstIn w request.size request.align (blocks s) found → ChoosesAt found request.size answer → answer ≡ Err Overflow → NoneEndsBelowMax (tree_state s) request
+first_over_is_in : (request : Request) (w : Range) (s : Shape) (found : Option Place) (answer : Result Place Error) → IsSpaceTree s → IsRequest request → request.policy ≡ FirstMatch → request.window ≡ Some w → FindsFirstIn w request.size request.align (blocks s) found → ChoosesAt found answer → answer ≡ Err Overflow → NoneEndsBelowMax (tree_state s) request
 first_over_is_in request w s None answer t r p e f h o = absurd (cc (h, o))
 first_over_is_in request w s (Some place) answer t r p e f h o = found_over request s place answer (first_found_in request w s place p e t r f) h o
 
-pub first_over : (request : Request) (s : Shape) (found : Option Place) (answer : Result Choice Error) → IsSpaceTree s → IsRequest request → request.policy ≡ FirstMatch → request.window ≡ None → FindsFirst request.size request.align (blocks s) found → ChoosesAt found request.size answer → IfErr answer (λ e. e ≡ Overflow → NoneEndsBelowMax (tree_state s) request)
+pub first_over : (request : Request) (s : Shape) (found : Option Place) (answer : Result Place Error) → IsSpaceTree s → IsRequest request → request.policy ≡ FirstMatch → request.window ≡ None → FindsFirst request.size request.align (blocks s) found → ChoosesAt found answer → IfErr answer (λ e. e ≡ Overflow → NoneEndsBelowMax (tree_state s) request)
 first_over request s found (Ok c) t r p e f h = tt
 first_over request s found (Err x) t r p e f h = λ o. first_over_is request s found (Err x) t r p e f h (ap (λ (v : Error). Err v) o)
 
-pub first_over_in : (request : Request) (w : Range) (s : Shape) (found : Option Place) (answer : Result Choice Error) → IsSpaceTree s → IsRequest request → request.policy ≡ FirstMatch → request.window ≡ Some w → FindsFirstIn w request.size request.align (blocks s) found → ChoosesAt found request.size answer → IfErr answer (λ e. e ≡ Overflow → NoneEndsBelowMax (tree_state s) request)
+pub first_over_in : (request : Request) (w : Range) (s : Shape) (found : Option Place) (answer : Result Place Error) → IsSpaceTree s → IsRequest request → request.policy ≡ FirstMatch → request.window ≡ Some w → FindsFirstIn w request.size request.align (blocks s) found → ChoosesAt found answer → IfErr answer (λ e. e ≡ Overflow → NoneEndsBelowMax (tree_state s) request)
 first_over_in request w s found (Ok c) t r p e f h = tt
 first_over_in request w s found (Err x) t r p e f h = λ o. first_over_is_in request w s found (Err x) t r p e f h (ap (λ (v : Error). Err v) o)
 
-last_over_is : (request : Request) (s : Shape) (found : Option Place) (answer : Result Choice Error) → IsSpaceTree s → IsRequest request → request.policy ≡ LastMatch → request.window ≡ None → FindsLast request.size request.align (blocks s) found → ChoosesAt found request.size answer → answer ≡ Err Overflow → NoneEndsBelowMax (tree_state s) request
+last_over_is : (request : Request) (s : Shape) (found : Option Place) (answer : Result Place Error) → IsSpaceTree s → IsRequest request → request.policy ≡ LastMatch → request.window ≡ None → FindsLast request.size request.align (blocks s) found → ChoosesAt found answer → answer ≡ Err Overflow → NoneEndsBelowMax (tree_state s) request
 last_over_is request s None answer t r p e f h o = absurd (cc (h, o))
 last_over_is request s (Some place) answer t r p e f h o = found_over request s place answer (last_found request s place p e t r f) h o
 
-last_over_is_in : (request : Request) (w : Range) (s : Shape) (found : Option Place) (answer : Result Choice Error) → IsSpaceTree s → IsRequest request → request.policy ≡ LastMatch → request.window ≡ Some w → FindsLastIn w request.size request.align (blocks s) found → ChoosesAt found request.size answer → answer ≡ Err Overflow → NoneEndsBelowMax (tree_state s) request
+last_over_is_in : (request : Request) (w : Range) (s : Shape) (found : Option Place) (answer : Result Place Error) → IsSpaceTree s → IsRequest request → request.policy ≡ LastMatch → request.window ≡ Some w → FindsLastIn w request.size request.align (blocks s) found → ChoosesAt found answer → answer ≡ Err Overflow → NoneEndsBelowMax (tree_state s) request
 last_over_is_in request w s None answer t r p e f h o = absurd (cc (h, o))
 last_over_is_in request w s (Some place) answer t r p e f h o = found_over request s place answer (last_found_in request w s place p e t r f) h o
 
-pub last_over : (request : Request) (s : Shape) (found : Option Place) (answer : Result Choice Error) → IsSpaceTree s → IsRequest request → request.policy ≡ LastMatch → request.window ≡ None → FindsLast request.size request.align (blocks s) found → ChoosesAt found request.size answer → IfErr answer (λ e. e ≡ Overflow → NoneEndsBelowMax (tree_state s) request)
+pub last_over : (request : Request) (s : Shape) (found : Option Place) (answer : Result Place Error) → IsSpaceTree s → IsRequest request → request.policy ≡ LastMatch → request.window ≡ None → FindsLast request.size request.align (blocks s) found → ChoosesAt found answer → IfErr answer (λ e. e ≡ Overflow → NoneEndsBelowMax (tree_state s) request)
 last_over request s found (Ok c) t r p e f h = tt
 last_over request s found (Err x) t r p e f h = λ o. last_over_is request s found (Err x) t r p e f h (ap (λ (v : Error). Err v) o)
 
-pub last_over_in : (request : Request) (w : Range) (s : Shape) (found : Option Place) (answer : Result Choice Error) → IsSpaceTree s → IsRequest request → request.policy ≡ LastMatch → request.window ≡ Some w → FindsLastIn w request.size request.align (blocks s) found → ChoosesAt found request.size answer → IfErr answer (λ e. e ≡ Overflow → NoneEndsBelowMax (tree_state s) request)
+pub last_over_in : (request : Request) (w : Range) (s : Shape) (found : Option Place) (answer : Result Place Error) → IsSpaceTree s → IsRequest request → request.policy ≡ LastMatch → request.window ≡ Some w → FindsLastIn w request.size request.align (blocks s) found → ChoosesAt found answer → IfErr answer (λ e. e ≡ Overflow → NoneEndsBelowMax (tree_state s) request)
 last_over_in request w s found (Ok c) t r p e f h = tt
 last_over_in request w s found (Err x) t r p e f h = λ o. last_over_is_in request w s found (Err x) t r p e f h (ap (λ (v : Error). Err v) o)
 
-pub ruleset choices = (first_room, first_chooses, first_over, last_room, last_chooses, last_over, search_first, search_last)
+pub ruleset choices = (first_chooses, first_over, last_chooses, last_over, search_first, search_last)
 
-pub ruleset choices_in = (first_room_in, first_chooses_in, first_over_in, last_room_in, last_chooses_in, last_over_in, search_first_in, search_last_in)
+pub ruleset choices_in = (first_chooses_in, first_over_in, last_chooses_in, last_over_in, search_first_in, search_last_in)
 
--- ---- From the choice to the result
+-- ---- From the place to the result
 pub chooses_refused : (s : Shape) (request : Request) (e : Error) → Chooses s request (Err e) → Grants (tree_state s) request (Err e) (tree_state s)
 unfolding Chooses
 chooses_refused s request e h = h
 
-pub is_choice : (s : Shape) (request : Request) (choice : Choice) → Chooses s request (Ok choice) → IsChoice (blocks s) choice
+pub is_chosen : (s : Shape) (request : Request) (place : Place) → Chooses s request (Ok place) → IsChosenPlace (blocks s) place
 unfolding Chooses
-is_choice s request choice h = h.0
+is_chosen s request place h = h.0
 
-pub granted : (s : Shape) (request : Request) (choice : Choice) (answer : Result Range Error) (new : AddressState) → Chooses s request (Ok choice) → AllocatesAt (tree_state s) choice.range answer new → Grants (tree_state s) request answer new
+pub granted : (s : Shape) (request : Request) (place : Place) (answer : Result Range Error) (new : AddressState) → Chooses s request (Ok place) → AllocatesAt (tree_state s) place.range answer new → Grants (tree_state s) request answer new
 unfolding Chooses AllocatingGrants
-granted s request choice answer new h t = h.1 answer new t
+granted s request place answer new h t = h.1 answer new t
 
 pub ruleset granting = (chooses_refused, granted)

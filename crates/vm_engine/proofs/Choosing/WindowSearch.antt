@@ -4,7 +4,7 @@ use Rattle.std.proofs.Common.{true, false, ◌≡◌, ℕ, ◌+◌, ◌<◌, ◌
 use Rattle.std.specs.List.{All}
 use Rattle.std.proofs.lemmas.List.Elements.{All-nil, All-head, All-tail, All-cons, All-append}
 use Rattle.std.proofs.lemmas.Bool.{cases_lt}
-use Rattle.vm_ranges.specs.Range.{Range}
+use Rattle.vm_ranges.specs.Range.{Range, span}
 use Rattle.vm_ranges.specs.Alignment.{IsAlignment}
 use Rattle.vm_engine.specs.Windows.{cut_to}
 use Rattle.vm_engine.specs.Tree.Block.{Block, free_block}
@@ -25,6 +25,15 @@ unfolding HasNoFit
 no_fit_empty n a p st z e = λ t f. omega (arith, f.2, f.3)
 
 module _ (w : Range) (n a : ℕ) where
+  -- The n addresses at a fit of a part lie in the block.
+  pub lowest_cut_within : (b : Block) (t : ℕ) → IsLowestFit n a (cut_to w b) t → (b.key.start ≤ t) × (t + n ≤ b.key.end + 1)
+  unfolding IsLowestFit
+  lowest_cut_within b t f = (omega (arith, f.0.2), omega (arith, f.0.3))
+
+  pub highest_cut_within : (b : Block) (t : ℕ) → IsHighestFit n a (cut_to w b) t → (b.key.start ≤ t) × (t + n ≤ b.key.end + 1)
+  unfolding IsHighestFit
+  highest_cut_within b t f = (omega (arith, f.0.2), omega (arith, f.0.3))
+
   pub in_part : (b : Block) → HasNoFit n a (cut_to w b) → HasNoFitIn w n a b
   unfolding HasNoFitIn
   in_part b h = h
@@ -85,6 +94,7 @@ module _ (w : Range) (n a : ℕ) where
       cut = ap blocks e ∙ ap (λ (v : List Block). v ++ b ∷ blocks r) f.cut ∙ append_assoc f.before (free_block place.key ∷ f.after) (b ∷ blocks r);
       none = f.none;
       fit = f.fit;
+      long = f.long;
     }
 
     lowest_free : (t : ℕ) → IsLowestFit n a (cut_to w b) t → b ≡ free_block b.key
@@ -95,7 +105,7 @@ module _ (w : Range) (n a : ℕ) where
     unfolding IsHighestFit
     highest_free t f = same_block b (free_block b.key) refl f.0.0
 
-    pub first_here_in : (t : ℕ) → All (HasNoFitIn w n a) (blocks l) → IsLowestFit n a (cut_to w b) t → IsFirstFitIn w n a (blocks s) (record { key = b.key; start = t })
+    pub first_here_in : (t : ℕ) → All (HasNoFitIn w n a) (blocks l) → IsLowestFit n a (cut_to w b) t → IsFirstFitIn w n a (blocks s) (record { key = b.key; range = span t n })
     first_here_in t h f =
         let free = lowest_free t f in
         record {
@@ -104,6 +114,7 @@ module _ (w : Range) (n a : ℕ) where
           cut = ap blocks e ∙ ap (λ (v : Block). blocks l ++ v ∷ blocks r) free;
           none = h;
           fit = subst (λ (v : Block). IsLowestFit n a (cut_to w v) t) free f;
+          long = refl;
         }
 
     first_in_right_in : (place : Place) → All (HasNoFitIn w n a) (blocks l) → HasNoFit n a (cut_to w b) → IsFirstFitIn w n a (blocks r) place → IsFirstFitIn w n a (blocks s) place
@@ -113,6 +124,7 @@ module _ (w : Range) (n a : ℕ) where
       cut = ap blocks e ∙ ap (λ (v : List Block). blocks l ++ b ∷ v) f.cut ∙ sym (append_assoc (blocks l) (b ∷ f.before) (free_block place.key ∷ f.after));
       none = All-append (HasNoFitIn w n a) (blocks l) (b ∷ f.before) h (All-cons (HasNoFitIn w n a) b f.before (in_part b k) f.none);
       fit = f.fit;
+      long = f.long;
     }
 
     pub last_in_right_in : (place : Place) → IsLastFitIn w n a (blocks r) place → IsLastFitIn w n a (blocks s) place
@@ -122,9 +134,10 @@ module _ (w : Range) (n a : ℕ) where
       cut = ap blocks e ∙ ap (λ (v : List Block). blocks l ++ b ∷ v) f.cut ∙ sym (append_assoc (blocks l) (b ∷ f.before) (free_block place.key ∷ f.after));
       none = f.none;
       fit = f.fit;
+      long = f.long;
     }
 
-    pub last_here_in : (t : ℕ) → All (HasNoFitIn w n a) (blocks r) → IsHighestFit n a (cut_to w b) t → IsLastFitIn w n a (blocks s) (record { key = b.key; start = t })
+    pub last_here_in : (t : ℕ) → All (HasNoFitIn w n a) (blocks r) → IsHighestFit n a (cut_to w b) t → IsLastFitIn w n a (blocks s) (record { key = b.key; range = span t n })
     last_here_in t h f =
         let free = highest_free t f in
         record {
@@ -133,6 +146,7 @@ module _ (w : Range) (n a : ℕ) where
           cut = ap blocks e ∙ ap (λ (v : Block). blocks l ++ v ∷ blocks r) free;
           none = h;
           fit = subst (λ (v : Block). IsHighestFit n a (cut_to w v) t) free f;
+          long = refl;
         }
 
     last_in_left_in : (place : Place) → All (HasNoFitIn w n a) (blocks r) → HasNoFit n a (cut_to w b) → IsLastFitIn w n a (blocks l) place → IsLastFitIn w n a (blocks s) place
@@ -142,6 +156,7 @@ module _ (w : Range) (n a : ℕ) where
       cut = ap blocks e ∙ ap (λ (v : List Block). v ++ b ∷ blocks r) f.cut ∙ append_assoc f.before (free_block place.key ∷ f.after) (b ∷ blocks r);
       none = All-append (HasNoFitIn w n a) f.after (b ∷ blocks r) f.none (All-cons (HasNoFitIn w n a) b (blocks r) (in_part b k) h);
       fit = f.fit;
+      long = f.long;
     }
 
     -- If the left child and the root have no fit, the first fit is in the right child.
@@ -163,6 +178,6 @@ module _ (w : Range) (n a : ℕ) where
     last_through_left_in None h k m = none_of_in m k h
     last_through_left_in (Some place) h k m = last_in_left_in place h k m
 
-pub ruleset firsts = (first_in_left_in, first_here_in, first_through_right_in)
+pub ruleset firsts = (lowest_cut_within, first_in_left_in, first_here_in, first_through_right_in)
 
-pub ruleset lasts = (last_in_right_in, last_here_in, last_through_left_in)
+pub ruleset lasts = (highest_cut_within, last_in_right_in, last_here_in, last_through_left_in)

@@ -9,14 +9,14 @@ use Rattle.vm_engine.specs.Tree.Block.{free_block}
 use Rattle.vm_engine.specs.Tree.BlockEdits.{before_part, after_part, IsTakenFrom, NeedsSplit}
 use Rattle.vm_engine.specs.Tree.Shape.{Shape, Tip, Fork, blocks, height_of, node_count, IsTree, leaf_of}
 use Rattle.vm_engine.specs.Counts.NodeCounts.{nodes_across, nodes_by_policy, nodes_of_search, nodes_to_split, nodes_to_allocate, nodes_if_allocated}
-use Rattle.vm_engine.specs.Engine.Choosing.{max_searched, IsChoice}
+use Rattle.vm_engine.specs.Engine.Choosing.{max_searched, IsChosenPlace}
 use Rattle.vm_engine.specs.Tree.SpaceTree.{space_of, tree_state, IsSpaceTree}
 use Rattle.vm_engine.specs.Counts.Steps.{max_entered, IsGrantCount, IsHeldIn, Enters, SplitsIfLow, NoneEndsBelowMax, SPLIT_HEIGHT_LIMIT}
 use Rattle.vm_ranges.specs.declared.error.Error.{Error}
 use Rattle.vm_ranges.specs.declared.error.Error.TheVariants.{OutOfMemory, Overflow}
 use Rattle.vm_ranges.specs.declared.constraint.AllocPolicy.{AllocPolicy}
 use Rattle.vm_ranges.specs.declared.constraint.AllocPolicy.TheVariants.{FirstMatch, LastMatch, ExactMatch}
-use Rattle.vm_engine.specs.declared.node.split.Choice.{Choice}
+use Rattle.vm_engine.specs.declared.node.places.Place.{Place}
 use Rattle.vm_engine.proofs.Splitting.TakenRanges.{as_blocks}
 use Rattle.vm_engine.proofs.Blocks.OneList.{few_blocks}
 use Rattle.vm_engine.proofs.Nodes.Spaces.{few_nodes, no_empty_tree}
@@ -42,18 +42,18 @@ unfolding AllocatesAt
 given_range old new r p h = ⊎_elim (λ l. cc (l.0)) (λ k. ⊎_elim (λ o. absurd (cc o)) (λ o. absurd (cc (o.1))) k.2) h
 
 -- A range that splits its gap does not fill its block.
-given_part : (s : Shape) (choice : Choice) (r : Range) (new : AddressState) → IsSpaceTree s → IsChoice (blocks s) choice → AllocatesAt (tree_state s) choice.range (Ok r) new → SplitsGap (tree_state s) r → NeedsSplit choice.key choice.range
-given_part s choice r new h i t left =
-    needs_split (space_of (blocks s)) (blocks s) i.before i.after (free_block choice.key) choice.range h.tiling.tiles i.cut refl i.within
-    (subst (SplitsGap (tree_state s)) (given_range (tree_state s) new choice.range r t) left)
+given_part : (s : Shape) (place : Place) (r : Range) (new : AddressState) → IsSpaceTree s → IsChosenPlace (blocks s) place → AllocatesAt (tree_state s) place.range (Ok r) new → SplitsGap (tree_state s) r → NeedsSplit place.key place.range
+given_part s place r new h i t left =
+    needs_split (space_of (blocks s)) (blocks s) i.before i.after (free_block place.key) place.range h.tiling.tiles i.cut refl i.within
+    (subst (SplitsGap (tree_state s)) (given_range (tree_state s) new place.range r t) left)
 
 -- A fact that is true for a success that does not fill its block is true for a split.
-of_splits : (P : Type 0) (s : Shape) (choice : Choice) (answer : Result Range Error) (new : AddressState) → IsSpaceTree s → IsChoice (blocks s) choice → AllocatesAt (tree_state s) choice.range answer new → (NeedsSplit choice.key choice.range → OnOk answer P) → IfOk answer (λ r. SplitsGap (tree_state s) r → P)
-of_splits P s choice (Err e) new h i t f = tt
-of_splits P s choice (Ok r) new h i t f = λ left. f (given_part s choice r new h i t left)
+of_splits : (P : Type 0) (s : Shape) (place : Place) (answer : Result Range Error) (new : AddressState) → IsSpaceTree s → IsChosenPlace (blocks s) place → AllocatesAt (tree_state s) place.range answer new → (NeedsSplit place.key place.range → OnOk answer P) → IfOk answer (λ r. SplitsGap (tree_state s) r → P)
+of_splits P s place (Err e) new h i t f = tt
+of_splits P s place (Ok r) new h i t f = λ left. f (given_part s place r new h i t left)
 
-pub split_low : (s : Shape) (request : Request) (choice : Choice) (answer : Result Range Error) (new : AddressState) → IsSpaceTree s → IsChoice (blocks s) choice → AllocatesAt (tree_state s) choice.range answer new → (NeedsSplit choice.key choice.range → OnOk answer (height_of s < SPLIT_HEIGHT_LIMIT)) → (answer ≡ Err OutOfMemory → height_of s < SPLIT_HEIGHT_LIMIT) → (answer ≡ Err Overflow → SPLIT_HEIGHT_LIMIT ≤ height_of s) → SplitsIfLow (height_of s) (tree_state s) request answer
-split_low s request choice answer new h i t low memory high = record { split = of_splits (height_of s < SPLIT_HEIGHT_LIMIT) s choice answer new h i t low; memory = memory; high = λ r o. inl (high o) }
+pub split_low : (s : Shape) (request : Request) (place : Place) (answer : Result Range Error) (new : AddressState) → IsSpaceTree s → IsChosenPlace (blocks s) place → AllocatesAt (tree_state s) place.range answer new → (NeedsSplit place.key place.range → OnOk answer (height_of s < SPLIT_HEIGHT_LIMIT)) → (answer ≡ Err OutOfMemory → height_of s < SPLIT_HEIGHT_LIMIT) → (answer ≡ Err Overflow → SPLIT_HEIGHT_LIMIT ≤ height_of s) → SplitsIfLow (height_of s) (tree_state s) request answer
+split_low s request place answer new h i t low memory high = record { split = of_splits (height_of s < SPLIT_HEIGHT_LIMIT) s place answer new h i t low; memory = memory; high = λ r o. inl (high o) }
 
 -- The error of a search is not OutOfMemory, and is Overflow only if no chosen place ends below MAX.
 pub refused_low : (h : ℕ) (old : AddressState) (request : Request) (e : Error) → e ≢ OutOfMemory → (e ≡ Overflow → NoneEndsBelowMax old request) → SplitsIfLow h old request (Err e)
@@ -85,21 +85,21 @@ search_fits request s = omega (arith, search_at_most request s, most_at_most req
 pub enters_refused : (s : Shape) (request : Request) (e : Error) (before after : ℕ) → after ≡ before + nodes_of_search request s → Enters s request (Err e) before after
 enters_refused s request e before after p = record { refused = p; given = tt }
 
-pub enters_held : (s : Shape) (request : Request) (choice : Choice) (answer : Result Range Error) (new : AddressState) (before mid after : ℕ) → IsChoice (blocks s) choice → AllocatesAt (tree_state s) choice.range answer new
-    → mid ≡ before + nodes_of_search request s → after ≡ mid + nodes_if_allocated choice.key answer s → Enters s request answer before after
-enters_held s request choice (Err e) new before mid after i t p q = record { refused = omega arith; given = tt }
-enters_held s request choice (Ok r) new before mid after i t p q =
-    let same : r ≡ choice.range = given_range (tree_state s) new choice.range r t in
+pub enters_held : (s : Shape) (request : Request) (place : Place) (answer : Result Range Error) (new : AddressState) (before mid after : ℕ) → IsChosenPlace (blocks s) place → AllocatesAt (tree_state s) place.range answer new
+    → mid ≡ before + nodes_of_search request s → after ≡ mid + nodes_if_allocated place.key answer s → Enters s request answer before after
+enters_held s request place (Err e) new before mid after i t p q = record { refused = omega arith; given = tt }
+enters_held s request place (Ok r) new before mid after i t p q =
+    let same : r ≡ place.range = given_range (tree_state s) new place.range r t in
     record {
       refused = tt;
       given = (
-        nodes_to_allocate choice.key r s,
+        nodes_to_allocate place.key r s,
         record {
-          key = choice.key;
+          key = place.key;
           lower = i.before;
           upper = i.after;
           cut = i.cut;
-          within = subst (IsTakenFrom choice.key) (sym same) i.within;
+          within = subst (IsTakenFrom place.key) (sym same) i.within;
           path = refl;
         },
         omega arith,

@@ -1,5 +1,5 @@
 -- The number of nodes on the paths through a tree, case by case.
-use Rattle.std.proofs.Common.{◌≡◌, ◌≢◌, ℕ, ◌+◌, ◌<◌, true, false, Some, None, refl, sym, arith, inl, inr, ⊎_elim}
+use Rattle.std.proofs.Common.{◌≡◌, ◌≢◌, ℕ, ◌+◌, ◌<◌, ◌≤◌, true, false, Some, None, refl, sym, arith, inl, inr, ⊎_elim}
 use Rattle.std.proofs.lemmas.Bool.{lt-ltb, le-ltb, eq-eqb, ne_eqb}
 use Rattle.vm_ranges.specs.Range.{Range, MAX, at_address}
 use Rattle.vm_ranges.specs.RangeOrder.{Before, StartsBefore, StartsAtOrAfter, EndsBefore, EndsAtOrAfterStartOf, is_before}
@@ -62,17 +62,17 @@ pub nodes_across_tip : (k : Range) → nodes_across k Tip ≡ 0
 unfolding nodes_across
 nodes_across_tip k = refl
 
-pub nodes_across_left : (k : Range) (l : Shape) (b : Block) (r : Shape) → EndsBefore k b.key → nodes_across k (Fork l b r) ≡ nodes_across k l + 1
-unfolding nodes_across EndsBefore
-nodes_across_left k l b r p = rw (lt-ltb k.end b.key.start p)
+pub nodes_across_left : (x : ℕ) (l : Shape) (b : Block) (r : Shape) → x < b.key.start → nodes_across (at_address x) (Fork l b r) ≡ nodes_across (at_address x) l + 1
+unfolding nodes_across
+nodes_across_left x l b r p = rw (lt-ltb x b.key.start p)
 
-pub nodes_across_right : (k : Range) (l : Shape) (b : Block) (r : Shape) → EndsAtOrAfterStartOf k b.key → EndsBefore b.key k → nodes_across k (Fork l b r) ≡ nodes_across k r + 1
-unfolding nodes_across EndsBefore EndsAtOrAfterStartOf
-nodes_across_right k l b r p q = rw (le-ltb k.end b.key.start p, lt-ltb b.key.end k.start q)
+pub nodes_across_right : (x : ℕ) (l : Shape) (b : Block) (r : Shape) → b.key.start ≤ x → b.key.end < x → nodes_across (at_address x) (Fork l b r) ≡ nodes_across (at_address x) r + 1
+unfolding nodes_across
+nodes_across_right x l b r p q = rw (le-ltb x b.key.start p, lt-ltb b.key.end x q)
 
-pub nodes_across_here : (k : Range) (l : Shape) (b : Block) (r : Shape) → EndsAtOrAfterStartOf k b.key → EndsAtOrAfterStartOf b.key k → nodes_across k (Fork l b r) ≡ 1
-unfolding nodes_across EndsAtOrAfterStartOf
-nodes_across_here k l b r p q = rw (le-ltb k.end b.key.start p, le-ltb b.key.end k.start q)
+pub nodes_across_here : (x : ℕ) (l : Shape) (b : Block) (r : Shape) → b.key.start ≤ x → x ≤ b.key.end → nodes_across (at_address x) (Fork l b r) ≡ 1
+unfolding nodes_across
+nodes_across_here x l b r p q = rw (le-ltb x b.key.start p, le-ltb b.key.end x q)
 
 pub ruleset nodes_across_cases = (nodes_across_tip, nodes_across_left, nodes_across_right, nodes_across_here)
 

@@ -53,12 +53,12 @@ one_found n a xs b ys e = list_any-append (has_fit n a) xs (b ∷ ys) ∙ or_tru
 first_found : (n a : ℕ) (bs : List Block) (place : Place) → 0 < a → IsFirstFit n a bs place → list_any (has_fit n a) bs ≡ true
 unfolding IsLowestFit
 first_found n a bs place p f =
-    ap (list_any (has_fit n a)) f.cut ∙ one_found n a f.before (free_block place.key) f.after (fit_found n a place.start (free_block place.key) p f.fit.0)
+    ap (list_any (has_fit n a)) f.cut ∙ one_found n a f.before (free_block place.key) f.after (fit_found n a place.range.start (free_block place.key) p f.fit.0)
 
 last_found : (n a : ℕ) (bs : List Block) (place : Place) → 0 < a → IsLastFit n a bs place → list_any (has_fit n a) bs ≡ true
 unfolding IsHighestFit
 last_found n a bs place p f =
-    ap (list_any (has_fit n a)) f.cut ∙ one_found n a f.before (free_block place.key) f.after (fit_found n a place.start (free_block place.key) p f.fit.0)
+    ap (list_any (has_fit n a)) f.cut ∙ one_found n a f.before (free_block place.key) f.after (fit_found n a place.range.start (free_block place.key) p f.fit.0)
 
 -- ---- A subtree that is not entered
 pub first_nodes_passed : (n a : ℕ) (s : Shape) → may_fit_in n a s ≡ false → nodes_of_first n a s ≡ 0

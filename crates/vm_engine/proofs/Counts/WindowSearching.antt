@@ -41,12 +41,12 @@ module _ (w : Range) (n a : ℕ) where
   first_found_in : (bs : List Block) (place : Place) → 0 < a → IsFirstFitIn w n a bs place → list_any (has_fit_in w n a) bs ≡ true
   unfolding IsLowestFit
   first_found_in bs place p f =
-      ap (list_any (has_fit_in w n a)) f.cut ∙ one_found_by (has_fit_in w n a) f.before (free_block place.key) f.after (fit_found n a place.start (cut_to w (free_block place.key)) p f.fit.0)
+      ap (list_any (has_fit_in w n a)) f.cut ∙ one_found_by (has_fit_in w n a) f.before (free_block place.key) f.after (fit_found n a place.range.start (cut_to w (free_block place.key)) p f.fit.0)
 
   last_found_in : (bs : List Block) (place : Place) → 0 < a → IsLastFitIn w n a bs place → list_any (has_fit_in w n a) bs ≡ true
   unfolding IsHighestFit
   last_found_in bs place p f =
-      ap (list_any (has_fit_in w n a)) f.cut ∙ one_found_by (has_fit_in w n a) f.before (free_block place.key) f.after (fit_found n a place.start (cut_to w (free_block place.key)) p f.fit.0)
+      ap (list_any (has_fit_in w n a)) f.cut ∙ one_found_by (has_fit_in w n a) f.before (free_block place.key) f.after (fit_found n a place.range.start (cut_to w (free_block place.key)) p f.fit.0)
 
   -- ---- A subtree that is not entered
   pub first_nodes_passed_in : (s : Shape) → may_fit_in n a s ≡ false → nodes_of_first_in w n a s ≡ 0

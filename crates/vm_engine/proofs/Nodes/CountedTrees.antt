@@ -6,7 +6,7 @@ use Rattle.std.specs.List.{Contains}
 use Rattle.vm_ranges.specs.Range.{Range, MAX, address_count}
 use Rattle.vm_engine.specs.Address.{AddressState, AreInOrder, with_range, holding, releasing}
 use Rattle.vm_engine.specs.Answer.{AllocatesAt, Frees}
-use Rattle.vm_engine.specs.Engine.Choosing.{IsChoice, Splits}
+use Rattle.vm_engine.specs.Engine.Choosing.{IsChosenPlace, Splits}
 use Rattle.vm_engine.specs.Engine.FreedBlocks.{with_joined}
 use Rattle.vm_engine.specs.Engine.CountedTrees.{IsCountedTree}
 use Rattle.vm_engine.specs.Queries.{free_of, count_of}
@@ -16,7 +16,7 @@ use Rattle.vm_engine.specs.Tree.FreeBeside.{HasHeld}
 use Rattle.vm_engine.specs.Tree.Shape.{Shape, blocks, height_of}
 use Rattle.vm_engine.specs.Tree.SpaceTree.{space_of, tree_state, IsSpaceTree}
 use Rattle.vm_engine.specs.declared.node.neighbours.Neighbours.{Neighbours}
-use Rattle.vm_engine.specs.declared.node.split.Choice.{Choice}
+use Rattle.vm_engine.specs.declared.node.places.Place.{Place}
 use Rattle.vm_ranges.specs.declared.state.NodeState.TheVariants.{Allocated}
 use Rattle.vm_engine.proofs.Blocks.HeldChanges.{with_without}
 use Rattle.vm_engine.proofs.Blocks.GapLists.{all_counted}
@@ -86,24 +86,24 @@ pub held_fits : (s : Shape) (held clear : ℕ) → IsCountedTree s held clear �
 held_fits s held clear h = omega (arith, few_held s h.tree.height, h.held_count)
 
 -- A range in a free block has at most as many addresses as are clear.
-pub choice_fits : (s : Shape) (held clear : ℕ) (choice : Choice) → IsCountedTree s held clear → IsChoice (blocks s) choice → address_count choice.range ≤ clear
-choice_fits s held clear choice h i =
+pub place_fits : (s : Shape) (held clear : ℕ) (place : Place) → IsCountedTree s held clear → IsChosenPlace (blocks s) place → address_count place.range ≤ clear
+place_fits s held clear place h i =
     let all = ap (λ (v : List Block). count_of (free_of v)) i.cut in
-    omega (arith, h.clear_count, all, clear_middle i.before i.after (free_block choice.key) refl, i.within.from, i.within.some, i.within.upto)
+    omega (arith, h.clear_count, all, clear_middle i.before i.after (free_block place.key) refl, i.within.from, i.within.some, i.within.upto)
 
-module _ (s n : Shape) (held clear : ℕ) (choice : Choice) (h : IsCountedTree s held clear) (i : IsChoice (blocks s) choice) (c : Splits (blocks s) choice.key choice.range (blocks n)) (l : height_of n ≤ 49) where
+module _ (s n : Shape) (held clear : ℕ) (place : Place) (h : IsCountedTree s held clear) (i : IsChosenPlace (blocks s) place) (c : Splits (blocks s) place.key place.range (blocks n)) (l : height_of n ≤ 49) where
   taken_tree : IsSpaceTree n
-  taken_tree = space_taken s n choice h.tree i c l
+  taken_tree = space_taken s n place h.tree i c l
 
-  more : OneMore s n choice.range
+  more : OneMore s n place.range
   unfolding AllocatesAt
   more =
       ⊎_elim
-      (λ k. one_more s n choice.range h.tree taken_tree k.1)
+      (λ k. one_more s n place.range h.tree taken_tree k.1)
       (λ k. absurd (⊎_elim (λ m. cc m) (λ m. cc m.1) k.2))
-      (taken_in s n choice choice.range h.tree i c refl)
+      (taken_in s n place place.range h.tree i c refl)
 
-  pub taken_counted : (count : ℕ) → count ≡ address_count choice.range → IsCountedTree n (held + 1) (clear - count)
+  pub taken_counted : (count : ℕ) → count ≡ address_count place.range → IsCountedTree n (held + 1) (clear - count)
   taken_counted count e = record {
     tree = taken_tree;
     held_count = omega (arith, h.held_count, more.held);

@@ -9,9 +9,8 @@ use Rattle.vm_engine.specs.Tree.Shape.{Shape, Fork, blocks, height_of, max_free_
 use Rattle.vm_engine.specs.declared.node.summary.Change.{Change}
 use Rattle.vm_engine.specs.declared.node.summary.Change.TheVariants.{Nothing, FreeOnly, Height}
 use Rattle.vm_engine.specs.Engine.Changes.{KeepsShape, KeepsFreeSummary}
-use Rattle.vm_ranges.specs.declared.state.NodeState.TheVariants.{Allocated}
 use Rattle.vm_engine.proofs.Blocks.BlockOrder.{ordered_below, ordered_above}
-use Rattle.vm_engine.proofs.Blocks.Replacement.{replace_in_left, replace_in_right, replace_in_middle, find_in_left, find_in_right, same_range_true}
+use Rattle.vm_engine.proofs.Blocks.Replacement.{replace_in_left, replace_in_right, replace_in_middle, find_in_left, find_in_right}
 
 -- If a new block keeps the whole list in order, it keeps the blocks of each child in order.
 pub rewritten_left : (s l : Shape) (x : Block) (r : Shape) (k : Range) (ys : List Block) → s ≡ Fork l x r → Before k x.key → IsTree s → IsOrderedFrom 0 (replace_block k ys (blocks s)) → IsOrderedFrom 0 (replace_block k ys (blocks l))
@@ -93,12 +92,3 @@ node_rewritten_right s l n x r k y reported e p t o b w =
     )
 
 pub ruleset rewritings = (rewrite_here, tree_rewritten_here)
-
--- Marking keeps the order.
-pub ordered_marked : (lo : ℕ) (k : Range) (bs : List Block) → IsOrderedFrom lo bs → IsOrderedFrom lo (replace_block k (record { key = k; state = Allocated } ∷ []) bs)
-ordered_marked lo k [] o = tt
-ordered_marked lo k (b ∷ bs) o =
-    elim (same_range k b.key) as (λ v. same_range k b.key ≡ v → IsOrderedFrom lo (cond v (record { key = k; state = Allocated } ∷ bs) (b ∷ replace_block k (record { key = k; state = Allocated } ∷ []) bs))) [
-      | true ↦ λ e. let q = same_range_true k b.key e in (omega (arith, q.0), omega (arith, q.0, q.1), rw q.1 o.2)
-      | false ↦ λ e. (o.0, o.1, ordered_marked (b.key.end + 1) k bs o.2)
-    ] refl

@@ -9,7 +9,7 @@ use Rattle.vm_engine.specs.Tree.Multiples.{free_alignments}
 use Rattle.vm_engine.specs.Tree.Shape.{Shape, Tip, Fork, blocks, height_of, max_free_of, alignments_of, IsTree}
 use Rattle.vm_engine.specs.Engine.Changes.{IsUneven, AddsLeaf}
 use Rattle.vm_engine.specs.Engine.NodeFields.{side, shape_of, IsNode}
-use Rattle.vm_engine.specs.Engine.Outermost.{most_by, IsUnevenAt, KnowsChoice, IsOnlyRest, IsOnlySplit, IsSteadySplit}
+use Rattle.vm_engine.specs.Engine.Outermost.{most_by, IsUnevenAt, KnowsPlace, IsOnlyRest, IsOnlySplit, IsSteadySplit}
 use Rattle.vm_engine.specs.Engine.SplitBlocks.{with_split, AreLeaves, CanSplit, HasOnePart, IsLeafAt}
 use Rattle.vm_engine.specs.declared.node.InnerNode.{InnerNode}
 use Rattle.vm_engine.specs.declared.node.InnerNode.TheInside.{Inside}
@@ -45,16 +45,16 @@ most_replaced f m k ys (b ∷ bs) e p h =
 
 -- Every other block of the tree is no longer than the rest of the gap and has no more alignments, so after the split the
 -- tree keeps just the free summary of the rest.
-pub keeps_rest : (s n : Shape) (split : Split) (free : Summary) → IsOnlySplit s split free → blocks n ≡ with_split split.choice.key split.choice.range split.rest (blocks s)
+pub keeps_rest : (s n : Shape) (split : Split) (free : Summary) → IsOnlySplit s split free → blocks n ≡ with_split split.place.key split.place.range split.rest (blocks s)
     → (max_free_of n ≡ free.max_free) × (alignments_of n ≡ free.alignments)
 keeps_rest s n split free o e =
     let before = side split.rest.before in
     let after = side split.rest.after in
-    let ys = blocks before ++ held_block split.choice.range ∷ blocks after in
-    let long : most_by free_length ys ≡ free.max_free = omega (arith, most_append free_length (blocks before) (held_block split.choice.range ∷ blocks after), max_free_by_blocks before, max_free_by_blocks after, o.rest.0) in
-    let many : most_by free_alignments ys ≡ free.alignments = omega (arith, most_append free_alignments (blocks before) (held_block split.choice.range ∷ blocks after), alignments_by_blocks before, alignments_by_blocks after, o.rest.1) in (
-      max_free_by_blocks n ∙ ap (most_by free_length) e ∙ most_replaced free_length free.max_free split.choice.key ys (blocks s) long o.others.max_free o.can_be_split.known,
-      alignments_by_blocks n ∙ ap (most_by free_alignments) e ∙ most_replaced free_alignments free.alignments split.choice.key ys (blocks s) many o.others.alignments o.can_be_split.known,
+    let ys = blocks before ++ held_block split.place.range ∷ blocks after in
+    let long : most_by free_length ys ≡ free.max_free = omega (arith, most_append free_length (blocks before) (held_block split.place.range ∷ blocks after), max_free_by_blocks before, max_free_by_blocks after, o.rest.0) in
+    let many : most_by free_alignments ys ≡ free.alignments = omega (arith, most_append free_alignments (blocks before) (held_block split.place.range ∷ blocks after), alignments_by_blocks before, alignments_by_blocks after, o.rest.1) in (
+      max_free_by_blocks n ∙ ap (most_by free_length) e ∙ most_replaced free_length free.max_free split.place.key ys (blocks s) long o.others.max_free o.can_be_split.known,
+      alignments_by_blocks n ∙ ap (most_by free_alignments) e ∙ most_replaced free_alignments free.alignments split.place.key ys (blocks s) many o.others.alignments o.can_be_split.known,
     )
 
 -- ---- The other blocks of a child
@@ -70,55 +70,55 @@ others_in_right f s l b r k e p t =
 
 -- The split of a tree is the split of the child with the gap.
 module _ (s l : Shape) (b : Block) (r : Shape) (split : Split) (free : Summary) (e : s ≡ Fork l b r) (t : IsTree s) (o : IsOnlySplit s split free) where
-  pub only_in_left : Before split.choice.key b.key → IsOnlySplit l split free
+  pub only_in_left : Before split.place.key b.key → IsOnlySplit l split free
   only_in_left p = record {
     leaves = o.leaves;
     can_be_split = record {
-      known = known_left s l b r split.choice.key e p t o.can_be_split.known;
-      ordered = rewritten_left s l b r split.choice.key _ e p t o.can_be_split.ordered;
+      known = known_left s l b r split.place.key e p t o.can_be_split.known;
+      ordered = rewritten_left s l b r split.place.key _ e p t o.can_be_split.ordered;
     };
     rest = o.rest;
     others = record {
-      max_free = omega (arith, others_in_left free_length s l b r split.choice.key e p t, o.others.max_free);
-      alignments = omega (arith, others_in_left free_alignments s l b r split.choice.key e p t, o.others.alignments);
+      max_free = omega (arith, others_in_left free_length s l b r split.place.key e p t, o.others.max_free);
+      alignments = omega (arith, others_in_left free_alignments s l b r split.place.key e p t, o.others.alignments);
     };
   }
 
-  pub only_in_right : Before b.key split.choice.key → IsOnlySplit r split free
+  pub only_in_right : Before b.key split.place.key → IsOnlySplit r split free
   only_in_right p = record {
     leaves = o.leaves;
     can_be_split = record {
-      known = known_right s l b r split.choice.key e p t o.can_be_split.known;
-      ordered = rewritten_right s l b r split.choice.key _ e p t o.can_be_split.ordered;
+      known = known_right s l b r split.place.key e p t o.can_be_split.known;
+      ordered = rewritten_right s l b r split.place.key _ e p t o.can_be_split.ordered;
     };
     rest = o.rest;
     others = record {
-      max_free = omega (arith, others_in_right free_length s l b r split.choice.key e p t, o.others.max_free);
-      alignments = omega (arith, others_in_right free_alignments s l b r split.choice.key e p t, o.others.alignments);
+      max_free = omega (arith, others_in_right free_length s l b r split.place.key e p t, o.others.max_free);
+      alignments = omega (arith, others_in_right free_alignments s l b r split.place.key e p t, o.others.alignments);
     };
   }
 
 -- ---- A node on the path whose child keeps its height
 module _ (i : Inside) (child : Option (Box InnerNode)) (split : Split) (free : Summary) (v : IsNode i) (o : IsOnlySplit (shape_of i) split free) where
-  pub kept_over_left : Before split.choice.key i.block.key → blocks (side child) ≡ with_split split.choice.key split.choice.range split.rest (blocks (side i.left)) → IsTree (side child) → height_of (side child) ≡ height_of (side i.left)
+  pub kept_over_left : Before split.place.key i.block.key → blocks (side child) ≡ with_split split.place.key split.place.range split.rest (blocks (side i.left)) → IsTree (side child) → height_of (side child) ≡ height_of (side i.left)
       → IsNode (record i { left = child; summary = record i.summary { max_free = free.max_free; alignments = free.alignments } })
   kept_over_left p e t h =
       let n = shape_of (record i { left = child }) in
-      let keeps = keeps_rest (shape_of i) n split free o (rw e (sym (replace_in_left (shape_of i) (side i.left) i.block (side i.right) split.choice.key _ refl p v.tree))) in
+      let keeps = keeps_rest (shape_of i) n split free o (rw e (sym (replace_in_left (shape_of i) (side i.left) i.block (side i.right) split.place.key _ refl p v.tree))) in
       record {
-        tree = record { ordered = ordered_split_left (side i.left) (side child) i.block (side i.right) split.choice.key _ p v.tree o.can_be_split.ordered e; balanced = (t.balanced, v.tree.balanced.1, rw h v.tree.balanced.2) };
+        tree = record { ordered = ordered_split_left (side i.left) (side child) i.block (side i.right) split.place.key _ p v.tree o.can_be_split.ordered e; balanced = (t.balanced, v.tree.balanced.1, rw h v.tree.balanced.2) };
         height = rw h v.height;
         max_free = sym keeps.0;
         alignments = sym keeps.1;
       }
 
-  pub kept_over_right : Before i.block.key split.choice.key → blocks (side child) ≡ with_split split.choice.key split.choice.range split.rest (blocks (side i.right)) → IsTree (side child) → height_of (side child) ≡ height_of (side i.right)
+  pub kept_over_right : Before i.block.key split.place.key → blocks (side child) ≡ with_split split.place.key split.place.range split.rest (blocks (side i.right)) → IsTree (side child) → height_of (side child) ≡ height_of (side i.right)
       → IsNode (record i { right = child; summary = record i.summary { max_free = free.max_free; alignments = free.alignments } })
   kept_over_right p e t h =
       let n = shape_of (record i { right = child }) in
-      let keeps = keeps_rest (shape_of i) n split free o (rw e (sym (replace_in_right (shape_of i) (side i.left) i.block (side i.right) split.choice.key _ refl p v.tree))) in
+      let keeps = keeps_rest (shape_of i) n split free o (rw e (sym (replace_in_right (shape_of i) (side i.left) i.block (side i.right) split.place.key _ refl p v.tree))) in
       record {
-        tree = record { ordered = ordered_split_right (side i.left) (side child) i.block (side i.right) split.choice.key _ p v.tree o.can_be_split.ordered e; balanced = (v.tree.balanced.0, t.balanced, rw h v.tree.balanced.2) };
+        tree = record { ordered = ordered_split_right (side i.left) (side child) i.block (side i.right) split.place.key _ p v.tree o.can_be_split.ordered e; balanced = (v.tree.balanced.0, t.balanced, rw h v.tree.balanced.2) };
         height = rw h v.height;
         max_free = sym keeps.0;
         alignments = sym keeps.1;
@@ -153,15 +153,15 @@ module _ (j : ℕ) (k : Range) (l : Shape) (b : Block) (r : Shape) where
 
 -- The split of a tree is the split of the child with the gap.
 module _ (s l : Shape) (b : Block) (r : Shape) (split : Split) (free : Summary) (j : ℕ) (e : s ≡ Fork l b r) (t : IsTree s) (o : IsSteadySplit s split free j) where
-  pub steady_left : 0 < j → Before split.choice.key b.key → IsSteadySplit l split free (j - 1)
-  steady_left q p = record { only = only_in_left s l b r split free e t o.only p; one = o.one; leaf = leaf_left split.choice.key l b r p (rw e at o.leaf); uneven = uneven_left j split.choice.key l b r q p (rw e at o.uneven) }
+  pub steady_left : 0 < j → Before split.place.key b.key → IsSteadySplit l split free (j - 1)
+  steady_left q p = record { only = only_in_left s l b r split free e t o.only p; one = o.one; leaf = leaf_left split.place.key l b r p (rw e at o.leaf); uneven = uneven_left j split.place.key l b r q p (rw e at o.uneven) }
 
-  pub steady_right : 0 < j → Before b.key split.choice.key → IsSteadySplit r split free (j - 1)
-  steady_right q p = record { only = only_in_right s l b r split free e t o.only p; one = o.one; leaf = leaf_right split.choice.key l b r p (rw e at o.leaf); uneven = uneven_right j split.choice.key l b r q p (rw e at o.uneven) }
+  pub steady_right : 0 < j → Before b.key split.place.key → IsSteadySplit r split free (j - 1)
+  steady_right q p = record { only = only_in_right s l b r split free e t o.only p; one = o.one; leaf = leaf_right split.place.key l b r p (rw e at o.leaf); uneven = uneven_right j split.place.key l b r q p (rw e at o.uneven) }
 
 -- The split of the gap at which a search ended.
-pub steady_by_search : (s : Shape) (edge : Edge) (split : Split) (free : Summary) → AreLeaves split.rest → CanSplit (blocks s) split.choice.key split.choice.range split.rest
-    → KnowsChoice edge split.choice s → IsOnlyRest edge split free → IsSteadySplit s split free edge.steady
+pub steady_by_search : (s : Shape) (edge : Edge) (split : Split) (free : Summary) → AreLeaves split.rest → CanSplit (blocks s) split.place.key split.place.range split.rest
+    → KnowsPlace edge split.place s → IsOnlyRest edge split free → IsSteadySplit s split free edge.steady
 steady_by_search s edge split free leaves can knows rest =
     let gap = knows rest.reached in
     record {
@@ -181,10 +181,10 @@ unfolding IsLeafAt
 no_tip k f = f
 
 -- The uneven node keeps its height.
-pub steady_height : (s n : Shape) (split : Split) (free : Summary) → IsSteadySplit s split free 0 → (IsLeafAt split.choice.key s → HasOnePart split.rest → AddsLeaf s n) → height_of n ≡ height_of s
-steady_height Tip n split free o h = absurd (no_tip split.choice.key o.leaf)
+pub steady_height : (s n : Shape) (split : Split) (free : Summary) → IsSteadySplit s split free 0 → (IsLeafAt split.place.key s → HasOnePart split.rest → AddsLeaf s n) → height_of n ≡ height_of s
+steady_height Tip n split free o h = absurd (no_tip split.place.key o.leaf)
 steady_height (Fork l b r) n split free o h =
-    ⊎_elim (λ same. same) (λ grown. absurd (grown.1 (uneven_here 0 split.choice.key l b r o.uneven))) (h o.leaf o.one)
+    ⊎_elim (λ same. same) (λ grown. absurd (grown.1 (uneven_here 0 split.place.key l b r o.uneven))) (h o.leaf o.one)
 
 pub ruleset steady_splits = (steady_by_search)
 

@@ -1,23 +1,23 @@
 -- The effect of an allocation on the state of a tree.
-use Rattle.std.proofs.Common.{◌≡◌, ◌+◌, ◌-◌, ◌<◌, ◌≤◌, suc, List, [], ◌∷◌, ◌++◌, length, refl, sym, ap, ◌∙◌, arith, inl, inr, ⊎_elim, subst, cond, ltb, true, false, Ok, Err, IsSome}
-use Rattle.std.proofs.lemmas.Bool.{cases_lt, le-ltb}
+use Rattle.std.proofs.Common.{◌≡◌, ◌≢◌, ◌+◌, ◌-◌, ◌<◌, ◌≤◌, suc, Option, Some, None, List, [], ◌∷◌, ◌++◌, length, refl, sym, ap, ◌∙◌, arith, inl, inr, ⊎_elim, subst, cond, ltb, true, false, Ok, Err, IsSome}
+use Rattle.std.proofs.lemmas.Bool.{cases_lt, le-ltb, lt-ltb}
 use Rattle.vm_engine.specs.Engine.NodeFields.{side}
 use Rattle.vm_ranges.specs.Range.{Range}
 use Rattle.vm_engine.specs.Tree.Block.{Block, free_block, held_block}
 use Rattle.vm_engine.specs.Address.{SplitsGap, holding}
 use Rattle.vm_engine.specs.Answer.{SPLIT_LIMIT_MIN_HELD, AllocatesAt}
 use Rattle.vm_engine.specs.Tree.Blocks.{Tiles, TilesSpace, IsBlocksOf, held_of, blocks_state, AreBelowMax}
-use Rattle.vm_engine.specs.Tree.BlockEdits.{before_part, after_part, parts, IsTakenFrom, NeedsSplit}
+use Rattle.vm_engine.specs.Tree.BlockEdits.{before_part, after_part, free_blocks, parts, IsTakenFrom, NeedsSplit}
 use Rattle.vm_engine.specs.Tree.BlockList.{IsOrderedFrom, replace_block, with_block, find_key}
 use Rattle.vm_engine.specs.Tree.Shape.{Shape, blocks, height_of, node_count, IsTree, leaf_of}
-use Rattle.vm_engine.specs.Engine.Choosing.{IsChoice, Splits}
+use Rattle.vm_engine.specs.Engine.Choosing.{IsChosenPlace, Splits}
 use Rattle.vm_engine.specs.Tree.SpaceTree.{space_of, tree_state, IsSpaceTree}
 use Rattle.vm_engine.specs.Engine.SplitBlocks.{with_split, AreLeaves, CanSplit, IsRest}
 use Rattle.vm_engine.specs.declared.node.split.Rest.{Rest}
 use Rattle.vm_engine.specs.Counts.Fibonacci.{fibonacci, fibonacci_pair}
 use Rattle.vm_ranges.specs.declared.error.Error.TheVariants.{Overflow, OutOfMemory}
 use Rattle.vm_ranges.specs.declared.state.NodeState.TheVariants.{Allocated}
-use Rattle.vm_engine.specs.declared.node.split.Choice.{Choice}
+use Rattle.vm_engine.specs.declared.node.places.Place.{Place}
 use Rattle.vm_engine.proofs.Splitting.TakenRanges.{tiles_split, blocks_split, leaves_clear, as_blocks, below_with}
 use Rattle.vm_engine.proofs.Blocks.BlockOrder.{ordered_weaken}
 use Rattle.vm_engine.proofs.Blocks.Replacement.{replace_middle, find_middle}
@@ -35,18 +35,18 @@ pub record IsCut (bs : List Block) (k r : Range) : Type 0 where
   pub old : IsOrderedFrom 0 bs
   pub new : IsOrderedFrom 0 (before ++ (parts k r ++ after))
 
-pub cut_of : (s : Shape) (choice : Choice) → IsSpaceTree s → IsChoice (blocks s) choice → IsCut (blocks s) choice.key choice.range
+pub cut_of : (s : Shape) (place : Place) → IsSpaceTree s → IsChosenPlace (blocks s) place → IsCut (blocks s) place.key place.range
 unfolding TilesSpace
-cut_of s choice h c =
+cut_of s place h c =
     let sp = space_of (blocks s) in
-    let t : Tiles Allocated sp.start (c.before ++ free_block choice.key ∷ c.after) sp.end = subst (λ (v : List Block). Tiles Allocated sp.start v sp.end) c.cut h.tiling.tiles in
+    let t : Tiles Allocated sp.start (c.before ++ free_block place.key ∷ c.after) sp.end = subst (λ (v : List Block). Tiles Allocated sp.start v sp.end) c.cut h.tiling.tiles in
     record {
       before = c.before;
       after = c.after;
       cut = c.cut;
       within = c.within;
       old = ordered_weaken 0 sp.start (blocks s) (omega arith) (tiles_ordered Allocated sp.start sp.end (blocks s) h.tiling.tiles);
-      new = ordered_weaken 0 sp.start _ (omega arith) (tiles_ordered Allocated sp.start sp.end _ (tiles_split Allocated sp.start sp.end choice.range (free_block choice.key) c.before c.after refl c.within t));
+      new = ordered_weaken 0 sp.start _ (omega arith) (tiles_ordered Allocated sp.start sp.end _ (tiles_split Allocated sp.start sp.end place.range (free_block place.key) c.before c.after refl c.within t));
     }
 
 -- The blocks that replace the free block.
@@ -66,12 +66,46 @@ module _ (bs : List Block) (k r : Range) (c : IsCut bs k r) where
   pub carved : (us vs news : List Block) → us ≡ before_part k r → vs ≡ after_part k r → news ≡ replace_block k (us ++ held_block r ∷ vs) bs → Splits bs k r news
   carved us vs news p q e = record { before = c.before; after = c.after; cut = c.cut; is = e ∙ rw (p, q) replaced }
 
--- A range that fills its block leaves no rest.
+-- ---- The parts of a block before and after a range
+pub none_before_start : (k r : Range) → r.start ≤ k.start → before_part k r ≡ []
+none_before_start k r l = rw (le-ltb k.start r.start l) refl
+
+pub some_before_start : (k r : Range) → k.start < r.start → before_part k r ≡ free_block (record { start = k.start; end = r.start - 1 }) ∷ []
+some_before_start k r l = rw (lt-ltb k.start r.start l) refl
+
+pub none_after_end : (k r : Range) → k.end ≤ r.end → after_part k r ≡ []
+none_after_end k r l = rw (le-ltb r.end k.end l) refl
+
+pub some_after_end : (k r : Range) → r.end < k.end → after_part k r ≡ free_block (record { start = r.end + 1; end = k.end }) ∷ []
+some_after_end k r l = rw (lt-ltb r.end k.end l) refl
+
+pub ruleset block_parts = (none_before_start, some_before_start, none_after_end, some_after_end)
+
+-- A range fills its block exactly if there is no such part.
+no_part : (k r : Range) → before_part k r ≡ [] → after_part k r ≡ [] → ¬ NeedsSplit k r
+no_part k r p q (inl l) = absurd (cc (sym p ∙ some_before_start k r l))
+no_part k r p q (inr l) = absurd (cc (sym q ∙ some_after_end k r l))
+
+pub fills : (k r : Range) (before after : Option Range) → before_part k r ≡ free_blocks before → after_part k r ≡ free_blocks after → before ≡ None → after ≡ None → ¬ NeedsSplit k r
+fills k r before after p q u v = no_part k r (p ∙ ap free_blocks u) (q ∙ ap free_blocks v)
+
 pub none_before : (k r : Range) → ¬ NeedsSplit k r → [] ≡ before_part k r
-none_before k r n = rw (le-ltb k.start r.start (⊎_elim (λ (l : k.start < r.start). absurd (n (inl l))) (λ (l : r.start ≤ k.start). l) (cases_lt k.start r.start))) refl
+none_before k r n = sym (none_before_start k r (⊎_elim (λ (l : k.start < r.start). absurd (n (inl l))) (λ (l : r.start ≤ k.start). l) (cases_lt k.start r.start)))
 
 pub none_after : (k r : Range) → ¬ NeedsSplit k r → [] ≡ after_part k r
-none_after k r n = rw (le-ltb r.end k.end (⊎_elim (λ (l : r.end < k.end). absurd (n (inr l))) (λ (l : k.end ≤ r.end). l) (cases_lt r.end k.end))) refl
+none_after k r n = sym (none_after_end k r (⊎_elim (λ (l : r.end < k.end). absurd (n (inr l))) (λ (l : k.end ≤ r.end). l) (cases_lt r.end k.end)))
+
+pub part_before : (k r : Range) (before : Option Range) → before_part k r ≡ free_blocks before → before ≢ None → NeedsSplit k r
+part_before k r None e n = absurd (n refl)
+part_before k r (Some key) e n = ⊎_elim (λ (l : k.start < r.start). inl l) (λ (l : r.start ≤ k.start). absurd (cc (sym e ∙ none_before_start k r l))) (cases_lt k.start r.start)
+
+pub part_after : (k r : Range) (after : Option Range) → after_part k r ≡ free_blocks after → after ≢ None → NeedsSplit k r
+part_after k r None e n = absurd (n refl)
+part_after k r (Some key) e n = ⊎_elim (λ (l : r.end < k.end). inr l) (λ (l : k.end ≤ r.end). absurd (cc (sym e ∙ none_after_end k r l))) (cases_lt r.end k.end)
+
+-- The leaves of these parts are the rest.
+pub is_rest : (k r : Range) (before after : Option Range) (rest : Rest) → before_part k r ≡ free_blocks before → after_part k r ≡ free_blocks after → (side rest.before ≡ leaf_of (free_blocks before)) × (side rest.after ≡ leaf_of (free_blocks after)) × AreLeaves rest → IsRest k r rest
+is_rest k r before after rest p q h = record { before = rw p h.0; after = rw q h.1; leaves = h.2 }
 
 -- The leaf of a part has exactly that part.
 leaf_blocks : (k r : Range) (rest : Rest) → IsRest k r rest → (blocks (side rest.before) ≡ before_part k r) × (blocks (side rest.after) ≡ after_part k r)
@@ -103,33 +137,33 @@ whole_split bs news k r c n e = carved bs k r c [] [] news (none_before k r n) (
 pub ruleset split_states = (cut_of, known, can_split, rest_leaves, rest_split, whole_ordered, whole_split)
 
 -- The state after the allocation.
-taken_blocks : (s n : Shape) (choice : Choice) → IsSpaceTree s → IsTakenFrom choice.key choice.range → Splits (blocks s) choice.key choice.range (blocks n) → IsBlocksOf (holding choice.range (tree_state s)) (blocks n)
-taken_blocks s n choice h w c =
-    subst (λ (v : List Block). IsBlocksOf (holding choice.range (tree_state s)) v) (sym c.is)
-    (blocks_split (tree_state s) (blocks s) c.before c.after (free_block choice.key) choice.range (as_blocks (space_of (blocks s)) (blocks s) h.tiling.tiles) c.cut refl w)
+taken_blocks : (s n : Shape) (place : Place) → IsSpaceTree s → IsTakenFrom place.key place.range → Splits (blocks s) place.key place.range (blocks n) → IsBlocksOf (holding place.range (tree_state s)) (blocks n)
+taken_blocks s n place h w c =
+    subst (λ (v : List Block). IsBlocksOf (holding place.range (tree_state s)) v) (sym c.is)
+    (blocks_split (tree_state s) (blocks s) c.before c.after (free_block place.key) place.range (as_blocks (space_of (blocks s)) (blocks s) h.tiling.tiles) c.cut refl w)
 
-pub space_taken : (s n : Shape) (choice : Choice) → IsSpaceTree s → IsChoice (blocks s) choice → Splits (blocks s) choice.key choice.range (blocks n) → height_of n ≤ 49 → IsSpaceTree n
+pub space_taken : (s n : Shape) (place : Place) → IsSpaceTree s → IsChosenPlace (blocks s) place → Splits (blocks s) place.key place.range (blocks n) → height_of n ≤ 49 → IsSpaceTree n
 unfolding TilesSpace
-space_taken s n choice h i c l =
-    let k = taken_blocks s n choice h i.within c in
+space_taken s n place h i c l =
+    let k = taken_blocks s n place h i.within c in
     space_tree (space_of (blocks s)) n (record {
       tiles = k.tiles;
-      below = subst AreBelowMax (sym k.held) (below_with choice.range (held_of (blocks s)) i.below h.tiling.below);
+      below = subst AreBelowMax (sym k.held) (below_with place.range (held_of (blocks s)) i.below h.tiling.below);
     }) h.space l
 
-pub taken_in : (s n : Shape) (choice : Choice) (r : Range) → IsSpaceTree s → IsChoice (blocks s) choice → Splits (blocks s) choice.key choice.range (blocks n) → r ≡ choice.range → AllocatesAt (tree_state s) choice.range (Ok r) (tree_state n)
+pub taken_in : (s n : Shape) (place : Place) (r : Range) → IsSpaceTree s → IsChosenPlace (blocks s) place → Splits (blocks s) place.key place.range (blocks n) → r ≡ place.range → AllocatesAt (tree_state s) place.range (Ok r) (tree_state n)
 unfolding TilesSpace AllocatesAt
-taken_in s n choice r h i c e =
-    let k = taken_blocks s n choice h i.within c in
+taken_in s n place r h i c e =
+    let k = taken_blocks s n place h i.within c in
     let sp : space_of (blocks n) ≡ space_of (blocks s) = space_tiled (space_of (blocks s)) (blocks n) k.tiles h.space.0 in
     inl (ap (λ (v : Range). Ok v) e, ap (λ (v : Range). blocks_state v (blocks n)) sp ∙ ap (λ (v : List Range). record { space = space_of (blocks s); held = v }) k.held)
 
-part_left : (s : Shape) (choice : Choice) → IsSpaceTree s → IsChoice (blocks s) choice → NeedsSplit choice.key choice.range → SplitsGap (tree_state s) choice.range
-part_left s choice h i l = leaves_clear (space_of (blocks s)) (blocks s) i.before i.after (free_block choice.key) choice.range h.tiling.tiles i.cut refl i.within l
+part_left : (s : Shape) (place : Place) → IsSpaceTree s → IsChosenPlace (blocks s) place → NeedsSplit place.key place.range → SplitsGap (tree_state s) place.range
+part_left s place h i l = leaves_clear (space_of (blocks s)) (blocks s) i.before i.after (free_block place.key) place.range h.tiling.tiles i.cut refl i.within l
 
-pub no_memory_in : (s : Shape) (choice : Choice) → IsSpaceTree s → IsChoice (blocks s) choice → NeedsSplit choice.key choice.range → AllocatesAt (tree_state s) choice.range (Err OutOfMemory) (tree_state s)
+pub no_memory_in : (s : Shape) (place : Place) → IsSpaceTree s → IsChosenPlace (blocks s) place → NeedsSplit place.key place.range → AllocatesAt (tree_state s) place.range (Err OutOfMemory) (tree_state s)
 unfolding AllocatesAt
-no_memory_in s choice h i l = inr (part_left s choice h i l, refl, inl refl)
+no_memory_in s place h i l = inr (part_left s place h i l, refl, inl refl)
 
 -- A tree of height 48 has many held blocks.
 fibonacci_50 : fibonacci 50 ≡ 12586269025
@@ -144,8 +178,8 @@ many_held s h t d =
     let few = few_blocks (tree_state s) (blocks s) (as_blocks (space_of (blocks s)) (blocks s) h.tiling.tiles) in
     omega (arith, fibonacci_50, node_count-blocks s)
 
-pub too_deep_in : (s : Shape) (choice : Choice) → IsSpaceTree s → IsTree s → IsChoice (blocks s) choice → NeedsSplit choice.key choice.range → 48 ≤ height_of s → AllocatesAt (tree_state s) choice.range (Err Overflow) (tree_state s)
+pub too_deep_in : (s : Shape) (place : Place) → IsSpaceTree s → IsTree s → IsChosenPlace (blocks s) place → NeedsSplit place.key place.range → 48 ≤ height_of s → AllocatesAt (tree_state s) place.range (Err Overflow) (tree_state s)
 unfolding AllocatesAt
-too_deep_in s choice h t i l d = inr (part_left s choice h i l, refl, inr (many_held s h t d, refl))
+too_deep_in s place h t i l d = inr (part_left s place h i l, refl, inr (many_held s h t d, refl))
 
-pub ruleset takings = (cut_of, space_taken, taken_in, no_memory_in, too_deep_in)
+pub ruleset takings = (part_before, part_after, cut_of, space_taken, taken_in, no_memory_in, too_deep_in)

@@ -11,7 +11,6 @@ use Rattle.vm_engine.specs.Engine.NodeFields.{side}
 use Rattle.vm_engine.specs.Engine.SplitBlocks.{AreLeaves, CanSplit, HasOnePart, IsLeafAt}
 use Rattle.vm_engine.specs.declared.node.edge.Edge.{Edge}
 use Rattle.vm_engine.specs.declared.node.places.Place.{Place}
-use Rattle.vm_engine.specs.declared.node.split.Choice.{Choice}
 use Rattle.vm_engine.specs.declared.node.split.Rest.{Rest}
 use Rattle.vm_engine.specs.declared.node.split.Split.{Split}
 use Rattle.vm_engine.specs.declared.node.summary.Summary.{Summary}
@@ -61,14 +60,14 @@ KnowsGap n old new found s =
     new.reached ≡ true → IfSome found (λ place. IsEdgeGap n old new place.key s)
 
 -- The gap of the chosen range, after a search from the root.
-pub record IsChosenGap (edge : Edge) (choice : Choice) (s : Shape) : Type 0 where
-  pub others : OthersAreLess (choice.range.end - choice.range.start) edge.alignments choice.key (blocks s)
-  pub leaf : IsLeafAt choice.key s
-  pub uneven : (edge.steady ≡ 0) ⊎ IsUnevenAt edge.steady choice.key s
+pub record IsChosenGap (edge : Edge) (place : Place) (s : Shape) : Type 0 where
+  pub others : OthersAreLess (place.range.end - place.range.start) edge.alignments place.key (blocks s)
+  pub leaf : IsLeafAt place.key s
+  pub uneven : (edge.steady ≡ 0) ⊎ IsUnevenAt edge.steady place.key s
 
 -- If the search reached the end of the edge, the chosen range is in the gap there.
-abbrev pub KnowsChoice : Edge → Choice → Shape → Type 0
-KnowsChoice edge choice s = edge.reached ≡ true → IsChosenGap edge choice s
+abbrev pub KnowsPlace : Edge → Place → Shape → Type 0
+KnowsPlace edge place s = edge.reached ≡ true → IsChosenGap edge place s
 
 -- The free summary of the rest of a gap.
 abbrev pub IsFreeOf : Summary → Rest → Type 0
@@ -83,20 +82,20 @@ pub record IsOnlyRest (edge : Edge) (split : Split) (free : Summary) : Type 0 wh
   pub steady : edge.steady ≢ 0
   pub one : HasOnePart split.rest
   pub rest : IsFreeOf free split.rest
-  pub max_free : split.choice.range.end - split.choice.range.start ≤ free.max_free
+  pub max_free : split.place.range.end - split.place.range.start ≤ free.max_free
   pub alignments : edge.alignments ≤ free.alignments
 
 -- The split can be made in the tree, and its rest has the free summary `free`. No other block is longer than that, or has
 -- more alignments.
 pub record IsOnlySplit (s : Shape) (split : Split) (free : Summary) : Type 0 where
   pub leaves : AreLeaves split.rest
-  pub can_be_split : CanSplit (blocks s) split.choice.key split.choice.range split.rest
+  pub can_be_split : CanSplit (blocks s) split.place.key split.place.range split.rest
   pub rest : IsFreeOf free split.rest
-  pub others : OthersAreLess free.max_free free.alignments split.choice.key (blocks s)
+  pub others : OthersAreLess free.max_free free.alignments split.place.key (blocks s)
 
 -- The split also adds one leaf below a leaf, and the node at depth `steady` of its path is uneven.
 pub record IsSteadySplit (s : Shape) (split : Split) (free : Summary) (steady : ℕ) : Type 0 where
   pub only : IsOnlySplit s split free
   pub one : HasOnePart split.rest
-  pub leaf : IsLeafAt split.choice.key s
-  pub uneven : IsUnevenAt steady split.choice.key s
+  pub leaf : IsLeafAt split.place.key s
+  pub uneven : IsUnevenAt steady split.place.key s

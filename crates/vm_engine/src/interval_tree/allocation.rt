@@ -7,14 +7,13 @@ ghost use Rattle.std.specs.Prelude.{◌≡◌, ◌+◌, ◌*◌, ◌<◌, ◌≤
 ghost use Rattle.vm_ranges.specs.Range.{MAX};
 ghost use Rattle.vm_engine.specs.Answer.{AllocatesAt};
 ghost use Rattle.vm_engine.specs.Tree.Block.{free_block};
-ghost use Rattle.vm_engine.specs.Tree.BlockEdits.{IsTakenFrom, NeedsSplit, before_part, after_part};
-ghost use Rattle.vm_ranges.specs.Cases.{IsTestOf};
-ghost use Rattle.vm_engine.specs.Engine.SplitBlocks.{IsRest};
+ghost use Rattle.vm_engine.specs.Tree.BlockEdits.{IsTakenFrom, NeedsSplit, before_part, after_part, free_blocks};
+ghost use Rattle.vm_engine.specs.Engine.SplitBlocks.{AreLeaves};
 ghost use Rattle.vm_engine.specs.Tree.Shape.{blocks, height_of, single, leaf_of};
 ghost use Rattle.vm_engine.specs.Engine.Changes.{IsLeaf};
 ghost use Rattle.vm_engine.specs.Engine.NodeFields.{side};
-ghost use Rattle.vm_engine.specs.Engine.Choosing.{IsChoice};
-ghost use Rattle.vm_engine.specs.Engine.Outermost.{KnowsChoice};
+ghost use Rattle.vm_engine.specs.Engine.Choosing.{IsChosenPlace};
+ghost use Rattle.vm_engine.specs.Engine.Outermost.{KnowsPlace};
 ghost use Rattle.vm_engine.specs.Tree.SpaceTree.{tree_state};
 ghost use Rattle.vm_engine.specs.Counts.Steps.{SPLIT_HEIGHT_LIMIT};
 ghost use Rattle.vm_engine.specs.Counts.NodeCounts.{nodes_if_allocated};
@@ -24,8 +23,9 @@ use crate::Steps;
 use crate::block::Block;
 use crate::node::edge::Edge;
 use crate::node::outermost::split_gap;
+use crate::node::places::Place;
 use crate::node::rewrite::rewrite_at;
-use crate::node::split::{Choice, Rest, Split};
+use crate::node::split::{Rest, Split};
 use crate::node::{Child, InnerNode};
 use crate::ordering::valid_range;
 use std::alloc::Global;
@@ -40,101 +40,97 @@ impl IntervalTree {
     /// If the range does not fill the block, it returns `Overflow` for a tree of height 48 or more,
     /// and `OutOfMemory` if the allocation of a leaf fails.
     #[tactic(auto, using(crate::proofs::Splitting::SplitStates::takings, crate::proofs::Splitting::SplitStates::split_states, crate::proofs::Nodes::Spaces::rooted, crate::proofs::Counts::SplitCounts::holdings))]
-    pub(super) fn allocate_chosen(
+    pub(super) fn allocate_at(
         &mut self,
         alloc: Global,
-        choice: Choice,
+        place: Place,
         edge: &Edge,
         count: &mut Steps,
     ) -> Result<RangeInclusive>
-        requires choice { IsChoice (blocks self.old) choice }
-        requires gap { KnowsChoice edge.now choice self.old }
+        requires place { IsChosenPlace (blocks self.old) place }
+        requires gap { KnowsPlace edge.now place self.old }
         requires count_fits { count.old + 2 * height_of self.old < MAX }
-        ensures answer { AllocatesAt (tree_state self.old) choice.range result (tree_state self.new) }
+        ensures answer { AllocatesAt (tree_state self.old) place.range result (tree_state self.new) }
         ensures unchanged { OnErr result (self.new ≡ self.old) }
-        ensures low { NeedsSplit choice.key choice.range → OnOk result (height_of self.old < SPLIT_HEIGHT_LIMIT) }
+        ensures low { NeedsSplit place.key place.range → OnOk result (height_of self.old < SPLIT_HEIGHT_LIMIT) }
         ensures errors { (result ≡ Err Error.OutOfMemory → height_of self.old < SPLIT_HEIGHT_LIMIT)
             × (result ≡ Err Error.Overflow → SPLIT_HEIGHT_LIMIT ≤ height_of self.old) }
-        ensures count { count.new ≡ count.old + nodes_if_allocated choice.key result self.old }
+        ensures count { count.new ≡ count.old + nodes_if_allocated place.key result self.old }
     {
-        if !needs_split(&choice) {
+        let range = place.range;
+        let (before, after) = (part_before(&place), part_after(&place));
+        if before.is_none() && after.is_none() {
             rewrite_at(
                 &mut self.root,
-                &choice.key,
-                choice.range,
+                &place.key,
+                range,
                 NodeState::Allocated,
                 count,
             );
             self.held_count += 1;
-            self.clear_count -= choice.range.len();
-            return Ok(choice.range);
+            self.clear_count -= range.len();
+            return Ok(range);
         }
         if self.height() >= SPLIT_HEIGHT_LIMIT {
             return Err(Error::Overflow);
         }
-        let rest = rest_of(alloc, &choice)?;
-        let mut split = Split { choice, rest };
+        let rest = rest_of(alloc, before, after)?;
+        let mut split = Split { place, rest };
         self.held_count += 1;
-        self.clear_count -= choice.range.len();
+        self.clear_count -= range.len();
         split_gap(&mut self.root, &mut split, edge, count);
-        Ok(choice.range)
+        Ok(range)
     }
 }
 
-/// Returns `true` if the range does not fill its free block.
-fn needs_split(choice: &Choice) -> bool
-    ensures { IsTestOf result (NeedsSplit choice.now.key choice.now.range) }
+/// Returns the part of the free block before the range, or `None` if it is empty.
+#[tactic(auto, using(crate::proofs::Splitting::SplitStates::block_parts))]
+fn part_before(place: &Place) -> Option<RangeInclusive>
+    requires { IsTakenFrom place.now.key place.now.range }
+    ensures { before_part place.now.key place.now.range ≡ free_blocks result }
 {
-    choice.key.start() < choice.range.start() || choice.range.end() < choice.key.end()
+    if place.key.start() >= place.range.start() {
+        return None;
+    }
+    Some(valid_range(place.key.start(), place.range.start() - 1))
 }
 
-/// Allocates the leaves for the parts of the free block before and after the range.
+/// Returns the part of the free block after the range, or `None` if it is empty.
+#[tactic(auto, using(crate::proofs::Splitting::SplitStates::block_parts))]
+fn part_after(place: &Place) -> Option<RangeInclusive>
+    requires { IsTakenFrom place.now.key place.now.range }
+    ensures { after_part place.now.key place.now.range ≡ free_blocks result }
+{
+    if place.range.end() >= place.key.end() {
+        return None;
+    }
+    Some(valid_range(place.range.end() + 1, place.key.end()))
+}
+
+/// Allocates the leaves for the parts of a free block before and after a range.
 ///
 /// It returns `OutOfMemory` if the allocation of a leaf fails.
-fn rest_of(alloc: Global, choice: &Choice) -> Result<Rest>
-    requires { IsTakenFrom choice.now.key choice.now.range }
-    ensures rest { IfOk result (λ rest. IsRest choice.now.key choice.now.range rest) }
+fn rest_of(
+    alloc: Global,
+    before: Option<RangeInclusive>,
+    after: Option<RangeInclusive>,
+) -> Result<Rest>
+    ensures rest { IfOk result (λ rest. (side rest.before ≡ leaf_of (free_blocks before))
+        × (side rest.after ≡ leaf_of (free_blocks after)) × AreLeaves rest) }
     ensures error { IfErr result (λ error. error ≡ Error.OutOfMemory) }
 {
-    let before = leaf_before(alloc, choice)?;
-    let after = leaf_after(alloc, choice)?;
+    let before = free_leaf(alloc, before)?;
+    let after = free_leaf(alloc, after)?;
     Ok(Rest { before, after })
 }
 
-/// Allocates a leaf for the part of the free block before the range, if that part is not empty.
-fn leaf_before(alloc: Global, choice: &Choice) -> Result<Child>
-    requires { IsTakenFrom choice.now.key choice.now.range }
-    ensures part { IfOk result (λ leaf. side leaf ≡ leaf_of (before_part choice.now.key choice.now.range)) }
+/// Allocates a leaf for a part of a free block, if there is a part.
+fn free_leaf(alloc: Global, part: Option<RangeInclusive>) -> Result<Child>
+    ensures part { IfOk result (λ leaf. side leaf ≡ leaf_of (free_blocks part)) }
     ensures leaf { IfOk result (λ leaf. IfSome leaf (λ n. IsLeaf n.value)) }
     ensures error { IfErr result (λ error. error ≡ Error.OutOfMemory) }
 {
-    if choice.key.start() >= choice.range.start() {
-        return Ok(None);
-    }
-    let key = valid_range(choice.key.start(), choice.range.start() - 1);
-    free_leaf(alloc, key)
-}
-
-/// Allocates a leaf for the part of the free block after the range, if that part is not empty.
-fn leaf_after(alloc: Global, choice: &Choice) -> Result<Child>
-    requires { IsTakenFrom choice.now.key choice.now.range }
-    ensures part { IfOk result (λ leaf. side leaf ≡ leaf_of (after_part choice.now.key choice.now.range)) }
-    ensures leaf { IfOk result (λ leaf. IfSome leaf (λ n. IsLeaf n.value)) }
-    ensures error { IfErr result (λ error. error ≡ Error.OutOfMemory) }
-{
-    if choice.range.end() >= choice.key.end() {
-        return Ok(None);
-    }
-    let key = valid_range(choice.range.end() + 1, choice.key.end());
-    free_leaf(alloc, key)
-}
-
-/// Allocates a leaf with a free block.
-fn free_leaf(alloc: Global, key: RangeInclusive) -> Result<Child>
-    ensures leaf { IfOk result (λ leaf. IfSome leaf (λ n. n.value ≡ single (free_block key))) }
-    ensures shape { IfOk result (λ leaf. side leaf ≡ single (free_block key)) }
-    ensures error { IfErr result (λ error. error ≡ Error.OutOfMemory) }
-{
+    let Some(key) = part else { return Ok(None) };
     let leaf = Box::new(alloc, InnerNode::new(Block::free(key)))?;
     Ok(Some(leaf))
 }

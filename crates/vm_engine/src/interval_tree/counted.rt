@@ -14,6 +14,7 @@ ghost use Rattle.vm_engine.specs.Tree.SpaceTree.{tree_state};
 
 use super::IntervalTree;
 use crate::node::InnerNode;
+use crate::node::edge::Edge;
 use std::alloc::Global;
 use std::marker::Model;
 use vm_ranges::{Constraint, RangeInclusive, Result};
@@ -30,23 +31,6 @@ impl Model for Steps {
     ghost Value = { ℕ };
 
     ghost view = { λ a. a.entered };
-}
-
-#[cfg(test)]
-impl Steps {
-    /// Creates a counter at 0, for tests of a node.
-    pub(crate) fn start() -> Steps
-        ensures { result ≡ 0 }
-    {
-        Steps { entered: 0 }
-    }
-
-    /// Returns the number of nodes entered so far.
-    pub(crate) fn entered(&self) -> u64
-        ensures { result ≡ self.now }
-    {
-        self.entered
-    }
 }
 
 impl InnerNode {
@@ -67,7 +51,7 @@ impl IntervalTree {
     /// # Errors
     ///
     /// Those of [`allocate`](Self::allocate), in the same order.
-    #[tactic(auto, using(crate::proofs::Counts::Granting::grantings, crate::proofs::Counts::GapBounds::of_trees, crate::proofs::Nodes::Spaces::states, crate::proofs::Answers::AddressAnswers::granted))]
+    #[tactic(auto, using(crate::proofs::Choosing::Searched::granting, crate::proofs::Counts::Granting::grantings, crate::proofs::Counts::GapBounds::of_trees, crate::proofs::Nodes::Spaces::states, crate::proofs::Answers::AddressAnswers::granted))]
     pub fn allocate_counted(
         &mut self,
         alloc: Global,
@@ -84,7 +68,12 @@ impl IntervalTree {
         ensures state { IsAddressState (tree_state self.new) }
     {
         let mut count = Steps { entered: 0 };
-        let answer = self.allocate_inner(alloc, constraint, &mut count);
+        let mut edge = Edge::new();
+        let place = match self.choose_place(constraint, &mut edge, &mut count) {
+            Ok(place) => place,
+            Err(error) => return (Err(error), count.entered),
+        };
+        let answer = self.allocate_at(alloc, place, &edge, &mut count);
         (answer, count.entered)
     }
 

@@ -1,13 +1,11 @@
 //! Chooses the range of a request, and finds the free block that contains it.
-ghost use Rattle.std.specs.Prelude.{◌≡◌, ◌≢◌, ◌+◌, ◌<◌, ◌≤◌, Some, None, IfErr, IfOk, OnOk, IfSome};
+ghost use Rattle.std.specs.Prelude.{◌≡◌, ◌≢◌, ◌+◌, ◌<◌, ◌≤◌, Some, None, IfErr, IfOk, OnOk};
 ghost use Rattle.vm_ranges.specs.Range.{MAX};
 ghost use Rattle.vm_ranges.specs.Request.{IsRequest};
-ghost use Rattle.vm_engine.specs.Tree.Block.{free_block};
-ghost use Rattle.vm_engine.specs.Tree.BlockEdits.{HasLength};
 ghost use Rattle.vm_engine.specs.Tree.Shape.{height_of, IsTree};
 ghost use Rattle.vm_engine.specs.Tree.SpaceTree.{IsSpaceTree};
-ghost use Rattle.vm_engine.specs.Engine.Choosing.{Chooses, ChoosesAt, ExactChoice, ExactChoiceIn};
-ghost use Rattle.vm_engine.specs.Engine.Outermost.{IsNewEdge, KnowsChoice};
+ghost use Rattle.vm_engine.specs.Engine.Choosing.{Chooses, ChoosesAt, ExactPlace, ExactPlaceIn};
+ghost use Rattle.vm_engine.specs.Engine.Outermost.{IsNewEdge, KnowsPlace};
 ghost use Rattle.vm_engine.specs.Counts.NodeCounts.{nodes_of_search};
 ghost use Rattle.vm_engine.specs.Counts.Steps.{NoneEndsBelowMax};
 ghost use Rattle.vm_engine.specs.Tree.SpaceTree.{tree_state};
@@ -16,8 +14,8 @@ ghost use Rattle.vm_ranges.specs.declared.constraint.AllocPolicy.TheVariants.{Ex
 use super::IntervalTree;
 use crate::Steps;
 use crate::node::edge::Edge;
+use crate::node::find::node_at;
 use crate::node::places::{Place, first_place, last_place};
-use crate::node::split::Choice;
 use crate::node::windows::{first_place_in, last_place_in};
 use crate::ordering::valid_range;
 use vm_ranges::{AllocPolicy, Constraint, Error, NodeState, RangeInclusive, Result};
@@ -31,7 +29,7 @@ impl IntervalTree {
         constraint: Constraint,
         edge: &mut Edge,
         count: &mut Steps,
-    ) -> Result<Choice>
+    ) -> Result<Place>
         requires start { (count.old ≡ 0) × IsNewEdge edge.old }
         ensures valid { IsRequest constraint }
         ensures answer { Chooses self.now constraint result }
@@ -39,7 +37,7 @@ impl IntervalTree {
             error ≡ Error.Overflow → NoneEndsBelowMax (tree_state self.now) constraint) }
         ensures no_memory { IfErr result (λ error. error ≢ Error.OutOfMemory) }
         ensures count { count.new ≡ count.old + nodes_of_search constraint self.now }
-        ensures gap { IfOk result (λ choice. KnowsChoice edge.new choice self.now) }
+        ensures gap { IfOk result (λ place. KnowsPlace edge.new place self.now) }
         ensures space { IsSpaceTree self.now × OnOk result (IsTree self.now) }
     {
         if let Some(window) = constraint.window() {
@@ -48,14 +46,8 @@ impl IntervalTree {
         let root = &self.root;
         let (size, align) = (constraint.size(), constraint.align());
         match constraint.policy() {
-            AllocPolicy::FirstMatch => {
-                let found = first_place(root, size, align, edge, count);
-                choice_at(found, size)
-            }
-            AllocPolicy::LastMatch => {
-                let found = last_place(root, size, align, edge, count);
-                choice_at(found, size)
-            }
+            AllocPolicy::FirstMatch => below_max(first_place(root, size, align, edge, count)),
+            AllocPolicy::LastMatch => below_max(last_place(root, size, align, edge, count)),
             AllocPolicy::ExactMatch(start) => self.exact_place(constraint, start, count),
         }
     }
@@ -71,7 +63,7 @@ impl IntervalTree {
         window: &RangeInclusive,
         constraint: Constraint,
         count: &mut Steps,
-    ) -> Result<Choice>
+    ) -> Result<Place>
         requires start { count.old ≡ 0 }
         requires window { constraint.window ≡ Some window.now }
         ensures answer { Chooses self.now constraint result }
@@ -85,13 +77,9 @@ impl IntervalTree {
         let (size, align) = (constraint.size(), constraint.align());
         match constraint.policy() {
             AllocPolicy::FirstMatch => {
-                let found = first_place_in(root, window, size, align, count);
-                choice_at(found, size)
+                below_max(first_place_in(root, window, size, align, count))
             }
-            AllocPolicy::LastMatch => {
-                let found = last_place_in(root, window, size, align, count);
-                choice_at(found, size)
-            }
+            AllocPolicy::LastMatch => below_max(last_place_in(root, window, size, align, count)),
             AllocPolicy::ExactMatch(start) => self.exact_place_in(window, constraint, start, count),
         }
     }
@@ -103,15 +91,15 @@ impl IntervalTree {
     /// - `Overflow` if `start` is `u64::MAX`.
     /// - `ResourceNotAvailable` if `start` is outside the space or outside the window.
     /// - `Overflow` if the range would end past `u64::MAX`.
-    /// - The error of `exact_choice_in`.
-    #[tactic(auto, using(crate::proofs::Choosing::ExactWindows::exact_choices_in, crate::proofs::Choosing::ExactPlaces::exact_past, crate::proofs::Choosing::ExactPlaces::exact_choice_past, crate::proofs::Counts::NodeCountBounds::exact_nodes))]
+    /// - The error of `place_in_window`.
+    #[tactic(auto, using(crate::proofs::Choosing::ExactWindows::exact_places_in, crate::proofs::Choosing::ExactPlaces::exact_past, crate::proofs::Choosing::ExactPlaces::exact_place_past, crate::proofs::Counts::NodeCountBounds::exact_nodes))]
     fn exact_place_in(
         &self,
         window: &RangeInclusive,
         constraint: Constraint,
         start: u64,
         count: &mut Steps,
-    ) -> Result<Choice>
+    ) -> Result<Place>
         requires policy { constraint.policy ≡ ExactMatch start }
         requires window { constraint.window ≡ Some window.now }
         requires count_fits { count.old + height_of self.now < MAX }
@@ -125,21 +113,16 @@ impl IntervalTree {
         if start == u64::MAX {
             return Err(Error::Overflow);
         }
-        let size = constraint.size();
-        let first = valid_range(start, start);
-        let Some(node) = self.root().search_superset(&first, count) else {
+        let Some(node) = node_at(&self.root, start, count) else {
             return Err(Error::ResourceNotAvailable);
         };
-        if start < window.start() {
+        if start < window.start() || window.end() < start {
             return Err(Error::ResourceNotAvailable);
         }
-        if window.end() < start {
-            return Err(Error::ResourceNotAvailable);
-        }
-        let Some(last) = start.checked_add(size - 1) else {
+        let Some(last) = start.checked_add(constraint.size() - 1) else {
             return Err(Error::Overflow);
         };
-        exact_choice_in(window, node.key(), node.state(), start, last)
+        place_in_window(window, node.key(), node.state(), start, last)
     }
 
     /// Returns the range at the start that an `ExactMatch` request names, if it is free.
@@ -148,9 +131,9 @@ impl IntervalTree {
     /// - `Overflow` if `start` is `u64::MAX`.
     /// - `ResourceNotAvailable` if `start` is outside the space.
     /// - `Overflow` if the range would end past `u64::MAX`.
-    /// - The error of `exact_choice`.
-    #[tactic(auto, using(crate::proofs::Choosing::ExactPlaces::exact_choices, crate::proofs::Counts::NodeCountBounds::exact_nodes))]
-    fn exact_place(&self, constraint: Constraint, start: u64, count: &mut Steps) -> Result<Choice>
+    /// - The error of `place_in_block`.
+    #[tactic(auto, using(crate::proofs::Choosing::ExactPlaces::exact_places, crate::proofs::Counts::NodeCountBounds::exact_nodes))]
+    fn exact_place(&self, constraint: Constraint, start: u64, count: &mut Steps) -> Result<Place>
         requires policy { constraint.policy ≡ ExactMatch start }
         requires whole { constraint.window ≡ None }
         requires count_fits { count.old + height_of self.now < MAX }
@@ -164,40 +147,32 @@ impl IntervalTree {
         if start == u64::MAX {
             return Err(Error::Overflow);
         }
-        let size = constraint.size();
-        let first = valid_range(start, start);
-        let Some(node) = self.root().search_superset(&first, count) else {
+        let Some(node) = node_at(&self.root, start, count) else {
             return Err(Error::ResourceNotAvailable);
         };
-        let Some(last) = start.checked_add(size - 1) else {
+        let Some(last) = start.checked_add(constraint.size() - 1) else {
             return Err(Error::Overflow);
         };
-        exact_choice(node.key(), node.state(), start, last)
+        place_in_block(node.key(), node.state(), start, last)
     }
 }
 
-/// Returns the `size` addresses that start at the place that a search found.
+/// Returns the place that a search found.
 ///
-/// It returns `ResourceNotAvailable` if the search found no place, and `Overflow` if the range ends
-/// at `u64::MAX`.
-#[tactic(auto, unfolding(crate::specs::Engine::Choosing::ChoosesBelowMax, crate::specs::Tree::BlockEdits::HasLength))]
-fn choice_at(found: Option<Place>, size: u64) -> Result<Choice>
-    requires sized { 0 < size }
-    requires room { IfSome found (λ place. HasLength place.start size (free_block place.key)) }
-    ensures answer { ChoosesAt found size result }
+/// It returns `ResourceNotAvailable` if the search found no place, and `Overflow` if the place ends at
+/// `u64::MAX`.
+#[tactic(auto, unfolding(crate::specs::Engine::Choosing::ChoosesBelowMax))]
+fn below_max(found: Option<Place>) -> Result<Place>
+    ensures answer { ChoosesAt found result }
     ensures no_memory { IfErr result (λ error. error ≢ Error.OutOfMemory) }
 {
     let Some(place) = found else {
         return Err(Error::ResourceNotAvailable);
     };
-    let last = place.start + (size - 1);
-    if last == u64::MAX {
+    if place.range.end() == u64::MAX {
         return Err(Error::Overflow);
     }
-    Ok(Choice {
-        key: place.key,
-        range: valid_range(place.start, last),
-    })
+    Ok(place)
 }
 
 /// Returns the range from `start` to `last`, if it is free. The block contains `start`.
@@ -210,10 +185,10 @@ fn choice_at(found: Option<Place>, size: u64) -> Result<Choice>
 ///   - `ResourceNotAvailable` if it ends before `last`.
 ///   - `Overflow` if `last` is `u64::MAX`.
 #[tactic(auto, using(crate::proofs::Choosing::ExactPlaces::blocks_of_starts))]
-fn exact_choice(key: RangeInclusive, state: NodeState, start: u64, last: u64) -> Result<Choice>
+fn place_in_block(key: RangeInclusive, state: NodeState, start: u64, last: u64) -> Result<Place>
     requires ordered { start ≤ last }
     requires below { start < MAX }
-    ensures answer { ExactChoice key state start last result }
+    ensures answer { ExactPlace key state start last result }
     ensures over { IfErr result (λ error. error ≡ Error.Overflow → last ≡ MAX) }
     ensures no_memory { IfErr result (λ error. error ≢ Error.OutOfMemory) }
 {
@@ -231,7 +206,7 @@ fn exact_choice(key: RangeInclusive, state: NodeState, start: u64, last: u64) ->
             if last == u64::MAX {
                 return Err(Error::Overflow);
             }
-            Ok(Choice {
+            Ok(Place {
                 key,
                 range: valid_range(start, last),
             })
@@ -242,29 +217,29 @@ fn exact_choice(key: RangeInclusive, state: NodeState, start: u64, last: u64) ->
 /// Returns the range from `start` to `last`, if it is free and `last` is in the window. The block
 /// contains `start`.
 ///
-/// The errors are those of `exact_choice`, but `ResourceNotAvailable` if the block is free and the
+/// The errors are those of `place_in_block`, but `ResourceNotAvailable` if the block is free and the
 /// window ends before `last`.
 #[tactic(auto, using(crate::proofs::Choosing::ExactWindows::blocks_in_windows))]
-fn exact_choice_in(
+fn place_in_window(
     window: &RangeInclusive,
     key: RangeInclusive,
     state: NodeState,
     start: u64,
     last: u64,
-) -> Result<Choice>
+) -> Result<Place>
     requires ordered { start ≤ last }
     requires below { start < MAX }
-    ensures answer { ExactChoiceIn window.now key state start last result }
+    ensures answer { ExactPlaceIn window.now key state start last result }
     ensures over { IfErr result (λ error. error ≡ Error.Overflow → last ≡ MAX) }
     ensures no_memory { IfErr result (λ error. error ≢ Error.OutOfMemory) }
 {
     match state {
-        NodeState::Allocated => exact_choice(key, state, start, last),
+        NodeState::Allocated => place_in_block(key, state, start, last),
         NodeState::Free => {
             if window.end() < last {
                 return Err(Error::ResourceNotAvailable);
             }
-            exact_choice(key, state, start, last)
+            place_in_block(key, state, start, last)
         }
     }
 }

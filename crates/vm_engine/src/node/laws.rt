@@ -17,7 +17,7 @@ fn node_numbers()
 {}
 
 /// States that a range is clear of ordered blocks exactly if it overlaps none of their keys.
-#[tactic(auto, using(crate::proofs::Nodes::FirstOverlaps::clearness))]
+#[tactic(auto, using(crate::proofs::Nodes::ClearRanges::clearness))]
 fn clear_means_no_overlap()
     ensures { (k : Range) (bs : List Block) → k.start ≤ k.end → IsOrderedFrom 0 bs →
         IsClearOf k bs ↔ All (λ b. ¬ Overlaps k b.key) bs }

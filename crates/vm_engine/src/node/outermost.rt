@@ -7,7 +7,7 @@
 ghost use Rattle.std.specs.Prelude.{◌≡◌, ◌+◌, ◌*◌, ◌<◌, ◌≤◌, IfSome};
 ghost use Rattle.vm_ranges.specs.Range.{MAX};
 ghost use Rattle.vm_engine.specs.Engine.NodeFields.{side};
-ghost use Rattle.vm_engine.specs.Engine.Outermost.{KnowsChoice, IsOnlyRest, IsSteadySplit};
+ghost use Rattle.vm_engine.specs.Engine.Outermost.{KnowsPlace, IsOnlyRest, IsSteadySplit};
 ghost use Rattle.vm_engine.specs.Engine.SplitBlocks.{with_split, AreLeaves, CanSplit};
 ghost use Rattle.vm_engine.specs.Tree.Shape.{MAX_HEIGHT, blocks, height_of, IsTree};
 ghost use Rattle.vm_engine.specs.Counts.NodeCounts.{nodes_to_split};
@@ -26,15 +26,15 @@ use vm_ranges::NodeState;
 #[tactic(auto, using(crate::proofs::Splitting::OutermostGaps::steady_splits))]
 pub(crate) fn split_gap(at: &mut Child, split: &mut Split, edge: &Edge, count: &mut Steps)
     requires can_be_split { AreLeaves split.old.rest
-        × CanSplit (blocks (side at.old)) split.old.choice.key split.old.choice.range split.old.rest }
-    requires gap { KnowsChoice edge.now split.old.choice (side at.old) }
+        × CanSplit (blocks (side at.old)) split.old.place.key split.old.place.range split.old.rest }
+    requires gap { KnowsPlace edge.now split.old.place (side at.old) }
     requires height { height_of (side at.old) < MAX_HEIGHT }
     requires count_fits { count.old + 2 * height_of (side at.old) < MAX }
     ensures blocks { blocks (side at.new)
-        ≡ with_split split.old.choice.key split.old.choice.range split.old.rest (blocks (side at.old)) }
+        ≡ with_split split.old.place.key split.old.place.range split.old.rest (blocks (side at.old)) }
     ensures height { height_of (side at.new) ≤ height_of (side at.old) + 1 }
     ensures count { count.new ≡ count.old
-        + nodes_to_split split.old.choice.key (side split.old.rest.before) (side split.old.rest.after) (side at.old) }
+        + nodes_to_split split.old.place.key (side split.old.rest.before) (side split.old.rest.after) (side at.old) }
 {
     match only_rest(split, edge) {
         Some(free) => split_below(at, split, &free, edge.steady, count),
@@ -56,7 +56,7 @@ fn only_rest(split: &Split, edge: &Edge) -> Option<Summary>
     }
     let before = summary_of(&split.rest.before);
     let after = summary_of(&split.rest.after);
-    let range = split.choice.range;
+    let range = split.place.range;
     let free = summary_at(1, before, after, &Block::held(range));
     if before.height != after.height
         && range.end() - range.start() <= free.max_free
@@ -76,11 +76,11 @@ fn split_below(at: &mut Child, split: &mut Split, free: &Summary, steady: u64, c
     requires height { height_of (side at.old) < MAX_HEIGHT }
     requires count_fits { count.old + 2 * height_of (side at.old) < MAX }
     ensures blocks { blocks (side at.new)
-        ≡ with_split split.old.choice.key split.old.choice.range split.old.rest (blocks (side at.old)) }
+        ≡ with_split split.old.place.key split.old.place.range split.old.rest (blocks (side at.old)) }
     ensures tree { IsTree (side at.new) }
     ensures height { height_of (side at.new) ≡ height_of (side at.old) }
     ensures count { count.new ≡ count.old
-        + nodes_to_split split.old.choice.key (side split.old.rest.before) (side split.old.rest.after) (side at.old) }
+        + nodes_to_split split.old.place.key (side split.old.rest.before) (side split.old.rest.after) (side at.old) }
 {
     if steady == 0 {
         split_at(at, split, count);
@@ -91,7 +91,7 @@ fn split_below(at: &mut Child, split: &mut Split, free: &Summary, steady: u64, c
     tree.enter(count);
     tree.summary.max_free = free.max_free;
     tree.summary.alignments = free.alignments;
-    match compare(&tree.block.key, &split.choice.key) {
+    match compare(&tree.block.key, &split.place.key) {
         Ordering::Equal => unreachable!(),
         Ordering::Greater => split_below(&mut tree.left, split, free, steady - 1, count),
         Ordering::Less => split_below(&mut tree.right, split, free, steady - 1, count),

@@ -1,11 +1,11 @@
 //! The searches for the lowest and for the highest place of a request.
 //!
 //! They are two functions, because a common one would branch on the direction at every node. They
-//! write the place into an `Option` of their caller, because returning it would copy 32 bytes at
+//! write the place into an `Option` of their caller, because returning it would copy 40 bytes at
 //! every level. Before a call enters a child, `may_fit` checks that the child exists and that its
 //! summary fits the request. They begin in `edge`.
 ghost use Rattle.std.specs.Prelude.{◌≡◌, ℕ, ◌+◌, ◌<◌, ◌≤◌, true, false, None, IfSome, MatchOption};
-ghost use Rattle.vm_ranges.specs.Range.{MAX};
+ghost use Rattle.vm_ranges.specs.Range.{MAX, span};
 ghost use Rattle.vm_ranges.specs.Alignment.{IsAlignment};
 ghost use Rattle.vm_engine.specs.Tree.Block.{free_block};
 ghost use Rattle.vm_engine.specs.Tree.Fit.{FindsLowestFit, FindsHighestFit};
@@ -19,15 +19,28 @@ use super::edge::Edge;
 use super::{Child, InnerNode};
 use crate::Steps;
 use crate::block::Block;
-use vm_ranges::{NodeState, RangeInclusive, align_down, align_up};
+use crate::ordering::valid_range;
+use vm_ranges::{NodeState, RangeInclusive, highest_multiple};
 
-/// An address in a free block at which a request can start.
+/// A range for a request, and the free block that contains it.
 #[derive(Clone, Copy, Debug)]
 pub(crate) struct Place {
     /// The free block.
     pub(crate) key: RangeInclusive,
-    /// An address of the block.
-    pub(crate) start: u64,
+    /// The range, within that block.
+    pub(crate) range: RangeInclusive,
+}
+
+impl Place {
+    /// Creates the place of the `size` addresses that start at `start`, within the free block `key`.
+    pub(crate) fn new(key: RangeInclusive, start: u64, size: u64) -> Place
+        requires sized { 0 < size }
+        requires within { (key.start ≤ start) × (start + size ≤ key.end + 1) }
+        ensures { result ≡ record { key = key; range = span start size } }
+    {
+        let range = valid_range(start, start + (size - 1));
+        Place { key, range }
+    }
 }
 
 /// Returns the lowest multiple of `alignment` at which `size` addresses fit into the block.
@@ -56,10 +69,8 @@ fn lowest_in_free(key: &RangeInclusive, size: u64, alignment: u64) -> Option<u64
     requires aligned { IsAlignment alignment }
     ensures { FindsLowestFit size alignment (free_block key.now) result }
 {
-    let Ok(start) = align_up(key.start(), alignment) else {
-        return None;
-    };
-    let end = key.end();
+    let last = key.start().checked_add(alignment - 1)?;
+    let (start, end) = (highest_multiple(last, alignment), key.end());
     if start <= end && size - 1 <= end - start {
         Some(start)
     } else {
@@ -97,9 +108,7 @@ fn highest_in_free(key: &RangeInclusive, size: u64, alignment: u64) -> Option<u6
     if end - start < size - 1 {
         return None;
     }
-    let Ok(place) = align_down(end - (size - 1), alignment) else {
-        return None;
-    };
+    let place = highest_multiple(end - (size - 1), alignment);
     if start <= place { Some(place) } else { None }
 }
 
@@ -197,7 +206,7 @@ pub(crate) fn last_place(
 impl InnerNode {
     /// Writes the lowest place in the subtree to `found`, if there is a place.
     #[tactic(auto, using(crate::proofs::Choosing::PlaceSearch::firsts, crate::proofs::Counts::Searching::firsts))]
-    pub(super) fn first_place(
+    pub(super) fn search_first(
         &self,
         size: u64,
         alignment: u64,
@@ -215,26 +224,23 @@ impl InnerNode {
     {
         self.enter(count);
         if let Some(left) = may_fit(&self.left, size, alignment) {
-            left.first_place(size, alignment, found, count);
+            left.search_first(size, alignment, found, count);
             if found.is_some() {
                 return;
             }
         }
         if let Some(start) = lowest_fit(&self.block, size, alignment) {
-            *found = Some(Place {
-                key: self.block.key,
-                start,
-            });
+            *found = Some(Place::new(self.block.key, start, size));
             return;
         }
         if let Some(right) = may_fit(&self.right, size, alignment) {
-            right.first_place(size, alignment, found, count);
+            right.search_first(size, alignment, found, count);
         }
     }
 
     /// Writes the highest place in the subtree to `found`, if there is a place.
     #[tactic(auto, using(crate::proofs::Choosing::PlaceSearch::lasts, crate::proofs::Counts::Searching::lasts))]
-    pub(super) fn last_place(
+    pub(super) fn search_last(
         &self,
         size: u64,
         alignment: u64,
@@ -252,20 +258,17 @@ impl InnerNode {
     {
         self.enter(count);
         if let Some(right) = may_fit(&self.right, size, alignment) {
-            right.last_place(size, alignment, found, count);
+            right.search_last(size, alignment, found, count);
             if found.is_some() {
                 return;
             }
         }
         if let Some(start) = highest_fit(&self.block, size, alignment) {
-            *found = Some(Place {
-                key: self.block.key,
-                start,
-            });
+            *found = Some(Place::new(self.block.key, start, size));
             return;
         }
         if let Some(left) = may_fit(&self.left, size, alignment) {
-            left.last_place(size, alignment, found, count);
+            left.search_last(size, alignment, found, count);
         }
     }
 }

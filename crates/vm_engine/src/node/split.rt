@@ -18,13 +18,13 @@ ghost use Rattle.vm_engine.specs.Engine.NodeFields.{side};
 
 use super::balance::update;
 use super::link::link_at;
+use super::places::Place;
 use super::summary::{Change, refresh_free};
 use super::{Child, InnerNode};
 use crate::Steps;
 use crate::block::Block;
 use crate::ordering::compare;
 use std::cmp::Ordering;
-use vm_ranges::{NodeState, RangeInclusive};
 
 /// The parts of a free block before and after a range. Each is a leaf, or absent if it is empty.
 #[derive(Drop)]
@@ -52,20 +52,11 @@ fn link_if_some(child: &mut Child, leaf: Child, count: &mut Steps)
     }
 }
 
-/// A range to allocate, and the free block that contains it.
-#[derive(Clone, Copy)]
-pub(crate) struct Choice {
-    /// The free block.
-    pub(crate) key: RangeInclusive,
-    /// The range, within that block.
-    pub(crate) range: RangeInclusive,
-}
-
 /// A split: the range with its free block, and the leaves that are not linked yet.
 #[derive(Drop)]
 pub(crate) struct Split {
     /// The range, and the free block that contains it.
-    pub(crate) choice: Choice,
+    pub(crate) place: Place,
     /// The parts of the block before and after the range.
     pub(crate) rest: Rest,
 }
@@ -77,18 +68,18 @@ pub(crate) struct Split {
 fn split_here(at: &mut Child, split: &mut Split, count: &mut Steps) -> Change
     requires some { IsSome at.old }
     requires leaves { AreLeaves split.old.rest }
-    requires can_be_split { CanSplit (blocks (side at.old)) (root_block (side at.old)).key split.old.choice.range split.old.rest }
+    requires can_be_split { CanSplit (blocks (side at.old)) (root_block (side at.old)).key split.old.place.range split.old.rest }
     requires height { height_of (side at.old) < MAX_HEIGHT }
     requires count_fits { count.old + 2 * height_of (side at.old) ≤ MAX }
     ensures blocks { blocks (side at.new)
-        ≡ with_split (root_block (side at.old)).key split.old.choice.range split.old.rest (blocks (side at.old)) }
+        ≡ with_split (root_block (side at.old)).key split.old.place.range split.old.rest (blocks (side at.old)) }
     ensures grows { Grows (side at.old) (side at.new) result }
     ensures count { count.new
         ≡ count.old + nodes_to_link_both (side split.old.rest.before) (side split.old.rest.after) (side at.old) }
 {
     let Some(tree) = at else { unreachable!() };
     let tree: &mut InnerNode = tree;
-    tree.block = Block::held(split.choice.range);
+    tree.block = Block::held(split.place.range);
     link_if_some(&mut tree.left, split.rest.before.take(), count);
     link_if_some(&mut tree.right, split.rest.after.take(), count);
     let updated = update(
@@ -107,21 +98,21 @@ fn split_here(at: &mut Child, split: &mut Split, count: &mut Steps) -> Change
 #[tactic(auto, using(crate::proofs::Splitting::SplitTrees::split_steps, crate::proofs::Counts::SplitCounts::nodes_to_split_cases))]
 pub(crate) fn split_at(at: &mut Child, split: &mut Split, count: &mut Steps) -> Change
     requires leaves { AreLeaves split.old.rest }
-    requires can_be_split { CanSplit (blocks (side at.old)) split.old.choice.key split.old.choice.range split.old.rest }
+    requires can_be_split { CanSplit (blocks (side at.old)) split.old.place.key split.old.place.range split.old.rest }
     requires height { height_of (side at.old) < MAX_HEIGHT }
     requires count_fits { count.old + 2 * height_of (side at.old) < MAX }
     ensures blocks { blocks (side at.new)
-        ≡ with_split split.old.choice.key split.old.choice.range split.old.rest (blocks (side at.old)) }
+        ≡ with_split split.old.place.key split.old.place.range split.old.rest (blocks (side at.old)) }
     ensures grows { Grows (side at.old) (side at.new) result }
-    ensures adds_leaf { IsLeafAt split.old.choice.key (side at.old) → HasOnePart split.old.rest
+    ensures adds_leaf { IsLeafAt split.old.place.key (side at.old) → HasOnePart split.old.rest
         → AddsLeaf (side at.old) (side at.new) }
     ensures count { count.new ≡ count.old
-        + nodes_to_split split.old.choice.key (side split.old.rest.before) (side split.old.rest.after) (side at.old) }
+        + nodes_to_split split.old.place.key (side split.old.rest.before) (side split.old.rest.after) (side at.old) }
 {
     let Some(tree) = at else { unreachable!() };
     let tree: &mut InnerNode = tree;
     tree.enter(count);
-    let change = match compare(&tree.block.key, &split.choice.key) {
+    let change = match compare(&tree.block.key, &split.place.key) {
         Ordering::Equal => return split_here(at, split, count),
         Ordering::Greater => split_at(&mut tree.left, split, count),
         Ordering::Less => split_at(&mut tree.right, split, count),

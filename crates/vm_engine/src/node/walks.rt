@@ -19,8 +19,6 @@ pub(crate) mod copying;
 pub(crate) mod encoding;
 pub(crate) mod gaps;
 pub(crate) mod held;
-#[cfg(test)]
-pub(crate) mod shapes;
 
 use super::{Child, InnerNode};
 use crate::block::Block;

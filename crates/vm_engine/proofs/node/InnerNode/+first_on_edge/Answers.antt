@@ -13,7 +13,7 @@ returns-in-Some-clause-gap t c =
     let left : side c.self.inside.left ≡ Tip = grind (arith, common_steps) in
     let right : side c.self.inside.right ≡ Tip = grind (arith, common_steps) in
     let free : c.self.inside.block.state ≡ Free = grind (arith, common_steps) in
-    (omega arith, gap_at_leaf c.args.size c.in-Some.start _ _ _ _ (sym (rw (left, right) at c.self.view_is)) refl free)
+    (omega arith, rw c.new.ensures (gap_at_leaf c.args.size c.in-Some.start _ _ _ _ (sym (rw (left, right) at c.self.view_is)) refl free))
 
 pub first_on_edge-requires : goal.first_on_edge-requires
 first_on_edge-requires t c =

@@ -21,8 +21,8 @@ split_at-change-requires t c =
     let i = c.tree.inside in
     let e : side c.args.at.now ≡ shape_of i = cc in
     let tree : IsTree (side c.args.at.now) = rw e c.tree.invariant.tree in
-    let known = known_left (side c.args.at.now) (side i.left) _ (side i.right) c.args.split.now.choice.key e c.in-Greater.ensures tree c.requires.can_be_split.known in
-    let ordered = rewritten_left (side c.args.at.now) (side i.left) _ (side i.right) c.args.split.now.choice.key _ e c.in-Greater.ensures tree c.requires.can_be_split.ordered in
+    let known = known_left (side c.args.at.now) (side i.left) _ (side i.right) c.args.split.now.place.key e c.in-Greater.ensures tree c.requires.can_be_split.known in
+    let ordered = rewritten_left (side c.args.at.now) (side i.left) _ (side i.right) c.args.split.now.place.key _ e c.in-Greater.ensures tree c.requires.can_be_split.ordered in
     (search rules, (c.requires.leaves, (record { known = known; ordered = ordered }, (grind arith, grind arith))))
 
 pub split_at-change-requires-in-Less : goal.split_at-change-requires-in-Less
@@ -30,8 +30,8 @@ split_at-change-requires-in-Less t c =
     let i = c.tree.inside in
     let e : side c.args.at.now ≡ shape_of i = cc in
     let tree : IsTree (side c.args.at.now) = rw e c.tree.invariant.tree in
-    let known = known_right (side c.args.at.now) (side i.left) _ (side i.right) c.args.split.now.choice.key e c.in-Less.ensures tree c.requires.can_be_split.known in
-    let ordered = rewritten_right (side c.args.at.now) (side i.left) _ (side i.right) c.args.split.now.choice.key _ e c.in-Less.ensures tree c.requires.can_be_split.ordered in
+    let known = known_right (side c.args.at.now) (side i.left) _ (side i.right) c.args.split.now.place.key e c.in-Less.ensures tree c.requires.can_be_split.known in
+    let ordered = rewritten_right (side c.args.at.now) (side i.left) _ (side i.right) c.args.split.now.place.key _ e c.in-Less.ensures tree c.requires.can_be_split.ordered in
     (search rules, (c.requires.leaves, (record { known = known; ordered = ordered }, (grind arith, grind arith))))
 
 -- The node over a child whose summary is unchanged.
@@ -101,8 +101,8 @@ pub returns-in-Equal-clause-adds_leaf : goal.returns-in-Equal-clause-adds_leaf
 returns-in-Equal-clause-adds_leaf t c =
     let i = c.tree.inside in
     let e : side c.args.at.now ≡ shape_of i = search rules in
-    let key : i.block.key ≡ c.args.split.now.choice.key = c.in-Equal.ensures in
-    let new : blocks (side c.split_here.new.at) ≡ with_split c.args.split.now.choice.key c.args.split.now.choice.range c.args.split.now.rest (blocks (side c.args.at.now)) = grind (arith, common_steps) in
+    let key : i.block.key ≡ c.args.split.now.place.key = c.in-Equal.ensures in
+    let new : blocks (side c.split_here.new.at) ≡ with_split c.args.split.now.place.key c.args.split.now.place.range c.args.split.now.rest (blocks (side c.args.at.now)) = grind (arith, common_steps) in
     λ leaf one. leaf_split _ _ (side i.left) _ (side i.right) _ _ _ e (sym key) (rw e c.tree.invariant.tree) leaf c.requires.leaves one new
 
 pub returns-in-Nothing-clause-blocks : goal.returns-in-Nothing-clause-blocks
@@ -152,7 +152,7 @@ returns-in-Height t c =
           let r = w.split_at-change-in-Less in
           grown_right c.tree.inside r.new.at r.result _ _ c.tree.invariant r.ensures.grows (rw w.tree-inside-is at f)
     ]) in
-    let adds : IsLeafAt c.args.split.now.choice.key (side c.args.at.now) → HasOnePart c.args.split.now.rest → AddsLeaf (side c.args.at.now) (side c.rebalance.new.at) = rw e (elim c.match-compare.branch [
+    let adds : IsLeafAt c.args.split.now.place.key (side c.args.at.now) → HasOnePart c.args.split.now.rest → AddsLeaf (side c.args.at.now) (side c.rebalance.new.at) = rw e (elim c.match-compare.branch [
       | in-Greater w ↦
           let l = w.split_at-change in
           λ leaf one. added_left _ _ _ _ (rw w.tree-inside-is at f) (side c.tree.inside.left) c.tree.invariant.tree.balanced.2 (l.ensures.adds_leaf (leaf_left _ _ _ _ w.in-Greater.ensures leaf) one)

@@ -19,13 +19,13 @@ pub link_if_some-requires-clause-clear : goal.link_if_some-requires-clause-clear
 link_if_some-requires-clause-clear c =
     let i = c.tree.inside in
     let e : side c.args.at.now ≡ shape_of i = cc in
-    rw c.take.ensures.value (before_clear (shape_of i) (side i.left) _ (side i.right) (blocks (side c.args.split.now.rest.before)) (blocks (side c.args.split.now.rest.after)) (held_block c.args.split.now.choice.range) refl c.tree.invariant.tree (rw e at c.requires.can_be_split.ordered))
+    rw c.take.ensures.value (before_clear (shape_of i) (side i.left) _ (side i.right) (blocks (side c.args.split.now.rest.before)) (blocks (side c.args.split.now.rest.after)) (held_block c.args.split.now.place.range) refl c.tree.invariant.tree (rw e at c.requires.can_be_split.ordered))
 
 pub link_if_some-requires-2-clause-clear : goal.link_if_some-requires-2-clause-clear
 link_if_some-requires-2-clause-clear c =
     let i = c.tree.inside in
     let e : side c.args.at.now ≡ shape_of i = cc in
-    rw c.take-2.ensures.value (after_clear (shape_of i) (side i.left) _ (side i.right) (blocks (side c.args.split.now.rest.before)) (blocks (side c.args.split.now.rest.after)) (held_block c.args.split.now.choice.range) refl c.tree.invariant.tree (rw e at c.requires.can_be_split.ordered))
+    rw c.take-2.ensures.value (after_clear (shape_of i) (side i.left) _ (side i.right) (blocks (side c.args.split.now.rest.before)) (blocks (side c.args.split.now.rest.after)) (held_block c.args.split.now.place.range) refl c.tree.invariant.tree (rw e at c.requires.can_be_split.ordered))
 
 pub invariant_of-tree : goal.invariant_of-tree
 invariant_of-tree c =

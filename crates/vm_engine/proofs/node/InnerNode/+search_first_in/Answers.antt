@@ -8,30 +8,30 @@ use Rattle.vm_engine.specs.Counts.NodeCounts.{nodes_of_first_in}
 use Rattle.vm_engine.proofs.Choosing.PlaceSearch.{nothing_found, still_nothing}
 use Rattle.vm_engine.proofs.Choosing.WindowSearch.{none_left, none_right, none_of_in, first_here_in, first_through_right_in}
 use Rattle.vm_engine.proofs.Counts.WindowSearching.{child_passed, child_entered, first_nodes_passed_in, first_nodes_here_in, first_nodes_right_in}
-use Rattle.vm_engine.proofs.node.InnerNode.+first_in.Goals.{in-Some+else-is_some, in_default}
-use Rattle.vm_engine.proofs.node.InnerNode.+first_in.Goals as goal
+use Rattle.vm_engine.proofs.node.InnerNode.+search_first_in.Goals.{in-Some+else-is_some, in_default}
+use Rattle.vm_engine.proofs.node.InnerNode.+search_first_in.Goals as goal
 
 pub returns-in-Some-lowest_fit_in-clause-place : goal.returns-in-Some-lowest_fit_in-clause-place
 returns-in-Some-lowest_fit_in-clause-place t c =
     let none : All (HasNoFitIn c.args.window.now c.args.size c.args.alignment) (blocks (side c.self.inside.left)) =
     elim c.match-left_in.branch [
-      | in-Some+else-is_some w ↦ rw w.in-Some.ensures.0 (nothing_found w.first_in.new.found _ _ w.first_in.ensures.place (sym w.if-is_some.ensures))
+      | in-Some+else-is_some w ↦ rw w.in-Some.ensures.0 (nothing_found w.search_first_in.new.found _ _ w.search_first_in.ensures.place (sym w.if-is_some.ensures))
       | in_default w ↦ none_left c.args.window.now c.args.size c.args.alignment _ _ _ _ (sym c.self.view_is) c.self.invariant.tree c.requires.request.0 c.requires.request.1 w.in_default.ensures
     ] in
-    first_here_in _ _ _ _ _ _ _ (sym c.self.view_is) _ none c.in-Some-lowest_fit_in.ensures
+    rw c.new.ensures (first_here_in _ _ _ _ _ _ _ (sym c.self.view_is) _ none c.in-Some-lowest_fit_in.ensures)
 
 pub returns-in-Some-lowest_fit_in-clause-count : goal.returns-in-Some-lowest_fit_in-clause-count
 returns-in-Some-lowest_fit_in-clause-count t c =
     let none : All (HasNoFitIn c.args.window.now c.args.size c.args.alignment) (blocks (side c.self.inside.left)) =
     elim c.match-left_in.branch [
-      | in-Some+else-is_some w ↦ rw w.in-Some.ensures.0 (nothing_found w.first_in.new.found _ _ w.first_in.ensures.place (sym w.if-is_some.ensures))
+      | in-Some+else-is_some w ↦ rw w.in-Some.ensures.0 (nothing_found w.search_first_in.new.found _ _ w.search_first_in.ensures.place (sym w.if-is_some.ensures))
       | in_default w ↦ none_left c.args.window.now c.args.size c.args.alignment _ _ _ _ (sym c.self.view_is) c.self.invariant.tree c.requires.request.0 c.requires.request.1 w.in_default.ensures
     ] in
     let left : c.match-left_in.count ≡ c.enter.new.count + cond (ltb c.args.window.now.start c.self.inside.block.key.start) (nodes_of_first_in c.args.window.now c.args.size c.args.alignment (side c.self.inside.left)) 0 =
     elim c.match-left_in.branch [
       | in-Some+else-is_some w ↦
           let in_left = child_entered c.args.window.now c.args.size c.args.alignment (nodes_of_first_in c.args.window.now c.args.size c.args.alignment) c.args.window.now.start c.self.inside.block.key.start (side c.self.inside.left) _ w.in-Some.ensures.0 w.in-Some.ensures.2 in
-          omega (arith, in_left, w.count-is, w.first_in.ensures.count)
+          omega (arith, in_left, w.count-is, w.search_first_in.ensures.count)
       | in_default w ↦
           let passed = child_passed c.args.window.now c.args.size c.args.alignment (nodes_of_first_in c.args.window.now c.args.size c.args.alignment) c.args.window.now.start c.self.inside.block.key.start (side c.self.inside.left) w.in_default.ensures (first_nodes_passed_in c.args.window.now c.args.size c.args.alignment) in
           omega (arith, passed, w.count-is)
@@ -43,36 +43,36 @@ pub returns-in-Some-right_in-clause-place : goal.returns-in-Some-right_in-clause
 returns-in-Some-right_in-clause-place t c =
     let none : All (HasNoFitIn c.args.window.now c.args.size c.args.alignment) (blocks (side c.self.inside.left)) =
     elim c.match-left_in.branch [
-      | in-Some+else-is_some w ↦ rw w.in-Some.ensures.0 (nothing_found w.first_in.new.found _ _ w.first_in.ensures.place (sym w.if-is_some.ensures))
+      | in-Some+else-is_some w ↦ rw w.in-Some.ensures.0 (nothing_found w.search_first_in.new.found _ _ w.search_first_in.ensures.place (sym w.if-is_some.ensures))
       | in_default w ↦ none_left c.args.window.now c.args.size c.args.alignment _ _ _ _ (sym c.self.view_is) c.self.invariant.tree c.requires.request.0 c.requires.request.1 w.in_default.ensures
     ] in
-    first_through_right_in _ _ _ _ _ _ _ (sym c.self.view_is) c.first_in-in-Some-right_in.new.found none c.in_default-lowest_fit_in.ensures (rw c.in-Some-right_in.ensures.0 c.first_in-in-Some-right_in.ensures.place)
+    first_through_right_in _ _ _ _ _ _ _ (sym c.self.view_is) c.search_first_in-in-Some-right_in.new.found none c.in_default-lowest_fit_in.ensures (rw c.in-Some-right_in.ensures.0 c.search_first_in-in-Some-right_in.ensures.place)
 
 pub returns-in-Some-right_in-clause-count : goal.returns-in-Some-right_in-clause-count
 returns-in-Some-right_in-clause-count t c =
     let none : All (HasNoFitIn c.args.window.now c.args.size c.args.alignment) (blocks (side c.self.inside.left)) =
     elim c.match-left_in.branch [
-      | in-Some+else-is_some w ↦ rw w.in-Some.ensures.0 (nothing_found w.first_in.new.found _ _ w.first_in.ensures.place (sym w.if-is_some.ensures))
+      | in-Some+else-is_some w ↦ rw w.in-Some.ensures.0 (nothing_found w.search_first_in.new.found _ _ w.search_first_in.ensures.place (sym w.if-is_some.ensures))
       | in_default w ↦ none_left c.args.window.now c.args.size c.args.alignment _ _ _ _ (sym c.self.view_is) c.self.invariant.tree c.requires.request.0 c.requires.request.1 w.in_default.ensures
     ] in
     let left : c.match-left_in.count ≡ c.enter.new.count + cond (ltb c.args.window.now.start c.self.inside.block.key.start) (nodes_of_first_in c.args.window.now c.args.size c.args.alignment (side c.self.inside.left)) 0 =
     elim c.match-left_in.branch [
       | in-Some+else-is_some w ↦
           let in_left = child_entered c.args.window.now c.args.size c.args.alignment (nodes_of_first_in c.args.window.now c.args.size c.args.alignment) c.args.window.now.start c.self.inside.block.key.start (side c.self.inside.left) _ w.in-Some.ensures.0 w.in-Some.ensures.2 in
-          omega (arith, in_left, w.count-is, w.first_in.ensures.count)
+          omega (arith, in_left, w.count-is, w.search_first_in.ensures.count)
       | in_default w ↦
           let passed = child_passed c.args.window.now c.args.size c.args.alignment (nodes_of_first_in c.args.window.now c.args.size c.args.alignment) c.args.window.now.start c.self.inside.block.key.start (side c.self.inside.left) w.in_default.ensures (first_nodes_passed_in c.args.window.now c.args.size c.args.alignment) in
           omega (arith, passed, w.count-is)
     ] in
     let right = child_entered c.args.window.now c.args.size c.args.alignment (nodes_of_first_in c.args.window.now c.args.size c.args.alignment) c.self.inside.block.key.end c.args.window.now.end (side c.self.inside.right) _ c.in-Some-right_in.ensures.0 c.in-Some-right_in.ensures.2 in
     let nodes = first_nodes_right_in c.args.window.now c.args.size c.args.alignment _ _ _ _ (sym c.self.view_is) c.requires.request.1 c.requires.may_fit none c.in_default-lowest_fit_in.ensures in
-    omega (arith, nodes, left, right, c.enter.ensures, c.first_in-in-Some-right_in.ensures.count)
+    omega (arith, nodes, left, right, c.enter.ensures, c.search_first_in-in-Some-right_in.ensures.count)
 
 pub returns-in_default-right_in-clause-place : goal.returns-in_default-right_in-clause-place
 returns-in_default-right_in-clause-place t c =
     let none : All (HasNoFitIn c.args.window.now c.args.size c.args.alignment) (blocks (side c.self.inside.left)) =
     elim c.match-left_in.branch [
-      | in-Some+else-is_some w ↦ rw w.in-Some.ensures.0 (nothing_found w.first_in.new.found _ _ w.first_in.ensures.place (sym w.if-is_some.ensures))
+      | in-Some+else-is_some w ↦ rw w.in-Some.ensures.0 (nothing_found w.search_first_in.new.found _ _ w.search_first_in.ensures.place (sym w.if-is_some.ensures))
       | in_default w ↦ none_left c.args.window.now c.args.size c.args.alignment _ _ _ _ (sym c.self.view_is) c.self.invariant.tree c.requires.request.0 c.requires.request.1 w.in_default.ensures
     ] in
     let right = none_right c.args.window.now c.args.size c.args.alignment _ _ _ _ (sym c.self.view_is) c.self.invariant.tree c.requires.request.0 c.requires.request.1 c.in_default-right_in.ensures in
@@ -87,14 +87,14 @@ pub returns-in_default-right_in-clause-count : goal.returns-in_default-right_in-
 returns-in_default-right_in-clause-count t c =
     let none : All (HasNoFitIn c.args.window.now c.args.size c.args.alignment) (blocks (side c.self.inside.left)) =
     elim c.match-left_in.branch [
-      | in-Some+else-is_some w ↦ rw w.in-Some.ensures.0 (nothing_found w.first_in.new.found _ _ w.first_in.ensures.place (sym w.if-is_some.ensures))
+      | in-Some+else-is_some w ↦ rw w.in-Some.ensures.0 (nothing_found w.search_first_in.new.found _ _ w.search_first_in.ensures.place (sym w.if-is_some.ensures))
       | in_default w ↦ none_left c.args.window.now c.args.size c.args.alignment _ _ _ _ (sym c.self.view_is) c.self.invariant.tree c.requires.request.0 c.requires.request.1 w.in_default.ensures
     ] in
     let left : c.match-left_in.count ≡ c.enter.new.count + cond (ltb c.args.window.now.start c.self.inside.block.key.start) (nodes_of_first_in c.args.window.now c.args.size c.args.alignment (side c.self.inside.left)) 0 =
     elim c.match-left_in.branch [
       | in-Some+else-is_some w ↦
           let in_left = child_entered c.args.window.now c.args.size c.args.alignment (nodes_of_first_in c.args.window.now c.args.size c.args.alignment) c.args.window.now.start c.self.inside.block.key.start (side c.self.inside.left) _ w.in-Some.ensures.0 w.in-Some.ensures.2 in
-          omega (arith, in_left, w.count-is, w.first_in.ensures.count)
+          omega (arith, in_left, w.count-is, w.search_first_in.ensures.count)
       | in_default w ↦
           let passed = child_passed c.args.window.now c.args.size c.args.alignment (nodes_of_first_in c.args.window.now c.args.size c.args.alignment) c.args.window.now.start c.self.inside.block.key.start (side c.self.inside.left) w.in_default.ensures (first_nodes_passed_in c.args.window.now c.args.size c.args.alignment) in
           omega (arith, passed, w.count-is)

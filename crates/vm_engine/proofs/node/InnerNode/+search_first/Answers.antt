@@ -7,33 +7,33 @@ use Rattle.vm_engine.specs.Tree.Shape.{blocks}
 use Rattle.vm_engine.specs.Engine.NodeFields.{side}
 use Rattle.vm_engine.proofs.Choosing.PlaceSearch.{nothing_found, still_nothing, none_of, first_here, first_through_right, firsts}
 use Rattle.vm_engine.proofs.Counts.Entering.{none_unless_searched}
-use Rattle.vm_engine.proofs.node.InnerNode.+first_place.Goals.{in-Some+else-is_some, in_default}
+use Rattle.vm_engine.proofs.node.InnerNode.+search_first.Goals.{in-Some+else-is_some, in_default}
 use Rattle.vm_engine.proofs.Counts.Searching.{firsts as searches}
-use Rattle.vm_engine.proofs.node.InnerNode.+first_place.Goals as goal
+use Rattle.vm_engine.proofs.node.InnerNode.+search_first.Goals as goal
 
 pub returns-in-Some-lowest_fit-clause-place : goal.returns-in-Some-lowest_fit-clause-place
 returns-in-Some-lowest_fit-clause-place t c =
     let none : All (HasNoFit c.args.size c.args.alignment) (blocks (side c.self.inside.left)) =
     elim c.match-may_fit.branch [
-      | in-Some+else-is_some w ↦ rw w.in-Some.ensures.0 (nothing_found w.first_place.new.found _ _ w.first_place.ensures.place (sym w.if-is_some.ensures))
+      | in-Some+else-is_some w ↦ rw w.in-Some.ensures.0 (nothing_found w.search_first.new.found _ _ w.search_first.ensures.place (sym w.if-is_some.ensures))
       | in_default w ↦ none_unless_searched _ _ _ c.requires.request.0 c.requires.request.1 w.in_default.ensures
     ] in
-    first_here c.args.size c.args.alignment _ _ _ _ _ (sym c.self.view_is) none c.in-Some-lowest_fit.ensures
+    rw c.new.ensures (first_here c.args.size c.args.alignment _ _ _ _ _ (sym c.self.view_is) none c.in-Some-lowest_fit.ensures)
 
 pub returns-in-Some-may_fit-clause-place : goal.returns-in-Some-may_fit-clause-place
 returns-in-Some-may_fit-clause-place t c =
     let none : All (HasNoFit c.args.size c.args.alignment) (blocks (side c.self.inside.left)) =
     elim c.match-may_fit.branch [
-      | in-Some+else-is_some w ↦ rw w.in-Some.ensures.0 (nothing_found w.first_place.new.found _ _ w.first_place.ensures.place (sym w.if-is_some.ensures))
+      | in-Some+else-is_some w ↦ rw w.in-Some.ensures.0 (nothing_found w.search_first.new.found _ _ w.search_first.ensures.place (sym w.if-is_some.ensures))
       | in_default w ↦ none_unless_searched _ _ _ c.requires.request.0 c.requires.request.1 w.in_default.ensures
     ] in
-    first_through_right c.args.size c.args.alignment _ _ _ _ c.first_place-in-Some-may_fit.new.found (sym c.self.view_is) none c.in_default-lowest_fit.ensures (rw c.in-Some-may_fit.ensures.0 c.first_place-in-Some-may_fit.ensures.place)
+    first_through_right c.args.size c.args.alignment _ _ _ _ c.search_first-in-Some-may_fit.new.found (sym c.self.view_is) none c.in_default-lowest_fit.ensures (rw c.in-Some-may_fit.ensures.0 c.search_first-in-Some-may_fit.ensures.place)
 
 pub returns-in_default-may_fit-clause-place : goal.returns-in_default-may_fit-clause-place
 returns-in_default-may_fit-clause-place t c =
     let none : All (HasNoFit c.args.size c.args.alignment) (blocks (side c.self.inside.left)) =
     elim c.match-may_fit.branch [
-      | in-Some+else-is_some w ↦ rw w.in-Some.ensures.0 (nothing_found w.first_place.new.found _ _ w.first_place.ensures.place (sym w.if-is_some.ensures))
+      | in-Some+else-is_some w ↦ rw w.in-Some.ensures.0 (nothing_found w.search_first.new.found _ _ w.search_first.ensures.place (sym w.if-is_some.ensures))
       | in_default w ↦ none_unless_searched _ _ _ c.requires.request.0 c.requires.request.1 w.in_default.ensures
     ] in
     let right = none_unless_searched _ _ _ c.requires.request.0 c.requires.request.1 c.in_default-may_fit.ensures in
@@ -45,8 +45,8 @@ returns-in_default-may_fit-clause-place t c =
     still_nothing c.match-may_fit.found _ _ (none_of c.args.size c.args.alignment _ _ _ _ (sym c.self.view_is) none c.in_default-lowest_fit.ensures right) none_yet
 
 -- Proof: this goal has a name because the search for a proof is slow.
-pub first_place-requires : goal.first_place-requires
-first_place-requires t c = grind (arith, common_steps, firsts, searches)
+pub search_first-requires : goal.search_first-requires
+search_first-requires t c = grind (arith, common_steps, firsts, searches)
 
 pub returns-then-is_some-clause-place : goal.returns-then-is_some-clause-place
 returns-then-is_some-clause-place t c = grind (arith, common_steps, firsts, searches)
@@ -57,8 +57,8 @@ returns-then-is_some-clause-count t c = grind (arith, common_steps, firsts, sear
 pub returns-in-Some-lowest_fit-clause-count : goal.returns-in-Some-lowest_fit-clause-count
 returns-in-Some-lowest_fit-clause-count t c = grind (arith, common_steps, firsts, searches)
 
-pub first_place-requires-in-Some-may_fit : goal.first_place-requires-in-Some-may_fit
-first_place-requires-in-Some-may_fit t c = grind (arith, common_steps, firsts, searches)
+pub search_first-requires-in-Some-may_fit : goal.search_first-requires-in-Some-may_fit
+search_first-requires-in-Some-may_fit t c = grind (arith, common_steps, firsts, searches)
 
 pub returns-in-Some-may_fit-clause-count : goal.returns-in-Some-may_fit-clause-count
 returns-in-Some-may_fit-clause-count t c = grind (arith, common_steps, firsts, searches)

@@ -1,4 +1,4 @@
--- A key that overlaps a range, and ranges that overlap no key.
+-- Ranges that overlap no key of a list.
 use Rattle.std.proofs.Common.{ℕ, ◌+◌, ◌<◌, ◌≤◌, List, [], ◌∷◌, ◌++◌, Some, None, Option, inl, inr, ◌⊎◌, ⊎_elim}
 use Rattle.std.proofs.lemmas.Bool.{cases_lt}
 use Rattle.std.specs.Prelude.{◌↔◌}
@@ -8,7 +8,6 @@ use Rattle.vm_ranges.specs.Range.{Range, Overlaps}
 use Rattle.vm_ranges.specs.RangeOrder.{EndsBefore, EndsAtOrAfterStartOf, IsInOrder, Apart}
 use Rattle.vm_engine.specs.Tree.Block.{Block}
 use Rattle.vm_engine.specs.Tree.BlockList.{IsOrderedFrom, IsClearOf}
-use Rattle.vm_engine.specs.Engine.NodeAnswer.{FindsOverlap}
 use Rattle.vm_ranges.proofs.RangeCalls.{meet, apart_below, apart_above}
 
 apart_if : (k m : Range) → k.start ≤ k.end → m.start ≤ m.end → ¬ Overlaps k m → Apart k m
@@ -38,27 +37,3 @@ pub clear_means_no_overlap : (k : Range) (bs : List Block) → k.start ≤ k.end
 clear_means_no_overlap k bs p o = (none_if_clear k bs, clear_if 0 k bs p o)
 
 pub ruleset clearness = (clear_means_no_overlap)
-
-clear_over : (k : Range) (l : List Block) (x : Block) (r : List Block) → IsClearOf k l → Apart k x.key → IsClearOf k r → IsClearOf k (l ++ x ∷ r)
-unfolding IsClearOf
-clear_over k [] x r c a d = (a, d)
-clear_over k (b ∷ l) x r c a d = (c.0, clear_over k l x r c.1 a d)
-
-pub overlap_here : (k m : Range) (bs : List Block) → IsInOrder k → IsInOrder m → EndsAtOrAfterStartOf k m → EndsAtOrAfterStartOf m k → FindsOverlap k (Some m) bs
-unfolding IsInOrder EndsAtOrAfterStartOf FindsOverlap
-overlap_here k m bs p q a b = meet k m p q b a
-
-pub overlap_beside : (l r : List Block) (x : Block) (k : Range) (found : Option Range) → EndsBefore k x.key ⊎ EndsBefore x.key k → FindsOverlap k None l → FindsOverlap k found r → FindsOverlap k found (l ++ x ∷ r)
-unfolding FindsOverlap EndsBefore
-overlap_beside l r x k None a c d = clear_over k l x r c a d
-overlap_beside l r x k (Some m) a c d = d
-
-pub overlap_before : (bs cs : List Block) (k m : Range) → FindsOverlap k (Some m) bs → FindsOverlap k (Some m) cs
-unfolding FindsOverlap
-overlap_before bs cs k m h = h
-
-pub overlaps_none : (k : Range) → FindsOverlap k None []
-unfolding FindsOverlap IsClearOf
-overlaps_none k = tt
-
-pub ruleset first_overlaps = (overlap_here, overlap_before, overlap_beside, overlaps_none)
