@@ -8,10 +8,11 @@
 //! - `comparing` compares two trees.
 //! - `counted` has the calls that count the nodes that they enter.
 //!
-//! A counted call passes on a counter at 0, and returns the final
-//! count. A plain call makes the counted call and drops the count. A tree of height 49 has fewer
-//! than 2^49 nodes, so a counter that starts at 0 never overflows. This is proved once, so callers
-//! have no condition on it.
+//! `AddressAllocator` has the same calls, and documents them.
+//!
+//! A counted call passes on a counter at 0, and returns the final count. A plain call makes the
+//! counted call and drops the count. A tree of height 49 has fewer than 2^49 nodes, so a counter
+//! that starts at 0 never overflows. This is proved once, so callers have no condition on it.
 ghost use Rattle.std.specs.Prelude.{◌≡◌, OnErr, OnOk, IfOk};
 ghost use Rattle.vm_engine.specs.Address.{IsAddressState};
 ghost use Rattle.vm_engine.specs.Answer.{Grants, Frees};
@@ -26,7 +27,7 @@ ghost use Rattle.vm_engine.specs.Engine.WindowBlocks.{meeting_blocks};
 use crate::Steps;
 use crate::block::Block;
 use crate::node::edge::Edge;
-use crate::node::walks::both_ends::Blocks;
+use crate::node::walks::both_ends::WalkBothEnds;
 use crate::node::walks::copying::copy;
 use crate::node::{Child, InnerNode};
 use std::alloc::Global;
@@ -106,20 +107,20 @@ impl IntervalTree {
     }
 
     /// Returns an iterator over the blocks, from both ends.
-    pub(crate) fn blocks(&self) -> Blocks<'_>
+    pub(crate) fn blocks(&self) -> WalkBothEnds<'_>
         ensures value { result ≡ blocks self.now }
         ensures space { IsSpaceTree self.now }
     {
-        Blocks::new(&self.root)
+        WalkBothEnds::new(&self.root)
     }
 
     /// Returns an iterator over the blocks that have an address in common with `window`, from both
     /// ends.
-    pub(crate) fn blocks_in(&self, window: &RangeInclusive) -> Blocks<'_>
+    pub(crate) fn blocks_in(&self, window: &RangeInclusive) -> WalkBothEnds<'_>
         ensures value { result ≡ meeting_blocks window.now (blocks self.now) }
         ensures space { IsSpaceTree self.now }
     {
-        Blocks::within(&self.root, window)
+        WalkBothEnds::within(&self.root, window)
     }
 
     /// Returns the root. A tree is never empty.
@@ -144,28 +145,9 @@ impl IntervalTree {
         self.root().height()
     }
 
-    /// Allocates `size` free addresses that start at a multiple of the constraint's alignment, and
-    /// returns their range.
+    /// Allocates the range of a request, and returns it.
     ///
-    /// `FirstMatch` chooses the lowest range that fits and `LastMatch` the highest.
-    /// `ExactMatch(start)` chooses the range at `start`.
-    ///
-    /// A range that fills its free block is allocated without memory. Any other range splits its
-    /// free block, which allocates one or two nodes.
-    ///
-    /// # Errors
-    ///
-    /// An error changes nothing. In this order:
-    /// - For `ExactMatch(start)`:
-    ///   - `Overflow` if `start` is `u64::MAX`.
-    ///   - `ResourceNotAvailable` if `start` is outside the space.
-    ///   - `Overflow` if the range would end past `u64::MAX`.
-    ///   - `InvalidStateTransition` if exactly this range is already allocated.
-    /// - `ResourceNotAvailable` if there is no free range that fits.
-    /// - `Overflow` if the chosen range ends at `u64::MAX`.
-    /// - Only if the range splits its free block:
-    ///   - `Overflow` if the height of the tree is 48 or more.
-    ///   - `OutOfMemory` if the allocation of a node fails.
+    /// `AddressAllocator::allocate_constraint` documents which range that is, and the errors.
     #[tactic(auto, using(crate::proofs::Nodes::Spaces::states))]
     pub fn allocate(&mut self, alloc: Global, constraint: Constraint) -> Result<RangeInclusive>
         ensures valid { IsRequest constraint }
@@ -179,12 +161,7 @@ impl IntervalTree {
 
     /// Frees an allocated range, and joins it with the free blocks on both sides.
     ///
-    /// It does not allocate.
-    ///
-    /// # Errors
-    ///
-    /// An error changes nothing.
-    /// - `ResourceNotAvailable` if exactly this range is not allocated.
+    /// `AddressAllocator::free` documents the error.
     pub fn free(&mut self, key: &RangeInclusive) -> Result<()>
         ensures answer { Frees (tree_state self.old) key.now result (tree_state self.new) }
         ensures unchanged { OnErr result (self.new ≡ self.old) }

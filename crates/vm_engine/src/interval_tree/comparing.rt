@@ -1,16 +1,18 @@
 //! Equality and order of trees. Both compare the blocks, so the shape of a tree does not matter.
-ghost use Rattle.std.specs.Prelude.{◌≡◌, ◌↔◌, IsTrue, Some};
+ghost use Rattle.std.specs.Prelude.{◌≡◌, ◌≤◌, ◌↔◌, IsTrue, Some};
 ghost use Rattle.std.proofs.Common.{rules};
 ghost use Rattle.std.specs.Cmp.Rules.{comparing};
 ghost use Rattle.std.specs.Ordering.{on, eq_by_cmp, as_partial_cmp};
 ghost use Rattle.std.specs.declared.cmp.Ordering.TheVariants.{Equal};
 ghost use Rattle.std.proofs.lemmas.Cmp.{on_total};
-ghost use Rattle.vm_engine.specs.Tree.Shape.{blocks};
+ghost use Rattle.vm_engine.specs.Tree.Shape.{MAX_HEIGHT, blocks, height_of};
 ghost use Rattle.vm_engine.specs.Tree.SpaceTree.{tree_state};
-ghost use Rattle.vm_engine.specs.Comparison.{layout_cmp, layout_cmp-total, AreEqual};
+ghost use Rattle.vm_engine.specs.Engine.NodeFields.{side};
+ghost use Rattle.vm_engine.specs.Comparison.{blocks_cmp, layout_cmp, layout_cmp-total, AreEqual};
 
 use super::IntervalTree;
-use crate::node::walks::comparing::{compare_blocks, same_blocks};
+use crate::node::Child;
+use crate::node::walks::Walk;
 use std::cmp::Ordering;
 
 impl PartialEq for IntervalTree {
@@ -63,5 +65,47 @@ impl Ord for IntervalTree {
         ensures equal { (result ≡ Equal) ↔ AreEqual (tree_state self.now) (tree_state other.now) }
     {
         compare_blocks(&self.root, &other.root)
+    }
+}
+
+/// Returns `true` if two trees have the same blocks. It stops at the first difference.
+fn same_blocks(a: &Child, b: &Child) -> bool
+    requires a { height_of (side a.now) ≤ MAX_HEIGHT }
+    requires b { height_of (side b.now) ≤ MAX_HEIGHT }
+    ensures { IsTrue result ↔ (blocks (side a.now) ≡ blocks (side b.now)) }
+{
+    let (mut left, mut right) = (Walk::new(a), Walk::new(b));
+    while let Some(x) = left.next() {
+        let Some(y) = right.next() else {
+            return false;
+        };
+        if x != y {
+            return false;
+        }
+    }
+    right.next().is_none()
+}
+
+/// Compares two trees by the first blocks that differ. If the blocks of one tree are a prefix of
+/// the other's, the tree with fewer blocks is less.
+fn compare_blocks(a: &Child, b: &Child) -> Ordering
+    requires a { height_of (side a.now) ≤ MAX_HEIGHT }
+    requires b { height_of (side b.now) ≤ MAX_HEIGHT }
+    ensures { result ≡ blocks_cmp (blocks (side a.now)) (blocks (side b.now)) }
+{
+    let (mut left, mut right) = (Walk::new(a), Walk::new(b));
+    while let Some(x) = left.next() {
+        let Some(y) = right.next() else {
+            return Ordering::Greater;
+        };
+        match x.cmp(&y) {
+            Ordering::Equal => {}
+            unequal => return unequal,
+        }
+    }
+    if right.next().is_none() {
+        Ordering::Equal
+    } else {
+        Ordering::Less
     }
 }

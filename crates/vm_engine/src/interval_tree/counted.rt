@@ -47,10 +47,6 @@ impl InnerNode {
 impl IntervalTree {
     /// Allocates like [`allocate`](Self::allocate), and also returns the number of nodes that it
     /// entered.
-    ///
-    /// # Errors
-    ///
-    /// Those of [`allocate`](Self::allocate), in the same order.
     #[tactic(auto, using(crate::proofs::Choosing::Searched::granting, crate::proofs::Counts::Granting::grantings, crate::proofs::Counts::GapBounds::of_trees, crate::proofs::Nodes::Spaces::states, crate::proofs::Answers::AddressAnswers::granted))]
     pub fn allocate_counted(
         &mut self,
@@ -78,10 +74,6 @@ impl IntervalTree {
     }
 
     /// Frees like [`free`](Self::free), and also returns the number of nodes that it entered.
-    ///
-    /// # Errors
-    ///
-    /// - `ResourceNotAvailable` if exactly this range is not allocated.
     #[tactic(auto, using(crate::proofs::Counts::FreeCounts::releasings, crate::proofs::Nodes::Spaces::states, crate::proofs::Answers::AddressAnswers::freed))]
     pub fn free_counted(&mut self, key: &RangeInclusive) -> (Result<()>, u64)
         ensures answer { Frees (tree_state self.old) key.now result.0 (tree_state self.new) }

@@ -9,7 +9,7 @@ ghost use Rattle.vm_engine.specs.Tree.SpaceTree.{tree_state};
 
 use super::IntervalTree;
 use crate::node::walks::addresses::block_at;
-use crate::node::walks::both_ends::Blocks;
+use crate::node::walks::both_ends::WalkBothEnds;
 use std::marker::Model;
 use vm_ranges::{NodeState, RangeInclusive};
 
@@ -18,7 +18,7 @@ use vm_ranges::{NodeState, RangeInclusive};
 /// Its model is the list of the gaps that it has not returned yet.
 #[derive(Clone, Drop)]
 pub struct Gaps<'a> {
-    blocks: Blocks<'a>,
+    blocks: WalkBothEnds<'a>,
 }
 
 impl<'a> Model for Gaps<'a> {
@@ -78,9 +78,6 @@ impl IntervalTree {
 
     /// Returns an iterator over the gaps that have an address in common with `range`, from the
     /// lowest to the highest.
-    ///
-    /// Each gap is returned whole. It follows one path from the root for each end of `range` and
-    /// does not allocate.
     #[tactic(auto, using(crate::proofs::Walking::Windows::ranges_in_windows))]
     pub fn gaps_in(&self, range: &RangeInclusive) -> Gaps<'_>
         ensures { result ≡ meeting range.now (gaps_of (tree_state self.now)) }
@@ -92,8 +89,6 @@ impl IntervalTree {
 
     /// Returns the gap that contains an address, or `None` if the address is allocated or outside
     /// the space.
-    ///
-    /// It follows one path from the root and does not allocate.
     #[tactic(auto, using(crate::proofs::Walking::AddressSearches::gap_at_address))]
     pub fn gap_at(&self, address: u64) -> Option<RangeInclusive>
         ensures { IsGapAt (tree_state self.now) address result }
@@ -106,8 +101,6 @@ impl IntervalTree {
     }
 
     /// Returns the length of the longest gap in addresses, or 0 if no address is free.
-    ///
-    /// It reads the root only and does not allocate.
     #[tactic(auto, using(crate::proofs::Walking::GapsInTrees::gaps_in_trees))]
     pub fn longest_gap(&self) -> u64
         ensures { result ≡ longest_of (gaps_of (tree_state self.now)) }

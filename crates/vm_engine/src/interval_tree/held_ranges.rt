@@ -7,7 +7,7 @@ ghost use Rattle.vm_engine.specs.Tree.SpaceTree.{tree_state};
 
 use super::IntervalTree;
 use crate::node::walks::addresses::block_at;
-use crate::node::walks::both_ends::Blocks;
+use crate::node::walks::both_ends::WalkBothEnds;
 use crate::node::walks::held::has_held;
 use std::marker::Model;
 use vm_ranges::{NodeState, RangeInclusive};
@@ -18,7 +18,7 @@ use vm_ranges::{NodeState, RangeInclusive};
 /// Its model is the list of the ranges that it has not returned yet.
 #[derive(Clone, Drop)]
 pub struct HeldRanges<'a> {
-    blocks: Blocks<'a>,
+    blocks: WalkBothEnds<'a>,
 }
 
 impl<'a> Model for HeldRanges<'a> {
@@ -78,9 +78,6 @@ impl IntervalTree {
 
     /// Returns an iterator over the allocated ranges that have an address in common with `range`,
     /// from the lowest to the highest.
-    ///
-    /// Each range is returned whole. It follows one path from the root for each end of `range` and
-    /// does not allocate.
     #[tactic(auto, using(crate::proofs::Walking::Windows::ranges_in_windows))]
     pub fn held_ranges_in(&self, range: &RangeInclusive) -> HeldRanges<'_>
         ensures { result ≡ meeting range.now (tree_state self.now).held }
@@ -91,9 +88,6 @@ impl IntervalTree {
     }
 
     /// Returns `true` if exactly this range is allocated.
-    ///
-    /// It returns `false` for a part of an allocated range and for a free range. It follows one
-    /// path from the root and does not allocate.
     #[tactic(auto, using(crate::proofs::Releasing::Finding::held_by_key))]
     pub fn holds(&self, key: &RangeInclusive) -> bool
         ensures { IsTrue result ↔ Contains (tree_state self.now).held key.now }
@@ -103,8 +97,6 @@ impl IntervalTree {
 
     /// Returns the allocated range that contains an address, or `None` if the address is free or
     /// outside the space.
-    ///
-    /// It follows one path from the root and does not allocate.
     #[tactic(auto, using(crate::proofs::Walking::AddressSearches::held_at_address))]
     pub fn held_at(&self, address: u64) -> Option<RangeInclusive>
         ensures { IsHeldAt (tree_state self.now) address result }

@@ -14,7 +14,6 @@ ghost use Rattle.vm_engine.specs.Engine.WindowBlocks.{blocks_reaching};
 
 pub(crate) mod addresses;
 pub(crate) mod both_ends;
-pub(crate) mod comparing;
 pub(crate) mod copying;
 pub(crate) mod encoding;
 pub(crate) mod gaps;

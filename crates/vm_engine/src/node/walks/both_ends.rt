@@ -118,7 +118,7 @@ impl<'a> WalkBack<'a> {
 ///
 /// Its model is the list of the blocks that it has not returned yet.
 #[derive(Clone, Drop)]
-pub(crate) struct Blocks<'a> {
+pub(crate) struct WalkBothEnds<'a> {
     lower: Walk<'a>,
     upper: WalkBack<'a>,
     // Only blocks that start below it are left. It is the start of the last block that `upper`
@@ -126,7 +126,7 @@ pub(crate) struct Blocks<'a> {
     bound: Option<u64>,
 }
 
-impl<'a> Model for Blocks<'a> {
+impl<'a> Model for WalkBothEnds<'a> {
     ghost use Rattle.std.specs.Prelude.{List};
     ghost use Rattle.vm_engine.specs.Tree.Block.{Block};
     ghost use Rattle.vm_engine.specs.Engine.BothEnds.{blocks_left, AreBothEnds};
@@ -138,14 +138,14 @@ impl<'a> Model for Blocks<'a> {
     ghost invariant = { λ b. AreBothEnds b.lower b.upper b.bound };
 }
 
-impl<'a> Blocks<'a> {
+impl<'a> WalkBothEnds<'a> {
     /// Creates an iterator over all blocks of a tree.
     #[tactic(auto, using(crate::proofs::Walking::BothEnds::both_ends_of))]
-    pub(crate) fn new(tree: &'a Child) -> Blocks<'a>
+    pub(crate) fn new(tree: &'a Child) -> WalkBothEnds<'a>
         requires { IsSpaceTree (side tree.now) }
         ensures { result ≡ blocks (side tree.now) }
     {
-        Blocks {
+        WalkBothEnds {
             lower: Walk::new(tree),
             upper: WalkBack::new(tree),
             bound: None,
@@ -154,11 +154,11 @@ impl<'a> Blocks<'a> {
 
     /// Creates an iterator over the blocks of a tree that have an address in common with `window`.
     #[tactic(auto, using(crate::proofs::Walking::Windows::both_ends_within))]
-    pub(crate) fn within(tree: &'a Child, window: &RangeInclusive) -> Blocks<'a>
+    pub(crate) fn within(tree: &'a Child, window: &RangeInclusive) -> WalkBothEnds<'a>
         requires { IsSpaceTree (side tree.now) }
         ensures { result ≡ meeting_blocks window.now (blocks (side tree.now)) }
     {
-        Blocks {
+        WalkBothEnds {
             lower: Walk::reaching(tree, window.start()),
             upper: WalkBack::up_to(tree, window.end()),
             bound: window.end().checked_add(1),
@@ -177,7 +177,7 @@ impl<'a> Blocks<'a> {
     }
 }
 
-impl<'a> Iterator for Blocks<'a> {
+impl<'a> Iterator for WalkBothEnds<'a> {
     type Item = Block;
 
     ghost next_gives = { YieldsFirst (λ b. b) };
@@ -194,7 +194,7 @@ impl<'a> Iterator for Blocks<'a> {
     }
 }
 
-impl<'a> DoubleEndedIterator for Blocks<'a> {
+impl<'a> DoubleEndedIterator for WalkBothEnds<'a> {
     ghost next_back_gives = { YieldsLast (λ b. b) };
 
     /// Returns the highest block that is left.

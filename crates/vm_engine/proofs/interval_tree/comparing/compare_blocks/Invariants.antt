@@ -1,6 +1,6 @@
 use Rattle.std.proofs.Common.{◌≡◌, length}
 use Rattle.vm_engine.specs.Comparison.{blocks_cmp}
-use Rattle.vm_engine.proofs.node.walks.comparing.compare_blocks.Given as goal
+use Rattle.vm_engine.proofs.interval_tree.comparing.compare_blocks.Given as goal
 
 abbrev pub invariant-loop-x : goal.invariant-loop-x
 invariant-loop-x l = blocks_cmp l.left l.right ≡ blocks_cmp l.initial.left l.initial.right

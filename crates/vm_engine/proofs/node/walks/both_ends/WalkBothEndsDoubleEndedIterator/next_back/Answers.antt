@@ -1,7 +1,7 @@
 use Rattle.std.proofs.Common.{◌≡◌, ◌<◌, [], ◌∷◌, length, arith, length-append, rules}
 use Rattle.vm_engine.specs.Engine.BothEnds.{blocks_left, blocks_below}
 use Rattle.vm_engine.proofs.Walking.BothEnds.{nothing_above, last_left}
-use Rattle.vm_engine.proofs.node.walks.both_ends.BlocksDoubleEndedIterator.next_back.Goals as goal
+use Rattle.vm_engine.proofs.node.walks.both_ends.WalkBothEndsDoubleEndedIterator.next_back.Goals as goal
 
 pub returns-in_err-block-clause-steps : goal.returns-in_err-block-clause-steps
 returns-in_err-block-clause-steps c =

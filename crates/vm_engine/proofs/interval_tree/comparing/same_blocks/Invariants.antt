@@ -1,5 +1,5 @@
 use Rattle.std.proofs.Common.{◌≡◌, ◌↔◌, length}
-use Rattle.vm_engine.proofs.node.walks.comparing.same_blocks.Given as goal
+use Rattle.vm_engine.proofs.interval_tree.comparing.same_blocks.Given as goal
 
 abbrev pub invariant-loop-x : goal.invariant-loop-x
 invariant-loop-x l = (l.left ≡ l.right) ↔ (l.initial.left ≡ l.initial.right)
