@@ -6,6 +6,9 @@ pub mod Searching
 pub mod WindowSearching
 pub mod SearchedGaps
 pub mod WindowGaps
+pub mod PlacePaths
+pub mod WindowPaths
+pub mod FoundPlaces
 pub mod GapBounds
 pub mod MisalignedGaps
 pub mod TooShortGaps

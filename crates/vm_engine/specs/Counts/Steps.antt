@@ -27,17 +27,13 @@ pub record IsBalancedTreeOf (state : AddressState) (s : Shape) : Type 0 where
   pub low : fibonacci (height_of s + 2) ≤ 2 * length state.held + 2
   pub height : height_of s ≤ MAX_HEIGHT
 
--- The maximum number of nodes that an allocation enters in a tree of height h after the search: the path to the block,
--- and the paths to the two leaves that a split links below it.
-abbrev pub max_on_paths : ℕ → ℕ
-max_on_paths h = 2 * h
-
--- The maximum number of nodes that a request enters with k held ranges. FirstMatch and LastMatch can enter all nodes in
--- their search, and ExactMatch enters those of one path.
+-- The maximum number of nodes that a request enters in a tree of height h with k held ranges. FirstMatch and LastMatch can
+-- enter all nodes, and those of one path again. ExactMatch enters the nodes of two paths: the search and the split share the
+-- path to the block, and the split enters one path in each child of the block.
 abbrev pub max_entered : AllocPolicy → ℕ → ℕ → ℕ
-max_entered FirstMatch h k = 2 * k + 1 + max_on_paths h
-max_entered LastMatch h k = 2 * k + 1 + max_on_paths h
-max_entered (ExactMatch t) h k = h + max_on_paths h
+max_entered FirstMatch h k = 2 * k + 1 + h
+max_entered LastMatch h k = 2 * k + 1 + h
+max_entered (ExactMatch t) h k = 2 * h
 
 -- The bounds on the nodes that a request enters in a tree of height h. A success enters at least 1. A split enters at
 -- least h / 2, because each path from the root to an absent child has at least h / 2 nodes.
