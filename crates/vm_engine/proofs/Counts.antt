@@ -14,6 +14,7 @@ pub mod MisalignedGaps
 pub mod TooShortGaps
 pub mod LeftClear
 pub mod Granting
+pub mod RemovalPaths
 pub mod FreeCounts
 pub mod Balanced
 pub mod Allocating
