@@ -88,7 +88,7 @@ nodes_to_delete_at_most k (Fork l b r) =
 
 pub ruleset deletion_bounds = (nodes_to_first_at_most, nodes_to_join_at_most, nodes_to_delete_at_most)
 
-beside_at_most : (state : NodeState) (l r : Shape) → nodes_to_neighbours state l r ≤ height_of l + height_of r
+pub beside_at_most : (state : NodeState) (l r : Shape) → nodes_to_neighbours state l r ≤ height_of l + height_of r
 beside_at_most Free l r = omega arith
 beside_at_most Allocated l r = omega (arith, nodes_to_last_at_most l, nodes_to_first_at_most r)
 

@@ -1,20 +1,20 @@
 -- The paths through a tree after a block is removed. With the nodes that the removal enters, a path is at most the height
 -- of the tree longer than before.
-use Rattle.std.proofs.Common.{◌≡◌, ◌≢◌, ℕ, ◌+◌, ◌*◌, ◌<◌, ◌≤◌, true, false, cond, List, [], ◌∷◌, ◌++◌, None, refl, sym, ap, ◌∙◌, subst, append_assoc, arith, ⊎_elim}
+use Rattle.std.proofs.Common.{◌≡◌, ◌≢◌, ℕ, ◌+◌, ◌<◌, ◌≤◌, true, false, List, [], ◌∷◌, ◌++◌, None, refl, sym, ap, ◌∙◌, subst, append_assoc, arith, ⊎_elim}
 use Rattle.std.proofs.lemmas.Bool.{cases_lt}
 use Rattle.std.proofs.lemmas.List.{append-nil}
 use Rattle.vm_ranges.specs.Range.{Range}
-use Rattle.vm_ranges.specs.RangeOrder.{Before, same_range, is_before}
+use Rattle.vm_ranges.specs.RangeOrder.{Before, same_range}
 use Rattle.vm_ranges.proofs.RangeCalls.{before_by_start}
 use Rattle.vm_engine.specs.Tree.Block.{Block}
 use Rattle.vm_engine.specs.Tree.BlockList.{IsOrderedFrom, find_key}
-use Rattle.vm_engine.specs.Tree.Shape.{Shape, Tip, Fork, blocks, height_of, DifferByAtMost, IsBalanced, IsTree}
+use Rattle.vm_engine.specs.Tree.Shape.{Shape, Tip, Fork, blocks, height_of, DifferByAtMost, IsTree}
 use Rattle.vm_engine.specs.Tree.Removal.{balanced_over, without_first, joined_children, without_key}
 use Rattle.vm_engine.specs.Counts.NodeCounts.{nodes_to, nodes_to_first, nodes_to_join, nodes_to_delete}
 use Rattle.vm_engine.proofs.Blocks.BlockOrder.{ordered_middle, ordered_drop}
 use Rattle.vm_engine.proofs.Blocks.Replacement.{find_below, find_left, find_right, same_range_true, removed_in_left, removed_in_right}
 use Rattle.vm_engine.proofs.Counts.NodeCountBounds.{nodes_to_first_at_most, nodes_to_delete_at_most}
-use Rattle.vm_engine.proofs.Counts.NodeCountCases.{nodes_to_here, nodes_to_left, nodes_to_right, nodes_to_first_fork, join_no_left, join_no_right, join_both, delete_tip, delete_here, delete_left, delete_right}
+use Rattle.vm_engine.proofs.Counts.NodeCountCases.{nodes_to_here, nodes_to_left, nodes_to_right, join_no_left, join_no_right, join_both, delete_here, delete_left, delete_right}
 use Rattle.vm_engine.proofs.Nodes.RemovedTrees.{by_order, before_trans, by_turn, near_is, blocks_over, IsLower, first_removed, joined_both, joined_no_left, joined_no_right, without_here, without_left, without_right, without_tip, without_is, joined_is}
 use Rattle.vm_engine.proofs.Nodes.SideChange.{ordered_take_left, left_tree, right_tree}
 

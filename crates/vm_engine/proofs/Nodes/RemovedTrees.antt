@@ -9,7 +9,7 @@ use Rattle.vm_engine.specs.Tree.Block.{Block}
 use Rattle.vm_engine.specs.Tree.BlockList.{IsOrderedFrom, replace_block}
 use Rattle.vm_engine.specs.Tree.Shape.{Shape, Tip, Fork, blocks, height_of, DifferByAtMost, IsBalanced, IsTree}
 use Rattle.vm_engine.specs.Tree.Removal.{turned_right, turned_left, leaning_left, leaning_right, balanced_over, without_first, joined_children, without_key}
-use Rattle.vm_engine.specs.Engine.Changes.{IsHeightAfterBalance}
+use Rattle.vm_engine.specs.Engine.Changes.{IsHeightAfterBalance, IsLeftNotLower, IsRightNotLower}
 use Rattle.vm_engine.proofs.Blocks.Replacement.{same_range_before, same_range_self, replace_in_left, replace_in_right, remove_in_middle, ordered_removed}
 use Rattle.vm_engine.proofs.Counts.NodeCountCases.{before_first, after_first}
 use Rattle.vm_engine.proofs.Nodes.SideChange.{left_tree, right_tree}
@@ -89,6 +89,37 @@ pub near_is : (l : Shape) (b : Block) (r : Shape) → DifferByAtMost 1 (height_o
 unfolding balanced_over
 near_is l b r d = rw (le-ltb (height_of r + 1) (height_of l) d.0, le-ltb (height_of l + 1) (height_of r) d.1) refl
 
+-- The node over these children after one rotation, and after two.
+pub rotated_right : (s x : Shape) (a : Block) (m : Shape) (b : Block) (r : Shape) → s ≡ Fork x a m → height_of s ≡ height_of r + 2 → IsLeftNotLower s → balanced_over s b r ≡ Fork x a (Fork m b r)
+unfolding balanced_over
+rotated_right s x a m b r e h p =
+    let low : height_of m ≤ height_of x = rw e at p in
+    let high : height_of (Fork x a m) ≡ height_of r + 2 = rw e at h in
+    rw (e, lt-ltb (height_of r + 1) (height_of (Fork x a m)) (omega (arith, high)), le-ltb (height_of x) (height_of m) low) refl
+
+pub rotated_left_right : (s x : Shape) (a : Block) (k m : Shape) (c : Block) (n : Shape) (b : Block) (r : Shape) → s ≡ Fork x a k → k ≡ Fork m c n → height_of s ≡ height_of r + 2 → ¬ IsLeftNotLower s → balanced_over s b r ≡ Fork (Fork x a m) c (Fork n b r)
+unfolding balanced_over
+rotated_left_right s x a k m c n b r e f h p =
+    let low : ¬ (height_of (Fork m c n) ≤ height_of x) = rw (e, f) at p in
+    let high : height_of (Fork x a (Fork m c n)) ≡ height_of r + 2 = rw (e, f) at h in
+    rw (e, f, lt-ltb (height_of r + 1) (height_of (Fork x a (Fork m c n))) (omega (arith, high)), lt-ltb (height_of x) (height_of (Fork m c n)) (omega (arith, low))) refl
+
+pub rotated_left : (l : Shape) (b : Block) (s m : Shape) (c : Block) (x : Shape) → s ≡ Fork m c x → height_of s ≡ height_of l + 2 → IsRightNotLower s → balanced_over l b s ≡ Fork (Fork l b m) c x
+unfolding balanced_over
+rotated_left l b s m c x e h p =
+    let low : height_of m ≤ height_of x = rw e at p in
+    let high : height_of (Fork m c x) ≡ height_of l + 2 = rw e at h in
+    rw (e, le-ltb (height_of (Fork m c x) + 1) (height_of l) (omega (arith, high)), lt-ltb (height_of l + 1) (height_of (Fork m c x)) (omega (arith, high)), le-ltb (height_of x) (height_of m) low) refl
+
+pub rotated_right_left : (l : Shape) (b : Block) (s k m : Shape) (c : Block) (n : Shape) (d : Block) (x : Shape) → s ≡ Fork k d x → k ≡ Fork m c n → height_of s ≡ height_of l + 2 → ¬ IsRightNotLower s → balanced_over l b s ≡ Fork (Fork l b m) c (Fork n d x)
+unfolding balanced_over
+rotated_right_left l b s k m c n d x e f h p =
+    let low : ¬ (height_of (Fork m c n) ≤ height_of x) = rw (e, f) at p in
+    let high : height_of (Fork (Fork m c n) d x) ≡ height_of l + 2 = rw (e, f) at h in
+    rw (e, f, le-ltb (height_of (Fork (Fork m c n) d x) + 1) (height_of l) (omega (arith, high)), lt-ltb (height_of l + 1) (height_of (Fork (Fork m c n) d x)) (omega (arith, high)), lt-ltb (height_of x) (height_of (Fork m c n)) (omega (arith, low))) refl
+
+pub ruleset rotated = (near_is, rotated_right, rotated_left_right, rotated_left, rotated_right_left)
+
 pub blocks_over : (l : Shape) (b : Block) (r : Shape) → blocks (balanced_over l b r) ≡ blocks l ++ b ∷ blocks r
 blocks_over l b r =
     by_turn (λ (v : Shape). blocks v ≡ blocks l ++ b ∷ blocks r) b l r
@@ -152,6 +183,15 @@ first_removed (Fork (Fork x a y) b r) t n =
     let i = first_removed (Fork x a y) t.0 (λ e. cc e) in
     let o = over_is (without_first l) b r i.2 t.1 (omega (arith, i.3, t.2), omega (arith, i.3, t.2)) in
     (i.0, ap (λ (v : List Block). v ++ b ∷ blocks r) i.1 ∙ ap (λ (v : List Block). i.0 ∷ v) (sym (blocks_over (without_first l) b r)), o.0, over_lower_left (height_of l) (height_of r) (height_of (without_first l)) _ t.2 i.3 o.1)
+
+pub first_no_left : (b : Block) (r : Shape) → without_first (Fork Tip b r) ≡ r
+unfolding without_first
+first_no_left b r = refl
+
+pub first_in_left : (l : Shape) (b : Block) (r : Shape) → l ≢ Tip → without_first (Fork l b r) ≡ balanced_over (without_first l) b r
+unfolding without_first
+first_in_left Tip b r n = absurd (n refl)
+first_in_left (Fork x a y) b r n = refl
 
 -- ---- Both children of a removed node in one tree
 pub joined_both : (l r : Shape) (m : Block) (bs : List Block) → l ≢ Tip → blocks r ≡ m ∷ bs → joined_children l r ≡ balanced_over l m (without_first r)
@@ -221,4 +261,8 @@ without_tree k s t =
     let i = without_is k s t in
     record { ordered = subst (IsOrderedFrom 0) (sym i.0) (ordered_removed 0 k (blocks s) t.ordered); balanced = i.1 }
 
-pub ruleset removed_cases = (near_is, without_here, without_left, without_right, without_tip, joined_both, joined_no_left, joined_no_right)
+pub ruleset removed_firsts = (near_is, first_no_left, first_in_left)
+
+pub ruleset removed_roots = (joined_both, joined_no_left, joined_no_right)
+
+pub ruleset removed_cases = (near_is, without_here, without_left, without_right, without_tip)
