@@ -1,6 +1,6 @@
 -- The paths through a tree after a block is removed. With the nodes that the removal enters, a path is at most the height
 -- of the tree longer than before.
-use Rattle.std.proofs.Common.{◌≡◌, ◌≢◌, ℕ, ◌+◌, ◌<◌, ◌≤◌, true, false, List, [], ◌∷◌, ◌++◌, None, refl, sym, ap, ◌∙◌, subst, append_assoc, arith, ⊎_elim}
+use Rattle.std.proofs.Common.{◌≡◌, ◌≢◌, ℕ, ◌+◌, ◌<◌, ◌≤◌, true, false, List, [], ◌∷◌, ◌++◌, None, refl, sym, ap, ◌∙◌, subst, append_assoc, arith, ⊎_elim, Option, Some, IsSome}
 use Rattle.std.proofs.lemmas.Bool.{cases_lt}
 use Rattle.std.proofs.lemmas.List.{append-nil}
 use Rattle.vm_ranges.specs.Range.{Range}
@@ -15,8 +15,9 @@ use Rattle.vm_engine.proofs.Blocks.BlockOrder.{ordered_middle, ordered_drop}
 use Rattle.vm_engine.proofs.Blocks.Replacement.{find_below, find_left, find_right, same_range_true, removed_in_left, removed_in_right}
 use Rattle.vm_engine.proofs.Counts.NodeCountBounds.{nodes_to_first_at_most, nodes_to_delete_at_most}
 use Rattle.vm_engine.proofs.Counts.NodeCountCases.{nodes_to_here, nodes_to_left, nodes_to_right, join_no_left, join_no_right, join_both, delete_here, delete_left, delete_right}
-use Rattle.vm_engine.proofs.Nodes.RemovedTrees.{by_order, before_trans, by_turn, near_is, blocks_over, IsLower, first_removed, joined_both, joined_no_left, joined_no_right, without_here, without_left, without_right, without_tip, without_is, joined_is}
+use Rattle.vm_engine.proofs.Nodes.RemovedTrees.{by_order, before_trans, by_turn, near_is, blocks_over, IsLower, first_removed, joined_both, joined_no_left, joined_no_right, without_here, without_left, without_right, without_tip, without_is, joined_is, without_tree}
 use Rattle.vm_engine.proofs.Nodes.SideChange.{ordered_take_left, left_tree, right_tree}
+use Rattle.vm_engine.specs.Laws.CountLaws.{RemovalIsExact, PathsSinkLittle}
 
 -- ---- The order of the blocks of a list
 before_in : (lo : ℕ) (xs : List Block) (a : Block) (ms : List Block) (b : Block) (ys : List Block) → IsOrderedFrom lo (xs ++ a ∷ (ms ++ b ∷ ys)) → Before a.key b.key
@@ -250,3 +251,16 @@ module _ (y : Range) where
       let o : IsOrderedFrom 0 (blocks l ++ b ∷ blocks (without_key k r)) = rw i.0 (removed_in_right (Fork l b r) l b r k refl p t) in
       rw (without_right k l b r p, delete_right k l b r p)
       (step_right y l b r (without_key k r) (nodes_to_delete k r) o t.balanced.2 i.2 (nodes_to_delete_at_most k r) (delete_sinks k r tree) (rw (without_right k l b r p) at f)))
+
+-- ---- The laws
+some_is_not_none : {A : Type 0} (x : Option A) → IsSome x → x ≢ None
+some_is_not_none None i e = absurd (cc i)
+some_is_not_none (Some a) i e = absurd (cc e)
+
+pub removal_is_exact : RemovalIsExact
+removal_is_exact k s t =
+    let i = without_is k s t in
+    record { tree = without_tree k s t; blocks = i.0; not_higher = i.2.0; at_most_one_lower = i.2.1 }
+
+pub paths_sink_little : PathsSinkLittle
+paths_sink_little k key s t i = omega (arith, delete_sinks key k s t (some_is_not_none _ i))
