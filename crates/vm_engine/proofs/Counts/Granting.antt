@@ -1,5 +1,5 @@
 -- The number of nodes that a request enters.
-use Rattle.std.proofs.Common.{◌≡◌, ◌≢◌, ℕ, ◌+◌, ◌*◌, ◌<◌, ◌≤◌, Bool, true, false, cond, eqb, refl, sym, subst, arith, inl, inr, Option, Some, None, Result, Ok, Err, OnOk, IfOk, length, ◌⊎◌}
+use Rattle.std.proofs.Common.{◌≡◌, ◌≢◌, ℕ, ◌+◌, ◌*◌, ◌<◌, ◌≤◌, eqb, refl, sym, subst, arith, inl, inr, Option, Some, None, Result, Ok, Err, OnOk, IfOk, length, ◌⊎◌}
 use Rattle.std.proofs.lemmas.Bool.{lt-ltb}
 use Rattle.vm_ranges.specs.Range.{Range, MAX, at_address, span}
 use Rattle.vm_engine.specs.Address.{AddressState, SplitsGap}
@@ -22,7 +22,7 @@ use Rattle.vm_engine.proofs.Blocks.OneList.{few_blocks}
 use Rattle.vm_engine.proofs.Nodes.Spaces.{few_nodes, no_empty_tree}
 use Rattle.vm_engine.proofs.Counts.NodeCountBounds.{nodes_across_at_most}
 use Rattle.vm_engine.proofs.Counts.SplitCounts.{half_of_split}
-use Rattle.vm_engine.proofs.Counts.Searching.{first_nodes_at_most, last_nodes_at_most}
+use Rattle.vm_engine.proofs.Counts.Searching.{first_nodes_at_most, last_nodes_at_most, none_or_at_most}
 use Rattle.vm_engine.proofs.Counts.WindowSearching.{first_nodes_at_most_in, last_nodes_at_most_in}
 use Rattle.vm_engine.proofs.Nodes.MinNodes.{node_count-blocks}
 use Rattle.vm_engine.proofs.Counts.LeftClear.{needs_split}
@@ -62,16 +62,12 @@ refused_low h old request e n over = record { split = tt; memory = λ m. absurd 
 search_at_most : (request : Request) (s : Shape) → nodes_of_search request s ≤ max_searched request.policy s
 search_at_most request s = by_policy request.policy request.window
   where
-    named : (test : Bool) (most path : ℕ) → path ≤ most → cond test 0 path ≤ most
-    named true most path l = omega arith
-    named false most path l = l
-
     by_policy : (policy : AllocPolicy) (w : Option Range) → nodes_by_policy policy w request.size request.align s ≤ max_searched policy s
     by_policy FirstMatch None = first_nodes_at_most request.size request.align s
     by_policy FirstMatch (Some w) = first_nodes_at_most_in w request.size request.align s
     by_policy LastMatch None = last_nodes_at_most request.size request.align s
     by_policy LastMatch (Some w) = last_nodes_at_most_in w request.size request.align s
-    by_policy (ExactMatch t) w = named (eqb t MAX) (height_of s) (nodes_across (at_address t) s) (nodes_across_at_most (at_address t) s)
+    by_policy (ExactMatch t) w = none_or_at_most (eqb t MAX) (nodes_across (at_address t) s) (height_of s) (nodes_across_at_most (at_address t) s)
 
 most_at_most : (policy : AllocPolicy) (s : Shape) → max_searched policy s ≤ node_count s + height_of s
 most_at_most FirstMatch s = omega arith
@@ -125,10 +121,6 @@ refused_at_most FirstMatch s m h l = omega (arith, few_in s h)
 refused_at_most LastMatch s m h l = omega (arith, few_in s h)
 refused_at_most (ExactMatch t) s m h l = omega arith
 
-named_at_most : (test : Bool) (path : ℕ) → cond test 0 path ≤ path
-named_at_most true path = omega arith
-named_at_most false path = omega arith
-
 given_at_most : (policy : AllocPolicy) (w : Option Range) (n a t path : ℕ) (s : Shape) → IsSpaceTree s → 0 < n → 0 < a → IsChosen (request_in w n a policy) (tree_state s) t → IsHeldIn s (span t n) path
     → nodes_by_policy policy w n a s + path ≤ max_entered policy (height_of s) (length (tree_state s).held)
 unfolding IsChosen
@@ -156,7 +148,7 @@ given_at_most (ExactMatch u) w n a t path s h z p c i =
     let same : t ≡ u = c.0 in
     let across = across_at_most_path t _ _ (free_block i.key) s i.lower i.upper i.within.from (omega (arith, i.within.some, i.within.upto)) (keys_of s h) i.cut in
     let search : nodes_across (at_address u) s ≤ nodes_to i.key s = rw (← same) across in
-    omega (arith, i.path, search, named_at_most (eqb u MAX) (nodes_across (at_address u) s), path_and_split i.key (leaf_of (before_part i.key (span t n))) (leaf_of (after_part i.key (span t n))) s)
+    omega (arith, i.path, none_or_at_most (eqb u MAX) (nodes_across (at_address u) s) (nodes_to i.key s) search, path_and_split i.key (leaf_of (before_part i.key (span t n))) (leaf_of (after_part i.key (span t n))) s)
 
 pub grant_of : (s : Shape) (request : Request) (answer : Result Range Error) (new : AddressState) (c : ℕ) → IsSpaceTree s → IsRequest request → OnOk answer (IsTree s) → Grants (tree_state s) request answer new → Enters s request answer 0 c → IsGrantCount (height_of s) (tree_state s) request answer c
 grant_of s request (Err e) new c h q t g n = record {

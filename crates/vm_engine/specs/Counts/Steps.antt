@@ -82,8 +82,9 @@ pub record EntersToFree (s : Shape) (key : Range) (answer : Result (Unit {0}) Er
   pub given : OnOk answer ((lower : Option Range) × (upper : Option Range) × HasHeld (blocks s) key lower upper ×
       (after ≡ before + nodes_around key s + nodes_to_widen key lower upper s))
 
--- The bounds on the nodes that `free` enters in a tree of height h. The root is always entered. Four paths are entered at
--- most: the search goes on from the block to both of its neighbours, each neighbour is removed, and the block is widened.
+-- The bounds on the nodes that `free` enters in a tree of height h. The root is always entered. The search and one more path
+-- to the block enter at most 2h nodes together. The removal of a neighbour adds at most h nodes, with those that it adds to
+-- that path.
 pub record IsFreeCount (h count : ℕ) : Type 0 where
   pub most : count ≤ 4 * h
   pub some : 1 ≤ count
