@@ -237,15 +237,15 @@ impl AddressAllocator {
     ///
     /// Let h be the [`height`](Self::height) and k the number of allocated ranges before the call.
     /// The count is
-    /// - at most 3h for `ExactMatch`.
-    /// - at most 2k + 1 + 2h for `FirstMatch` and `LastMatch`.
+    /// - at most 2h for `ExactMatch`.
+    /// - at most 2k + 1 + h for `FirstMatch` and `LastMatch`.
     /// - at least 1 for a success, and at least h / 2 for a success that splits its gap.
     /// - 0 for `InvalidSize`, `InvalidAlignment` and `UnalignedAddress`.
     ///
     /// A search enters a subtree only if one of its gaps is long enough and one has a multiple of
-    /// `alignment`. So `FirstMatch` and `LastMatch` enter at most h(v + 1) + 2h nodes, at most
-    /// h(v + 1) if they fail, and at most hv if they return `ResourceNotAvailable`. Here v is the
-    /// lesser of two numbers:
+    /// `alignment`. So `FirstMatch` and `LastMatch` enter at most h(v + 2) nodes, at most h(v + 1) if
+    /// they fail, and at most hv if they return `ResourceNotAvailable`. Here v is the lesser of two
+    /// numbers:
     /// - The gaps that are long enough but misaligned. This number is 0 if `alignment` is 1.
     /// - The gaps that have a multiple of `alignment` but are too short after it. There are at most
     ///   as many as multiples of `alignment` in the space.
@@ -292,10 +292,10 @@ impl AddressAllocator {
     /// A request without a window has the bounds of [`allocate_counted`](Self::allocate_counted). Let
     /// h be the [`height`](Self::height) and k the number of allocated ranges before the call. With a
     /// window, the count is
-    /// - at most 3h for `ExactMatch`.
-    /// - at most 2k + 1 + 2h for `FirstMatch` and `LastMatch`.
-    /// - at most h(v + 2) + 2h for these two, and at most h(v + 2) if they fail. Here v is the lesser
-    ///   of the two numbers of `allocate_counted`, of the parts of the gaps in the window.
+    /// - at most 2h for `ExactMatch`.
+    /// - at most 2k + 1 + h for `FirstMatch` and `LastMatch`.
+    /// - at most h(v + 3) for these two, and at most h(v + 2) if they fail. Here v is the lesser of
+    ///   the two numbers of `allocate_counted`, of the parts of the gaps in the window.
     ///
     /// # Errors
     ///
@@ -351,7 +351,7 @@ impl AddressAllocator {
     /// Frees like [`free`](Self::free), and also returns the number of tree nodes that the call
     /// entered.
     ///
-    /// The count is at least 1, and at most 5h if h is the [`height`](Self::height) before the
+    /// The count is at least 1, and at most 4h if h is the [`height`](Self::height) before the
     /// call.
     ///
     /// # Errors

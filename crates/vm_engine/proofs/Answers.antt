@@ -5,3 +5,4 @@ pub mod Filling
 pub mod AddressAnswers
 pub mod HeldAndGaps
 pub mod Meeting
+pub mod Capacity

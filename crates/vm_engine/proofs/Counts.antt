@@ -6,11 +6,15 @@ pub mod Searching
 pub mod WindowSearching
 pub mod SearchedGaps
 pub mod WindowGaps
+pub mod PlacePaths
+pub mod WindowPaths
+pub mod FoundPlaces
 pub mod GapBounds
 pub mod MisalignedGaps
 pub mod TooShortGaps
 pub mod LeftClear
 pub mod Granting
+pub mod RemovalPaths
 pub mod FreeCounts
 pub mod Balanced
 pub mod Allocating

@@ -8,3 +8,4 @@ pub mod Spaces
 pub mod CountedTrees
 pub mod UpdatedNodes
 pub mod AvlInsertion
+pub mod RemovedTrees

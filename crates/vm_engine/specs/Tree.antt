@@ -8,3 +8,4 @@ pub mod ShapeCode
 pub mod BlockEdits
 pub mod Fit
 pub mod FreeBeside
+pub mod Removal

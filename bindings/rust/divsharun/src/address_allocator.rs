@@ -420,9 +420,9 @@ impl AddressAllocator {
     /// Allocates a range like [`allocate`](Self::allocate), and also returns the number of tree
     /// nodes that the call entered.
     ///
-    /// Let h be the [`height`](Self::height) before the call. The count is at most 3h for
-    /// `ExactMatch`, and at most h(v + 1) + 2h for `FirstMatch` and `LastMatch`. Here v is the
-    /// lesser of two numbers:
+    /// Let h be the [`height`](Self::height) before the call. The count is at most 2h for
+    /// `ExactMatch`, and at most h(v + 2) for `FirstMatch` and `LastMatch`. Here v is the lesser of
+    /// two numbers:
     /// - the gaps that are long enough but misaligned (0 if `alignment` is 1);
     /// - the gaps that have a multiple of `alignment` but are too short after it.
     ///
@@ -446,9 +446,9 @@ impl AddressAllocator {
     /// the number of tree nodes that the call entered.
     ///
     /// Without a window, the bounds are those of [`allocate_counted`](Self::allocate_counted). With a
-    /// window, the count is at most 3h for `ExactMatch`, and at most h(v + 2) + 2h for `FirstMatch`
-    /// and `LastMatch`. Here h is the [`height`](Self::height) before the call, and v is the lesser
-    /// of two numbers:
+    /// window, the count is at most 2h for `ExactMatch`, and at most h(v + 3) for `FirstMatch` and
+    /// `LastMatch`. Here h is the [`height`](Self::height) before the call, and v is the lesser of
+    /// two numbers:
     /// - the gaps whose part in the window is long enough but misaligned (0 if the alignment is 1);
     /// - the gaps whose part in the window has a multiple of the alignment but is too short after
     ///   it.
@@ -493,7 +493,7 @@ impl AddressAllocator {
     }
 
     /// Frees a range like [`free`](Self::free), and also returns the number of tree nodes that the
-    /// call entered. The count is at most 5h, where h is the [`height`](Self::height) before the
+    /// call entered. The count is at most 4h, where h is the [`height`](Self::height) before the
     /// call.
     ///
     /// # Errors

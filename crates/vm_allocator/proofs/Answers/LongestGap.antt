@@ -5,9 +5,11 @@ use Rattle.std.proofs.lemmas.Bool.{cases_lt}
 use Rattle.vm_engine.specs.Address.{IsPlace}
 use Rattle.vm_engine.specs.Windows.{within}
 use Rattle.vm_engine.specs.Queries.{gaps_of, longest_in}
-use Rattle.vm_allocator.specs.Laws.GapLaws.{LongestDecides}
+use Rattle.vm_allocator.specs.Laws.GapLaws.{LongestDecides, LongGapSuffices}
 use Rattle.vm_engine.proofs.Answers.HeldAndGaps.{longest_fits}
 use Rattle.vm_allocator.proofs.Histories.HistoryAnswers.{answered}
+use Rattle.vm_engine.proofs.Answers.Capacity.{long_gap_fits}
+use Rattle.vm_ranges.proofs.Power.{alignment_pos}
 
 pub longest_decides : LongestDecides
 longest_decides old new request answer state sense one policy h =
@@ -25,3 +27,9 @@ longest_decides old new request answer state sense one policy h =
           by_places.no_place policy (λ s place.
           omega (arith, l, fits.0 (s, subst (λ (a : ℕ). IsPlace request.size a (within request.window old) s) one place))),
     )
+
+pub long_gap_suffices : LongGapSuffices
+long_gap_suffices old new request answer state sense policy long h e =
+    let place = long_gap_fits old request.window request.size request.align state sense.some (alignment_pos request.align sense.aligned) long in
+    let by_places = (answered request old new answer state h).valid sense in
+    by_places.only_there policy place.0 place.1 e

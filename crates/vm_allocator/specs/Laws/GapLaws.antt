@@ -1,5 +1,5 @@
 -- Laws of requests and the longest gap.
-use Rattle.std.specs.Prelude.{◌≡◌, ◌↔◌, ◌<◌, ◌⊎◌, Result, Err}
+use Rattle.std.specs.Prelude.{◌≡◌, ◌↔◌, ◌<◌, ◌⊎◌, Result, Err, ◌≢◌, ◌+◌, ◌-◌, ◌≤◌}
 use Rattle.vm_ranges.specs.Range.{Range}
 use Rattle.vm_ranges.specs.Request.{Request, IsRequest}
 use Rattle.vm_engine.specs.Address.{AddressState, IsAddressState}
@@ -17,3 +17,13 @@ LongestDecides =
     IsAddressState old → IsRequest request → request.align ≡ 1 →
     (request.policy ≡ FirstMatch) ⊎ (request.policy ≡ LastMatch) → Allocates old request answer new →
     (answer ≡ Err ResourceNotAvailable) ↔ (longest_in request.window (gaps_of old) < request.size)
+
+-- A valid request for n addresses at alignment a does not return ResourceNotAvailable if a gap has n + a - 1 addresses, or
+-- a part of a gap in its window. This is true for FirstMatch and LastMatch.
+abbrev pub LongGapSuffices : Type 0
+LongGapSuffices =
+    (old new : AddressState) (request : Request) (answer : Result Range Error) →
+    IsAddressState old → IsRequest request →
+    (request.policy ≡ FirstMatch) ⊎ (request.policy ≡ LastMatch) →
+    request.size + request.align - 1 ≤ longest_in request.window (gaps_of old) → Allocates old request answer new →
+    answer ≢ Err ResourceNotAvailable

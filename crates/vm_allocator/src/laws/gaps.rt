@@ -1,5 +1,5 @@
 //! Laws of requests and the longest gap.
-ghost use Rattle.vm_allocator.specs.Laws.GapLaws.{LongestDecides};
+ghost use Rattle.vm_allocator.specs.Laws.GapLaws.{LongestDecides, LongGapSuffices};
 
 /// States when a valid request of `FirstMatch` or `LastMatch` at alignment 1 is `ResourceNotAvailable`:
 /// exactly if it is longer than the longest gap.
@@ -7,4 +7,12 @@ ghost use Rattle.vm_allocator.specs.Laws.GapLaws.{LongestDecides};
 /// In a window, the longest part of a gap counts.
 fn longest_gap_decides()
     ensures { LongestDecides }
+{}
+
+/// States that a gap of n + a - 1 addresses suffices for a valid request of `FirstMatch` or `LastMatch`
+/// for n addresses at alignment a: it is not `ResourceNotAvailable`.
+///
+/// In a window, the part of the gap in the window counts.
+fn long_gap_suffices()
+    ensures { LongGapSuffices }
 {}

@@ -63,11 +63,11 @@ replace_middle lo k ys l x r p o =
     replace_past lo k ys l x r (omega (arith, ap (λ (a : Range). a.start) p)) o ∙ rw (p, same_range_self k)
 
 -- The same facts for finding a key.
-find_below : (lo : ℕ) (k : Range) (bs : List Block) → k.start < lo → IsOrderedFrom lo bs → find_key k bs ≡ None
+pub find_below : (lo : ℕ) (k : Range) (bs : List Block) → k.start < lo → IsOrderedFrom lo bs → find_key k bs ≡ None
 find_below lo k [] p o = refl
 find_below lo k (b ∷ bs) p o = rw (same_range_start k b.key (λ e. omega arith), find_below (b.key.end + 1) k bs (omega arith) o.2)
 
-find_left : (lo : ℕ) (k : Range) (l : List Block) (x : Block) (r : List Block) → Before k x.key → IsOrderedFrom lo (l ++ x ∷ r) → find_key k (l ++ x ∷ r) ≡ find_key k l
+pub find_left : (lo : ℕ) (k : Range) (l : List Block) (x : Block) (r : List Block) → Before k x.key → IsOrderedFrom lo (l ++ x ∷ r) → find_key k (l ++ x ∷ r) ≡ find_key k l
 find_left lo k [] x r p o =
     let q = starts_low k x.key p in
     rw (same_range_before k x.key (inl p), find_below (x.key.end + 1) k r (omega arith) o.2)
@@ -83,7 +83,7 @@ find_past lo k (b ∷ l) x r p o =
     let m = ordered_middle (b.key.end + 1) l x r o.2 in
     rw (same_range_start k b.key (λ e. omega (arith, m.0, o.1)), find_past (b.key.end + 1) k l x r p o.2)
 
-find_right : (lo : ℕ) (k : Range) (l : List Block) (x : Block) (r : List Block) → Before x.key k → IsOrderedFrom lo (l ++ x ∷ r) → find_key k (l ++ x ∷ r) ≡ find_key k r
+pub find_right : (lo : ℕ) (k : Range) (l : List Block) (x : Block) (r : List Block) → Before x.key k → IsOrderedFrom lo (l ++ x ∷ r) → find_key k (l ++ x ∷ r) ≡ find_key k r
 find_right lo k l x r p o =
     let q = starts_low x.key k p in
     find_past lo k l x r q o ∙ rw (same_range_before k x.key (inr p))
@@ -148,7 +148,7 @@ pub ruleset findings = (find_in_left, find_in_right, find_in_middle)
 pub same_range_true : (a b : Range) → same_range a b ≡ true → (a.start ≡ b.start) × (a.end ≡ b.end)
 same_range_true a b e = let t = and_parts (eqb a.start b.start) (eqb a.end b.end) e in (eqb-true a.start b.start t.0, eqb-true a.end b.end t.1)
 
-ordered_removed : (lo : ℕ) (k : Range) (bs : List Block) → IsOrderedFrom lo bs → IsOrderedFrom lo (replace_block k [] bs)
+pub ordered_removed : (lo : ℕ) (k : Range) (bs : List Block) → IsOrderedFrom lo bs → IsOrderedFrom lo (replace_block k [] bs)
 ordered_removed lo k [] o = tt
 ordered_removed lo k (b ∷ bs) o =
     elim (same_range k b.key) as (λ v. IsOrderedFrom lo (cond v bs (b ∷ replace_block k [] bs))) [

@@ -1,14 +1,14 @@
 -- The number of nodes that a request enters.
-use Rattle.std.proofs.Common.{◌≡◌, ◌≢◌, ℕ, ◌+◌, ◌*◌, ◌<◌, ◌≤◌, Bool, true, false, cond, eqb, refl, sym, subst, arith, inl, inr, ⊎_elim, Option, Some, None, Result, Ok, Err, OnOk, IfOk, length, ◌⊎◌}
+use Rattle.std.proofs.Common.{◌≡◌, ◌≢◌, ℕ, ◌+◌, ◌*◌, ◌<◌, ◌≤◌, eqb, refl, sym, subst, arith, inl, inr, Option, Some, None, Result, Ok, Err, OnOk, IfOk, length, ◌⊎◌}
 use Rattle.std.proofs.lemmas.Bool.{lt-ltb}
-use Rattle.vm_ranges.specs.Range.{Range, MAX, at_address}
+use Rattle.vm_ranges.specs.Range.{Range, MAX, at_address, span}
 use Rattle.vm_engine.specs.Address.{AddressState, SplitsGap}
-use Rattle.vm_ranges.specs.Request.{Request}
-use Rattle.vm_engine.specs.Answer.{AllocatesAt}
+use Rattle.vm_ranges.specs.Request.{Request, IsRequest}
+use Rattle.vm_engine.specs.Answer.{AllocatesAt, IsChosen, Grants}
 use Rattle.vm_engine.specs.Tree.Block.{free_block}
 use Rattle.vm_engine.specs.Tree.BlockEdits.{before_part, after_part, IsTakenFrom, NeedsSplit}
 use Rattle.vm_engine.specs.Tree.Shape.{Shape, Tip, Fork, blocks, height_of, node_count, IsTree, leaf_of}
-use Rattle.vm_engine.specs.Counts.NodeCounts.{nodes_across, nodes_by_policy, nodes_of_search, nodes_to_split, nodes_to_allocate, nodes_if_allocated}
+use Rattle.vm_engine.specs.Counts.NodeCounts.{nodes_to_address, nodes_by_policy, nodes_of_search, nodes_to_split, nodes_to_allocate, nodes_if_allocated, has_fit, has_fit_in, nodes_to, nodes_of_first, nodes_of_last, nodes_of_first_in, nodes_of_last_in}
 use Rattle.vm_engine.specs.Engine.Choosing.{max_searched, IsChosenPlace}
 use Rattle.vm_engine.specs.Tree.SpaceTree.{space_of, tree_state, IsSpaceTree}
 use Rattle.vm_engine.specs.Counts.Steps.{max_entered, IsGrantCount, IsHeldIn, Enters, SplitsIfLow, NoneEndsBelowMax, SPLIT_HEIGHT_LIMIT}
@@ -20,26 +20,25 @@ use Rattle.vm_engine.specs.declared.node.places.Place.{Place}
 use Rattle.vm_engine.proofs.Splitting.TakenRanges.{as_blocks}
 use Rattle.vm_engine.proofs.Blocks.OneList.{few_blocks}
 use Rattle.vm_engine.proofs.Nodes.Spaces.{few_nodes, no_empty_tree}
-use Rattle.vm_engine.proofs.Counts.NodeCountBounds.{nodes_across_at_most}
-use Rattle.vm_engine.proofs.Counts.SplitCounts.{nodes_to_split_at_most, half_of_split}
-use Rattle.vm_engine.proofs.Counts.Searching.{first_nodes_at_most, last_nodes_at_most}
+use Rattle.vm_engine.proofs.Counts.NodeCountBounds.{nodes_to_address_at_most}
+use Rattle.vm_engine.proofs.Counts.SplitCounts.{half_of_split}
+use Rattle.vm_engine.proofs.Counts.Searching.{first_nodes_at_most, last_nodes_at_most, none_or_at_most}
 use Rattle.vm_engine.proofs.Counts.WindowSearching.{first_nodes_at_most_in, last_nodes_at_most_in}
 use Rattle.vm_engine.proofs.Nodes.MinNodes.{node_count-blocks}
 use Rattle.vm_engine.proofs.Counts.LeftClear.{needs_split}
+use Rattle.vm_engine.specs.Windows.{within}
+use Rattle.vm_engine.proofs.Counts.FoundPlaces.{fits_there, fits_part, keys_of, given_range, granted_place}
+use Rattle.vm_engine.proofs.Counts.PlacePaths.{path_and_split, left_first_and_split, right_first_and_split, first_is_left_first, last_is_right_first, address_at_most_path}
+use Rattle.vm_engine.proofs.Counts.WindowPaths.{first_is_left_first_in, last_is_right_first_in}
+use Rattle.vm_engine.proofs.Answers.Requests.{request_in}
+use Rattle.vm_engine.proofs.Answers.Once.{place_in_window}
+use Rattle.vm_engine.proofs.Choosing.Places.{place_divides}
+use Rattle.vm_engine.proofs.Choosing.WindowPlaces.{lies_in}
+use Rattle.vm_ranges.proofs.Power.{alignment_pos}
 
 -- ---- The numbers
 pub few_in : (s : Shape) → IsSpaceTree s → node_count s ≤ 2 * length (tree_state s).held + 1
 few_in s h = omega (arith, few_blocks (tree_state s) (blocks s) (as_blocks (space_of (blocks s)) (blocks s) h.tiling.tiles), node_count-blocks s)
-
-searched : (policy : AllocPolicy) (s : Shape) (m : ℕ) → IsSpaceTree s → m ≤ max_searched policy s + 2 * height_of s → m ≤ max_entered policy (height_of s) (length (tree_state s).held)
-searched FirstMatch s m h l = omega (arith, few_in s h)
-searched LastMatch s m h l = omega (arith, few_in s h)
-searched (ExactMatch t) s m h l = omega arith
-
--- The range that is returned is the range that was allocated.
-given_range : (old new : AddressState) (r p : Range) → AllocatesAt old r (Ok p) new → p ≡ r
-unfolding AllocatesAt
-given_range old new r p h = ⊎_elim (λ l. cc (l.0)) (λ k. ⊎_elim (λ o. absurd (cc o)) (λ o. absurd (cc (o.1))) k.2) h
 
 -- A range that splits its gap does not fill its block.
 given_part : (s : Shape) (place : Place) (r : Range) (new : AddressState) → IsSpaceTree s → IsChosenPlace (blocks s) place → AllocatesAt (tree_state s) place.range (Ok r) new → SplitsGap (tree_state s) r → NeedsSplit place.key place.range
@@ -63,16 +62,12 @@ refused_low h old request e n over = record { split = tt; memory = λ m. absurd 
 search_at_most : (request : Request) (s : Shape) → nodes_of_search request s ≤ max_searched request.policy s
 search_at_most request s = by_policy request.policy request.window
   where
-    named : (test : Bool) (most path : ℕ) → path ≤ most → cond test 0 path ≤ most
-    named true most path l = omega arith
-    named false most path l = l
-
     by_policy : (policy : AllocPolicy) (w : Option Range) → nodes_by_policy policy w request.size request.align s ≤ max_searched policy s
     by_policy FirstMatch None = first_nodes_at_most request.size request.align s
     by_policy FirstMatch (Some w) = first_nodes_at_most_in w request.size request.align s
     by_policy LastMatch None = last_nodes_at_most request.size request.align s
     by_policy LastMatch (Some w) = last_nodes_at_most_in w request.size request.align s
-    by_policy (ExactMatch t) w = named (eqb t MAX) (height_of s) (nodes_across (at_address t) s) (nodes_across_at_most (at_address t) s)
+    by_policy (ExactMatch t) w = none_or_at_most (eqb t MAX) (nodes_to_address t s) (height_of s) (nodes_to_address_at_most t s)
 
 most_at_most : (policy : AllocPolicy) (s : Shape) → max_searched policy s ≤ node_count s + height_of s
 most_at_most FirstMatch s = omega arith
@@ -120,24 +115,61 @@ left_over k r (inr l) = inr (rw (lt-ltb r.end k.end l) (λ e. absurd (cc e)))
 held_part : (s : Shape) (r : Range) (path : ℕ) → IsSpaceTree s → SplitsGap (tree_state s) r → (i : IsHeldIn s r path) → NeedsSplit i.key r
 held_part s r path h left i = needs_split (space_of (blocks s)) (blocks s) i.lower i.upper (free_block i.key) r h.tiling.tiles i.cut refl i.within left
 
-pub grant_of : (s : Shape) (request : Request) (answer : Result Range Error) (c : ℕ) → IsSpaceTree s → OnOk answer (IsTree s) → Enters s request answer 0 c → IsGrantCount (height_of s) (tree_state s) request answer c
-grant_of s request (Err e) c h t n = record {
-  most = searched request.policy s c h (omega (arith, n.refused, search_at_most request s));
+-- ---- The search and the split share a path
+refused_at_most : (policy : AllocPolicy) (s : Shape) (m : ℕ) → IsSpaceTree s → m ≤ max_searched policy s → m ≤ max_entered policy (height_of s) (length (tree_state s).held)
+refused_at_most FirstMatch s m h l = omega (arith, few_in s h)
+refused_at_most LastMatch s m h l = omega (arith, few_in s h)
+refused_at_most (ExactMatch t) s m h l = omega arith
+
+given_at_most : (policy : AllocPolicy) (w : Option Range) (n a t path : ℕ) (s : Shape) → IsSpaceTree s → 0 < n → 0 < a → IsChosen (request_in w n a policy) (tree_state s) t → IsHeldIn s (span t n) path
+    → nodes_by_policy policy w n a s + path ≤ max_entered policy (height_of s) (length (tree_state s).held)
+unfolding IsChosen
+given_at_most FirstMatch None n a t path s h z p c i =
+    let d = place_divides (tree_state s) n a t (place_in_window (request_in None n a FirstMatch) t (tree_state s) c) in
+    let both = left_first_and_split (nodes_of_first n a) (has_fit n a) (free_block i.key) (leaf_of (before_part i.key (span t n))) (leaf_of (after_part i.key (span t n))) (fits_there n a t i.key z p d i.within) (first_is_left_first n a) _ _ s i.lower i.upper (keys_of s h) i.cut in
+    omega (arith, i.path, both, few_in s h)
+given_at_most FirstMatch (Some w) n a t path s h z p c i =
+    let place = place_in_window (request_in (Some w) n a FirstMatch) t (tree_state s) c in
+    let d = place_divides (within (Some w) (tree_state s)) n a t place in
+    let fits = fits_part n a t i.key z p d i.within w (lies_in w n a (tree_state s) z t place) in
+    let both = left_first_and_split (nodes_of_first_in w n a) (has_fit_in w n a) (free_block i.key) (leaf_of (before_part i.key (span t n))) (leaf_of (after_part i.key (span t n))) fits (first_is_left_first_in w n a) _ _ s i.lower i.upper (keys_of s h) i.cut in
+    omega (arith, i.path, both, few_in s h)
+given_at_most LastMatch None n a t path s h z p c i =
+    let d = place_divides (tree_state s) n a t (place_in_window (request_in None n a LastMatch) t (tree_state s) c) in
+    let both = right_first_and_split (nodes_of_last n a) (has_fit n a) (free_block i.key) (leaf_of (before_part i.key (span t n))) (leaf_of (after_part i.key (span t n))) (fits_there n a t i.key z p d i.within) (last_is_right_first n a) _ _ s i.lower i.upper (keys_of s h) i.cut in
+    omega (arith, i.path, both, few_in s h)
+given_at_most LastMatch (Some w) n a t path s h z p c i =
+    let place = place_in_window (request_in (Some w) n a LastMatch) t (tree_state s) c in
+    let d = place_divides (within (Some w) (tree_state s)) n a t place in
+    let fits = fits_part n a t i.key z p d i.within w (lies_in w n a (tree_state s) z t place) in
+    let both = right_first_and_split (nodes_of_last_in w n a) (has_fit_in w n a) (free_block i.key) (leaf_of (before_part i.key (span t n))) (leaf_of (after_part i.key (span t n))) fits (last_is_right_first_in w n a) _ _ s i.lower i.upper (keys_of s h) i.cut in
+    omega (arith, i.path, both, few_in s h)
+given_at_most (ExactMatch u) w n a t path s h z p c i =
+    let same : t ≡ u = c.0 in
+    let across = address_at_most_path t _ _ (free_block i.key) s i.lower i.upper i.within.from (omega (arith, i.within.some, i.within.upto)) (keys_of s h) i.cut in
+    let search : nodes_to_address u s ≤ nodes_to i.key s = rw (← same) across in
+    omega (arith, i.path, none_or_at_most (eqb u MAX) (nodes_to_address u s) (nodes_to i.key s) search, path_and_split i.key (leaf_of (before_part i.key (span t n))) (leaf_of (after_part i.key (span t n))) s)
+
+pub grant_of : (s : Shape) (request : Request) (answer : Result Range Error) (new : AddressState) (c : ℕ) → IsSpaceTree s → IsRequest request → OnOk answer (IsTree s) → Grants (tree_state s) request answer new → Enters s request answer 0 c → IsGrantCount (height_of s) (tree_state s) request answer c
+grant_of s request (Err e) new c h q t g n = record {
+  most = refused_at_most request.policy s c h (omega (arith, n.refused, search_at_most request s));
   success = λ k. absurd (cc);
   split = tt;
 }
-grant_of s request (Ok r) c h t n =
+grant_of s request (Ok r) new c h q t g n =
     let path = n.given.0 in
     let held : IsHeldIn s r path = n.given.1 in
     let is : c ≡ 0 + nodes_of_search request s + path = n.given.2 in
-    let most : path ≤ 2 * height_of s = rw held.path (nodes_to_split_at_most held.key (leaf_of (before_part held.key r)) (leaf_of (after_part held.key r)) s) in
+    let taken = granted_place request (tree_state s) new r g in
+    let placed : IsHeldIn s (span taken.0 request.size) path = subst (λ (v : Range). IsHeldIn s v path) taken.2 held in
+    let most = given_at_most request.policy request.window request.size request.align taken.0 path s h q.some (alignment_pos request.align q.aligned) taken.1 placed in
     let some : 1 ≤ path = rw held.path (some_nodes held.key (leaf_of (before_part held.key r)) (leaf_of (after_part held.key r)) s h) in
     record {
-      most = searched request.policy s c h (omega (arith, search_at_most request s));
+      most = omega (arith, most);
       success = λ k. omega arith;
       split = λ left.
           let half = half_of_split held.key (leaf_of (before_part held.key r)) (leaf_of (after_part held.key r)) s (left_over held.key r (held_part s r path h left held)) t.balanced in
           omega (arith, held.path);
     }
 
-pub ruleset grantings = (few_nodes, search_fits, enters_refused, grant_of)
+pub ruleset grantings = (few_nodes, search_fits, enters_refused)

@@ -3,7 +3,7 @@ use Rattle.std.proofs.Common.{ℕ, ◌+◌, ◌-◌, ◌*◌, ◌≤◌, Bool, t
 use Rattle.vm_ranges.specs.Range.{Range}
 use Rattle.vm_ranges.specs.RangeOrder.{same_range, is_before}
 use Rattle.vm_engine.specs.Tree.Shape.{Shape, Tip, Fork, height_of, IsBalanced, IsTree}
-use Rattle.vm_engine.specs.Counts.NodeCounts.{nodes_down, nodes_to, nodes_across, nodes_to_first, nodes_to_last, nodes_to_join, nodes_to_delete, nodes_to_neighbours, nodes_around}
+use Rattle.vm_engine.specs.Counts.NodeCounts.{nodes_down, nodes_to, nodes_to_address, nodes_to_first, nodes_to_last, nodes_to_join, nodes_to_delete, nodes_to_neighbours, nodes_around}
 use Rattle.vm_ranges.specs.declared.state.NodeState.{NodeState}
 use Rattle.vm_ranges.specs.declared.state.NodeState.TheVariants.{Free, Allocated}
 use Rattle.vm_engine.proofs.Counts.NodeCountCases.{search_at_max, search_named, nodes_around_cases}
@@ -45,20 +45,20 @@ nodes_to_at_most k (Fork l b r) =
           (either_at_most (is_before k b.key) (nodes_to k l) (nodes_to k r) most (omega (arith, nodes_to_at_most k l)) (omega (arith, nodes_to_at_most k r))),
     )
 
-pub nodes_across_at_most : (k : Range) (s : Shape) → nodes_across k s ≤ height_of s
-unfolding nodes_across
-nodes_across_at_most k Tip = omega arith
-nodes_across_at_most k (Fork l b r) =
+pub nodes_to_address_at_most : (x : ℕ) (s : Shape) → nodes_to_address x s ≤ height_of s
+unfolding nodes_to_address
+nodes_to_address_at_most x Tip = omega arith
+nodes_to_address_at_most x (Fork l b r) =
     let most = height_of (Fork l b r) - 1 in
     omega (
       arith,
-      either_at_most (ltb k.end b.key.start) (nodes_across k l) _ most (omega (arith, nodes_across_at_most k l))
-          (either_at_most (ltb b.key.end k.start) (nodes_across k r) 0 most (omega (arith, nodes_across_at_most k r)) (omega arith)),
+      either_at_most (ltb x b.key.start) (nodes_to_address x l) _ most (omega (arith, nodes_to_address_at_most x l))
+          (either_at_most (ltb b.key.end x) (nodes_to_address x r) 0 most (omega (arith, nodes_to_address_at_most x r)) (omega arith)),
     )
 
-pub ruleset exact_nodes = (search_at_max, search_named, nodes_across_at_most)
+pub ruleset exact_nodes = (search_at_max, search_named, nodes_to_address_at_most)
 
-pub ruleset node_count_bounds = (nodes_down_at_most, height_at_most_twice, nodes_to_at_most, nodes_across_at_most)
+pub ruleset node_count_bounds = (nodes_down_at_most, height_at_most_twice, nodes_to_at_most, nodes_to_address_at_most)
 
 pub nodes_to_first_at_most : (s : Shape) → nodes_to_first s ≤ height_of s
 unfolding nodes_to_first
@@ -88,7 +88,7 @@ nodes_to_delete_at_most k (Fork l b r) =
 
 pub ruleset deletion_bounds = (nodes_to_first_at_most, nodes_to_join_at_most, nodes_to_delete_at_most)
 
-beside_at_most : (state : NodeState) (l r : Shape) → nodes_to_neighbours state l r ≤ height_of l + height_of r
+pub beside_at_most : (state : NodeState) (l r : Shape) → nodes_to_neighbours state l r ≤ height_of l + height_of r
 beside_at_most Free l r = omega arith
 beside_at_most Allocated l r = omega (arith, nodes_to_last_at_most l, nodes_to_first_at_most r)
 

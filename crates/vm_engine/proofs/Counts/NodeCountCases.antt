@@ -5,7 +5,7 @@ use Rattle.vm_ranges.specs.Range.{Range, MAX, at_address}
 use Rattle.vm_ranges.specs.RangeOrder.{Before, StartsBefore, StartsAtOrAfter, EndsBefore, EndsAtOrAfterStartOf, is_before}
 use Rattle.vm_engine.specs.Tree.Block.{Block}
 use Rattle.vm_engine.specs.Tree.Shape.{Shape, Tip, Fork}
-use Rattle.vm_engine.specs.Counts.NodeCounts.{nodes_down, nodes_to, nodes_across, nodes_to_first, nodes_to_last, nodes_to_join, nodes_to_delete, nodes_around, nodes_of_first, nodes_of_last, nodes_of_first_in, nodes_of_last_in, nodes_of_search}
+use Rattle.vm_engine.specs.Counts.NodeCounts.{nodes_down, nodes_to, nodes_to_address, nodes_to_first, nodes_to_last, nodes_to_join, nodes_to_delete, nodes_around, nodes_of_first, nodes_of_last, nodes_of_first_in, nodes_of_last_in, nodes_of_search}
 use Rattle.vm_ranges.specs.Request.{Request}
 use Rattle.vm_ranges.specs.declared.constraint.AllocPolicy.TheVariants.{FirstMatch, LastMatch, ExactMatch}
 use Rattle.vm_ranges.specs.declared.state.NodeState.TheVariants.{Free, Allocated}
@@ -57,24 +57,24 @@ nodes_to_right k l b r p = rw (same_range_before k b.key (inr p), after_first k 
 
 pub ruleset nodes_to_cases = (nodes_to_tip, nodes_to_here, nodes_to_left, nodes_to_right)
 
--- ---- To the first block that is neither entirely above nor entirely below a range
-pub nodes_across_tip : (k : Range) → nodes_across k Tip ≡ 0
-unfolding nodes_across
-nodes_across_tip k = refl
+-- ---- To the block that contains an address
+pub nodes_to_address_tip : (x : ℕ) → nodes_to_address x Tip ≡ 0
+unfolding nodes_to_address
+nodes_to_address_tip x = refl
 
-pub nodes_across_left : (x : ℕ) (l : Shape) (b : Block) (r : Shape) → x < b.key.start → nodes_across (at_address x) (Fork l b r) ≡ nodes_across (at_address x) l + 1
-unfolding nodes_across
-nodes_across_left x l b r p = rw (lt-ltb x b.key.start p)
+pub nodes_to_address_left : (x : ℕ) (l : Shape) (b : Block) (r : Shape) → x < b.key.start → nodes_to_address x (Fork l b r) ≡ nodes_to_address x l + 1
+unfolding nodes_to_address
+nodes_to_address_left x l b r p = rw (lt-ltb x b.key.start p)
 
-pub nodes_across_right : (x : ℕ) (l : Shape) (b : Block) (r : Shape) → b.key.start ≤ x → b.key.end < x → nodes_across (at_address x) (Fork l b r) ≡ nodes_across (at_address x) r + 1
-unfolding nodes_across
-nodes_across_right x l b r p q = rw (le-ltb x b.key.start p, lt-ltb b.key.end x q)
+pub nodes_to_address_right : (x : ℕ) (l : Shape) (b : Block) (r : Shape) → b.key.start ≤ x → b.key.end < x → nodes_to_address x (Fork l b r) ≡ nodes_to_address x r + 1
+unfolding nodes_to_address
+nodes_to_address_right x l b r p q = rw (le-ltb x b.key.start p, lt-ltb b.key.end x q)
 
-pub nodes_across_here : (x : ℕ) (l : Shape) (b : Block) (r : Shape) → b.key.start ≤ x → x ≤ b.key.end → nodes_across (at_address x) (Fork l b r) ≡ 1
-unfolding nodes_across
-nodes_across_here x l b r p q = rw (le-ltb x b.key.start p, le-ltb b.key.end x q)
+pub nodes_to_address_here : (x : ℕ) (l : Shape) (b : Block) (r : Shape) → b.key.start ≤ x → x ≤ b.key.end → nodes_to_address x (Fork l b r) ≡ 1
+unfolding nodes_to_address
+nodes_to_address_here x l b r p q = rw (le-ltb x b.key.start p, le-ltb b.key.end x q)
 
-pub ruleset nodes_across_cases = (nodes_across_tip, nodes_across_left, nodes_across_right, nodes_across_here)
+pub ruleset nodes_to_address_cases = (nodes_to_address_tip, nodes_to_address_left, nodes_to_address_right, nodes_to_address_here)
 
 -- ---- To the first and to the last block
 pub nodes_to_first_tip : nodes_to_first Tip ≡ 0
@@ -172,5 +172,5 @@ search_last_in request k s e w = rw (e, w) refl
 pub search_at_max : (request : Request) (t : ℕ) (s : Shape) → request.policy ≡ ExactMatch t → t ≡ MAX → nodes_of_search request s ≡ 0
 search_at_max request t s e m = rw (e, eq-eqb t MAX m) refl
 
-pub search_named : (request : Request) (t : ℕ) (k : Range) (s : Shape) → request.policy ≡ ExactMatch t → t < MAX → k ≡ at_address t → nodes_of_search request s ≡ nodes_across k s
-search_named request t k s e l a = rw (e, a, ne_eqb t MAX (λ p. omega arith)) refl
+pub search_named : (request : Request) (t : ℕ) (s : Shape) → request.policy ≡ ExactMatch t → t < MAX → nodes_of_search request s ≡ nodes_to_address t s
+search_named request t s e l = rw (e, ne_eqb t MAX (λ p. omega arith)) refl

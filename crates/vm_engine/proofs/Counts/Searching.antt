@@ -103,11 +103,11 @@ pub height_at_most_nodes : (s : Shape) → height_of s ≤ node_count s
 height_at_most_nodes Tip = omega arith
 height_at_most_nodes (Fork l b r) = omega (arith, height_at_most_nodes l, height_at_most_nodes r)
 
-if_at_most : (t : Bool) (x most : ℕ) → x ≤ most → cond t x 0 ≤ most
+pub if_at_most : (t : Bool) (x most : ℕ) → x ≤ most → cond t x 0 ≤ most
 if_at_most true x most p = p
 if_at_most false x most p = omega arith
 
-none_or_at_most : (t : Bool) (x most : ℕ) → x ≤ most → cond t 0 x ≤ most
+pub none_or_at_most : (t : Bool) (x most : ℕ) → x ≤ most → cond t 0 x ≤ most
 none_or_at_most true x most p = omega arith
 none_or_at_most false x most p = p
 

@@ -17,19 +17,19 @@ use Rattle.vm_engine.specs.Counts.NodeCounts.{has_fit, has_fit_in, may_fit_in, n
 use Rattle.vm_engine.proofs.Counts.SearchedGaps.{HasOneWithoutPlace, among_append, one_more}
 
 -- ---- 1 if x is below y, otherwise 0
-abbrev below : ℕ → ℕ → ℕ
+abbrev pub below : ℕ → ℕ → ℕ
 below x y = cond (ltb x y) 1 0
 
 below_is : (x y : ℕ) → x < y → below x y ≡ 1
 below_is x y p = rw (lt-ltb x y p) refl
 
-not_below : (x y : ℕ) → y ≤ x → below x y ≡ 0
+pub not_below : (x y : ℕ) → y ≤ x → below x y ≡ 0
 not_below x y p = rw (le-ltb x y p) refl
 
-below_most : (x y : ℕ) → below x y ≤ 1
+pub below_most : (x y : ℕ) → below x y ≤ 1
 below_most x y = ⊎_elim (λ (p : x < y). omega (arith, below_is x y p)) (λ (p : y ≤ x). omega (arith, not_below x y p)) (cases_lt x y)
 
-below_rises : (x y v w : ℕ) → v ≤ x → y ≤ w → below x y ≤ below v w
+pub below_rises : (x y v w : ℕ) → v ≤ x → y ≤ w → below x y ≤ below v w
 below_rises x y v w p q =
     ⊎_elim
     (λ (k : x < y). omega (arith, below_is x y k, below_is v w (omega arith)))
@@ -37,7 +37,7 @@ below_rises x y v w p q =
     (cases_lt x y)
 
 -- A child that is passed enters no node, and needs no gap.
-if_entered : (t : Bool) (count h v c : ℕ) → count ≤ h * (v + c) → cond t count 0 ≤ h * (v + cond t c 0)
+pub if_entered : (t : Bool) (count h v c : ℕ) → count ≤ h * (v + c) → cond t count 0 ≤ h * (v + cond t c 0)
 if_entered true count h v c p = p
 if_entered false count h v c p = omega arith
 
@@ -53,10 +53,10 @@ widened h v x count p u =
     let more : h * (v + x) ≤ h * (v + 2) = mul-le-mul (omega arith) (omega arith) in omega arith
 
 -- ---- The keys of both children of a node
-abbrev AreSides : ℕ → List Block → Block → List Block → ℕ → Type 0
+abbrev pub AreSides : ℕ → List Block → Block → List Block → ℕ → Type 0
 AreSides lo xs b ys hi = AreKeysIn lo xs (b.key.start - 1) × (lo ≤ b.key.start) × (b.key.start ≤ b.key.end) × (b.key.end ≤ hi) × AreKeysIn (b.key.end + 1) ys hi
 
-sides : (lo hi : ℕ) (xs : List Block) (b : Block) (ys : List Block) → AreKeysIn lo (xs ++ b ∷ ys) hi → AreSides lo xs b ys hi
+pub sides : (lo hi : ℕ) (xs : List Block) (b : Block) (ys : List Block) → AreKeysIn lo (xs ++ b ∷ ys) hi → AreSides lo xs b ys hi
 sides lo hi [] b ys k = (tt, k.0, k.1, k.2, k.3)
 sides lo hi (x ∷ xs) b ys k =
     let rest = sides (x.key.end + 1) hi xs b ys k.3 in
@@ -64,10 +64,10 @@ sides lo hi (x ∷ xs) b ys k =
 
 -- ---- A window
 module _ (w : Range) (n a : ℕ) (q : Block → Bool) where
-  abbrev parts : List Block → ℕ
+  abbrev pub parts : List Block → ℕ
   parts bs = length (filter (on_part w q) bs)
 
-  parts_split : (l : Shape) (b : Block) (r : Shape) → parts (blocks l) + parts (blocks r) ≤ parts (blocks (Fork l b r))
+  pub parts_split : (l : Shape) (b : Block) (r : Shape) → parts (blocks l) + parts (blocks r) ≤ parts (blocks (Fork l b r))
   parts_split l b r = omega (arith, among_append (on_part w q) (blocks l) (b ∷ blocks r), among_append (on_part w q) (b ∷ []) (blocks r))
 
   none_split : (l : Shape) (b : Block) (r : Shape) → list_any (has_fit_in w n a) (blocks (Fork l b r)) ≡ false
@@ -103,10 +103,10 @@ module _ (w : Range) (n a : ℕ) (q : Block → Bool) where
       by_test false true e h = absurd (cc e)
 
   -- ---- A node whose keys lie from lo to hi: 1 if the window cuts it below, and 1 if the window cuts it above
-  abbrev lower : ℕ → ℕ
+  abbrev pub lower : ℕ → ℕ
   lower lo = below lo w.start
 
-  abbrev upper : ℕ → ℕ
+  abbrev pub upper : ℕ → ℕ
   upper hi = below w.end hi
 
   module _ (some : HasOneWithoutPlace n a q) where
@@ -192,7 +192,7 @@ module _ (w : Range) (n a : ℕ) (q : Block → Bool) where
 
   module _ (some : HasOneWithoutPlace n a q) where
     -- ---- The search for the lowest place
-    first_in_vain : (lo hi : ℕ) (s : Shape) → AreKeysIn lo (blocks s) hi → list_any (has_fit_in w n a) (blocks s) ≡ false → nodes_of_first_in w n a s ≤ height_of s * (parts (blocks s) + (lower lo + upper hi))
+    pub first_in_vain : (lo hi : ℕ) (s : Shape) → AreKeysIn lo (blocks s) hi → list_any (has_fit_in w n a) (blocks s) ≡ false → nodes_of_first_in w n a s ≤ height_of s * (parts (blocks s) + (lower lo + upper hi))
     unfolding nodes_of_first_in
     first_in_vain lo hi Tip k e = omega arith
     first_in_vain lo hi (Fork l b r) k e =
@@ -225,7 +225,7 @@ module _ (w : Range) (n a : ℕ) (q : Block → Bool) where
             step l b r _ _ _ _ (lower lo + 1) left right (cuts_to_right lo hi b.key.start b.key.end i.1 i.2 i.3) (omega arith)
 
     -- ---- The search for the highest place
-    last_in_vain : (lo hi : ℕ) (s : Shape) → AreKeysIn lo (blocks s) hi → list_any (has_fit_in w n a) (blocks s) ≡ false → nodes_of_last_in w n a s ≤ height_of s * (parts (blocks s) + (lower lo + upper hi))
+    pub last_in_vain : (lo hi : ℕ) (s : Shape) → AreKeysIn lo (blocks s) hi → list_any (has_fit_in w n a) (blocks s) ≡ false → nodes_of_last_in w n a s ≤ height_of s * (parts (blocks s) + (lower lo + upper hi))
     unfolding nodes_of_last_in
     last_in_vain lo hi Tip k e = omega arith
     last_in_vain lo hi (Fork l b r) k e =

@@ -1,5 +1,5 @@
 -- The summary of a node after an update, and the reported change.
-use Rattle.std.proofs.Common.{◌∙◌, ◌≡◌, ℕ, ◌+◌, ◌∷◌, ◌++◌, Option, max, refl, ap, arith}
+use Rattle.std.proofs.Common.{◌∙◌, ◌≡◌, ℕ, ◌+◌, ◌∷◌, ◌++◌, Option, max, refl, ap, arith, sym}
 use Rattle.std.proofs.lemmas.Grind.{common_steps}
 use Rattle.std.specs.Global.{Box}
 use Rattle.vm_engine.specs.Tree.Block.{Block, free_length}
@@ -17,6 +17,8 @@ use Rattle.vm_engine.specs.declared.node.summary.Summary.{Summary}
 use Rattle.vm_engine.specs.declared.node.summary.Change.{Change}
 use Rattle.vm_engine.specs.declared.node.summary.Change.TheVariants.{Nothing, FreeOnly, Height}
 use Rattle.vm_engine.proofs.Blocks.BlockOrder.{ordered_middle}
+use Rattle.vm_engine.specs.Tree.Removal.{balanced_over}
+use Rattle.vm_engine.proofs.Nodes.RemovedTrees.{near_is}
 
 -- An unchanged height fits every reported change.
 pub height_unchanged : (reported : Change) (n : ℕ) → KeepsHeight reported n n
@@ -32,6 +34,7 @@ pub record IsRebalanced (own : Block) (old : RawNode) (n : Shape) (reported : Ch
   pub blocks : blocks n ≡ blocks (side old.left) ++ own ∷ blocks (side old.right)
   pub height : IsHeightAfterBalance (height_of (side old.left)) (height_of (side old.right)) (height_of n)
   pub node : DifferByAtMost 1 (height_of (side old.left)) (height_of (side old.right)) → n ≡ Fork (side old.left) own (side old.right)
+  pub shape : n ≡ balanced_over (side old.left) own (side old.right)
   pub over_left : height_of (side old.left) ≡ height_of (side old.right) + 2 → IsUneven (side old.left) → height_of n ≡ height_of (side old.left)
   pub over_right : height_of (side old.right) ≡ height_of (side old.left) + 2 → IsUneven (side old.right) → height_of n ≡ height_of (side old.right)
   pub keeps_height : KeepsHeight reported old.summary.height (height_of n)
@@ -49,6 +52,7 @@ rebalanced own old (Balanced change) new at after reported o l r s e f =
       blocks = ap blocks n;
       height = rw n (omega arith, omega arith, λ d. refl);
       node = λ d. n;
+      shape = n ∙ sym (near_is (side old.left) own (side old.right) s.2);
       over_left = λ h u. absurd (omega (arith, s.2.0, s.2.1));
       over_right = λ h u. absurd (omega (arith, s.2.0, s.2.1));
       keeps_height = rw (f.1, n, ← s.3.0) s.4;
@@ -60,6 +64,7 @@ rebalanced own old (Unbalanced first second) new at after reported o l r s e f =
   blocks = rw f.1.blocks (rw e refl);
   height = f.1.height;
   node = rw e at f.1.node;
+  shape = rw e at f.1.shape;
   over_left = f.1.over_left;
   over_right = f.1.over_right;
   keeps_height = tt;

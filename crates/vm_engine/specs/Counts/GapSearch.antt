@@ -11,7 +11,6 @@ use Rattle.vm_engine.specs.Windows.{cut_to}
 use Rattle.vm_engine.specs.Tree.Blocks.{blocks_of}
 use Rattle.vm_ranges.specs.Request.{Request, ByPolicy}
 use Rattle.vm_engine.specs.Counts.NodeCounts.{has_fit}
-use Rattle.vm_engine.specs.Counts.Steps.{max_on_paths}
 use Rattle.vm_ranges.specs.declared.error.Error.{Error}
 use Rattle.vm_ranges.specs.declared.error.Error.TheVariants.{ResourceNotAvailable}
 
@@ -52,15 +51,16 @@ too_short_gaps state request = passing request.window (is_too_short request.size
 
 -- The bound on the nodes that an allocation enters in a tree of height h if the search looks at v gaps without a place.
 -- An allocation that fails enters only the nodes of its search. A search that finds no place enters at most h nodes for each
--- of these gaps.
+-- of these gaps. A success enters at most 2h nodes more: the path to the place, and the split there.
 pub record IsGapSearchCount (h v : ℕ) (answer : Result Range Error) (count : ℕ) : Type 0 where
-  pub most : count ≤ h * (v + 1) + max_on_paths h
+  pub most : count ≤ h * (v + 2)
   pub refused : OnErr answer (count ≤ h * (v + 1))
   pub none : answer ≡ Err ResourceNotAvailable → count ≤ h * v
 
--- The bound for a search within a window. It can also enter the paths to both ends of the window, and the one to the place.
+-- The bound for a search within a window. It can also enter the path to one end of the window, or to both ends if it finds no
+-- place.
 pub record IsWindowSearchCount (h v : ℕ) (answer : Result Range Error) (count : ℕ) : Type 0 where
-  pub most : count ≤ h * (v + 2) + max_on_paths h
+  pub most : count ≤ h * (v + 3)
   pub refused : OnErr answer (count ≤ h * (v + 2))
 
 -- The bound for v gaps is true if the policy is FirstMatch or LastMatch.

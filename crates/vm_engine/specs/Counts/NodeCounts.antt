@@ -26,11 +26,11 @@ nodes_to k Tip = 0
 nodes_to k (Fork l b r) =
     (if same_range k b.key then 0 else if is_before k b.key then nodes_to k l else nodes_to k r) + 1
 
--- The nodes on the path to the first block that is neither entirely above nor entirely below the range k.
-unfoldable pub nodes_across : Range → Shape → ℕ
-nodes_across k Tip = 0
-nodes_across k (Fork l b r) =
-    (if nat_lt k.end b.key.start then nodes_across k l else if nat_lt b.key.end k.start then nodes_across k r else 0) + 1
+-- The nodes on the path to the block that contains the address x, or to the link where such a block would be.
+unfoldable pub nodes_to_address : ℕ → Shape → ℕ
+nodes_to_address x Tip = 0
+nodes_to_address x (Fork l b r) =
+    (if nat_lt x b.key.start then nodes_to_address x l else if nat_lt b.key.end x then nodes_to_address x r else 0) + 1
 
 -- The nodes on the path to the first block.
 unfoldable pub nodes_to_first : Shape → ℕ
@@ -162,7 +162,7 @@ nodes_to_highest (Some w) n a s = nodes_of_last_in w n a s
 abbrev pub nodes_by_policy : AllocPolicy → Option Range → ℕ → ℕ → Shape → ℕ
 nodes_by_policy FirstMatch w n a s = nodes_to_lowest w n a s
 nodes_by_policy LastMatch w n a s = nodes_to_highest w n a s
-nodes_by_policy (ExactMatch t) w n a s = if t == MAX then 0 else nodes_across (at_address t) s
+nodes_by_policy (ExactMatch t) w n a s = if t == MAX then 0 else nodes_to_address t s
 
 -- The nodes that the search for the place of a request enters.
 abbrev pub nodes_of_search : Request → Shape → ℕ

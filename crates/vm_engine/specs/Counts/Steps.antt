@@ -1,5 +1,5 @@
 -- The number of nodes that a call enters in a balanced tree.
-use Rattle.std.specs.Prelude.{◌≡◌, ℕ, ◌+◌, ◌-◌, ◌*◌, ◌^◌, ◌<◌, ◌≤◌, ◌⊎◌, List, ◌∷◌, ◌++◌, Option, None, Result, IfOk, IsOk, OnOk, OnErr, Err, length}
+use Rattle.std.specs.Prelude.{◌≡◌, ℕ, ◌+◌, ◌-◌, ◌*◌, ◌^◌, ◌<◌, ◌≤◌, ◌⊎◌, List, ◌∷◌, ◌++◌, Option, Result, IfOk, IsOk, OnOk, OnErr, Err, length}
 use Rattle.vm_ranges.specs.Range.{Range, MAX}
 use Rattle.vm_engine.specs.Tree.Block.{Block, free_block}
 use Rattle.vm_engine.specs.Address.{AddressState, SplitsGap}
@@ -8,13 +8,14 @@ use Rattle.vm_engine.specs.Tree.Blocks.{IsBlocksOf}
 use Rattle.vm_ranges.specs.Request.{Request, IsRequest, MakesConstraint}
 use Rattle.vm_engine.specs.Tree.Shape.{Shape, MAX_HEIGHT, blocks, height_of, node_count, IsBalanced}
 use Rattle.vm_engine.specs.Tree.BlockEdits.{IsTakenFrom}
-use Rattle.vm_engine.specs.Tree.FreeBeside.{HasHeld, without_if_some}
+use Rattle.vm_engine.specs.Tree.FreeBeside.{HasHeld}
 use Rattle.vm_engine.specs.Counts.NodeCounts.{nodes_of_search, nodes_to_allocate, nodes_to, nodes_around, nodes_to_delete_if_some}
 use Rattle.vm_engine.specs.Counts.Fibonacci.{fibonacci}
 use Rattle.vm_ranges.specs.declared.error.Error.{Error}
 use Rattle.vm_ranges.specs.declared.error.Error.TheVariants.{OutOfMemory, Overflow}
 use Rattle.vm_ranges.specs.declared.constraint.AllocPolicy.{AllocPolicy}
 use Rattle.vm_ranges.specs.declared.constraint.AllocPolicy.TheVariants.{FirstMatch, LastMatch, ExactMatch}
+use Rattle.vm_engine.specs.Tree.Removal.{without_key_if_some}
 
 -- s is a balanced tree of the blocks of the state. It has at least as many nodes as its height requires, and at most 2k
 -- + 1 nodes for k held ranges.
@@ -27,17 +28,13 @@ pub record IsBalancedTreeOf (state : AddressState) (s : Shape) : Type 0 where
   pub low : fibonacci (height_of s + 2) ≤ 2 * length state.held + 2
   pub height : height_of s ≤ MAX_HEIGHT
 
--- The maximum number of nodes that an allocation enters in a tree of height h after the search: the path to the block,
--- and the paths to the two leaves that a split links below it.
-abbrev pub max_on_paths : ℕ → ℕ
-max_on_paths h = 2 * h
-
--- The maximum number of nodes that a request enters with k held ranges. FirstMatch and LastMatch can enter all nodes in
--- their search, and ExactMatch enters those of one path.
+-- The maximum number of nodes that a request enters in a tree of height h with k held ranges. FirstMatch and LastMatch can
+-- enter all nodes, and those of one path again. ExactMatch enters the nodes of two paths: the search and the split share the
+-- path to the block, and the split enters one path in each child of the block.
 abbrev pub max_entered : AllocPolicy → ℕ → ℕ → ℕ
-max_entered FirstMatch h k = 2 * k + 1 + max_on_paths h
-max_entered LastMatch h k = 2 * k + 1 + max_on_paths h
-max_entered (ExactMatch t) h k = h + max_on_paths h
+max_entered FirstMatch h k = 2 * k + 1 + h
+max_entered LastMatch h k = 2 * k + 1 + h
+max_entered (ExactMatch t) h k = 2 * h
 
 -- The bounds on the nodes that a request enters in a tree of height h. A success enters at least 1. A split enters at
 -- least h / 2, because each path from the root to an absent child has at least h / 2 nodes.
@@ -71,29 +68,25 @@ pub record EntersToAllocate (s : Shape) (request : Request) (answer : Result Ran
   pub invalid : (e : Error) → MakesConstraint request (Err e) → count ≡ 0
   pub valid : IsRequest request → Enters s request answer 0 count
 
--- The nodes entered to join a held block with its free neighbours. Each neighbour is removed from the tree that the
--- previous deletion leaves. The block is then widened in the last tree.
-pub record IsJoinCount (s : Shape) (key : Range) (lower upper : Option Range) (before after : ℕ) : Type 0 where
-  pub mid : Shape
-  pub last : Shape
-  pub without_first : blocks mid ≡ without_if_some lower (blocks s)
-  pub without_both : blocks last ≡ without_if_some upper (blocks mid)
-  pub same_first : lower ≡ None → mid ≡ s
-  pub same_last : upper ≡ None → last ≡ mid
-  pub no_higher : (height_of mid ≤ height_of s) × (height_of last ≤ height_of mid)
-  pub count : after ≡ before + nodes_to_delete_if_some lower s + nodes_to_delete_if_some upper mid + nodes_to key last
+-- The nodes entered to join the held block `key` with its free neighbours `lower` and `upper`. Each neighbour is removed from
+-- the tree that the previous removal leaves. The block is then widened in the last tree, at the end of the path to it.
+unfoldable pub nodes_to_widen : Range → Option Range → Option Range → Shape → ℕ
+nodes_to_widen key lower upper s =
+    let mid : Shape = without_key_if_some lower s in
+    nodes_to_delete_if_some lower s + nodes_to_delete_if_some upper mid + nodes_to key (without_key_if_some upper mid)
 
 -- The exact number of nodes that `free` enters, from the count `before` to the count `after`: those of the search, and
--- if the range is held also those of `IsJoinCount`.
+-- if the range is held also those that join it with its free neighbours.
 pub record EntersToFree (s : Shape) (key : Range) (answer : Result (Unit {0}) Error) (before after : ℕ) : Type 0 where
   pub refused : OnErr answer (after ≡ before + nodes_around key s)
   pub given : OnOk answer ((lower : Option Range) × (upper : Option Range) × HasHeld (blocks s) key lower upper ×
-      IsJoinCount s key lower upper (before + nodes_around key s) after)
+      (after ≡ before + nodes_around key s + nodes_to_widen key lower upper s))
 
--- The bounds on the nodes that `free` enters in a tree of height h. The root is always entered. The
--- search for the block and its neighbours enters at most 2h nodes, and each deletion and the widening enter at most h.
+-- The bounds on the nodes that `free` enters in a tree of height h. The root is always entered. The search and one more path
+-- to the block enter at most 2h nodes together. The removal of a neighbour adds at most h nodes, with those that it adds to
+-- that path.
 pub record IsFreeCount (h count : ℕ) : Type 0 where
-  pub most : count ≤ 5 * h
+  pub most : count ≤ 4 * h
   pub some : 1 ≤ count
 
 -- Trees of this height or more are not split.

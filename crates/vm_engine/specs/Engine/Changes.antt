@@ -6,6 +6,7 @@ use Rattle.vm_engine.specs.Tree.BlockList.{IsOrderedFrom, find_key}
 use Rattle.vm_engine.specs.Tree.Shape.{Shape, Tip, Fork, blocks, height_of, max_free_of, alignments_of, single, root_block, DifferByAtMost, IsTree}
 use Rattle.vm_engine.specs.declared.node.summary.Change.{Change}
 use Rattle.vm_engine.specs.declared.node.summary.Change.TheVariants.{Nothing, FreeOnly, Height}
+use Rattle.vm_engine.specs.Tree.Removal.{balanced_over}
 
 -- h is a possible height of a balanced tree over children of heights l and r: the greater of l and r, or one more. If
 -- no rotation is needed, it is one more.
@@ -37,13 +38,14 @@ pub record CanBalance (left : Shape) (middle : Block) (right : Shape) : Type 0 w
   pub near : DifferByAtMost 2 (height_of left) (height_of right)
   pub height_fits : max (height_of left) (height_of right) + 1 < 2 ^ 32
 
--- `balanced` is a balanced tree of the blocks of both children and the block between them. Without a rotation it is the
--- node over both children. A rotation towards an uneven child makes it as high as that child.
+-- `balanced` is a balanced tree of the blocks of both children and the block between them: the node over both children, after
+-- the rotations that it needs. A rotation towards an uneven child makes it as high as that child.
 pub record Balances (left : Shape) (middle : Block) (right balanced : Shape) : Type 0 where
   pub tree : IsTree balanced
   pub blocks : blocks balanced ≡ blocks left ++ middle ∷ blocks right
   pub height : IsHeightAfterBalance (height_of left) (height_of right) (height_of balanced)
   pub node : DifferByAtMost 1 (height_of left) (height_of right) → balanced ≡ Fork left middle right
+  pub shape : balanced ≡ balanced_over left middle right
   pub over_left : height_of left ≡ height_of right + 2 → IsUneven left → height_of balanced ≡ height_of left
   pub over_right : height_of right ≡ height_of left + 2 → IsUneven right → height_of balanced ≡ height_of right
 

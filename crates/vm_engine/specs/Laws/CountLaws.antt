@@ -1,10 +1,14 @@
--- The bounds on the nodes that calls enter, in one simple form.
-use Rattle.std.specs.Prelude.{ℕ, ◌+◌, ◌*◌, ◌≤◌, Result}
+-- Laws of the nodes that calls enter.
+use Rattle.std.specs.Prelude.{ℕ, ◌+◌, ◌*◌, ◌≤◌, Result, ◌≡◌, [], IsSome}
 use Rattle.vm_ranges.specs.Range.{Range}
 use Rattle.vm_ranges.specs.declared.error.Error.{Error}
 use Rattle.vm_ranges.specs.declared.constraint.AllocPolicy.TheVariants.{FirstMatch, LastMatch, ExactMatch}
 use Rattle.vm_engine.specs.Counts.Steps.{max_entered, IsFreeCount}
 use Rattle.vm_engine.specs.Counts.GapSearch.{IsGapSearchCount}
+use Rattle.vm_engine.specs.Tree.BlockList.{replace_block, find_key}
+use Rattle.vm_engine.specs.Tree.Shape.{Shape, blocks, height_of, IsTree}
+use Rattle.vm_engine.specs.Tree.Removal.{without_key}
+use Rattle.vm_engine.specs.Counts.NodeCounts.{nodes_to, nodes_to_delete}
 
 -- A call enters at most 8h + 8 nodes in a tree of height h, apart from its search of gaps.
 pub record EntersFew : Type 0 where
@@ -14,3 +18,21 @@ pub record EntersFew : Type 0 where
   pub last : (h k : ℕ) → max_entered LastMatch h k ≤ 2 * k + 1 + (8 * h + 8)
   pub gaps : (h v : ℕ) (answer : Result Range Error) (count : ℕ) →
       IsGapSearchCount h v answer count → count ≤ h * (v + 1) + (8 * h + 8)
+
+-- The tree without the block with key k is a balanced search tree of the other blocks. It is as high as before, or one lower.
+pub record IsWithoutKey (k : Range) (s : Shape) : Type 0 where
+  pub tree : IsTree (without_key k s)
+  pub blocks : blocks (without_key k s) ≡ replace_block k [] (blocks s)
+  pub not_higher : height_of (without_key k s) ≤ height_of s
+  pub at_most_one_lower : height_of s ≤ height_of (without_key k s) + 1
+
+-- `without_key` removes a block from each balanced search tree.
+abbrev pub RemovalIsExact : Type 0
+RemovalIsExact = (k : Range) (s : Shape) → IsTree s → IsWithoutKey k s
+
+-- The removal of one block and the path to another one afterwards enter at most h nodes more than the path to that other
+-- block before, in a tree of height h.
+abbrev pub PathsSinkLittle : Type 0
+PathsSinkLittle =
+    (k key : Range) (s : Shape) → IsTree s → IsSome (find_key key (blocks (without_key k s))) →
+    nodes_to_delete k s + nodes_to key (without_key k s) ≤ nodes_to key s + height_of s

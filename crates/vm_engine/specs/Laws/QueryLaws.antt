@@ -1,5 +1,5 @@
 -- Laws of the queries of addresses and gaps.
-use Rattle.std.specs.Prelude.{◌≡◌, ◌↔◌, ℕ, ◌+◌, ◌<◌, ◌≤◌, ◌⊎◌, List, [], Option, Some, None}
+use Rattle.std.specs.Prelude.{◌≡◌, ◌↔◌, ℕ, ◌+◌, ◌<◌, ◌≤◌, ◌⊎◌, List, [], Option, Some, None, ◌-◌, ◌*◌, length}
 use Rattle.std.specs.List.{All, Contains}
 use Rattle.vm_ranges.specs.Range.{Range, IsIn, Overlaps, Covers, address_count}
 use Rattle.vm_engine.specs.Address.{AddressState, IsAddressState, IsClear, AreClear, IsPlace}
@@ -83,6 +83,18 @@ abbrev pub LongestFits : Type 0
 LongestFits =
     (state : AddressState) (window : Option Range) (n : ℕ) → IsAddressState state → 0 < n →
     ((s : ℕ) × IsPlace n 1 (within window state) s) ↔ (n ≤ longest_in window (gaps_of state))
+
+-- There is a place for n addresses at alignment a if a gap has n + a - 1 addresses or more. In a window, the parts of the
+-- gaps in the window count.
+abbrev pub LongGapFits : Type 0
+LongGapFits =
+    (state : AddressState) (window : Option Range) (n a : ℕ) → IsAddressState state → 0 < n → 0 < a →
+    n + a - 1 ≤ longest_in window (gaps_of state) → (s : ℕ) × IsPlace n a (within window state) s
+
+-- For k held ranges, there are at most k + 1 times as many clear addresses as addresses of the longest gap.
+abbrev pub ClearAreFew : Type 0
+ClearAreFew =
+    (state : AddressState) → count_of (gaps_of state) ≤ (length state.held + 1) * longest_of (gaps_of state)
 
 -- The clear addresses and the addresses of the held ranges are together as many as those of the space.
 abbrev pub CountsAddUp : Type 0

@@ -4,15 +4,16 @@
 //! removes it. The last descent gives the block the joined range and makes it free. Separate
 //! descents keep the proof simple, because no case depends on which of the three nodes is above
 //! which.
-ghost use Rattle.std.specs.Prelude.{◌≡◌, ◌+◌, ◌*◌, ◌<◌, ◌≤◌, None, OnErr};
+ghost use Rattle.std.specs.Prelude.{◌≡◌, ◌+◌, ◌*◌, ◌<◌, ◌≤◌, OnErr, OnOk};
 ghost use Rattle.vm_ranges.specs.Range.{MAX, IsRange};
 ghost use Rattle.vm_engine.specs.Answer.{Frees};
 ghost use Rattle.vm_engine.specs.Tree.FreeBeside.{without_if_some};
+ghost use Rattle.vm_engine.specs.Tree.Removal.{without_key_if_some};
 ghost use Rattle.vm_engine.specs.Engine.FreedBlocks.{IsAround, joined, with_joined, start_with, end_with};
-ghost use Rattle.vm_engine.specs.Tree.Shape.{MAX_HEIGHT, blocks, height_of};
+ghost use Rattle.vm_engine.specs.Tree.Shape.{MAX_HEIGHT, blocks, height_of, IsTree};
 ghost use Rattle.vm_engine.specs.Engine.NodeFields.{side};
 ghost use Rattle.vm_engine.specs.Tree.SpaceTree.{tree_state, IsSpaceTree};
-ghost use Rattle.vm_engine.specs.Counts.Steps.{EntersToFree, IsJoinCount};
+ghost use Rattle.vm_engine.specs.Counts.Steps.{EntersToFree, nodes_to_widen};
 ghost use Rattle.vm_engine.specs.Counts.NodeCounts.{nodes_to_delete_if_some};
 
 use super::IntervalTree;
@@ -33,6 +34,7 @@ impl IntervalTree {
         ensures unchanged { OnErr result (self.new ≡ self.old) }
         ensures count { EntersToFree self.old key.now result 0 count.new }
         ensures space { IsSpaceTree self.old }
+        ensures tree { OnOk result (IsTree self.old) }
     {
         let Some(beside) = self.root().neighbours(key, count) else {
             return Err(Error::ResourceNotAvailable);
@@ -53,7 +55,7 @@ fn join_free(root: &mut Child, key: &RangeInclusive, beside: &Neighbours, count:
     requires depth { height_of (side root.old) ≤ MAX_HEIGHT }
     ensures blocks { blocks (side root.new) ≡ with_joined key.now beside.now (blocks (side root.old)) }
     ensures height { height_of (side root.new) ≤ height_of (side root.old) }
-    ensures count { IsJoinCount (side root.old) key.now beside.now.before beside.now.after count.old count.new }
+    ensures count { count.new ≡ count.old + nodes_to_widen key.now beside.now.before beside.now.after (side root.old) }
 {
     let range = joined(key, beside);
     delete_if_some(root, &beside.before, count);
@@ -84,7 +86,7 @@ fn delete_if_some(root: &mut Child, key: &Option<RangeInclusive>, count: &mut St
     requires depth { height_of (side root.old) ≤ MAX_HEIGHT }
     ensures blocks { blocks (side root.new) ≡ without_if_some key.now (blocks (side root.old)) }
     ensures height { height_of (side root.new) ≤ height_of (side root.old) }
-    ensures same { key.now ≡ None → side root.new ≡ side root.old }
+    ensures shape { side root.new ≡ without_key_if_some key.now (side root.old) }
     ensures count { count.new ≡ count.old + nodes_to_delete_if_some key.now (side root.old) }
 {
     if let Some(key) = key {

@@ -13,7 +13,7 @@ ghost use Rattle.vm_engine.specs.Laws.AddressLaws.{
   TooShortIsExact,
   TooShortAreFew,
 };
-ghost use Rattle.vm_engine.specs.Laws.CountLaws.{EntersFew};
+ghost use Rattle.vm_engine.specs.Laws.CountLaws.{EntersFew, RemovalIsExact, PathsSinkLittle};
 
 /// States that an allocation has one result and one next state, except that a split may fail.
 ///
@@ -75,4 +75,12 @@ fn too_short_gaps_are_exact()
 #[tactic(auto, using(crate::proofs::Counts::SimpleBounds::simple_bounds))]
 fn calls_enter_few()
     ensures { EntersFew }
+{}
+
+/// States that the tree without a block is balanced, has the other blocks, and is at most one lower.
+/// The removal and a later path to another block enter at most h nodes more than that path before, in
+/// a tree of height h.
+fn removals_keep_paths_short()
+    ensures removal { RemovalIsExact }
+    ensures paths { PathsSinkLittle }
 {}

@@ -7,6 +7,8 @@ ghost use Rattle.vm_engine.specs.Laws.QueryLaws.{
   HeldAndGapsAreBlocks,
   LongestIsZero,
   LongestFits,
+  LongGapFits,
+  ClearAreFew,
   CountsAddUp,
   MeetingIsOverlap,
   ClearIfNoneMeets,
@@ -33,6 +35,18 @@ fn gaps_are_longest()
 fn longest_gap_fits()
     ensures zero { LongestIsZero }
     ensures fits { LongestFits }
+{}
+
+/// States that a request for n addresses at alignment a has a place if a gap has n + a - 1 addresses.
+/// In a window, the part of the gap in the window counts.
+fn long_gap_fits()
+    ensures { LongGapFits }
+{}
+
+/// States that k allocated ranges leave at most k + 1 times as many free addresses as the longest gap
+/// has.
+fn clear_addresses_are_few()
+    ensures { ClearAreFew }
 {}
 
 /// States that the number of free addresses and the lengths of the allocated ranges add up to the

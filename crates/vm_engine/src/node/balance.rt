@@ -195,6 +195,7 @@ fn rotate_right_left(
 
 /// Returns a balanced subtree of these children and this node. The heights of the children differ
 /// by at most two.
+#[tactic(auto, using(crate::proofs::Nodes::RemovedTrees::rotated))]
 pub(super) fn balance(left: Child, middle: Box<InnerNode>, right: Child) -> Box<InnerNode>
     requires leaf { IsLeaf middle.value }
     requires sides { CanBalance (side left) (root_block middle.value) (side right) }

@@ -4,7 +4,7 @@
 //! it found the block. So the recursive call is the last step, and compiles to a loop.
 ghost use Rattle.std.specs.Prelude.{◌≡◌, ◌+◌, ◌*◌, ◌<◌, ◌≤◌, Option, Some, None};
 ghost use Rattle.vm_ranges.specs.Range.{MAX, Range};
-ghost use Rattle.vm_engine.specs.Tree.Shape.{MAX_HEIGHT, blocks, height_of, root_block};
+ghost use Rattle.vm_engine.specs.Tree.Shape.{MAX_HEIGHT, blocks, height_of, root_block, IsTree};
 ghost use Rattle.vm_engine.specs.Counts.NodeCounts.{nodes_to_first, nodes_to_last, nodes_around};
 ghost use Rattle.vm_engine.specs.Engine.NodeFields.{side};
 ghost use Rattle.vm_engine.specs.Engine.NeighbourNodes.{free_key_of, free_keys, if_found};
@@ -127,6 +127,7 @@ impl InnerNode {
         requires depth { height_of self.now ≤ MAX_HEIGHT }
         ensures value { if_found result (free_keys beside.new)
             ≡ neighbours key.now (free_key_of beside.old.before) (blocks self.now) (free_key_of beside.old.after) }
+        ensures tree { IsTree self.now }
         ensures count { count.new ≡ count.old + nodes_around key.now self.now }
     {
         self.enter(count);
@@ -178,6 +179,7 @@ impl InnerNode {
         requires count_fits { count.old + 2 * height_of self.now < MAX }
         requires depth { height_of self.now ≤ MAX_HEIGHT }
         ensures value { result ≡ neighbours key.now None (blocks self.now) None }
+        ensures tree { IsTree self.now }
         ensures count { count.new ≡ count.old + nodes_around key.now self.now }
     {
         let mut beside = NeighbourNodes {

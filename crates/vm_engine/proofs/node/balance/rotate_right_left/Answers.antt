@@ -1,8 +1,9 @@
-use Rattle.std.proofs.Common.{arith, sym}
+use Rattle.std.proofs.Common.{arith, sym, ◌≡◌}
 use Rattle.std.proofs.lemmas.Grind.{common_steps}
-use Rattle.vm_engine.specs.Engine.NodeFields.{side}
+use Rattle.vm_engine.specs.Engine.NodeFields.{side, shape_of}
 use Rattle.vm_engine.specs.Tree.Shape.{blocks, root_block}
 use Rattle.vm_engine.proofs.Blocks.BlockOrder.{ordered_right_sides, rotations}
+use Rattle.vm_engine.proofs.Nodes.RemovedTrees.{rotated_right_left}
 use Rattle.vm_engine.proofs.node.balance.rotate_right_left.Goals as goal
 
 pub unreachable-requires : goal.unreachable-requires
@@ -32,4 +33,19 @@ pub invariant_of-top : goal.invariant_of-top
 invariant_of-top c = grind (arith, common_steps, rotations)
 
 pub returns : goal.returns
-returns c = grind (arith, common_steps, rotations)
+returns c =
+    record {
+      tree = grind (arith, common_steps, rotations);
+      blocks = grind (arith, common_steps, rotations);
+      height = grind (arith, common_steps, rotations);
+      node = grind (arith, common_steps);
+      shape =
+          let i = c.lower.inside in
+          let j = c.top.inside in
+          let e : c.args.right.value ≡ shape_of i = grind (arith, common_steps) in
+          let f : side i.left ≡ shape_of j = grind (arith, common_steps) in
+          let turned = rotated_right_left (side c.args.left) (root_block c.args.middle.value) c.args.right.value (side i.left) (side j.left) j.block (side j.right) i.block (side i.right) e f c.requires.two_higher c.requires.inner_higher in
+          grind (arith, common_steps);
+      over_left = grind (arith, common_steps, rotations);
+      over_right = grind (arith, common_steps, rotations);
+    }

@@ -6,6 +6,7 @@ use Rattle.vm_engine.proofs.Nodes.UpdatedNodes.{open_of, rebalanced, updated_nod
 use Rattle.vm_engine.proofs.Nodes.SideChange.{takes}
 use Rattle.vm_engine.proofs.Blocks.Replacement.{first_blocks}
 use Rattle.vm_engine.proofs.Counts.NodeCountCases.{nodes_to_first_cases}
+use Rattle.vm_engine.proofs.Nodes.RemovedTrees.{removed_firsts}
 use Rattle.vm_engine.proofs.node.delete.+take_first_at.Goals as goal
 
 pub invariant_of-tree : goal.invariant_of-tree
@@ -29,6 +30,7 @@ returns t c =
       blocks = grind (arith, common_steps, first_blocks);
       leaf = l.ensures.leaf;
       shrinks = shrinks;
+      shape = grind (arith, common_steps, removed_firsts);
       count = grind (arith, common_steps, nodes_to_first_cases);
     }
 
@@ -59,3 +61,9 @@ returns-in-Nothing-clause-shrinks t c = grind (arith, common_steps, first_blocks
 
 pub returns-in-Nothing-clause-count : goal.returns-in-Nothing-clause-count
 returns-in-Nothing-clause-count t c = grind (arith, common_steps, first_blocks, takes, nodes_to_first_cases)
+
+pub returns-then-is_none-clause-shape : goal.returns-then-is_none-clause-shape
+returns-then-is_none-clause-shape t c = grind (arith, common_steps, removed_firsts)
+
+pub returns-in-Nothing-clause-shape : goal.returns-in-Nothing-clause-shape
+returns-in-Nothing-clause-shape t c = grind (arith, common_steps, removed_firsts)
