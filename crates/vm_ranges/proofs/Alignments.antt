@@ -2,18 +2,22 @@
 use Rattle.std.proofs.Common.{◌≡◌, ℕ, ◌+◌, ◌-◌, ◌^◌, ◌<◌, ◌≤◌, true, false, refl, arith, inl, inr, bit_and, Result, Ok, Err, ⊎_elim}
 use Rattle.std.specs.Int.{is_power_of_two}
 use Rattle.vm_ranges.specs.Range.{MAX}
-use Rattle.vm_ranges.specs.Alignment.{AlignsDown, AlignsUp, IsAlignment, IsHighestMultiple}
+use Rattle.vm_ranges.specs.Alignment.{AlignsDown, AlignsUp, IsHighestMultiple}
 use Rattle.vm_ranges.specs.declared.error.Error.{Error}
 use Rattle.vm_ranges.specs.declared.error.Error.TheVariants.{InvalidAlignment, Overflow}
-use Rattle.vm_ranges.proofs.Power.{alignment_if_true, no_alignment_if_false, alignment_pos, alignment_below, masked, highest_multiple, lowest_multiple}
+use Rattle.vm_ranges.proofs.Power.{alignment_if_true, no_alignment_if_false, alignment_pos, masked, highest_multiple, lowest_multiple}
 
 pub down_refused : (x a : ℕ) → is_power_of_two a ≡ false → AlignsDown x a (Err InvalidAlignment)
 unfolding AlignsDown
 down_refused x a e = inl (no_alignment_if_false a e, refl)
 
-pub down_given : (x a r : ℕ) → IsAlignment a → IsHighestMultiple a x r → AlignsDown x a (Ok r)
+pub down_given : (x a : ℕ) → x < 2 ^ 64 → a < 2 ^ 64 → is_power_of_two a ≡ true → AlignsDown x a (Ok (bit_and x (18446744073709551615 - (a - 1))))
 unfolding AlignsDown
-down_given x a r h g = inr (h, (r, refl, g))
+down_given x a p q e =
+    let h = alignment_if_true a q e in
+    let g : IsHighestMultiple a x (bit_and x (18446744073709551615 - (a - 1))) =
+    rw (masked x a p h) (highest_multiple a x (alignment_pos a h)) in
+    inr (h, (_, refl, g))
 
 pub up_zero : (x a : ℕ) → a ≡ 0 → AlignsUp x a (Err InvalidAlignment)
 unfolding AlignsUp
@@ -28,10 +32,4 @@ unfolding AlignsUp AlignsDown
 up_given x a answer z p h =
     inr (λ e. omega arith, inr (λ k. omega arith, ⊎_elim (λ l. inl l) (λ r. inr (r.0, (r.1.0, r.1.1, lowest_multiple a x r.1.0 z r.1.2))) h))
 
-pub ruleset aligns = (alignment_if_true, down_refused, down_given, up_zero, up_over, up_given)
-
--- The mask of an alignment.
-pub highest_masked : (x a : ℕ) → x < 2 ^ 64 → IsAlignment a → IsHighestMultiple a x (bit_and x (18446744073709551615 - (a - 1)))
-highest_masked x a p h = rw (masked x a p h) (highest_multiple a x (alignment_pos a h))
-
-pub ruleset masks = (alignment_pos, alignment_below, highest_masked)
+pub ruleset aligns = (down_refused, down_given, up_zero, up_over, up_given)

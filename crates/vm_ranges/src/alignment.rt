@@ -1,5 +1,5 @@
 //! Rounding of addresses to multiples of an alignment.
-ghost use Rattle.vm_ranges.specs.Alignment.{AlignsDown, AlignsUp, IsAlignment, IsHighestMultiple};
+ghost use Rattle.vm_ranges.specs.Alignment.{AlignsDown, AlignsUp};
 
 use crate::error::{Error, Result};
 
@@ -15,18 +15,7 @@ pub fn align_down(address: u64, alignment: u64) -> Result<u64>
     if !alignment.is_power_of_two() {
         return Err(Error::InvalidAlignment);
     }
-    Ok(highest_multiple(address, alignment))
-}
-
-/// Returns the highest multiple of `alignment` that is at most `address`. The caller proves that
-/// `alignment` is a power of two.
-#[inline(always)]
-#[tactic(auto, using(crate::proofs::Alignments::masks))]
-pub fn highest_multiple(address: u64, alignment: u64) -> u64
-    requires { IsAlignment alignment }
-    ensures { IsHighestMultiple alignment address result }
-{
-    address & !(alignment - 1)
+    Ok(address & !(alignment - 1))
 }
 
 /// Returns the lowest multiple of `alignment` that is at least `address`.

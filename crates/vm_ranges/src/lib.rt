@@ -10,7 +10,7 @@ mod range;
 mod saved;
 mod state;
 
-pub use alignment::{align_down, align_up, highest_multiple};
+pub use alignment::{align_down, align_up};
 pub use constraint::{AllocPolicy, Constraint, DEFAULT_CONSTRAINT_ALIGN};
 pub use error::{Error, ListError, Result};
 pub use range::RangeInclusive;

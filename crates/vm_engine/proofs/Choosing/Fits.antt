@@ -1,5 +1,5 @@
 -- The fits of one block.
-use Rattle.std.proofs.Common.{◌≡◌, ℕ, ◌+◌, ◌-◌, ◌*◌, ◌%◌, ◌^◌, ◌<◌, ◌≤◌, ap, ◌∙◌, arith, subst}
+use Rattle.std.proofs.Common.{◌≡◌, ℕ, ◌+◌, ◌-◌, ◌*◌, ◌%◌, ◌^◌, ◌<◌, ◌≤◌, bit_and, ap, ◌∙◌, arith, subst}
 use Rattle.std.proofs.lemmas.Nat.{pow-add}
 use Rattle.std.proofs.Math.Nat.{mul-add-mod_self_right, zero-mod}
 use Rattle.vm_ranges.specs.Range.{Range, MAX}
@@ -8,7 +8,7 @@ use Rattle.vm_ranges.specs.Alignment.{IsAlignment, IsHighestMultiple, IsLowestMu
 use Rattle.vm_engine.specs.Tree.Fit.{HasNoFit, IsLowestFit, IsHighestFit}
 use Rattle.vm_ranges.specs.declared.state.NodeState.{NodeState}
 use Rattle.vm_ranges.specs.declared.state.NodeState.TheVariants.{Free, Allocated}
-use Rattle.vm_ranges.proofs.Power.{gap, alignment_pos, lowest_multiple}
+use Rattle.vm_ranges.proofs.Power.{gap, alignment_pos, alignment_below, masked, highest_multiple, lowest_multiple}
 
 -- Each alignment divides MAX + 1.
 whole : (a : ℕ) → IsAlignment a → 18446744073709551616 % a ≡ 0
@@ -17,6 +17,12 @@ whole a h =
     let k : 64 ≡ 64 - h.0 + h.0 = omega (arith, h.1) in
     let e : 2 ^ 64 ≡ 2 ^ (64 - h.0) * 2 ^ h.0 + 0 = ap (λ (j : ℕ). 2 ^ j) k ∙ pow-add 2 (64 - h.0) h.0 ∙ omega arith in
     ap (λ (v : ℕ). 18446744073709551616 % v) h.2 ∙ (ap (λ (v : ℕ). v % 2 ^ h.0) e ∙ mul-add-mod_self_right (2 ^ (64 - h.0)) (2 ^ h.0) 0 ∙ zero-mod (2 ^ h.0))
+
+-- The mask of an alignment gives the highest multiple.
+pub highest_masked : (x a : ℕ) → x < 2 ^ 64 → IsAlignment a → IsHighestMultiple a x (bit_and x (18446744073709551615 - (a - 1)))
+highest_masked x a p h = rw (masked x a p h) (highest_multiple a x (alignment_pos a h))
+
+pub ruleset masks = (alignment_pos, alignment_below, highest_masked)
 
 -- If rounding x up passes MAX, there is no multiple between x and MAX.
 none_left : (x a t : ℕ) → IsAlignment a → MAX < x + (a - 1) → t % a ≡ 0 → x ≤ t → t ≤ MAX → ⊥

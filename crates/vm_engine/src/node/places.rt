@@ -6,7 +6,7 @@
 //! summary fits the request. They begin in `edge`.
 ghost use Rattle.std.specs.Prelude.{◌≡◌, ℕ, ◌+◌, ◌<◌, ◌≤◌, true, false, None, IfSome, MatchOption};
 ghost use Rattle.vm_ranges.specs.Range.{MAX, span};
-ghost use Rattle.vm_ranges.specs.Alignment.{IsAlignment};
+ghost use Rattle.vm_ranges.specs.Alignment.{IsAlignment, IsHighestMultiple};
 ghost use Rattle.vm_engine.specs.Tree.Block.{free_block};
 ghost use Rattle.vm_engine.specs.Tree.Fit.{FindsLowestFit, FindsHighestFit};
 ghost use Rattle.vm_engine.specs.Engine.Place.{FindsFirst, FindsLast};
@@ -20,7 +20,7 @@ use super::{Child, InnerNode};
 use crate::Steps;
 use crate::block::Block;
 use crate::ordering::valid_range;
-use vm_ranges::{NodeState, RangeInclusive, highest_multiple};
+use vm_ranges::{NodeState, RangeInclusive};
 
 /// A range for a request, and the free block that contains it.
 #[derive(Clone, Copy, Debug)]
@@ -41,6 +41,18 @@ impl Place {
         let range = valid_range(start, start + (size - 1));
         Place { key, range }
     }
+}
+
+/// Returns the highest multiple of `alignment` that is at most `address`.
+///
+/// `align_down` tests the alignment first, which a `Constraint` has done.
+#[inline(always)]
+#[tactic(auto, using(crate::proofs::Choosing::Fits::masks))]
+fn highest_multiple(address: u64, alignment: u64) -> u64
+    requires { IsAlignment alignment }
+    ensures { IsHighestMultiple alignment address result }
+{
+    address & !(alignment - 1)
 }
 
 /// Returns the lowest multiple of `alignment` at which `size` addresses fit into the block.

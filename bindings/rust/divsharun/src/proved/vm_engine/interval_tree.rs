@@ -10,16 +10,17 @@
 //! - `comparing` compares two trees.
 //! - `counted` has the calls that count the nodes that they enter.
 //!
-//! A counted call passes a counter at 0 to `allocate_inner` or `free_inner`, and returns the final
-//! count. A plain call makes the counted call and drops the count. A tree of height 49 has fewer
-//! than 2^49 nodes, so a counter that starts at 0 never overflows. This is proved once, so callers
-//! have no condition on it.
+//! `AddressAllocator` has the same calls, and documents them.
+//!
+//! A counted call passes on a counter at 0, and returns the final count. A plain call makes the
+//! counted call and drops the count. A tree of height 49 has fewer than 2^49 nodes, so a counter
+//! that starts at 0 never overflows. This is proved once, so callers have no condition on it.
 
 use crate::rattle::Box;
 use crate::proved::vm_engine::Steps;
 use crate::proved::vm_engine::block::Block;
 use crate::proved::vm_engine::node::edge::Edge;
-use crate::proved::vm_engine::node::walks::both_ends::Blocks;
+use crate::proved::vm_engine::node::walks::both_ends::WalkBothEnds;
 use crate::proved::vm_engine::node::walks::copying::copy;
 use crate::proved::vm_engine::node::{Child, InnerNode};
 use crate::rattle::Global;
@@ -75,14 +76,14 @@ impl IntervalTree {
     }
 
     /// Returns an iterator over the blocks, from both ends.
-    pub(in crate::proved::vm_engine) fn blocks(&self) -> Blocks<'_> {
-        Blocks::new(&self.root)
+    pub(in crate::proved::vm_engine) fn blocks(&self) -> WalkBothEnds<'_> {
+        WalkBothEnds::new(&self.root)
     }
 
     /// Returns an iterator over the blocks that have an address in common with `window`, from both
     /// ends.
-    pub(in crate::proved::vm_engine) fn blocks_in(&self, window: &RangeInclusive) -> Blocks<'_> {
-        Blocks::within(&self.root, window)
+    pub(in crate::proved::vm_engine) fn blocks_in(&self, window: &RangeInclusive) -> WalkBothEnds<'_> {
+        WalkBothEnds::within(&self.root, window)
     }
 
     /// Returns the root. A tree is never empty.
@@ -98,52 +99,16 @@ impl IntervalTree {
         self.root().height()
     }
 
-    /// Allocates like `allocate`, and adds the number of entered nodes to a counter at 0.
-    fn allocate_inner(
-        &mut self,
-        alloc: Global,
-        constraint: Constraint,
-        count: &mut Steps,
-    ) -> Result<RangeInclusive> {
-        let mut edge = Edge::new();
-        let choice = self.choose_place(constraint, &mut edge, count)?;
-        self.allocate_chosen(alloc, choice, &edge, count)
-    }
-
-    /// Allocates `size` free addresses that start at a multiple of the constraint's alignment, and
-    /// returns their range.
+    /// Allocates the range of a request, and returns it.
     ///
-    /// `FirstMatch` chooses the lowest range that fits and `LastMatch` the highest.
-    /// `ExactMatch(start)` chooses the range at `start`.
-    ///
-    /// A range that fills its free block is allocated without memory. Any other range splits its
-    /// free block, which allocates one or two nodes.
-    ///
-    /// # Errors
-    ///
-    /// An error changes nothing. In this order:
-    /// - For `ExactMatch(start)`:
-    ///   - `Overflow` if `start` is `u64::MAX`.
-    ///   - `ResourceNotAvailable` if `start` is outside the space.
-    ///   - `Overflow` if the range would end past `u64::MAX`.
-    ///   - `InvalidStateTransition` if exactly this range is already allocated.
-    /// - `ResourceNotAvailable` if there is no free range that fits.
-    /// - `Overflow` if the chosen range ends at `u64::MAX`.
-    /// - Only if the range splits its free block:
-    ///   - `Overflow` if the height of the tree is 48 or more.
-    ///   - `OutOfMemory` if the allocation of a node fails.
+    /// `AddressAllocator::allocate_constraint` documents which range that is, and the errors.
     pub fn allocate(&mut self, alloc: Global, constraint: Constraint) -> Result<RangeInclusive> {
         self.allocate_counted(alloc, constraint).0
     }
 
     /// Frees an allocated range, and joins it with the free blocks on both sides.
     ///
-    /// It does not allocate.
-    ///
-    /// # Errors
-    ///
-    /// An error changes nothing.
-    /// - `ResourceNotAvailable` if exactly this range is not allocated.
+    /// `AddressAllocator::free` documents the error.
     pub fn free(&mut self, key: &RangeInclusive) -> Result<()> {
         self.free_counted(key).0
     }

@@ -12,8 +12,9 @@ use crate::proved::vm_engine::Steps;
 use crate::proved::vm_engine::block::Block;
 use crate::proved::vm_engine::node::edge::Edge;
 use crate::proved::vm_engine::node::outermost::split_gap;
+use crate::proved::vm_engine::node::places::Place;
 use crate::proved::vm_engine::node::rewrite::rewrite_at;
-use crate::proved::vm_engine::node::split::{Choice, Rest, Split};
+use crate::proved::vm_engine::node::split::{Rest, Split};
 use crate::proved::vm_engine::node::{Child, InnerNode};
 use crate::proved::vm_engine::ordering::valid_range;
 use crate::rattle::Global;
@@ -27,71 +28,71 @@ impl IntervalTree {
     ///
     /// If the range does not fill the block, it returns `Overflow` for a tree of height 48 or more,
     /// and `OutOfMemory` if the allocation of a leaf fails.
-    pub(super) fn allocate_chosen(
+    pub(super) fn allocate_at(
         &mut self,
         alloc: Global,
-        choice: Choice,
+        place: Place,
         edge: &Edge,
         count: &mut Steps,
     ) -> Result<RangeInclusive> {
-        if !needs_split(&choice) {
+        let range = place.range;
+        let (before, after) = (part_before(&place), part_after(&place));
+        if before.is_none() && after.is_none() {
             rewrite_at(
                 &mut self.root,
-                &choice.key,
-                choice.range,
+                &place.key,
+                range,
                 NodeState::Allocated,
                 count,
             );
             self.held_count += 1;
-            self.clear_count -= choice.range.len();
-            return Ok(choice.range);
+            self.clear_count -= range.len();
+            return Ok(range);
         }
         if self.height() >= SPLIT_HEIGHT_LIMIT {
             return Err(Error::Overflow);
         }
-        let rest = rest_of(alloc, &choice)?;
-        let mut split = Split { choice, rest };
+        let rest = rest_of(alloc, before, after)?;
+        let mut split = Split { place, rest };
         self.held_count += 1;
-        self.clear_count -= choice.range.len();
+        self.clear_count -= range.len();
         split_gap(&mut self.root, &mut split, edge, count);
-        Ok(choice.range)
+        Ok(range)
     }
 }
 
-/// Returns `true` if the range does not fill its free block.
-fn needs_split(choice: &Choice) -> bool {
-    choice.key.start() < choice.range.start() || choice.range.end() < choice.key.end()
+/// Returns the part of the free block before the range, or `None` if it is empty.
+fn part_before(place: &Place) -> Option<RangeInclusive> {
+    if place.key.start() >= place.range.start() {
+        return None;
+    }
+    Some(valid_range(place.key.start(), place.range.start() - 1))
 }
 
-/// Allocates the leaves for the parts of the free block before and after the range.
+/// Returns the part of the free block after the range, or `None` if it is empty.
+fn part_after(place: &Place) -> Option<RangeInclusive> {
+    if place.range.end() >= place.key.end() {
+        return None;
+    }
+    Some(valid_range(place.range.end() + 1, place.key.end()))
+}
+
+/// Allocates the leaves for the parts of a free block before and after a range.
 ///
 /// It returns `OutOfMemory` if the allocation of a leaf fails.
-fn rest_of(alloc: Global, choice: &Choice) -> Result<Rest> {
-    let before = leaf_before(alloc, choice)?;
-    let after = leaf_after(alloc, choice)?;
+fn rest_of(
+    alloc: Global,
+    before: Option<RangeInclusive>,
+    after: Option<RangeInclusive>,
+) -> Result<Rest> {
+    let before = free_leaf(alloc, before)?;
+    let after = free_leaf(alloc, after)?;
     Ok(Rest { before, after })
 }
 
-/// Allocates a leaf for the part of the free block before the range, if that part is not empty.
-fn leaf_before(alloc: Global, choice: &Choice) -> Result<Child> {
-    if choice.key.start() >= choice.range.start() {
-        return Ok(None);
-    }
-    let key = valid_range(choice.key.start(), choice.range.start() - 1);
-    free_leaf(alloc, key)
-}
-
-/// Allocates a leaf for the part of the free block after the range, if that part is not empty.
-fn leaf_after(alloc: Global, choice: &Choice) -> Result<Child> {
-    if choice.range.end() >= choice.key.end() {
-        return Ok(None);
-    }
-    let key = valid_range(choice.range.end() + 1, choice.key.end());
-    free_leaf(alloc, key)
-}
-
-/// Allocates a leaf with a free block.
-fn free_leaf(alloc: Global, key: RangeInclusive) -> Result<Child> {
+/// Allocates a leaf for a part of a free block, if there is a part.
+fn free_leaf(alloc: Global, part: Option<RangeInclusive>) -> Result<Child> {
+    let Some(key) = part else { return Ok(None) };
     let leaf = Box::new(alloc, InnerNode::new(Block::free(key)))?;
     Ok(Some(leaf))
 }

@@ -19,16 +19,7 @@ impl IntervalTree {
     /// Creates the tree of the space `key` with these ranges allocated. They must be in increasing
     /// order. The tree has the minimum height for its nodes.
     ///
-    /// # Errors
-    ///
-    /// In this order. The error has the index of the range only for a range that cannot be allocated.
-    /// - For the first range that cannot be allocated:
-    ///   - `ResourceNotAvailable` if it does not start after the end of the range before it.
-    ///   - `Overflow` if it starts at `u64::MAX`.
-    ///   - `ResourceNotAvailable` if it is outside the space.
-    ///   - `Overflow` if it ends at `u64::MAX`.
-    /// - `Overflow` if the ranges and the gaps together are 2^49 or more.
-    /// - `OutOfMemory` if the allocation of a node fails.
+    /// `AddressAllocator::with_held` documents the errors.
     pub fn with_held(
         alloc: Global,
         key: RangeInclusive,

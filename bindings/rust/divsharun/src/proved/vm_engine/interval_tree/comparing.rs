@@ -3,7 +3,8 @@
 //! Equality and order of trees. Both compare the blocks, so the shape of a tree does not matter.
 
 use super::IntervalTree;
-use crate::proved::vm_engine::node::walks::comparing::{compare_blocks, same_blocks};
+use crate::proved::vm_engine::node::Child;
+use crate::proved::vm_engine::node::walks::Walk;
 use core::cmp::Ordering;
 
 impl PartialEq for IntervalTree {
@@ -28,5 +29,39 @@ impl Ord for IntervalTree {
     /// of one tree are a prefix of the other's, the tree with fewer blocks is less.
     fn cmp(&self, other: &IntervalTree) -> Ordering {
         compare_blocks(&self.root, &other.root)
+    }
+}
+
+/// Returns `true` if two trees have the same blocks. It stops at the first difference.
+fn same_blocks(a: &Child, b: &Child) -> bool {
+    let (mut left, mut right) = (Walk::new(a), Walk::new(b));
+    while let Some(x) = left.next() {
+        let Some(y) = right.next() else {
+            return false;
+        };
+        if x != y {
+            return false;
+        }
+    }
+    right.next().is_none()
+}
+
+/// Compares two trees by the first blocks that differ. If the blocks of one tree are a prefix of
+/// the other's, the tree with fewer blocks is less.
+fn compare_blocks(a: &Child, b: &Child) -> Ordering {
+    let (mut left, mut right) = (Walk::new(a), Walk::new(b));
+    while let Some(x) = left.next() {
+        let Some(y) = right.next() else {
+            return Ordering::Greater;
+        };
+        match x.cmp(&y) {
+            Ordering::Equal => {}
+            unequal => return unequal,
+        }
+    }
+    if right.next().is_none() {
+        Ordering::Equal
+    } else {
+        Ordering::Less
     }
 }

@@ -7,6 +7,7 @@
 
 use super::IntervalTree;
 use crate::proved::vm_engine::node::InnerNode;
+use crate::proved::vm_engine::node::edge::Edge;
 use crate::rattle::Global;
 use crate::proved::vm_ranges::{Constraint, RangeInclusive, Result};
 
@@ -26,25 +27,22 @@ impl InnerNode {
 impl IntervalTree {
     /// Allocates like [`allocate`](Self::allocate), and also returns the number of nodes that it
     /// entered.
-    ///
-    /// # Errors
-    ///
-    /// Those of [`allocate`](Self::allocate), in the same order.
     pub fn allocate_counted(
         &mut self,
         alloc: Global,
         constraint: Constraint,
     ) -> (Result<RangeInclusive>, u64) {
         let mut count = Steps { entered: 0 };
-        let answer = self.allocate_inner(alloc, constraint, &mut count);
+        let mut edge = Edge::new();
+        let place = match self.choose_place(constraint, &mut edge, &mut count) {
+            Ok(place) => place,
+            Err(error) => return (Err(error), count.entered),
+        };
+        let answer = self.allocate_at(alloc, place, &edge, &mut count);
         (answer, count.entered)
     }
 
     /// Frees like [`free`](Self::free), and also returns the number of nodes that it entered.
-    ///
-    /// # Errors
-    ///
-    /// - `ResourceNotAvailable` if exactly this range is not allocated.
     pub fn free_counted(&mut self, key: &RangeInclusive) -> (Result<()>, u64) {
         let mut count = Steps { entered: 0 };
         let answer = self.free_inner(key, &mut count);

@@ -7,7 +7,7 @@
 
 use super::IntervalTree;
 use crate::proved::vm_engine::node::walks::addresses::block_at;
-use crate::proved::vm_engine::node::walks::both_ends::Blocks;
+use crate::proved::vm_engine::node::walks::both_ends::WalkBothEnds;
 use crate::proved::vm_ranges::{NodeState, RangeInclusive};
 
 /// An iterator over the gaps, from the lowest to the highest, or backwards. It does not allocate.
@@ -15,7 +15,7 @@ use crate::proved::vm_ranges::{NodeState, RangeInclusive};
 /// Its model is the list of the gaps that it has not returned yet.
 #[derive(Clone)]
 pub struct Gaps<'a> {
-    blocks: Blocks<'a>,
+    blocks: WalkBothEnds<'a>,
 }
 
 impl<'a> Iterator for Gaps<'a> {
@@ -54,9 +54,6 @@ impl IntervalTree {
 
     /// Returns an iterator over the gaps that have an address in common with `range`, from the
     /// lowest to the highest.
-    ///
-    /// Each gap is returned whole. It follows one path from the root for each end of `range` and
-    /// does not allocate.
     pub fn gaps_in(&self, range: &RangeInclusive) -> Gaps<'_> {
         Gaps {
             blocks: self.blocks_in(range),
@@ -65,8 +62,6 @@ impl IntervalTree {
 
     /// Returns the gap that contains an address, or `None` if the address is allocated or outside
     /// the space.
-    ///
-    /// It follows one path from the root and does not allocate.
     pub fn gap_at(&self, address: u64) -> Option<RangeInclusive> {
         let block = block_at(&self.root, address)?;
         match block.state {
@@ -76,8 +71,6 @@ impl IntervalTree {
     }
 
     /// Returns the length of the longest gap in addresses, or 0 if no address is free.
-    ///
-    /// It reads the root only and does not allocate.
     pub fn longest_gap(&self) -> u64 {
         self.root().max_free()
     }

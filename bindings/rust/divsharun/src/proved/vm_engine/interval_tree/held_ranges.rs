@@ -4,7 +4,7 @@
 
 use super::IntervalTree;
 use crate::proved::vm_engine::node::walks::addresses::block_at;
-use crate::proved::vm_engine::node::walks::both_ends::Blocks;
+use crate::proved::vm_engine::node::walks::both_ends::WalkBothEnds;
 use crate::proved::vm_engine::node::walks::held::has_held;
 use crate::proved::vm_ranges::{NodeState, RangeInclusive};
 
@@ -14,7 +14,7 @@ use crate::proved::vm_ranges::{NodeState, RangeInclusive};
 /// Its model is the list of the ranges that it has not returned yet.
 #[derive(Clone)]
 pub struct HeldRanges<'a> {
-    blocks: Blocks<'a>,
+    blocks: WalkBothEnds<'a>,
 }
 
 impl<'a> Iterator for HeldRanges<'a> {
@@ -54,9 +54,6 @@ impl IntervalTree {
 
     /// Returns an iterator over the allocated ranges that have an address in common with `range`,
     /// from the lowest to the highest.
-    ///
-    /// Each range is returned whole. It follows one path from the root for each end of `range` and
-    /// does not allocate.
     pub fn held_ranges_in(&self, range: &RangeInclusive) -> HeldRanges<'_> {
         HeldRanges {
             blocks: self.blocks_in(range),
@@ -64,17 +61,12 @@ impl IntervalTree {
     }
 
     /// Returns `true` if exactly this range is allocated.
-    ///
-    /// It returns `false` for a part of an allocated range and for a free range. It follows one
-    /// path from the root and does not allocate.
     pub fn holds(&self, key: &RangeInclusive) -> bool {
         has_held(&self.root, key)
     }
 
     /// Returns the allocated range that contains an address, or `None` if the address is free or
     /// outside the space.
-    ///
-    /// It follows one path from the root and does not allocate.
     pub fn held_at(&self, address: u64) -> Option<RangeInclusive> {
         let block = block_at(&self.root, address)?;
         match block.state {

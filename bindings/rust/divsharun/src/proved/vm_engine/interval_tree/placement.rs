@@ -5,8 +5,8 @@
 use super::IntervalTree;
 use crate::proved::vm_engine::Steps;
 use crate::proved::vm_engine::node::edge::Edge;
+use crate::proved::vm_engine::node::find::node_at;
 use crate::proved::vm_engine::node::places::{Place, first_place, last_place};
-use crate::proved::vm_engine::node::split::Choice;
 use crate::proved::vm_engine::node::windows::{first_place_in, last_place_in};
 use crate::proved::vm_engine::ordering::valid_range;
 use crate::proved::vm_ranges::{AllocPolicy, Constraint, Error, NodeState, RangeInclusive, Result};
@@ -19,21 +19,15 @@ impl IntervalTree {
         constraint: Constraint,
         edge: &mut Edge,
         count: &mut Steps,
-    ) -> Result<Choice> {
+    ) -> Result<Place> {
         if let Some(window) = constraint.window() {
             return self.choose_place_in(&window, constraint, count);
         }
         let root = &self.root;
         let (size, align) = (constraint.size(), constraint.align());
         match constraint.policy() {
-            AllocPolicy::FirstMatch => {
-                let found = first_place(root, size, align, edge, count);
-                choice_at(found, size)
-            }
-            AllocPolicy::LastMatch => {
-                let found = last_place(root, size, align, edge, count);
-                choice_at(found, size)
-            }
+            AllocPolicy::FirstMatch => below_max(first_place(root, size, align, edge, count)),
+            AllocPolicy::LastMatch => below_max(last_place(root, size, align, edge, count)),
             AllocPolicy::ExactMatch(start) => self.exact_place(constraint, start, count),
         }
     }
@@ -48,18 +42,14 @@ impl IntervalTree {
         window: &RangeInclusive,
         constraint: Constraint,
         count: &mut Steps,
-    ) -> Result<Choice> {
+    ) -> Result<Place> {
         let root = &self.root;
         let (size, align) = (constraint.size(), constraint.align());
         match constraint.policy() {
             AllocPolicy::FirstMatch => {
-                let found = first_place_in(root, window, size, align, count);
-                choice_at(found, size)
+                below_max(first_place_in(root, window, size, align, count))
             }
-            AllocPolicy::LastMatch => {
-                let found = last_place_in(root, window, size, align, count);
-                choice_at(found, size)
-            }
+            AllocPolicy::LastMatch => below_max(last_place_in(root, window, size, align, count)),
             AllocPolicy::ExactMatch(start) => self.exact_place_in(window, constraint, start, count),
         }
     }
@@ -71,32 +61,27 @@ impl IntervalTree {
     /// - `Overflow` if `start` is `u64::MAX`.
     /// - `ResourceNotAvailable` if `start` is outside the space or outside the window.
     /// - `Overflow` if the range would end past `u64::MAX`.
-    /// - The error of `exact_choice_in`.
+    /// - The error of `place_in_window`.
     fn exact_place_in(
         &self,
         window: &RangeInclusive,
         constraint: Constraint,
         start: u64,
         count: &mut Steps,
-    ) -> Result<Choice> {
+    ) -> Result<Place> {
         if start == u64::MAX {
             return Err(Error::Overflow);
         }
-        let size = constraint.size();
-        let first = valid_range(start, start);
-        let Some(node) = self.root().search_superset(&first, count) else {
+        let Some(node) = node_at(&self.root, start, count) else {
             return Err(Error::ResourceNotAvailable);
         };
-        if start < window.start() {
+        if start < window.start() || window.end() < start {
             return Err(Error::ResourceNotAvailable);
         }
-        if window.end() < start {
-            return Err(Error::ResourceNotAvailable);
-        }
-        let Some(last) = start.checked_add(size - 1) else {
+        let Some(last) = start.checked_add(constraint.size() - 1) else {
             return Err(Error::Overflow);
         };
-        exact_choice_in(window, node.key(), node.state(), start, last)
+        place_in_window(window, node.key(), node.state(), start, last)
     }
 
     /// Returns the range at the start that an `ExactMatch` request names, if it is free.
@@ -105,39 +90,33 @@ impl IntervalTree {
     /// - `Overflow` if `start` is `u64::MAX`.
     /// - `ResourceNotAvailable` if `start` is outside the space.
     /// - `Overflow` if the range would end past `u64::MAX`.
-    /// - The error of `exact_choice`.
-    fn exact_place(&self, constraint: Constraint, start: u64, count: &mut Steps) -> Result<Choice> {
+    /// - The error of `place_in_block`.
+    fn exact_place(&self, constraint: Constraint, start: u64, count: &mut Steps) -> Result<Place> {
         if start == u64::MAX {
             return Err(Error::Overflow);
         }
-        let size = constraint.size();
-        let first = valid_range(start, start);
-        let Some(node) = self.root().search_superset(&first, count) else {
+        let Some(node) = node_at(&self.root, start, count) else {
             return Err(Error::ResourceNotAvailable);
         };
-        let Some(last) = start.checked_add(size - 1) else {
+        let Some(last) = start.checked_add(constraint.size() - 1) else {
             return Err(Error::Overflow);
         };
-        exact_choice(node.key(), node.state(), start, last)
+        place_in_block(node.key(), node.state(), start, last)
     }
 }
 
-/// Returns the `size` addresses that start at the place that a search found.
+/// Returns the place that a search found.
 ///
-/// It returns `ResourceNotAvailable` if the search found no place, and `Overflow` if the range ends
-/// at `u64::MAX`.
-fn choice_at(found: Option<Place>, size: u64) -> Result<Choice> {
+/// It returns `ResourceNotAvailable` if the search found no place, and `Overflow` if the place ends at
+/// `u64::MAX`.
+fn below_max(found: Option<Place>) -> Result<Place> {
     let Some(place) = found else {
         return Err(Error::ResourceNotAvailable);
     };
-    let last = place.start + (size - 1);
-    if last == u64::MAX {
+    if place.range.end() == u64::MAX {
         return Err(Error::Overflow);
     }
-    Ok(Choice {
-        key: place.key,
-        range: valid_range(place.start, last),
-    })
+    Ok(place)
 }
 
 /// Returns the range from `start` to `last`, if it is free. The block contains `start`.
@@ -149,7 +128,7 @@ fn choice_at(found: Option<Place>, size: u64) -> Result<Choice> {
 /// - For a free block:
 ///   - `ResourceNotAvailable` if it ends before `last`.
 ///   - `Overflow` if `last` is `u64::MAX`.
-fn exact_choice(key: RangeInclusive, state: NodeState, start: u64, last: u64) -> Result<Choice> {
+fn place_in_block(key: RangeInclusive, state: NodeState, start: u64, last: u64) -> Result<Place> {
     match state {
         NodeState::Allocated => {
             if key.start() == start && key.end() == last {
@@ -164,7 +143,7 @@ fn exact_choice(key: RangeInclusive, state: NodeState, start: u64, last: u64) ->
             if last == u64::MAX {
                 return Err(Error::Overflow);
             }
-            Ok(Choice {
+            Ok(Place {
                 key,
                 range: valid_range(start, last),
             })
@@ -175,22 +154,22 @@ fn exact_choice(key: RangeInclusive, state: NodeState, start: u64, last: u64) ->
 /// Returns the range from `start` to `last`, if it is free and `last` is in the window. The block
 /// contains `start`.
 ///
-/// The errors are those of `exact_choice`, but `ResourceNotAvailable` if the block is free and the
+/// The errors are those of `place_in_block`, but `ResourceNotAvailable` if the block is free and the
 /// window ends before `last`.
-fn exact_choice_in(
+fn place_in_window(
     window: &RangeInclusive,
     key: RangeInclusive,
     state: NodeState,
     start: u64,
     last: u64,
-) -> Result<Choice> {
+) -> Result<Place> {
     match state {
-        NodeState::Allocated => exact_choice(key, state, start, last),
+        NodeState::Allocated => place_in_block(key, state, start, last),
         NodeState::Free => {
             if window.end() < last {
                 return Err(Error::ResourceNotAvailable);
             }
-            exact_choice(key, state, start, last)
+            place_in_block(key, state, start, last)
         }
     }
 }

@@ -50,7 +50,7 @@ impl Edge {
 
 impl InnerNode {
     /// Writes the lowest place in the subtree to `found`, if there is a place. It follows the right
-    /// edge as long as possible, and then searches like `first_place`.
+    /// edge as long as possible, and then searches like `search_first`.
     pub(super) fn first_on_edge(
         &self,
         size: u64,
@@ -61,21 +61,18 @@ impl InnerNode {
     ) {
         if self.block.state == NodeState::Free {
             if self.left.is_some() || self.right.is_some() {
-                return self.first_place(size, alignment, found, count);
+                return self.search_first(size, alignment, found, count);
             }
             self.enter(count);
             edge.reached = true;
             if let Some(start) = lowest_fit(&self.block, size, alignment) {
-                *found = Some(Place {
-                    key: self.block.key,
-                    start,
-                });
+                *found = Some(Place::new(self.block.key, start, size));
             }
             return;
         }
         let left = summary_of(&self.left);
         if left.max_free >= size {
-            return self.first_place(size, alignment, found, count);
+            return self.search_first(size, alignment, found, count);
         }
         self.enter(count);
         if let Some(right) = with_multiple(&self.right, alignment) {
@@ -85,7 +82,7 @@ impl InnerNode {
     }
 
     /// Writes the highest place in the subtree to `found`, if there is a place. It follows the left
-    /// edge as long as possible, and then searches like `last_place`.
+    /// edge as long as possible, and then searches like `search_last`.
     pub(super) fn last_on_edge(
         &self,
         size: u64,
@@ -96,21 +93,18 @@ impl InnerNode {
     ) {
         if self.block.state == NodeState::Free {
             if self.left.is_some() || self.right.is_some() {
-                return self.last_place(size, alignment, found, count);
+                return self.search_last(size, alignment, found, count);
             }
             self.enter(count);
             edge.reached = true;
             if let Some(start) = highest_fit(&self.block, size, alignment) {
-                *found = Some(Place {
-                    key: self.block.key,
-                    start,
-                });
+                *found = Some(Place::new(self.block.key, start, size));
             }
             return;
         }
         let right = summary_of(&self.right);
         if right.max_free >= size {
-            return self.last_place(size, alignment, found, count);
+            return self.search_last(size, alignment, found, count);
         }
         self.enter(count);
         if let Some(left) = with_multiple(&self.left, alignment) {

@@ -1,34 +1,20 @@
 // Written by bindings/erase from crates/vm_engine/src/node/find.rt: do not edit.
 
-//! The search for the block that contains a range.
+//! The search for the node of an address.
 
-use super::InnerNode;
+use super::{Child, InnerNode};
 use crate::proved::vm_engine::Steps;
-use crate::proved::vm_engine::ordering::ends_before;
-use crate::proved::vm_ranges::RangeInclusive;
 
-impl InnerNode {
-    /// Returns the node whose key contains this range, or `None` if there is no such node.
-    pub(in crate::proved::vm_engine) fn search_superset(
-        &self,
-        key: &RangeInclusive,
-        count: &mut Steps,
-    ) -> Option<&InnerNode> {
-        self.enter(count);
-        if ends_before(key, &self.block.key) {
-            let Some(left) = &self.left else { return None };
-            return left.search_superset(key, count);
-        }
-        if ends_before(&self.block.key, key) {
-            let Some(right) = &self.right else {
-                return None
-            };
-            return right.search_superset(key, count);
-        }
-        if self.block.key.contains(key) {
-            Some(self)
-        } else {
-            None
-        }
+/// Returns the node whose block contains an address, or `None` if there is no such node.
+pub(in crate::proved::vm_engine) fn node_at<'a>(tree: &'a Child, address: u64, count: &mut Steps) -> Option<&'a InnerNode> {
+    let Some(node) = tree else { return None };
+    let node: &InnerNode = node;
+    node.enter(count);
+    if address < node.block.key.start() {
+        return node_at(&node.left, address, count);
     }
+    if node.block.key.end() < address {
+        return node_at(&node.right, address, count);
+    }
+    Some(node)
 }

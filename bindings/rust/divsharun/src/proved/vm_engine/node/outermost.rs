@@ -34,7 +34,7 @@ fn only_rest(split: &Split, edge: &Edge) -> Option<Summary> {
     }
     let before = summary_of(&split.rest.before);
     let after = summary_of(&split.rest.after);
-    let range = split.choice.range;
+    let range = split.place.range;
     let free = summary_at(1, before, after, &Block::held(range));
     if before.height != after.height
         && range.end() - range.start() <= free.max_free
@@ -58,7 +58,7 @@ fn split_below(at: &mut Child, split: &mut Split, free: &Summary, steady: u64, c
     tree.enter(count);
     tree.summary.max_free = free.max_free;
     tree.summary.alignments = free.alignments;
-    match compare(&tree.block.key, &split.choice.key) {
+    match compare(&tree.block.key, &split.place.key) {
         Ordering::Equal => unreachable!(),
         Ordering::Greater => split_below(&mut tree.left, split, free, steady - 1, count),
         Ordering::Less => split_below(&mut tree.right, split, free, steady - 1, count),

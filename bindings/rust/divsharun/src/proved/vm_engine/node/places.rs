@@ -3,7 +3,7 @@
 //! The searches for the lowest and for the highest place of a request.
 //!
 //! They are two functions, because a common one would branch on the direction at every node. They
-//! write the place into an `Option` of their caller, because returning it would copy 32 bytes at
+//! write the place into an `Option` of their caller, because returning it would copy 40 bytes at
 //! every level. Before a call enters a child, `may_fit` checks that the child exists and that its
 //! summary fits the request. They begin in `edge`.
 
@@ -11,15 +11,32 @@ use super::edge::Edge;
 use super::{Child, InnerNode};
 use crate::proved::vm_engine::Steps;
 use crate::proved::vm_engine::block::Block;
-use crate::proved::vm_ranges::{NodeState, RangeInclusive, align_down, align_up};
+use crate::proved::vm_engine::ordering::valid_range;
+use crate::proved::vm_ranges::{NodeState, RangeInclusive};
 
-/// An address in a free block at which a request can start.
+/// A range for a request, and the free block that contains it.
 #[derive(Clone, Copy, Debug)]
 pub(in crate::proved::vm_engine) struct Place {
     /// The free block.
     pub(in crate::proved::vm_engine) key: RangeInclusive,
-    /// An address of the block.
-    pub(in crate::proved::vm_engine) start: u64,
+    /// The range, within that block.
+    pub(in crate::proved::vm_engine) range: RangeInclusive,
+}
+
+impl Place {
+    /// Creates the place of the `size` addresses that start at `start`, within the free block `key`.
+    pub(in crate::proved::vm_engine) fn new(key: RangeInclusive, start: u64, size: u64) -> Place {
+        let range = valid_range(start, start + (size - 1));
+        Place { key, range }
+    }
+}
+
+/// Returns the highest multiple of `alignment` that is at most `address`.
+///
+/// `align_down` tests the alignment first, which a `Constraint` has done.
+#[inline(always)]
+fn highest_multiple(address: u64, alignment: u64) -> u64 {
+    address & !(alignment - 1)
 }
 
 /// Returns the lowest multiple of `alignment` at which `size` addresses fit into the block.
@@ -38,10 +55,8 @@ pub(super) fn lowest_fit(block: &Block, size: u64, alignment: u64) -> Option<u64
 /// It is never inlined, so that a search saves fewer registers at each node.
 #[inline(never)]
 fn lowest_in_free(key: &RangeInclusive, size: u64, alignment: u64) -> Option<u64> {
-    let Ok(start) = align_up(key.start(), alignment) else {
-        return None;
-    };
-    let end = key.end();
+    let last = key.start().checked_add(alignment - 1)?;
+    let (start, end) = (highest_multiple(last, alignment), key.end());
     if start <= end && size - 1 <= end - start {
         Some(start)
     } else {
@@ -69,9 +84,7 @@ fn highest_in_free(key: &RangeInclusive, size: u64, alignment: u64) -> Option<u6
     if end - start < size - 1 {
         return None;
     }
-    let Ok(place) = align_down(end - (size - 1), alignment) else {
-        return None;
-    };
+    let place = highest_multiple(end - (size - 1), alignment);
     if start <= place { Some(place) } else { None }
 }
 
@@ -134,7 +147,7 @@ pub(in crate::proved::vm_engine) fn last_place(
 
 impl InnerNode {
     /// Writes the lowest place in the subtree to `found`, if there is a place.
-    pub(super) fn first_place(
+    pub(super) fn search_first(
         &self,
         size: u64,
         alignment: u64,
@@ -143,25 +156,22 @@ impl InnerNode {
     ) {
         self.enter(count);
         if let Some(left) = may_fit(&self.left, size, alignment) {
-            left.first_place(size, alignment, found, count);
+            left.search_first(size, alignment, found, count);
             if found.is_some() {
                 return;
             }
         }
         if let Some(start) = lowest_fit(&self.block, size, alignment) {
-            *found = Some(Place {
-                key: self.block.key,
-                start,
-            });
+            *found = Some(Place::new(self.block.key, start, size));
             return;
         }
         if let Some(right) = may_fit(&self.right, size, alignment) {
-            right.first_place(size, alignment, found, count);
+            right.search_first(size, alignment, found, count);
         }
     }
 
     /// Writes the highest place in the subtree to `found`, if there is a place.
-    pub(super) fn last_place(
+    pub(super) fn search_last(
         &self,
         size: u64,
         alignment: u64,
@@ -170,20 +180,17 @@ impl InnerNode {
     ) {
         self.enter(count);
         if let Some(right) = may_fit(&self.right, size, alignment) {
-            right.last_place(size, alignment, found, count);
+            right.search_last(size, alignment, found, count);
             if found.is_some() {
                 return;
             }
         }
         if let Some(start) = highest_fit(&self.block, size, alignment) {
-            *found = Some(Place {
-                key: self.block.key,
-                start,
-            });
+            *found = Some(Place::new(self.block.key, start, size));
             return;
         }
         if let Some(left) = may_fit(&self.left, size, alignment) {
-            left.last_place(size, alignment, found, count);
+            left.search_last(size, alignment, found, count);
         }
     }
 }

@@ -12,13 +12,13 @@
 
 use super::balance::update;
 use super::link::link_at;
+use super::places::Place;
 use super::summary::{Change, refresh_free};
 use super::{Child, InnerNode};
 use crate::proved::vm_engine::Steps;
 use crate::proved::vm_engine::block::Block;
 use crate::proved::vm_engine::ordering::compare;
 use core::cmp::Ordering;
-use crate::proved::vm_ranges::RangeInclusive;
 
 /// The parts of a free block before and after a range. Each is a leaf, or absent if it is empty.
 pub(in crate::proved::vm_engine) struct Rest {
@@ -35,19 +35,10 @@ fn link_if_some(child: &mut Child, leaf: Child, count: &mut Steps) {
     }
 }
 
-/// A range to allocate, and the free block that contains it.
-#[derive(Clone, Copy)]
-pub(in crate::proved::vm_engine) struct Choice {
-    /// The free block.
-    pub(in crate::proved::vm_engine) key: RangeInclusive,
-    /// The range, within that block.
-    pub(in crate::proved::vm_engine) range: RangeInclusive,
-}
-
 /// A split: the range with its free block, and the leaves that are not linked yet.
 pub(in crate::proved::vm_engine) struct Split {
     /// The range, and the free block that contains it.
-    pub(in crate::proved::vm_engine) choice: Choice,
+    pub(in crate::proved::vm_engine) place: Place,
     /// The parts of the block before and after the range.
     pub(in crate::proved::vm_engine) rest: Rest,
 }
@@ -58,7 +49,7 @@ pub(in crate::proved::vm_engine) struct Split {
 fn split_here(at: &mut Child, split: &mut Split, count: &mut Steps) -> Change {
     let Some(tree) = at else { unreachable!() };
     let tree: &mut InnerNode = tree;
-    tree.block = Block::held(split.choice.range);
+    tree.block = Block::held(split.place.range);
     link_if_some(&mut tree.left, split.rest.before.take(), count);
     link_if_some(&mut tree.right, split.rest.after.take(), count);
     let updated = update(
@@ -78,7 +69,7 @@ pub(in crate::proved::vm_engine) fn split_at(at: &mut Child, split: &mut Split, 
     let Some(tree) = at else { unreachable!() };
     let tree: &mut InnerNode = tree;
     tree.enter(count);
-    let change = match compare(&tree.block.key, &split.choice.key) {
+    let change = match compare(&tree.block.key, &split.place.key) {
         Ordering::Equal => return split_here(at, split, count),
         Ordering::Greater => split_at(&mut tree.left, split, count),
         Ordering::Less => split_at(&mut tree.right, split, count),

@@ -9,7 +9,6 @@
 
 pub(in crate::proved::vm_engine) mod addresses;
 pub(in crate::proved::vm_engine) mod both_ends;
-pub(in crate::proved::vm_engine) mod comparing;
 pub(in crate::proved::vm_engine) mod copying;
 pub(in crate::proved::vm_engine) mod gaps;
 pub(in crate::proved::vm_engine) mod held;

@@ -86,7 +86,7 @@ pub(in crate::proved::vm_engine) fn first_place_in(
 ) -> Option<Place> {
     let mut found = None;
     if let Some(node) = may_fit(tree, size, alignment) {
-        node.first_in(window, size, alignment, &mut found, count);
+        node.search_first_in(window, size, alignment, &mut found, count);
     }
     found
 }
@@ -101,14 +101,14 @@ pub(in crate::proved::vm_engine) fn last_place_in(
 ) -> Option<Place> {
     let mut found = None;
     if let Some(node) = may_fit(tree, size, alignment) {
-        node.last_in(window, size, alignment, &mut found, count);
+        node.search_last_in(window, size, alignment, &mut found, count);
     }
     found
 }
 
 impl InnerNode {
     /// Writes the lowest place of the subtree within the window to `found`, if there is a place.
-    fn first_in(
+    fn search_first_in(
         &self,
         window: &RangeInclusive,
         size: u64,
@@ -118,25 +118,22 @@ impl InnerNode {
     ) {
         self.enter(count);
         if let Some(left) = left_in(&self.left, &self.block.key, window, size, alignment) {
-            left.first_in(window, size, alignment, found, count);
+            left.search_first_in(window, size, alignment, found, count);
             if found.is_some() {
                 return;
             }
         }
         if let Some(start) = lowest_fit_in(&self.block, window, size, alignment) {
-            *found = Some(Place {
-                key: self.block.key,
-                start,
-            });
+            *found = Some(Place::new(self.block.key, start, size));
             return;
         }
         if let Some(right) = right_in(&self.right, &self.block.key, window, size, alignment) {
-            right.first_in(window, size, alignment, found, count);
+            right.search_first_in(window, size, alignment, found, count);
         }
     }
 
     /// Writes the highest place of the subtree within the window to `found`, if there is a place.
-    fn last_in(
+    fn search_last_in(
         &self,
         window: &RangeInclusive,
         size: u64,
@@ -146,20 +143,17 @@ impl InnerNode {
     ) {
         self.enter(count);
         if let Some(right) = right_in(&self.right, &self.block.key, window, size, alignment) {
-            right.last_in(window, size, alignment, found, count);
+            right.search_last_in(window, size, alignment, found, count);
             if found.is_some() {
                 return;
             }
         }
         if let Some(start) = highest_fit_in(&self.block, window, size, alignment) {
-            *found = Some(Place {
-                key: self.block.key,
-                start,
-            });
+            *found = Some(Place::new(self.block.key, start, size));
             return;
         }
         if let Some(left) = left_in(&self.left, &self.block.key, window, size, alignment) {
-            left.last_in(window, size, alignment, found, count);
+            left.search_last_in(window, size, alignment, found, count);
         }
     }
 }

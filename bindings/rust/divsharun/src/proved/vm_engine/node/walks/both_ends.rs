@@ -80,7 +80,7 @@ impl<'a> WalkBack<'a> {
 ///
 /// Its model is the list of the blocks that it has not returned yet.
 #[derive(Clone)]
-pub(in crate::proved::vm_engine) struct Blocks<'a> {
+pub(in crate::proved::vm_engine) struct WalkBothEnds<'a> {
     lower: Walk<'a>,
     upper: WalkBack<'a>,
     // Only blocks that start below it are left. It is the start of the last block that `upper`
@@ -88,10 +88,10 @@ pub(in crate::proved::vm_engine) struct Blocks<'a> {
     bound: Option<u64>,
 }
 
-impl<'a> Blocks<'a> {
+impl<'a> WalkBothEnds<'a> {
     /// Creates an iterator over all blocks of a tree.
-    pub(in crate::proved::vm_engine) fn new(tree: &'a Child) -> Blocks<'a> {
-        Blocks {
+    pub(in crate::proved::vm_engine) fn new(tree: &'a Child) -> WalkBothEnds<'a> {
+        WalkBothEnds {
             lower: Walk::new(tree),
             upper: WalkBack::new(tree),
             bound: None,
@@ -99,8 +99,8 @@ impl<'a> Blocks<'a> {
     }
 
     /// Creates an iterator over the blocks of a tree that have an address in common with `window`.
-    pub(in crate::proved::vm_engine) fn within(tree: &'a Child, window: &RangeInclusive) -> Blocks<'a> {
-        Blocks {
+    pub(in crate::proved::vm_engine) fn within(tree: &'a Child, window: &RangeInclusive) -> WalkBothEnds<'a> {
+        WalkBothEnds {
             lower: Walk::reaching(tree, window.start()),
             upper: WalkBack::up_to(tree, window.end()),
             bound: window.end().checked_add(1),
@@ -116,7 +116,7 @@ impl<'a> Blocks<'a> {
     }
 }
 
-impl<'a> Iterator for Blocks<'a> {
+impl<'a> Iterator for WalkBothEnds<'a> {
     type Item = Block;
 
     /// Returns the lowest block that is left.
@@ -128,7 +128,7 @@ impl<'a> Iterator for Blocks<'a> {
     }
 }
 
-impl<'a> DoubleEndedIterator for Blocks<'a> {
+impl<'a> DoubleEndedIterator for WalkBothEnds<'a> {
     /// Returns the highest block that is left.
     fn next_back(&mut self) -> Option<Block> {
         if self.is_empty() {
