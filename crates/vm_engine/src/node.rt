@@ -13,7 +13,7 @@ ghost use Rattle.vm_engine.specs.Engine.NodeFields.{side};
 mod balance;
 pub(crate) mod delete;
 pub(crate) mod edge;
-pub(crate) mod find;
+mod find;
 mod laws;
 mod link;
 pub(crate) mod neighbours;

@@ -1,7 +1,7 @@
 -- A search that ends at the outermost gap of a tree.
 use Rattle.std.proofs.Common.{◌≡◌, ◌≢◌, ℕ, suc, ◌+◌, ◌-◌, ◌<◌, ◌≤◌, ◌⊎◌, inl, inr, true, Option, Some, None, List, [], ◌∷◌, ◌++◌, refl, sym, ap, ◌∙◌, subst, append_assoc, arith, ⊎_elim, Result, IfOk}
 use Rattle.vm_ranges.specs.Range.{Range, span}
-use Rattle.vm_ranges.specs.RangeOrder.{Before}
+use Rattle.vm_ranges.specs.RangeOrder.{Before, StartsBefore}
 use Rattle.vm_engine.specs.Tree.Block.{Block, free_block, free_length}
 use Rattle.vm_engine.specs.Tree.BlockList.{IsOrderedFrom, replace_block}
 use Rattle.vm_engine.specs.Tree.Fit.{HasNoFit}
@@ -20,7 +20,6 @@ use Rattle.vm_engine.specs.declared.node.places.Place.{Place}
 use Rattle.vm_engine.specs.declared.node.summary.Summary.{Summary}
 use Rattle.vm_ranges.specs.declared.error.Error.{Error}
 use Rattle.vm_ranges.specs.declared.state.NodeState.TheVariants.{Free, Allocated}
-use Rattle.vm_ranges.proofs.RangeCalls.{before_by_start}
 use Rattle.vm_engine.proofs.Blocks.BlockOrder.{ordered_middle}
 use Rattle.vm_engine.proofs.Blocks.OneList.{same_block}
 use Rattle.vm_engine.proofs.Blocks.Replacement.{same_range_self}
@@ -29,23 +28,25 @@ use Rattle.vm_engine.proofs.Choosing.PlaceSearch.{lowest_within, highest_within,
 use Rattle.vm_engine.proofs.Counts.Entering.{not_if_short, none_unless_searched}
 use Rattle.vm_engine.proofs.Counts.Searching.{first_nodes_passed, first_nodes_right, last_nodes_passed, last_nodes_left}
 use Rattle.vm_engine.proofs.Nodes.TreeEdits.{starts_from}
-use Rattle.vm_engine.proofs.Splitting.OutermostGaps.{max_free_by_blocks, alignments_by_blocks, others_in_left, others_in_right}
+use Rattle.vm_engine.proofs.Splitting.OutermostGaps.{starts_in_order, max_free_by_blocks, alignments_by_blocks, others_in_left, others_in_right}
 
 -- A block of the right child is above the block of the node, and a block of the left child is below it.
-right_above : (s l : Shape) (b : Block) (r : Shape) (k : Range) (us vs : List Block) → s ≡ Fork l b r → IsTree s → blocks r ≡ us ++ free_block k ∷ vs → Before b.key k
+right_above : (s l : Shape) (b : Block) (r : Shape) (k : Range) (us vs : List Block) → s ≡ Fork l b r → IsTree s → blocks r ≡ us ++ free_block k ∷ vs → StartsBefore b.key k
+unfolding StartsBefore
 right_above s l b r k us vs e t c =
     let o : IsOrderedFrom 0 (blocks l ++ b ∷ blocks r) = rw e at t.ordered in
     let m = ordered_middle 0 (blocks l) b (blocks r) o in
     let i = starts_from (b.key.end + 1) (free_block k) us vs (subst (IsOrderedFrom (b.key.end + 1)) c m.2) in
-    before_by_start b.key k (omega (arith, i, m.1))
+    omega (arith, i, m.1)
 
-left_below : (s l : Shape) (b : Block) (r : Shape) (k : Range) (us vs : List Block) → s ≡ Fork l b r → IsTree s → blocks l ≡ us ++ free_block k ∷ vs → Before k b.key
+left_below : (s l : Shape) (b : Block) (r : Shape) (k : Range) (us vs : List Block) → s ≡ Fork l b r → IsTree s → blocks l ≡ us ++ free_block k ∷ vs → StartsBefore k b.key
+unfolding StartsBefore
 left_below s l b r k us vs e t c =
     let o : IsOrderedFrom 0 (blocks l ++ b ∷ blocks r) = rw e at t.ordered in
     let q : IsOrderedFrom 0 (us ++ free_block k ∷ (vs ++ b ∷ blocks r)) = subst (IsOrderedFrom 0) (ap (λ (v : List Block). v ++ b ∷ blocks r) c ∙ append_assoc us (free_block k ∷ vs) (b ∷ blocks r)) o in
     let m = ordered_middle 0 us (free_block k) (vs ++ b ∷ blocks r) q in
     let i = starts_from (k.end + 1) b vs (blocks r) m.2 in
-    before_by_start k b.key (omega (arith, i, m.1))
+    omega (arith, i, m.1)
 
 -- ---- A passed node: an allocated block, and a child that is too short
 module _ (n a : ℕ) (s l : Shape) (b : Block) (r : Shape) (e : s ≡ Fork l b r) (z : 0 < n) (u : IsAlignment a) (h : b.state ≡ Allocated) where
@@ -82,11 +83,11 @@ module _ (k : Range) (l : Shape) (b : Block) (r : Shape) where
   unfolding IsUnevenAt
   uneven_root u = u
 
-uneven_in_right : (j : ℕ) (k : Range) (l : Shape) (b : Block) (r : Shape) → Before b.key k → IsUnevenAt j k r → IsUnevenAt (suc j) k (Fork l b r)
+uneven_in_right : (j : ℕ) (k : Range) (l : Shape) (b : Block) (r : Shape) → StartsBefore b.key k → IsUnevenAt j k r → IsUnevenAt (suc j) k (Fork l b r)
 unfolding IsUnevenAt
 uneven_in_right j k l b r p u = inr (p, u)
 
-uneven_in_left : (j : ℕ) (k : Range) (l : Shape) (b : Block) (r : Shape) → Before k b.key → IsUnevenAt j k l → IsUnevenAt (suc j) k (Fork l b r)
+uneven_in_left : (j : ℕ) (k : Range) (l : Shape) (b : Block) (r : Shape) → StartsBefore k b.key → IsUnevenAt j k l → IsUnevenAt (suc j) k (Fork l b r)
 unfolding IsUnevenAt
 uneven_in_left j k l b r p u = inl (p, u)
 
@@ -126,14 +127,15 @@ module _ (n a : ℕ) (old mid new : Edge) (s l : Shape) (b : Block) (r : Shape) 
   gap_through_right z p m q None f k = λ i. tt
   gap_through_right z p m q (Some place) f k = λ i.
       let gap = k i in
-      let above = right_above s l b r place.key f.before f.after e t f.cut in
+      let starts = right_above s l b r place.key f.before f.after e t f.cut in
+      let above = starts_in_order b.key place.key starts in
       record {
         others = record {
           max_free = omega (arith, others_in_right free_length s l b r place.key e above t, max_free_by_blocks l, gap.others.max_free, held_length b h);
           alignments = omega (arith, others_in_right free_alignments s l b r place.key e above t, alignments_by_blocks l, gap.others.alignments, held_alignments b h, z.2, p.alignments);
         };
         leaf = rw e (leaf_in_right place.key l b r above gap.leaf);
-        uneven = rw e (uneven_over place.key r (Fork l b r) old mid new passed _ (λ j u. uneven_in_right j place.key l b r above u) (λ u. uneven_root place.key l b r (λ d. u (z.0 ∙ d))) p gap.uneven);
+        uneven = rw e (uneven_over place.key r (Fork l b r) old mid new passed _ (λ j u. uneven_in_right j place.key l b r starts u) (λ u. uneven_root place.key l b r (λ d. u (z.0 ∙ d))) p gap.uneven);
       }
 
   pub gap_through_left : IsSummaryOf r passed → Passes passed (height_of l) old mid → mid.alignments ≤ new.alignments → max_free_of r < n
@@ -141,14 +143,15 @@ module _ (n a : ℕ) (old mid new : Edge) (s l : Shape) (b : Block) (r : Shape) 
   gap_through_left z p m q None f k = λ i. tt
   gap_through_left z p m q (Some place) f k = λ i.
       let gap = k i in
-      let below = left_below s l b r place.key f.before f.after e t f.cut in
+      let starts = left_below s l b r place.key f.before f.after e t f.cut in
+      let below = starts_in_order place.key b.key starts in
       record {
         others = record {
           max_free = omega (arith, others_in_left free_length s l b r place.key e below t, max_free_by_blocks r, gap.others.max_free, held_length b h);
           alignments = omega (arith, others_in_left free_alignments s l b r place.key e below t, alignments_by_blocks r, gap.others.alignments, held_alignments b h, z.2, p.alignments);
         };
         leaf = rw e (leaf_in_left place.key l b r below gap.leaf);
-        uneven = rw e (uneven_over place.key l (Fork l b r) old mid new passed _ (λ j u. uneven_in_left j place.key l b r below u) (λ u. uneven_root place.key l b r (λ d. u (z.0 ∙ sym d))) p gap.uneven);
+        uneven = rw e (uneven_over place.key l (Fork l b r) old mid new passed _ (λ j u. uneven_in_left j place.key l b r starts u) (λ u. uneven_root place.key l b r (λ d. u (z.0 ∙ sym d))) p gap.uneven);
       }
 
 pub ruleset firsts = (lowest_within, no_fit_held, gap_at_leaf, gap_through_right)

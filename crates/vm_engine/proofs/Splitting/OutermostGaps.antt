@@ -2,7 +2,8 @@
 use Rattle.std.proofs.Common.{◌≡◌, ℕ, suc, ◌-◌, ◌<◌, ◌≤◌, ⊎_elim, max, true, false, cond, Option, Some, IsSome, List, [], ◌∷◌, ◌++◌, refl, sym, ap, ◌∙◌, arith}
 use Rattle.std.specs.Global.{Box}
 use Rattle.vm_ranges.specs.Range.{Range}
-use Rattle.vm_ranges.specs.RangeOrder.{Before, same_range}
+use Rattle.vm_ranges.specs.RangeOrder.{Before, StartsBefore, StartsAtOrAfter, same_range}
+use Rattle.vm_ranges.proofs.RangeCalls.{before_by_start}
 use Rattle.vm_engine.specs.Tree.Block.{Block, free_length, held_block}
 use Rattle.vm_engine.specs.Tree.BlockList.{replace_block, find_key}
 use Rattle.vm_engine.specs.Tree.Multiples.{free_alignments}
@@ -18,7 +19,7 @@ use Rattle.vm_engine.specs.declared.node.split.Split.{Split}
 use Rattle.vm_engine.specs.declared.node.summary.Summary.{Summary}
 use Rattle.vm_engine.proofs.Blocks.Replacement.{replace_in_left, replace_in_right}
 use Rattle.vm_engine.proofs.Nodes.Rewriting.{known_left, known_right, rewritten_left, rewritten_right}
-use Rattle.vm_engine.proofs.Nodes.AvlInsertion.{not_both, not_itself, not_itself_after, leaf_left, leaf_right}
+use Rattle.vm_engine.proofs.Nodes.AvlInsertion.{leaf_left, leaf_right}
 use Rattle.vm_engine.proofs.Splitting.SplitTrees.{ordered_split_left, ordered_split_right}
 
 -- ---- The free summary of a tree, by its blocks
@@ -124,40 +125,51 @@ module _ (i : Inside) (child : Option (Box InnerNode)) (split : Split) (free : S
         alignments = sym keeps.1;
       }
 
+pub starts_in_order : (a b : Range) → StartsBefore a b → Before a b
+unfolding StartsBefore
+starts_in_order a b l = before_by_start a b l
+
 -- The path below an uneven node.
 module _ (j : ℕ) (k : Range) (l : Shape) (b : Block) (r : Shape) where
   pub uneven_here : IsUnevenAt 0 k (Fork l b r) → IsUneven (Fork l b r)
   unfolding IsUnevenAt
   uneven_here u = u
 
-  pub uneven_not_here : 0 < j → k ≡ b.key → ¬ IsUnevenAt j k (Fork l b r)
-  unfolding IsUnevenAt
-  uneven_not_here p e u =
-      let s : j ≡ suc (j - 1) = omega arith in
-      let v : IsUnevenAt (suc (j - 1)) k (Fork l b r) = rw s at u in
-      ⊎_elim (λ h. not_itself k b.key e h.0) (λ h. not_itself_after k b.key e h.0) v
-
-  pub uneven_left : 0 < j → Before k b.key → IsUnevenAt j k (Fork l b r) → IsUnevenAt (j - 1) k l
-  unfolding IsUnevenAt
+  pub uneven_left : 0 < j → StartsBefore k b.key → IsUnevenAt j k (Fork l b r) → IsUnevenAt (j - 1) k l
+  unfolding IsUnevenAt StartsBefore
   uneven_left p q u =
       let s : j ≡ suc (j - 1) = omega arith in
       let v : IsUnevenAt (suc (j - 1)) k (Fork l b r) = rw s at u in
-      ⊎_elim (λ h. h.1) (λ h. absurd (not_both k b.key q h.0)) v
+      ⊎_elim (λ h. h.1) (λ h. absurd (omega (arith, h.0))) v
 
-  pub uneven_right : 0 < j → Before b.key k → IsUnevenAt j k (Fork l b r) → IsUnevenAt (j - 1) k r
-  unfolding IsUnevenAt
+  pub uneven_right : 0 < j → StartsAtOrAfter k b.key → IsUnevenAt j k (Fork l b r) → StartsBefore b.key k × IsUnevenAt (j - 1) k r
+  unfolding IsUnevenAt StartsBefore StartsAtOrAfter
   uneven_right p q u =
       let s : j ≡ suc (j - 1) = omega arith in
       let v : IsUnevenAt (suc (j - 1)) k (Fork l b r) = rw s at u in
-      ⊎_elim (λ h. absurd (not_both k b.key h.0 q)) (λ h. h.1) v
+      ⊎_elim (λ h. absurd (omega (arith, h.0))) (λ h. h) v
 
 -- The split of a tree is the split of the child with the gap.
 module _ (s l : Shape) (b : Block) (r : Shape) (split : Split) (free : Summary) (j : ℕ) (e : s ≡ Fork l b r) (t : IsTree s) (o : IsSteadySplit s split free j) where
-  pub steady_left : 0 < j → Before split.place.key b.key → IsSteadySplit l split free (j - 1)
-  steady_left q p = record { only = only_in_left s l b r split free e t o.only p; one = o.one; leaf = leaf_left split.place.key l b r p (rw e at o.leaf); uneven = uneven_left j split.place.key l b r q p (rw e at o.uneven) }
+  pub steady_left : 0 < j → StartsBefore split.place.key b.key → IsSteadySplit l split free (j - 1)
+  steady_left q p = let before = starts_in_order split.place.key b.key p in record {
+    only = only_in_left s l b r split free e t o.only before;
+    one = o.one;
+    leaf = leaf_left split.place.key l b r before (rw e at o.leaf);
+    uneven = uneven_left j split.place.key l b r q p (rw e at o.uneven);
+  }
 
-  pub steady_right : 0 < j → Before b.key split.place.key → IsSteadySplit r split free (j - 1)
-  steady_right q p = record { only = only_in_right s l b r split free e t o.only p; one = o.one; leaf = leaf_right split.place.key l b r p (rw e at o.leaf); uneven = uneven_right j split.place.key l b r q p (rw e at o.uneven) }
+  -- A gap that does not start before the node is in its right child.
+  pub starts_above : 0 < j → StartsAtOrAfter split.place.key b.key → Before b.key split.place.key
+  starts_above q p = starts_in_order b.key split.place.key (uneven_right j split.place.key l b r q p (rw e at o.uneven)).0
+
+  pub steady_right : 0 < j → StartsAtOrAfter split.place.key b.key → IsSteadySplit r split free (j - 1)
+  steady_right q p = let above = starts_above q p in record {
+    only = only_in_right s l b r split free e t o.only above;
+    one = o.one;
+    leaf = leaf_right split.place.key l b r above (rw e at o.leaf);
+    uneven = (uneven_right j split.place.key l b r q p (rw e at o.uneven)).1;
+  }
 
 -- The split of the gap at which a search ended.
 pub steady_by_search : (s : Shape) (edge : Edge) (split : Split) (free : Summary) → AreLeaves split.rest → CanSplit (blocks s) split.place.key split.place.range split.rest
@@ -188,4 +200,4 @@ steady_height (Fork l b r) n split free o h =
 
 pub ruleset steady_splits = (steady_by_search)
 
-pub ruleset steady_paths = (replace_in_left, replace_in_right, steady_left, steady_right, steady_height, kept_over_left, kept_over_right, uneven_not_here)
+pub ruleset steady_paths = (replace_in_left, replace_in_right, steady_left, steady_right, steady_height, kept_over_left, kept_over_right, starts_in_order, starts_above)

@@ -1,13 +1,13 @@
 -- The effect of an allocation on the state of a tree.
-use Rattle.std.proofs.Common.{◌≡◌, ◌≢◌, ◌+◌, ◌-◌, ◌<◌, ◌≤◌, suc, Option, Some, None, List, [], ◌∷◌, ◌++◌, length, refl, sym, ap, ◌∙◌, arith, inl, inr, ⊎_elim, subst, cond, ltb, true, false, Ok, Err, IsSome}
-use Rattle.std.proofs.lemmas.Bool.{cases_lt, le-ltb, lt-ltb}
+use Rattle.std.proofs.Common.{◌≡◌, ◌+◌, ◌-◌, ◌<◌, ◌≤◌, suc, List, [], ◌∷◌, ◌++◌, length, refl, sym, ap, ◌∙◌, arith, inl, inr, ⊎_elim, subst, cond, ltb, true, false, Ok, Err, IsSome}
+use Rattle.std.proofs.lemmas.Bool.{cases_lt, le-ltb}
 use Rattle.vm_engine.specs.Engine.NodeFields.{side}
 use Rattle.vm_ranges.specs.Range.{Range}
 use Rattle.vm_engine.specs.Tree.Block.{Block, free_block, held_block}
 use Rattle.vm_engine.specs.Address.{SplitsGap, holding}
 use Rattle.vm_engine.specs.Answer.{SPLIT_LIMIT_MIN_HELD, AllocatesAt}
 use Rattle.vm_engine.specs.Tree.Blocks.{Tiles, TilesSpace, IsBlocksOf, held_of, blocks_state, AreBelowMax}
-use Rattle.vm_engine.specs.Tree.BlockEdits.{before_part, after_part, free_blocks, parts, IsTakenFrom, NeedsSplit}
+use Rattle.vm_engine.specs.Tree.BlockEdits.{before_part, after_part, parts, IsTakenFrom, NeedsSplit}
 use Rattle.vm_engine.specs.Tree.BlockList.{IsOrderedFrom, replace_block, with_block, find_key}
 use Rattle.vm_engine.specs.Tree.Shape.{Shape, blocks, height_of, node_count, IsTree, leaf_of}
 use Rattle.vm_engine.specs.Engine.Choosing.{IsChosenPlace, Splits}
@@ -66,46 +66,12 @@ module _ (bs : List Block) (k r : Range) (c : IsCut bs k r) where
   pub carved : (us vs news : List Block) → us ≡ before_part k r → vs ≡ after_part k r → news ≡ replace_block k (us ++ held_block r ∷ vs) bs → Splits bs k r news
   carved us vs news p q e = record { before = c.before; after = c.after; cut = c.cut; is = e ∙ rw (p, q) replaced }
 
--- ---- The parts of a block before and after a range
-pub none_before_start : (k r : Range) → r.start ≤ k.start → before_part k r ≡ []
-none_before_start k r l = rw (le-ltb k.start r.start l) refl
-
-pub some_before_start : (k r : Range) → k.start < r.start → before_part k r ≡ free_block (record { start = k.start; end = r.start - 1 }) ∷ []
-some_before_start k r l = rw (lt-ltb k.start r.start l) refl
-
-pub none_after_end : (k r : Range) → k.end ≤ r.end → after_part k r ≡ []
-none_after_end k r l = rw (le-ltb r.end k.end l) refl
-
-pub some_after_end : (k r : Range) → r.end < k.end → after_part k r ≡ free_block (record { start = r.end + 1; end = k.end }) ∷ []
-some_after_end k r l = rw (lt-ltb r.end k.end l) refl
-
-pub ruleset block_parts = (none_before_start, some_before_start, none_after_end, some_after_end)
-
--- A range fills its block exactly if there is no such part.
-no_part : (k r : Range) → before_part k r ≡ [] → after_part k r ≡ [] → ¬ NeedsSplit k r
-no_part k r p q (inl l) = absurd (cc (sym p ∙ some_before_start k r l))
-no_part k r p q (inr l) = absurd (cc (sym q ∙ some_after_end k r l))
-
-pub fills : (k r : Range) (before after : Option Range) → before_part k r ≡ free_blocks before → after_part k r ≡ free_blocks after → before ≡ None → after ≡ None → ¬ NeedsSplit k r
-fills k r before after p q u v = no_part k r (p ∙ ap free_blocks u) (q ∙ ap free_blocks v)
-
+-- A range that fills its block leaves no rest.
 pub none_before : (k r : Range) → ¬ NeedsSplit k r → [] ≡ before_part k r
-none_before k r n = sym (none_before_start k r (⊎_elim (λ (l : k.start < r.start). absurd (n (inl l))) (λ (l : r.start ≤ k.start). l) (cases_lt k.start r.start)))
+none_before k r n = rw (le-ltb k.start r.start (⊎_elim (λ (l : k.start < r.start). absurd (n (inl l))) (λ (l : r.start ≤ k.start). l) (cases_lt k.start r.start))) refl
 
 pub none_after : (k r : Range) → ¬ NeedsSplit k r → [] ≡ after_part k r
-none_after k r n = sym (none_after_end k r (⊎_elim (λ (l : r.end < k.end). absurd (n (inr l))) (λ (l : k.end ≤ r.end). l) (cases_lt r.end k.end)))
-
-pub part_before : (k r : Range) (before : Option Range) → before_part k r ≡ free_blocks before → before ≢ None → NeedsSplit k r
-part_before k r None e n = absurd (n refl)
-part_before k r (Some key) e n = ⊎_elim (λ (l : k.start < r.start). inl l) (λ (l : r.start ≤ k.start). absurd (cc (sym e ∙ none_before_start k r l))) (cases_lt k.start r.start)
-
-pub part_after : (k r : Range) (after : Option Range) → after_part k r ≡ free_blocks after → after ≢ None → NeedsSplit k r
-part_after k r None e n = absurd (n refl)
-part_after k r (Some key) e n = ⊎_elim (λ (l : r.end < k.end). inr l) (λ (l : k.end ≤ r.end). absurd (cc (sym e ∙ none_after_end k r l))) (cases_lt r.end k.end)
-
--- The leaves of these parts are the rest.
-pub is_rest : (k r : Range) (before after : Option Range) (rest : Rest) → before_part k r ≡ free_blocks before → after_part k r ≡ free_blocks after → (side rest.before ≡ leaf_of (free_blocks before)) × (side rest.after ≡ leaf_of (free_blocks after)) × AreLeaves rest → IsRest k r rest
-is_rest k r before after rest p q h = record { before = rw p h.0; after = rw q h.1; leaves = h.2 }
+none_after k r n = rw (le-ltb r.end k.end (⊎_elim (λ (l : r.end < k.end). absurd (n (inr l))) (λ (l : k.end ≤ r.end). l) (cases_lt r.end k.end))) refl
 
 -- The leaf of a part has exactly that part.
 leaf_blocks : (k r : Range) (rest : Rest) → IsRest k r rest → (blocks (side rest.before) ≡ before_part k r) × (blocks (side rest.after) ≡ after_part k r)
@@ -182,4 +148,4 @@ pub too_deep_in : (s : Shape) (place : Place) → IsSpaceTree s → IsTree s →
 unfolding AllocatesAt
 too_deep_in s place h t i l d = inr (part_left s place h i l, refl, inr (many_held s h t d, refl))
 
-pub ruleset takings = (part_before, part_after, cut_of, space_taken, taken_in, no_memory_in, too_deep_in)
+pub ruleset takings = (cut_of, space_taken, taken_in, no_memory_in, too_deep_in)

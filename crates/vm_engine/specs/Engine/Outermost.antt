@@ -1,7 +1,7 @@
 -- The search for the outermost gap of a tree, and the split of that gap.
 use Rattle.std.specs.Prelude.{◌≡◌, ◌≢◌, ℕ, suc, zero, ◌+◌, ◌-◌, ◌≤◌, ◌⊎◌, max, true, false, List, [], ◌∷◌, Option, IfSome}
 use Rattle.vm_ranges.specs.Range.{Range}
-use Rattle.vm_ranges.specs.RangeOrder.{Before}
+use Rattle.vm_ranges.specs.RangeOrder.{StartsBefore}
 use Rattle.vm_engine.specs.Tree.Block.{Block, free_length}
 use Rattle.vm_engine.specs.Tree.BlockList.{replace_block}
 use Rattle.vm_engine.specs.Tree.Multiples.{free_alignments}
@@ -30,7 +30,7 @@ unfoldable pub IsUnevenAt : ℕ → Range → Shape → Type 0
 IsUnevenAt j key Tip = ⊥
 IsUnevenAt zero key (Fork l b r) = IsUneven (Fork l b r)
 IsUnevenAt (suc j) key (Fork l b r) =
-    (Before key b.key × IsUnevenAt j key l) ⊎ (Before b.key key × IsUnevenAt j key r)
+    (StartsBefore key b.key × IsUnevenAt j key l) ⊎ (StartsBefore b.key key × IsUnevenAt j key r)
 
 -- The notes of a search that has passed nothing.
 abbrev pub IsNewEdge : Edge → Type 0

@@ -1,5 +1,5 @@
 -- The parts of a block from which a range is allocated.
-use Rattle.std.specs.Prelude.{ℕ, ◌+◌, ◌-◌, ◌<◌, ◌≤◌, ◌⊎◌, List, [], ◌∷◌, ◌++◌, Option, Some, None, if◌then◌else◌, nat_lt}
+use Rattle.std.specs.Prelude.{ℕ, ◌+◌, ◌-◌, ◌<◌, ◌≤◌, ◌⊎◌, List, [], ◌∷◌, ◌++◌, if◌then◌else◌, nat_lt}
 use Rattle.vm_ranges.specs.Range.{Range}
 use Rattle.vm_engine.specs.Tree.Block.{Block, free_block}
 use Rattle.vm_ranges.specs.declared.state.NodeState.TheVariants.{Allocated}
@@ -13,11 +13,6 @@ before_part k r =
 abbrev pub after_part : Range → Range → List Block
 after_part k r =
     if nat_lt r.end k.end then free_block (record { start = r.end + 1; end = k.end }) ∷ [] else []
-
--- The free block with a key, or no block if there is no key.
-abbrev pub free_blocks : Option Range → List Block
-free_blocks None = []
-free_blocks (Some key) = free_block key ∷ []
 
 -- The blocks that replace k when r is allocated in it.
 abbrev pub parts : Range → Range → List Block

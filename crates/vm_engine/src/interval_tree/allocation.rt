@@ -7,8 +7,9 @@ ghost use Rattle.std.specs.Prelude.{◌≡◌, ◌+◌, ◌*◌, ◌<◌, ◌≤
 ghost use Rattle.vm_ranges.specs.Range.{MAX};
 ghost use Rattle.vm_engine.specs.Answer.{AllocatesAt};
 ghost use Rattle.vm_engine.specs.Tree.Block.{free_block};
-ghost use Rattle.vm_engine.specs.Tree.BlockEdits.{IsTakenFrom, NeedsSplit, before_part, after_part, free_blocks};
-ghost use Rattle.vm_engine.specs.Engine.SplitBlocks.{AreLeaves};
+ghost use Rattle.vm_engine.specs.Tree.BlockEdits.{IsTakenFrom, NeedsSplit, before_part, after_part};
+ghost use Rattle.vm_ranges.specs.Cases.{IsTestOf};
+ghost use Rattle.vm_engine.specs.Engine.SplitBlocks.{IsRest};
 ghost use Rattle.vm_engine.specs.Tree.Shape.{blocks, height_of, single, leaf_of};
 ghost use Rattle.vm_engine.specs.Engine.Changes.{IsLeaf};
 ghost use Rattle.vm_engine.specs.Engine.NodeFields.{side};
@@ -57,80 +58,84 @@ impl IntervalTree {
             × (result ≡ Err Error.Overflow → SPLIT_HEIGHT_LIMIT ≤ height_of self.old) }
         ensures count { count.new ≡ count.old + nodes_if_allocated place.key result self.old }
     {
-        let range = place.range;
-        let (before, after) = (part_before(&place), part_after(&place));
-        if before.is_none() && after.is_none() {
+        if !needs_split(&place) {
             rewrite_at(
                 &mut self.root,
                 &place.key,
-                range,
+                place.range,
                 NodeState::Allocated,
                 count,
             );
             self.held_count += 1;
-            self.clear_count -= range.len();
-            return Ok(range);
+            self.clear_count -= place.range.len();
+            return Ok(place.range);
         }
         if self.height() >= SPLIT_HEIGHT_LIMIT {
             return Err(Error::Overflow);
         }
-        let rest = rest_of(alloc, before, after)?;
+        let rest = rest_of(alloc, &place)?;
         let mut split = Split { place, rest };
         self.held_count += 1;
-        self.clear_count -= range.len();
+        self.clear_count -= place.range.len();
         split_gap(&mut self.root, &mut split, edge, count);
-        Ok(range)
+        Ok(place.range)
     }
 }
 
-/// Returns the part of the free block before the range, or `None` if it is empty.
-#[tactic(auto, using(crate::proofs::Splitting::SplitStates::block_parts))]
-fn part_before(place: &Place) -> Option<RangeInclusive>
-    requires { IsTakenFrom place.now.key place.now.range }
-    ensures { before_part place.now.key place.now.range ≡ free_blocks result }
+/// Returns `true` if the range does not fill its free block.
+fn needs_split(place: &Place) -> bool
+    ensures { IsTestOf result (NeedsSplit place.now.key place.now.range) }
 {
-    if place.key.start() >= place.range.start() {
-        return None;
-    }
-    Some(valid_range(place.key.start(), place.range.start() - 1))
+    place.key.start() < place.range.start() || place.range.end() < place.key.end()
 }
 
-/// Returns the part of the free block after the range, or `None` if it is empty.
-#[tactic(auto, using(crate::proofs::Splitting::SplitStates::block_parts))]
-fn part_after(place: &Place) -> Option<RangeInclusive>
-    requires { IsTakenFrom place.now.key place.now.range }
-    ensures { after_part place.now.key place.now.range ≡ free_blocks result }
-{
-    if place.range.end() >= place.key.end() {
-        return None;
-    }
-    Some(valid_range(place.range.end() + 1, place.key.end()))
-}
-
-/// Allocates the leaves for the parts of a free block before and after a range.
+/// Allocates the leaves for the parts of the free block before and after the range.
 ///
 /// It returns `OutOfMemory` if the allocation of a leaf fails.
-fn rest_of(
-    alloc: Global,
-    before: Option<RangeInclusive>,
-    after: Option<RangeInclusive>,
-) -> Result<Rest>
-    ensures rest { IfOk result (λ rest. (side rest.before ≡ leaf_of (free_blocks before))
-        × (side rest.after ≡ leaf_of (free_blocks after)) × AreLeaves rest) }
+fn rest_of(alloc: Global, place: &Place) -> Result<Rest>
+    requires { IsTakenFrom place.now.key place.now.range }
+    ensures rest { IfOk result (λ rest. IsRest place.now.key place.now.range rest) }
     ensures error { IfErr result (λ error. error ≡ Error.OutOfMemory) }
 {
-    let before = free_leaf(alloc, before)?;
-    let after = free_leaf(alloc, after)?;
+    let before = leaf_before(alloc, place)?;
+    let after = leaf_after(alloc, place)?;
     Ok(Rest { before, after })
 }
 
-/// Allocates a leaf for a part of a free block, if there is a part.
-fn free_leaf(alloc: Global, part: Option<RangeInclusive>) -> Result<Child>
-    ensures part { IfOk result (λ leaf. side leaf ≡ leaf_of (free_blocks part)) }
+/// Allocates a leaf for the part of the free block before the range, if that part is not empty.
+fn leaf_before(alloc: Global, place: &Place) -> Result<Child>
+    requires { IsTakenFrom place.now.key place.now.range }
+    ensures part { IfOk result (λ leaf. side leaf ≡ leaf_of (before_part place.now.key place.now.range)) }
     ensures leaf { IfOk result (λ leaf. IfSome leaf (λ n. IsLeaf n.value)) }
     ensures error { IfErr result (λ error. error ≡ Error.OutOfMemory) }
 {
-    let Some(key) = part else { return Ok(None) };
+    if place.key.start() >= place.range.start() {
+        return Ok(None);
+    }
+    let key = valid_range(place.key.start(), place.range.start() - 1);
+    free_leaf(alloc, key)
+}
+
+/// Allocates a leaf for the part of the free block after the range, if that part is not empty.
+fn leaf_after(alloc: Global, place: &Place) -> Result<Child>
+    requires { IsTakenFrom place.now.key place.now.range }
+    ensures part { IfOk result (λ leaf. side leaf ≡ leaf_of (after_part place.now.key place.now.range)) }
+    ensures leaf { IfOk result (λ leaf. IfSome leaf (λ n. IsLeaf n.value)) }
+    ensures error { IfErr result (λ error. error ≡ Error.OutOfMemory) }
+{
+    if place.range.end() >= place.key.end() {
+        return Ok(None);
+    }
+    let key = valid_range(place.range.end() + 1, place.key.end());
+    free_leaf(alloc, key)
+}
+
+/// Allocates a leaf with a free block.
+fn free_leaf(alloc: Global, key: RangeInclusive) -> Result<Child>
+    ensures leaf { IfOk result (λ leaf. IfSome leaf (λ n. n.value ≡ single (free_block key))) }
+    ensures shape { IfOk result (λ leaf. side leaf ≡ single (free_block key)) }
+    ensures error { IfErr result (λ error. error ≡ Error.OutOfMemory) }
+{
     let leaf = Box::new(alloc, InnerNode::new(Block::free(key)))?;
     Ok(Some(leaf))
 }

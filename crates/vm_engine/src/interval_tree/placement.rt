@@ -14,7 +14,6 @@ ghost use Rattle.vm_ranges.specs.declared.constraint.AllocPolicy.TheVariants.{Ex
 use super::IntervalTree;
 use crate::Steps;
 use crate::node::edge::Edge;
-use crate::node::find::node_at;
 use crate::node::places::{Place, first_place, last_place};
 use crate::node::windows::{first_place_in, last_place_in};
 use crate::ordering::valid_range;
@@ -113,7 +112,7 @@ impl IntervalTree {
         if start == u64::MAX {
             return Err(Error::Overflow);
         }
-        let Some(node) = node_at(&self.root, start, count) else {
+        let Some(node) = self.root().search_address(start, count) else {
             return Err(Error::ResourceNotAvailable);
         };
         if start < window.start() || window.end() < start {
@@ -147,7 +146,7 @@ impl IntervalTree {
         if start == u64::MAX {
             return Err(Error::Overflow);
         }
-        let Some(node) = node_at(&self.root, start, count) else {
+        let Some(node) = self.root().search_address(start, count) else {
             return Err(Error::ResourceNotAvailable);
         };
         let Some(last) = start.checked_add(constraint.size() - 1) else {

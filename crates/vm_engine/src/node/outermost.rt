@@ -18,8 +18,7 @@ use super::summary::{Summary, summary_at, summary_of};
 use super::{Child, InnerNode};
 use crate::Steps;
 use crate::block::Block;
-use crate::ordering::compare;
-use std::cmp::Ordering;
+use crate::ordering::starts_before;
 use vm_ranges::NodeState;
 
 /// Splits the free block of `split` in the tree at a link, and rebalances the path.
@@ -91,9 +90,9 @@ fn split_below(at: &mut Child, split: &mut Split, free: &Summary, steady: u64, c
     tree.enter(count);
     tree.summary.max_free = free.max_free;
     tree.summary.alignments = free.alignments;
-    match compare(&tree.block.key, &split.place.key) {
-        Ordering::Equal => unreachable!(),
-        Ordering::Greater => split_below(&mut tree.left, split, free, steady - 1, count),
-        Ordering::Less => split_below(&mut tree.right, split, free, steady - 1, count),
+    if starts_before(&split.place.key, &tree.block.key) {
+        split_below(&mut tree.left, split, free, steady - 1, count);
+    } else {
+        split_below(&mut tree.right, split, free, steady - 1, count);
     }
 }

@@ -12,7 +12,7 @@ use crate::rattle::Box;
 mod balance;
 pub(in crate::proved::vm_engine) mod delete;
 pub(in crate::proved::vm_engine) mod edge;
-pub(in crate::proved::vm_engine) mod find;
+mod find;
 mod link;
 pub(in crate::proved::vm_engine) mod neighbours;
 pub(in crate::proved::vm_engine) mod outermost;

@@ -3,7 +3,7 @@ use Rattle.std.proofs.lemmas.Grind.{common_steps}
 use Rattle.vm_engine.specs.Engine.NodeFields.{side}
 use Rattle.vm_engine.specs.Tree.Shape.{blocks}
 use Rattle.vm_engine.proofs.Nodes.CountedTrees.{held_fits, place_fits, taken_counted}
-use Rattle.vm_engine.proofs.Splitting.SplitStates.{cut_of, known, fills, is_rest, can_split, whole_split, rest_split, taken_in}
+use Rattle.vm_engine.proofs.Splitting.SplitStates.{cut_of, known, can_split, whole_split, rest_split, taken_in}
 use Rattle.vm_engine.proofs.interval_tree.IntervalTree.allocate_at.Goals as goal
 
 pub rewrite_at-requires-clause-known : goal.rewrite_at-requires-clause-known
@@ -20,12 +20,12 @@ overflow_sub-self c =
 pub invariant_of-self : goal.invariant_of-self
 invariant_of-self c =
     let place = rw (← c.self.view_is) at c.requires.place in
-    let split_states = whole_split _ _ _ _ (cut_of _ c.args.place c.self.invariant.tree place) (fills _ _ _ _ c.part_before-before.ensures c.part_after-after.ensures (grind (arith, common_steps)) (grind (arith, common_steps))) c.rewrite_at.ensures.blocks in
+    let split_states = whole_split _ _ _ _ (cut_of _ c.args.place c.self.invariant.tree place) c.if-not-needs_split.ensures c.rewrite_at.ensures.blocks in
     taken_counted _ _ _ _ c.args.place c.self.invariant place split_states (omega (arith, c.rewrite_at.ensures.keeps.height, c.self.invariant.tree.height)) _ c.len.ensures
 
 pub split_gap-requires-clause-can_be_split : goal.split_gap-requires-clause-can_be_split
 split_gap-requires-clause-can_be_split c =
-    let can = can_split _ _ _ _ (cut_of _ c.args.place c.self.invariant.tree (rw (← c.self.view_is) at c.requires.place)) (is_rest _ _ _ _ _ c.part_before-before.ensures c.part_after-after.ensures c.in_ok-rest.ensures.rest) in
+    let can = can_split _ _ _ _ (cut_of _ c.args.place c.self.invariant.tree (rw (← c.self.view_is) at c.requires.place)) c.in_ok-rest.ensures.rest in
     search rules
 
 pub overflow_add-self-2 : goal.overflow_add-self-2
@@ -38,12 +38,12 @@ overflow_sub-self-2 c =
 pub invariant_of-self-2 : goal.invariant_of-self-2
 invariant_of-self-2 c =
     let place = rw (← c.self.view_is) at c.requires.place in
-    let split_states = rest_split _ (blocks (side c.split_gap.new.at)) _ _ _ (cut_of _ c.args.place c.self.invariant.tree place) (is_rest _ _ _ _ _ c.part_before-before.ensures c.part_after-after.ensures c.in_ok-rest.ensures.rest) (search rules) in
+    let split_states = rest_split _ (blocks (side c.split_gap.new.at)) _ _ _ (cut_of _ c.args.place c.self.invariant.tree place) c.in_ok-rest.ensures.rest (search rules) in
     let height = rw (← c.self.view_is) at c.height.ensures.value in
     taken_counted _ _ _ _ c.args.place c.self.invariant place split_states (grind (arith, common_steps)) _ c.len-2.ensures
 
 pub returns-clause-answer : goal.returns-clause-answer
 returns-clause-answer c =
     let place = rw (← c.self.view_is) at c.requires.place in
-    let split_states = rest_split _ (blocks (side c.split_gap.new.at)) _ _ _ (cut_of _ c.args.place c.self.invariant.tree place) (is_rest _ _ _ _ _ c.part_before-before.ensures c.part_after-after.ensures c.in_ok-rest.ensures.rest) (search rules) in
+    let split_states = rest_split _ (blocks (side c.split_gap.new.at)) _ _ _ (cut_of _ c.args.place c.self.invariant.tree place) c.in_ok-rest.ensures.rest (search rules) in
     rw (← c.self.view_is) (taken_in _ (side c.split_gap.new.at) c.args.place c.args.place.range c.self.invariant.tree place split_states refl)

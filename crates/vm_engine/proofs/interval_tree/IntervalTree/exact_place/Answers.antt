@@ -5,11 +5,11 @@ use Rattle.vm_engine.proofs.interval_tree.IntervalTree.exact_place.Goals as goal
 
 pub returns-in_default-clause-answer : goal.returns-in_default-clause-answer
 returns-in_default-clause-answer c =
-    let none = rw c.self.view_is at c.in_default.ensures.found in
-    outside _ _ _ _ c.requires.policy c.requires.whole (rw c.self.view_is at c.self.invariant.tree) (omega arith) refl none
+    let none = rw c.root.ensures.value at c.in_default.ensures.found in
+    outside _ _ _ _ c.requires.policy c.requires.whole c.root.ensures.space (omega arith) refl none
 
 pub returns-in_default-checked_add-clause-answer : goal.returns-in_default-checked_add-clause-answer
 returns-in_default-checked_add-clause-answer c =
-    let some = rw c.self.view_is at c.in-Some.ensures.found in
+    let some = rw c.root.ensures.value at c.in-Some.ensures.found in
     let last = c.in_default-checked_add.ensures in
-    over _ _ _ _ (root_block c.in-Some.node.now) c.requires.policy c.requires.whole (rw c.self.view_is at c.self.invariant.tree) c.size.ensures.valid (omega arith) refl some (omega (arith, c.size.ensures.value))
+    over _ _ _ _ (root_block c.in-Some.node.now) c.requires.policy c.requires.whole c.root.ensures.space c.size.ensures.valid (omega arith) refl some (omega (arith, c.size.ensures.value))

@@ -35,64 +35,64 @@ impl IntervalTree {
         edge: &Edge,
         count: &mut Steps,
     ) -> Result<RangeInclusive> {
-        let range = place.range;
-        let (before, after) = (part_before(&place), part_after(&place));
-        if before.is_none() && after.is_none() {
+        if !needs_split(&place) {
             rewrite_at(
                 &mut self.root,
                 &place.key,
-                range,
+                place.range,
                 NodeState::Allocated,
                 count,
             );
             self.held_count += 1;
-            self.clear_count -= range.len();
-            return Ok(range);
+            self.clear_count -= place.range.len();
+            return Ok(place.range);
         }
         if self.height() >= SPLIT_HEIGHT_LIMIT {
             return Err(Error::Overflow);
         }
-        let rest = rest_of(alloc, before, after)?;
+        let rest = rest_of(alloc, &place)?;
         let mut split = Split { place, rest };
         self.held_count += 1;
-        self.clear_count -= range.len();
+        self.clear_count -= place.range.len();
         split_gap(&mut self.root, &mut split, edge, count);
-        Ok(range)
+        Ok(place.range)
     }
 }
 
-/// Returns the part of the free block before the range, or `None` if it is empty.
-fn part_before(place: &Place) -> Option<RangeInclusive> {
-    if place.key.start() >= place.range.start() {
-        return None;
-    }
-    Some(valid_range(place.key.start(), place.range.start() - 1))
+/// Returns `true` if the range does not fill its free block.
+fn needs_split(place: &Place) -> bool {
+    place.key.start() < place.range.start() || place.range.end() < place.key.end()
 }
 
-/// Returns the part of the free block after the range, or `None` if it is empty.
-fn part_after(place: &Place) -> Option<RangeInclusive> {
-    if place.range.end() >= place.key.end() {
-        return None;
-    }
-    Some(valid_range(place.range.end() + 1, place.key.end()))
-}
-
-/// Allocates the leaves for the parts of a free block before and after a range.
+/// Allocates the leaves for the parts of the free block before and after the range.
 ///
 /// It returns `OutOfMemory` if the allocation of a leaf fails.
-fn rest_of(
-    alloc: Global,
-    before: Option<RangeInclusive>,
-    after: Option<RangeInclusive>,
-) -> Result<Rest> {
-    let before = free_leaf(alloc, before)?;
-    let after = free_leaf(alloc, after)?;
+fn rest_of(alloc: Global, place: &Place) -> Result<Rest> {
+    let before = leaf_before(alloc, place)?;
+    let after = leaf_after(alloc, place)?;
     Ok(Rest { before, after })
 }
 
-/// Allocates a leaf for a part of a free block, if there is a part.
-fn free_leaf(alloc: Global, part: Option<RangeInclusive>) -> Result<Child> {
-    let Some(key) = part else { return Ok(None) };
+/// Allocates a leaf for the part of the free block before the range, if that part is not empty.
+fn leaf_before(alloc: Global, place: &Place) -> Result<Child> {
+    if place.key.start() >= place.range.start() {
+        return Ok(None);
+    }
+    let key = valid_range(place.key.start(), place.range.start() - 1);
+    free_leaf(alloc, key)
+}
+
+/// Allocates a leaf for the part of the free block after the range, if that part is not empty.
+fn leaf_after(alloc: Global, place: &Place) -> Result<Child> {
+    if place.range.end() >= place.key.end() {
+        return Ok(None);
+    }
+    let key = valid_range(place.range.end() + 1, place.key.end());
+    free_leaf(alloc, key)
+}
+
+/// Allocates a leaf with a free block.
+fn free_leaf(alloc: Global, key: RangeInclusive) -> Result<Child> {
     let leaf = Box::new(alloc, InnerNode::new(Block::free(key)))?;
     Ok(Some(leaf))
 }

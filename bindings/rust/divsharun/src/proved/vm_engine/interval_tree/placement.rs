@@ -5,7 +5,6 @@
 use super::IntervalTree;
 use crate::proved::vm_engine::Steps;
 use crate::proved::vm_engine::node::edge::Edge;
-use crate::proved::vm_engine::node::find::node_at;
 use crate::proved::vm_engine::node::places::{Place, first_place, last_place};
 use crate::proved::vm_engine::node::windows::{first_place_in, last_place_in};
 use crate::proved::vm_engine::ordering::valid_range;
@@ -72,7 +71,7 @@ impl IntervalTree {
         if start == u64::MAX {
             return Err(Error::Overflow);
         }
-        let Some(node) = node_at(&self.root, start, count) else {
+        let Some(node) = self.root().search_address(start, count) else {
             return Err(Error::ResourceNotAvailable);
         };
         if start < window.start() || window.end() < start {
@@ -95,7 +94,7 @@ impl IntervalTree {
         if start == u64::MAX {
             return Err(Error::Overflow);
         }
-        let Some(node) = node_at(&self.root, start, count) else {
+        let Some(node) = self.root().search_address(start, count) else {
             return Err(Error::ResourceNotAvailable);
         };
         let Some(last) = start.checked_add(constraint.size() - 1) else {

@@ -2,19 +2,23 @@
 
 //! The search for the node of an address.
 
-use super::{Child, InnerNode};
+use super::InnerNode;
 use crate::proved::vm_engine::Steps;
 
-/// Returns the node whose block contains an address, or `None` if there is no such node.
-pub(in crate::proved::vm_engine) fn node_at<'a>(tree: &'a Child, address: u64, count: &mut Steps) -> Option<&'a InnerNode> {
-    let Some(node) = tree else { return None };
-    let node: &InnerNode = node;
-    node.enter(count);
-    if address < node.block.key.start() {
-        return node_at(&node.left, address, count);
+impl InnerNode {
+    /// Returns the node whose block contains an address, or `None` if there is no such node.
+    pub(in crate::proved::vm_engine) fn search_address(&self, address: u64, count: &mut Steps) -> Option<&InnerNode> {
+        self.enter(count);
+        if address < self.block.key.start() {
+            let Some(left) = &self.left else { return None };
+            return left.search_address(address, count);
+        }
+        if self.block.key.end() < address {
+            let Some(right) = &self.right else {
+                return None
+            };
+            return right.search_address(address, count);
+        }
+        Some(self)
     }
-    if node.block.key.end() < address {
-        return node_at(&node.right, address, count);
-    }
-    Some(node)
 }

@@ -13,8 +13,7 @@ use super::summary::{Summary, summary_at, summary_of};
 use super::{Child, InnerNode};
 use crate::proved::vm_engine::Steps;
 use crate::proved::vm_engine::block::Block;
-use crate::proved::vm_engine::ordering::compare;
-use core::cmp::Ordering;
+use crate::proved::vm_engine::ordering::starts_before;
 
 /// Splits the free block of `split` in the tree at a link, and rebalances the path.
 pub(in crate::proved::vm_engine) fn split_gap(at: &mut Child, split: &mut Split, edge: &Edge, count: &mut Steps) {
@@ -58,9 +57,9 @@ fn split_below(at: &mut Child, split: &mut Split, free: &Summary, steady: u64, c
     tree.enter(count);
     tree.summary.max_free = free.max_free;
     tree.summary.alignments = free.alignments;
-    match compare(&tree.block.key, &split.place.key) {
-        Ordering::Equal => unreachable!(),
-        Ordering::Greater => split_below(&mut tree.left, split, free, steady - 1, count),
-        Ordering::Less => split_below(&mut tree.right, split, free, steady - 1, count),
+    if starts_before(&split.place.key, &tree.block.key) {
+        split_below(&mut tree.left, split, free, steady - 1, count);
+    } else {
+        split_below(&mut tree.right, split, free, steady - 1, count);
     }
 }
