@@ -1,7 +1,6 @@
 //! Items that the tests of the sources use. They are in scope in every test, as in Rattle's prelude.
-use crate::value::{Number, Value};
 use core::fmt;
-use core::ops::{Deref, Index};
+use core::ops::Deref;
 
 pub use crate::rattle::{AllocError, Box, Global, Vec};
 #[doc(inline)]
@@ -127,46 +126,6 @@ pub trait ToString {
 impl<T: fmt::Display> ToString for T {
     fn to_string(&self, _alloc: Global) -> Result<String, AllocError> {
         Ok(String(alloc::format!("{self}")))
-    }
-}
-
-/// Returns a number of a test whose type cannot be inferred.
-impl From<i32> for Value {
-    fn from(number: i32) -> Value {
-        Value::Number(match u64::try_from(number) {
-            Ok(number) => Number::Whole(number),
-            Err(_) => Number::Other(number.into()),
-        })
-    }
-}
-
-impl Value {
-    /// Returns the value at a path of field names and list indices, each after a `/`.
-    pub fn pointer_mut(&mut self, path: &str) -> Option<&mut Value> {
-        let mut steps = path.split('/');
-        match steps.next() {
-            Some("") => steps.try_fold(self, |value, step| match value {
-                Value::Object(fields) => {
-                    let mut fields = fields.iter_mut();
-                    fields
-                        .find(|field| field.0 == step)
-                        .map(|field| &mut field.1)
-                }
-                Value::Array(items) => items.get_mut(step.parse::<usize>().ok()?),
-                _ => None,
-            }),
-            _ => None,
-        }
-    }
-}
-
-/// Returns the value of a field, or `null` if the field is absent.
-impl Index<&str> for Value {
-    type Output = Value;
-
-    fn index(&self, name: &str) -> &Value {
-        static NULL: Value = Value::Null;
-        self.get(name).unwrap_or(&NULL)
     }
 }
 
