@@ -31,7 +31,6 @@ impl Abort for HostRuntime {}
 
 /// A type that returns the allocator.
 pub trait AllocGlobal {
-    /// Returns the allocator.
     fn alloc(&self) -> Global;
 }
 
@@ -58,7 +57,6 @@ impl Env for HostRuntime {
 
 /// A type with clones. In Rattle a clone can fail, as it can allocate.
 pub trait Clone: Sized {
-    /// Returns a clone.
     fn clone(value: &Self) -> Result<Self, AllocError>;
 }
 
@@ -73,31 +71,24 @@ impl<T: core::clone::Clone> Clone for T {
 pub struct String(alloc::string::String);
 
 impl String {
-    /// Creates an empty string. It does not allocate.
     pub fn new(_alloc: Global) -> String {
         String(alloc::string::String::new())
     }
 
-    /// Creates an empty string with a capacity in bytes.
     pub fn with_capacity(_alloc: Global, room: usize) -> Result<String, AllocError> {
-        let mut text = alloc::string::String::new();
-        text.try_reserve_exact(room).map_err(|_| AllocError)?;
-        Ok(String(text))
+        Ok(String(alloc::string::String::with_capacity(room)))
     }
 
-    /// Appends a character.
     pub fn push(&mut self, letter: char) -> Result<(), AllocError> {
         self.0.push(letter);
         Ok(())
     }
 
-    /// Appends a text.
     pub fn push_str(&mut self, text: &str) -> Result<(), AllocError> {
         self.0.push_str(text);
         Ok(())
     }
 
-    /// Returns the text.
     pub fn as_str(&self) -> &str {
         &self.0
     }
@@ -111,15 +102,8 @@ impl Deref for String {
     }
 }
 
-impl fmt::Display for String {
-    fn fmt(&self, f: &mut fmt::Formatter<'_>) -> fmt::Result {
-        self.0.fmt(f)
-    }
-}
-
 /// A value that can be written as a text.
 pub trait ToString {
-    /// Returns the text of the value.
     fn to_string(&self, alloc: Global) -> Result<String, AllocError>;
 }
 

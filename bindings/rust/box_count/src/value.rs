@@ -4,7 +4,6 @@
 use crate::rattle::{AllocError, Global, Vec};
 use alloc::string::{String, ToString};
 use core::fmt;
-use core::ops::Index;
 
 /// The maximum nesting of a text.
 const MOST_NESTED: u32 = 128;
@@ -12,15 +11,10 @@ const MOST_NESTED: u32 = 128;
 /// A JSON value.
 #[derive(Debug, PartialEq)]
 pub enum Value {
-    /// `null`
     Null,
-    /// `true` or `false`
     Bool(bool),
-    /// A number.
     Number(Number),
-    /// A string.
     String(String),
-    /// A list.
     Array(Vec<Value>),
     /// The fields of an object, in ascending order of names.
     Object(Fields),
@@ -29,9 +23,8 @@ pub enum Value {
 /// A number of a value.
 #[derive(Clone, Copy, Debug, PartialEq)]
 pub enum Number {
-    /// A 64-bit whole number.
+    /// A whole number of 64 bits.
     Whole(u64),
-    /// Any other number.
     Other(f64),
 }
 
@@ -40,13 +33,11 @@ pub enum Number {
 pub type Fields = alloc::vec::Vec<(String, Value)>;
 
 impl Value {
-    /// Returns a string as a value.
     pub fn try_from_str(_alloc: Global, text: &str) -> Result<Value, AllocError> {
         Ok(Value::String(text.into()))
     }
 
     /// Returns the object with these fields, or the first error of a field.
-    #[doc(hidden)]
     pub fn object<const N: usize>(
         fields: [(&str, Result<Value, AllocError>); N],
     ) -> Result<Value, AllocError> {
@@ -57,14 +48,10 @@ impl Value {
         Ok(Value::from(list))
     }
 
-    /// Returns whether the value is `null`.
-    #[must_use]
     pub fn is_null(&self) -> bool {
         matches!(self, Value::Null)
     }
 
-    /// Returns the value as a whole number.
-    #[must_use]
     pub fn as_u64(&self) -> Option<u64> {
         match self {
             Value::Number(Number::Whole(number)) => Some(*number),
@@ -72,8 +59,6 @@ impl Value {
         }
     }
 
-    /// Returns the value as a string.
-    #[must_use]
     pub fn as_str(&self) -> Option<&str> {
         match self {
             Value::String(text) => Some(text),
@@ -81,8 +66,6 @@ impl Value {
         }
     }
 
-    /// Returns the value as a list.
-    #[must_use]
     pub fn as_array(&self) -> Option<&Vec<Value>> {
         match self {
             Value::Array(items) => Some(items),
@@ -90,8 +73,6 @@ impl Value {
         }
     }
 
-    /// Returns the fields of the value.
-    #[must_use]
     pub fn as_object(&self) -> Option<&Fields> {
         match self {
             Value::Object(fields) => Some(fields),
@@ -99,8 +80,6 @@ impl Value {
         }
     }
 
-    /// Returns the value of a field.
-    #[must_use]
     pub fn get(&self, name: &str) -> Option<&Value> {
         let mut fields = self.as_object()?.iter();
         fields.find(|field| field.0 == name).map(|field| &field.1)
@@ -130,16 +109,6 @@ impl Value {
         let mut rest = text;
         let value = parse(&mut rest, MOST_NESTED)?;
         rest.trim_start().is_empty().then_some(value).ok_or(NotJson)
-    }
-}
-
-/// Returns the value of a field, or `null` if the field is absent.
-impl Index<&str> for Value {
-    type Output = Value;
-
-    fn index(&self, name: &str) -> &Value {
-        static NULL: Value = Value::Null;
-        self.get(name).unwrap_or(&NULL)
     }
 }
 

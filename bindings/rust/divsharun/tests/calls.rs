@@ -8,7 +8,7 @@ use divsharun::{
     ListError, NodeState, RangeInclusive, TryError,
 };
 use draw::Draw;
-use std::collections::HashSet;
+use std::collections::{BTreeSet, HashSet};
 
 const WIDTH: usize = 48;
 const BASE: u64 = 1000;
@@ -126,6 +126,9 @@ fn answers_are_those_of_a_plain_model() {
         assert_eq!(from_both_ends(space.gaps(), &mut draw), gaps);
     }
     expect_queries(&space, &held, &gaps, &mut draw);
+    let lengths = || gaps.iter().map(RangeInclusive::len);
+    assert_eq!(space.longest_gap(), lengths().max().unwrap_or(0));
+    assert_eq!(space.free_len(), lengths().sum());
     let created = AddressAllocator::with_held(BASE, WIDTH as u64, &held);
     assert_eq!(created, Ok(space));
 }
@@ -315,6 +318,75 @@ fn counts_follow_each_change() {
     assert_eq!(counts(&space), (0, u64::MAX));
     let created = AddressAllocator::try_with_held(0, u64::MAX, &[range]).unwrap();
     assert_eq!((counts(&clone), counts(&created)), ((1, 1), (1, 1)));
+}
+
+#[test]
+fn spaces_begin_and_end_anywhere() {
+    use Error::{Overflow, Underflow};
+    let numbers = [0, 1, 2, 16, u64::MAX - 1, u64::MAX];
+    for (base, size) in numbers
+        .into_iter()
+        .flat_map(|base| numbers.map(|size| (base, size)))
+    {
+        let end = match size.checked_sub(1) {
+            None => Err(Underflow),
+            Some(more) => base.checked_add(more).ok_or(Overflow),
+        };
+        let space = AddressAllocator::new(base, size);
+        let ends = space.as_ref().map(|space| (space.base(), space.end()));
+        assert_eq!(ends.map_err(|error| *error), end.map(|end| (base, end)));
+        let or_try_error = AddressAllocator::try_new(base, size);
+        assert_eq!(or_try_error, space.map_err(TryError::Refused));
+        for (first, last) in [(1, 0), (0, 0), (5, u32::MAX)] {
+            let made = DeviceManager::new(first, last, base, size);
+            let want = match (first > last, end) {
+                (true, _) => Err(Error::InvalidRange(first.into(), last.into())),
+                (false, end) => end.map(|_| 0),
+            };
+            assert_eq!(
+                made.as_ref().map(DeviceManager::device_count),
+                want.as_ref().copied()
+            );
+            let or_try_error = DeviceManager::try_new(first, last, base, size);
+            assert_eq!(or_try_error, made.map_err(TryError::Refused));
+        }
+    }
+}
+
+/// Compares random calls with a set of allocated ids and the next id.
+#[test]
+fn ids_are_those_of_a_plain_model() {
+    let mut draw = Draw(3);
+    for first in [0, 5, u32::MAX - 30] {
+        let last = first + 30;
+        let mut ids = IdAllocator::new(first, last).unwrap();
+        let (mut held, mut next) = (BTreeSet::new(), u64::from(first));
+        for _ in 0..2000 {
+            let is_new = |id: &u32| !held.contains(id);
+            let none =
+                [Error::ResourceNotAvailable, Error::Overflow][usize::from(last == u32::MAX)];
+            let lowest = (first..=last).find(is_new).ok_or(none);
+            assert_eq!(ids.peek_id(), lowest);
+            let id = first.wrapping_add(draw.below(33) as u32).wrapping_sub(1);
+            assert_eq!(ids.is_allocated(id), held.contains(&id));
+            if draw.below(2) == 0 {
+                assert_eq!(ids.allocate_id(), lowest);
+                held.extend(lowest);
+                next = next.max(lowest.map_or(0, |id| u64::from(id) + 1));
+                continue;
+            }
+            let want = match id {
+                _ if !(first..=last).contains(&id) => Err(Error::OutOfRange(id)),
+                _ if u64::from(id) >= next => Err(Error::NeverAllocated(id)),
+                _ if !held.remove(&id) => Err(Error::AlreadyReleased(id)),
+                _ => Ok(id),
+            };
+            assert_eq!(ids.free_id(id), want);
+            assert_eq!(ids.held_count(), held.len() as u64);
+            assert!(ids.held_ids().eq(held.iter().copied()));
+        }
+        assert_eq!((ids.range_base(), ids.range_end()), (first, last));
+    }
 }
 
 #[test]
@@ -598,6 +670,10 @@ fn ranges_meet_in_what_both_have() {
     for (range, other) in ranges().flat_map(|range| ranges().map(move |other| (range, other))) {
         let common = range.intersection(&other);
         assert_eq!(common.is_some(), range.overlaps(&other));
+        assert_eq!(range.contains(&other), common == Some(other));
+        let ends = |range: &RangeInclusive| (range.start(), range.end());
+        assert_eq!(range.cmp(&other), ends(&range).cmp(&ends(&other)));
+        assert_eq!(range == other, ends(&range) == ends(&other));
         for address in [
             0,
             1,

@@ -1,10 +1,10 @@
 //! Compares the number of nodes that a call returns with the number of boxes that it follows.
 //!
 //! Each step from a node to a child goes through a box that counts itself, so no walk can avoid the
-//! count. A counted call follows at most a multiple of its count, and a plain call as many boxes.
-use crate::objects::{boxes, range, space, BASE};
+//! count. A counted call follows at most a multiple of its count, which contracts limit, and a plain
+//! call as many boxes.
+use crate::objects::{boxes, range};
 use box_count::proved::vm_allocator::AllocPolicy::{self, ExactMatch, FirstMatch, LastMatch};
-use box_count::proved::vm_allocator::Error::ResourceNotAvailable;
 use box_count::proved::vm_allocator::{AddressAllocator, Constraint, RangeInclusive, Result};
 use box_count::rattle::Global;
 
@@ -155,76 +155,5 @@ fn a_large_space() {
     for _ in 0..2_000 {
         let call = Call::any(&mut draws, size, &pair.held);
         pair.call(call);
-    }
-}
-
-/// Returns the start of a gap of twelve addresses.
-const fn gap(number: u64) -> u64 {
-    BASE + 16 * number + 4
-}
-
-/// A window by its ends and a request by size and alignment. The starts that `FirstMatch` and
-/// `LastMatch` choose follow, and the number of misaligned gaps in the window.
-type Row = ((u64, u64), (u64, u64), Option<(u64, u64)>, u64);
-
-/// Windows of a space in which the gaps from 40,000 to 59,999 are filled.
-const ROWS: [Row; 8] = [
-    // The window is full.
-    ((gap(40_000), gap(60_000) - 1), (1, 1), None, 0),
-    ((gap(50_000), gap(50_003)), (1, 1), None, 0),
-    // Only its last or its first gap is free.
-    (
-        (gap(40_000), gap(60_000) + 11),
-        (12, 1),
-        Some((gap(60_000), gap(60_000))),
-        0,
-    ),
-    (
-        (gap(39_999), gap(60_000) - 1),
-        (12, 1),
-        Some((gap(39_999), gap(39_999))),
-        0,
-    ),
-    // The window is far from both ends of the space.
-    (
-        (gap(99_000), gap(99_100) - 1),
-        (12, 1),
-        Some((gap(99_000), gap(99_099))),
-        0,
-    ),
-    (
-        (BASE + (1 << 39), u64::MAX - 1),
-        (13, 1),
-        Some((BASE + (1 << 39), u64::MAX - 13)),
-        0,
-    ),
-    // No gap in the window is long enough, or none is aligned.
-    ((gap(0), gap(MANY - 1) - 1), (13, 1), None, 0),
-    ((gap(10_000), gap(10_010) - 1), (12, 8), None, 10),
-];
-
-/// Checks the nodes that a request with a window enters. Ranges outside the window do not increase it.
-#[test]
-fn windows() {
-    let mut space = space(MANY);
-    for number in 40_000..60_000 {
-        let filling = space.allocate(Global, 12, 1, ExactMatch(gap(number)));
-        assert!(filling.is_ok());
-    }
-    let height = space.height();
-    assert!(height <= 25, "the maximum of 120,000 ranges");
-    for (window, (size, align), starts, misaligned) in ROWS {
-        let starts = starts.map_or([None; 2], |(first, last)| [Some(first), Some(last)]);
-        for (policy, start) in [FirstMatch, LastMatch].into_iter().zip(starts) {
-            let request = Constraint::new(size, align, policy).unwrap();
-            let request = request.within(range(window.0, window.1));
-            let (answer, nodes) = space.allocate_constraint_counted(Global, request);
-            let change = if start.is_some() { 2 * height } else { 0 };
-            let most = height * (misaligned + 2) + change;
-            assert!((1..=most).contains(&nodes), "{request:?}: {nodes} nodes");
-            let want = start.map(|start| range(start, start + (size - 1)));
-            assert_eq!(answer, want.ok_or(ResourceNotAvailable), "{request:?}");
-            assert!(answer.is_err() || space.free(&want.unwrap()).is_ok());
-        }
     }
 }

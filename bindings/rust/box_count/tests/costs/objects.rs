@@ -69,14 +69,3 @@ pub fn damaged(mut value: Value, path: &str) -> Value {
     *value.pointer_mut(path).unwrap() = Value::Null;
     value
 }
-
-/// Returns the path to the height of the last node in the value of a space.
-pub fn last_height(space: &Value) -> String {
-    let mut path = String::from("/interval_tree/root");
-    let mut right = &space["interval_tree"]["root"]["right"];
-    while !right.is_null() {
-        path += "/right";
-        right = &right["right"];
-    }
-    path + "/height"
-}

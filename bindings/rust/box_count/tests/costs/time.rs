@@ -1,6 +1,6 @@
 //! No call takes quadratic time. An object of eight times the size takes at most three times the
 //! time of linear growth. The tests `vm_tests::many` limit the time of the proved calls.
-use crate::objects::{damaged, ids, last_height, manager, space, BASE, FIRST_ID, LAST_ID, SIZE};
+use crate::objects::{damaged, ids, manager, space, BASE, FIRST_ID, LAST_ID, SIZE};
 use box_count::proved::vm_allocator::AllocPolicy::{ExactMatch, FirstMatch};
 use box_count::proved::vm_allocator::{AddressAllocator, Constraint, IdAllocator};
 use box_count::proved::vm_devices::DeviceManager;
@@ -56,8 +56,8 @@ fn spaces() {
         let read = AddressAllocator::from_value(Global, &value).unwrap();
         let repaired = AddressAllocator::from_value_repaired(Global, &value).unwrap();
         assert!(read == *space && read.cmp(&repaired).is_eq());
-        let path = last_height(&value);
-        AddressAllocator::from_value(Global, &damaged(value, &path)).unwrap_err()
+        let wrong = damaged(value, "/interval_tree/root/right/height");
+        AddressAllocator::from_value(Global, &wrong).unwrap_err()
     });
     expect_linear("ranges given", space, |space| {
         let held: Vec<_> = space.held_ranges().collect();
