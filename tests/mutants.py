@@ -25,21 +25,15 @@ def read(path):
 
 
 def read_entry(pairs):
-    name, file, old, edits, rest = None, None, None, [], {}
+    rest, edits = {}, []
     for key, value in pairs:
         if key == "name":
-            name, file = value.split(", ")
-        elif key == "file":
-            file = value
-        elif key == "old":
-            old = value
+            rest["name"], rest["file"] = value.split(", ")
         elif key == "new":
-            edits.append((file, old, value))
+            edits.append((rest["file"], rest["old"], value))
         else:
             rest[key] = value
-    if not name or not edits:
-        sys.exit(f"incomplete entry: {pairs}")
-    return Mutant(name, edits, rest)
+    return Mutant(rest["name"], edits, rest)
 
 
 def copy_workspace(project, folder):

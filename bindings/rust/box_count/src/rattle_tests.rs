@@ -121,9 +121,9 @@ fn sets() {
             draw = draw * 75 % 65_537;
             let value = draw % keys;
             if step < 2 * keys && step % 4 != 3 {
-                let insert = || set.insert(value);
                 let failed = |AllocFailed(back)| assert_eq!(back, value);
-                assert_eq!(until_allowed(insert, failed).0, rust.insert(value));
+                let is_new = until_allowed(|| set.insert(value), failed).0;
+                assert_eq!(is_new, rust.insert(value));
             } else if step % 8 == 7 {
                 assert_eq!(refusing(1, || set.remove(&value)), (rust.remove(&value), 0));
             } else {
@@ -134,9 +134,8 @@ fn sets() {
             let range = value..=value + 9;
             assert!(set.range(range.clone()).eq(rust.range(range)));
         }
-        assert!(set.iter().eq(rust.iter()));
+        assert!(set.iter().eq(rust.iter()) && set.clone().is_ok_and(|clone| clone == set));
         assert_eq!(format!("{set:?}"), format!("{rust:?}"));
-        assert!(set.clone().is_ok_and(|clone| clone == set));
     }
 }
 

@@ -1,8 +1,7 @@
 //! The number of allocations of calls on large objects, and of lines of the replay language.
 //!
-//! The expected numbers follow from the data: one block for each node of a tree, and one for each
-//! list of fields, each name and each string of a value. Sets, maps and lists count as the same
-//! operations on such an object do.
+//! A tree has one block for each node. Sets, maps and lists count as the same operations on such an
+//! object do.
 use crate::objects::{
     damaged, freed_ids, ids, manager, refusing, space, BASE, FIRST_ID, LAST_ID, SIZE,
 };
@@ -12,22 +11,11 @@ use box_count::proved::vm_devices::DeviceManager;
 use box_count::proved::vm_lines::run;
 use box_count::rattle::{BTreeMap, BTreeSet, Global};
 use box_count::value::Value;
-use std::hint::black_box;
 use std::io::{sink, Write};
 
 const HELD: u64 = 10_000;
 /// The blocks of the tree of [`space`].
 const NODES: u64 = 2 * HELD;
-
-/// An object allocates its list of fields, and each name.
-const fn object(fields: u64) -> u64 {
-    1 + fields
-}
-
-const RANGE: u64 = object(2);
-const NODE: u64 = object(5) + RANGE + 1;
-const SPACE_WITHOUT_NODES: u64 = object(2) + RANGE + object(1);
-const DEVICE: u64 = object(2) + RANGE;
 
 /// Checks the number of allocations of a call, and returns its result.
 fn expect<T>(name: &str, want: u64, call: impl FnOnce() -> T) -> T {
@@ -71,8 +59,7 @@ fn spaces() {
     expect("clone", NODES, || space.try_clone(Global)).unwrap();
     let create = || AddressAllocator::with_held(Global, BASE, SIZE, &held);
     assert!(expect("ranges given", NODES, create).unwrap() == space);
-    let written = SPACE_WITHOUT_NODES + NODES * NODE;
-    let value = expect("written", written, || space.to_value(Global)).unwrap();
+    let value = space.to_value(Global).unwrap();
     let read = || AddressAllocator::from_value(Global, &value);
     expect("read", NODES, read).unwrap();
     let repair = || AddressAllocator::from_value_repaired(Global, &value);
@@ -92,7 +79,7 @@ fn spaces() {
         let numbers = (space.held_count(), space.held_ranges().count() as u64);
         assert_eq!(numbers, (HELD, HELD));
         assert_eq!(space.gaps().count() as u64, HELD);
-        black_box((space.clear_count(), space.longest_gap(), space.height()));
+        assert!(space.longest_gap() < space.clear_count());
     });
     // Several ranges in one call: their list, and one node for each part of a gap that remains.
     let splits: Vec<_> = (1..HELD).map(|gap| request(1, 16 * gap - 6)).collect();
@@ -103,9 +90,8 @@ fn spaces() {
     expect("fillings", 1, allocate).unwrap();
     let allocate = || other.allocate(Global, 4, 1, ExactMatch(BASE + 16 * HELD));
     expect("a split", 2, allocate).unwrap();
-    expect("freed", 0, || {
-        held.iter().all(|range| other.free(range).is_ok())
-    });
+    let free = || held.iter().all(|range| other.free(range).is_ok());
+    assert!(expect("freed", 0, free));
 }
 
 #[test]
@@ -120,8 +106,7 @@ fn sets_of_ids() {
     let held: Vec<u32> = all.held_ids().collect();
     let create = || IdAllocator::with_held(Global, FIRST_ID, LAST_ID, &held);
     expect("ids given", set(freed_ids(HELD - 1)).1, create).unwrap();
-    let written = object(4) + list(HELD);
-    let value = expect("written", written, || all.to_value(Global)).unwrap();
+    let value = all.to_value(Global).unwrap();
     let read = || IdAllocator::from_value(Global, &value);
     expect("read", inserted, read).unwrap();
     let path = format!("/freed_ids/{}", HELD - 1);
@@ -136,11 +121,8 @@ fn sets_of_ids() {
     expect("several", 1, || again.allocate_ids(Global, rest)).unwrap();
     let all: Vec<u32> = again.held_ids().collect();
     let most = set(all.iter().copied()).1;
-    let free = || {
-        all.iter()
-            .for_each(|id| assert!(again.free_id(*id).is_ok()))
-    };
-    assert!(allocations(free) <= most);
+    let mut is_freed = |id: &u32| again.free_id(*id).is_ok();
+    assert!(allocations(|| assert!(all.iter().all(&mut is_freed))) <= most);
 }
 
 #[test]
@@ -161,10 +143,6 @@ fn lists_and_maps_of_devices() {
 
     let devices = manager(HELD);
     let value = devices.to_value(Global).unwrap();
-    let (ids, space) = (devices.ids(), devices.addresses());
-    let written = object(4) + list(HELD) + HELD * DEVICE;
-    let parts = allocations(|| (ids.to_value(Global), space.to_value(Global)));
-    expect("written", written + parts, || devices.to_value(Global)).unwrap();
     let [ids, space] = ["id_allocator", "mmio_allocator"].map(|name| value.get(name).unwrap());
     let read_ids = allocations(|| IdAllocator::from_value(Global, ids));
     let read_space = allocations(|| AddressAllocator::from_value(Global, space));

@@ -1,8 +1,9 @@
-//! No call takes quadratic time. An object of eight times the size takes at most three times the
-//! time of linear growth. The tests `vm_tests::many` limit the time of the proved calls.
-use crate::objects::{damaged, ids, manager, space, BASE, FIRST_ID, LAST_ID, SIZE};
-use box_count::proved::vm_allocator::AllocPolicy::{ExactMatch, FirstMatch};
-use box_count::proved::vm_allocator::{AddressAllocator, Constraint, IdAllocator};
+//! No call with ids, devices or lines takes quadratic time, because sets, maps and lists of `rattle`
+//! are not those of Rattle. The tests `vm_tests::many` limit the time of calls with ranges.
+//!
+//! An object of eight times the size takes at most three times the time of linear growth.
+use crate::objects::{damaged, ids, manager, FIRST_ID, LAST_ID};
+use box_count::proved::vm_allocator::IdAllocator;
 use box_count::proved::vm_devices::DeviceManager;
 use box_count::proved::vm_lines::run;
 use box_count::rattle::Global;
@@ -25,8 +26,7 @@ fn processor_time() -> u64 {
     (time[0] * 1_000_000_000 + time[1]) as u64
 }
 
-/// Checks the growth of work on the objects that `make` returns for a number of ranges, ids or
-/// devices.
+/// Checks the growth of work on the objects that `make` returns for a number of ids or devices.
 ///
 /// The number of small objects makes both sides use the same memory. One round within the limit is
 /// enough, because other processes only add time.
@@ -47,39 +47,6 @@ fn expect_linear<T, U>(name: &str, make: impl Fn(u64) -> T, work: impl Fn(&T) ->
         is_linear,
         "{name} takes more than three times linear growth"
     );
-}
-
-#[test]
-fn spaces() {
-    expect_linear("ranges read and written", space, |space| {
-        let value = space.to_value(Global).unwrap();
-        let read = AddressAllocator::from_value(Global, &value).unwrap();
-        let repaired = AddressAllocator::from_value_repaired(Global, &value).unwrap();
-        assert!(read == *space && read.cmp(&repaired).is_eq());
-        let wrong = damaged(value, "/interval_tree/root/right/height");
-        AddressAllocator::from_value(Global, &wrong).unwrap_err()
-    });
-    expect_linear("ranges given", space, |space| {
-        let held: Vec<_> = space.held_ranges().collect();
-        let given = AddressAllocator::with_held(Global, BASE, SIZE, &held).unwrap();
-        assert!(given == space.try_clone(Global).unwrap());
-    });
-}
-
-/// Allocates ranges in one call, by `FirstMatch` or by start, and then fails at the last request.
-#[test]
-fn several_allocations() {
-    let requests = |held| -> Vec<_> {
-        let exact = |number| Constraint::new(4, 1, ExactMatch(16 * number));
-        let first = |_| Constraint::new(4, 4, FirstMatch);
-        let requests = (0..held).map(exact).chain((0..held).map(first));
-        requests.map(|request| request.unwrap()).collect()
-    };
-    expect_linear("several ranges", requests, |requests| {
-        let mut space = AddressAllocator::new(Global, 0, SIZE).unwrap();
-        space.allocate_all(Global, requests).unwrap();
-        space.allocate_all(Global, requests).unwrap_err()
-    });
 }
 
 #[test]
