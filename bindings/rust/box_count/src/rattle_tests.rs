@@ -48,13 +48,15 @@ fn vectors() {
         let failed = |AllocFailed(back)| assert_eq!(back, value);
         failures += until_allowed(|| pushed.push(value), failed).1;
         failures += until_allowed(|| inserted.insert(0, value), failed).1;
+        assert!(inserted.capacity() <= inserted.len() * 9 / 8 + 4);
     }
     assert!((10..100).contains(&failures), "{failures} failures");
     assert!(pushed.iter().copied().eq(0..1000));
     assert!(inserted.iter().rev().copied().eq(0..1000));
-    assert!(inserted.capacity() <= 1000 * 9 / 8 + 4);
     let (clone, _) = until_allowed(|| inserted.clone(), |_| {});
     assert_eq!((clone.capacity(), clone == inserted), (1000, true));
+    let (empty, _) = until_allowed(|| Vec::<u64>::with_capacity(Global, 7), |_| {});
+    assert_eq!((empty.capacity(), empty.len()), (7, 0));
 }
 
 /// Keys in random, in ascending, in descending and in alternating order.
@@ -139,28 +141,31 @@ fn sets() {
     }
 }
 
-/// Checks the memory of sets: chunks are full if values come in order, and half full at least.
-/// A set that keeps its size does not split and join chunks in turn.
+/// Checks the memory of sets: chunks are full if values come in order, and a quarter full at least. A
+/// set that keeps its size does not split and join chunks in turn.
 #[test]
 fn memory_of_sets() {
     const VALUES: u64 = 20_000;
     for (order, most) in ORDERS.into_iter().zip([10, 5, 5, 10]) {
-        let mut set = BTreeSet::new(Global);
+        let (before, mut set) = (blocks(), BTreeSet::new(Global));
         let fill = || {
-            (0..VALUES).for_each(|step| {
-                let value = order(step * 75 % 65_537, step, VALUES);
+            for step in 0..VALUES {
+                let value = 2 * order(step * 75 % 65_537, step, VALUES);
                 assert!(set.insert(value as u32).is_ok());
-            })
+            }
         };
         let (_, bytes) = peak_of(fill);
         let most_bytes = most * set.len();
         assert!(bytes <= most_bytes, "{bytes} bytes instead of {most_bytes}");
-        let first = set.first().copied().expect("it has values");
-        let (_, requests) = refusing(0, || {
-            for _ in 0..VALUES {
-                assert!(set.remove(&first) && set.insert(first).is_ok());
-            }
-        });
-        assert!(requests <= 1, "{requests} allocations");
+        for value in (1..2 * VALUES as u32).step_by(101) {
+            let mut change = || assert!(set.insert(value).is_ok() && set.remove(&value));
+            let (_, requests) = refusing(0, || (0..100).for_each(|_| change()));
+            assert!(requests <= 4, "{requests} allocations");
+        }
+        for value in (0..2 * VALUES as u32).filter(|value| value % 128 > 0) {
+            set.remove(&value);
+        }
+        let chunks = blocks() - before - 2;
+        assert!(chunks <= set.len() as i64 / 64 * 2, "{chunks} chunks");
     }
 }

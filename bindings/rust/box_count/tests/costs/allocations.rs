@@ -150,10 +150,7 @@ fn lists_and_maps_of_devices() {
     // The devices of the value, and the table of all ids up to the last one.
     let most = read_ids + read_space + list(HELD) + list(2 * HELD) + starts;
     let read = allocations(|| DeviceManager::from_value(Global, &value));
-    assert!(
-        read <= most,
-        "read: {read} allocations, and the parts {most}"
-    );
+    assert!(read <= most, "{read} allocations instead of {most}");
     let wrong = damaged(value, "/version");
     let read = || DeviceManager::from_value(Global, &wrong);
     expect("refused", 0, read).unwrap_err();
@@ -173,11 +170,7 @@ const LINES: [(&str, &str, u64); 12] = [
     ("ids 0 9\nid", "has 0", 0),
     ("ids 0 9\nid", "unid 0", 2),
     ("", "manager 0 9 0 64", 1),
-    (
-        "manager 0 9 0 64\ndevice 64 1\nundevice 0",
-        "device 64 1",
-        0,
-    ),
+    ("manager 0 0 0 8\ndevice 8 1\nundevice 0", "device 8 1", 0),
 ];
 
 #[test]
