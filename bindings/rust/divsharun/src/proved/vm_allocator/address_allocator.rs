@@ -57,7 +57,7 @@ impl AddressAllocator {
     ///
     /// # Errors
     ///
-    /// In this order. The error has the index of the range only for a range that cannot be allocated.
+    /// In this order. Only the error of a range that cannot be allocated has an index.
     /// - `Underflow` if `size` is 0.
     /// - `Overflow` if the space would end past `u64::MAX`.
     /// - For the first range that cannot be allocated:

@@ -96,8 +96,8 @@ pub(super) fn ends_with(ends: Option<Ends>, id: u32) -> Option<Ends> {
     }
 }
 
-/// Returns the first condition that the parts of an id allocator violate, as an error: of the range,
-/// the next id and the freed ids. Of the freed ids it takes the first and the last.
+/// Checks the range, the next id and the freed ids of an id allocator, in this order. Returns the first
+/// condition that they violate as an error. The first and the last of the freed ids decide.
 pub(super) fn check_parts(
     base: u32,
     next: Option<u32>,

@@ -21,7 +21,7 @@ impl IntervalTree {
     ///
     /// # Errors
     ///
-    /// In this order. The error has the index of the range only for a range that cannot be allocated.
+    /// In this order. Only the error of a range that cannot be allocated has an index.
     /// - For the first range that cannot be allocated:
     ///   - `ResourceNotAvailable` if it does not start after the end of the range before it.
     ///   - `Overflow` if it starts at `u64::MAX`.

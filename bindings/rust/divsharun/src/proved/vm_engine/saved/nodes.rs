@@ -46,6 +46,8 @@ impl ReadNodes {
     /// Ends the node that began last, and returns the span of its subtree. A child that is absent is
     /// `None`. The nodes of the children have ended right before, in any order.
     ///
+    /// After an error the keys can be in another order, so a reader stops there.
+    ///
     /// # Errors
     ///
     /// In this order:
