@@ -2,43 +2,17 @@
 //! does not have and the texts that the library writes.
 
 mod draw;
+mod model;
 
 use divsharun::{
     AddressAllocator, AllocPolicy, Constraint, DeviceManager, DeviceSlot, Error, IdAllocator,
     ListError, NodeState, RangeInclusive, TryError,
 };
 use draw::Draw;
+use model::{Model, WIDTH};
 use std::collections::{BTreeSet, HashSet};
 
-const WIDTH: usize = 48;
 const BASE: u64 = 1000;
-
-/// A space, cell by cell: the start of the range that contains the cell.
-struct Model([Option<u64>; WIDTH]);
-
-impl Model {
-    fn is_clear(&self, start: u64, size: u64) -> bool {
-        let first = start.checked_sub(BASE);
-        let cells = first.and_then(|first| self.0.get(first as usize..(first + size) as usize));
-        cells.is_some_and(|cells| cells.iter().all(Option::is_none))
-    }
-
-    /// Returns the start of the range for a request.
-    fn place(&self, size: u64, align: u64, policy: AllocPolicy) -> Option<u64> {
-        let starts = BASE..BASE + WIDTH as u64;
-        let mut places = starts.filter(|start| start % align == 0 && self.is_clear(*start, size));
-        match policy {
-            AllocPolicy::FirstMatch => places.next(),
-            AllocPolicy::LastMatch => places.next_back(),
-            AllocPolicy::ExactMatch(start) => places.find(|place| *place == start),
-        }
-    }
-
-    fn set(&mut self, range: &RangeInclusive, holder: Option<u64>) {
-        let first = (range.start() - BASE) as usize;
-        self.0[first..first + range.len() as usize].fill(holder);
-    }
-}
 
 /// Takes all items from one end or the other, and returns them in order.
 fn from_both_ends(
@@ -65,16 +39,16 @@ fn from_both_ends(
 }
 
 /// Moves a range, if the addresses there are free, or checks that it stays.
-fn move_range(space: &mut AddressAllocator, model: &mut Model, held: &mut RangeInclusive, to: u64) {
-    let answer = space.move_range(held, to);
+fn move_range(space: &mut AddressAllocator, model: &mut Model, number: usize, to: u64) {
+    let held = model.held[number];
+    let answer = space.move_range(&held, to);
+    let request = Constraint::new(held.len(), 1, AllocPolicy::ExactMatch(to)).unwrap();
     if to == held.start() {
-        assert_eq!(answer, Ok(*held));
-    } else if model.is_clear(to, held.len()) {
+        assert_eq!(answer, Ok(held));
+    } else if model.fits(to, request) {
         let moved = answer.unwrap();
         assert_eq!((moved.start(), moved.len()), (to, held.len()));
-        model.set(held, None);
-        model.set(&moved, Some(to));
-        *held = moved;
+        model.held[number] = moved;
     } else {
         assert!(answer.is_err());
     }
@@ -83,41 +57,33 @@ fn move_range(space: &mut AddressAllocator, model: &mut Model, held: &mut RangeI
 #[test]
 fn answers_are_those_of_a_plain_model() {
     let mut draw = Draw(1);
-    let mut model = Model([None; WIDTH]);
-    let mut space = AddressAllocator::new(BASE, WIDTH as u64).unwrap();
-    let mut held: Vec<RangeInclusive> = Vec::new();
+    let mut model = Model::new(BASE);
+    let mut space = AddressAllocator::new(BASE, WIDTH).unwrap();
     for _ in 0..20_000 {
         let (size, align) = (1 + draw.below(6), 1 << draw.below(3));
-        let at = BASE + draw.below(WIDTH as u64);
+        let at = BASE + draw.below(WIDTH);
+        let any = draw.below(model.held.len().max(1) as u64) as usize;
         let policy = match draw.below(9) {
             0..=2 => AllocPolicy::FirstMatch,
             3 => AllocPolicy::LastMatch,
             4 => AllocPolicy::ExactMatch(at - at % align),
-            _ if held.is_empty() => continue,
+            _ if model.held.is_empty() => continue,
             5 => {
-                let moved = draw.below(held.len() as u64) as usize;
-                move_range(&mut space, &mut model, &mut held[moved], at);
+                move_range(&mut space, &mut model, any, at);
                 continue;
             }
             _ => {
-                let range = held.swap_remove(draw.below(held.len() as u64) as usize);
-                assert_eq!(space.free(&range), Ok(()));
-                model.set(&range, None);
+                assert_eq!(space.free(&model.held.swap_remove(any)), Ok(()));
                 continue;
             }
         };
+        let request = Constraint::new(size, align, policy).unwrap();
         let answer = space.allocate(size, align, policy);
-        let place = model.place(size, align, policy);
-        assert_eq!(
-            answer.ok().map(|range| (range.start(), range.len())),
-            place.map(|at| (at, size))
-        );
-        if let Ok(range) = answer {
-            model.set(&range, Some(range.start()));
-            held.push(range);
-        }
-        assert_eq!(space.held_count(), held.len() as u64);
+        assert_eq!(answer, model.allocate(request));
+        model.held.extend(answer.ok());
+        assert_eq!(space.held_count(), model.held.len() as u64);
     }
+    let mut held = model.held;
     held.sort();
     assert!(space.held_ranges().eq(held.iter().copied()));
     let gaps: Vec<_> = space.gaps().collect();
@@ -129,7 +95,7 @@ fn answers_are_those_of_a_plain_model() {
     let lengths = || gaps.iter().map(RangeInclusive::len);
     assert_eq!(space.longest_gap(), lengths().max().unwrap_or(0));
     assert_eq!(space.free_len(), lengths().sum());
-    let created = AddressAllocator::with_held(BASE, WIDTH as u64, &held);
+    let created = AddressAllocator::with_held(BASE, WIDTH, &held);
     assert_eq!(created, Ok(space));
 }
 
@@ -140,7 +106,7 @@ fn expect_queries(
     gaps: &[RangeInclusive],
     draw: &mut Draw,
 ) {
-    let addresses = BASE - 2..BASE + WIDTH as u64 + 2;
+    let addresses = BASE - 2..BASE + WIDTH + 2;
     for (start, end) in addresses
         .clone()
         .flat_map(|start| (start..addresses.end).map(move |end| (start, end)))
@@ -168,30 +134,28 @@ fn requests_are_allocated_together_or_not_at_all() {
     let mut draw = Draw(5);
     let mut refused = 0;
     for _ in 0..2_000 {
-        let mut model = Model([None; WIDTH]);
-        let mut space = AddressAllocator::new(BASE, WIDTH as u64).unwrap();
-        let (mut requests, mut ranges) = (Vec::new(), Some(Vec::new()));
-        for _ in 0..draw.below(16) {
+        let mut model = Model::new(BASE);
+        let mut space = AddressAllocator::new(BASE, WIDTH).unwrap();
+        let mut requests = Vec::new();
+        let mut fits = true;
+        for _ in 0..draw.below(20) {
             let (size, align) = (1 + draw.below(6), 1 << draw.below(3));
-            let at = BASE + draw.below(WIDTH as u64);
+            let at = BASE + draw.below(WIDTH);
             let policy = match draw.below(8) {
                 0 => AllocPolicy::ExactMatch(at - at % align),
                 1 => AllocPolicy::LastMatch,
                 _ => AllocPolicy::FirstMatch,
             };
-            requests.push(Constraint::new(size, align, policy).unwrap());
-            ranges = ranges.and_then(|mut ranges| {
-                let start = model.place(size, align, policy)?;
-                let range = RangeInclusive::new(start, start + size - 1).unwrap();
-                model.set(&range, Some(start));
-                ranges.push(range);
-                Some(ranges)
-            });
+            let request = Constraint::new(size, align, policy).unwrap();
+            requests.push(request);
+            let range = model.allocate(request).ok().filter(|_| fits);
+            fits = range.is_some();
+            model.held.extend(range);
         }
+        let mut held = if fits { model.held } else { Vec::new() };
         let answer = space.allocate_all(&requests);
-        assert_eq!(answer.as_ref().ok(), ranges.as_ref());
-        refused += u64::from(answer.is_err());
-        let mut held = ranges.unwrap_or_default();
+        assert_eq!(answer.as_ref().ok(), Some(&held).filter(|_| fits));
+        refused += u64::from(!fits);
         held.sort();
         assert!(space.held_ranges().eq(held));
     }

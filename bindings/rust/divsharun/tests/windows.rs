@@ -2,16 +2,17 @@
 //! model of a small space.
 
 mod draw;
+mod model;
 
 use divsharun::{
     AddressAllocator, AllocPolicy, Constraint, DeviceManager, DeviceSlot, Error, ListError,
     NodeState, RangeInclusive, Result, TryError,
 };
 use draw::Draw;
+use model::{Model, WIDTH};
 use AllocPolicy::{ExactMatch, FirstMatch, LastMatch};
 use Error::{InvalidStateTransition, Overflow, ResourceNotAvailable};
 
-const WIDTH: u64 = 64;
 /// The first of 100 ids.
 const FIRST_ID: u32 = u32::MAX - 99;
 const MAX: u64 = u64::MAX;
@@ -288,72 +289,6 @@ fn each_policy_at_the_ends_of_windows() {
     }
 }
 
-/// A space of [`WIDTH`] addresses with its allocated ranges.
-struct Model {
-    base: u64,
-    held: Vec<RangeInclusive>,
-}
-
-impl Model {
-    /// Returns whether an address is inside the space and not allocated.
-    fn is_free(&self, address: u128) -> bool {
-        let base = u128::from(self.base);
-        let is_in = |held: &RangeInclusive| {
-            u128::from(held.start()) <= address && address <= u128::from(held.end())
-        };
-        (base..base + u128::from(WIDTH)).contains(&address) && !self.held.iter().any(is_in)
-    }
-
-    /// Returns whether each address of a range is free and in the window of the request.
-    fn fits(&self, start: u64, request: Constraint) -> bool {
-        let first = u128::from(start);
-        (first..first + u128::from(request.size()))
-            .all(|address| self.is_free(address) && is_in_window(address, request))
-    }
-
-    fn allocate(&self, request: Constraint) -> Result<RangeInclusive> {
-        let mut starts = (0..WIDTH)
-            .map(|offset| self.base + offset)
-            .filter(|start| start % request.align() == 0 && self.fits(*start, request));
-        let start = match request.policy() {
-            FirstMatch => starts.next().ok_or(ResourceNotAvailable)?,
-            LastMatch => starts.next_back().ok_or(ResourceNotAvailable)?,
-            ExactMatch(start) => self.checked_start(start, request)?,
-        };
-        let end = start + (request.size() - 1);
-        if end == MAX {
-            return Err(Overflow);
-        }
-        RangeInclusive::new(start, end)
-    }
-
-    /// Returns the start of an `ExactMatch`, or the first error that is not about `MAX` as its end.
-    fn checked_start(&self, start: u64, request: Constraint) -> Result<u64> {
-        if start == MAX {
-            return Err(Overflow);
-        }
-        let is_in_space = start >= self.base && start - self.base < WIDTH;
-        if !is_in_space || !is_in_window(start.into(), request) {
-            return Err(ResourceNotAvailable);
-        }
-        let end = start.checked_add(request.size() - 1).ok_or(Overflow)?;
-        let is_same = |held: &&RangeInclusive| (held.start(), held.end()) == (start, end);
-        if let Some(held) = self.held.iter().find(is_same) {
-            return Err(InvalidStateTransition(*held, NodeState::Allocated));
-        }
-        if !self.fits(start, request) {
-            return Err(ResourceNotAvailable);
-        }
-        Ok(start)
-    }
-}
-
-fn is_in_window(address: u128, request: Constraint) -> bool {
-    request.window().is_none_or(|window| {
-        u128::from(window.start()) <= address && address <= u128::from(window.end())
-    })
-}
-
 /// Returns a random request near a space. Its `ExactMatch` often names an allocated range.
 fn drawn(draw: &mut Draw, model: &Model) -> Constraint {
     let near = |draw: &mut Draw| {
@@ -427,10 +362,7 @@ fn ranges_and_errors_are_those_of_a_plain_model() {
     let mut kinds = [0; 6];
     for base in [0, 1, 1000, MAX - WIDTH, MAX - WIDTH + 1] {
         let mut spaces = Forms::new(base);
-        let mut model = Model {
-            base,
-            held: Vec::new(),
-        };
+        let mut model = Model::new(base);
         for _ in 0..4_000 {
             let request = drawn(&mut draw, &model);
             let answer = spaces.allocate(request);
