@@ -3,6 +3,7 @@ describes their form, and tests/count_rule_mutants."""
 import os
 import pathlib
 import shutil
+import subprocess
 import sys
 from collections import namedtuple
 
@@ -24,27 +25,28 @@ def read(path):
 
 
 def read_entry(pairs):
-    name, file, old, edits, rest = None, None, None, [], {}
+    rest, edits = {}, []
     for key, value in pairs:
         if key == "name":
-            name, file = value.split(", ")
-        elif key == "file":
-            file = value
-        elif key == "old":
-            old = value
+            rest["name"], rest["file"] = value.split(", ")
         elif key == "new":
-            edits.append((file, old, value))
+            edits.append((rest["file"], rest["old"], value))
         else:
             rest[key] = value
-    if not name or not edits:
-        sys.exit(f"incomplete entry: {pairs}")
-    return Mutant(name, edits, rest)
+    return Mutant(rest["name"], edits, rest)
 
 
 def copy_workspace(project, folder):
     """Copies the bindings, for the modules of a project with a mutant. Returns the workspace."""
     shutil.copytree(os.path.join(project, "bindings"), folder, ignore=shutil.ignore_patterns("target", "build"))
     return os.path.join(folder, "rust")
+
+
+def refusing_library(project, folder):
+    """Builds tests/refuse.c in a folder. Returns the library, which programs preload."""
+    library, source = os.path.join(folder, "refuse.so"), os.path.join(project, "tests", "refuse.c")
+    subprocess.run([os.environ.get("CC", "cc"), "-O2", "-shared", "-fPIC", "-o", library, source, "-ldl"], check=True)
+    return library
 
 
 def apply(mutant, project, copy):

@@ -46,6 +46,14 @@ in_folder() { # folder, command ..
     (cd "$1" && shift && "$@")
 }
 
+rules() { # command ..: runs it for each check of texts, up to the first that fails
+    local rule
+    for rule in count_rule error_rule; do
+        "$@" "tests/$rule" && "$@" "tests/$rule" --mutants || return 1
+    done
+    "$@" tests/readme_example && "$@" tests/calling_contracts
+}
+
 finish_parts() { # name of the check
     echo "== minutes and seconds that each part took"
     cat "$times"

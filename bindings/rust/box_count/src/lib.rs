@@ -4,7 +4,6 @@
 extern crate alloc;
 extern crate std;
 
-pub mod json;
 // `bindings/erase/erase.py . bindings/rust/box_count/src/proved --tests` writes it. clippy checks
 // the code without tests in divsharun.
 #[allow(clippy::all)]

@@ -1,5 +1,171 @@
-//! Tests of `rattle`.
+//! Compares `rattle` with Rust's library. If an allocation fails, a call returns an error and its
+//! argument, changes nothing, and frees every block.
 
-mod json;
-mod library;
-mod memory;
+#[path = "../../divsharun/tests/refusing/mod.rs"]
+mod refusing;
+
+use crate::rattle::{AllocError, AllocFailed, BTreeMap, BTreeSet, Box, Global, Vec};
+use refusing::{blocks, peak_of, refusing};
+use std::string::ToString;
+use std::{collections, format};
+
+#[test]
+fn boxes() {
+    let (refused, _) = refusing(1, || Box::new(Global, 7));
+    assert!(matches!(&refused, Err(AllocFailed(7))));
+    let text = refused.err().map(|error| error.to_string());
+    assert_eq!(text.as_deref(), Some("an allocation failed"));
+    assert_eq!(AllocError.to_string(), "an allocation failed");
+    let before = blocks();
+    let (made, requests) = refusing(0, || Box::new(Global, 7));
+    let mut boxed = made.expect("memory is there");
+    *boxed += 1;
+    assert_eq!((*boxed, requests, blocks()), (8, 1, before + 1));
+    assert_eq!((Box::into_inner(boxed), blocks()), (8, before));
+}
+
+/// Makes a call with its first allocation failing, then with its second, and so on, until it
+/// succeeds. Returns the result and the number of failures.
+fn until_allowed<T, E>(
+    mut call: impl FnMut() -> Result<T, E>,
+    mut failed: impl FnMut(E),
+) -> (T, u64) {
+    for number in 1.. {
+        match refusing(number, &mut call).0 {
+            Ok(result) => return (result, number - 1),
+            Err(error) => failed(error),
+        }
+    }
+    unreachable!()
+}
+
+/// Checks vectors that grow by pushed and by inserted values.
+#[test]
+fn vectors() {
+    let (mut pushed, mut inserted) = (Vec::new(Global), Vec::new(Global));
+    let mut failures = 0;
+    for value in 0..1000 {
+        let failed = |AllocFailed(back)| assert_eq!(back, value);
+        failures += until_allowed(|| pushed.push(value), failed).1;
+        failures += until_allowed(|| inserted.insert(0, value), failed).1;
+        assert!(inserted.capacity() <= inserted.len() * 9 / 8 + 4);
+    }
+    assert!((10..100).contains(&failures), "{failures} failures");
+    assert!(pushed.iter().copied().eq(0..1000));
+    assert!(inserted.iter().rev().copied().eq(0..1000));
+    let (clone, _) = until_allowed(|| inserted.clone(), |_| {});
+    assert_eq!((clone.capacity(), clone == inserted), (1000, true));
+    let (empty, _) = until_allowed(|| Vec::<u64>::with_capacity(Global, 7), |_| {});
+    assert_eq!((empty.capacity(), empty.len()), (7, 0));
+}
+
+/// Keys in random, in ascending, in descending and in alternating order.
+const ORDERS: [fn(u64, u64, u64) -> u64; 4] = [
+    |draw, _, keys| draw % keys,
+    |_, step, keys| step % keys,
+    |_, step, keys| keys - 1 - step % keys,
+    |_, step, keys| step * (keys / 2 + 1) % keys,
+];
+
+/// Compares maps with those of Rust while they grow and while they shrink.
+#[test]
+fn maps() {
+    let before = blocks();
+    for (keys, order) in [8, 500, 20_000]
+        .into_iter()
+        .flat_map(|keys| ORDERS.map(|order| (keys, order)))
+    {
+        let (mut map, mut rust) = (BTreeMap::new(Global), collections::BTreeMap::new());
+        let (mut draw, mut failures) = (1u64, 0);
+        for step in 0..3 * keys {
+            draw = draw * 75 % 65_537;
+            let key = order(draw, step, keys);
+            if step < 2 * keys && step % 4 != 3 {
+                let length = map.len();
+                let insert = || match map.insert(key, step) {
+                    Ok(previous) => Ok(previous),
+                    Err(AllocFailed(entry)) => Err((entry, map.len(), map.get(&key).copied())),
+                };
+                let (previous, failed) = until_allowed(insert, |(entry, len, value)| {
+                    assert_eq!((entry, len, value), ((key, step), length, None));
+                });
+                failures += failed;
+                assert_eq!(previous, rust.insert(key, step));
+            } else {
+                let (removed, made) = refusing(1, || map.remove(&key));
+                assert_eq!((removed, made), (rust.remove(&key), 0));
+            }
+            assert_eq!(map.get(&key), rust.get(&key));
+            assert_eq!(map.len(), rust.len());
+            if step % (keys / 4) == 0 {
+                assert!(map.iter().eq(rust.iter()));
+                assert_eq!(format!("{map:?}"), format!("{rust:?}"));
+                let (mut clone, _) = until_allowed(|| map.clone(), |_| {});
+                assert!(clone == map);
+                // The clone has the capacity that `remove` needs.
+                while let Some(key) = clone.iter().next().map(|entry| *entry.0) {
+                    let removed = refusing(1, || clone.remove(&key));
+                    assert_eq!(removed, (map.get(&key).copied(), 0));
+                }
+            }
+        }
+        assert!(failures > 0);
+    }
+    assert_eq!(blocks(), before);
+}
+
+#[test]
+fn sets() {
+    for keys in [8u32, 500, 20_000] {
+        let (mut set, mut rust) = (BTreeSet::new(Global), collections::BTreeSet::new());
+        let mut draw = 1;
+        for step in 0..3 * keys {
+            draw = draw * 75 % 65_537;
+            let value = draw % keys;
+            if step < 2 * keys && step % 4 != 3 {
+                let failed = |AllocFailed(back)| assert_eq!(back, value);
+                let is_new = until_allowed(|| set.insert(value), failed).0;
+                assert_eq!(is_new, rust.insert(value));
+            } else if step % 8 == 7 {
+                assert_eq!(refusing(1, || set.remove(&value)), (rust.remove(&value), 0));
+            } else {
+                assert_eq!(refusing(1, || set.pop_first()), (rust.pop_first(), 0));
+            }
+            assert_eq!((set.len(), set.first()), (rust.len(), rust.first()));
+            assert_eq!(set.contains(&value), rust.contains(&value));
+            let range = value..=value + 9;
+            assert!(set.range(range.clone()).eq(rust.range(range)));
+        }
+        assert!(set.iter().eq(rust.iter()) && set.clone().is_ok_and(|clone| clone == set));
+        assert_eq!(format!("{set:?}"), format!("{rust:?}"));
+    }
+}
+
+/// Checks the memory of sets: chunks are full if values come in order, and a quarter full at least. A
+/// set that keeps its size does not split and join chunks in turn.
+#[test]
+fn memory_of_sets() {
+    const VALUES: u64 = 20_000;
+    for (order, most) in ORDERS.into_iter().zip([10, 5, 5, 10]) {
+        let (before, mut set) = (blocks(), BTreeSet::new(Global));
+        let fill = || {
+            for step in 0..VALUES {
+                let value = 2 * order(step * 75 % 65_537, step, VALUES);
+                assert!(set.insert(value as u32).is_ok());
+            }
+        };
+        let (_, bytes) = peak_of(fill);
+        let most_bytes = most * set.len();
+        assert!(bytes <= most_bytes, "{bytes} bytes instead of {most_bytes}");
+        for value in (1..2 * VALUES as u32).step_by(101) {
+            let mut change = || assert!(set.insert(value).is_ok() && set.remove(&value));
+            let (_, requests) = refusing(0, || (0..100).for_each(|_| change()));
+            assert!(requests <= 4, "{requests} allocations");
+        }
+        for value in (0..2 * VALUES as u32).filter(|value| value % 128 > 0) {
+            set.remove(&value);
+        }
+        let chunks = blocks() - before - 2;
+        assert!(chunks <= set.len() as i64 / 64 * 2, "{chunks} chunks");
+    }
+}

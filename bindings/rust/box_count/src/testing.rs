@@ -1,7 +1,6 @@
 //! Items that the tests of the sources use. They are in scope in every test, as in Rattle's prelude.
-use crate::value::{Number, Value};
 use core::fmt;
-use core::ops::{Deref, Index};
+use core::ops::Deref;
 
 pub use crate::rattle::{AllocError, Box, Global, Vec};
 #[doc(inline)]
@@ -32,7 +31,6 @@ impl Abort for HostRuntime {}
 
 /// A type that returns the allocator.
 pub trait AllocGlobal {
-    /// Returns the allocator.
     fn alloc(&self) -> Global;
 }
 
@@ -42,24 +40,17 @@ impl AllocGlobal for HostRuntime {
     }
 }
 
-/// A type that returns the variables of the environment.
+/// A type that returns the variables of the environment. Tests in plain Rust have none.
 pub trait Env {
-    /// Writes the text of a variable to the buffer, and returns its length.
-    fn var(&self, name: &str, room: &mut [u8]) -> Result<usize, AllocError>;
-}
-
-impl Env for HostRuntime {
-    fn var(&self, name: &str, room: &mut [u8]) -> Result<usize, AllocError> {
-        let text = std::env::var(name).map_err(|_| AllocError)?;
-        let room = room.get_mut(..text.len()).ok_or(AllocError)?;
-        room.copy_from_slice(text.as_bytes());
-        Ok(text.len())
+    fn var(&self, _name: &str, _room: &mut [u8]) -> Result<usize, AllocError> {
+        Err(AllocError)
     }
 }
 
+impl Env for HostRuntime {}
+
 /// A type with clones. In Rattle a clone can fail, as it can allocate.
 pub trait Clone: Sized {
-    /// Returns a clone.
     fn clone(value: &Self) -> Result<Self, AllocError>;
 }
 
@@ -74,31 +65,24 @@ impl<T: core::clone::Clone> Clone for T {
 pub struct String(alloc::string::String);
 
 impl String {
-    /// Creates an empty string. It does not allocate.
     pub fn new(_alloc: Global) -> String {
         String(alloc::string::String::new())
     }
 
-    /// Creates an empty string with a capacity in bytes.
     pub fn with_capacity(_alloc: Global, room: usize) -> Result<String, AllocError> {
-        let mut text = alloc::string::String::new();
-        text.try_reserve_exact(room).map_err(|_| AllocError)?;
-        Ok(String(text))
+        Ok(String(alloc::string::String::with_capacity(room)))
     }
 
-    /// Appends a character.
     pub fn push(&mut self, letter: char) -> Result<(), AllocError> {
         self.0.push(letter);
         Ok(())
     }
 
-    /// Appends a text.
     pub fn push_str(&mut self, text: &str) -> Result<(), AllocError> {
         self.0.push_str(text);
         Ok(())
     }
 
-    /// Returns the text.
     pub fn as_str(&self) -> &str {
         &self.0
     }
@@ -112,61 +96,14 @@ impl Deref for String {
     }
 }
 
-impl fmt::Display for String {
-    fn fmt(&self, f: &mut fmt::Formatter<'_>) -> fmt::Result {
-        self.0.fmt(f)
-    }
-}
-
 /// A value that can be written as a text.
 pub trait ToString {
-    /// Returns the text of the value.
     fn to_string(&self, alloc: Global) -> Result<String, AllocError>;
 }
 
 impl<T: fmt::Display> ToString for T {
     fn to_string(&self, _alloc: Global) -> Result<String, AllocError> {
         Ok(String(alloc::format!("{self}")))
-    }
-}
-
-/// Returns a number of a test whose type cannot be inferred.
-impl From<i32> for Value {
-    fn from(number: i32) -> Value {
-        Value::Number(match u64::try_from(number) {
-            Ok(number) => Number::Whole(number),
-            Err(_) => Number::Other(number.into()),
-        })
-    }
-}
-
-impl Value {
-    /// Returns the value at a path of field names and list indices, each after a `/`.
-    pub fn pointer_mut(&mut self, path: &str) -> Option<&mut Value> {
-        let mut steps = path.split('/');
-        match steps.next() {
-            Some("") => steps.try_fold(self, |value, step| match value {
-                Value::Object(fields) => {
-                    let mut fields = fields.iter_mut();
-                    fields
-                        .find(|field| field.0 == step)
-                        .map(|field| &mut field.1)
-                }
-                Value::Array(items) => items.get_mut(step.parse::<usize>().ok()?),
-                _ => None,
-            }),
-            _ => None,
-        }
-    }
-}
-
-/// Returns the value of a field, or `null` if the field is absent.
-impl Index<&str> for Value {
-    type Output = Value;
-
-    fn index(&self, name: &str) -> &Value {
-        static NULL: Value = Value::Null;
-        self.get(name).unwrap_or(&NULL)
     }
 }
 

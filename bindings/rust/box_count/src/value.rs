@@ -1,120 +1,57 @@
-//! Rattle's JSON values, which only the readers and writers of values use.
+//! JSON values, which stand for those of Rattle in the tests of the proved readers and writers.
+//!
+//! The texts of tests are read, which have no escapes.
 use crate::rattle::{AllocError, Global, Vec};
-use alloc::string::String;
+use alloc::string::{String, ToString};
 use core::fmt;
-use core::slice::{Iter, IterMut};
+
+/// The maximum nesting of a text.
+const MOST_NESTED: u32 = 128;
 
 /// A JSON value.
 #[derive(Debug, PartialEq)]
 pub enum Value {
-    /// `null`
     Null,
-    /// `true` or `false`
     Bool(bool),
-    /// A number.
     Number(Number),
-    /// A string.
     String(String),
-    /// A list.
     Array(Vec<Value>),
-    /// The fields of an object.
+    /// The fields of an object, in ascending order of names.
     Object(Fields),
-}
-
-/// A field of an object: its name and its value.
-pub type Field = (String, Value);
-
-/// The fields of an object, in ascending order of names.
-///
-/// It is a list, because a list can report a failed allocation and a map cannot. It keeps duplicate
-/// names, so that a count of the fields shows them.
-#[derive(Debug, PartialEq)]
-pub struct Fields(alloc::vec::Vec<Field>);
-
-impl Fields {
-    /// Returns the value of the field with this name.
-    #[must_use]
-    pub fn get(&self, name: &str) -> Option<&Value> {
-        self.iter()
-            .find(|field| field.0 == name)
-            .map(|field| &field.1)
-    }
-
-    /// Returns the number of fields.
-    #[must_use]
-    pub fn len(&self) -> usize {
-        self.0.len()
-    }
-
-    /// Returns whether there are no fields.
-    #[must_use]
-    pub fn is_empty(&self) -> bool {
-        self.0.is_empty()
-    }
-
-    /// Returns an iterator over the fields in ascending order of names.
-    pub fn iter(&self) -> Iter<'_, Field> {
-        self.0.iter()
-    }
-
-    /// Returns a mutable iterator over the fields in ascending order of names.
-    pub fn iter_mut(&mut self) -> IterMut<'_, Field> {
-        self.0.iter_mut()
-    }
-}
-
-impl From<alloc::vec::Vec<Field>> for Fields {
-    /// Sorts the fields. It does not allocate.
-    fn from(mut fields: alloc::vec::Vec<Field>) -> Fields {
-        fields.sort_unstable_by(|one, other| one.0.cmp(&other.0));
-        Fields(fields)
-    }
-}
-
-impl FromIterator<Field> for Fields {
-    /// Collects the fields. It ends the process if an allocation fails, so the proved code does
-    /// not use it.
-    fn from_iter<I: IntoIterator<Item = Field>>(fields: I) -> Fields {
-        Fields::from(fields.into_iter().collect::<alloc::vec::Vec<Field>>())
-    }
 }
 
 /// A number of a value.
 #[derive(Clone, Copy, Debug, PartialEq)]
 pub enum Number {
-    /// A 64-bit whole number.
+    /// A whole number of 64 bits.
     Whole(u64),
-    /// Any other number.
     Other(f64),
 }
 
+/// The fields of an object, each with its name. Duplicate names are kept, so that a count of the
+/// fields shows them.
+pub type Fields = alloc::vec::Vec<(String, Value)>;
+
 impl Value {
-    /// Returns a string as a value.
     pub fn try_from_str(_alloc: Global, text: &str) -> Result<Value, AllocError> {
-        copy_of(text).map(Value::String)
+        Ok(Value::String(text.into()))
     }
 
-    /// Returns the object with these fields, or the error of the first one whose allocation failed.
-    #[doc(hidden)]
+    /// Returns the object with these fields, or the first error of a field.
     pub fn object<const N: usize>(
         fields: [(&str, Result<Value, AllocError>); N],
     ) -> Result<Value, AllocError> {
-        let mut list = alloc::vec::Vec::new();
-        list.try_reserve_exact(N).map_err(|_| AllocError)?;
+        let mut list = Fields::with_capacity(N);
         for (name, value) in fields {
-            list.push((copy_of(name)?, value?));
+            list.push((name.into(), value?));
         }
-        Ok(Value::Object(list.into()))
+        Ok(Value::from(list))
     }
 
-    /// Returns whether the value is `null`.
-    #[must_use]
     pub fn is_null(&self) -> bool {
         matches!(self, Value::Null)
     }
 
-    /// Returns the value as a whole number.
-    #[must_use]
     pub fn as_u64(&self) -> Option<u64> {
         match self {
             Value::Number(Number::Whole(number)) => Some(*number),
@@ -122,8 +59,6 @@ impl Value {
         }
     }
 
-    /// Returns the value as a string.
-    #[must_use]
     pub fn as_str(&self) -> Option<&str> {
         match self {
             Value::String(text) => Some(text),
@@ -131,8 +66,6 @@ impl Value {
         }
     }
 
-    /// Returns the value as a list.
-    #[must_use]
     pub fn as_array(&self) -> Option<&Vec<Value>> {
         match self {
             Value::Array(items) => Some(items),
@@ -140,8 +73,6 @@ impl Value {
         }
     }
 
-    /// Returns the fields of the value.
-    #[must_use]
     pub fn as_object(&self) -> Option<&Fields> {
         match self {
             Value::Object(fields) => Some(fields),
@@ -149,30 +80,36 @@ impl Value {
         }
     }
 
-    /// Returns the value of a field.
-    #[must_use]
     pub fn get(&self, name: &str) -> Option<&Value> {
-        self.as_object()?.get(name)
+        let mut fields = self.as_object()?.iter();
+        fields.find(|field| field.0 == name).map(|field| &field.1)
     }
 
     /// Returns the value, and leaves `null`.
     pub fn take(&mut self) -> Value {
         core::mem::replace(self, Value::Null)
     }
-}
 
-/// Returns a copy of a string.
-fn copy_of(text: &str) -> Result<String, AllocError> {
-    let mut copy = String::new();
-    add_to(&mut copy, text)?;
-    Ok(copy)
-}
+    /// Returns the value at a path of field names and list indices, each after a `/`.
+    pub fn pointer_mut(&mut self, path: &str) -> Option<&mut Value> {
+        let mut steps = path.split('/').skip(1);
+        steps.try_fold(self, |value, step| match value {
+            Value::Object(fields) => {
+                let mut fields = fields.iter_mut();
+                let found = fields.find(|field| field.0 == step);
+                found.map(|field| &mut field.1)
+            }
+            Value::Array(items) => items.get_mut(step.parse::<usize>().ok()?),
+            _ => None,
+        })
+    }
 
-/// Appends a piece to a string.
-pub fn add_to(text: &mut String, piece: &str) -> Result<(), AllocError> {
-    text.try_reserve(piece.len()).map_err(|_| AllocError)?;
-    text.push_str(piece);
-    Ok(())
+    /// Returns the value of a text.
+    pub fn from_str(_alloc: Global, text: &str) -> Result<Value, NotJson> {
+        let mut rest = text;
+        let value = parse(&mut rest, MOST_NESTED)?;
+        rest.trim_start().is_empty().then_some(value).ok_or(NotJson)
+    }
 }
 
 impl From<u64> for Value {
@@ -187,14 +124,6 @@ impl From<u32> for Value {
     }
 }
 
-impl From<&str> for Value {
-    /// Returns a string as a value. It ends the process if an allocation fails, and only tests call
-    /// it.
-    fn from(text: &str) -> Value {
-        Value::String(text.into())
-    }
-}
-
 impl From<Vec<Value>> for Value {
     fn from(items: Vec<Value>) -> Value {
         Value::Array(items)
@@ -202,7 +131,9 @@ impl From<Vec<Value>> for Value {
 }
 
 impl From<Fields> for Value {
-    fn from(fields: Fields) -> Value {
+    /// Sorts the fields. It does not allocate.
+    fn from(mut fields: Fields) -> Value {
+        fields.sort_unstable_by(|one, other| one.0.cmp(&other.0));
         Value::Object(fields)
     }
 }
@@ -215,47 +146,85 @@ impl fmt::Display for Value {
             Value::Bool(truth) => write!(f, "{truth}"),
             Value::Number(Number::Whole(number)) => write!(f, "{number}"),
             Value::Number(Number::Other(number)) => write!(f, "{number:?}"),
-            Value::String(text) => write_text(text, f),
+            Value::String(text) => write!(f, "{text:?}"),
             Value::Array(items) => {
-                write_listed('[', ']', items.iter(), f, |item, f| write!(f, "{item}"))
+                let items: alloc::vec::Vec<_> = items.iter().map(Value::to_string).collect();
+                write!(f, "[{}]", items.join(","))
             }
-            Value::Object(fields) => write_listed('{', '}', fields.iter(), f, |field, f| {
-                write_text(&field.0, f)?;
-                write!(f, ":{}", field.1)
-            }),
+            Value::Object(fields) => {
+                let fields = fields.iter();
+                let fields = fields.map(|(name, value)| alloc::format!("{name:?}:{value}"));
+                let fields: alloc::vec::Vec<_> = fields.collect();
+                write!(f, "{{{}}}", fields.join(","))
+            }
         }
     }
 }
 
-/// Writes the items between brackets, with commas between them.
-fn write_listed<T>(
-    open: char,
-    close: char,
-    items: impl Iterator<Item = T>,
-    f: &mut fmt::Formatter<'_>,
-    write_item: fn(T, &mut fmt::Formatter<'_>) -> fmt::Result,
-) -> fmt::Result {
-    write!(f, "{open}")?;
-    for (place, item) in items.enumerate() {
-        if place > 0 {
-            f.write_str(",")?;
-        }
-        write_item(item, f)?;
+/// The text is not JSON, or is nested too deep.
+#[derive(Debug)]
+pub struct NotJson;
+
+/// Parses the value at the start of a text, and removes it there.
+fn parse(rest: &mut &str, levels: u32) -> Result<Value, NotJson> {
+    let levels = levels.checked_sub(1).ok_or(NotJson)?;
+    *rest = rest.trim_start();
+    match rest.as_bytes().first() {
+        Some(b'{') => parse_list(rest, "}", |rest| {
+            let name = parse_text(rest)?;
+            skip(rest, ":")?;
+            Ok((name, parse(rest, levels)?))
+        })
+        .map(Value::from),
+        Some(b'[') => parse_list(rest, "]", |rest| parse(rest, levels))
+            .map(|items| Value::Array(items.into())),
+        Some(b'"') => parse_text(rest).map(Value::String),
+        Some(b'n') => skip(rest, "null").map(|()| Value::Null),
+        Some(b't') => skip(rest, "true").map(|()| Value::Bool(true)),
+        Some(b'f') => skip(rest, "false").map(|()| Value::Bool(false)),
+        _ => parse_number(rest).map(Value::Number),
     }
-    write!(f, "{close}")
 }
 
-/// Writes a string as JSON.
-fn write_text(text: &str, f: &mut fmt::Formatter<'_>) -> fmt::Result {
-    f.write_str("\"")?;
-    for letter in text.chars() {
-        match letter {
-            '"' | '\\' => write!(f, "\\{letter}")?,
-            '\0'..='\x1f' => write!(f, "\\u{:04x}", u32::from(letter))?,
-            _ => write!(f, "{letter}")?,
+/// Skips blanks and a mark, which must be next.
+fn skip(rest: &mut &str, mark: &str) -> Result<(), NotJson> {
+    *rest = rest.trim_start().strip_prefix(mark).ok_or(NotJson)?;
+    Ok(())
+}
+
+/// Parses the items behind an opening bracket, up to its closing bracket.
+fn parse_list<T>(
+    rest: &mut &str,
+    close: &str,
+    item: impl Fn(&mut &str) -> Result<T, NotJson>,
+) -> Result<alloc::vec::Vec<T>, NotJson> {
+    let mut items = alloc::vec::Vec::new();
+    *rest = &rest[1..];
+    while skip(rest, close).is_err() {
+        if !items.is_empty() {
+            skip(rest, ",")?;
         }
+        items.push(item(rest)?);
     }
-    f.write_str("\"")
+    Ok(items)
+}
+
+fn parse_text(rest: &mut &str) -> Result<String, NotJson> {
+    skip(rest, "\"")?;
+    let (text, behind) = rest.split_once('"').ok_or(NotJson)?;
+    *rest = behind;
+    Ok(text.into())
+}
+
+fn parse_number(rest: &mut &str) -> Result<Number, NotJson> {
+    let behind = rest.trim_start_matches(|letter| "+-.0123456789Ee".contains(letter));
+    let number = &rest[..rest.len() - behind.len()];
+    *rest = behind;
+    match (number.parse(), number.parse()) {
+        (Ok(whole), _) => Ok(Number::Whole(whole)),
+        (_, Ok(other)) => Ok(Number::Other(other)),
+        _ => Err(NotJson),
+    }
 }
 
 /// Creates an object.
@@ -269,9 +238,6 @@ macro_rules! json {
     (@object [$($done:tt)*]) => { $crate::value::Value::object([$($done)*]) };
     (@object [$($done:tt)*] $name:tt: {$($fields:tt)*} $(, $($rest:tt)*)?) => {
         $crate::value::json!(@object [$($done)* ($name, $crate::value::json!(@object [] $($fields)*)),] $($($rest)*)?)
-    };
-    (@object [$($done:tt)*] $name:tt: null $(, $($rest:tt)*)?) => {
-        $crate::value::json!(@object [$($done)* ($name, Ok($crate::value::Value::Null)),] $($($rest)*)?)
     };
     (@object [$($done:tt)*] $name:tt: $value:expr $(, $($rest:tt)*)?) => {
         $crate::value::json!(@object [$($done)* ($name, Ok($crate::value::Value::from($value))),] $($($rest)*)?)

@@ -2,43 +2,17 @@
 //! does not have and the texts that the library writes.
 
 mod draw;
+mod model;
 
 use divsharun::{
     AddressAllocator, AllocPolicy, Constraint, DeviceManager, DeviceSlot, Error, IdAllocator,
     ListError, NodeState, RangeInclusive, TryError,
 };
 use draw::Draw;
-use std::collections::HashSet;
+use model::{Model, WIDTH};
+use std::collections::{BTreeSet, HashSet};
 
-const WIDTH: usize = 48;
 const BASE: u64 = 1000;
-
-/// A space, cell by cell: the start of the range that contains the cell.
-struct Model([Option<u64>; WIDTH]);
-
-impl Model {
-    fn is_clear(&self, start: u64, size: u64) -> bool {
-        let first = start.checked_sub(BASE);
-        let cells = first.and_then(|first| self.0.get(first as usize..(first + size) as usize));
-        cells.is_some_and(|cells| cells.iter().all(Option::is_none))
-    }
-
-    /// Returns the start of the range for a request.
-    fn place(&self, size: u64, align: u64, policy: AllocPolicy) -> Option<u64> {
-        let starts = BASE..BASE + WIDTH as u64;
-        let mut places = starts.filter(|start| start % align == 0 && self.is_clear(*start, size));
-        match policy {
-            AllocPolicy::FirstMatch => places.next(),
-            AllocPolicy::LastMatch => places.next_back(),
-            AllocPolicy::ExactMatch(start) => places.find(|place| *place == start),
-        }
-    }
-
-    fn set(&mut self, range: &RangeInclusive, holder: Option<u64>) {
-        let first = (range.start() - BASE) as usize;
-        self.0[first..first + range.len() as usize].fill(holder);
-    }
-}
 
 /// Takes all items from one end or the other, and returns them in order.
 fn from_both_ends(
@@ -65,16 +39,16 @@ fn from_both_ends(
 }
 
 /// Moves a range, if the addresses there are free, or checks that it stays.
-fn move_range(space: &mut AddressAllocator, model: &mut Model, held: &mut RangeInclusive, to: u64) {
-    let answer = space.move_range(held, to);
+fn move_range(space: &mut AddressAllocator, model: &mut Model, number: usize, to: u64) {
+    let held = model.held[number];
+    let answer = space.move_range(&held, to);
+    let request = Constraint::new(held.len(), 1, AllocPolicy::ExactMatch(to)).unwrap();
     if to == held.start() {
-        assert_eq!(answer, Ok(*held));
-    } else if model.is_clear(to, held.len()) {
+        assert_eq!(answer, Ok(held));
+    } else if model.fits(to, request) {
         let moved = answer.unwrap();
         assert_eq!((moved.start(), moved.len()), (to, held.len()));
-        model.set(held, None);
-        model.set(&moved, Some(to));
-        *held = moved;
+        model.held[number] = moved;
     } else {
         assert!(answer.is_err());
     }
@@ -83,41 +57,33 @@ fn move_range(space: &mut AddressAllocator, model: &mut Model, held: &mut RangeI
 #[test]
 fn answers_are_those_of_a_plain_model() {
     let mut draw = Draw(1);
-    let mut model = Model([None; WIDTH]);
-    let mut space = AddressAllocator::new(BASE, WIDTH as u64).unwrap();
-    let mut held: Vec<RangeInclusive> = Vec::new();
+    let mut model = Model::new(BASE);
+    let mut space = AddressAllocator::new(BASE, WIDTH).unwrap();
     for _ in 0..20_000 {
         let (size, align) = (1 + draw.below(6), 1 << draw.below(3));
-        let at = BASE + draw.below(WIDTH as u64);
+        let at = BASE + draw.below(WIDTH);
+        let any = draw.below(model.held.len().max(1) as u64) as usize;
         let policy = match draw.below(9) {
             0..=2 => AllocPolicy::FirstMatch,
             3 => AllocPolicy::LastMatch,
             4 => AllocPolicy::ExactMatch(at - at % align),
-            _ if held.is_empty() => continue,
+            _ if model.held.is_empty() => continue,
             5 => {
-                let moved = draw.below(held.len() as u64) as usize;
-                move_range(&mut space, &mut model, &mut held[moved], at);
+                move_range(&mut space, &mut model, any, at);
                 continue;
             }
             _ => {
-                let range = held.swap_remove(draw.below(held.len() as u64) as usize);
-                assert_eq!(space.free(&range), Ok(()));
-                model.set(&range, None);
+                assert_eq!(space.free(&model.held.swap_remove(any)), Ok(()));
                 continue;
             }
         };
+        let request = Constraint::new(size, align, policy).unwrap();
         let answer = space.allocate(size, align, policy);
-        let place = model.place(size, align, policy);
-        assert_eq!(
-            answer.ok().map(|range| (range.start(), range.len())),
-            place.map(|at| (at, size))
-        );
-        if let Ok(range) = answer {
-            model.set(&range, Some(range.start()));
-            held.push(range);
-        }
-        assert_eq!(space.held_count(), held.len() as u64);
+        assert_eq!(answer, model.allocate(request));
+        model.held.extend(answer.ok());
+        assert_eq!(space.held_count(), model.held.len() as u64);
     }
+    let mut held = model.held;
     held.sort();
     assert!(space.held_ranges().eq(held.iter().copied()));
     let gaps: Vec<_> = space.gaps().collect();
@@ -126,7 +92,10 @@ fn answers_are_those_of_a_plain_model() {
         assert_eq!(from_both_ends(space.gaps(), &mut draw), gaps);
     }
     expect_queries(&space, &held, &gaps, &mut draw);
-    let created = AddressAllocator::with_held(BASE, WIDTH as u64, &held);
+    let lengths = || gaps.iter().map(RangeInclusive::len);
+    assert_eq!(space.longest_gap(), lengths().max().unwrap_or(0));
+    assert_eq!(space.free_len(), lengths().sum());
+    let created = AddressAllocator::with_held(BASE, WIDTH, &held);
     assert_eq!(created, Ok(space));
 }
 
@@ -137,7 +106,7 @@ fn expect_queries(
     gaps: &[RangeInclusive],
     draw: &mut Draw,
 ) {
-    let addresses = BASE - 2..BASE + WIDTH as u64 + 2;
+    let addresses = BASE - 2..BASE + WIDTH + 2;
     for (start, end) in addresses
         .clone()
         .flat_map(|start| (start..addresses.end).map(move |end| (start, end)))
@@ -165,30 +134,28 @@ fn requests_are_allocated_together_or_not_at_all() {
     let mut draw = Draw(5);
     let mut refused = 0;
     for _ in 0..2_000 {
-        let mut model = Model([None; WIDTH]);
-        let mut space = AddressAllocator::new(BASE, WIDTH as u64).unwrap();
-        let (mut requests, mut ranges) = (Vec::new(), Some(Vec::new()));
-        for _ in 0..draw.below(16) {
+        let mut model = Model::new(BASE);
+        let mut space = AddressAllocator::new(BASE, WIDTH).unwrap();
+        let mut requests = Vec::new();
+        let mut fits = true;
+        for _ in 0..draw.below(20) {
             let (size, align) = (1 + draw.below(6), 1 << draw.below(3));
-            let at = BASE + draw.below(WIDTH as u64);
+            let at = BASE + draw.below(WIDTH);
             let policy = match draw.below(8) {
                 0 => AllocPolicy::ExactMatch(at - at % align),
                 1 => AllocPolicy::LastMatch,
                 _ => AllocPolicy::FirstMatch,
             };
-            requests.push(Constraint::new(size, align, policy).unwrap());
-            ranges = ranges.and_then(|mut ranges| {
-                let start = model.place(size, align, policy)?;
-                let range = RangeInclusive::new(start, start + size - 1).unwrap();
-                model.set(&range, Some(start));
-                ranges.push(range);
-                Some(ranges)
-            });
+            let request = Constraint::new(size, align, policy).unwrap();
+            requests.push(request);
+            let range = model.allocate(request).ok().filter(|_| fits);
+            fits = range.is_some();
+            model.held.extend(range);
         }
+        let mut held = if fits { model.held } else { Vec::new() };
         let answer = space.allocate_all(&requests);
-        assert_eq!(answer.as_ref().ok(), ranges.as_ref());
-        refused += u64::from(answer.is_err());
-        let mut held = ranges.unwrap_or_default();
+        assert_eq!(answer.as_ref().ok(), Some(&held).filter(|_| fits));
+        refused += u64::from(!fits);
         held.sort();
         assert!(space.held_ranges().eq(held));
     }
@@ -315,6 +282,75 @@ fn counts_follow_each_change() {
     assert_eq!(counts(&space), (0, u64::MAX));
     let created = AddressAllocator::try_with_held(0, u64::MAX, &[range]).unwrap();
     assert_eq!((counts(&clone), counts(&created)), ((1, 1), (1, 1)));
+}
+
+#[test]
+fn spaces_begin_and_end_anywhere() {
+    use Error::{Overflow, Underflow};
+    let numbers = [0, 1, 2, 16, u64::MAX - 1, u64::MAX];
+    for (base, size) in numbers
+        .into_iter()
+        .flat_map(|base| numbers.map(|size| (base, size)))
+    {
+        let end = match size.checked_sub(1) {
+            None => Err(Underflow),
+            Some(more) => base.checked_add(more).ok_or(Overflow),
+        };
+        let space = AddressAllocator::new(base, size);
+        let ends = space.as_ref().map(|space| (space.base(), space.end()));
+        assert_eq!(ends.map_err(|error| *error), end.map(|end| (base, end)));
+        let or_try_error = AddressAllocator::try_new(base, size);
+        assert_eq!(or_try_error, space.map_err(TryError::Refused));
+        for (first, last) in [(1, 0), (0, 0), (5, u32::MAX)] {
+            let made = DeviceManager::new(first, last, base, size);
+            let want = match (first > last, end) {
+                (true, _) => Err(Error::InvalidRange(first.into(), last.into())),
+                (false, end) => end.map(|_| 0),
+            };
+            assert_eq!(
+                made.as_ref().map(DeviceManager::device_count),
+                want.as_ref().copied()
+            );
+            let or_try_error = DeviceManager::try_new(first, last, base, size);
+            assert_eq!(or_try_error, made.map_err(TryError::Refused));
+        }
+    }
+}
+
+/// Compares random calls with a set of allocated ids and the next id.
+#[test]
+fn ids_are_those_of_a_plain_model() {
+    let mut draw = Draw(3);
+    for first in [0, 5, u32::MAX - 30] {
+        let last = first + 30;
+        let mut ids = IdAllocator::new(first, last).unwrap();
+        let (mut held, mut next) = (BTreeSet::new(), u64::from(first));
+        for _ in 0..2000 {
+            let is_new = |id: &u32| !held.contains(id);
+            let none =
+                [Error::ResourceNotAvailable, Error::Overflow][usize::from(last == u32::MAX)];
+            let lowest = (first..=last).find(is_new).ok_or(none);
+            assert_eq!(ids.peek_id(), lowest);
+            let id = first.wrapping_add(draw.below(33) as u32).wrapping_sub(1);
+            assert_eq!(ids.is_allocated(id), held.contains(&id));
+            if draw.below(2) == 0 {
+                assert_eq!(ids.allocate_id(), lowest);
+                held.extend(lowest);
+                next = next.max(lowest.map_or(0, |id| u64::from(id) + 1));
+                continue;
+            }
+            let want = match id {
+                _ if !(first..=last).contains(&id) => Err(Error::OutOfRange(id)),
+                _ if u64::from(id) >= next => Err(Error::NeverAllocated(id)),
+                _ if !held.remove(&id) => Err(Error::AlreadyReleased(id)),
+                _ => Ok(id),
+            };
+            assert_eq!(ids.free_id(id), want);
+            assert_eq!(ids.held_count(), held.len() as u64);
+            assert!(ids.held_ids().eq(held.iter().copied()));
+        }
+        assert_eq!((ids.range_base(), ids.range_end()), (first, last));
+    }
 }
 
 #[test]
@@ -598,6 +634,10 @@ fn ranges_meet_in_what_both_have() {
     for (range, other) in ranges().flat_map(|range| ranges().map(move |other| (range, other))) {
         let common = range.intersection(&other);
         assert_eq!(common.is_some(), range.overlaps(&other));
+        assert_eq!(range.contains(&other), common == Some(other));
+        let ends = |range: &RangeInclusive| (range.start(), range.end());
+        assert_eq!(range.cmp(&other), ends(&range).cmp(&ends(&other)));
+        assert_eq!(range == other, ends(&range) == ends(&other));
         for address in [
             0,
             1,

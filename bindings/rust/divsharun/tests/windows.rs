@@ -1,17 +1,20 @@
-//! Checks requests with a window in each form of a call: with a table, and with a plain model of a
-//! small space.
+//! Checks requests in each form of a call, with a window or without: with a table, and with a plain
+//! model of a small space.
 
 mod draw;
+mod model;
 
 use divsharun::{
-    AddressAllocator, AllocPolicy, Constraint, DeviceManager, Error, ListError, NodeState,
-    RangeInclusive, Result, TryError,
+    AddressAllocator, AllocPolicy, Constraint, DeviceManager, DeviceSlot, Error, ListError,
+    NodeState, RangeInclusive, Result, TryError,
 };
 use draw::Draw;
+use model::{Model, WIDTH};
 use AllocPolicy::{ExactMatch, FirstMatch, LastMatch};
 use Error::{InvalidStateTransition, Overflow, ResourceNotAvailable};
 
-const WIDTH: u64 = 64;
+/// The first of 100 ids.
+const FIRST_ID: u32 = u32::MAX - 99;
 const MAX: u64 = u64::MAX;
 
 const fn range(start: u64, end: u64) -> RangeInclusive {
@@ -29,71 +32,136 @@ fn refused<T>(answer: std::result::Result<T, impl Into<TryError>>) -> Result<T> 
     })
 }
 
-/// A space for each form of a call. All have the same history.
+/// Returns the result of a counted call, which counts the nodes that it enters.
+fn counted<T>((answer, nodes): (Result<T>, u64)) -> Result<T> {
+    assert!(nodes > 0 || answer.is_err());
+    answer
+}
+
+fn only(ranges: Result<Vec<RangeInclusive>>) -> Result<RangeInclusive> {
+    ranges.map(|ranges| {
+        assert_eq!(ranges.len(), 1);
+        ranges[0]
+    })
+}
+
+fn range_of(device: Result<DeviceSlot>) -> Result<RangeInclusive> {
+    device.map(|device| device.range)
+}
+
+/// A form of a call. Calls by numbers have no window.
+type Form<O> = fn(&mut O, Constraint) -> Result<RangeInclusive>;
+
+const OF_SPACES: [Form<AddressAllocator>; 8] = [
+    |space, request| space.allocate_constraint(request),
+    |space, request| refused(space.try_allocate_constraint(request)),
+    |space, request| counted(space.allocate_constraint_counted(request)),
+    |space, request| only(space.allocate_all(&[request]).map_err(Error::from)),
+    |space, request| only(refused(space.try_allocate_all(&[request]))),
+    |space, request| match request.window() {
+        None => space.allocate(request.size(), request.align(), request.policy()),
+        Some(_) => space.allocate_constraint(request),
+    },
+    |space, request| match request.window() {
+        None => refused(space.try_allocate(request.size(), request.align(), request.policy())),
+        Some(_) => space.allocate_constraint(request),
+    },
+    |space, request| match request.window() {
+        None => {
+            let (size, align) = (request.size(), request.align());
+            counted(space.allocate_counted(size, align, request.policy()))
+        }
+        Some(_) => space.allocate_constraint(request),
+    },
+];
+
+const OF_DEVICES: [Form<DeviceManager>; 4] = [
+    |devices, request| range_of(devices.reserve_constraint(request)),
+    |devices, request| range_of(refused(devices.try_reserve_constraint(request))),
+    |devices, request| match request.window() {
+        None => range_of(devices.reserve(request.size(), request.align(), request.policy())),
+        Some(_) => range_of(devices.reserve_constraint(request)),
+    },
+    |devices, request| match request.window() {
+        None => {
+            let (size, align) = (request.size(), request.align());
+            range_of(refused(devices.try_reserve(size, align, request.policy())))
+        }
+        Some(_) => range_of(devices.reserve_constraint(request)),
+    },
+];
+
+/// A space or a manager for each form of a call. All have the same history.
 struct Forms {
-    plain: AddressAllocator,
-    or_try_error: AddressAllocator,
-    counted: AddressAllocator,
-    all: AddressAllocator,
-    all_or_try_error: AddressAllocator,
-    devices: DeviceManager,
-    devices_or_try_error: DeviceManager,
+    spaces: [AddressAllocator; 8],
+    devices: [DeviceManager; 4],
 }
 
 impl Forms {
     /// Creates spaces of [`WIDTH`] addresses.
     fn new(base: u64) -> Forms {
-        let space = || AddressAllocator::new(base, WIDTH).unwrap();
-        let devices = || DeviceManager::new(0, 99, base, WIDTH).unwrap();
+        let devices = |_| DeviceManager::new(FIRST_ID, u32::MAX, base, WIDTH).unwrap();
         Forms {
-            plain: space(),
-            or_try_error: space(),
-            counted: space(),
-            all: space(),
-            all_or_try_error: space(),
-            devices: devices(),
-            devices_or_try_error: devices(),
+            spaces: [(); 8].map(|_| AddressAllocator::new(base, WIDTH).unwrap()),
+            devices: [(); 4].map(devices),
         }
     }
 
     /// Makes a request in each form, and returns their result.
     fn allocate(&mut self, request: Constraint) -> Result<RangeInclusive> {
-        let answer = self.plain.allocate_constraint(request);
-        let only = |ranges: Vec<RangeInclusive>| {
-            assert_eq!(ranges.len(), 1);
-            ranges[0]
+        let spaces = OF_SPACES.iter().zip(&mut self.spaces);
+        let devices = OF_DEVICES.iter().zip(&mut self.devices);
+        let answers: Vec<_> = spaces
+            .map(|(form, space)| form(space, request))
+            .chain(devices.map(|(form, devices)| form(devices, request)))
+            .collect();
+        assert!(
+            answers.iter().all(|answer| *answer == answers[0]),
+            "{request}: {answers:?}"
+        );
+        answers[0]
+    }
+
+    /// Frees a range, or returns the error of a range that is not allocated.
+    fn free(&mut self, range: &RangeInclusive) -> Result<()> {
+        let [first, rest @ ..] = &mut self.spaces;
+        let answer = first.free(range);
+        for space in rest {
+            assert_eq!(counted(space.free_counted(range)), answer);
+        }
+        let [first, rest @ ..] = &mut self.devices;
+        let device = first.device_at(range.start());
+        let id = match (answer, device) {
+            (Ok(()), Some(device)) => device.id,
+            _ => FIRST_ID - 1,
         };
-        let answers = [
-            refused(self.or_try_error.try_allocate_constraint(request)),
-            self.counted.allocate_constraint_counted(request).0,
-            self.all
-                .allocate_all(&[request])
-                .map(only)
-                .map_err(Error::from),
-            refused(self.all_or_try_error.try_allocate_all(&[request])).map(only),
-            self.devices
-                .reserve_constraint(request)
-                .map(|device| device.range),
-            refused(self.devices_or_try_error.try_reserve_constraint(request))
-                .map(|device| device.range),
-        ];
-        assert_eq!(answers, [answer; 6], "{request}");
+        let released = first.release(id);
+        assert_eq!(released.is_ok(), answer.is_ok());
+        for devices in rest {
+            assert_eq!(refused(devices.try_release(id)), released);
+        }
         answer
     }
 
-    fn free(&mut self, range: &RangeInclusive) {
-        for space in [
-            &mut self.plain,
-            &mut self.or_try_error,
-            &mut self.counted,
-            &mut self.all,
-            &mut self.all_or_try_error,
-        ] {
-            assert_eq!(space.free(range), Ok(()));
+    /// Checks the queries of each address, and the list of devices.
+    fn compare(&self, held: &[RangeInclusive]) {
+        for devices in &self.devices {
+            assert_eq!(devices.device_count(), held.len() as u64);
+            assert_eq!(*devices, devices.clone());
+            for device in devices.devices() {
+                assert_eq!(devices.slot(device.id), Some(device.range));
+                assert_eq!(devices.device_at(device.range.end()), Some(device));
+                assert!(held.contains(&device.range) && device.id >= FIRST_ID);
+            }
+            let base = self.spaces[0].base();
+            for address in base..=base + (WIDTH - 1) {
+                let at = devices.device_at(address).map(|device| device.range);
+                assert_eq!(at, self.spaces[0].held_at(address));
+            }
         }
-        for devices in [&mut self.devices, &mut self.devices_or_try_error] {
-            let device = devices.device_at(range.start()).unwrap();
-            assert_eq!(devices.release(device.id), Ok(()));
+        for space in &self.spaces {
+            assert_eq!(*space, self.spaces[0]);
+            assert_eq!(space.end() - space.base(), WIDTH - 1);
         }
     }
 }
@@ -221,72 +289,6 @@ fn each_policy_at_the_ends_of_windows() {
     }
 }
 
-/// A space of [`WIDTH`] addresses with its allocated ranges.
-struct Model {
-    base: u64,
-    held: Vec<RangeInclusive>,
-}
-
-impl Model {
-    /// Returns whether an address is inside the space and not allocated.
-    fn is_free(&self, address: u128) -> bool {
-        let base = u128::from(self.base);
-        let is_in = |held: &RangeInclusive| {
-            u128::from(held.start()) <= address && address <= u128::from(held.end())
-        };
-        (base..base + u128::from(WIDTH)).contains(&address) && !self.held.iter().any(is_in)
-    }
-
-    /// Returns whether each address of a range is free and in the window of the request.
-    fn fits(&self, start: u64, request: Constraint) -> bool {
-        let first = u128::from(start);
-        (first..first + u128::from(request.size()))
-            .all(|address| self.is_free(address) && is_in_window(address, request))
-    }
-
-    fn allocate(&self, request: Constraint) -> Result<RangeInclusive> {
-        let mut starts = (0..WIDTH)
-            .map(|offset| self.base + offset)
-            .filter(|start| start % request.align() == 0 && self.fits(*start, request));
-        let start = match request.policy() {
-            FirstMatch => starts.next().ok_or(ResourceNotAvailable)?,
-            LastMatch => starts.next_back().ok_or(ResourceNotAvailable)?,
-            ExactMatch(start) => self.checked_start(start, request)?,
-        };
-        let end = start + (request.size() - 1);
-        if end == MAX {
-            return Err(Overflow);
-        }
-        RangeInclusive::new(start, end)
-    }
-
-    /// Returns the start of an `ExactMatch`, or the first error that is not about `MAX` as its end.
-    fn checked_start(&self, start: u64, request: Constraint) -> Result<u64> {
-        if start == MAX {
-            return Err(Overflow);
-        }
-        let is_in_space = start >= self.base && start - self.base < WIDTH;
-        if !is_in_space || !is_in_window(start.into(), request) {
-            return Err(ResourceNotAvailable);
-        }
-        let end = start.checked_add(request.size() - 1).ok_or(Overflow)?;
-        let is_same = |held: &&RangeInclusive| (held.start(), held.end()) == (start, end);
-        if let Some(held) = self.held.iter().find(is_same) {
-            return Err(InvalidStateTransition(*held, NodeState::Allocated));
-        }
-        if !self.fits(start, request) {
-            return Err(ResourceNotAvailable);
-        }
-        Ok(start)
-    }
-}
-
-fn is_in_window(address: u128, request: Constraint) -> bool {
-    request.window().is_none_or(|window| {
-        u128::from(window.start()) <= address && address <= u128::from(window.end())
-    })
-}
-
 /// Returns a random request near a space. Its `ExactMatch` often names an allocated range.
 fn drawn(draw: &mut Draw, model: &Model) -> Constraint {
     let near = |draw: &mut Draw| {
@@ -331,16 +333,36 @@ fn kind_of(request: Constraint, answer: &Result<RangeInclusive>) -> usize {
     }
 }
 
+/// Checks that each form by numbers has the errors of a request.
+#[test]
+fn numbers_that_are_no_request() {
+    for (size, align, policy, error) in [
+        (0, 1, FirstMatch, Error::InvalidSize(0)),
+        (1, 0, LastMatch, Error::InvalidAlignment),
+        (8, 3, ExactMatch(0), Error::InvalidAlignment),
+        (8, 8, ExactMatch(4), Error::UnalignedAddress),
+    ] {
+        assert_eq!(Constraint::new(size, align, policy), Err(error));
+        let mut space = AddressAllocator::new(0, WIDTH).unwrap();
+        let mut devices = DeviceManager::new(0, 0, 0, WIDTH).unwrap();
+        let answers = [
+            space.allocate(size, align, policy),
+            refused(space.try_allocate(size, align, policy)),
+            space.allocate_counted(size, align, policy).0,
+            range_of(devices.reserve(size, align, policy)),
+            range_of(refused(devices.try_reserve(size, align, policy))),
+        ];
+        assert_eq!(answers, [Err(error); 5]);
+    }
+}
+
 #[test]
 fn ranges_and_errors_are_those_of_a_plain_model() {
     let mut draw = Draw(7);
     let mut kinds = [0; 6];
     for base in [0, 1, 1000, MAX - WIDTH, MAX - WIDTH + 1] {
         let mut spaces = Forms::new(base);
-        let mut model = Model {
-            base,
-            held: Vec::new(),
-        };
+        let mut model = Model::new(base);
         for _ in 0..4_000 {
             let request = drawn(&mut draw, &model);
             let answer = spaces.allocate(request);
@@ -349,9 +371,15 @@ fn ranges_and_errors_are_those_of_a_plain_model() {
             model.held.extend(answer.ok());
             if draw.below(3) == 0 && !model.held.is_empty() {
                 let number = draw.below(model.held.len() as u64) as usize;
-                spaces.free(&model.held.swap_remove(number));
+                assert_eq!(spaces.free(&model.held.swap_remove(number)), Ok(()));
+            }
+            if draw.below(8) == 0 {
+                let near = range(request.size().min(base), base);
+                let is_held = model.held.contains(&near);
+                assert!(is_held || spaces.free(&near) == Err(ResourceNotAvailable));
             }
         }
+        spaces.compare(&model.held);
     }
     assert!(kinds.iter().all(|kind| *kind > 100), "{kinds:?}");
 }
@@ -407,6 +435,7 @@ fn errors_of_devices_in_windows() {
             device.map(|device| (device.id, device.range)),
             Ok((last_id, window))
         );
+        assert_eq!(devices.slot(last_id), Some(window));
         for request in [
             outside,
             all(ExactMatch(0)),

@@ -1,10 +1,7 @@
-//! The cost of calls: allocations, boxes followed, and processor time. No contract limits these.
-mod counts;
-mod heights;
-mod lines;
-mod managers;
-mod meter;
+//! The cost of calls with many ranges, ids and devices: boxes followed, allocations and processor
+//! time. No contract limits these. The tests of `divsharun` count the allocations of small objects.
+mod allocations;
+mod boxes;
+mod changes;
 mod objects;
-mod requests;
 mod time;
-mod windows;

@@ -1,122 +1,71 @@
-//! The measured objects.
+//! The measured objects, and their cost.
+#[path = "../../../divsharun/tests/refusing/mod.rs"]
+mod refusing;
+
 use box_count::proved::vm_allocator::AllocPolicy::{ExactMatch, FirstMatch};
 use box_count::proved::vm_allocator::{AddressAllocator, IdAllocator, RangeInclusive};
 use box_count::proved::vm_devices::DeviceManager;
-use box_count::rattle::{BTreeSet, Global};
+use box_count::rattle::{boxes_followed, Global};
 use box_count::value::Value;
+pub use refusing::refusing;
 
-/// The layout of objects with `held` allocated ranges, ids or devices.
-#[derive(Clone, Copy, Debug)]
-pub struct Setting {
-    pub held: u64,
-    pub base: u64,
-    pub size: u64,
-    pub first_id: u32,
-}
+/// The first address of spaces, and their size. They end before `u64::MAX`, which no range has.
+pub const BASE: u64 = u64::MAX - SIZE;
+pub const SIZE: u64 = 1 << 40;
 
-/// Small and large, at low addresses and up to `u64::MAX`.
-pub const SETTINGS: [Setting; 4] = [low(3), high(3), low(10_000), high(10_000)];
+/// The ids.
+pub const FIRST_ID: u32 = u32::MAX - (1 << 20);
+pub const LAST_ID: u32 = u32::MAX;
 
-pub const fn low(held: u64) -> Setting {
-    Setting {
-        held,
-        base: 0,
-        size: 1 << 40,
-        first_id: 0,
-    }
-}
-
-const fn high(held: u64) -> Setting {
-    Setting {
-        held,
-        base: u64::MAX - (1 << 20) + 1,
-        size: 1 << 20,
-        first_id: u32::MAX - (1 << 20),
-    }
-}
-
-impl Setting {
-    /// Returns the number of nodes: each allocated range is followed by a gap.
-    pub fn nodes(self) -> u64 {
-        2 * self.held
-    }
-
-    pub fn key(self) -> RangeInclusive {
-        range(self.base, self.base + (self.size - 1))
-    }
-
-    pub fn last_id(self) -> u32 {
-        self.first_id + (1 << 20)
-    }
-
-    /// Returns a space with 4 addresses allocated at each multiple of 16.
-    pub fn space(self) -> AddressAllocator {
-        let mut space = AddressAllocator::new(Global, self.base, self.size).unwrap();
-        for number in 0..self.held {
-            let policy = ExactMatch(self.base + 16 * number);
-            space.allocate(Global, 4, 1, policy).unwrap();
-        }
-        space
-    }
-
-    pub fn held_ids(self) -> impl Iterator<Item = u32> {
-        (0..self.held as u32).map(move |number| self.first_id + 2 * number)
-    }
-
-    /// Returns the freed ids, which alternate with allocated ones.
-    pub fn freed_ids(self) -> impl Iterator<Item = u32> {
-        self.held_ids().map(|id| id + 1)
-    }
-
-    pub fn ids(self) -> (IdAllocator, BTreeSet<u32>) {
-        let mut ids = IdAllocator::new(Global, self.first_id, self.last_id()).unwrap();
-        let mut freed = BTreeSet::new(Global);
-        (0..2 * self.held).for_each(|_| assert!(ids.allocate_id().is_ok()));
-        for id in self.freed_ids() {
-            ids.free_id(id).unwrap();
-            assert!(freed.insert(id).is_ok());
-        }
-        (ids, freed)
-    }
-
-    /// Returns a manager with the ranges of `space` and the ids of `ids`.
-    pub fn manager(self) -> DeviceManager {
-        let (lo, hi) = (self.first_id, self.last_id());
-        let mut manager = DeviceManager::new(Global, lo, hi, self.base, self.size).unwrap();
-        for _ in 0..2 * self.held {
-            manager.reserve(Global, 4, 8, FirstMatch).unwrap();
-        }
-        for id in self.freed_ids() {
-            manager.release(id).unwrap();
-        }
-        manager
-    }
+/// Returns the result of some work, and the number of boxes that it follows.
+pub fn boxes<T>(work: impl FnOnce() -> T) -> (T, u64) {
+    let before = boxes_followed();
+    let result = work();
+    (result, boxes_followed() - before)
 }
 
 pub fn range(start: u64, end: u64) -> RangeInclusive {
     RangeInclusive::new(start, end).unwrap()
 }
 
-/// Does work on a value with one part replaced.
-pub fn with_part<T>(
-    value: &mut Value,
-    path: &str,
-    part: Value,
-    work: impl FnOnce(&Value) -> T,
-) -> T {
-    let old = std::mem::replace(value.pointer_mut(path).unwrap(), part);
-    let result = work(value);
-    *value.pointer_mut(path).unwrap() = old;
-    result
+/// Returns a space with 4 addresses allocated at each multiple of 16. Each range is followed by a gap.
+pub fn space(held: u64) -> AddressAllocator {
+    let mut space = AddressAllocator::new(Global, BASE, SIZE).unwrap();
+    for number in 0..held {
+        let policy = ExactMatch(BASE + 16 * number);
+        space.allocate(Global, 4, 1, policy).unwrap();
+    }
+    space
 }
 
-/// Returns the path to the last node in the value of an allocator.
-pub fn last_node(space: &Value) -> String {
-    let mut path = String::from("/interval_tree/root");
-    let mut right = &space["interval_tree"]["root"]["right"];
-    while !right.is_null() {
-        path += "/right";
-        right = &right["right"];
+/// Returns the freed ids of `ids`, which alternate with allocated ones.
+pub fn freed_ids(held: u64) -> impl Iterator<Item = u32> {
+    (0..held as u32).map(|number| FIRST_ID + 2 * number + 1)
+}
+
+pub fn ids(held: u64) -> IdAllocator {
+    let mut ids = IdAllocator::new(Global, FIRST_ID, LAST_ID).unwrap();
+    ids.allocate_ids(Global, 2 * held as usize).unwrap();
+    for id in freed_ids(held) {
+        ids.free_id(id).unwrap();
     }
-    path
+    ids
+}
+
+/// Returns a manager with the ids of `ids`, and a range of 4 addresses for each.
+pub fn manager(held: u64) -> DeviceManager {
+    let mut manager = DeviceManager::new(Global, FIRST_ID, LAST_ID, BASE, SIZE).unwrap();
+    for _ in 0..2 * held {
+        manager.reserve(Global, 4, 8, FirstMatch).unwrap();
+    }
+    for id in freed_ids(held) {
+        manager.release(id).unwrap();
+    }
+    manager
+}
+
+/// Returns a value with the part at this path damaged.
+pub fn damaged(mut value: Value, path: &str) -> Value {
+    *value.pointer_mut(path).unwrap() = Value::Null;
+    value
 }

@@ -1,9 +1,8 @@
 //! A change updates only the nodes near its block. So the number of boxes that it follows in addition
 //! to the nodes that it enters does not grow with the tree. The same is true for a walk that stops early.
-use crate::meter::cost;
-use crate::objects::range;
-use box_count::proved::vm_allocator::AddressAllocator;
+use crate::objects::{boxes, range};
 use box_count::proved::vm_allocator::AllocPolicy::ExactMatch;
+use box_count::proved::vm_allocator::{AddressAllocator, RangeInclusive};
 use box_count::rattle::Global;
 use std::fmt::Debug;
 
@@ -61,18 +60,20 @@ fn middle(height: u32) -> u64 {
 
 /// Makes a change. Returns the number of boxes that it follows in addition to the nodes that it enters.
 fn additional_boxes(space: &mut AddressAllocator, middle: u64, change: Change) -> u64 {
-    let (nodes, [_, boxes]) = cost(|| match change {
+    let key = |at| range(middle + at, middle + at + 16);
+    let ((succeeds, nodes), followed) = boxes(|| match change {
         Allocate(at, size) => {
             let policy = ExactMatch(middle + at);
-            let (result, nodes) = space.allocate_counted(Global, size, 1, policy);
-            result.map(|_| nodes).unwrap()
+            let (answer, nodes) = space.allocate_counted(Global, size, 1, policy);
+            (answer.is_ok(), nodes)
         }
         Free(at) => {
-            let (result, nodes) = space.free_counted(&range(middle + at, middle + at + 16));
-            result.map(|()| nodes).unwrap()
+            let (answer, nodes) = space.free_counted(&key(at));
+            (answer.is_ok(), nodes)
         }
     });
-    boxes - nodes
+    assert!(succeeds, "{change:?}");
+    followed - nodes
 }
 
 /// Checks that a number of boxes, without those of each level, is no greater in the high tree.
@@ -96,50 +97,79 @@ fn changes() {
     }
 }
 
-/// A walk descends once for each end of a tree, and once in each of two trees.
+/// A walk on two spaces, of which the second has no range at [`first`]. Returns whether its result is right.
+type Walk = fn(&AddressAllocator, &AddressAllocator) -> bool;
+
+/// The first allocated range.
+fn first() -> RangeInclusive {
+    range(16, 32)
+}
+
+/// A range that meets the first two allocated ranges.
+fn both() -> RangeInclusive {
+    range(32, 48)
+}
+
+/// A walk descends once for each end of a tree, and once in each of two trees. Numbers of the whole
+/// tree are stored in its root.
+const WALKS: [(&str, u64, Walk); 20] = [
+    ("==", 2, |a, b| a != b),
+    ("<", 2, |a, b| a < b),
+    ("cmp", 2, |a, b| a.cmp(b).is_lt()),
+    ("holds", 1, |a, _| a.holds(&first())),
+    ("not holds", 1, |_, b| !b.holds(&first())),
+    ("held_at", 1, |a, _| a.held_at(16).is_some()),
+    ("not held_at", 1, |_, b| b.held_at(16).is_none()),
+    ("gap_at", 1, |_, b| b.gap_at(16).is_some()),
+    ("not gap_at", 1, |a, _| a.gap_at(16).is_none()),
+    ("first range", 2, |a, _| a.held_ranges().next().is_some()),
+    ("last range", 2, |a, _| {
+        a.held_ranges().next_back().is_some()
+    }),
+    ("first gap", 2, |a, _| a.gaps().next().is_some()),
+    ("first range within", 2, |a, _| {
+        a.held_ranges_in(&both()).next() == Some(first())
+    }),
+    ("last range within", 2, |a, _| {
+        a.held_ranges_in(&both()).next_back() == Some(range(48, 64))
+    }),
+    ("first gap within", 2, |a, _| {
+        a.gaps_in(&both()).next() == Some(range(33, 47))
+    }),
+    ("no gap within", 2, |a, _| {
+        a.gaps_in(&first()).next().is_none()
+    }),
+    ("ends", 0, |a, _| a.base() < a.end()),
+    ("lengths", 0, |a, _| a.longest_gap() == 15 && a.height() > 0),
+    ("held", 0, |a, b| a.held_count() == b.held_count() + 1),
+    ("clear", 0, |a, b| a.clear_count() < b.clear_count()),
+];
+
 #[test]
 fn walks_that_stop_early() {
-    type Walk<'a> = &'a dyn Fn(&AddressAllocator, &AddressAllocator);
-    let key = range(16, 32);
-    let both = range(32, 48);
-    let walks: [(&str, u64, Walk); 17] = [
-        ("==", 2, &|a, b| assert!(a != b)),
-        ("<", 2, &|a, b| assert!(a < b)),
-        ("cmp", 2, &|a, b| assert!(a.cmp(b).is_lt())),
-        ("holds", 1, &|a, _| assert!(a.holds(&key))),
-        ("not holds", 1, &|_, b| assert!(!b.holds(&key))),
-        ("held_at", 1, &|a, _| assert!(a.held_at(16).is_some())),
-        ("not held_at", 1, &|_, b| assert!(b.held_at(16).is_none())),
-        ("gap_at", 1, &|_, b| assert!(b.gap_at(16).is_some())),
-        ("not gap_at", 1, &|a, _| assert!(a.gap_at(16).is_none())),
-        ("first range within", 2, &|a, _| {
-            assert_eq!(a.held_ranges_in(&both).next(), Some(key))
-        }),
-        ("last range within", 2, &|a, _| {
-            assert_eq!(a.held_ranges_in(&both).next_back(), Some(range(48, 64)))
-        }),
-        ("first gap within", 2, &|a, _| {
-            assert_eq!(a.gaps_in(&both).next(), Some(range(33, 47)))
-        }),
-        ("no gap within", 2, &|a, _| {
-            assert!(a.gaps_in(&key).next().is_none())
-        }),
-        ("first range", 2, &|a, _| {
-            assert!(a.held_ranges().next().is_some())
-        }),
-        ("last range", 2, &|a, _| {
-            assert!(a.held_ranges().next_back().is_some())
-        }),
-        ("first gap", 2, &|a, _| assert!(a.gaps().next().is_some())),
-        ("root", 0, &|a, _| {
-            assert!(a.base() < a.end() && a.longest_gap() == 15 && a.height() > 0)
-        }),
-    ];
-    for (name, paths, walk) in walks {
+    for (name, paths, walk) in WALKS {
         expect_same(&name, paths, |height| {
             let (space, mut other) = (full(height, false), full(height, false));
-            other.free(&key).unwrap();
-            cost(|| walk(&space, &other)).1[1]
+            other.free(&first()).unwrap();
+            let (is_true, followed) = boxes(|| walk(&space, &other));
+            assert!(is_true, "{name}");
+            followed
         });
+    }
+}
+
+/// A walk through a whole tree follows at most three boxes for each of its nodes.
+#[test]
+fn whole_walks() {
+    let walks: [(&str, Walk); 4] = [
+        ("gaps", |a, _| a.gaps().count() > 0),
+        ("held_ranges", |a, _| a.held_ranges().count() > 0),
+        ("==", |a, b| a == b),
+        ("cmp", |a, b| a.cmp(b).is_eq()),
+    ];
+    for (name, walk) in walks {
+        let (space, other) = (full(HIGH, false), full(HIGH, false));
+        let (is_true, followed) = boxes(|| walk(&space, &other));
+        assert!(is_true && followed <= 6 << HIGH, "{name}: {followed} boxes");
     }
 }
