@@ -1,101 +1,63 @@
 -- Devices pair all held ids with all held ranges if their number is right, each is held, and no two have the same range.
-use Rattle.std.proofs.Common.{◌≡◌, ◌≢◌, ℕ, List, [], ◌∷◌, length, refl, sym, ap, ◌∙◌, arith, inl, inr, subst, Option, Some, None, IsSome}
-use Rattle.std.proofs.lemmas.List.Elements.{All-nil, All-cons, Contains-get_or}
-use Rattle.std.proofs.lemmas.List.Kept.{AllPairs-cons}
-use Rattle.std.proofs.lemmas.Map.Entries.{length-keys_of, length-values_of}
-use Rattle.std.specs.Cmp.{nat_cmp_total}
-use Rattle.std.specs.List.{All, AllPairs, Contains}
-use Rattle.std.specs.Map.{keys_of, values_of}
+use Rattle.std.proofs.Common.{◌≡◌, ◌↔◌, ℕ, length, refl, sym, ◌∙◌, subst, Option, Some, None, IsSome}
+use Rattle.std.proofs.lemmas.List.{length-map}
+use Rattle.std.proofs.lemmas.List.Elements.{All-map}
+use Rattle.std.specs.List.{Contains}
 use Rattle.std.specs.Ordering.{nat_cmp}
 use Rattle.std.specs.FinMap as map
 use Rattle.vm_ranges.specs.Range.{Range}
 use Rattle.vm_engine.specs.Address.{AddressState, IsAddressState}
 use Rattle.vm_allocator.specs.Ids.{IdState, IsHeld, held_count}
 use Rattle.vm_allocator.proofs.Callers.{ranges_listed, ids_listed}
-use Rattle.vm_devices.specs.Devices.{DeviceState, IsDevice, ArePaired}
-use Rattle.vm_devices.proofs.Entries.{IsEntry, Rise, head_below, rest_increases, found_entry, entry_found, entry_of_id, entry_of_range, has_id, has_range, ids_differ}
+use Rattle.vm_devices.specs.Devices.{DeviceState, ArePaired}
+use Rattle.vm_devices.proofs.Entries.{entry_at, has_id, id_had, has_range, range_had, ids_differ, ranges_differ}
 
--- ---- Each device is held, and no two have the same range
--- The id and the range of each device are held.
-abbrev pub AreHeld : IdState → AddressState → List (ℕ × Range) → Type 0
-AreHeld ids space es = (id : ℕ) (r : Range) → IsEntry es id r → IsHeld ids id × Contains space.held r
+-- The id and the range of each device are held, and no two devices have the same range.
+pub record AreHeld (ids : IdState) (space : AddressState) (m : map.FinMap nat_cmp Range) : Type 0 where
+  pub held : (id : ℕ) (r : Range) → map.get m id ≡ Some r → IsHeld ids id × Contains space.held r
+  pub once : (i j : ℕ) (r : Range) → map.get m i ≡ Some r → map.get m j ≡ Some r → i ≡ j
 
--- No two devices have the same range.
-abbrev pub HaveOwnRanges : List (ℕ × Range) → Type 0
-HaveOwnRanges es = (i j : ℕ) (r : Range) → IsEntry es i r → IsEntry es j r → i ≡ j
+-- The number of devices is the number of held ids and of held ranges.
+pub record AreCounted (ids : IdState) (space : AddressState) (m : map.FinMap nat_cmp Range) : Type 0 where
+  pub ids_counted : map.len m ≡ held_count ids
+  pub ranges_counted : map.len m ≡ length space.held
 
--- The number of devices is the number of held ids and of held ranges, each is held, and no two have the same range.
-pub record AreAllHeld (ids : IdState) (space : AddressState) (es : List (ℕ × Range)) : Type 0 where
-  pub ids_counted : length es ≡ held_count ids
-  pub ranges_counted : length es ≡ length space.held
-  pub held : AreHeld ids space es
-  pub once : HaveOwnRanges es
+pub some_range : (o : Option Range) → IsSome o → (r : Range) × (o ≡ Some r)
+some_range None h = absurd (cc (h))
+some_range (Some r) h = (r, refl)
 
-module _ (ids : IdState) (space : AddressState) where
-  ids_held : (es : List (ℕ × Range)) → AreHeld ids space es → All (IsHeld ids) (keys_of es)
-  ids_held [] h = All-nil (IsHeld ids)
-  ids_held (e ∷ es) h = All-cons (IsHeld ids) e.0 (keys_of es) (h e.0 e.1 (inl refl)).0 (ids_held es (λ id r k. h id r (inr k)))
+module _ (state : DeviceState) (i : IsAddressState state.space) where
+  module _ (h : AreHeld state.ids state.space state.devices) where
+    counted_ids : (length (map.keys state.devices) ≡ held_count state.ids) ↔ ((id : ℕ) → IsHeld state.ids id → Contains (map.keys state.devices) id)
+    counted_ids =
+        ids_listed state.ids (map.keys state.devices) (ids_differ state.devices)
+        (All-map (IsHeld state.ids) (λ (e : ℕ × Range). e.0) (map.entries state.devices) (λ k e l. (h.held _ _ (entry_at state.devices k e l)).0))
 
-  ranges_held : (es : List (ℕ × Range)) → AreHeld ids space es → All (Contains space.held) (values_of es)
-  ranges_held [] h = All-nil (Contains space.held)
-  ranges_held (e ∷ es) h = All-cons (Contains space.held) e.1 (values_of es) (h e.0 e.1 (inl refl)).1 (ranges_held es (λ id r k. h id r (inr k)))
+    counted_ranges : (length (map.values state.devices) ≡ length state.space.held) ↔ ((r : Range) → Contains state.space.held r → Contains (map.values state.devices) r)
+    counted_ranges =
+        ranges_listed state.space (map.values state.devices) i (ranges_differ state.devices h.once)
+        (All-map (Contains state.space.held) (λ (e : ℕ × Range). e.1) (map.entries state.devices) (λ k e l. (h.held _ _ (entry_at state.devices k e l)).1))
 
-ranges_differ : (es : List (ℕ × Range)) → Rise es → HaveOwnRanges es → AllPairs (λ r s. r ≢ s) (values_of es)
-ranges_differ [] s own = λ i j d l m. absurd (omega (arith, m))
-ranges_differ (e ∷ es) s own =
-    AllPairs-cons (λ r s. r ≢ s) e.1 (values_of es)
-    (λ k b l same.
-    let c : Contains (values_of es) e.1 = subst (Contains (values_of es)) (sym same) (Contains-get_or (values_of es) k b l) in
-    let i = entry_of_range es e.1 c.0 c.1 c.2 in
-    let one : e.0 ≡ i.0 = own e.0 i.0 e.1 (inl refl) (inr i.1) in
-    omega (arith, one, head_below e es i.0 e.1 s i.1))
-    (ranges_differ es (rest_increases e es s) (λ i j r h k. own i j r (inr h) (inr k)))
+    pub pairs_all : AreCounted state.ids state.space state.devices → ArePaired state
+    pairs_all a =
+        let m = state.devices in
+        let each_id = counted_ids.0 (length-map (map.entries m) (λ (e : ℕ × Range). e.0) ∙ sym (map.len-entries m) ∙ a.ids_counted) in
+        let each_range = counted_ranges.0 (length-map (map.entries m) (λ (e : ℕ × Range). e.1) ∙ sym (map.len-entries m) ∙ a.ranges_counted) in
+        record {
+          ids = λ id. (λ k. id_had m id (each_id id k), λ k. let d = some_range (map.get m id) k in (h.held id d.0 d.1).0);
+          held = λ id r d. (h.held id r d).1;
+          owned = λ r c. range_had m r (each_range r c);
+          once = h.once;
+        }
 
--- ---- The pairs of a table
--- The entries of a map, as the devices of a state.
-module _ (state : DeviceState) (es : List (ℕ × Range)) (is : state.devices ≡ map.from_entries es) (s : Rise es) where
-  device_entry : (id : ℕ) (r : Range) → IsDevice state id r → IsEntry es id r
-  device_entry id r d =
-      found_entry es id r (sym (map.get-from_entries nat_cmp_total es id) ∙ ap (λ (m : map.FinMap nat_cmp Range). map.get m id) (sym is) ∙ d)
+  pub all_held : ArePaired state → AreHeld state.ids state.space state.devices
+  all_held p = record { held = λ id r d. ((p.ids id).1 (subst IsSome (sym d) refl), p.held id r d); once = p.once }
 
-  entry_device : (id : ℕ) (r : Range) → IsEntry es id r → IsDevice state id r
-  entry_device id r h =
-      ap (λ (m : map.FinMap nat_cmp Range). map.get m id) is ∙ map.get-from_entries nat_cmp_total es id ∙ entry_found es id r s h
-
-  some_device : (id : ℕ) → IsSome (map.get state.devices id) → (r : Range) × IsDevice state id r
-  some_device id h = of (map.get state.devices id) h where
-    of : (o : Option Range) → IsSome o → (r : Range) × (o ≡ Some r)
-    of None h = absurd (cc (h))
-    of (Some r) h = (r, refl)
-
-  pub pairs_all : IsAddressState state.space → AreAllHeld state.ids state.space es → ArePaired state
-  pairs_all i a =
-      let each_id = (ids_listed state.ids (keys_of es) (ids_differ es s) (ids_held state.ids state.space es a.held)).0 (length-keys_of es ∙ a.ids_counted) in
-      let differ = ranges_differ es s a.once in
-      let ranges = ranges_held state.ids state.space es a.held in
-      let each_range = (ranges_listed state.space (values_of es) i differ ranges).0 (length-values_of es ∙ a.ranges_counted) in
+  pub all_counted : ArePaired state → AreCounted state.ids state.space state.devices
+  all_counted p =
+      let m = state.devices in
       record {
-        ids = λ id. (
-          λ h. let c = each_id id h in let e = entry_of_id es id c.0 c.1 c.2 in subst IsSome (sym (entry_device id e.0 e.1)) refl,
-          λ h. let d = some_device id h in (a.held id d.0 (device_entry id d.0 d.1)).0,
-        );
-        held = λ id r d. (a.held id r (device_entry id r d)).1;
-        owned = λ r h. let c = each_range r h in let e = entry_of_range es r c.0 c.1 c.2 in (e.0, entry_device e.0 r e.1);
-        once = λ j k r d e. a.once j k r (device_entry j r d) (device_entry k r e);
-      }
-
-  pub all_paired : IsAddressState state.space → ArePaired state → AreAllHeld state.ids state.space es
-  all_paired i p =
-      let held : AreHeld state.ids state.space es = λ id r h.
-      let d = entry_device id r h in
-      ((p.ids id).1 (subst IsSome (sym d) refl), p.held id r d) in
-      let once : HaveOwnRanges es = λ j k r h l. p.once j k r (entry_device j r h) (entry_device k r l) in
-      let ranges = ranges_held state.ids state.space es held in
-      record {
-        ids_counted = sym (length-keys_of es) ∙ (ids_listed state.ids (keys_of es) (ids_differ es s) (ids_held state.ids state.space es held)).1
-            (λ id h. let d = some_device id ((p.ids id).0 h) in has_id es id d.0 (device_entry id d.0 d.1));
-        ranges_counted = sym (length-values_of es) ∙ (ranges_listed state.space (values_of es) i (ranges_differ es s once) ranges).1
-            (λ r h. let d = p.owned r h in has_range es d.0 r (device_entry d.0 r d.1));
-        held = held;
-        once = once;
+        ids_counted = map.len-entries m ∙ sym (length-map (map.entries m) (λ (e : ℕ × Range). e.0)) ∙ (counted_ids (all_held p)).1 (λ id h. has_id m id ((p.ids id).0 h));
+        ranges_counted = map.len-entries m ∙ sym (length-map (map.entries m) (λ (e : ℕ × Range). e.1)) ∙ (counted_ranges (all_held p)).1
+            (λ r h. let d = p.owned r h in has_range m d.0 r d.1);
       }

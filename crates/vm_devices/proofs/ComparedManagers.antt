@@ -14,7 +14,7 @@ use Rattle.vm_allocator.proofs.Callers.{id_state_cmp-Equal}
 use Rattle.vm_devices.specs.Devices.{DeviceState, IsDeviceState}
 use Rattle.vm_devices.specs.Queries.{entry_of, device_list, entry_cmp, device_state_cmp, device_state_cmp-total}
 use Rattle.vm_devices.specs.Checks.{HaveSameAllocators}
-use Rattle.vm_devices.proofs.DeviceLists.{entries_again}
+use Rattle.vm_devices.proofs.Entries.{entries_again}
 
 pub ruleset spaces = (one_state, equal_states)
 

@@ -1,6 +1,5 @@
 -- Facts of every history of a manager.
 use Rattle.std.proofs.Common.{◌≡◌, ◌≢◌, ℕ, ◌<◌, ◌⊎◌, List, [], ◌∷◌, suc, arith, sym, ap, ◌∙◌, inl, inr, ⊎_elim, subst, Some, None, Ok}
-use Rattle.std.proofs.lemmas.Bool.{cases_eq}
 use Rattle.std.specs.Ordering.{nat_cmp}
 use Rattle.std.specs.FinMap as map
 use Rattle.vm_ranges.specs.Range.{Range, MAX, Overlaps, Covers}
@@ -9,13 +8,12 @@ use Rattle.vm_engine.specs.Answer.{Allocates}
 use Rattle.vm_allocator.specs.Ids.{IsOfRange}
 use Rattle.vm_engine.proofs.Answers.AddressAnswers.{lie_apart}
 use Rattle.vm_allocator.proofs.Callers.{given, request_fits, request_inside}
-use Rattle.vm_devices.specs.declared.device_slot.DeviceSlot.{DeviceSlot}
 use Rattle.vm_devices.specs.Devices.{DeviceState, IsDevice, IsDeviceState}
 use Rattle.vm_ranges.proofs.CloneAnswers.{cloning_keeps}
 use Rattle.vm_devices.specs.Histories.{DeviceCall, Reservation, Release, Cloning, IsDeviceCallFrom, IsDeviceHistoryFrom, IsManagerMade, BeginsWithDevices, AreDevicesReached, WasReserved, WasThereFirst}
 use Rattle.vm_devices.specs.Laws.{DevicesAreValid}
-use Rattle.vm_devices.proofs.Tables.{with_here, with_other}
-use Rattle.vm_devices.proofs.Pairs.{one_range, was, id_held}
+use Rattle.vm_devices.proofs.Tables.{with_cases, without_is}
+use Rattle.vm_devices.proofs.Pairs.{id_held}
 use Rattle.vm_devices.proofs.NewManagers.{made_state}
 use Rattle.vm_devices.proofs.SavedManagers.{encoded_state}
 use Rattle.vm_devices.proofs.Reserving.{reserving_outcome, releasing_outcome, reserved_state, released_state}
@@ -53,26 +51,24 @@ call_reserves old new (Reservation request answer) calls id r h i d =
     (λ made.
     let slot = made.0 in
     let m = made.2 in
-    let now = subst (λ (s : DeviceState). IsDevice s id r) m.left d in
+    let space = holding slot.range old.space in
     ⊎_elim
-    (λ (e : id ≡ slot.id).
-    let same : r ≡ slot.range = one_range r slot.range _ (ap (map.get (map.insert old.devices slot.id slot.range)) (sym e) ∙ now) (with_here old.devices slot.id slot.range) in
-    let a = subst (λ (v : Range). Allocates old.space request (Ok v) (holding slot.range old.space)) (sym same) m.given in
-    let named : record { id = slot.id; range = slot.range } ≡ record { id = id; range = r } = cc (e, same) in
+    (λ same.
+    let a = subst (λ (v : Range). Allocates old.space request (Ok v) space) (sym same.1) m.given in
     inr (record {
       request = request;
-      call = (0, omega arith, ap (Reservation request) (made.1 ∙ ap (λ (s : DeviceSlot). Ok s) named));
-      aligned = (request_fits old.space (holding slot.range old.space) request (Ok r) a).1;
-      long = (given old.space (holding slot.range old.space) request r a).long;
-      inside = request_inside old.space (holding slot.range old.space) request (Ok r) a;
+      call = (0, omega arith, ap (Reservation request) (made.1 ∙ (λ k. Ok (record { id = sym same.0 k; range = sym same.1 k }))));
+      aligned = (request_fits old.space space request (Ok r) a).1;
+      long = (given old.space space request r a).long;
+      inside = request_inside old.space space request (Ok r) a;
     }))
-    (λ (ne : id ≡ slot.id → ⊥). inl (sym (with_other old.devices slot.id slot.range id ne) ∙ now))
-    (cases_eq id slot.id))
+    (λ before. inl before)
+    (with_cases old.devices slot.id slot.range id r (subst (λ (s : DeviceState). IsDevice s id r) m.left d)))
     (reserving_outcome old new request answer h)
 call_reserves old new (Release q answer) calls id r h i d =
     inl (⊎_elim
     (λ refused. subst (λ (s : DeviceState). IsDevice s id r) refused.2 d)
-    (λ left. was old q left.0 i left.1 id r (subst (λ (s : DeviceState). IsDevice s id r) left.3 d))
+    (λ left. (without_is old.devices q id r (subst (λ (s : DeviceState). IsDevice s id r) left.3 d)).1)
     (releasing_outcome old new q answer h))
 call_reserves old new (Cloning answer) calls id r h i d =
     inl (subst (λ (s : DeviceState). IsDevice s id r) (cloning_keeps old new answer h.0 h.1) d)

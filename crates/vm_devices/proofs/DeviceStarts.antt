@@ -2,6 +2,7 @@
 use Rattle.std.proofs.Common.{◌≡◌, ℕ, refl, sym, ap, ◌∙◌, arith, inl, inr, subst, Option, Some, None, IsSome, Ok}
 use Rattle.std.specs.List.{Contains}
 use Rattle.std.specs.FinMap as map
+use Rattle.vm_ranges.proofs.Steps.{map_some}
 use Rattle.vm_ranges.specs.Range.{Range, Overlaps}
 use Rattle.vm_ranges.specs.Request.{Request}
 use Rattle.vm_engine.specs.Address.{AddressState, IsAddressState}
@@ -9,8 +10,8 @@ use Rattle.vm_engine.specs.Answer.{Allocates}
 use Rattle.vm_allocator.specs.Ids.{IdState, IsHeld, IsLowestNotHeld, ByLowestNotHeld, PeeksId}
 use Rattle.vm_engine.proofs.Answers.AddressAnswers.{adds_range, state_is_preserved, lie_apart}
 use Rattle.vm_allocator.proofs.Callers.{range_was_free}
-use Rattle.vm_devices.specs.Devices.{DeviceState, IsDeviceState}
-use Rattle.vm_devices.specs.Checks.{StartsAt, IsNew}
+use Rattle.vm_devices.specs.Devices.{DeviceState, IsDevice, IsDeviceState}
+use Rattle.vm_devices.specs.Checks.{IsNew}
 
 -- Held ranges with the same start are the same range.
 pub one_start : (space : AddressState) → IsAddressState space → (q r : Range) → Contains space.held q → Contains space.held r → q.start ≡ r.start → q ≡ r
@@ -21,12 +22,9 @@ one_start space i q r c d e =
     let second = (l.inside r d).0 in
     l.apart q r c d (q.start, (omega arith, omega (arith, first)), (omega (arith, e), omega (arith, e, second)))
 
-pub devices_start_apart : (state : DeviceState) (j k start : ℕ) → IsDeviceState state → StartsAt state.devices j start → StartsAt state.devices k start → j ≡ k
-devices_start_apart state j k start i a b =
-    let first = i.pairs.held j a.range a.found in
-    let second = i.pairs.held k b.range b.found in
-    let one : a.range ≡ b.range = one_start state.space i.space a.range b.range first second (a.start_is ∙ sym b.start_is) in
-    i.pairs.once j k b.range (a.found ∙ ap Some one) b.found
+pub devices_start_apart : (state : DeviceState) (j k : ℕ) (q r : Range) → IsDeviceState state → IsDevice state j q → IsDevice state k r → q.start ≡ r.start → j ≡ k
+devices_start_apart state j k q r i a b e =
+    i.pairs.once j k r (a ∙ ap Some (one_start state.space i.space q r (i.pairs.held j q a) (i.pairs.held k r b) e)) b
 
 lowest_not_held : (ids : IdState) (id : ℕ) → PeeksId ids (Ok id) → ¬ IsHeld ids id
 unfolding PeeksId ByLowestNotHeld IsLowestNotHeld
@@ -38,9 +36,10 @@ pub new_device : (old : DeviceState) (mid : AddressState) (request : Request) (i
 new_device old mid request id r i p a = record {
   id_is_new = none (map.get old.devices id) refl;
   start_is_new = λ other h.
-      let held = i.pairs.held other h.range h.found in
+      let f = map_some (λ (q : Range). q.start) (map.get old.devices other) r.start h in
+      let held = i.pairs.held other f.0 f.1 in
       let added = adds_range old.space mid request r i.space a in
-      let one : h.range ≡ r = one_start mid (state_is_preserved.allocated old.space mid request (Ok r) i.space a) h.range r ((added.held h.range).1 (inl held)) ((added.held r).1 (inr refl)) h.start_is in
+      let one = one_start mid (state_is_preserved.allocated old.space mid request (Ok r) i.space a) f.0 r ((added.held f.0).1 (inl held)) ((added.held r).1 (inr refl)) f.2 in
       range_was_free old.space mid request r a (subst (Contains old.space.held) one held);
 } where
   none : (o : Option Range) → map.get old.devices id ≡ o → o ≡ None

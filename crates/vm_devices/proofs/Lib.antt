@@ -12,14 +12,11 @@ pub mod Entries
 pub mod AllHeld
 pub mod SavedDevices
 pub mod IncreasingIds
-pub mod ManagerFields
 pub mod SavedManagers
 pub mod WrittenManagers
 pub mod NestedManagers
 pub mod StartTables
 pub mod PairedDevices
-pub mod PushedDevices
-pub mod DeviceLists
 pub mod DeviceStarts
 pub mod ComparedManagers
 pub mod DeviceAtAddress

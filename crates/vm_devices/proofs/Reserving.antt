@@ -1,14 +1,14 @@
 -- The results of one call of a manager, case by case.
-use Rattle.std.proofs.Common.{◌≡◌, ℕ, refl, sym, inl, inr, ◌⊎◌, ⊎_elim, subst, Option, Some, None, MatchOption, Result, Ok, Err}
+use Rattle.std.proofs.Common.{◌≡◌, ℕ, ◌%◌, refl, sym, inl, inr, ◌⊎◌, ⊎_elim, subst, Option, Some, None, MatchOption, Result, Ok, Err, IfSome, IfOk, OnErr, OnOk}
 use Rattle.std.specs.FinMap as map
-use Rattle.vm_ranges.specs.Range.{Range}
+use Rattle.vm_ranges.specs.Range.{Range, Covers, address_count}
 use Rattle.vm_engine.specs.Address.{AddressState, holding}
 use Rattle.vm_ranges.specs.Request.{Request}
-use Rattle.vm_engine.specs.Answer.{Allocates}
+use Rattle.vm_engine.specs.Answer.{IsChosen, Allocates}
 use Rattle.vm_allocator.specs.Ids.{IsLowestNotHeld, ByLowestNotHeld, AllocatesId, holding_id}
 use Rattle.vm_ranges.specs.declared.error.Error.{Error}
 use Rattle.vm_ranges.specs.declared.error.Error.TheVariants.{NeverAllocated, OutOfMemory}
-use Rattle.vm_allocator.proofs.Callers.{given}
+use Rattle.vm_allocator.proofs.Callers.{given, allocated_chosen, request_fits, request_inside}
 use Rattle.vm_devices.specs.declared.device_slot.DeviceSlot.{DeviceSlot}
 use Rattle.vm_devices.specs.Devices.{DeviceState, IsDevice, IsDeviceState, with_device, without_device, Pairs, Reserves, Releases}
 use Rattle.vm_devices.proofs.Pairs.{state_with, state_without}
@@ -63,6 +63,34 @@ reserved_device old new request slot h =
     (λ d. let same : d.0 ≡ slot = cc (d.1) in subst (λ (s : DeviceSlot). IsReserved old request s new) same d.2)
     (reserving_outcome old new request (Ok slot) h)
 
+-- An error changes nothing, and a reserved device has these facts.
+module _ (old new : DeviceState) (request : Request) where
+  pub reserving_unchanged : (answer : Result DeviceSlot Error) → Reserves old request answer new → OnErr answer (new ≡ old)
+  reserving_unchanged answer h = ⊎_elim (λ r. rw r.1 r.2) (λ d. rw d.1 tt) (reserving_outcome old new request answer h)
+
+  pub device_lowest : (answer : Result DeviceSlot Error) → Reserves old request answer new → IfOk answer (λ slot. IsLowestNotHeld old.ids slot.id)
+  device_lowest (Ok slot) h = (reserved_device old new request slot h).lowest
+  device_lowest (Err e) h = tt
+
+  pub device_fits : (answer : Result DeviceSlot Error) → Reserves old request answer new →
+      IfOk answer (λ slot. (address_count slot.range ≡ request.size) × (slot.range.start % request.align ≡ 0))
+  device_fits (Ok slot) h = request_fits old.space _ request (Ok slot.range) (reserved_device old new request slot h).given
+  device_fits (Err e) h = tt
+
+  pub device_inside : (answer : Result DeviceSlot Error) → Reserves old request answer new → IfOk answer (λ slot. IfSome request.window (λ w. Covers w slot.range))
+  device_inside (Ok slot) h = request_inside old.space _ request (Ok slot.range) (reserved_device old new request slot h).given
+  device_inside (Err e) h = tt
+
+  pub device_chosen : (answer : Result DeviceSlot Error) → Reserves old request answer new → IfOk answer (λ slot. IsChosen request old.space slot.range.start)
+  device_chosen (Ok slot) h = allocated_chosen old.space _ request (Ok slot.range) (reserved_device old new request slot h).given
+  device_chosen (Err e) h = tt
+
+  pub device_held : (answer : Result DeviceSlot Error) → Reserves old request answer new → IfOk answer (λ slot. new ≡ with_device slot.id slot.range old)
+  device_held (Ok slot) h = (reserved_device old new request slot h).left
+  device_held (Err e) h = tt
+
+pub ruleset reservations = (reserving_unchanged, device_lowest, device_fits, device_inside, device_chosen, device_held)
+
 -- ---- A release
 -- Either an error that changes nothing, or a released device.
 abbrev pub IsRefusedOrReleased : DeviceState → ℕ → Result (Unit {0}) Error → DeviceState → Type 0
@@ -80,6 +108,15 @@ released_outcome old new id answer (Some r) e h =
 pub releasing_outcome : (old new : DeviceState) (id : ℕ) (answer : Result (Unit {0}) Error) → Releases old id answer new → IsRefusedOrReleased old id answer new
 unfolding Releases
 releasing_outcome old new id answer h = released_outcome old new id answer (map.get old.devices id) refl h
+
+-- A released device is removed, and nothing else changes.
+pub released_device : (old new : DeviceState) (id : ℕ) (answer : Result (Unit {0}) Error) → Releases old id answer new → OnOk answer ((r : Range) × IsDevice old id r × (new ≡ without_device id r old))
+released_device old new id (Ok u) h =
+    ⊎_elim
+    (λ r. absurd (cc (r.1)))
+    (λ k. (k.0, k.1, k.3))
+    (releasing_outcome old new id (Ok u) h)
+released_device old new id (Err e) h = tt
 
 -- ---- Each call preserves the pairs
 pub reserved_state : (old new : DeviceState) (request : Request) (answer : Result DeviceSlot Error) → IsDeviceState old → Reserves old request answer new → IsDeviceState new

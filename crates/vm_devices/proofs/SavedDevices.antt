@@ -24,8 +24,7 @@ use Rattle.vm_devices.specs.Listed.{entries_of, PushesDevice}
 use Rattle.vm_devices.specs.Queries.{entry_of}
 use Rattle.vm_devices.specs.Saved.{EncodesDevice, ReadsInParts}
 use Rattle.vm_devices.specs.SavedChecks.{decoded_device, EncodesDevices}
-use Rattle.vm_devices.proofs.Entries.{Rise}
-use Rattle.vm_devices.proofs.IncreasingIds.{none_rises, front_rises}
+use Rattle.vm_devices.proofs.IncreasingIds.{Sorted, none_rises, front_entries}
 
 -- ---- One device
 device-states : (d : Data) (e : ℕ × Range) → decoded_device d ≡ Some e → EncodesDevice d e
@@ -107,7 +106,7 @@ module _ (vs : List Value) (i : ℕ) (v : Value) (l : i < length vs) (e : v ≡ 
     push_refused (Violated c) new p = λ t.
         let front = front_encoded vs (i + 1) (entries_of t.0) t.1.encoded in
         let same : front.0 ≡ entries_of (devices ++ d ∷ []) = one_list (items_view (take (i + 1) vs)) front.0 (entries_of (devices ++ d ∷ [])) front.2 one_more in
-        p.2 (subst Rise same (front_rises front.0 front.1 (subst Rise front.3 t.1.increasing)))
+        p.2 (subst Sorted same (front_entries front.0 front.1 (subst Sorted front.3 t.1.increasing)))
     push_refused OutOfMemory new p = tt
 
 pub all_read : (vs : List Value) (i : ℕ) (devices : List DeviceSlot) → length vs ≤ i → AreReadSoFar vs i devices → EncodesDevices (items_view vs) devices

@@ -6,39 +6,29 @@ use Rattle.vm_ranges.specs.declared.saved.SavedError.{SavedError}
 use Rattle.vm_ranges.specs.declared.saved.SavedError.TheVariants.{Violated, OutOfMemory}
 use Rattle.vm_allocator.proofs.Callers.{keys_rise}
 use Rattle.vm_devices.specs.declared.device_slot.DeviceSlot.{DeviceSlot}
-use Rattle.vm_devices.specs.Devices.{DeviceState, ArePaired, IsDeviceState, devices_of}
+use Rattle.vm_devices.specs.Devices.{DeviceState, IsDeviceState, devices_of}
 use Rattle.vm_devices.specs.Laws.{WrittenManagersAreRead, EqualManagersHaveEqualParts}
-use Rattle.vm_devices.specs.Listed.{entries_of, HaveIncreasingIds, PushesDevice, listed_state, AreDevicesOf, MakesOfDevices}
+use Rattle.vm_devices.specs.Listed.{HaveIncreasingIds, PushesDevice, listed_state, AreDevicesOf, MakesOfDevices}
 use Rattle.vm_devices.specs.Queries.{device_list}
-use Rattle.vm_devices.proofs.DeviceLists.{entries_again}
-use Rattle.vm_devices.proofs.Entries.{Rise}
-use Rattle.vm_devices.proofs.IncreasingIds.{front_rises}
-use Rattle.vm_devices.proofs.PushedDevices.{entries_more}
-use Rattle.vm_devices.proofs.StartTables.{whole_map}
+use Rattle.vm_devices.proofs.Entries.{entries_again, whole_map}
+use Rattle.vm_devices.proofs.IncreasingIds.{Sorted, front_increases}
 
 list_increases : (state : DeviceState) → HaveIncreasingIds (device_list state)
-list_increases state = subst Rise (sym (entries_again (map.entries state.devices))) (keys_rise state.devices)
+list_increases state = subst Sorted (sym (entries_again (map.entries state.devices))) (keys_rise state.devices)
 
 same_state : (state : DeviceState) → listed_state state.ids state.space (device_list state) ≡ state
 same_state state =
-    let devices : map.from_entries (entries_of (device_list state)) ≡ state.devices =
-    ap (λ (es : List (ℕ × Range)). map.from_entries es) (entries_again (map.entries state.devices)) ∙ whole_map state.devices in
-    λ k. devices_of state.ids state.space (devices k)
+    ap (λ (es : List (ℕ × Range)). devices_of state.ids state.space (map.from_entries es)) (entries_again (map.entries state.devices))
+    ∙ ap (devices_of state.ids state.space) (whole_map state.devices)
 
 its_devices : (state : DeviceState) → IsDeviceState state → AreDevicesOf state.ids state.space (device_list state)
-its_devices state i = record { increasing = list_increases state; pairs = subst ArePaired (sym (same_state state)) i.pairs }
-
--- The devices up to any of them have increasing ids.
-front_increases : (state : DeviceState) (front rest : List DeviceSlot) (device : DeviceSlot) → device_list state ≡ front ++ device ∷ rest → HaveIncreasingIds (front ++ device ∷ [])
-front_increases state front rest device e =
-    let whole : device_list state ≡ (front ++ device ∷ []) ++ rest = e ∙ sym (append_assoc front (device ∷ []) rest) in
-    front_rises (entries_of (front ++ device ∷ [])) (entries_of rest)
-    (subst Rise (ap (λ (l : List DeviceSlot). entries_of l) whole ∙ entries_more (front ++ device ∷ []) rest) (list_increases state))
+its_devices state i = record { increasing = list_increases state; pairs = rw (same_state state) i.pairs }
 
 its_pushes : (state : DeviceState) (front rest : List DeviceSlot) (device : DeviceSlot) (answer : Result (Unit {0}) SavedError) (new : List DeviceSlot) → IsDeviceState state →
     device_list state ≡ front ++ device ∷ rest → PushesDevice front device answer new → (answer ≡ Ok tt) ⊎ (answer ≡ Err OutOfMemory)
 its_pushes state front rest device (Ok u) new i e p = inl refl
-its_pushes state front rest device (Err (Violated c)) new i e p = absurd (p.2 (front_increases state front rest device e))
+its_pushes state front rest device (Err (Violated c)) new i e p =
+    absurd (p.2 (front_increases (front ++ device ∷ []) rest (subst HaveIncreasingIds (e ∙ sym (append_assoc front (device ∷ []) rest)) (list_increases state))))
 its_pushes state front rest device (Err OutOfMemory) new i e p = inr refl
 
 its_answer : (state : DeviceState) (answer : Result DeviceState SavedError) → IsDeviceState state → MakesOfDevices 1 state.ids state.space (device_list state) answer →

@@ -2,7 +2,7 @@ use Rattle.std.proofs.Common.{◌≡◌, map as map_list, sym, ap, ◌∙◌, su
 use Rattle.std.specs.FinMap as map
 use Rattle.vm_devices.specs.Queries.{entry_of, device_list}
 use Rattle.vm_devices.specs.Saved.{EncodesList}
-use Rattle.vm_devices.proofs.DeviceLists.{entries_again}
+use Rattle.vm_devices.proofs.Entries.{entries_again}
 use Rattle.vm_devices.proofs.SavedManagers.{manager_written}
 use Rattle.vm_devices.proofs.device_manager.DeviceManager.to_value.Goals as goal
 

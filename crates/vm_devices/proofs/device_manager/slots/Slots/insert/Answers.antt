@@ -24,5 +24,5 @@ returns-clause-inserted c =
       | else-id-self w ↦ rw w.self-inside-is refl
     ] in
     let same = lower ∙ begun in
-    inserted_here first slots c.args.id c.args.range below within
+    inserted_here first slots c.args.id below within c.args.range
     ∙ ap (λ m. map.insert m c.args.id c.args.range) (same_slots first c.self.inside.first_id slots c.self.inside.ranges.items (c.in_ok-extend_to.ensures.entries first ∙ same) ∙ c.self.view_is)
