@@ -4,10 +4,10 @@ use Rattle.std.specs.Ordering.{nat_cmp}
 use Rattle.std.specs.FinMap as map
 use Rattle.vm_ranges.specs.Range.{Range, MAX, Overlaps, Covers}
 use Rattle.vm_engine.specs.Address.{holding}
-use Rattle.vm_engine.specs.Answer.{Allocates}
 use Rattle.vm_allocator.specs.Ids.{IsOfRange}
 use Rattle.vm_engine.proofs.Answers.AddressAnswers.{lie_apart}
-use Rattle.vm_allocator.proofs.Callers.{given, request_fits, request_inside}
+use Rattle.vm_allocator.proofs.Callers.{given}
+use Rattle.vm_devices.specs.declared.device_slot.DeviceSlot.{DeviceSlot}
 use Rattle.vm_devices.specs.Devices.{DeviceState, IsDevice, IsDeviceState}
 use Rattle.vm_ranges.proofs.CloneAnswers.{cloning_keeps}
 use Rattle.vm_devices.specs.Histories.{DeviceCall, Reservation, Release, Cloning, IsDeviceCallFrom, IsDeviceHistoryFrom, IsManagerMade, BeginsWithDevices, AreDevicesReached, WasReserved, WasThereFirst}
@@ -16,7 +16,7 @@ use Rattle.vm_devices.proofs.Tables.{with_cases, without_is}
 use Rattle.vm_devices.proofs.Pairs.{id_held}
 use Rattle.vm_devices.proofs.NewManagers.{made_state}
 use Rattle.vm_devices.proofs.SavedManagers.{encoded_state}
-use Rattle.vm_devices.proofs.Reserving.{reserving_outcome, releasing_outcome, reserved_state, released_state}
+use Rattle.vm_devices.proofs.Reserving.{IsReserved, reserving_outcome, releasing_outcome, reserved_state, released_state}
 
 -- ---- Every reached state is valid
 call_state : (old new : DeviceState) (call : DeviceCall) → IsDeviceCallFrom old call new → IsDeviceState old → IsDeviceState new
@@ -50,20 +50,19 @@ call_reserves old new (Reservation request answer) calls id r h i d =
     (λ refused. inl (subst (λ (s : DeviceState). IsDevice s id r) refused.2 d))
     (λ made.
     let slot = made.0 in
-    let m = made.2 in
-    let space = holding slot.range old.space in
     ⊎_elim
     (λ same.
-    let a = subst (λ (v : Range). Allocates old.space request (Ok v) space) (sym same.1) m.given in
+    let is : slot ≡ record { id = id; range = r } = λ k. record { id = sym same.0 k; range = sym same.1 k } in
+    let m = subst (λ (s : DeviceSlot). IsReserved old request s new) is made.2 in
     inr (record {
       request = request;
-      call = (0, omega arith, ap (Reservation request) (made.1 ∙ (λ k. Ok (record { id = sym same.0 k; range = sym same.1 k }))));
-      aligned = (request_fits old.space space request (Ok r) a).1;
-      long = (given old.space space request r a).long;
-      inside = request_inside old.space space request (Ok r) a;
+      call = (0, omega arith, ap (Reservation request) (made.1 ∙ ap (λ (s : DeviceSlot). Ok s) is));
+      aligned = m.fits.1;
+      long = (given old.space (holding r old.space) request r m.given).long;
+      inside = m.inside;
     }))
     (λ before. inl before)
-    (with_cases old.devices slot.id slot.range id r (subst (λ (s : DeviceState). IsDevice s id r) m.left d)))
+    (with_cases old.devices slot.id slot.range id r (subst (λ (s : DeviceState). IsDevice s id r) made.2.left d)))
     (reserving_outcome old new request answer h)
 call_reserves old new (Release q answer) calls id r h i d =
     inl (⊎_elim

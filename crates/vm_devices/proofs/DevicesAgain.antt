@@ -25,21 +25,14 @@ use Rattle.vm_devices.proofs.Reserving.{reserved_device}
 device_released : (old new : DeviceState) (id : ℕ) (r : Range) (answer : Result (Unit {0}) Error) → IsDevice old id r → Releases old id answer new →
     answer ≢ Err OutOfMemory → new ≡ without_device id r old
 unfolding Releases
-device_released old new id r answer d h plain =
-    let P : Option Range → Type 0 = λ at.
-    MatchOption at ((answer ≡ Err (NeverAllocated id)) × (new ≡ old))
-    (λ r. ((answer ≡ Ok tt) × (new ≡ without_device id r old)) ⊎ ((answer ≡ Err OutOfMemory) × (new ≡ old))) in
-    ⊎_elim (λ t. t.1) (λ m. absurd (plain m.0)) (subst P d h)
+device_released old new id r answer d h plain = ⊎_elim (λ t. t.1) (λ m. absurd (plain m.0)) (rw d at h)
 
 -- The result of a reservation, if its request gets the range or its split fails.
 told : (old new : DeviceState) (id : ℕ) (given : Result Range Error) (answer : Result DeviceSlot Error) (r : Range) →
     Pairs old id given answer new → (given ≡ Ok r) ⊎ IsSplitRefusal old.space given → (answer ≡ Ok (record { id = id; range = r })) ⊎ IsLimit old answer
-told old new id given answer r p (inl e) =
-    ⊎_elim (λ t. inl t.0) (λ m. inr (inl m.0)) (subst (λ (g : Result Range Error). Pairs old id g answer new) e p)
-told old new id given answer r p (inr (inl e)) =
-    inr (inl (subst (λ (g : Result Range Error). Pairs old id g answer new) e p).0)
-told old new id given answer r p (inr (inr e)) =
-    inr (inr (e.0, (subst (λ (g : Result Range Error). Pairs old id g answer new) e.1 p).0))
+told old new id given answer r p (inl e) = ⊎_elim (λ t. inl t.0) (λ m. inr (inl m.0)) (rw e at p)
+told old new id given answer r p (inr (inl e)) = inr (inl (rw e at p).0)
+told old new id given answer r p (inr (inr e)) = inr (inr (e.0, (rw e.1 at p).0))
 
 -- ---- The same request
 -- The id that was allocated and freed is the lowest again.

@@ -14,20 +14,20 @@ use Rattle.vm_devices.specs.Devices.{DeviceState, IsDevice, IsDeviceState, with_
 use Rattle.vm_devices.proofs.Pairs.{state_with, state_without}
 
 -- ---- A reservation
--- A reserved device has the lowest id that was not held, and the range that the request allocates.
+-- A reserved device has the lowest id that was not held, and a range that the request allocates: as long as asked,
+-- aligned and in the window, at the place that the policy chooses.
 pub record IsReserved (old : DeviceState) (request : Request) (slot : DeviceSlot) (new : DeviceState) : Type 0 where
   pub lowest : IsLowestNotHeld old.ids slot.id
   pub given : Allocates old.space request (Ok slot.range) (holding slot.range old.space)
   pub left : new ≡ with_device slot.id slot.range old
+  pub fits : (address_count slot.range ≡ request.size) × (slot.range.start % request.align ≡ 0)
+  pub inside : IfSome request.window (λ w. Covers w slot.range)
+  pub chosen : IsChosen request old.space slot.range.start
 
 -- The lowest id that is not held is the id that is allocated.
 gets_lowest : (old : DeviceState) (id : ℕ) → IsLowestNotHeld old.ids id → AllocatesId old.ids (Ok id) (holding_id id old.ids)
 unfolding AllocatesId ByLowestNotHeld
 gets_lowest old id lowest = inl (id, lowest, (refl, refl))
-
--- The state after a range is allocated.
-given_holding : (old new : AddressState) (request : Request) (r : Range) → Allocates old request (Ok r) new → Allocates old request (Ok r) (holding r old)
-given_holding old new request r a = subst (Allocates old request (Ok r)) (given old new request r a).left a
 
 -- Either an error that changes nothing, or a reserved device.
 abbrev pub IsRefusedOrReserved : DeviceState → Request → Result DeviceSlot Error → DeviceState → Type 0
@@ -44,7 +44,14 @@ paired_outcome old new space request id (Ok r) answer lowest a p =
     inr (
       record { id = id; range = r },
       t.0,
-      record { lowest = lowest; given = given_holding old.space space request r a; left = t.1 },
+      record {
+        lowest = lowest;
+        given = subst (Allocates old.space request (Ok r)) (given old.space space request r a).left a;
+        left = t.1;
+        fits = request_fits old.space space request (Ok r) a;
+        inside = request_inside old.space space request (Ok r) a;
+        chosen = allocated_chosen old.space space request (Ok r) a;
+      },
     ))
     (λ m. inl (OutOfMemory, m.0, m.1))
     p
@@ -63,33 +70,10 @@ reserved_device old new request slot h =
     (λ d. let same : d.0 ≡ slot = cc (d.1) in subst (λ (s : DeviceSlot). IsReserved old request s new) same d.2)
     (reserving_outcome old new request (Ok slot) h)
 
--- An error changes nothing, and a reserved device has these facts.
-module _ (old new : DeviceState) (request : Request) where
-  pub reserving_unchanged : (answer : Result DeviceSlot Error) → Reserves old request answer new → OnErr answer (new ≡ old)
-  reserving_unchanged answer h = ⊎_elim (λ r. rw r.1 r.2) (λ d. rw d.1 tt) (reserving_outcome old new request answer h)
+pub reserving_unchanged : (old new : DeviceState) (request : Request) (e : Error) → Reserves old request (Err e) new → new ≡ old
+reserving_unchanged old new request e h = ⊎_elim (λ r. r.2) (λ d. absurd (cc (d.1))) (reserving_outcome old new request (Err e) h)
 
-  pub device_lowest : (answer : Result DeviceSlot Error) → Reserves old request answer new → IfOk answer (λ slot. IsLowestNotHeld old.ids slot.id)
-  device_lowest (Ok slot) h = (reserved_device old new request slot h).lowest
-  device_lowest (Err e) h = tt
-
-  pub device_fits : (answer : Result DeviceSlot Error) → Reserves old request answer new →
-      IfOk answer (λ slot. (address_count slot.range ≡ request.size) × (slot.range.start % request.align ≡ 0))
-  device_fits (Ok slot) h = request_fits old.space _ request (Ok slot.range) (reserved_device old new request slot h).given
-  device_fits (Err e) h = tt
-
-  pub device_inside : (answer : Result DeviceSlot Error) → Reserves old request answer new → IfOk answer (λ slot. IfSome request.window (λ w. Covers w slot.range))
-  device_inside (Ok slot) h = request_inside old.space _ request (Ok slot.range) (reserved_device old new request slot h).given
-  device_inside (Err e) h = tt
-
-  pub device_chosen : (answer : Result DeviceSlot Error) → Reserves old request answer new → IfOk answer (λ slot. IsChosen request old.space slot.range.start)
-  device_chosen (Ok slot) h = allocated_chosen old.space _ request (Ok slot.range) (reserved_device old new request slot h).given
-  device_chosen (Err e) h = tt
-
-  pub device_held : (answer : Result DeviceSlot Error) → Reserves old request answer new → IfOk answer (λ slot. new ≡ with_device slot.id slot.range old)
-  device_held (Ok slot) h = (reserved_device old new request slot h).left
-  device_held (Err e) h = tt
-
-pub ruleset reservations = (reserving_unchanged, device_lowest, device_fits, device_inside, device_chosen, device_held)
+pub ruleset reservations = (reserved_device, reserving_unchanged)
 
 -- ---- A release
 -- Either an error that changes nothing, or a released device.
