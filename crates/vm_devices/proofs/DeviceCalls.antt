@@ -60,21 +60,30 @@ request_refused old request id e p m = id_peeked old old request id old.space (E
 
 pub ruleset reserves = (id_refused, request_refused, constraint_made)
 
--- A range is allocated, and the predicted id and the range are entered.
-pub entered : (old : DeviceState) (request : Request) (id : ℕ) (r : Range) (ids : IdState) (space : AddressState) (slots : map.FinMap nat_cmp Range) (taken : Result ℕ Error) →
-    IsDeviceState old → PeeksId old.ids (Ok id) → Allocates old.space request (Ok r) space → slots ≡ map.insert old.devices id r → AllocatesId old.ids taken ids →
-    IsDeviceState (devices_of ids space slots) × Reserves old request (Ok (record { id = id; range = r })) (devices_of ids space slots)
-entered old request id r ids space slots taken i p a e t =
-    let made : Reserves old request (Ok (record { id = id; range = r })) (devices_of ids space slots) =
-    id_peeked old (devices_of ids space slots) request id space (Ok r) _ p a (inl (refl, cc ((peeking_predicts.held old.ids ids id taken p t).1, (given old.space space request r a).left, e))) in
-    (reserved_state old _ request _ i made, made)
+module _ (old : DeviceState) (request : Request) (id : ℕ) (r : Range) (mid : AddressState) (i : IsDeviceState old) (p : PeeksId old.ids (Ok id))
+    (a : Allocates old.space request (Ok r) mid) (ids : IdState) (space : AddressState) (slots : map.FinMap nat_cmp Range) where
+  -- The predicted id and the range are entered.
+  module _ (taken : Result ℕ Error) (t : AllocatesId old.ids taken ids) (f : space ≡ mid) (e : slots ≡ map.insert old.devices id r) where
+    pub entered : Reserves old request (Ok (record { id = id; range = r })) (devices_of ids space slots)
+    entered =
+        id_peeked old (devices_of ids space slots) request id mid (Ok r) _ p a
+        (inl (refl, cc ((peeking_predicts.held old.ids ids id taken p t).1, (given old.space mid request r a).left, e, f)))
 
--- A range is allocated and freed again.
-pub undone : (old : DeviceState) (request : Request) (id : ℕ) (r : Range) (mid space : AddressState) (slots : map.FinMap nat_cmp Range) (answer : Result (Unit {0}) Error) →
-    IsDeviceState old → PeeksId old.ids (Ok id) → Allocates old.space request (Ok r) mid → Frees mid r answer space → slots ≡ old.devices →
-    IsDeviceState (devices_of old.ids space slots) × Reserves old request (Err OutOfMemory) (devices_of old.ids space slots)
-undone old request id r mid space slots answer i p a f e =
-    rw ((freeing_undoes old.space mid space request r answer i.space a f).1, e) (i, id_peeked old old request id mid (Ok r) _ p a (inr (refl, refl)))
+    pub entered_state : IsDeviceState (devices_of ids space slots)
+    entered_state = reserved_state old _ request _ i entered
+
+  -- The range is freed again.
+  module _ (answer : Result (Unit {0}) Error) (f : Frees mid r answer space) (e : slots ≡ old.devices) (same : ids ≡ old.ids) where
+    left_as_it_was : devices_of ids space slots ≡ old
+    left_as_it_was = rw (same, (freeing_undoes old.space mid space request r answer i.space a f).1, e) refl
+
+    pub undone : Reserves old request (Err OutOfMemory) (devices_of ids space slots)
+    undone = id_peeked old (devices_of ids space slots) request id mid (Ok r) _ p a (inr (refl, left_as_it_was))
+
+    pub undone_state : IsDeviceState (devices_of ids space slots)
+    undone_state = rw left_as_it_was i
+
+pub ruleset enters = (entered)
 
 -- ---- Releasing
 pub no_device : (old new : DeviceState) (id : ℕ) → map.get old.devices id ≡ None → new ≡ old → Releases old id (Err (NeverAllocated id)) new

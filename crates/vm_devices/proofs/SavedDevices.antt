@@ -82,9 +82,6 @@ some_device (w ∷ vs) (suc i) v (e ∷ es) l s = some_device vs i v es (omega (
 abbrev pub AreReadSoFar : List Value → ℕ → List DeviceSlot → Type 0
 AreReadSoFar vs i devices = EncodesDevices (items_view (take i vs)) devices
 
-pub none_read : (vs : List Value) (devices : List DeviceSlot) → devices ≡ [] → AreReadSoFar vs 0 devices
-none_read vs devices e = rw e (record { encoded = tt; increasing = none_rises })
-
 module _ (vs : List Value) (i : ℕ) (v : Value) (l : i < length vs) (e : v ≡ get_or vs i v) where
   pub no_device : decoded_device (view v) ≡ None → ¬ ((all : List DeviceSlot) × EncodesDevices (items_view vs) all)
   no_device none s =
@@ -108,6 +105,3 @@ module _ (vs : List Value) (i : ℕ) (v : Value) (l : i < length vs) (e : v ≡ 
         let same : front.0 ≡ entries_of (devices ++ d ∷ []) = one_list (items_view (take (i + 1) vs)) front.0 (entries_of (devices ++ d ∷ [])) front.2 one_more in
         p.2 (subst Sorted same (front_entries front.0 front.1 (subst Sorted front.3 t.1.increasing)))
     push_refused OutOfMemory new p = tt
-
-pub all_read : (vs : List Value) (i : ℕ) (devices : List DeviceSlot) → length vs ≤ i → AreReadSoFar vs i devices → EncodesDevices (items_view vs) devices
-all_read vs i devices l s = subst (λ (ws : List Value). EncodesDevices (items_view ws) devices) (take_all i vs l) s

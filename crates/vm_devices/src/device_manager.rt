@@ -219,6 +219,7 @@ impl DeviceManager {
     }
 
     /// Makes a device of the lowest free id and of a range for the request. An error changes nothing.
+    #[tactic(auto, using(crate::proofs::DeviceCalls::enters))]
     fn reserve_range(&mut self, alloc: Global, id: u32, request: Constraint) -> Result<DeviceSlot>
         requires { PeeksId self.old.ids (Ok id) }
         ensures answer { Reserves self.old request result self.new }

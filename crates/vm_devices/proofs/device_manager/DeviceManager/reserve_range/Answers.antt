@@ -2,15 +2,16 @@ use Rattle.std.proofs.Common.{◌≡◌, ap, ◌∙◌, refl, Err, rules}
 use Rattle.vm_ranges.specs.declared.error.Error.TheVariants.{OutOfMemory}
 use Rattle.vm_allocator.specs.Allocator.{state_of}
 use Rattle.vm_devices.specs.Devices.{devices_of}
-use Rattle.vm_devices.proofs.DeviceCalls.{id_peeked, entered, undone}
+use Rattle.vm_devices.proofs.DeviceCalls.{id_peeked, entered_state, undone, undone_state}
 use Rattle.vm_devices.proofs.DeviceStarts.{new_device}
 use Rattle.vm_devices.proofs.device_manager.DeviceManager.reserve_range.Goals as goal
 
 pub returns-in_err-range-clause-answer : goal.returns-in_err-range-clause-answer
 returns-in_err-range-clause-answer c =
-    let is : c.from_residual.result ≡ Err c.in_err-range.field-0.0 = search rules in
+    let e = c.in_err-range.field-0.0 in
+    let is : c.from_residual.result ≡ Err e = search rules in
     let same = ap (λ a. devices_of c.self.inside.id_allocator (state_of a) c.self.inside.slots) c.in_err-range.ensures.unchanged in
-    rw is (id_peeked _ _ c.args.request c.args.id (state_of c.allocate_constraint.new.self) (Err c.in_err-range.field-0.0) _ c.requires (rw (← c.self.view_is) c.in_err-range.ensures.answer) (refl, same ∙ c.self.view_is))
+    rw is (id_peeked _ _ c.args.request c.args.id (state_of c.allocate_constraint.new.self) (Err e) _ c.requires (rw (← c.self.view_is) c.in_err-range.ensures.answer) (refl, same ∙ c.self.view_is))
 
 pub insert-requires : goal.insert-requires
 insert-requires c =
@@ -18,25 +19,23 @@ insert-requires c =
 
 pub invariant_of-self-in-Err : goal.invariant_of-self-in-Err
 invariant_of-self-in-Err c =
-    (undone _ c.args.request c.args.id c.in_ok-range.range _ _ _ c.free.result c.self.invariant (rw (← c.self.view_is) at c.requires) c.in_ok-range.ensures.answer c.free.ensures.answer c.in-Err.ensures.err).0
+    undone_state _ c.args.request c.args.id c.in_ok-range.range _ c.self.invariant (rw (← c.self.view_is) at c.requires) c.in_ok-range.ensures.answer _ _ _ c.free.result
+    c.free.ensures.answer c.in-Err.ensures.err refl
 
 pub returns-in-Err-clause-answer : goal.returns-in-Err-clause-answer
 returns-in-Err-clause-answer c =
     let is : c.into.result ≡ OutOfMemory = search rules in
     rw (← c.self.view_is, is)
-    (undone _ c.args.request c.args.id c.in_ok-range.range _ _ _ c.free.result c.self.invariant (rw (← c.self.view_is) at c.requires) c.in_ok-range.ensures.answer c.free.ensures.answer c.in-Err.ensures.err).1
+    (undone _ c.args.request c.args.id c.in_ok-range.range _ c.self.invariant (rw (← c.self.view_is) at c.requires) c.in_ok-range.ensures.answer _ _ _ c.free.result
+    c.free.ensures.answer c.in-Err.ensures.err refl)
 
 pub returns-in-Err-clause-state : goal.returns-in-Err-clause-state
 returns-in-Err-clause-state c = invariant_of-self-in-Err c
 
 pub invariant_of-self-2 : goal.invariant_of-self-2
 invariant_of-self-2 c =
-    (entered _ c.args.request c.args.id c.in_ok-range.range _ _ _ c.allocate_id.result c.self.invariant (rw (← c.self.view_is) at c.requires) c.in_ok-range.ensures.answer c.in_default.ensures.inserted c.allocate_id.ensures.answer).0
-
-pub returns-clause-answer : goal.returns-clause-answer
-returns-clause-answer c =
-    rw (← c.self.view_is)
-    (entered _ c.args.request c.args.id c.in_ok-range.range _ _ _ c.allocate_id.result c.self.invariant (rw (← c.self.view_is) at c.requires) c.in_ok-range.ensures.answer c.in_default.ensures.inserted c.allocate_id.ensures.answer).1
+    entered_state _ c.args.request c.args.id c.in_ok-range.range _ c.self.invariant (rw (← c.self.view_is) at c.requires) c.in_ok-range.ensures.answer _ _ _ c.allocate_id.result
+    c.allocate_id.ensures.answer refl c.in_default.ensures.inserted
 
 pub returns-clause-state : goal.returns-clause-state
 returns-clause-state c = invariant_of-self-2 c
