@@ -9,7 +9,7 @@ use Rattle.vm_allocator.proofs.Callers.{allocated_apart}
 use Rattle.vm_devices.specs.declared.device_slot.DeviceSlot.{DeviceSlot}
 use Rattle.vm_devices.specs.Devices.{DeviceState, IsDevice, IsDeviceState, Reserves, Releases}
 use Rattle.vm_devices.proofs.DevicesAgain.{reserved_again}
-use Rattle.vm_devices.proofs.Reserving.{reserved_device}
+use Rattle.vm_devices.proofs.DeviceCalls.{reserved_device}
 use Rattle.vm_devices.proofs.Tables.{with_here}
 -- A saved manager survives its text.
 pub use Rattle.vm_devices.proofs.NestedManagers.{manager_through_text}

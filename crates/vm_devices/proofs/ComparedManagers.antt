@@ -14,7 +14,7 @@ use Rattle.vm_allocator.proofs.Callers.{id_state_cmp-Equal}
 use Rattle.vm_devices.specs.Devices.{DeviceState, IsDeviceState}
 use Rattle.vm_devices.specs.Queries.{entry_of, device_list, entry_cmp, device_state_cmp, device_state_cmp-total}
 use Rattle.vm_devices.specs.Checks.{HaveSameAllocators}
-use Rattle.vm_devices.proofs.Entries.{entries_again}
+use Rattle.vm_devices.proofs.WrittenManagers.{equal_parts}
 
 pub ruleset spaces = (one_state, equal_states)
 
@@ -27,9 +27,6 @@ entry_cmp-exact x y h =
     λ i. (id i, range i)
 
 -- ---- States
-same_devices : (a b : map.FinMap nat_cmp Range) → map.entries a ≡ map.entries b → a ≡ b
-same_devices a b e = map.same_entries_map a b e
-
 -- The order returns Equal exactly if both states are the same.
 device_state_cmp-Equal : (a b : DeviceState) → IsDeviceState a → IsDeviceState b → (device_state_cmp a b ≡ Equal) ↔ (a ≡ b)
 device_state_cmp-Equal a b s t = (
@@ -38,7 +35,7 @@ device_state_cmp-Equal a b s t = (
       let q = both_equal _ _ p.1 in
       let ids = (id_state_cmp-Equal a.ids b.ids s.ids t.ids).0 p.0 in
       let space = one_state a.space b.space ((state_cmp-Equal a.space b.space).0 q.0) in
-      let devices = same_devices a.devices b.devices (slice_cmp-IsAntisymmetric entry_cmp-exact (map.entries a.devices) (map.entries b.devices) q.1) in
+      let devices = map.same_entries_map a.devices b.devices (slice_cmp-IsAntisymmetric entry_cmp-exact (map.entries a.devices) (map.entries b.devices) q.1) in
       λ i. record { ids = ids i; space = space i; devices = devices i },
   λ e. ap (device_state_cmp a) (sym e) ∙ tied_itself device_state_cmp-total a,
 )
@@ -51,10 +48,4 @@ tested_by_order a b r s t h =
 
 -- With equal allocators, the devices decide.
 pub tested : (s t : DeviceState) (r : Bool) → HaveSameAllocators s t → IsTrue r ↔ (device_list s ≡ device_list t) → IsTrue r ↔ (s ≡ t)
-tested s t r h k = (
-  λ v.
-      let listed = sym (entries_again (map.entries s.devices)) ∙ ap (map_list entry_of) (k.0 v) ∙ entries_again (map.entries t.devices) in
-      let devices = same_devices s.devices t.devices listed in
-      λ i. record { ids = h.0 i; space = h.1 i; devices = devices i },
-  λ e. k.1 (ap device_list e),
-)
+tested s t r h k = (λ v. (equal_parts s t).1 (h.0, h.1, k.0 v), λ e. k.1 (ap device_list e))

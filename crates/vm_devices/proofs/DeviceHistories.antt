@@ -16,7 +16,7 @@ use Rattle.vm_devices.proofs.Tables.{with_cases, without_is}
 use Rattle.vm_devices.proofs.Pairs.{id_held}
 use Rattle.vm_devices.proofs.NewManagers.{made_state}
 use Rattle.vm_devices.proofs.SavedManagers.{encoded_state}
-use Rattle.vm_devices.proofs.Reserving.{IsReserved, reserving_outcome, releasing_outcome, reserved_state, released_state}
+use Rattle.vm_devices.proofs.DeviceCalls.{IsReserved, reserving_outcome, releasing_outcome, reserved_state, released_state}
 
 -- ---- Every reached state is valid
 call_state : (old new : DeviceState) (call : DeviceCall) → IsDeviceCallFrom old call new → IsDeviceState old → IsDeviceState new

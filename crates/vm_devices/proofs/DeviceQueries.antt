@@ -1,6 +1,7 @@
 -- The devices as a list, and the device at an address.
 use Rattle.std.proofs.Common.{◌≡◌, ℕ, List, [], ◌∷◌, map as map_list, refl, sym, ap, ◌∙◌, subst, Some, None}
 use Rattle.std.proofs.lemmas.List.{length-map}
+use Rattle.std.proofs.lemmas.Simd.{map-map}
 use Rattle.std.specs.List.{Contains}
 use Rattle.std.specs.Map.{keys_of, values_of}
 use Rattle.std.specs.FinMap as map
@@ -13,21 +14,12 @@ use Rattle.vm_devices.specs.declared.device_slot.DeviceSlot.{DeviceSlot}
 use Rattle.vm_devices.specs.Devices.{DeviceState, IsDeviceState}
 use Rattle.vm_devices.specs.Laws.{DevicesAreListed, DeviceIsAtItsAddresses}
 use Rattle.vm_devices.specs.Queries.{device_of, device_list, DeviceAt}
-use Rattle.vm_devices.proofs.AllHeld.{all_counted}
-use Rattle.vm_devices.proofs.Entries.{has_range, range_had}
+use Rattle.vm_devices.proofs.Entries.{all_counted, has_range, range_had}
 
 -- ---- The list
-ids_of_devices : (es : List (ℕ × Range)) → map_list (λ (device : DeviceSlot). device.id) (map_list device_of es) ≡ keys_of es
-ids_of_devices [] = refl
-ids_of_devices (e ∷ es) = ap (λ (is : List ℕ). e.0 ∷ is) (ids_of_devices es)
-
-ranges_of_devices : (es : List (ℕ × Range)) → map_list (λ (device : DeviceSlot). device.range) (map_list device_of es) ≡ values_of es
-ranges_of_devices [] = refl
-ranges_of_devices (e ∷ es) = ap (λ (rs : List Range). e.1 ∷ rs) (ranges_of_devices es)
-
 listed_ids : (state : DeviceState) → IsDeviceState state → map_list (λ (device : DeviceSlot). device.id) (device_list state) ≡ held_ids state.ids
 listed_ids state i =
-    ids_of_devices (map.entries state.devices)
+    map-map (λ (device : DeviceSlot). device.id) device_of (map.entries state.devices)
     ∙ same_rising (map.keys state.devices) (held_ids state.ids) (keys_rise state.devices) (listed_held.increasing state.ids) (λ q.
     same_test _ _
     (λ t. in_held_ids state.ids i.ids q ∙ (i.pairs.ids q).1 (map.contains_key-keys state.devices q ∙ t))
@@ -37,10 +29,10 @@ pub devices_listed : DevicesAreListed
 devices_listed = record {
   ids = listed_ids;
   ranges = λ state r i. (
-    λ c. let d = range_had state.devices r (subst (λ (rs : List Range). Contains rs r) (ranges_of_devices (map.entries state.devices)) c) in i.pairs.held d.0 r d.1,
+    λ c. let d = range_had state.devices r (subst (λ (rs : List Range). Contains rs r) (map-map (λ (device : DeviceSlot). device.range) device_of (map.entries state.devices)) c) in i.pairs.held d.0 r d.1,
     λ c.
         let d = i.pairs.owned r c in
-        subst (λ (rs : List Range). Contains rs r) (sym (ranges_of_devices (map.entries state.devices))) (has_range state.devices d.0 r d.1),
+        subst (λ (rs : List Range). Contains rs r) (sym (map-map (λ (device : DeviceSlot). device.range) device_of (map.entries state.devices))) (has_range state.devices d.0 r d.1),
   );
   counted = λ state i.
       let all = all_counted state i.space i.pairs in

@@ -1,9 +1,9 @@
--- Devices start at different addresses, and a new device starts at none of them.
-use Rattle.std.proofs.Common.{◌≡◌, ℕ, refl, sym, ap, ◌∙◌, arith, inl, inr, subst, Option, Some, None, IsSome, Ok}
+-- Devices start at different addresses, a new device starts at none of them, and the device at an address is found by a start.
+use Rattle.std.proofs.Common.{◌≡◌, ℕ, refl, sym, ap, ◌∙◌, arith, inl, inr, subst, Option, Some, None, IsSome, Ok, ◌↔◌, option_map}
 use Rattle.std.specs.List.{Contains}
 use Rattle.std.specs.FinMap as map
 use Rattle.vm_ranges.proofs.Steps.{map_some}
-use Rattle.vm_ranges.specs.Range.{Range, Overlaps}
+use Rattle.vm_ranges.specs.Range.{Range, Overlaps, IsIn}
 use Rattle.vm_ranges.specs.Request.{Request}
 use Rattle.vm_engine.specs.Address.{AddressState, IsAddressState}
 use Rattle.vm_engine.specs.Answer.{Allocates}
@@ -11,7 +11,9 @@ use Rattle.vm_allocator.specs.Ids.{IdState, IsHeld, IsLowestNotHeld, ByLowestNot
 use Rattle.vm_engine.proofs.Answers.AddressAnswers.{adds_range, state_is_preserved, lie_apart}
 use Rattle.vm_allocator.proofs.Callers.{range_was_free}
 use Rattle.vm_devices.specs.Devices.{DeviceState, IsDevice, IsDeviceState}
-use Rattle.vm_devices.specs.Checks.{IsNew}
+use Rattle.vm_devices.specs.Checks.{IsNew, StartsAt}
+use Rattle.vm_engine.specs.Queries.{IsHeldAt}
+use Rattle.vm_devices.specs.Queries.{DeviceAt}
 
 -- Held ranges with the same start are the same range.
 pub one_start : (space : AddressState) → IsAddressState space → (q r : Range) → Contains space.held q → Contains space.held r → q.start ≡ r.start → q ≡ r
@@ -45,3 +47,25 @@ new_device old mid request id r i p a = record {
   none : (o : Option Range) → map.get old.devices id ≡ o → o ≡ None
   none None e = refl
   none (Some q) e = absurd (lowest_not_held old.ids id p ((i.pairs.ids id).1 (subst IsSome (sym e) refl)))
+
+-- No held range contains the address.
+pub no_range_at : (state : DeviceState) (x : ℕ) → IsDeviceState state → IsHeldAt state.space x None → DeviceAt state x None
+unfolding DeviceAt
+no_range_at state x i none = λ id r d. let c = i.pairs.held id r d in subst (λ (v : Range). ¬ IsIn v x) c.2 (none c.0 r c.1)
+
+-- A held range contains the address, and these ids are found at its start: exactly that of its device.
+module _ {state : DeviceState} {x : ℕ} {r : Range} (i : IsDeviceState state) (held : IsHeldAt state.space x (Some r)) (at : Option ℕ)
+    (ids : (id : ℕ) → (at ≡ Some id) ↔ StartsAt state.devices id r.start) where
+  owner : (id : ℕ) × IsDevice state id r
+  owner = i.pairs.owned r held.0
+
+  pub device_found : (id : ℕ) → at ≡ Some id → DeviceAt state x (Some (record { id = id; range = r }))
+  unfolding DeviceAt
+  device_found id e =
+      let f = map_some (λ (q : Range). q.start) (map.get state.devices id) r.start ((ids id).0 e) in
+      (subst (λ (v : ℕ). IsDevice state v r) (devices_start_apart state owner.0 id r f.0 i owner.1 f.1 (sym f.2)) owner.1, held.1)
+
+  pub device_missed : ¬ (at ≡ None)
+  device_missed e = let some = (ids owner.0).1 (ap (option_map (λ (q : Range). q.start)) owner.1) in absurd (cc (e, some))
+
+pub ruleset found = (no_range_at)

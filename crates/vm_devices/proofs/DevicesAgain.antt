@@ -1,5 +1,5 @@
 -- The id and the range of a released device can be reserved again.
-use Rattle.std.proofs.Common.{◌≡◌, ◌≢◌, ℕ, ◌≤◌, ◌⊎◌, arith, refl, sym, ap, ◌∙◌, inl, inr, ⊎_elim, subst, Option, MatchOption, Result, Ok, Err}
+use Rattle.std.proofs.Common.{◌≡◌, ◌≢◌, ℕ, ◌≤◌, ◌⊎◌, arith, refl, sym, ap, ◌∙◌, inl, inr, ⊎_elim, subst, Result, Ok, Err}
 use Rattle.std.specs.FinMap as map
 use Rattle.vm_ranges.proofs.NumberSets.{inserted_other, removed_other, from_removed}
 use Rattle.vm_ranges.specs.Range.{Range, address_count}
@@ -8,7 +8,7 @@ use Rattle.vm_ranges.specs.Request.{Request, request_for}
 use Rattle.vm_engine.specs.Answer.{IsSplitRefusal, Allocates}
 use Rattle.vm_allocator.specs.Ids.{IdState, IsHeld, IsLowestNotHeld, AreAllHeld, ByLowestNotHeld, holding_id, releasing_id}
 use Rattle.vm_ranges.specs.declared.error.Error.{Error}
-use Rattle.vm_ranges.specs.declared.error.Error.TheVariants.{NeverAllocated, OutOfMemory}
+use Rattle.vm_ranges.specs.declared.error.Error.TheVariants.{OutOfMemory}
 use Rattle.vm_ranges.specs.declared.constraint.AllocPolicy.TheVariants.{ExactMatch}
 use Rattle.vm_allocator.proofs.Callers.{allocated_held, allocated_again, frees_held}
 use Rattle.vm_engine.proofs.Answers.Once.{allocates_once}
@@ -19,7 +19,7 @@ use Rattle.vm_devices.specs.Devices.{DeviceState, IsDevice, with_device, without
 use Rattle.vm_devices.specs.Laws.{IsLimit, ReservedAgain, RangeIsReservedAgain}
 use Rattle.vm_devices.proofs.Tables.{with_here}
 use Rattle.vm_devices.proofs.Pairs.{id_held}
-use Rattle.vm_devices.proofs.Reserving.{reserved_device}
+use Rattle.vm_devices.proofs.DeviceCalls.{reserved_device}
 
 -- A device that was released is gone, unless memory ran out.
 device_released : (old new : DeviceState) (id : ℕ) (r : Range) (answer : Result (Unit {0}) Error) → IsDevice old id r → Releases old id answer new →

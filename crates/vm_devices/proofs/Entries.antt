@@ -1,8 +1,10 @@
--- The entries of a map of ids to ranges: its ids, its ranges, and the list of its devices.
-use Rattle.std.proofs.Common.{◌≡◌, ◌≢◌, ℕ, ◌<◌, cond, List, [], ◌∷◌, length, get_or, map as map_list, refl, sym, ap, ◌∙◌, arith, Some, IsSome}
+-- The entries of a map of ids to ranges. Devices pair all held ids with all held ranges if their number is right, each is
+-- held, and no two have the same range.
+use Rattle.std.proofs.Common.{◌≡◌, ◌≢◌, ℕ, ◌<◌, cond, List, [], ◌∷◌, length, get_or, map as map_list, refl, sym, ap, ◌∙◌, arith, Some, IsSome, ◌↔◌, subst, Option, None}
 use Rattle.std.proofs.lemmas.Cmp.{eq_by_cmp_equiv}
-use Rattle.std.proofs.lemmas.List.{get_or-map, length-map}
-use Rattle.std.proofs.lemmas.List.Elements.{Contains-get_or}
+use Rattle.std.proofs.lemmas.Simd.{map-map}
+use Rattle.std.proofs.lemmas.List.{map-id, get_or-map, length-map}
+use Rattle.std.proofs.lemmas.List.Elements.{Contains-get_or, All-map}
 use Rattle.std.proofs.lemmas.Map.Keys.{IsDistinct-from_sorted, below_from_sorted}
 use Rattle.std.proofs.lemmas.Map.Lookups.{exact_unsigned}
 use Rattle.std.proofs.lemmas.Map.Made.{Contains-values_of, Contains-from_values_of}
@@ -13,8 +15,11 @@ use Rattle.std.specs.Map.{lookup}
 use Rattle.std.specs.Ordering.{nat_cmp, eq_by_cmp}
 use Rattle.std.specs.FinMap as map
 use Rattle.vm_ranges.specs.Range.{Range}
-use Rattle.vm_allocator.proofs.Callers.{keys_rise, entries_of_sorted}
+use Rattle.vm_allocator.proofs.Callers.{keys_rise, entries_of_sorted, ranges_listed, ids_listed}
 use Rattle.vm_devices.specs.Queries.{device_of, entry_of}
+use Rattle.vm_engine.specs.Address.{AddressState, IsAddressState}
+use Rattle.vm_allocator.specs.Ids.{IdState, IsHeld, held_count}
+use Rattle.vm_devices.specs.Devices.{DeviceState, ArePaired}
 
 found : (q : ℕ) (es : List (ℕ × Range)) → map.find nat_cmp q es ≡ lookup (eq_by_cmp nat_cmp q) es
 found q [] = refl
@@ -24,8 +29,7 @@ pub whole_map : (m : map.FinMap nat_cmp Range) → map.from_entries (map.entries
 whole_map m = map.same_entries_map _ _ (entries_of_sorted (map.entries m) (keys_rise m))
 
 pub entries_again : (es : List (ℕ × Range)) → map_list entry_of (map_list device_of es) ≡ es
-entries_again [] = refl
-entries_again (e ∷ es) = ap (λ (v : List (ℕ × Range)). e ∷ v) (entries_again es)
+entries_again es = map-map entry_of device_of es ∙ map-id es
 
 module _ (m : map.FinMap nat_cmp Range) where
   pub entry_got : (id : ℕ) (r : Range) → map.get m id ≡ Some r → Contains (map.entries m) (id, r)
@@ -67,3 +71,53 @@ module _ (m : map.FinMap nat_cmp Range) where
       let tie = once _ _ _ (entry_at i (0, r) (omega arith) ∙ ap Some one) (entry_at j (0, r) long) in
       let below = below_from_sorted (map.keys m) i j 0 (keys_rise m) l (omega (arith, long, length-map es (λ (e : ℕ × Range). e.0))) in
       omega (arith, below, id i (omega arith), id j long, tie)
+
+-- The id and the range of each device are held, and no two devices have the same range.
+pub record AreHeld (ids : IdState) (space : AddressState) (m : map.FinMap nat_cmp Range) : Type 0 where
+  pub held : (id : ℕ) (r : Range) → map.get m id ≡ Some r → IsHeld ids id × Contains space.held r
+  pub once : (i j : ℕ) (r : Range) → map.get m i ≡ Some r → map.get m j ≡ Some r → i ≡ j
+
+-- The number of devices is the number of held ids and of held ranges.
+pub record AreCounted (ids : IdState) (space : AddressState) (m : map.FinMap nat_cmp Range) : Type 0 where
+  pub ids_counted : map.len m ≡ held_count ids
+  pub ranges_counted : map.len m ≡ length space.held
+
+pub some_range : (o : Option Range) → IsSome o → (r : Range) × (o ≡ Some r)
+some_range None h = absurd (cc (h))
+some_range (Some r) h = (r, refl)
+
+module _ (state : DeviceState) (i : IsAddressState state.space) where
+  module _ (h : AreHeld state.ids state.space state.devices) where
+    counted_ids : (length (map.keys state.devices) ≡ held_count state.ids) ↔ ((id : ℕ) → IsHeld state.ids id → Contains (map.keys state.devices) id)
+    counted_ids =
+        ids_listed state.ids (map.keys state.devices) (ids_differ state.devices)
+        (All-map (IsHeld state.ids) (λ (e : ℕ × Range). e.0) (map.entries state.devices) (λ k e l. (h.held _ _ (entry_at state.devices k e l)).0))
+
+    counted_ranges : (length (map.values state.devices) ≡ length state.space.held) ↔ ((r : Range) → Contains state.space.held r → Contains (map.values state.devices) r)
+    counted_ranges =
+        ranges_listed state.space (map.values state.devices) i (ranges_differ state.devices h.once)
+        (All-map (Contains state.space.held) (λ (e : ℕ × Range). e.1) (map.entries state.devices) (λ k e l. (h.held _ _ (entry_at state.devices k e l)).1))
+
+    pub pairs_all : AreCounted state.ids state.space state.devices → ArePaired state
+    pairs_all a =
+        let m = state.devices in
+        let each_id = counted_ids.0 (length-map (map.entries m) (λ (e : ℕ × Range). e.0) ∙ sym (map.len-entries m) ∙ a.ids_counted) in
+        let each_range = counted_ranges.0 (length-map (map.entries m) (λ (e : ℕ × Range). e.1) ∙ sym (map.len-entries m) ∙ a.ranges_counted) in
+        record {
+          ids = λ id. (λ k. id_had m id (each_id id k), λ k. let d = some_range (map.get m id) k in (h.held id d.0 d.1).0);
+          held = λ id r d. (h.held id r d).1;
+          owned = λ r c. range_had m r (each_range r c);
+          once = h.once;
+        }
+
+  pub all_held : ArePaired state → AreHeld state.ids state.space state.devices
+  all_held p = record { held = λ id r d. ((p.ids id).1 (subst IsSome (sym d) refl), p.held id r d); once = p.once }
+
+  pub all_counted : ArePaired state → AreCounted state.ids state.space state.devices
+  all_counted p =
+      let m = state.devices in
+      record {
+        ids_counted = map.len-entries m ∙ sym (length-map (map.entries m) (λ (e : ℕ × Range). e.0)) ∙ (counted_ids (all_held p)).1 (λ id h. has_id m id ((p.ids id).0 h));
+        ranges_counted = map.len-entries m ∙ sym (length-map (map.entries m) (λ (e : ℕ × Range). e.1)) ∙ (counted_ranges (all_held p)).1
+            (λ r h. let d = p.owned r h in has_range m d.0 r d.1);
+      }

@@ -1,7 +1,6 @@
 pub mod Tables
 pub mod Pairs
 pub mod NewManagers
-pub mod Reserving
 pub mod DeviceHistories
 pub mod DevicesAgain
 pub mod DevicesOnce
@@ -9,16 +8,12 @@ pub mod EveryDeviceCall
 pub mod DeviceCalls
 pub mod Callers
 pub mod Entries
-pub mod AllHeld
-pub mod SavedDevices
 pub mod IncreasingIds
 pub mod SavedManagers
 pub mod WrittenManagers
 pub mod NestedManagers
-pub mod StartTables
 pub mod PairedDevices
 pub mod DeviceStarts
 pub mod ComparedManagers
-pub mod DeviceAtAddress
 pub mod DeviceQueries
 pub mod Slots

@@ -22,7 +22,7 @@ no_devices lo hi base size ids space id word ids_made space_made =
     let none = λ (q : ℕ). map.get-empty {X = Range} nat_cmp q in
     let fresh : ids ≡ new_ids lo hi = ⊎_elim (λ l. absurd (cc (l.1))) (λ r. cc (r.1)) ids_made in
     let held : (r : Range) → ¬ Contains space.held r =
-    λ r c. none_in r (subst (λ (v : AddressState). Contains v.held r) (made_is base size space space_made).2 c) in
+    λ r c. let none = subst (λ (v : AddressState). Contains v.held r) (made_is base size space space_made).2 c in let below = none.1 in omega (arith, below) in
     record {
       ids = id_states_are_preserved.made lo hi ids id ids_made;
       space = state_is_preserved.made base size space word space_made;
@@ -31,25 +31,16 @@ no_devices lo hi base size ids space id word ids_made space_made =
           λ h. absurd (both_ways _ (set.contains-empty nat_cmp q) (subst (λ (v : IdState). IsHeld v q) fresh h)),
           λ h. let n = none q in absurd (cc (n, h)),
         );
-        held = λ q r d. let e : None ≡ Some r = sym (none q) ∙ d in absurd (cc (e));
+        held = λ q r d. let n = none q in absurd (cc (n, d));
         owned = λ r c. absurd (held r c);
-        once = λ i j r d f. let e : None ≡ Some r = sym (none i) ∙ d in absurd (cc (e));
+        once = λ i j r d f. let n = none i in absurd (cc (n, d));
       };
-    } where
-      none_in : (r : Range) → ¬ Contains [] r
-      none_in r c = let below = c.1 in absurd (omega (arith, below))
-
-made_parts : (ids : Result IdState Error) (space : Result AddressState Error) (state : DeviceState) → Ok state ≡ made_devices ids space →
-    (i : IdState) × (s : AddressState) × (ids ≡ Ok i) × (space ≡ Ok s) × (state ≡ record { ids = i; space = s; devices = map.empty })
-made_parts (Err e) space state h = absurd (cc (h))
-made_parts (Ok i) (Err e) state h = absurd (cc (h))
-made_parts (Ok i) (Ok s) state h = (i, s, refl, refl, cc (h))
+    }
 
 pub made_state : (lo hi base size : ℕ) (state : DeviceState) → hi ≤ MAX_ID → size ≤ MAX → MakesManager lo hi base size (Ok state) → IsDeviceState state × (state.devices ≡ map.empty)
 unfolding MakesManager
-made_state lo hi base size state id word h =
-    let p = made_parts h.0 h.1 state h.4 in (
-      subst IsDeviceState (sym p.4)
-          (no_devices lo hi base size p.0 p.1 id word (subst (MakesIds lo hi) p.2 h.2) (subst (Makes base size) p.3 h.3)),
-      ap (λ (s : DeviceState). s.devices) p.4,
-    )
+made_state lo hi base size state id word (Err e, space, m, n, h) = absurd (cc (h))
+made_state lo hi base size state id word (Ok ids, Err e, m, n, h) = absurd (cc (h))
+made_state lo hi base size state id word (Ok ids, Ok space, m, n, h) =
+    let same : state ≡ record { ids = ids; space = space; devices = map.empty } = cc (h) in
+    (rw same (no_devices lo hi base size ids space id word m n), ap (λ (s : DeviceState). s.devices) same)

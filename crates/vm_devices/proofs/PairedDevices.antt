@@ -20,9 +20,8 @@ use Rattle.vm_devices.specs.Checks.{StartsAt, IsNew}
 use Rattle.vm_devices.specs.Listed.{entries_of, HaveIncreasingIds, listed_state, AreDevicesOf}
 use Rattle.vm_devices.specs.Queries.{entry_of}
 use Rattle.vm_devices.specs.SavedChecks.{CanBeInserted}
-use Rattle.vm_devices.proofs.AllHeld.{AreHeld, pairs_all, all_held, all_counted}
+use Rattle.vm_devices.proofs.Entries.{AreHeld, pairs_all, all_held, all_counted, entry_got, got_entry}
 use Rattle.vm_devices.proofs.DeviceStarts.{one_start}
-use Rattle.vm_devices.proofs.Entries.{entry_got, got_entry}
 use Rattle.vm_devices.proofs.IncreasingIds.{ids_of, front_increases, id_at, ids_long}
 use Rattle.vm_devices.proofs.Tables.{get_with}
 

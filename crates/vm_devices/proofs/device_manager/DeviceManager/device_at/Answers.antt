@@ -1,5 +1,5 @@
 use Rattle.std.proofs.Common.{◌≡◌, refl, Some, None, rules}
-use Rattle.vm_devices.proofs.DeviceAtAddress.{device_found, device_missed}
+use Rattle.vm_devices.proofs.DeviceStarts.{device_found, device_missed}
 use Rattle.vm_devices.proofs.device_manager.DeviceManager.device_at.Goals as goal
 
 pub returns-in_err-id : goal.returns-in_err-id

@@ -1,6 +1,6 @@
 use Rattle.std.proofs.Common.{sym, ap, ◌∙◌}
 use Rattle.vm_devices.specs.Queries.{device_count}
-use Rattle.vm_devices.proofs.AllHeld.{all_counted}
+use Rattle.vm_devices.proofs.Entries.{all_counted}
 use Rattle.vm_devices.proofs.device_manager.DeviceManager.device_count.Goals as goal
 
 pub returns : goal.returns

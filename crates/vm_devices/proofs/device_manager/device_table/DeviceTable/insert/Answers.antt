@@ -1,5 +1,5 @@
 use Rattle.std.proofs.Common.{refl}
-use Rattle.vm_devices.proofs.StartTables.{same_starts, starts_with, starts_undone}
+use Rattle.vm_devices.proofs.Tables.{same_starts, starts_with, starts_undone}
 use Rattle.vm_devices.proofs.device_manager.device_table.DeviceTable.insert.Goals as goal
 
 pub invariant_of-self : goal.invariant_of-self

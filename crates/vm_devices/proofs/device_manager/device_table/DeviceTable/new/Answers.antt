@@ -1,4 +1,4 @@
-use Rattle.vm_devices.proofs.StartTables.{no_starts}
+use Rattle.vm_devices.proofs.Tables.{no_starts}
 use Rattle.vm_devices.proofs.device_manager.device_table.DeviceTable.new.Goals as goal
 
 pub invariant_of-result : goal.invariant_of-result

@@ -1,5 +1,5 @@
 use Rattle.std.proofs.Common.{sym, ◌∙◌, refl}
-use Rattle.vm_devices.proofs.StartTables.{same_starts, starts_without}
+use Rattle.vm_devices.proofs.Tables.{same_starts, starts_without}
 use Rattle.vm_devices.proofs.Slots.{none_removed}
 use Rattle.vm_devices.proofs.device_manager.device_table.DeviceTable.remove.Goals as goal
 

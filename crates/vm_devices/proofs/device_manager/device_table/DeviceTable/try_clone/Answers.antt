@@ -1,5 +1,5 @@
 use Rattle.std.proofs.lemmas.Map.Entries.{entries_from_clone}
-use Rattle.vm_devices.proofs.StartTables.{same_starts}
+use Rattle.vm_devices.proofs.Tables.{same_starts}
 use Rattle.vm_devices.proofs.device_manager.device_table.DeviceTable.try_clone.Goals as goal
 
 pub invariant_of-result : goal.invariant_of-result

@@ -1,6 +1,6 @@
-use Rattle.std.proofs.Common.{◌≡◌, ◌≤◌, length, Err, arith, sym, rules}
+use Rattle.std.proofs.Common.{◌≡◌, Err, sym, rules}
 use Rattle.vm_ranges.specs.Saving.{value_error}
-use Rattle.vm_devices.proofs.SavedDevices.{no_device, one_read, push_refused}
+use Rattle.vm_devices.proofs.SavedManagers.{no_device, one_read, push_refused}
 use Rattle.vm_devices.proofs.device_manager.saved.slots.read_slots.Goals as goal
 
 pub returns-in_default : goal.returns-in_default
