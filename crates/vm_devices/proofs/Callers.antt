@@ -16,9 +16,7 @@ pub use Rattle.vm_devices.proofs.NestedManagers.{manager_through_text}
 
 -- A reserved device is a device of the manager.
 pub device_there : (old new : DeviceState) (request : Request) (answer : Result DeviceSlot Error) → Reserves old request answer new → IfOk answer (λ slot. IsDevice new slot.id slot.range)
-device_there old new request (Ok slot) h =
-    let d = reserved_device old new request slot h in
-    subst (λ (s : DeviceState). IsDevice s slot.id slot.range) (sym d.left) (with_here old.devices slot.id slot.range)
+device_there old new request (Ok slot) h = rw (reserved_device old new request slot h).left (with_here old.devices slot.id slot.range)
 device_there old new request (Err e) h = tt
 
 -- Two devices that were reserved one after the other share no address.
@@ -27,16 +25,13 @@ pub devices_share_none : (old mid new : DeviceState) (first second : Request) (s
 devices_share_none old mid new first second slot other h k =
     let d = reserved_device old mid first slot h in
     let e = reserved_device mid new second other k in
-    let space : mid.space ≡ holding slot.range old.space = ap (λ (s : DeviceState). s.space) d.left in
-    allocated_apart old.space mid.space (holding other.range mid.space) first second slot.range other.range (subst (Allocates old.space first (Ok slot.range)) (sym space) d.given) e.given
+    allocated_apart old.space mid.space (holding other.range mid.space) first second slot.range other.range (rw d.left d.given) e.given
 
 -- A device that is released at once is reserved again by the same request.
 pub device_again : (old mid new later : DeviceState) (request : Request) (slot : DeviceSlot) (answer : Result DeviceSlot Error) → IsDeviceState old →
     Reserves old request (Ok slot) mid → Releases mid slot.id (Ok tt) new → Reserves new request answer later → IfOk answer (λ again. again ≡ slot)
 device_again old mid new later request slot (Ok again) i s f t =
-    ⊎_elim
-    (λ e. cc (e))
-    (λ x. absurd (⊎_elim (λ m. cc (m)) (λ d. cc (d.1)) x))
+    ⊎_elim (λ e. cc (e)) (λ x. absurd (⊎_elim (λ m. cc (m)) (λ d. cc (d.1)) x))
     (reserved_again old mid new later request slot (Ok tt) (Ok again) i s f (λ e. cc (e)) t)
 device_again old mid new later request slot (Err e) i s f t = tt
 

@@ -21,7 +21,7 @@ use Rattle.vm_ranges.specs.declared.saved.SavedError.TheVariants.{Violated, OutO
 use Rattle.vm_allocator.proofs.Callers.{found-states, states-found, ids_again, ids_encoded, addresses_again, addresses_encoded, keys_rise}
 use Rattle.vm_devices.specs.declared.device_slot.DeviceSlot.{DeviceSlot}
 use Rattle.vm_devices.specs.Listed.{entries_of, PushesDevice, listed_state, MakesOfDevices}
-use Rattle.vm_devices.specs.Queries.{entry_of, device_of}
+use Rattle.vm_devices.specs.Queries.{entry_of, device_of, device_list}
 use Rattle.vm_devices.specs.Saved.{EncodesDevice, ReadsInParts, EncodesList, EncodesManager}
 use Rattle.vm_devices.specs.SavedChecks.{decoded_device, EncodesDevices, decoded_manager, ManagerParts}
 use Rattle.vm_devices.proofs.IncreasingIds.{Sorted, front_entries}
@@ -234,7 +234,7 @@ manager_again = record { one = one_manager; again = read_again }
 
 -- ---- A written value encodes the manager
 pub manager_written : {d ids space slots : Data} {i : IdState} {a : SpaceInTree} (table : map.FinMap nat_cmp Range) → ManagerParts d ids space slots →
-    EncodesIds ids i → EncodesAllocator space a → EncodesList slots (map.entries table) →
+    EncodesIds ids i → EncodesAllocator space a → EncodesList slots (entries_of (device_list (devices_of i (state_of a) table))) →
     IsDeviceState (devices_of i (state_of a) table) → EncodesManager d (devices_of i (state_of a) table)
 manager_written {d} {ids} {space} {slots} {i} {a} table p is held ss state = record {
   four_fields = p.four_fields;
@@ -242,7 +242,7 @@ manager_written {d} {ids} {space} {slots} {i} {a} table p is held ss state = rec
   id_allocator = field_is (codes "id_allocator") d ids (λ v. EncodesIds v i) p.ids_is is;
   mmio_allocator = field_is (codes "mmio_allocator") d space (λ v. EncodesAddresses v (state_of a)) p.space_is (record { allocator = a; encoded = held; is = refl });
   listed = map.entries table;
-  slots = field_is (codes "slots") d slots (λ v. EncodesList v (map.entries table)) p.slots_is ss;
+  slots = field_is (codes "slots") d slots (λ v. EncodesList v (map.entries table)) p.slots_is (rw (entries_again (map.entries table)) at ss);
   increasing = keys_rise table;
   devices = sym (whole_map table);
   pairs = state.pairs;
