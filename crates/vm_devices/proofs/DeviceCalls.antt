@@ -1,24 +1,26 @@
 -- The results of the calls of a manager, case by case, and the results that follow from those of its parts.
-use Rattle.std.proofs.Common.{◌≡◌, ℕ, ◌%◌, refl, sym, inl, inr, ◌⊎◌, ⊎_elim, subst, Option, Some, None, MatchOption, Result, Ok, Err, IfSome, OnOk, ap}
+use Rattle.std.proofs.Common.{◌≡◌, ℕ, ◌≤◌, arith, refl, sym, ap, ⊎_elim, subst, Some, None, Result, Ok, Err, ◌%◌, inl, inr, ◌⊎◌, Option, MatchOption, IfSome, OnOk}
+use Rattle.std.proofs.lemmas.Bool.{both_ways}
+use Rattle.std.specs.List.{Contains}
+use Rattle.std.specs.Ordering.{nat_cmp}
 use Rattle.std.specs.FinMap as map
-use Rattle.vm_ranges.specs.Range.{Range, Covers, address_count}
+use Rattle.std.specs.FinSet as set
+use Rattle.vm_ranges.specs.Range.{Range, MAX, Covers, address_count}
 use Rattle.vm_engine.specs.Address.{AddressState, holding, releasing}
-use Rattle.vm_ranges.specs.Request.{Request, MakesConstraint}
-use Rattle.vm_engine.specs.Answer.{IsChosen, Allocates, Frees, Makes}
-use Rattle.vm_allocator.specs.Ids.{IsLowestNotHeld, ByLowestNotHeld, AllocatesId, holding_id, IdState, IsHeld, MakesIds, PeeksId, releasing_id}
+use Rattle.vm_engine.specs.Answer.{Makes, IsChosen, Allocates, Frees}
+use Rattle.vm_allocator.specs.Ids.{MAX_ID, IdState, IsHeld, MakesIds, new_ids, IsLowestNotHeld, ByLowestNotHeld, AllocatesId, holding_id, PeeksId, releasing_id}
 use Rattle.vm_ranges.specs.declared.error.Error.{Error}
+use Rattle.vm_engine.proofs.Answers.AddressAnswers.{made_is, state_is_preserved, freeing_undoes}
+use Rattle.vm_allocator.proofs.Ids.IdAnswers.{id_states_are_preserved, peeking_predicts}
+use Rattle.vm_devices.specs.Devices.{DeviceState, IsDeviceState, MakesManager, IsDevice, with_device, without_device, Pairs, Reserves, Releases, devices_of}
+use Rattle.vm_ranges.specs.Request.{Request, MakesConstraint}
 use Rattle.vm_ranges.specs.declared.error.Error.TheVariants.{NeverAllocated, OutOfMemory, Overflow, ResourceNotAvailable}
 use Rattle.vm_allocator.proofs.Callers.{given, allocated_chosen, request_fits, request_inside}
 use Rattle.vm_devices.specs.declared.device_slot.DeviceSlot.{DeviceSlot}
-use Rattle.vm_devices.specs.Devices.{DeviceState, IsDevice, IsDeviceState, with_device, without_device, Pairs, Reserves, Releases, devices_of, MakesManager}
 use Rattle.vm_devices.proofs.Pairs.{state_with, state_without, id_held}
-use Rattle.std.specs.List.{Contains}
 use Rattle.vm_ranges.proofs.Requests.{constraint_made}
 use Rattle.vm_engine.proofs.Answers.Requests.{allocates_refused}
-use Rattle.vm_engine.proofs.Answers.AddressAnswers.{freeing_undoes}
 use Rattle.vm_allocator.proofs.Answers.EveryAddressCall.{every_call}
-use Rattle.vm_allocator.proofs.Ids.IdAnswers.{peeking_predicts}
-use Rattle.std.specs.Ordering.{nat_cmp}
 
 -- ---- A reservation
 -- A reserved device has the lowest id that was not held, and a range that the request allocates: as long as asked,
@@ -143,6 +145,37 @@ module _ (lo hi base size : ℕ) where
   manager_made ids space slots m n e = (Ok ids, Ok space, m, n, ap (λ t. Ok (devices_of ids space t)) e)
 
 pub ruleset makes_managers = (ids_refused, space_refused, manager_made)
+
+-- No id and no range is held, and there is no device.
+no_devices : (lo hi base size : ℕ) (ids : IdState) (space : AddressState) → hi ≤ MAX_ID → size ≤ MAX → MakesIds lo hi (Ok ids) → Makes base size (Ok space) →
+    IsDeviceState (record { ids = ids; space = space; devices = map.empty })
+unfolding MakesIds
+no_devices lo hi base size ids space id word ids_made space_made =
+    let none = λ (q : ℕ). map.get-empty {X = Range} nat_cmp q in
+    let fresh : ids ≡ new_ids lo hi = ⊎_elim (λ l. absurd (cc (l.1))) (λ r. cc (r.1)) ids_made in
+    let held : (r : Range) → ¬ Contains space.held r =
+    λ r c. let none = subst (λ (v : AddressState). Contains v.held r) (made_is base size space space_made).2 c in let below = none.1 in omega (arith, below) in
+    record {
+      ids = id_states_are_preserved.made lo hi ids id ids_made;
+      space = state_is_preserved.made base size space word space_made;
+      pairs = record {
+        ids = λ q. (
+          λ h. absurd (both_ways _ (set.contains-empty nat_cmp q) (subst (λ (v : IdState). IsHeld v q) fresh h)),
+          λ h. let n = none q in absurd (cc (n, h)),
+        );
+        held = λ q r d. let n = none q in absurd (cc (n, d));
+        owned = λ r c. absurd (held r c);
+        once = λ i j r d f. let n = none i in absurd (cc (n, d));
+      };
+    }
+
+pub made_state : (lo hi base size : ℕ) (state : DeviceState) → hi ≤ MAX_ID → size ≤ MAX → MakesManager lo hi base size (Ok state) → IsDeviceState state × (state.devices ≡ map.empty)
+unfolding MakesManager
+made_state lo hi base size state id word (Err e, space, m, n, h) = absurd (cc (h))
+made_state lo hi base size state id word (Ok ids, Err e, m, n, h) = absurd (cc (h))
+made_state lo hi base size state id word (Ok ids, Ok space, m, n, h) =
+    let same : state ≡ record { ids = ids; space = space; devices = map.empty } = cc (h) in
+    (rw same (no_devices lo hi base size ids space id word m n), ap (λ (s : DeviceState). s.devices) same)
 
 -- ---- Reserving
 pub id_refused : (old new : DeviceState) (request : Request) (e : Error) → PeeksId old.ids (Err e) → new ≡ old → Reserves old request (Err e) new

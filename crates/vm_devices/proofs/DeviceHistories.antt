@@ -1,5 +1,5 @@
 -- Facts of every history of a manager.
-use Rattle.std.proofs.Common.{◌≡◌, ◌≢◌, ℕ, ◌<◌, ◌⊎◌, List, [], ◌∷◌, suc, arith, sym, ap, ◌∙◌, inl, inr, ⊎_elim, subst, Some, None, Ok}
+use Rattle.std.proofs.Common.{◌≡◌, ◌≢◌, ℕ, ◌<◌, ◌⊎◌, List, [], ◌∷◌, suc, arith, sym, ap, ◌∙◌, inl, inr, ⊎_elim, subst, Some, Ok}
 use Rattle.std.specs.Ordering.{nat_cmp}
 use Rattle.std.specs.FinMap as map
 use Rattle.vm_ranges.specs.Range.{Range, MAX, Overlaps, Covers}
@@ -14,9 +14,8 @@ use Rattle.vm_devices.specs.Histories.{DeviceCall, Reservation, Release, Cloning
 use Rattle.vm_devices.specs.Laws.{DevicesAreValid}
 use Rattle.vm_devices.proofs.Tables.{with_cases, without_is}
 use Rattle.vm_devices.proofs.Pairs.{id_held}
-use Rattle.vm_devices.proofs.NewManagers.{made_state}
+use Rattle.vm_devices.proofs.DeviceCalls.{made_state, IsReserved, reserving_outcome, releasing_outcome, reserved_state, released_state}
 use Rattle.vm_devices.proofs.SavedManagers.{encoded_state}
-use Rattle.vm_devices.proofs.DeviceCalls.{IsReserved, reserving_outcome, releasing_outcome, reserved_state, released_state}
 
 -- ---- Every reached state is valid
 call_state : (old new : DeviceState) (call : DeviceCall) → IsDeviceCallFrom old call new → IsDeviceState old → IsDeviceState new

@@ -1,9 +1,8 @@
 -- The devices as a list, and the device at an address.
-use Rattle.std.proofs.Common.{◌≡◌, ℕ, List, [], ◌∷◌, map as map_list, refl, sym, ap, ◌∙◌, subst, Some, None}
+use Rattle.std.proofs.Common.{◌≡◌, List, map as map_list, sym, ap, ◌∙◌, subst, Some, None}
 use Rattle.std.proofs.lemmas.List.{length-map}
 use Rattle.std.proofs.lemmas.Simd.{map-map}
 use Rattle.std.specs.List.{Contains}
-use Rattle.std.specs.Map.{keys_of, values_of}
 use Rattle.std.specs.FinMap as map
 use Rattle.vm_ranges.proofs.NumberSets.{same_test}
 use Rattle.vm_ranges.specs.Range.{Range, Overlaps}

@@ -1,6 +1,5 @@
 pub mod Tables
 pub mod Pairs
-pub mod NewManagers
 pub mod DeviceHistories
 pub mod DevicesAgain
 pub mod DevicesOnce
@@ -14,6 +13,5 @@ pub mod WrittenManagers
 pub mod NestedManagers
 pub mod PairedDevices
 pub mod DeviceStarts
-pub mod ComparedManagers
 pub mod DeviceQueries
 pub mod Slots

@@ -73,10 +73,12 @@ pub no_slots : (f g : ℕ) (slots : List (Option Range)) → length slots ≡ 0 
 no_slots f g [] e = refl
 no_slots f g (s ∷ slots) e = absurd (omega (arith, e))
 
-pub same_slots : (f g : ℕ) (ss ts : List (Option Range)) → slot_entries f ss ≡ slot_entries g ts → slot_map f ss ≡ slot_map g ts
-same_slots f g ss ts e = ap (λ (es : List (ℕ × Range)). map.from_entries {R = nat_cmp} es) e
+pub lowered : (f g n : ℕ) (ss ts : List (Option Range)) → ((id : ℕ) → slot_entries id ss ≡ slot_entries (id + n) ts) → f + n ≡ g → slot_entries f ss ≡ slot_entries g ts
+lowered f g n ss ts h e = h f ∙ ap (λ (v : ℕ). slot_entries v ts) e
 
-pub ruleset insertions = (inserted_here, same_slots)
+pub ruleset first_lowered = (no_slots, lowered)
+
+pub ruleset insertions = (inserted_here)
 
 -- ---- The devices in order
 above : (n f : ℕ) (slots : List (Option Range)) → n < f → AllByRecursion (λ q. nat_cmp n q ≡ Less) (keys_of (slot_entries f slots))

@@ -1,6 +1,5 @@
 use Rattle.std.proofs.Common.{arith}
-use Rattle.vm_devices.proofs.DeviceCalls.{manager_made}
-use Rattle.vm_devices.proofs.NewManagers.{made_state}
+use Rattle.vm_devices.proofs.DeviceCalls.{manager_made, made_state}
 use Rattle.vm_devices.proofs.device_manager.DeviceManager.new.Goals as goal
 
 pub invariant_of-result : goal.invariant_of-result
