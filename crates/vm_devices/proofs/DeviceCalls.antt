@@ -180,10 +180,7 @@ made_state lo hi base size state id word (Ok ids, Ok space, m, n, h) =
 -- ---- Reserving
 pub id_refused : (old new : DeviceState) (request : Request) (e : Error) → PeeksId old.ids (Err e) → new ≡ old → Reserves old request (Err e) new
 unfolding Reserves PeeksId ByLowestNotHeld
-id_refused old new request e (inl h) same = absurd (cc (h.2))
-id_refused old new request e (inr (all, inl h)) same = let is : e ≡ Overflow = cc (h.1) in inr (all, inl (h.0, (ap (λ (v : Error). Err v) is, same)))
-id_refused old new request e (inr (all, inr h)) same =
-    let is : e ≡ ResourceNotAvailable = cc (h.1) in inr (all, inr (h.0, (ap (λ (v : Error). Err v) is, same)))
+id_refused old new request e p same = grind arith
 
 -- `peek_id` returned an id, and a range was requested.
 pub id_peeked : (old new : DeviceState) (request : Request) (id : ℕ) (space : AddressState) (given : Result Range Error) (answer : Result DeviceSlot Error) →
@@ -239,8 +236,7 @@ release_refused old new id r e back i d held is same =
 
 range_freed : (old new : AddressState) (r : Range) (answer : Result (Unit {0}) Error) → Contains old.held r → Frees old r answer new → new ≡ releasing r old
 unfolding Frees
-range_freed old new r answer c (inl a) = a.1.1
-range_freed old new r answer c (inr a) = absurd (a.0 c)
+range_freed old new r answer c f = grind arith
 
 -- The id and the range of a device are freed, and its entry is removed from the table.
 module _ (old : DeviceState) (id : ℕ) (r : Range) (ids : IdState) (space : AddressState) (slots : map.FinMap nat_cmp Range) (answer : Result (Unit {0}) Error)

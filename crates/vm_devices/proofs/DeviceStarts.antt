@@ -11,6 +11,7 @@ use Rattle.vm_allocator.specs.Ids.{IdState, IsHeld, IsLowestNotHeld, ByLowestNot
 use Rattle.vm_engine.proofs.Answers.AddressAnswers.{adds_range, state_is_preserved, lie_apart}
 use Rattle.vm_allocator.proofs.Callers.{range_was_free}
 use Rattle.vm_devices.specs.Devices.{DeviceState, IsDevice, IsDeviceState}
+use Rattle.vm_devices.proofs.Tables.{absent}
 use Rattle.vm_devices.specs.Checks.{IsNew, StartsAt}
 use Rattle.vm_engine.specs.Queries.{IsHeldAt}
 use Rattle.vm_devices.specs.Queries.{DeviceAt}
@@ -30,23 +31,18 @@ devices_start_apart state j k q r i a b e =
 
 lowest_not_held : (ids : IdState) (id : ℕ) → PeeksId ids (Ok id) → ¬ IsHeld ids id
 unfolding PeeksId ByLowestNotHeld IsLowestNotHeld
-lowest_not_held ids id (inl h) k = let same : id ≡ h.0 = cc (h.2) in h.1.0.1 (subst (IsHeld ids) same k)
-lowest_not_held ids id (inr (all, inl h)) k = absurd (cc (h.1))
-lowest_not_held ids id (inr (all, inr h)) k = absurd (cc (h.1))
+lowest_not_held ids id p k = grind arith
 
 pub new_device : (old : DeviceState) (mid : AddressState) (request : Request) (id : ℕ) (r : Range) → IsDeviceState old → PeeksId old.ids (Ok id) → Allocates old.space request (Ok r) mid → IsNew old.devices id r.start
 new_device old mid request id r i p a = record {
-  id_is_new = none (map.get old.devices id) refl;
+  id_is_new = absent (map.get old.devices id) (λ q e. lowest_not_held old.ids id p ((i.pairs.ids id).1 (subst IsSome (sym e) refl)));
   start_is_new = λ other h.
       let f = map_some (λ (q : Range). q.start) (map.get old.devices other) r.start h in
       let held = i.pairs.held other f.0 f.1 in
       let added = adds_range old.space mid request r i.space a in
       let one = one_start mid (state_is_preserved.allocated old.space mid request (Ok r) i.space a) f.0 r ((added.held f.0).1 (inl held)) ((added.held r).1 (inr refl)) f.2 in
       range_was_free old.space mid request r a (subst (Contains old.space.held) one held);
-} where
-  none : (o : Option Range) → map.get old.devices id ≡ o → o ≡ None
-  none None e = refl
-  none (Some q) e = absurd (lowest_not_held old.ids id p ((i.pairs.ids id).1 (subst IsSome (sym e) refl)))
+}
 
 -- No held range contains the address.
 pub no_range_at : (state : DeviceState) (x : ℕ) → IsDeviceState state → IsHeldAt state.space x None → DeviceAt state x None

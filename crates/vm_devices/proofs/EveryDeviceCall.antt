@@ -20,9 +20,7 @@ use Rattle.vm_devices.proofs.DeviceCalls.{id_refused, id_peeked}
 
 -- ---- Creating
 made_plainly : (ids : Result IdState Error) (space : Result AddressState Error) → ids ≢ Err OutOfMemory → space ≢ Err OutOfMemory → made_devices ids space ≢ Err OutOfMemory
-made_plainly (Err e) space p q h = let same : e ≡ OutOfMemory = cc (h) in p (ap (λ (v : Error). Err v) same)
-made_plainly (Ok ids) (Err e) p q h = let same : e ≡ OutOfMemory = cc (h) in q (ap (λ (v : Error). Err v) same)
-made_plainly (Ok ids) (Ok space) p q h = cc (h)
+made_plainly ids space p q h = grind arith
 
 total_makes : (lo hi base size : ℕ) → (answer : Result DeviceState Error) × MakesManager lo hi base size answer × (answer ≢ Err OutOfMemory)
 unfolding MakesManager

@@ -23,7 +23,7 @@ use Rattle.vm_devices.specs.SavedChecks.{CanBeInserted}
 use Rattle.vm_devices.proofs.Entries.{AreHeld, pairs_all, all_held, all_counted, entry_got, got_entry}
 use Rattle.vm_devices.proofs.DeviceStarts.{one_start}
 use Rattle.vm_devices.proofs.IncreasingIds.{ids_of, front_increases, id_at, ids_long}
-use Rattle.vm_devices.proofs.Tables.{get_with}
+use Rattle.vm_devices.proofs.Tables.{absent, get_with}
 
 -- A device that is held can be inserted if and only if no id is found at its start.
 pub start_tested : (ids : IdState) (space : AddressState) (table : map.FinMap nat_cmp Range) (d : DeviceSlot) (new : Bool) (found : Option ℕ) → is_some found ≡ not new →
@@ -101,10 +101,7 @@ module _ (ids : IdState) (space : AddressState) (ds : List DeviceSlot) (s : Have
         )
 
     id_is_new : map.get table d.id ≡ None
-    id_is_new = none (map.get table d.id) refl where
-      none : (o : Option Range) → map.get table d.id ≡ o → o ≡ None
-      none None e = refl
-      none (Some r) e = let b = (before d.id r e).1 in absurd (omega (arith, b))
+    id_is_new = absent (map.get table d.id) (λ r h. let b = (before d.id r h).1 in omega (arith, b))
 
     pub is_new : CanBeInserted ids space table d → IsNew table d.id d.range.start
     is_new can = record { id_is_new = id_is_new; start_is_new = can.start_is_new }

@@ -1,5 +1,5 @@
 -- Maps with numbers as keys, after one key is inserted or removed, and the ids of devices by their starts.
-use Rattle.std.proofs.Common.{◌≡◌, ◌==◌, ℕ, ◌⊎◌, cond, ap, ◌∙◌, arith, Option, Some, None}
+use Rattle.std.proofs.Common.{◌≡◌, ◌==◌, ℕ, ◌⊎◌, cond, refl, ap, ◌∙◌, arith, Option, Some, None}
 use Rattle.std.specs.Ordering.{nat_cmp}
 use Rattle.std.specs.Cmp.{nat_cmp_total, unsigned_tied}
 use Rattle.std.specs.BTreeMap.{BTreeMap, Updates, IsEmpty, IsUnchanged}
@@ -7,6 +7,10 @@ use Rattle.std.specs.BTreeMap as tree
 use Rattle.std.specs.FinMap as map
 use Rattle.vm_ranges.specs.Range.{Range}
 use Rattle.vm_devices.specs.Checks.{AreIdsByStart, IsNew}
+
+pub absent : {X : Type 0} (o : Option X) → ((x : X) → ¬ (o ≡ Some x)) → o ≡ None
+absent None h = refl
+absent (Some x) h = absurd (h x refl)
 
 module _ {X : Type 0} where
   pub get_with : (m : map.FinMap nat_cmp X) (k : ℕ) (v : X) (q : ℕ) → map.get (map.insert m k v) q ≡ cond (q == k) (Some v) (map.get m q)
