@@ -194,7 +194,7 @@ id_peeked old new request id space given answer (inr (all, inr h)) a p = absurd 
 pub request_refused : (old : DeviceState) (request : Request) (id : ℕ) (e : Error) → PeeksId old.ids (Ok id) → MakesConstraint request (Err e) → Reserves old request (Err e) old
 request_refused old request id e p m = id_peeked old old request id old.space (Err e) (Err e) p (allocates_refused old.space request e m) (refl, refl)
 
-pub ruleset reserves = (id_refused, request_refused, constraint_made)
+pub ruleset reserves = (id_refused, request_refused, constraint_made, reserved_state)
 
 module _ (old : DeviceState) (request : Request) (id : ℕ) (r : Range) (mid : AddressState) (i : IsDeviceState old) (p : PeeksId old.ids (Ok id))
     (a : Allocates old.space request (Ok r) mid) (ids : IdState) (space : AddressState) (slots : map.FinMap nat_cmp Range) where

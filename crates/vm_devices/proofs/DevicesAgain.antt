@@ -30,9 +30,7 @@ device_released old new id r answer d h plain = ⊎_elim (λ t. t.1) (λ m. absu
 -- The result of a reservation, if its request gets the range or its split fails.
 told : (old new : DeviceState) (id : ℕ) (given : Result Range Error) (answer : Result DeviceSlot Error) (r : Range) →
     Pairs old id given answer new → (given ≡ Ok r) ⊎ IsSplitRefusal old.space given → (answer ≡ Ok (record { id = id; range = r })) ⊎ IsLimit old answer
-told old new id given answer r p (inl e) = ⊎_elim (λ t. inl t.0) (λ m. inr (inl m.0)) (rw e at p)
-told old new id given answer r p (inr (inl e)) = inr (inl (rw e at p).0)
-told old new id given answer r p (inr (inr e)) = inr (inr (e.0, (rw e.1 at p).0))
+told old new id given answer r p e = grind arith
 
 -- ---- The same request
 -- The id that was allocated and freed is the lowest again.
@@ -53,10 +51,8 @@ for_lowest ids id takes refused lowest (inr h) = absurd (lowest.0.1 (h.0 id lowe
 same_given : (old new : AddressState) (request : Request) (r : Range) (given : Result Range Error) →
     Allocates old request (Ok r) (holding r old) → Allocates old request given new → (given ≡ Ok r) ⊎ IsSplitRefusal old given
 same_given old new request r given a b =
-    ⊎_elim
-    (λ same. inl (sym same.0))
-    (λ differ. ⊎_elim (λ k. absurd (⊎_elim (λ e. cc e) (λ e. cc (e.1)) k)) (λ k. inr k) differ.refused)
-    (allocates_once old (holding r old) new request (Ok r) given a b)
+    let once = allocates_once old (holding r old) new request (Ok r) given a b in
+    grind (arith, once)
 
 pub reserved_again : ReservedAgain
 unfolding Reserves

@@ -29,8 +29,7 @@ manager_once lo hi base size answer other p q a b =
 -- Two results for one id, and the states that they leave.
 module _ (old new later : DeviceState) (id : ℕ) (answer other : Result DeviceSlot Error) (p : answer ≢ Err OutOfMemory) (q : other ≢ Err OutOfMemory) where
   pairs_same : (given : Result Range Error) → Pairs old id given answer new → Pairs old id given other later → (answer ≡ other) × (new ≡ later)
-  pairs_same (Err e) a b = (a.0 ∙ sym b.0, a.1 ∙ sym b.1)
-  pairs_same (Ok r) a b = grind arith
+  pairs_same given a b = grind arith
 
   pairs_once : (given again : Result Range Error) → (given ≢ Err OutOfMemory → again ≢ Err OutOfMemory → given ≡ again) →
       Pairs old id given answer new → Pairs old id again other later → (answer ≡ other) × (new ≡ later)

@@ -222,8 +222,7 @@ impl DeviceManager {
     #[tactic(auto, using(crate::proofs::DeviceCalls::enters))]
     fn reserve_range(&mut self, alloc: Global, id: u32, request: Constraint) -> Result<DeviceSlot>
         requires { PeeksId self.old.ids (Ok id) }
-        ensures answer { Reserves self.old request result self.new }
-        ensures state { IsDeviceState self.new }
+        ensures { Reserves self.old request result self.new }
     {
         let range = self.mmio_allocator.allocate_constraint(alloc, request)?;
         if let Err(refused) = self.slots.insert(alloc, id, range) {
