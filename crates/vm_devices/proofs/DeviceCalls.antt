@@ -14,7 +14,7 @@ use Rattle.vm_engine.proofs.Answers.AddressAnswers.{made_is, state_is_preserved,
 use Rattle.vm_allocator.proofs.Ids.IdAnswers.{id_states_are_preserved, peeking_predicts}
 use Rattle.vm_devices.specs.Devices.{DeviceState, IsDeviceState, MakesManager, IsDevice, with_device, without_device, Pairs, Reserves, Releases, devices_of}
 use Rattle.vm_ranges.specs.Request.{Request, MakesConstraint}
-use Rattle.vm_ranges.specs.declared.error.Error.TheVariants.{NeverAllocated, OutOfMemory, Overflow, ResourceNotAvailable}
+use Rattle.vm_ranges.specs.declared.error.Error.TheVariants.{NeverAllocated, OutOfMemory}
 use Rattle.vm_allocator.proofs.Callers.{given, allocated_chosen, request_fits, request_inside}
 use Rattle.vm_devices.specs.declared.device_slot.DeviceSlot.{DeviceSlot}
 use Rattle.vm_devices.proofs.Pairs.{state_with, state_without, id_held}

@@ -1,5 +1,5 @@
 -- Lists of devices whose ids are strictly increasing: the devices before another one, and one more at the end.
-use Rattle.std.proofs.Common.{◌≡◌, ℕ, ◌+◌, ◌-◌, ◌<◌, ◌≤◌, List, [], ◌∷◌, ◌++◌, length, get_or, ap, ◌∙◌, subst, sym, arith, Some, None}
+use Rattle.std.proofs.Common.{◌≡◌, ℕ, ◌+◌, ◌-◌, ◌<◌, ◌≤◌, List, [], ◌∷◌, ◌++◌, length, get_or, ap, ◌∙◌, subst, arith, Some, None}
 use Rattle.std.proofs.lemmas.Grind.{common_steps}
 use Rattle.std.proofs.lemmas.List.{get_or-map, length-map, map-append}
 use Rattle.std.proofs.lemmas.Map.Keys.{sorted_from_strictly_increasing, below_from_sorted}
@@ -23,20 +23,14 @@ none_rises = sorted_from_strictly_increasing [] (λ k l. absurd (omega arith))
 
 front_rises : (ms ns : List ℕ) → Rise (ms ++ ns) → Rise ms
 front_rises ms ns s =
-    sorted_from_strictly_increasing ms (λ k l.
-    let b = below_from_sorted (ms ++ ns) k (k + 1) 0 s in
-    grind (arith, common_steps, b))
+    sorted_from_strictly_increasing ms (λ k l. grind (arith, common_steps, below_from_sorted (ms ++ ns) k (k + 1) 0 s))
 
 rises_last : (ms : List ℕ) (n : ℕ) → Rise ms → (0 < length ms → get_or ms (length ms - 1) 0 < n) → Rise (ms ++ n ∷ [])
 rises_last ms n s h =
-    sorted_from_strictly_increasing (ms ++ n ∷ []) (λ k l.
-    let b = below_from_sorted ms k (k + 1) 0 s in
-    grind (arith, common_steps, b, h))
+    sorted_from_strictly_increasing (ms ++ n ∷ []) (λ k l. grind (arith, common_steps, below_from_sorted ms k (k + 1) 0 s, h))
 
 last_rises : (ms : List ℕ) (n : ℕ) → Rise (ms ++ n ∷ []) → 0 < length ms → get_or ms (length ms - 1) 0 < n
-last_rises ms n s l =
-    let b = below_from_sorted (ms ++ n ∷ []) (length ms - 1) (length ms) 0 s in
-    grind (arith, common_steps, b)
+last_rises ms n s l = grind (arith, common_steps, below_from_sorted (ms ++ n ∷ []) (length ms - 1) (length ms) 0 s)
 
 -- ---- The ids of devices
 abbrev pub ids_of : List DeviceSlot → List ℕ
@@ -68,12 +62,10 @@ front_increases ds es s = front_entries (entries_of ds) (entries_of es) (subst S
 module _ (ds : List DeviceSlot) (d : DeviceSlot) where
   pushed : HaveIncreasingIds ds → (0 < length ds → (get_or ds (length ds - 1) d).id < d.id) → HaveIncreasingIds (ds ++ d ∷ [])
   pushed s h =
-      subst Rise (sym (ids_more ds (d ∷ [])))
+      rw (ids_more ds (d ∷ []))
       (rises_last (ids_of ds) d.id s (λ p.
       let long = ids_long ds in
-      let at = id_at ds (length ds - 1) d (omega arith) in
-      let below = h (omega arith) in
-      rw long (omega arith)))
+      rw long (omega (arith, id_at ds (length ds - 1) d (omega arith), h (omega arith)))))
 
   pub first_pushed : slice_get ds (length ds - 1) ≡ None → HaveIncreasingIds ds → HaveIncreasingIds (ds ++ d ∷ [])
   first_pushed e s = pushed s (λ p. let some = slice_get-get_or ds (length ds - 1) d (omega arith) in absurd (cc (e, some)))

@@ -133,17 +133,9 @@ module _ (ids : IdState) (space : AddressState) (ds : List DeviceSlot) (s : Have
             (ap (λ (f : DeviceSlot). entries_of (take i ds) ++ entry_of f ∷ []) e ∙ sym (map-append entry_of (take i ds) (get_or ds i d ∷ []))
             ∙ ap (λ (fs : List DeviceSlot). entries_of fs) (sym (take_more ds i d l)));
         held = record {
-          held = λ id r h.
-              let at = get_with table d.id d.range id in
-              let was = p.held.held id r in
-              grind (arith, u, at, was, can.id_is_held, can.range_is_held, h);
+          held = λ id r h. grind (arith, u, get_with table d.id d.range id, p.held.held id r, can.id_is_held, can.range_is_held, h);
           once = λ j k r g h.
-              let first = get_with table d.id d.range j in
-              let second = get_with table d.id d.range k in
-              let was = p.held.once j k r in
-              let one = can.start_is_new j in
-              let two = can.start_is_new k in
-              grind (arith, u, first, second, was, one, two, g, h);
+              grind (arith, u, get_with table d.id d.range j, get_with table d.id d.range k, p.held.once j k r, can.start_is_new j, can.start_is_new k, g, h);
         };
       }
 

@@ -19,12 +19,10 @@ module _ (old : DeviceState) (id : ℕ) (r : Range) where
   pairs_with : ArePaired old → ¬ IsHeld old.ids id → AddsId old.ids (holding_id id old.ids) id → ¬ Contains old.space.held r →
       AddsRange old.space (holding r old.space) r → ArePaired (with_device id r old)
   pairs_with p free a clear s = record {
-    ids = λ q.
-        let at = get_with old.devices id r q in
-        let was = p.ids q in (
-          λ h. let held = (a.held q).0 h in grind (arith, at, was.0, held),
-          λ k. (a.held q).1 (grind (arith, at, was.1, k)),
-        );
+    ids = λ q. (
+      λ h. grind (arith, get_with old.devices id r q, (p.ids q).0, (a.held q).0 h),
+      λ k. (a.held q).1 (grind (arith, get_with old.devices id r q, (p.ids q).1, k)),
+    );
     held = λ q t d. (s.held t).1 (⊎_elim (λ k. inr k.1) (λ k. inl (p.held q t k)) (with_cases old.devices id r q t d));
     owned = λ t c.
         ⊎_elim
@@ -32,8 +30,7 @@ module _ (old : DeviceState) (id : ℕ) (r : Range) where
         let d = p.owned t k in
         let held : IsHeld old.ids d.0 = (p.ids d.0).1 (subst IsSome (sym d.1) refl) in
         let other : d.0 ≡ id → ⊥ = λ e. free (subst (IsHeld old.ids) e held) in
-        let at = get_with old.devices id r d.0 in
-        (d.0, grind (arith, at, other, d.1)))
+        (d.0, grind (arith, get_with old.devices id r d.0, other, d.1)))
         (λ (e : t ≡ r). (id, with_here old.devices id r ∙ ap Some (sym e)))
         ((s.held t).0 c);
     once = λ j k t d f.
@@ -57,21 +54,17 @@ module _ (old : DeviceState) (id : ℕ) (r : Range) where
   pairs_without : ArePaired old → IsDevice old id r → RemovesId old.ids (releasing_id id old.ids) id → RemovesRange old.space (releasing r old.space) r →
       ArePaired (without_device id r old)
   pairs_without p d a s = record {
-    ids = λ q.
-        let at = get_without old.devices id q in
-        let was = p.ids q in (
-          λ h. let held = (a.held q).0 h in grind (arith, at, was.0, held),
-          λ k. (a.held q).1 (grind (arith, at, was.1, k), λ e. grind (arith, at, k, e)),
-        );
+    ids = λ q. (
+      λ h. grind (arith, get_without old.devices id q, (p.ids q).0, (a.held q).0 h),
+      λ k. (a.held q).1 (grind (arith, get_without old.devices id q, (p.ids q).1, k), λ e. grind (arith, get_without old.devices id q, k, e)),
+    );
     held = λ q t k.
         let w = without_is old.devices id q t k in
         (s.held t).1 (p.held q t w.1, λ e. w.0 (p.once q id t w.1 (d ∙ ap Some (sym e))));
     owned = λ t c.
         let k = (s.held t).0 c in
         let o = p.owned t k.0 in
-        let at = get_without old.devices id o.0 in
-        let other = k.1 in
-        (o.0, grind (arith, at, other, o.1, d));
+        (o.0, grind (arith, get_without old.devices id o.0, k.1, o.1, d));
     once = λ j k t f g. p.once j k t (without_is old.devices id j t f).1 (without_is old.devices id k t g).1;
   }
 

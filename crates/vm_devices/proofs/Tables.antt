@@ -34,9 +34,7 @@ module _ {X : Type 0} where
 
 pub no_starts : (devices : map.FinMap nat_cmp Range) (ids : BTreeMap ℕ ℕ) → devices ≡ map.empty → IsEmpty ids → AreIdsByStart devices ids
 no_starts devices ids e f = record {
-  at = λ start id.
-      let none = map.get-empty {X = Range} nat_cmp id in
-      rw e (λ h. grind (arith, f, h), λ h. grind (arith, none, h));
+  at = λ start id. rw e (λ h. grind (arith, f, h), λ h. grind (arith, map.get-empty {X = Range} nat_cmp id, h));
 }
 
 module _ {devices : map.FinMap nat_cmp Range} {ids : BTreeMap ℕ ℕ} (a : AreIdsByStart devices ids) where
@@ -49,10 +47,10 @@ module _ {devices : map.FinMap nat_cmp Range} {ids : BTreeMap ℕ ℕ} (a : AreI
     starts_with with_it n e u = record {
       at = λ x q.
           let at = updated ids new start (Some id) u x in
-          let device = get_with devices id r q in
-          let was = a.at x q in
-          let other = n.start_is_new q in
-          rw e (λ h. grind (arith, at, device, was.0, n.id_is_new, s, h), λ h. grind (arith, at, device, was.1, other, s, h));
+          rw e (
+            λ h. grind (arith, at, get_with devices id r q, (a.at x q).0, n.id_is_new, s, h),
+            λ h. grind (arith, at, get_with devices id r q, (a.at x q).1, n.start_is_new q, s, h),
+          );
     }
 
     pub starts_without : (without : map.FinMap nat_cmp Range) → map.get devices id ≡ Some r → without ≡ map.remove devices id →
@@ -60,10 +58,10 @@ module _ {devices : map.FinMap nat_cmp Range} {ids : BTreeMap ℕ ℕ} (a : AreI
     starts_without without d e u = record {
       at = λ x q.
           let at = updated ids new start None u x in
-          let device = get_without devices id q in
-          let was = a.at x q in
-          let its = a.at x id in
-          rw e (λ h. grind (arith, at, device, was.0, d, s, h), λ h. grind (arith, at, device, was.1, its.1, d, s, h));
+          rw e (
+            λ h. grind (arith, at, get_without devices id q, (a.at x q).0, d, s, h),
+            λ h. grind (arith, at, get_without devices id q, (a.at x q).1, (a.at x id).1, d, s, h),
+          );
     }
 
     pub starts_undone : (later : BTreeMap ℕ ℕ) → IsNew devices id r.start → Updates nat_cmp ids new start (Some id) → Updates nat_cmp new later start None →
@@ -72,7 +70,5 @@ module _ {devices : map.FinMap nat_cmp Range} {ids : BTreeMap ℕ ℕ} (a : AreI
       at = λ x q.
           let mid = updated ids new start (Some id) u x in
           let at = updated new later start None v x in
-          let was = a.at x q in
-          let other = n.start_is_new q in
-          (λ h. grind (arith, mid, at, was.0, s, h), λ h. grind (arith, mid, at, was.1, other, s, h));
+          (λ h. grind (arith, mid, at, (a.at x q).0, s, h), λ h. grind (arith, mid, at, (a.at x q).1, n.start_is_new q, s, h));
     }
