@@ -82,8 +82,6 @@ reserved_device old new request slot h =
 pub reserving_unchanged : (old new : DeviceState) (request : Request) (e : Error) → Reserves old request (Err e) new → new ≡ old
 reserving_unchanged old new request e h = ⊎_elim (λ r. r.2) (λ d. absurd (cc (d.1))) (reserving_outcome old new request (Err e) h)
 
-pub ruleset reservations = (reserved_device, reserving_unchanged)
-
 -- ---- A release
 -- Either an error that changes nothing, or a released device.
 abbrev pub IsRefusedOrReleased : DeviceState → ℕ → Result (Unit {0}) Error → DeviceState → Type 0
@@ -194,7 +192,7 @@ id_peeked old new request id space given answer (inr (all, inr h)) a p = absurd 
 pub request_refused : (old : DeviceState) (request : Request) (id : ℕ) (e : Error) → PeeksId old.ids (Ok id) → MakesConstraint request (Err e) → Reserves old request (Err e) old
 request_refused old request id e p m = id_peeked old old request id old.space (Err e) (Err e) p (allocates_refused old.space request e m) (refl, refl)
 
-pub ruleset reserves = (id_refused, request_refused, constraint_made, reserved_state)
+pub ruleset reserves = (id_refused, request_refused, constraint_made, reserved_device, reserved_state, reserving_unchanged)
 
 module _ (old : DeviceState) (request : Request) (id : ℕ) (r : Range) (mid : AddressState) (i : IsDeviceState old) (p : PeeksId old.ids (Ok id))
     (a : Allocates old.space request (Ok r) mid) (ids : IdState) (space : AddressState) (slots : map.FinMap nat_cmp Range) where

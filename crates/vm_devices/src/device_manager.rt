@@ -119,7 +119,7 @@ impl DeviceManager {
     /// - `ResourceNotAvailable` if all ids are allocated and their range ends below `u32::MAX`.
     /// - The errors of `AddressAllocator::allocate`, in the order of its documentation.
     /// - `OutOfMemory` if an allocation for the table of devices fails.
-    #[tactic(auto, using(crate::proofs::DeviceCalls::reserves, crate::proofs::DeviceCalls::reservations))]
+    #[tactic(auto, using(crate::proofs::DeviceCalls::reserves))]
     pub fn reserve(
         &mut self,
         alloc: Global,
@@ -157,7 +157,7 @@ impl DeviceManager {
     /// - `ResourceNotAvailable` if all ids are allocated and their range ends below `u32::MAX`.
     /// - The errors of `AddressAllocator::allocate_constraint`, in the order of its documentation.
     /// - `OutOfMemory` if an allocation for the table of devices fails.
-    #[tactic(auto, using(crate::proofs::DeviceCalls::reserves, crate::proofs::DeviceCalls::reservations))]
+    #[tactic(auto, using(crate::proofs::DeviceCalls::reserves))]
     pub fn reserve_constraint(&mut self, alloc: Global, request: Constraint) -> Result<DeviceSlot>
         // The id is the lowest that is not held. The range is as long as asked, aligned and in the window,
         // at the place that the policy chooses there.
