@@ -1,44 +1,21 @@
 -- Facts for callers about reserved devices.
-use Rattle.std.proofs.Common.{◌≡◌, ℕ, sym, ap, ⊎_elim, subst, Result, Ok, Err, IfOk, OnOk}
-use Rattle.vm_ranges.specs.Range.{Range, Overlaps}
+use Rattle.std.proofs.Common.{◌≡◌, ⊎_elim, Result, Ok, Err, IfOk}
+use Rattle.vm_ranges.specs.Range.{Overlaps}
 use Rattle.vm_engine.specs.Address.{holding}
 use Rattle.vm_ranges.specs.Request.{Request}
-use Rattle.vm_engine.specs.Answer.{Allocates}
 use Rattle.vm_ranges.specs.declared.error.Error.{Error}
 use Rattle.vm_allocator.proofs.Callers.{allocated_apart}
-use Rattle.vm_allocator.specs.Ids.{IsLowestNotHeld}
 use Rattle.vm_devices.specs.declared.device_slot.DeviceSlot.{DeviceSlot}
-use Rattle.vm_devices.specs.Devices.{DeviceState, IsDevice, IsDeviceState, Reserves, Releases, with_device, without_device}
+use Rattle.vm_devices.specs.Devices.{DeviceState, IsDevice, IsDeviceState, Reserves, Releases}
 use Rattle.vm_devices.proofs.DevicesAgain.{reserved_again}
-use Rattle.vm_devices.proofs.Reserving.{reserved_device, releasing_outcome}
+use Rattle.vm_devices.proofs.DeviceCalls.{reserved_device}
 use Rattle.vm_devices.proofs.Tables.{with_here}
 -- A saved manager survives its text.
 pub use Rattle.vm_devices.proofs.NestedManagers.{manager_through_text}
 
--- The id of a device is the lowest that was not held.
-pub device_lowest : (old new : DeviceState) (request : Request) (answer : Result DeviceSlot Error) → Reserves old request answer new → IfOk answer (λ slot. IsLowestNotHeld old.ids slot.id)
-device_lowest old new request (Ok slot) h = (reserved_device old new request slot h).lowest
-device_lowest old new request (Err e) h = tt
-
--- Only this device is added.
-pub device_state : (old new : DeviceState) (request : Request) (answer : Result DeviceSlot Error) → Reserves old request answer new → IfOk answer (λ slot. new ≡ with_device slot.id slot.range old)
-device_state old new request (Ok slot) h = (reserved_device old new request slot h).left
-device_state old new request (Err e) h = tt
-
--- A released device is removed, and nothing else changes.
-pub released_device : (old new : DeviceState) (id : ℕ) (answer : Result (Unit {0}) Error) → Releases old id answer new → OnOk answer ((r : Range) × IsDevice old id r × (new ≡ without_device id r old))
-released_device old new id (Ok u) h =
-    ⊎_elim
-    (λ r. absurd (cc (r.1)))
-    (λ k. (k.0, k.1, k.3))
-    (releasing_outcome old new id (Ok u) h)
-released_device old new id (Err e) h = tt
-
 -- A reserved device is a device of the manager.
 pub device_there : (old new : DeviceState) (request : Request) (answer : Result DeviceSlot Error) → Reserves old request answer new → IfOk answer (λ slot. IsDevice new slot.id slot.range)
-device_there old new request (Ok slot) h =
-    let d = reserved_device old new request slot h in
-    subst (λ (s : DeviceState). IsDevice s slot.id slot.range) (sym d.left) (with_here old.devices slot.id slot.range)
+device_there old new request (Ok slot) h = rw (reserved_device old new request slot h).left (with_here old.devices slot.id slot.range)
 device_there old new request (Err e) h = tt
 
 -- Two devices that were reserved one after the other share no address.
@@ -47,16 +24,13 @@ pub devices_share_none : (old mid new : DeviceState) (first second : Request) (s
 devices_share_none old mid new first second slot other h k =
     let d = reserved_device old mid first slot h in
     let e = reserved_device mid new second other k in
-    let space : mid.space ≡ holding slot.range old.space = ap (λ (s : DeviceState). s.space) d.left in
-    allocated_apart old.space mid.space (holding other.range mid.space) first second slot.range other.range (subst (Allocates old.space first (Ok slot.range)) (sym space) d.given) e.given
+    allocated_apart old.space mid.space (holding other.range mid.space) first second slot.range other.range (rw d.left d.given) e.given
 
 -- A device that is released at once is reserved again by the same request.
 pub device_again : (old mid new later : DeviceState) (request : Request) (slot : DeviceSlot) (answer : Result DeviceSlot Error) → IsDeviceState old →
     Reserves old request (Ok slot) mid → Releases mid slot.id (Ok tt) new → Reserves new request answer later → IfOk answer (λ again. again ≡ slot)
 device_again old mid new later request slot (Ok again) i s f t =
-    ⊎_elim
-    (λ e. cc (e))
-    (λ x. absurd (⊎_elim (λ m. cc (m)) (λ d. cc (d.1)) x))
+    ⊎_elim (λ e. cc (e)) (λ x. absurd (⊎_elim (λ m. cc (m)) (λ d. cc (d.1)) x))
     (reserved_again old mid new later request slot (Ok tt) (Ok again) i s f (λ e. cc (e)) t)
 device_again old mid new later request slot (Err e) i s f t = tt
 

@@ -1,168 +1,223 @@
--- The results of the calls of a manager follow from the results of its parts. A record has the facts of one case of a
--- call.
-use Rattle.std.proofs.Common.{◌≡◌, ℕ, ◌⊎◌, refl, sym, ap, ◌∙◌, inl, inr, ⊎_elim, subst, None, Result, Ok, Err, IfOk, IfErr, OnErr}
+-- The results of the calls of a manager, case by case, and the results that follow from those of its parts.
+use Rattle.std.proofs.Common.{◌≡◌, ℕ, ◌≤◌, arith, refl, sym, ap, ⊎_elim, subst, Some, None, Result, Ok, Err, ◌%◌, inl, inr, ◌⊎◌, Option, MatchOption, IfSome, OnOk}
+use Rattle.std.proofs.lemmas.Bool.{both_ways}
+use Rattle.std.specs.List.{Contains}
 use Rattle.std.specs.Ordering.{nat_cmp}
 use Rattle.std.specs.FinMap as map
-use Rattle.std.specs.List.{Contains}
-use Rattle.vm_ranges.specs.Range.{Range}
-use Rattle.vm_engine.specs.Address.{AddressState, releasing}
-use Rattle.vm_ranges.specs.Request.{Request}
-use Rattle.vm_engine.specs.Answer.{Allocates, Frees, Makes}
-use Rattle.vm_allocator.specs.Ids.{IdState, IsHeld, MakesIds, ByLowestNotHeld, PeeksId, AllocatesId, FreesId, releasing_id}
+use Rattle.std.specs.FinSet as set
+use Rattle.vm_ranges.specs.Range.{Range, MAX, Covers, address_count}
+use Rattle.vm_engine.specs.Address.{AddressState, holding, releasing}
+use Rattle.vm_engine.specs.Answer.{Makes, IsChosen, Allocates, Frees}
+use Rattle.vm_allocator.specs.Ids.{MAX_ID, IdState, IsHeld, MakesIds, new_ids, IsLowestNotHeld, ByLowestNotHeld, AllocatesId, holding_id, PeeksId, releasing_id}
 use Rattle.vm_ranges.specs.declared.error.Error.{Error}
-use Rattle.vm_ranges.specs.declared.error.Error.TheVariants.{Overflow, ResourceNotAvailable, NeverAllocated, OutOfMemory}
-use Rattle.vm_engine.proofs.Answers.AddressAnswers.{freeing_undoes}
-use Rattle.vm_allocator.proofs.Answers.EveryAddressCall.{every_call}
-use Rattle.vm_allocator.proofs.Callers.{given}
-use Rattle.vm_allocator.proofs.Ids.IdAnswers.{peeking_predicts}
+use Rattle.vm_engine.proofs.Answers.AddressAnswers.{made_is, state_is_preserved, freeing_undoes}
+use Rattle.vm_allocator.proofs.Ids.IdAnswers.{id_states_are_preserved, peeking_predicts}
+use Rattle.vm_devices.specs.Devices.{DeviceState, IsDeviceState, MakesManager, IsDevice, with_device, without_device, Pairs, Reserves, Releases, devices_of}
+use Rattle.vm_ranges.specs.Request.{Request, MakesConstraint}
+use Rattle.vm_ranges.specs.declared.error.Error.TheVariants.{NeverAllocated, OutOfMemory}
+use Rattle.vm_allocator.proofs.Callers.{given, allocated_chosen, request_fits, request_inside}
 use Rattle.vm_devices.specs.declared.device_slot.DeviceSlot.{DeviceSlot}
-use Rattle.vm_devices.specs.Devices.{DeviceState, IsDeviceState, IsDevice, devices_of, MakesManager, Reserves, Releases}
-use Rattle.vm_devices.specs.Checks.{IsEntered, IsGivenBack}
-use Rattle.vm_devices.proofs.Pairs.{id_held}
-use Rattle.vm_devices.proofs.NewManagers.{IsMade, no_devices}
-use Rattle.vm_devices.proofs.Reserving.{reserved_state, released_state}
+use Rattle.vm_devices.proofs.Pairs.{state_with, state_without, id_held}
+use Rattle.vm_ranges.proofs.Requests.{constraint_made}
+use Rattle.vm_engine.proofs.Answers.Requests.{allocates_refused}
+use Rattle.vm_allocator.proofs.Answers.EveryAddressCall.{every_call}
 
--- The ids, the space and the table of a manager.
-pub record Parts : Type 0 where
-  pub ids : IdState
-  pub space : AddressState
-  pub slots : map.FinMap nat_cmp Range
+-- ---- A reservation
+-- A reserved device has the lowest id that was not held, and a range that the request allocates: as long as asked,
+-- aligned and in the window, at the place that the policy chooses.
+pub record IsReserved (old : DeviceState) (request : Request) (slot : DeviceSlot) (new : DeviceState) : Type 0 where
+  pub lowest : IsLowestNotHeld old.ids slot.id
+  pub given : Allocates old.space request (Ok slot.range) (holding slot.range old.space)
+  pub left : new ≡ with_device slot.id slot.range old
+  pub fits : (address_count slot.range ≡ request.size) × (slot.range.start % request.align ≡ 0)
+  pub inside : IfSome request.window (λ w. Covers w slot.range)
+  pub chosen : IsChosen request old.space slot.range.start
 
--- The state that they represent.
-abbrev pub state_in : Parts → DeviceState
-state_in p = devices_of p.ids p.space p.slots
+-- The lowest id that is not held is the id that is allocated.
+gets_lowest : (old : DeviceState) (id : ℕ) → IsLowestNotHeld old.ids id → AllocatesId old.ids (Ok id) (holding_id id old.ids)
+unfolding AllocatesId ByLowestNotHeld
+gets_lowest old id lowest = inl (id, lowest, (refl, refl))
+
+-- Either an error that changes nothing, or a reserved device.
+abbrev pub IsRefusedOrReserved : DeviceState → Request → Result DeviceSlot Error → DeviceState → Type 0
+IsRefusedOrReserved old request answer new =
+    ((e : Error) × (answer ≡ Err e) × (new ≡ old))
+    ⊎ ((slot : DeviceSlot) × (answer ≡ Ok slot) × IsReserved old request slot new)
+
+paired_outcome : (old new : DeviceState) (space : AddressState) (request : Request) (id : ℕ) (given : Result Range Error) (answer : Result DeviceSlot Error) →
+    IsLowestNotHeld old.ids id → Allocates old.space request given space → Pairs old id given answer new → IsRefusedOrReserved old request answer new
+paired_outcome old new space request id (Err e) answer lowest a p = inl (e, p.0, p.1)
+paired_outcome old new space request id (Ok r) answer lowest a p =
+    ⊎_elim
+    (λ t.
+    inr (
+      record { id = id; range = r },
+      t.0,
+      record {
+        lowest = lowest;
+        given = subst (Allocates old.space request (Ok r)) (given old.space space request r a).left a;
+        left = t.1;
+        fits = request_fits old.space space request (Ok r) a;
+        inside = request_inside old.space space request (Ok r) a;
+        chosen = allocated_chosen old.space space request (Ok r) a;
+      },
+    ))
+    (λ m. inl (OutOfMemory, m.0, m.1))
+    p
+
+pub reserving_outcome : (old new : DeviceState) (request : Request) (answer : Result DeviceSlot Error) → Reserves old request answer new → IsRefusedOrReserved old request answer new
+unfolding Reserves ByLowestNotHeld
+reserving_outcome old new request answer (inl h) =
+    paired_outcome old new h.2.1 request h.0 h.2.0 answer h.1 h.2.2 h.2.3
+reserving_outcome old new request answer (inr (all, inl h)) = inl (_, h.1.0, h.1.1)
+reserving_outcome old new request answer (inr (all, inr h)) = inl (_, h.1.0, h.1.1)
+
+pub reserved_device : (old new : DeviceState) (request : Request) (slot : DeviceSlot) → Reserves old request (Ok slot) new → IsReserved old request slot new
+reserved_device old new request slot h =
+    ⊎_elim
+    (λ r. absurd (cc (r.1)))
+    (λ d. let same : d.0 ≡ slot = cc (d.1) in subst (λ (s : DeviceSlot). IsReserved old request s new) same d.2)
+    (reserving_outcome old new request (Ok slot) h)
+
+pub reserving_unchanged : (old new : DeviceState) (request : Request) (e : Error) → Reserves old request (Err e) new → new ≡ old
+reserving_unchanged old new request e h = ⊎_elim (λ r. r.2) (λ d. absurd (cc (d.1))) (reserving_outcome old new request (Err e) h)
+
+-- ---- A release
+-- Either an error that changes nothing, or a released device.
+abbrev pub IsRefusedOrReleased : DeviceState → ℕ → Result (Unit {0}) Error → DeviceState → Type 0
+IsRefusedOrReleased old id answer new =
+    ((e : Error) × (answer ≡ Err e) × (new ≡ old))
+    ⊎ ((r : Range) × IsDevice old id r × (answer ≡ Ok tt) × (new ≡ without_device id r old))
+
+released_outcome : (old new : DeviceState) (id : ℕ) (answer : Result (Unit {0}) Error) (at : Option Range) → map.get old.devices id ≡ at →
+    MatchOption at ((answer ≡ Err (NeverAllocated id)) × (new ≡ old)) (λ r. ((answer ≡ Ok tt) × (new ≡ without_device id r old)) ⊎ ((answer ≡ Err OutOfMemory) × (new ≡ old))) →
+    IsRefusedOrReleased old id answer new
+released_outcome old new id answer None e h = inl (NeverAllocated id, h.0, h.1)
+released_outcome old new id answer (Some r) e h =
+    ⊎_elim (λ t. inr (r, e, t.0, t.1)) (λ m. inl (OutOfMemory, m.0, m.1)) h
+
+pub releasing_outcome : (old new : DeviceState) (id : ℕ) (answer : Result (Unit {0}) Error) → Releases old id answer new → IsRefusedOrReleased old id answer new
+unfolding Releases
+releasing_outcome old new id answer h = released_outcome old new id answer (map.get old.devices id) refl h
+
+-- A released device is removed, and nothing else changes.
+pub released_device : (old new : DeviceState) (id : ℕ) (answer : Result (Unit {0}) Error) → Releases old id answer new → OnOk answer ((r : Range) × IsDevice old id r × (new ≡ without_device id r old))
+released_device old new id (Ok u) h =
+    ⊎_elim
+    (λ r. absurd (cc (r.1)))
+    (λ k. (k.0, k.1, k.3))
+    (releasing_outcome old new id (Ok u) h)
+released_device old new id (Err e) h = tt
+
+-- ---- Each call preserves the pairs
+pub reserved_state : (old new : DeviceState) (request : Request) (answer : Result DeviceSlot Error) → IsDeviceState old → Reserves old request answer new → IsDeviceState new
+reserved_state old new request answer i h =
+    ⊎_elim
+    (λ r. subst IsDeviceState (sym r.2) i)
+    (λ d.
+    let slot = d.0 in
+    let made = d.2 in
+    subst IsDeviceState (sym made.left) (state_with old slot.id slot.range request i (gets_lowest old slot.id made.lowest) made.given))
+    (reserving_outcome old new request answer h)
+
+pub released_state : (old new : DeviceState) (id : ℕ) (answer : Result (Unit {0}) Error) → IsDeviceState old → Releases old id answer new → IsDeviceState new
+released_state old new id answer i h =
+    ⊎_elim
+    (λ r. subst IsDeviceState (sym r.2) i)
+    (λ d. subst IsDeviceState (sym d.3) (state_without old id d.0 i d.1))
+    (releasing_outcome old new id answer h)
 
 -- ---- Creating
-pub ids_refused : (lo hi base size : ℕ) (e : Error) → MakesIds lo hi (Err e) → MakesManager lo hi base size (Err e)
-unfolding MakesManager
-ids_refused lo hi base size e m = let space = every_call.made base size in (Err e, space.0, m, space.1, refl)
+module _ (lo hi base size : ℕ) where
+  pub ids_refused : (e : Error) → MakesIds lo hi (Err e) → MakesManager lo hi base size (Err e)
+  unfolding MakesManager
+  ids_refused e m = let space = every_call.made base size in (Err e, space.0, m, space.1, refl)
 
-pub space_refused : (lo hi base size : ℕ) (ids : IdState) (e : Error) → MakesIds lo hi (Ok ids) → Makes base size (Err e) →
-    MakesManager lo hi base size (Err e)
-unfolding MakesManager
-space_refused lo hi base size ids e m n = (Ok ids, Err e, m, n, refl)
+  pub space_refused : (ids : IdState) (e : Error) → MakesIds lo hi (Ok ids) → Makes base size (Err e) → MakesManager lo hi base size (Err e)
+  unfolding MakesManager
+  space_refused ids e m n = (Ok ids, Err e, m, n, refl)
 
-pub manager_made : (lo hi base size : ℕ) (ids : IdState) (space : AddressState) (slots : map.FinMap nat_cmp Range) → MakesIds lo hi (Ok ids) →
-    Makes base size (Ok space) → slots ≡ map.empty → MakesManager lo hi base size (Ok (devices_of ids space slots))
-unfolding MakesManager
-manager_made lo hi base size ids space slots m n e =
-    (Ok ids, Ok space, m, n, ap (λ t. Ok (record { ids = ids; space = space; devices = t })) e)
-
-pub manager_state : {lo hi base size : ℕ} (new : Parts) → IsMade lo hi base size new.ids new.space → new.slots ≡ map.empty → IsDeviceState (state_in new)
-manager_state {lo} {hi} {base} {size} new m e =
-    subst (λ t. IsDeviceState (record { ids = new.ids; space = new.space; devices = t })) (sym e) (no_devices lo hi base size new.ids new.space m)
+  pub manager_made : (ids : IdState) (space : AddressState) (slots : map.FinMap nat_cmp Range) → MakesIds lo hi (Ok ids) →
+      Makes base size (Ok space) → slots ≡ map.empty → MakesManager lo hi base size (Ok (devices_of ids space slots))
+  unfolding MakesManager
+  manager_made ids space slots m n e = (Ok ids, Ok space, m, n, ap (λ t. Ok (devices_of ids space t)) e)
 
 pub ruleset makes_managers = (ids_refused, space_refused, manager_made)
 
--- ---- Reserving
--- The id that `peek_id` returned is the lowest.
-for_peeked : (ids : IdState) (id : ℕ) (takes : ℕ → Type 0) (refused : Error → Type 0) → PeeksId ids (Ok id) → takes id → ByLowestNotHeld ids takes refused
-unfolding PeeksId ByLowestNotHeld
-for_peeked ids id takes refused (inl h) t = let same : id ≡ h.0 = cc (h.2) in inl (h.0, h.1, subst takes same t)
-for_peeked ids id takes refused (inr (all, inl h)) t = absurd (cc (h.1))
-for_peeked ids id takes refused (inr (all, inr h)) t = absurd (cc (h.1))
+-- No id and no range is held, and there is no device.
+no_devices : (lo hi base size : ℕ) (ids : IdState) (space : AddressState) → hi ≤ MAX_ID → size ≤ MAX → MakesIds lo hi (Ok ids) → Makes base size (Ok space) →
+    IsDeviceState (record { ids = ids; space = space; devices = map.empty })
+unfolding MakesIds
+no_devices lo hi base size ids space id word ids_made space_made =
+    let none = λ (q : ℕ). map.get-empty {X = Range} nat_cmp q in
+    let fresh : ids ≡ new_ids lo hi = ⊎_elim (λ l. absurd (cc (l.1))) (λ r. cc (r.1)) ids_made in
+    let held : (r : Range) → ¬ Contains space.held r =
+    λ r c. let none = subst (λ (v : AddressState). Contains v.held r) (made_is base size space space_made).2 c in let below = none.1 in omega (arith, below) in
+    record {
+      ids = id_states_are_preserved.made lo hi ids id ids_made;
+      space = state_is_preserved.made base size space word space_made;
+      pairs = record {
+        ids = λ q. (
+          λ h. absurd (both_ways _ (set.contains-empty nat_cmp q) (subst (λ (v : IdState). IsHeld v q) fresh h)),
+          λ h. let n = none q in absurd (cc (n, h)),
+        );
+        held = λ q r d. let n = none q in absurd (cc (n, d));
+        owned = λ r c. absurd (held r c);
+        once = λ i j r d f. let n = none i in absurd (cc (n, d));
+      };
+    }
 
+pub made_state : (lo hi base size : ℕ) (state : DeviceState) → hi ≤ MAX_ID → size ≤ MAX → MakesManager lo hi base size (Ok state) → IsDeviceState state × (state.devices ≡ map.empty)
+unfolding MakesManager
+made_state lo hi base size state id word (Err e, space, m, n, h) = absurd (cc (h))
+made_state lo hi base size state id word (Ok ids, Err e, m, n, h) = absurd (cc (h))
+made_state lo hi base size state id word (Ok ids, Ok space, m, n, h) =
+    let same : state ≡ record { ids = ids; space = space; devices = map.empty } = cc (h) in
+    (rw same (no_devices lo hi base size ids space id word m n), ap (λ (s : DeviceState). s.devices) same)
+
+-- ---- Reserving
 pub id_refused : (old new : DeviceState) (request : Request) (e : Error) → PeeksId old.ids (Err e) → new ≡ old → Reserves old request (Err e) new
 unfolding Reserves PeeksId ByLowestNotHeld
-id_refused old new request e (inl h) same = absurd (cc (h.2))
-id_refused old new request e (inr (all, inl h)) same = let is : e ≡ Overflow = cc (h.1) in inr (all, inl (h.0, (ap (λ (v : Error). Err v) is, same)))
-id_refused old new request e (inr (all, inr h)) same =
-    let is : e ≡ ResourceNotAvailable = cc (h.1) in inr (all, inr (h.0, (ap (λ (v : Error). Err v) is, same)))
+id_refused old new request e p same = grind arith
 
--- `peek_id` returned an id, and a range is requested.
-pub record IsAsked (old : DeviceState) (request : Request) (given : Result Range Error) : Type 0 where
-  pub id : ℕ
-  pub space : AddressState
-  pub predicted : PeeksId old.ids (Ok id)
-  pub answer : Allocates old.space request given space
+-- `peek_id` returned an id, and a range was requested.
+pub id_peeked : (old new : DeviceState) (request : Request) (id : ℕ) (space : AddressState) (given : Result Range Error) (answer : Result DeviceSlot Error) →
+    PeeksId old.ids (Ok id) → Allocates old.space request given space → Pairs old id given answer new → Reserves old request answer new
+unfolding Reserves PeeksId ByLowestNotHeld
+id_peeked old new request id space given answer (inl h) a p =
+    let same : id ≡ h.0 = cc (h.2) in inl (h.0, h.1, (given, space, a, subst (λ (i : ℕ). Pairs old i given answer new) same p))
+id_peeked old new request id space given answer (inr (all, inl h)) a p = absurd (cc (h.1))
+id_peeked old new request id space given answer (inr (all, inr h)) a p = absurd (cc (h.1))
 
-pub range_refused : {old new : DeviceState} {request : Request} {e : Error} → IsAsked old request (Err e) → new ≡ old → Reserves old request (Err e) new
-unfolding Reserves
-range_refused {old} {new} {request} {e} a same = for_peeked old.ids a.id _ _ a.predicted (Err e, a.space, a.answer, (refl, same))
+pub request_refused : (old : DeviceState) (request : Request) (id : ℕ) (e : Error) → PeeksId old.ids (Ok id) → MakesConstraint request (Err e) → Reserves old request (Err e) old
+request_refused old request id e p m = id_peeked old old request id old.space (Err e) (Err e) p (allocates_refused old.space request e m) (refl, refl)
 
-pub table_refused : {old new : DeviceState} {request : Request} {r : Range} → IsAsked old request (Ok r) → new ≡ old →
-    Reserves old request (Err OutOfMemory) new
-unfolding Reserves
-table_refused {old} {new} {request} {r} a same = for_peeked old.ids a.id _ _ a.predicted (Ok r, a.space, a.answer, inr (refl, same))
+pub ruleset reserves = (id_refused, request_refused, constraint_made, reserved_device, reserved_state, reserving_unchanged)
 
--- A range is allocated and freed, and the table is unchanged.
-pub record IsUndone (old : Parts) (later : AddressState) (left : map.FinMap nat_cmp Range) : Type 0 where
-  pub mid : AddressState
-  pub request : Request
-  pub range : Range
-  pub answer : Result (Unit {0}) Error
-  pub given : Allocates old.space request (Ok range) mid
-  pub back : Frees mid range answer later
-  pub unchanged : left ≡ old.slots
+module _ (old : DeviceState) (request : Request) (id : ℕ) (r : Range) (mid : AddressState) (i : IsDeviceState old) (p : PeeksId old.ids (Ok id))
+    (a : Allocates old.space request (Ok r) mid) (ids : IdState) (space : AddressState) (slots : map.FinMap nat_cmp Range) where
+  -- The predicted id and the range are entered.
+  module _ (taken : Result ℕ Error) (t : AllocatesId old.ids taken ids) (f : space ≡ mid) (e : slots ≡ map.insert old.devices id r) where
+    pub entered : Reserves old request (Ok (record { id = id; range = r })) (devices_of ids space slots)
+    entered =
+        id_peeked old (devices_of ids space slots) request id mid (Ok r) _ p a
+        (inl (refl, cc ((peeking_predicts.held old.ids ids id taken p t).1, (given old.space mid request r a).left, e, f)))
 
--- The state is then the state before.
-pub undone : {old : Parts} {later : AddressState} {left : map.FinMap nat_cmp Range} → IsDeviceState (state_in old) → IsUndone old later left →
-    devices_of old.ids later left ≡ state_in old
-undone {old} {later} {left} i u =
-    let back : later ≡ old.space = (freeing_undoes old.space u.mid later u.request u.range u.answer i.space u.given u.back).1 in
-    ap (λ (s : AddressState). devices_of old.ids s left) back
-    ∙ ap (λ t. devices_of old.ids old.space t) u.unchanged
+    pub entered_state : IsDeviceState (devices_of ids space slots)
+    entered_state = reserved_state old _ request _ i entered
 
--- The predicted id and a range are allocated, and entered in the table.
-pub record Comes (old new : Parts) (request : Request) (slot : DeviceSlot) : Type 0 where
-  pub answer : Result ℕ Error
-  pub predicted : PeeksId old.ids (Ok slot.id)
-  pub taken : AllocatesId old.ids answer new.ids
-  pub given : Allocates old.space request (Ok slot.range) new.space
-  pub entered : new.slots ≡ map.insert old.slots slot.id slot.range
+  -- The range is freed again.
+  module _ (answer : Result (Unit {0}) Error) (f : Frees mid r answer space) (e : slots ≡ old.devices) (same : ids ≡ old.ids) where
+    left_as_it_was : devices_of ids space slots ≡ old
+    left_as_it_was = rw (same, (freeing_undoes old.space mid space request r answer i.space a f).1, e) refl
 
--- A device is then reserved.
-pub come : {old new : Parts} {request : Request} {slot : DeviceSlot} → Comes old new request slot → Reserves (state_in old) request (Ok slot) (state_in new)
-unfolding Reserves
-come {old} {new} {request} {slot} c =
-    let predicted = (peeking_predicts.held old.ids new.ids slot.id c.answer c.predicted c.taken).1 in
-    let given = (given old.space new.space request slot.range c.given).left in
-    for_peeked old.ids slot.id _ _ c.predicted (Ok slot.range, new.space, c.given, inl (refl, cc (predicted, given, c.entered)))
+    pub undone : Reserves old request (Err OutOfMemory) (devices_of ids space slots)
+    undone = id_peeked old (devices_of ids space slots) request id mid (Ok r) _ p a (inr (refl, left_as_it_was))
 
-pub come_state : {old new : Parts} {request : Request} {slot : DeviceSlot} → IsDeviceState (state_in old) → Comes old new request slot →
-    IsDeviceState (state_in new)
-come_state {old} {new} {request} {slot} i c = reserved_state (state_in old) (state_in new) request (Ok slot) i (come c)
+    pub undone_state : IsDeviceState (devices_of ids space slots)
+    undone_state = rw left_as_it_was i
 
--- The result of entering a device, after its range was allocated.
-pub record HasEntered (old : Parts) (mid : AddressState) (new : Parts) (id : ℕ) (r : Range) (answer : Result DeviceSlot Error) : Type 0 where
-  pub entered : IfOk answer (λ slot. (slot ≡ record { id = id; range = r }) × (new.space ≡ mid) × IsEntered old.ids new.ids old.slots new.slots slot)
-  pub undone : IfErr answer (λ e. (e ≡ OutOfMemory) × (new.ids ≡ old.ids) × (new.slots ≡ old.slots) × IsGivenBack mid r new.space)
-
--- The device is then reserved, or nothing has changed.
-pub record IsOutcome (old new : Parts) (request : Request) (answer : Result DeviceSlot Error) : Type 0 where
-  pub result : Reserves (state_in old) request answer (state_in new)
-  pub state : IsDeviceState (state_in new)
-  pub unchanged : OnErr answer (state_in new ≡ state_in old)
-
-pub outcome : (old : Parts) (mid : AddressState) (new : Parts) (request : Request) (id : ℕ) (r : Range) (answer : Result DeviceSlot Error) →
-    IsDeviceState (state_in old) → PeeksId old.ids (Ok id) → Allocates old.space request (Ok r) mid → HasEntered old mid new id r answer →
-    IsOutcome old new request answer
-outcome old mid new request id r (Ok slot) i p a h =
-    let e = h.entered in
-    let entered = e.2 in
-    let given : Allocates old.space request (Ok slot.range) new.space =
-    rw (e.0, e.1) a in
-    let comes : Comes old new request slot = record {
-      answer = entered.answer;
-      predicted = rw e.0 p;
-      taken = entered.taken;
-      given = given;
-      entered = entered.entered;
-    } in
-    record { result = come comes; state = come_state i comes; unchanged = tt }
-outcome old mid new request id r (Err e) i p a h =
-    let u = h.undone in
-    let back = u.3 in
-    let same : state_in new ≡ state_in old =
-    ap (λ (v : IdState). devices_of v new.space new.slots) u.1
-    ∙ undone i (record { mid = mid; request = request; range = r; answer = back.answer; given = a; back = back.back; unchanged = u.2 }) in
-    let refused : Reserves (state_in old) request (Err OutOfMemory) (state_in new) =
-    table_refused {r = r} (record { id = id; space = mid; predicted = p; answer = a }) same in
-    record {
-      result = subst (λ (v : Error). Reserves (state_in old) request (Err v) (state_in new)) (sym u.0) refused;
-      state = subst IsDeviceState (sym same) i;
-      unchanged = same;
-    }
+pub ruleset enters = (entered)
 
 -- ---- Releasing
 pub no_device : (old new : DeviceState) (id : ℕ) → map.get old.devices id ≡ None → new ≡ old → Releases old id (Err (NeverAllocated id)) new
@@ -177,36 +232,21 @@ release_refused old new id r e back i d held is same =
     let memory : e ≡ OutOfMemory = ⊎_elim (λ k. absurd (cc (k, is))) (λ k. cc (k, is)) (held (id_held old id r i d)) in
     rw d (inr (ap (λ (v : Error). Err v) memory, same))
 
-id_freed : (old new : IdState) (id back : ℕ) → FreesId old id (Ok back) new → new ≡ releasing_id id old
-unfolding FreesId
-id_freed old new id back (inl a) = absurd (cc (a.1.0))
-id_freed old new id back (inr (_, inl a)) = absurd (cc (a.1.0))
-id_freed old new id back (inr (_, inr (_, inl a))) = absurd (cc (a.1.0))
-id_freed old new id back (inr (_, inr (_, inr (_, inl a)))) = a.1
-id_freed old new id back (inr (_, inr (_, inr (_, inr a)))) = absurd (cc (a.0))
-
 range_freed : (old new : AddressState) (r : Range) (answer : Result (Unit {0}) Error) → Contains old.held r → Frees old r answer new → new ≡ releasing r old
 unfolding Frees
-range_freed old new r answer c (inl a) = a.1.1
-range_freed old new r answer c (inr a) = absurd (a.0 c)
+range_freed old new r answer c f = grind arith
 
 -- The id and the range of a device are freed, and its entry is removed from the table.
-pub record Goes (old new : Parts) (id : ℕ) : Type 0 where
-  pub range : Range
-  pub back : ℕ
-  pub answer : Result (Unit {0}) Error
-  pub device : IsDevice (state_in old) id range
-  pub freed_id : FreesId old.ids id (Ok back) new.ids
-  pub freed_range : Frees old.space range answer new.space
-  pub removed : new.slots ≡ map.remove old.slots id
+module _ (old : DeviceState) (id : ℕ) (r : Range) (ids : IdState) (space : AddressState) (slots : map.FinMap nat_cmp Range) (answer : Result (Unit {0}) Error)
+    (i : IsDeviceState old) (d : IsDevice old id r) (e : ids ≡ releasing_id id old.ids) (f : Frees old.space r answer space) (g : slots ≡ map.remove old.devices id) where
+  left : devices_of ids space slots ≡ without_device id r old
+  left = cc (e, range_freed old.space space r answer (i.pairs.held id r d) f, g)
 
--- The device is then released.
-pub go : {old new : Parts} {id : ℕ} → IsDeviceState (state_in old) → Goes old new id → Releases (state_in old) id (Ok tt) (state_in new)
-unfolding Releases
-go {old} {new} {id} i g =
-    let no_id = id_freed old.ids new.ids id g.back g.freed_id in
-    let no_range = range_freed old.space new.space g.range g.answer (i.pairs.held id g.range g.device) g.freed_range in
-    rw g.device (inl (refl, cc (no_id, no_range, g.removed)))
+  pub left_state : IsDeviceState (devices_of ids space slots)
+  left_state = rw left (state_without old id r i d)
 
-pub go_state : {old new : Parts} {id : ℕ} → IsDeviceState (state_in old) → Goes old new id → IsDeviceState (state_in new)
-go_state {old} {new} {id} i g = released_state (state_in old) (state_in new) id (Ok tt) i (go i g)
+  pub gone : Releases old id (Ok tt) (devices_of ids space slots)
+  unfolding Releases
+  gone = rw (left, d) (inl (refl, refl))
+
+pub ruleset releases = (no_device, release_refused, gone, released_device)

@@ -1,24 +1,21 @@
 -- Facts of every history of a manager.
-use Rattle.std.proofs.Common.{◌≡◌, ◌≢◌, ℕ, ◌<◌, ◌⊎◌, List, [], ◌∷◌, suc, arith, sym, ap, ◌∙◌, inl, inr, ⊎_elim, subst, Some, None, Ok}
-use Rattle.std.proofs.lemmas.Bool.{cases_eq}
+use Rattle.std.proofs.Common.{◌≡◌, ◌≢◌, ℕ, ◌<◌, ◌⊎◌, List, [], ◌∷◌, suc, arith, sym, ap, ◌∙◌, inl, inr, ⊎_elim, subst, Some, Ok}
 use Rattle.std.specs.Ordering.{nat_cmp}
 use Rattle.std.specs.FinMap as map
 use Rattle.vm_ranges.specs.Range.{Range, MAX, Overlaps, Covers}
 use Rattle.vm_engine.specs.Address.{holding}
-use Rattle.vm_engine.specs.Answer.{Allocates}
 use Rattle.vm_allocator.specs.Ids.{IsOfRange}
 use Rattle.vm_engine.proofs.Answers.AddressAnswers.{lie_apart}
-use Rattle.vm_allocator.proofs.Callers.{given, request_fits, request_inside}
+use Rattle.vm_allocator.proofs.Callers.{given}
 use Rattle.vm_devices.specs.declared.device_slot.DeviceSlot.{DeviceSlot}
 use Rattle.vm_devices.specs.Devices.{DeviceState, IsDevice, IsDeviceState}
 use Rattle.vm_ranges.proofs.CloneAnswers.{cloning_keeps}
 use Rattle.vm_devices.specs.Histories.{DeviceCall, Reservation, Release, Cloning, IsDeviceCallFrom, IsDeviceHistoryFrom, IsManagerMade, BeginsWithDevices, AreDevicesReached, WasReserved, WasThereFirst}
 use Rattle.vm_devices.specs.Laws.{DevicesAreValid}
-use Rattle.vm_devices.proofs.Tables.{with_here, with_other}
-use Rattle.vm_devices.proofs.Pairs.{one_range, was, id_held}
-use Rattle.vm_devices.proofs.NewManagers.{made_state}
+use Rattle.vm_devices.proofs.Tables.{with_cases, without_is}
+use Rattle.vm_devices.proofs.Pairs.{id_held}
+use Rattle.vm_devices.proofs.DeviceCalls.{made_state, IsReserved, reserving_outcome, releasing_outcome, reserved_state, released_state}
 use Rattle.vm_devices.proofs.SavedManagers.{encoded_state}
-use Rattle.vm_devices.proofs.Reserving.{reserving_outcome, releasing_outcome, reserved_state, released_state}
 
 -- ---- Every reached state is valid
 call_state : (old new : DeviceState) (call : DeviceCall) → IsDeviceCallFrom old call new → IsDeviceState old → IsDeviceState new
@@ -45,61 +42,51 @@ reserved_later call calls id r g =
     record { request = g.request; call = (suc c.0, omega (arith, c.1), c.2); aligned = g.aligned; long = g.long; inside = g.inside }
 
 -- A device after a call was a device before it, or the call reserved it.
-call_reserves : (old new : DeviceState) (call : DeviceCall) (calls : List DeviceCall) (id : ℕ) (r : Range) → IsDeviceCallFrom old call new → IsDeviceState old →
+call_reserves : (old new : DeviceState) (call : DeviceCall) (calls : List DeviceCall) (id : ℕ) (r : Range) → IsDeviceCallFrom old call new →
     IsDevice new id r → IsDevice old id r ⊎ WasReserved (call ∷ calls) id r
-call_reserves old new (Reservation request answer) calls id r h i d =
+call_reserves old new (Reservation request answer) calls id r h d =
     ⊎_elim
-    (λ refused. inl (subst (λ (s : DeviceState). IsDevice s id r) refused.2 d))
+    (λ refused. inl (rw refused.2 at d))
     (λ made.
     let slot = made.0 in
-    let m = made.2 in
-    let now = subst (λ (s : DeviceState). IsDevice s id r) m.left d in
     ⊎_elim
-    (λ (e : id ≡ slot.id).
-    let same : r ≡ slot.range = one_range r slot.range _ (ap (map.get (map.insert old.devices slot.id slot.range)) (sym e) ∙ now) (with_here old.devices slot.id slot.range) in
-    let a = subst (λ (v : Range). Allocates old.space request (Ok v) (holding slot.range old.space)) (sym same) m.given in
-    let named : record { id = slot.id; range = slot.range } ≡ record { id = id; range = r } = cc (e, same) in
+    (λ same.
+    let is : slot ≡ record { id = id; range = r } = λ k. record { id = sym same.0 k; range = sym same.1 k } in
+    let m = subst (λ (s : DeviceSlot). IsReserved old request s new) is made.2 in
     inr (record {
       request = request;
-      call = (0, omega arith, ap (Reservation request) (made.1 ∙ ap (λ (s : DeviceSlot). Ok s) named));
-      aligned = (request_fits old.space (holding slot.range old.space) request (Ok r) a).1;
-      long = (given old.space (holding slot.range old.space) request r a).long;
-      inside = request_inside old.space (holding slot.range old.space) request (Ok r) a;
+      call = (0, omega arith, ap (Reservation request) (made.1 ∙ ap (λ (s : DeviceSlot). Ok s) is));
+      aligned = m.fits.1;
+      long = (given old.space (holding r old.space) request r m.given).long;
+      inside = m.inside;
     }))
-    (λ (ne : id ≡ slot.id → ⊥). inl (sym (with_other old.devices slot.id slot.range id ne) ∙ now))
-    (cases_eq id slot.id))
+    (λ before. inl before)
+    (with_cases old.devices slot.id slot.range id r (rw made.2.left at d)))
     (reserving_outcome old new request answer h)
-call_reserves old new (Release q answer) calls id r h i d =
-    inl (⊎_elim
-    (λ refused. subst (λ (s : DeviceState). IsDevice s id r) refused.2 d)
-    (λ left. was old q left.0 i left.1 id r (subst (λ (s : DeviceState). IsDevice s id r) left.3 d))
-    (releasing_outcome old new q answer h))
-call_reserves old new (Cloning answer) calls id r h i d =
-    inl (subst (λ (s : DeviceState). IsDevice s id r) (cloning_keeps old new answer h.0 h.1) d)
+call_reserves old new (Release q answer) calls id r h d =
+    inl (⊎_elim (λ refused. rw refused.2 at d) (λ left. (without_is old.devices q id r (rw left.3 at d)).1) (releasing_outcome old new q answer h))
+call_reserves old new (Cloning answer) calls id r h d = inl (rw (cloning_keeps old new answer h.0 h.1) at d)
 
-history_reserves : (calls : List DeviceCall) (first last : DeviceState) (id : ℕ) (r : Range) → IsDeviceHistoryFrom first calls last → IsDeviceState first →
+history_reserves : (calls : List DeviceCall) (first last : DeviceState) (id : ℕ) (r : Range) → IsDeviceHistoryFrom first calls last →
     IsDevice last id r → IsDevice first id r ⊎ WasReserved calls id r
-history_reserves [] first last id r h i d = inl (subst (λ (s : DeviceState). IsDevice s id r) h d)
-history_reserves (call ∷ calls) first last id r h i d =
+history_reserves [] first last id r h d = inl (rw h at d)
+history_reserves (call ∷ calls) first last id r h d =
     ⊎_elim
-    (λ (k : IsDevice h.0 id r). call_reserves first h.0 call calls id r h.1 i k)
+    (λ (k : IsDevice h.0 id r). call_reserves first h.0 call calls id r h.1 k)
     (λ (g : WasReserved calls id r). inr (reserved_later call calls id r g))
-    (history_reserves calls h.0 last id r h.2 (call_state first h.0 call h.1 i) d)
+    (history_reserves calls h.0 last id r h.2 d)
 
 -- A new manager has no device. So a device of the first state was there from the start.
 first_devices : (first : DeviceState) (id : ℕ) (r : Range) → IsManagerMade first ⊎ BeginsWithDevices first → IsDevice first id r → WasThereFirst first id r
 first_devices first id r (inl m) k =
-    let made = made_state m.lo m.hi m.base m.size first m.id m.word m.made in
-    let none : None ≡ Some r = sym (ap (λ (t : map.FinMap nat_cmp Range). map.get t id) made.1 ∙ map.get-empty nat_cmp id) ∙ k in
-    absurd (cc (none))
+    let none = (made_state m.lo m.hi m.base m.size first m.id m.word m.made).1 in
+    let empty = map.get-empty {X = Range} nat_cmp id in
+    absurd (cc (none, empty, k))
 first_devices first id r (inr begins) k = record { begins = begins; device = k }
 
 reached_reserved : (calls : List DeviceCall) (old : DeviceState) (id : ℕ) (r : Range) (h : AreDevicesReached calls old) → IsDevice old id r → WasReserved calls id r ⊎ WasThereFirst h.first id r
 reached_reserved calls old id r h d =
-    ⊎_elim
-    (λ (k : IsDevice h.first id r). inr (first_devices h.first id r h.begins k))
-    (λ (g : WasReserved calls id r). inl g)
-    (history_reserves calls h.first old id r h.history (first_state h.first h.begins) d)
+    ⊎_elim (λ k. inr (first_devices h.first id r h.begins k)) (λ g. inl g) (history_reserves calls h.first old id r h.history d)
 
 -- ---- The ids and ranges of devices
 devices_apart : (old : DeviceState) (i j : ℕ) (r s : Range) → IsDeviceState old → IsDevice old i r → IsDevice old j s → i ≢ j → ¬ Overlaps r s

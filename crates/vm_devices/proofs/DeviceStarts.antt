@@ -1,16 +1,20 @@
--- Devices start at different addresses, and a new device starts at none of them.
-use Rattle.std.proofs.Common.{◌≡◌, ℕ, refl, sym, ap, ◌∙◌, arith, inl, inr, subst, Option, Some, None, IsSome, Ok}
+-- Devices start at different addresses, a new device starts at none of them, and the device at an address is found by a start.
+use Rattle.std.proofs.Common.{◌≡◌, ℕ, refl, sym, ap, ◌∙◌, arith, inl, inr, subst, Option, Some, None, IsSome, Ok, ◌↔◌, option_map}
 use Rattle.std.specs.List.{Contains}
 use Rattle.std.specs.FinMap as map
-use Rattle.vm_ranges.specs.Range.{Range, Overlaps}
+use Rattle.vm_ranges.proofs.Steps.{map_some}
+use Rattle.vm_ranges.specs.Range.{Range, Overlaps, IsIn}
 use Rattle.vm_ranges.specs.Request.{Request}
 use Rattle.vm_engine.specs.Address.{AddressState, IsAddressState}
 use Rattle.vm_engine.specs.Answer.{Allocates}
 use Rattle.vm_allocator.specs.Ids.{IdState, IsHeld, IsLowestNotHeld, ByLowestNotHeld, PeeksId}
 use Rattle.vm_engine.proofs.Answers.AddressAnswers.{adds_range, state_is_preserved, lie_apart}
 use Rattle.vm_allocator.proofs.Callers.{range_was_free}
-use Rattle.vm_devices.specs.Devices.{DeviceState, IsDeviceState}
-use Rattle.vm_devices.specs.Checks.{StartsAt, IsNew}
+use Rattle.vm_devices.specs.Devices.{DeviceState, IsDevice, IsDeviceState}
+use Rattle.vm_devices.proofs.Tables.{absent}
+use Rattle.vm_devices.specs.Checks.{IsNew, StartsAt}
+use Rattle.vm_engine.specs.Queries.{IsHeldAt}
+use Rattle.vm_devices.specs.Queries.{DeviceAt}
 
 -- Held ranges with the same start are the same range.
 pub one_start : (space : AddressState) → IsAddressState space → (q r : Range) → Contains space.held q → Contains space.held r → q.start ≡ r.start → q ≡ r
@@ -21,28 +25,43 @@ one_start space i q r c d e =
     let second = (l.inside r d).0 in
     l.apart q r c d (q.start, (omega arith, omega (arith, first)), (omega (arith, e), omega (arith, e, second)))
 
-pub devices_start_apart : (state : DeviceState) (j k start : ℕ) → IsDeviceState state → StartsAt state.devices j start → StartsAt state.devices k start → j ≡ k
-devices_start_apart state j k start i a b =
-    let first = i.pairs.held j a.range a.found in
-    let second = i.pairs.held k b.range b.found in
-    let one : a.range ≡ b.range = one_start state.space i.space a.range b.range first second (a.start_is ∙ sym b.start_is) in
-    i.pairs.once j k b.range (a.found ∙ ap Some one) b.found
+pub devices_start_apart : (state : DeviceState) (j k : ℕ) (q r : Range) → IsDeviceState state → IsDevice state j q → IsDevice state k r → q.start ≡ r.start → j ≡ k
+devices_start_apart state j k q r i a b e =
+    i.pairs.once j k r (a ∙ ap Some (one_start state.space i.space q r (i.pairs.held j q a) (i.pairs.held k r b) e)) b
 
 lowest_not_held : (ids : IdState) (id : ℕ) → PeeksId ids (Ok id) → ¬ IsHeld ids id
 unfolding PeeksId ByLowestNotHeld IsLowestNotHeld
-lowest_not_held ids id (inl h) k = let same : id ≡ h.0 = cc (h.2) in h.1.0.1 (subst (IsHeld ids) same k)
-lowest_not_held ids id (inr (all, inl h)) k = absurd (cc (h.1))
-lowest_not_held ids id (inr (all, inr h)) k = absurd (cc (h.1))
+lowest_not_held ids id p k = grind arith
 
 pub new_device : (old : DeviceState) (mid : AddressState) (request : Request) (id : ℕ) (r : Range) → IsDeviceState old → PeeksId old.ids (Ok id) → Allocates old.space request (Ok r) mid → IsNew old.devices id r.start
 new_device old mid request id r i p a = record {
-  id_is_new = none (map.get old.devices id) refl;
+  id_is_new = absent (map.get old.devices id) (λ q e. lowest_not_held old.ids id p ((i.pairs.ids id).1 (subst IsSome (sym e) refl)));
   start_is_new = λ other h.
-      let held = i.pairs.held other h.range h.found in
+      let f = map_some (λ (q : Range). q.start) (map.get old.devices other) r.start h in
+      let held = i.pairs.held other f.0 f.1 in
       let added = adds_range old.space mid request r i.space a in
-      let one : h.range ≡ r = one_start mid (state_is_preserved.allocated old.space mid request (Ok r) i.space a) h.range r ((added.held h.range).1 (inl held)) ((added.held r).1 (inr refl)) h.start_is in
+      let one = one_start mid (state_is_preserved.allocated old.space mid request (Ok r) i.space a) f.0 r ((added.held f.0).1 (inl held)) ((added.held r).1 (inr refl)) f.2 in
       range_was_free old.space mid request r a (subst (Contains old.space.held) one held);
-} where
-  none : (o : Option Range) → map.get old.devices id ≡ o → o ≡ None
-  none None e = refl
-  none (Some q) e = absurd (lowest_not_held old.ids id p ((i.pairs.ids id).1 (subst IsSome (sym e) refl)))
+}
+
+-- No held range contains the address.
+pub no_range_at : (state : DeviceState) (x : ℕ) → IsDeviceState state → IsHeldAt state.space x None → DeviceAt state x None
+unfolding DeviceAt
+no_range_at state x i none = λ id r d. let c = i.pairs.held id r d in subst (λ (v : Range). ¬ IsIn v x) c.2 (none c.0 r c.1)
+
+-- A held range contains the address, and these ids are found at its start: exactly that of its device.
+module _ {state : DeviceState} {x : ℕ} {r : Range} (i : IsDeviceState state) (held : IsHeldAt state.space x (Some r)) (at : Option ℕ)
+    (ids : (id : ℕ) → (at ≡ Some id) ↔ StartsAt state.devices id r.start) where
+  owner : (id : ℕ) × IsDevice state id r
+  owner = i.pairs.owned r held.0
+
+  pub device_found : (id : ℕ) → at ≡ Some id → DeviceAt state x (Some (record { id = id; range = r }))
+  unfolding DeviceAt
+  device_found id e =
+      let f = map_some (λ (q : Range). q.start) (map.get state.devices id) r.start ((ids id).0 e) in
+      (subst (λ (v : ℕ). IsDevice state v r) (devices_start_apart state owner.0 id r f.0 i owner.1 f.1 (sym f.2)) owner.1, held.1)
+
+  pub device_missed : ¬ (at ≡ None)
+  device_missed e = let some = (ids owner.0).1 (ap (option_map (λ (q : Range). q.start)) owner.1) in absurd (cc (e, some))
+
+pub ruleset found = (no_range_at)

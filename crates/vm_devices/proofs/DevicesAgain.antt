@@ -1,5 +1,5 @@
 -- The id and the range of a released device can be reserved again.
-use Rattle.std.proofs.Common.{◌≡◌, ◌≢◌, ℕ, ◌≤◌, ◌⊎◌, arith, refl, sym, ap, ◌∙◌, inl, inr, ⊎_elim, subst, Option, MatchOption, Result, Ok, Err}
+use Rattle.std.proofs.Common.{◌≡◌, ◌≢◌, ℕ, ◌≤◌, ◌⊎◌, arith, refl, sym, ap, ◌∙◌, inl, inr, ⊎_elim, subst, Result, Ok, Err}
 use Rattle.std.specs.FinMap as map
 use Rattle.vm_ranges.proofs.NumberSets.{inserted_other, removed_other, from_removed}
 use Rattle.vm_ranges.specs.Range.{Range, address_count}
@@ -8,7 +8,7 @@ use Rattle.vm_ranges.specs.Request.{Request, request_for}
 use Rattle.vm_engine.specs.Answer.{IsSplitRefusal, Allocates}
 use Rattle.vm_allocator.specs.Ids.{IdState, IsHeld, IsLowestNotHeld, AreAllHeld, ByLowestNotHeld, holding_id, releasing_id}
 use Rattle.vm_ranges.specs.declared.error.Error.{Error}
-use Rattle.vm_ranges.specs.declared.error.Error.TheVariants.{NeverAllocated, OutOfMemory}
+use Rattle.vm_ranges.specs.declared.error.Error.TheVariants.{OutOfMemory}
 use Rattle.vm_ranges.specs.declared.constraint.AllocPolicy.TheVariants.{ExactMatch}
 use Rattle.vm_allocator.proofs.Callers.{allocated_held, allocated_again, frees_held}
 use Rattle.vm_engine.proofs.Answers.Once.{allocates_once}
@@ -19,27 +19,18 @@ use Rattle.vm_devices.specs.Devices.{DeviceState, IsDevice, with_device, without
 use Rattle.vm_devices.specs.Laws.{IsLimit, ReservedAgain, RangeIsReservedAgain}
 use Rattle.vm_devices.proofs.Tables.{with_here}
 use Rattle.vm_devices.proofs.Pairs.{id_held}
-use Rattle.vm_devices.proofs.Reserving.{reserved_device}
+use Rattle.vm_devices.proofs.DeviceCalls.{reserved_device}
 
 -- A device that was released is gone, unless memory ran out.
 device_released : (old new : DeviceState) (id : ℕ) (r : Range) (answer : Result (Unit {0}) Error) → IsDevice old id r → Releases old id answer new →
     answer ≢ Err OutOfMemory → new ≡ without_device id r old
 unfolding Releases
-device_released old new id r answer d h plain =
-    let P : Option Range → Type 0 = λ at.
-    MatchOption at ((answer ≡ Err (NeverAllocated id)) × (new ≡ old))
-    (λ r. ((answer ≡ Ok tt) × (new ≡ without_device id r old)) ⊎ ((answer ≡ Err OutOfMemory) × (new ≡ old))) in
-    ⊎_elim (λ t. t.1) (λ m. absurd (plain m.0)) (subst P d h)
+device_released old new id r answer d h plain = ⊎_elim (λ t. t.1) (λ m. absurd (plain m.0)) (rw d at h)
 
 -- The result of a reservation, if its request gets the range or its split fails.
 told : (old new : DeviceState) (id : ℕ) (given : Result Range Error) (answer : Result DeviceSlot Error) (r : Range) →
     Pairs old id given answer new → (given ≡ Ok r) ⊎ IsSplitRefusal old.space given → (answer ≡ Ok (record { id = id; range = r })) ⊎ IsLimit old answer
-told old new id given answer r p (inl e) =
-    ⊎_elim (λ t. inl t.0) (λ m. inr (inl m.0)) (subst (λ (g : Result Range Error). Pairs old id g answer new) e p)
-told old new id given answer r p (inr (inl e)) =
-    inr (inl (subst (λ (g : Result Range Error). Pairs old id g answer new) e p).0)
-told old new id given answer r p (inr (inr e)) =
-    inr (inr (e.0, (subst (λ (g : Result Range Error). Pairs old id g answer new) e.1 p).0))
+told old new id given answer r p e = grind arith
 
 -- ---- The same request
 -- The id that was allocated and freed is the lowest again.
@@ -60,10 +51,8 @@ for_lowest ids id takes refused lowest (inr h) = absurd (lowest.0.1 (h.0 id lowe
 same_given : (old new : AddressState) (request : Request) (r : Range) (given : Result Range Error) →
     Allocates old request (Ok r) (holding r old) → Allocates old request given new → (given ≡ Ok r) ⊎ IsSplitRefusal old given
 same_given old new request r given a b =
-    ⊎_elim
-    (λ same. inl (sym same.0))
-    (λ differ. ⊎_elim (λ k. absurd (⊎_elim (λ e. cc e) (λ e. cc (e.1)) k)) (λ k. inr k) differ.refused)
-    (allocates_once old (holding r old) new request (Ok r) given a b)
+    let once = allocates_once old (holding r old) new request (Ok r) given a b in
+    grind (arith, once)
 
 pub reserved_again : ReservedAgain
 unfolding Reserves

@@ -1,95 +1,123 @@
--- The entries of a list whose ids are strictly increasing.
-use Rattle.std.proofs.Common.{◌≡◌, ◌≢◌, ℕ, ◌<◌, ◌⊎◌, true, false, cond, List, [], ◌∷◌, length, sym, ap, ◌∙◌, arith, inl, inr, ⊎_elim, subst, zero, suc, Some, Less}
-use Rattle.std.proofs.lemmas.Bool.{eq-eqb, ne_eqb, cases_eq}
-use Rattle.std.proofs.lemmas.Option.{same_Some}
-use Rattle.std.proofs.lemmas.List.Elements.{Contains-get_or}
-use Rattle.std.proofs.lemmas.List.Kept.{AllPairs-cons}
-use Rattle.std.specs.Prelude.{slice_index_or}
-use Rattle.std.specs.Cmp.{unsigned_tied}
-use Rattle.std.specs.List.{AllByRecursion, AllPairs, Contains}
-use Rattle.std.specs.List.Sorted.{IsStrictlySortedBy}
-use Rattle.std.specs.Map.{keys_of, values_of}
+-- The entries of a map of ids to ranges. Devices pair all held ids with all held ranges if their number is right, each is
+-- held, and no two have the same range.
+use Rattle.std.proofs.Common.{◌≡◌, ◌≢◌, ℕ, ◌<◌, cond, List, [], ◌∷◌, length, get_or, map as map_list, refl, sym, ap, ◌∙◌, arith, Some, IsSome, ◌↔◌, subst, Option, None}
+use Rattle.std.proofs.lemmas.Cmp.{eq_by_cmp_equiv}
+use Rattle.std.proofs.lemmas.Simd.{map-map}
+use Rattle.std.proofs.lemmas.List.{map-id, get_or-map, length-map}
+use Rattle.std.proofs.lemmas.List.Elements.{Contains-get_or, All-map}
+use Rattle.std.proofs.lemmas.Map.Keys.{IsDistinct-from_sorted, below_from_sorted}
+use Rattle.std.proofs.lemmas.Map.Lookups.{exact_unsigned}
+use Rattle.std.proofs.lemmas.Map.Made.{Contains-values_of, Contains-from_values_of}
+use Rattle.std.proofs.lemmas.Map.Views.{tells_apart, Contains-from_any, list_any-from_Contains, Contains-from_lookup, lookup-from_Contains}
+use Rattle.std.specs.Cmp.{nat_cmp_total}
+use Rattle.std.specs.List.{AllPairs, Contains}
+use Rattle.std.specs.Map.{lookup}
 use Rattle.std.specs.Ordering.{nat_cmp, eq_by_cmp}
 use Rattle.std.specs.FinMap as map
-use Rattle.vm_ranges.proofs.Items.{less_is}
 use Rattle.vm_ranges.specs.Range.{Range}
+use Rattle.vm_allocator.proofs.Callers.{keys_rise, entries_of_sorted, ranges_listed, ids_listed}
+use Rattle.vm_devices.specs.Queries.{device_of, entry_of}
+use Rattle.vm_engine.specs.Address.{AddressState, IsAddressState}
+use Rattle.vm_allocator.specs.Ids.{IdState, IsHeld, held_count}
+use Rattle.vm_devices.specs.Devices.{DeviceState, ArePaired}
 
--- ---- The entries of a list
--- The list contains the id with the range.
-abbrev pub IsEntry : List (ℕ × Range) → ℕ → Range → Type 0
-IsEntry [] id r = ⊥
-IsEntry (e ∷ es) id r = (e ≡ (id, r)) ⊎ IsEntry es id r
+found : (q : ℕ) (es : List (ℕ × Range)) → map.find nat_cmp q es ≡ lookup (eq_by_cmp nat_cmp q) es
+found q [] = refl
+found q (e ∷ es) = ap (cond (eq_by_cmp nat_cmp q e.0) (Some e.1)) (found q es)
 
--- The ids are strictly increasing.
-abbrev pub Rise : List (ℕ × Range) → Type 0
-Rise es = IsStrictlySortedBy nat_cmp (keys_of es)
+pub whole_map : (m : map.FinMap nat_cmp Range) → map.from_entries (map.entries m) ≡ m
+whole_map m = map.same_entries_map _ _ (entries_of_sorted (map.entries m) (keys_rise m))
 
-key_above : (k : ℕ) (es : List (ℕ × Range)) (id : ℕ) (r : Range) → AllByRecursion (λ q. nat_cmp k q ≡ Less) (keys_of es) → IsEntry es id r → k < id
-key_above k [] id r a h = absurd h
-key_above k (e ∷ es) id r a (inl s) = less_is k id (subst (λ (v : ℕ × Range). nat_cmp k v.0 ≡ Less) s a.0)
-key_above k (e ∷ es) id r a (inr h) = key_above k es id r a.1 h
+pub entries_again : (es : List (ℕ × Range)) → map_list entry_of (map_list device_of es) ≡ es
+entries_again es = map-map entry_of device_of es ∙ map-id es
 
-pub head_below : (e : ℕ × Range) (es : List (ℕ × Range)) (id : ℕ) (r : Range) → Rise (e ∷ es) → IsEntry es id r → e.0 < id
-unfolding IsStrictlySortedBy
-head_below e es id r s h = key_above e.0 es id r s.0 h
+module _ (m : map.FinMap nat_cmp Range) where
+  pub entry_got : (id : ℕ) (r : Range) → map.get m id ≡ Some r → Contains (map.entries m) (id, r)
+  entry_got id r d = Contains-from_lookup (tells_apart exact_unsigned) id r (map.entries m) (sym (map.get-entries m id ∙ found id (map.entries m)) ∙ d)
 
-pub rest_increases : (e : ℕ × Range) (es : List (ℕ × Range)) → Rise (e ∷ es) → Rise es
-unfolding IsStrictlySortedBy
-rest_increases e es s = s.1
+  pub got_entry : (id : ℕ) (r : Range) → Contains (map.entries m) (id, r) → map.get m id ≡ Some r
+  got_entry id r c =
+      map.get-entries m id
+      ∙ found id (map.entries m)
+      ∙ lookup-from_Contains (eq_by_cmp_equiv nat_cmp_total) id r (map.entries m) (IsDistinct-from_sorted nat_cmp (map.keys m) (keys_rise m)) c
 
-pub tied : (q k : ℕ) → q ≡ k → eq_by_cmp nat_cmp q k ≡ true
-tied q k e = unsigned_tied q k ∙ eq-eqb q k e
+  pub entry_at : (k : ℕ) (e : ℕ × Range) → k < length (map.entries m) → map.get m (get_or (map.entries m) k e).0 ≡ Some (get_or (map.entries m) k e).1
+  entry_at k e l = got_entry _ _ (Contains-get_or (map.entries m) k e l)
 
-pub not_tied : (q k : ℕ) → ¬ (q ≡ k) → eq_by_cmp nat_cmp q k ≡ false
-not_tied q k n = unsigned_tied q k ∙ ne_eqb q k n
+  -- The ids and the ranges, as lists.
+  pub has_id : (id : ℕ) → IsSome (map.get m id) → Contains (map.keys m) id
+  has_id id h = Contains-from_any (tells_apart exact_unsigned) id (map.keys m) (sym (map.contains_key-keys m id) ∙ h)
 
-pub found_entry : (es : List (ℕ × Range)) (id : ℕ) (r : Range) → map.find nat_cmp id es ≡ Some r → IsEntry es id r
-found_entry [] id r h = absurd (cc)
-found_entry (e ∷ es) id r h =
-    ⊎_elim
-    (λ (k : id ≡ e.0).
-    let here : Some e.1 ≡ Some r = sym (ap (λ t. cond t (Some e.1) (map.find nat_cmp id es)) (tied id e.0 k)) ∙ h in
-    let same : e.1 ≡ r = same_Some e.1 r here in
-    inl (ap (λ (v : ℕ). (v, e.1)) (sym k) ∙ ap (λ (v : Range). (id, v)) same))
-    (λ (n : id ≡ e.0 → ⊥). inr (found_entry es id r (sym (ap (λ t. cond t (Some e.1) (map.find nat_cmp id es)) (not_tied id e.0 n)) ∙ h)))
-    (cases_eq id e.0)
+  pub id_had : (id : ℕ) → Contains (map.keys m) id → IsSome (map.get m id)
+  id_had id c = map.contains_key-keys m id ∙ list_any-from_Contains (eq_by_cmp_equiv nat_cmp_total) id (map.keys m) c
 
-pub entry_found : (es : List (ℕ × Range)) (id : ℕ) (r : Range) → Rise es → IsEntry es id r → map.find nat_cmp id es ≡ Some r
-entry_found [] id r s h = absurd h
-entry_found (e ∷ es) id r s (inl k) =
-    ap (λ t. cond t (Some e.1) (map.find nat_cmp id es)) (tied id e.0 (sym (ap (λ (v : ℕ × Range). v.0) k))) ∙ ap (λ (v : ℕ × Range). Some v.1) k
-entry_found (e ∷ es) id r s (inr h) =
-    let above = head_below e es id r s h in
-    ap (λ t. cond t (Some e.1) (map.find nat_cmp id es)) (not_tied id e.0 (λ k. omega (arith, above))) ∙ entry_found es id r (rest_increases e es s) h
+  pub has_range : (id : ℕ) (r : Range) → map.get m id ≡ Some r → Contains (map.values m) r
+  has_range id r d = Contains-values_of (map.entries m) id r (entry_got id r d)
 
--- An id of the list has some range, and a range of the list has some id.
-pub entry_of_id : (es : List (ℕ × Range)) (id k : ℕ) → k < length (keys_of es) → slice_index_or (keys_of es) k id ≡ id → (r : Range) × IsEntry es id r
-entry_of_id [] id k l h = absurd (omega arith)
-entry_of_id (e ∷ es) id zero l h = (e.1, inl (ap (λ (v : ℕ). (v, e.1)) h))
-entry_of_id (e ∷ es) id (suc k) l h = let i = entry_of_id es id k (omega arith) h in (i.0, inr i.1)
+  pub range_had : (r : Range) → Contains (map.values m) r → (id : ℕ) × (map.get m id ≡ Some r)
+  range_had r c = let e = Contains-from_values_of (map.entries m) r c in (e.0, got_entry e.0 r e.1)
 
-pub entry_of_range : (es : List (ℕ × Range)) (r : Range) (k : ℕ) → k < length (values_of es) → slice_index_or (values_of es) k r ≡ r → (id : ℕ) × IsEntry es id r
-entry_of_range [] r k l h = absurd (omega arith)
-entry_of_range (e ∷ es) r zero l h = (e.0, inl (ap (λ (v : Range). (e.0, v)) h))
-entry_of_range (e ∷ es) r (suc k) l h = let i = entry_of_range es r k (omega arith) h in (i.0, inr i.1)
+  pub ids_differ : AllPairs (λ i j. i ≢ j) (map.keys m)
+  ids_differ i j d l k same = omega (arith, below_from_sorted (map.keys m) i j d (keys_rise m) l k, same)
 
-pub has_id : (es : List (ℕ × Range)) (id : ℕ) (r : Range) → IsEntry es id r → Contains (keys_of es) id
-has_id [] id r h = absurd h
-has_id (e ∷ es) id r (inl k) = (0, omega arith, ap (λ (v : ℕ × Range). v.0) k)
-has_id (e ∷ es) id r (inr h) = let c = has_id es id r h in (suc c.0, omega (arith, c.1), c.2)
+  -- If no two ids have the same range, the ranges are different.
+  pub ranges_differ : ((i j : ℕ) (r : Range) → map.get m i ≡ Some r → map.get m j ≡ Some r → i ≡ j) → AllPairs (λ r s. r ≢ s) (map.values m)
+  ranges_differ once i j r l k same =
+      let es = map.entries m in
+      let long : j < length es = omega (arith, k, length-map es (λ (e : ℕ × Range). e.1)) in
+      let range = λ (n : ℕ) (b : n < length es). get_or-map (λ (e : ℕ × Range). e.1) es n (0, r) r b in
+      let id = λ (n : ℕ) (b : n < length es). get_or-map (λ (e : ℕ × Range). e.0) es n (0, r) 0 b in
+      let one = sym (range i (omega arith)) ∙ same ∙ range j long in
+      let tie = once _ _ _ (entry_at i (0, r) (omega arith) ∙ ap Some one) (entry_at j (0, r) long) in
+      let below = below_from_sorted (map.keys m) i j 0 (keys_rise m) l (omega (arith, long, length-map es (λ (e : ℕ × Range). e.0))) in
+      omega (arith, below, id i (omega arith), id j long, tie)
 
-pub has_range : (es : List (ℕ × Range)) (id : ℕ) (r : Range) → IsEntry es id r → Contains (values_of es) r
-has_range [] id r h = absurd h
-has_range (e ∷ es) id r (inl k) = (0, omega arith, ap (λ (v : ℕ × Range). v.1) k)
-has_range (e ∷ es) id r (inr h) = let c = has_range es id r h in (suc c.0, omega (arith, c.1), c.2)
+-- The id and the range of each device are held, and no two devices have the same range.
+pub record AreHeld (ids : IdState) (space : AddressState) (m : map.FinMap nat_cmp Range) : Type 0 where
+  pub held : (id : ℕ) (r : Range) → map.get m id ≡ Some r → IsHeld ids id × Contains space.held r
+  pub once : (i j : ℕ) (r : Range) → map.get m i ≡ Some r → map.get m j ≡ Some r → i ≡ j
 
--- The ids are different.
-pub ids_differ : (es : List (ℕ × Range)) → Rise es → AllPairs (λ i j. i ≢ j) (keys_of es)
-ids_differ [] s = λ i j d l m. absurd (omega (arith, m))
-ids_differ (e ∷ es) s =
-    AllPairs-cons (λ i j. i ≢ j) e.0 (keys_of es)
-    (λ k b l same.
-    let c : Contains (keys_of es) e.0 = subst (Contains (keys_of es)) (sym same) (Contains-get_or (keys_of es) k b l) in
-    let i = entry_of_id es e.0 c.0 c.1 c.2 in
-    omega (arith, head_below e es e.0 i.0 s i.1))
-    (ids_differ es (rest_increases e es s))
+-- The number of devices is the number of held ids and of held ranges.
+pub record AreCounted (ids : IdState) (space : AddressState) (m : map.FinMap nat_cmp Range) : Type 0 where
+  pub ids_counted : map.len m ≡ held_count ids
+  pub ranges_counted : map.len m ≡ length space.held
+
+pub some_range : (o : Option Range) → IsSome o → (r : Range) × (o ≡ Some r)
+some_range None h = absurd (cc (h))
+some_range (Some r) h = (r, refl)
+
+module _ (state : DeviceState) (i : IsAddressState state.space) where
+  module _ (h : AreHeld state.ids state.space state.devices) where
+    counted_ids : (length (map.keys state.devices) ≡ held_count state.ids) ↔ ((id : ℕ) → IsHeld state.ids id → Contains (map.keys state.devices) id)
+    counted_ids =
+        ids_listed state.ids (map.keys state.devices) (ids_differ state.devices)
+        (All-map (IsHeld state.ids) (λ (e : ℕ × Range). e.0) (map.entries state.devices) (λ k e l. (h.held _ _ (entry_at state.devices k e l)).0))
+
+    counted_ranges : (length (map.values state.devices) ≡ length state.space.held) ↔ ((r : Range) → Contains state.space.held r → Contains (map.values state.devices) r)
+    counted_ranges =
+        ranges_listed state.space (map.values state.devices) i (ranges_differ state.devices h.once)
+        (All-map (Contains state.space.held) (λ (e : ℕ × Range). e.1) (map.entries state.devices) (λ k e l. (h.held _ _ (entry_at state.devices k e l)).1))
+
+    pub pairs_all : AreCounted state.ids state.space state.devices → ArePaired state
+    pairs_all a =
+        let m = state.devices in
+        let each_id = counted_ids.0 (length-map (map.entries m) (λ (e : ℕ × Range). e.0) ∙ sym (map.len-entries m) ∙ a.ids_counted) in
+        let each_range = counted_ranges.0 (length-map (map.entries m) (λ (e : ℕ × Range). e.1) ∙ sym (map.len-entries m) ∙ a.ranges_counted) in
+        record {
+          ids = λ id. (λ k. id_had m id (each_id id k), λ k. let d = some_range (map.get m id) k in (h.held id d.0 d.1).0);
+          held = λ id r d. (h.held id r d).1;
+          owned = λ r c. range_had m r (each_range r c);
+          once = h.once;
+        }
+
+  pub all_held : ArePaired state → AreHeld state.ids state.space state.devices
+  all_held p = record { held = λ id r d. ((p.ids id).1 (subst IsSome (sym d) refl), p.held id r d); once = p.once }
+
+  pub all_counted : ArePaired state → AreCounted state.ids state.space state.devices
+  all_counted p =
+      let m = state.devices in
+      record {
+        ids_counted = map.len-entries m ∙ sym (length-map (map.entries m) (λ (e : ℕ × Range). e.0)) ∙ (counted_ids (all_held p)).1 (λ id h. has_id m id ((p.ids id).0 h));
+        ranges_counted = map.len-entries m ∙ sym (length-map (map.entries m) (λ (e : ℕ × Range). e.1)) ∙ (counted_ranges (all_held p)).1
+            (λ r h. let d = p.owned r h in has_range m d.0 r d.1);
+      }

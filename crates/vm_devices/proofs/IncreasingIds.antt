@@ -1,112 +1,85 @@
--- Lists of devices whose ids are strictly increasing: one more device at the end, and the devices before another one.
-use Rattle.std.proofs.Common.{◌≡◌, ℕ, ◌+◌, ◌<◌, ◌≤◌, List, [], ◌∷◌, ◌++◌, refl, ap, ◌∙◌, subst, arith, inl, inr, cond, Some, None, Less}
-use Rattle.std.specs.Cmp.{nat_cmp_total}
-use Rattle.std.specs.List.{AllByRecursion}
+-- Lists of devices whose ids are strictly increasing: the devices before another one, and one more at the end.
+use Rattle.std.proofs.Common.{◌≡◌, ℕ, ◌+◌, ◌-◌, ◌<◌, ◌≤◌, List, [], ◌∷◌, ◌++◌, length, get_or, ap, ◌∙◌, subst, arith, Some, None}
+use Rattle.std.proofs.lemmas.Grind.{common_steps}
+use Rattle.std.proofs.lemmas.List.{get_or-map, length-map, map-append}
+use Rattle.std.proofs.lemmas.Map.Keys.{sorted_from_strictly_increasing, below_from_sorted}
+use Rattle.std.proofs.lemmas.Option.{slice_get-get_or, slice_get_within, get_or_from_slice_get}
+use Rattle.std.specs.List.{slice_get}
 use Rattle.std.specs.List.Sorted.{IsStrictlySortedBy}
 use Rattle.std.specs.Map.{keys_of}
 use Rattle.std.specs.Ordering.{nat_cmp}
-use Rattle.std.specs.FinMap as map
-use Rattle.vm_ranges.proofs.Items.{less, less_is}
 use Rattle.vm_ranges.specs.Range.{Range}
-use Rattle.vm_devices.proofs.Entries.{IsEntry, Rise, head_below, rest_increases, not_tied}
+use Rattle.vm_devices.specs.declared.device_slot.DeviceSlot.{DeviceSlot}
+use Rattle.vm_devices.specs.Listed.{entries_of, HaveIncreasingIds}
+use Rattle.vm_devices.specs.Queries.{entry_of}
 
--- ---- Each id is above the id before it
--- The ids are strictly increasing, and at least `lowest`.
-abbrev pub IncreaseFrom : ℕ → List (ℕ × Range) → Type 0
-IncreaseFrom lowest [] = Unit {0}
-IncreaseFrom lowest (e ∷ es) = (lowest ≤ e.0) × IncreaseFrom (e.0 + 1) es
-
-increases_from : (e : ℕ × Range) (es : List (ℕ × Range)) → AllByRecursion (λ k. nat_cmp e.0 k ≡ Less) (keys_of es) → Rise es → IncreaseFrom (e.0 + 1) es
-unfolding IsStrictlySortedBy
-increases_from e [] a s = tt
-increases_from e (f ∷ es) a s = let l = less_is e.0 f.0 a.0 in (omega arith, increases_from f es s.0 s.1)
-
-from_sorted : (es : List (ℕ × Range)) → Rise es → IncreaseFrom 0 es
-unfolding IsStrictlySortedBy
-from_sorted [] s = tt
-from_sorted (e ∷ es) s = (omega arith, increases_from e es s.0 s.1)
-
-above : (n lowest : ℕ) (es : List (ℕ × Range)) → n + 1 ≤ lowest → IncreaseFrom lowest es → AllByRecursion (λ k. nat_cmp n k ≡ Less) (keys_of es)
-above n lowest [] p r = tt
-above n lowest (e ∷ es) p r = let l = r.0 in (less n e.0 (omega arith), above n (e.0 + 1) es (omega arith) r.1)
-
-sorted : (lowest : ℕ) (es : List (ℕ × Range)) → IncreaseFrom lowest es → Rise es
-unfolding IsStrictlySortedBy
-sorted lowest [] r = tt
-sorted lowest (e ∷ es) r = (above e.0 (e.0 + 1) es (omega arith) r.1, sorted (e.0 + 1) es r.1)
-
--- ---- One more at the end
--- The lowest id that is above all ids.
-abbrev next_id : ℕ → List (ℕ × Range) → ℕ
-next_id lowest [] = lowest
-next_id lowest (e ∷ es) = next_id (e.0 + 1) es
-
-last_increases : (lowest : ℕ) (es : List (ℕ × Range)) (f : ℕ × Range) → IncreaseFrom lowest es → next_id lowest es ≤ f.0 → IncreaseFrom lowest (es ++ f ∷ [])
-last_increases lowest [] f i p = (p, tt)
-last_increases lowest (e ∷ es) f i p = (i.0, last_increases (e.0 + 1) es f i.1 p)
-
-above_last : (lowest : ℕ) (es : List (ℕ × Range)) (f : ℕ × Range) → IncreaseFrom lowest (es ++ f ∷ []) → next_id lowest es ≤ f.0
-above_last lowest [] f i = i.0
-above_last lowest (e ∷ es) f i = above_last (e.0 + 1) es f i.1
-
-after_last : (lowest : ℕ) (es : List (ℕ × Range)) (e : ℕ × Range) → next_id lowest (es ++ e ∷ []) ≡ e.0 + 1
-after_last lowest [] e = refl
-after_last lowest (f ∷ es) e = after_last (f.0 + 1) es e
-
-module _ (es : List (ℕ × Range)) (e f : ℕ × Range) where
-  pub rise_last : Rise (es ++ e ∷ []) → e.0 < f.0 → Rise ((es ++ e ∷ []) ++ f ∷ [])
-  rise_last s l =
-      let n = after_last 0 es e in
-      sorted 0 ((es ++ e ∷ []) ++ f ∷ []) (last_increases 0 (es ++ e ∷ []) f (from_sorted (es ++ e ∷ []) s) (omega (arith, n, l)))
-
-  pub last_is_below : Rise ((es ++ e ∷ []) ++ f ∷ []) → e.0 < f.0
-  last_is_below s =
-      let n = after_last 0 es e in
-      let l = above_last 0 (es ++ e ∷ []) f (from_sorted ((es ++ e ∷ []) ++ f ∷ []) s) in
-      omega (arith, n, l)
+-- ---- Numbers
+-- The numbers are strictly increasing.
+abbrev pub Rise : List ℕ → Type 0
+Rise ns = IsStrictlySortedBy nat_cmp ns
 
 pub none_rises : Rise []
-none_rises = sorted 0 [] tt
+none_rises = sorted_from_strictly_increasing [] (λ k l. absurd (omega arith))
 
-pub one_rises : (f : ℕ × Range) → Rise (f ∷ [])
-one_rises f = sorted 0 (f ∷ []) (omega arith, tt)
+front_rises : (ms ns : List ℕ) → Rise (ms ++ ns) → Rise ms
+front_rises ms ns s =
+    sorted_from_strictly_increasing ms (λ k l. grind (arith, common_steps, below_from_sorted (ms ++ ns) k (k + 1) 0 s))
+
+rises_last : (ms : List ℕ) (n : ℕ) → Rise ms → (0 < length ms → get_or ms (length ms - 1) 0 < n) → Rise (ms ++ n ∷ [])
+rises_last ms n s h =
+    sorted_from_strictly_increasing (ms ++ n ∷ []) (λ k l. grind (arith, common_steps, below_from_sorted ms k (k + 1) 0 s, h))
+
+last_rises : (ms : List ℕ) (n : ℕ) → Rise (ms ++ n ∷ []) → 0 < length ms → get_or ms (length ms - 1) 0 < n
+last_rises ms n s l = grind (arith, common_steps, below_from_sorted (ms ++ n ∷ []) (length ms - 1) (length ms) 0 s)
+
+-- ---- The ids of devices
+abbrev pub ids_of : List DeviceSlot → List ℕ
+ids_of ds = keys_of (entries_of ds)
+
+ids_more : (ds es : List DeviceSlot) → ids_of (ds ++ es) ≡ ids_of ds ++ ids_of es
+ids_more ds es = ap (λ (l : List (ℕ × Range)). keys_of l) (map-append entry_of ds es) ∙ map-append (λ (e : ℕ × Range). e.0) (entries_of ds) (entries_of es)
+
+pub ids_long : (ds : List DeviceSlot) → length (ids_of ds) ≡ length ds
+ids_long ds = length-map (entries_of ds) (λ (e : ℕ × Range). e.0) ∙ length-map ds entry_of
+
+pub id_at : (ds : List DeviceSlot) (k : ℕ) (d : DeviceSlot) → k < length ds → get_or (ids_of ds) k 0 ≡ (get_or ds k d).id
+id_at ds k d l =
+    get_or-map (λ (e : ℕ × Range). e.0) (entries_of ds) k (entry_of d) 0 (omega (arith, l, length-map ds entry_of))
+    ∙ ap (λ (e : ℕ × Range). e.0) (get_or-map entry_of ds k d (entry_of d) l)
 
 -- ---- A part of the list
-front_increases : (lowest : ℕ) (es fs : List (ℕ × Range)) → IncreaseFrom lowest (es ++ fs) → IncreaseFrom lowest es
-front_increases lowest [] fs i = tt
-front_increases lowest (e ∷ es) fs i = (i.0, front_increases (e.0 + 1) es fs i.1)
+-- The ids of the entries are strictly increasing.
+abbrev pub Sorted : List (ℕ × Range) → Type 0
+Sorted es = Rise (keys_of es)
 
-pub front_rises : (es fs : List (ℕ × Range)) → Rise (es ++ fs) → Rise es
-front_rises es fs s = sorted 0 es (front_increases 0 es fs (from_sorted (es ++ fs) s))
+pub front_entries : (es fs : List (ℕ × Range)) → Sorted (es ++ fs) → Sorted es
+front_entries es fs s = front_rises (keys_of es) (keys_of fs) (subst Rise (map-append (λ (e : ℕ × Range). e.0) es fs) s)
 
-pub entry_at : (es fs : List (ℕ × Range)) (e : ℕ × Range) → IsEntry (es ++ e ∷ fs) e.0 e.1
-entry_at [] fs e = inl refl
-entry_at (f ∷ es) fs e = inr (entry_at es fs e)
+pub front_increases : (ds es : List DeviceSlot) → HaveIncreasingIds (ds ++ es) → HaveIncreasingIds ds
+front_increases ds es s = front_entries (entries_of ds) (entries_of es) (subst Sorted (map-append entry_of ds es) s)
 
-pub entry_before : (es fs : List (ℕ × Range)) (id : ℕ) (r : Range) → IsEntry es id r → IsEntry (es ++ fs) id r
-entry_before [] fs id r h = absurd h
-entry_before (f ∷ es) fs id r (inl k) = inl k
-entry_before (f ∷ es) fs id r (inr h) = inr (entry_before es fs id r h)
+-- ---- One more device
+module _ (ds : List DeviceSlot) (d : DeviceSlot) where
+  pushed : HaveIncreasingIds ds → (0 < length ds → (get_or ds (length ds - 1) d).id < d.id) → HaveIncreasingIds (ds ++ d ∷ [])
+  pushed s h =
+      rw (ids_more ds (d ∷ []))
+      (rises_last (ids_of ds) d.id s (λ p.
+      let long = ids_long ds in
+      rw long (omega (arith, id_at ds (length ds - 1) d (omega arith), h (omega arith)))))
 
--- An entry before another one has a lower id.
-pub lower_before : (es fs : List (ℕ × Range)) (e : ℕ × Range) (id : ℕ) (r : Range) → Rise (es ++ e ∷ fs) → IsEntry es id r → id < e.0
-lower_before [] fs e id r s h = absurd h
-lower_before (f ∷ es) fs e id r s (inl k) =
-    let l = head_below f (es ++ e ∷ fs) e.0 e.1 s (entry_at es fs e) in
-    subst (λ (v : ℕ × Range). v.0 < e.0) k l
-lower_before (f ∷ es) fs e id r s (inr h) = lower_before es fs e id r (rest_increases f (es ++ e ∷ fs) s) h
+  pub first_pushed : slice_get ds (length ds - 1) ≡ None → HaveIncreasingIds ds → HaveIncreasingIds (ds ++ d ∷ [])
+  first_pushed e s = pushed s (λ p. let some = slice_get-get_or ds (length ds - 1) d (omega arith) in absurd (cc (e, some)))
 
-not_before : (es fs : List (ℕ × Range)) (e : ℕ × Range) → Rise (es ++ e ∷ fs) → map.find nat_cmp e.0 es ≡ None
-not_before [] fs e s = refl
-not_before (f ∷ es) fs e s =
-    let above = head_below f (es ++ e ∷ fs) e.0 e.1 s (entry_at es fs e) in
-    ap (λ t. cond t (Some f.1) (map.find nat_cmp e.0 es)) (not_tied e.0 f.0 (λ k. omega (arith, above, k)))
-    ∙ not_before es fs e (rest_increases f (es ++ e ∷ fs) s)
+  module _ (last : DeviceSlot) (e : slice_get ds (length ds - 1) ≡ Some last) where
+    pub more_pushed : HaveIncreasingIds ds → last.id < d.id → HaveIncreasingIds (ds ++ d ∷ [])
+    more_pushed s l = pushed s (λ p. rw (get_or_from_slice_get ds (length ds - 1) last d e) l)
 
--- The table of the entries before another one does not have its id, and gets it with its range.
-module _ (es fs : List (ℕ × Range)) (e : ℕ × Range) (s : Rise (es ++ e ∷ fs)) where
-  pub id_is_new : map.get (map.from_entries {R = nat_cmp} es) e.0 ≡ None
-  id_is_new = map.get-from_entries nat_cmp_total es e.0 ∙ not_before es fs e s
+    pub not_pushed : d.id ≤ last.id → ¬ HaveIncreasingIds (ds ++ d ∷ [])
+    not_pushed l s =
+        let some = slice_get_within ds (length ds - 1) last e in
+        let long = ids_long ds in
+        let at = id_at ds (length ds - 1) d some ∙ ap (λ (x : DeviceSlot). x.id) (get_or_from_slice_get ds (length ds - 1) last d e) in
+        let below = rw long at (last_rises (ids_of ds) d.id (subst Rise (ids_more ds (d ∷ [])) s) (omega arith)) in
+        omega arith
 
-  pub entry_inserted : map.from_entries {R = nat_cmp} (es ++ e ∷ []) ≡ map.insert (map.from_entries es) e.0 e.1
-  entry_inserted = map.from_entries_push nat_cmp_total map.nat_cmp-IsAntisymmetric es e.0 e.1 (not_before es fs e s)
+pub ruleset pushes = (first_pushed, more_pushed, not_pushed)

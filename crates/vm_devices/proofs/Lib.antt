@@ -1,7 +1,5 @@
 pub mod Tables
 pub mod Pairs
-pub mod NewManagers
-pub mod Reserving
 pub mod DeviceHistories
 pub mod DevicesAgain
 pub mod DevicesOnce
@@ -9,19 +7,11 @@ pub mod EveryDeviceCall
 pub mod DeviceCalls
 pub mod Callers
 pub mod Entries
-pub mod AllHeld
-pub mod SavedDevices
 pub mod IncreasingIds
-pub mod ManagerFields
 pub mod SavedManagers
 pub mod WrittenManagers
 pub mod NestedManagers
-pub mod StartTables
 pub mod PairedDevices
-pub mod PushedDevices
-pub mod DeviceLists
 pub mod DeviceStarts
-pub mod ComparedManagers
-pub mod DeviceAtAddress
 pub mod DeviceQueries
 pub mod Slots

@@ -1,44 +1,43 @@
--- The parts of a manager are read as this manager.
-use Rattle.std.proofs.Common.{◌≡◌, ◌⊎◌, ℕ, List, [], ◌∷◌, ◌++◌, Result, Ok, Err, inl, inr, refl, sym, ap, ◌∙◌, subst, append_assoc}
+-- The parts of a manager are read as this manager, and managers are equal if and only if their parts are.
+use Rattle.std.proofs.Common.{◌≡◌, ◌⊎◌, ℕ, List, [], ◌∷◌, ◌++◌, Result, Ok, Err, inl, inr, refl, sym, ap, ◌∙◌, subst, append_assoc, ◌↔◌, Bool, IsTrue}
 use Rattle.std.specs.FinMap as map
 use Rattle.vm_ranges.specs.Range.{Range}
 use Rattle.vm_ranges.specs.declared.saved.SavedError.{SavedError}
 use Rattle.vm_ranges.specs.declared.saved.SavedError.TheVariants.{Violated, OutOfMemory}
-use Rattle.vm_allocator.proofs.Callers.{keys_rise}
+use Rattle.vm_allocator.proofs.Callers.{keys_rise, id_state_cmp-Equal}
 use Rattle.vm_devices.specs.declared.device_slot.DeviceSlot.{DeviceSlot}
-use Rattle.vm_devices.specs.Devices.{DeviceState, ArePaired, IsDeviceState, devices_of}
+use Rattle.vm_devices.specs.Devices.{DeviceState, IsDeviceState, devices_of}
 use Rattle.vm_devices.specs.Laws.{WrittenManagersAreRead, EqualManagersHaveEqualParts}
-use Rattle.vm_devices.specs.Listed.{entries_of, HaveIncreasingIds, PushesDevice, listed_state, AreDevicesOf, MakesOfDevices}
-use Rattle.vm_devices.specs.Queries.{device_list}
-use Rattle.vm_devices.proofs.DeviceLists.{entries_again}
-use Rattle.vm_devices.proofs.Entries.{Rise}
-use Rattle.vm_devices.proofs.IncreasingIds.{front_rises}
-use Rattle.vm_devices.proofs.PushedDevices.{entries_more}
-use Rattle.vm_devices.proofs.StartTables.{whole_map}
+use Rattle.vm_devices.specs.Listed.{HaveIncreasingIds, PushesDevice, listed_state, AreDevicesOf, MakesOfDevices}
+use Rattle.vm_devices.specs.Queries.{device_list, entry_cmp, device_state_cmp, device_state_cmp-total}
+use Rattle.vm_devices.proofs.Entries.{entries_again, whole_map}
+use Rattle.vm_devices.proofs.IncreasingIds.{Sorted, front_increases}
+use Rattle.std.proofs.lemmas.Bool.Decides.{same_from_decides}
+use Rattle.std.proofs.lemmas.Cmp.{tied_itself}
+use Rattle.std.specs.declared.cmp.Ordering.TheVariants.{Equal}
+use Rattle.std.specs.Ordering.{eq_by_cmp, is_eq}
+use Rattle.std.specs.Cmp.{Equal-is}
+use Rattle.std.specs.FinMap.{slice_cmp-IsAntisymmetric, nat_cmp-IsAntisymmetric}
+use Rattle.vm_ranges.proofs.RangeOrders.{both_equal, range_cmp-exact}
+use Rattle.vm_engine.proofs.Comparing.StateOrders.{one_state, equal_states, state_cmp-Equal}
+use Rattle.vm_devices.specs.Checks.{HaveSameAllocators}
 
 list_increases : (state : DeviceState) → HaveIncreasingIds (device_list state)
-list_increases state = subst Rise (sym (entries_again (map.entries state.devices))) (keys_rise state.devices)
+list_increases state = subst Sorted (sym (entries_again (map.entries state.devices))) (keys_rise state.devices)
 
 same_state : (state : DeviceState) → listed_state state.ids state.space (device_list state) ≡ state
 same_state state =
-    let devices : map.from_entries (entries_of (device_list state)) ≡ state.devices =
-    ap (λ (es : List (ℕ × Range)). map.from_entries es) (entries_again (map.entries state.devices)) ∙ whole_map state.devices in
-    λ k. devices_of state.ids state.space (devices k)
+    ap (λ (es : List (ℕ × Range)). devices_of state.ids state.space (map.from_entries es)) (entries_again (map.entries state.devices))
+    ∙ ap (devices_of state.ids state.space) (whole_map state.devices)
 
 its_devices : (state : DeviceState) → IsDeviceState state → AreDevicesOf state.ids state.space (device_list state)
-its_devices state i = record { increasing = list_increases state; pairs = subst ArePaired (sym (same_state state)) i.pairs }
-
--- The devices up to any of them have increasing ids.
-front_increases : (state : DeviceState) (front rest : List DeviceSlot) (device : DeviceSlot) → device_list state ≡ front ++ device ∷ rest → HaveIncreasingIds (front ++ device ∷ [])
-front_increases state front rest device e =
-    let whole : device_list state ≡ (front ++ device ∷ []) ++ rest = e ∙ sym (append_assoc front (device ∷ []) rest) in
-    front_rises (entries_of (front ++ device ∷ [])) (entries_of rest)
-    (subst Rise (ap (λ (l : List DeviceSlot). entries_of l) whole ∙ entries_more (front ++ device ∷ []) rest) (list_increases state))
+its_devices state i = record { increasing = list_increases state; pairs = rw (same_state state) i.pairs }
 
 its_pushes : (state : DeviceState) (front rest : List DeviceSlot) (device : DeviceSlot) (answer : Result (Unit {0}) SavedError) (new : List DeviceSlot) → IsDeviceState state →
     device_list state ≡ front ++ device ∷ rest → PushesDevice front device answer new → (answer ≡ Ok tt) ⊎ (answer ≡ Err OutOfMemory)
 its_pushes state front rest device (Ok u) new i e p = inl refl
-its_pushes state front rest device (Err (Violated c)) new i e p = absurd (p.2 (front_increases state front rest device e))
+its_pushes state front rest device (Err (Violated c)) new i e p =
+    absurd (p.2 (front_increases (front ++ device ∷ []) rest (subst HaveIncreasingIds (e ∙ sym (append_assoc front (device ∷ []) rest)) (list_increases state))))
 its_pushes state front rest device (Err OutOfMemory) new i e p = inr refl
 
 its_answer : (state : DeviceState) (answer : Result DeviceState SavedError) → IsDeviceState state → MakesOfDevices 1 state.ids state.space (device_list state) answer →
@@ -66,3 +65,37 @@ equal_parts a b = (
 )
 
 pub ruleset written = (parts_read, equal_parts)
+
+pub ruleset spaces = (one_state, equal_states)
+
+-- ---- Lists of entries
+entry_cmp-exact : (x y : ℕ × Range) → entry_cmp x y ≡ Equal → x ≡ y
+entry_cmp-exact x y h =
+    let p = both_equal _ _ h in
+    let id = nat_cmp-IsAntisymmetric x.0 y.0 p.0 in
+    let range = range_cmp-exact x.1 y.1 p.1 in
+    λ i. (id i, range i)
+
+-- ---- States
+-- The order returns Equal exactly if both states are the same.
+device_state_cmp-Equal : (a b : DeviceState) → IsDeviceState a → IsDeviceState b → (device_state_cmp a b ≡ Equal) ↔ (a ≡ b)
+device_state_cmp-Equal a b s t = (
+  λ h.
+      let p = both_equal _ _ h in
+      let q = both_equal _ _ p.1 in
+      let ids = (id_state_cmp-Equal a.ids b.ids s.ids t.ids).0 p.0 in
+      let space = one_state a.space b.space ((state_cmp-Equal a.space b.space).0 q.0) in
+      let devices = map.same_entries_map a.devices b.devices (slice_cmp-IsAntisymmetric entry_cmp-exact (map.entries a.devices) (map.entries b.devices) q.1) in
+      λ i. record { ids = ids i; space = space i; devices = devices i },
+  λ e. ap (device_state_cmp a) (sym e) ∙ tied_itself device_state_cmp-total a,
+)
+
+-- A test of equality of valid states agrees with the order.
+pub tested_by_order : (a b : DeviceState) (r : Bool) → IsDeviceState a → IsDeviceState b → IsTrue r ↔ (a ≡ b) → r ≡ eq_by_cmp device_state_cmp a b
+tested_by_order a b r s t h =
+    let k = device_state_cmp-Equal a b s t in
+    same_from_decides r (is_eq (device_state_cmp a b)) h (λ v. k.0 ((Equal-is (device_state_cmp a b)).0 v), λ e. (Equal-is (device_state_cmp a b)).1 (k.1 e))
+
+-- With equal allocators, the devices decide.
+pub tested : (s t : DeviceState) (r : Bool) → HaveSameAllocators s t → IsTrue r ↔ (device_list s ≡ device_list t) → IsTrue r ↔ (s ≡ t)
+tested s t r h k = (λ v. (equal_parts s t).1 (h.0, h.1, k.0 v), λ e. k.1 (ap device_list e))

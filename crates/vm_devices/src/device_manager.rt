@@ -2,15 +2,13 @@
 //!
 //! Ids, ranges and the table of devices change together or not at all. Calls that can fail are
 //! first. The calls after them, and the call that undoes an allocation, always succeed.
-ghost use Rattle.std.specs.Prelude.{◌≡◌, ◌%◌, OnErr, OnOk, IfErr, IfOk, IfSome};
+ghost use Rattle.std.specs.Prelude.{◌≡◌, ◌%◌, Ok, OnErr, OnOk, IfOk, IfSome};
 ghost use Rattle.std.specs.FinMap as map;
 ghost use Rattle.vm_ranges.specs.Cloning.{Clones};
 ghost use Rattle.vm_ranges.specs.Range.{Range, Covers, address_count};
 ghost use Rattle.vm_ranges.specs.Request.{request_for};
 ghost use Rattle.vm_engine.specs.Answer.{IsChosen};
-ghost use Rattle.vm_allocator.specs.Allocator.{state_of};
-ghost use Rattle.vm_allocator.specs.Ids.{IsLowestNotHeld};
-ghost use Rattle.vm_devices.specs.Checks.{IsNew, IsEntered, IsGivenBack};
+ghost use Rattle.vm_allocator.specs.Ids.{IsLowestNotHeld, PeeksId};
 ghost use Rattle.vm_devices.specs.Devices.{
   IsDeviceState,
   IsDevice,
@@ -121,7 +119,7 @@ impl DeviceManager {
     /// - `ResourceNotAvailable` if all ids are allocated and their range ends below `u32::MAX`.
     /// - The errors of `AddressAllocator::allocate`, in the order of its documentation.
     /// - `OutOfMemory` if an allocation for the table of devices fails.
-    #[tactic(auto, using(crate::proofs::DeviceCalls::id_refused))]
+    #[tactic(auto, using(crate::proofs::DeviceCalls::reserves))]
     pub fn reserve(
         &mut self,
         alloc: Global,
@@ -145,9 +143,8 @@ impl DeviceManager {
         ensures answer { Reserves self.old (request_for size align policy) result self.new }
     {
         let id = self.id_allocator.peek_id()?;
-        let range = self.mmio_allocator.allocate(alloc, size, align, policy)?;
-        let (ids, space) = (&mut self.id_allocator, &mut self.mmio_allocator);
-        enter_device(ids, space, &mut self.slots, alloc, id, range)
+        let request = Constraint::new(size, align, policy)?;
+        self.reserve_range(alloc, id, request)
     }
 
     /// Reserves an id and a range like [`reserve`](Self::reserve), for a request that was made before.
@@ -160,7 +157,7 @@ impl DeviceManager {
     /// - `ResourceNotAvailable` if all ids are allocated and their range ends below `u32::MAX`.
     /// - The errors of `AddressAllocator::allocate_constraint`, in the order of its documentation.
     /// - `OutOfMemory` if an allocation for the table of devices fails.
-    #[tactic(auto, using(crate::proofs::DeviceCalls::id_refused))]
+    #[tactic(auto, using(crate::proofs::DeviceCalls::reserves))]
     pub fn reserve_constraint(&mut self, alloc: Global, request: Constraint) -> Result<DeviceSlot>
         // The id is the lowest that is not held. The range is as long as asked, aligned and in the window,
         // at the place that the policy chooses there.
@@ -178,10 +175,9 @@ impl DeviceManager {
         // Each result under its exact condition.
         ensures answer { Reserves self.old request result self.new }
     {
-        let (ids, space) = (&mut self.id_allocator, &mut self.mmio_allocator);
+        let ids = &self.id_allocator;
         let id = ids.peek_id()?;
-        let range = space.allocate_constraint(alloc, request)?;
-        enter_device(ids, space, &mut self.slots, alloc, id, range)
+        self.reserve_range(alloc, id, request)
     }
 
     /// Releases a device: frees its id and its range.
@@ -191,7 +187,7 @@ impl DeviceManager {
     /// An error leaves ids, ranges and devices unchanged. In this order:
     /// - `NeverAllocated(id)` if no device has the id.
     /// - `OutOfMemory` if an allocation of memory fails.
-    #[tactic(auto, using(crate::proofs::DeviceCalls::no_device))]
+    #[tactic(auto, using(crate::proofs::DeviceCalls::releases))]
     pub fn release(&mut self, id: u32) -> Result<()>
         // The id and the range of the device are freed, and nothing else changes.
         ensures released { OnOk result ((range : Range) × IsDevice self.old id range
@@ -215,37 +211,27 @@ impl DeviceManager {
     /// Returns the range of the device with this id, or `None` if no device has it.
     ///
     /// It does not allocate.
-    #[tactic(auto, using(crate::proofs::Tables::seen))]
     pub fn slot(&self, id: u32) -> Option<RangeInclusive>
         ensures value { result ≡ map.get self.now.devices id }
         ensures state { IsDeviceState self.now }
     {
         self.slots.get(id)
     }
-}
 
-/// Makes a device of the lowest free id and of an allocated range. If memory runs out, it frees the
-/// range.
-fn enter_device(
-    ids: &mut IdAllocator,
-    space: &mut AddressAllocator,
-    slots: &mut DeviceTable,
-    alloc: Global,
-    id: u32,
-    range: RangeInclusive,
-) -> Result<DeviceSlot>
-    requires { IsNew slots.old id range.start }
-    ensures entered { IfOk result (λ slot. (slot ≡ record { id = id; range = range })
-        × (state_of space.new ≡ state_of space.old) × IsEntered ids.old ids.new slots.old slots.new slot) }
-    ensures undone { IfErr result (λ error. (error ≡ Error.OutOfMemory) × (ids.new ≡ ids.old)
-        × (slots.new ≡ slots.old) × IsGivenBack (state_of space.old) range (state_of space.new)) }
-{
-    if let Err(refused) = slots.insert(alloc, id, range) {
-        // Freeing an allocated range always succeeds.
-        let _ = space.free(&range);
-        return Err(refused.into());
+    /// Makes a device of the lowest free id and of a range for the request. An error changes nothing.
+    #[tactic(auto, using(crate::proofs::DeviceCalls::enters))]
+    fn reserve_range(&mut self, alloc: Global, id: u32, request: Constraint) -> Result<DeviceSlot>
+        requires { PeeksId self.old.ids (Ok id) }
+        ensures { Reserves self.old request result self.new }
+    {
+        let range = self.mmio_allocator.allocate_constraint(alloc, request)?;
+        if let Err(refused) = self.slots.insert(alloc, id, range) {
+            // Freeing an allocated range always succeeds.
+            let _ = self.mmio_allocator.free(&range);
+            return Err(refused.into());
+        }
+        // `peek_id` returned this id, so this succeeds.
+        let _ = self.id_allocator.allocate_id();
+        Ok(DeviceSlot { id, range })
     }
-    // `peek_id` returned this id, so this succeeds.
-    let _ = ids.allocate_id();
-    Ok(DeviceSlot { id, range })
 }

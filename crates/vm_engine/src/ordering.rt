@@ -2,7 +2,7 @@
 ghost use Rattle.std.specs.Prelude.{◌≡◌, MatchBool};
 ghost use Rattle.std.specs.Ordering.{MatchOrdering};
 ghost use Rattle.vm_ranges.specs.Range.{IsRange};
-ghost use Rattle.vm_ranges.specs.RangeOrder.{Before, StartsBefore, StartsAtOrAfter, EndsBefore, EndsAtOrAfterStartOf, IsInOrder};
+ghost use Rattle.vm_ranges.specs.RangeOrder.{Before, StartsBefore, StartsAtOrAfter, IsInOrder};
 
 use std::cmp::Ordering;
 use vm_ranges::RangeInclusive;
@@ -24,17 +24,6 @@ pub(super) fn starts_before(range: &RangeInclusive, other: &RangeInclusive) -> b
     ensures in_order { IsInOrder range.now }
 {
     other.start() > range.start()
-}
-
-/// Returns `true` if `range` ends before `other` starts.
-#[inline(always)]
-#[tactic(auto, unfolding(vm_ranges::specs::RangeOrder::EndsBefore, vm_ranges::specs::RangeOrder::EndsAtOrAfterStartOf, vm_ranges::specs::RangeOrder::IsInOrder))]
-pub(super) fn ends_before(range: &RangeInclusive, other: &RangeInclusive) -> bool
-    ensures which { MatchBool result (EndsBefore range.now other.now) (EndsAtOrAfterStartOf range.now other.now) }
-    ensures in_order { IsInOrder range.now }
-    ensures other_in_order { IsInOrder other.now }
-{
-    other.start() > range.end()
 }
 
 /// Returns the range from `start` to `end`. The caller proves that these are the ends of a range.

@@ -32,7 +32,7 @@ impl Eq for DeviceManager {
 
 impl DeviceManager {
     /// Returns whether both managers have equal allocators.
-    #[tactic(auto, using(crate::proofs::ComparedManagers::spaces))]
+    #[tactic(auto, using(crate::proofs::WrittenManagers::spaces))]
     fn has_allocators_of(&self, other: &DeviceManager) -> bool
         ensures same { IsTrue result ↔ HaveSameAllocators self.now other.now }
         ensures valid { IsDeviceState self.now × IsDeviceState other.now }

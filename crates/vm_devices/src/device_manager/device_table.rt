@@ -32,7 +32,7 @@ impl Model for DeviceTable {
 
     ghost view = { λ t. t.slots };
 
-    ghost invariant = { λ t. AreIdsByStart t.slots (map.from_entries t.ids_by_start.entries) };
+    ghost invariant = { λ t. AreIdsByStart t.slots t.ids_by_start };
 }
 
 impl DeviceTable {

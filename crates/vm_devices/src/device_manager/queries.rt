@@ -31,7 +31,7 @@ impl DeviceManager {
     /// Returns the device whose range contains the address, or `None` if no device has it.
     ///
     /// It descends one path of the tree, looks the range up in a table, and does not allocate.
-    #[tactic(auto, using(crate::proofs::DeviceAtAddress::found))]
+    #[tactic(auto, using(crate::proofs::DeviceStarts::found))]
     pub fn device_at(&self, address: u64) -> Option<DeviceSlot>
         ensures { DeviceAt self.now address result }
     {

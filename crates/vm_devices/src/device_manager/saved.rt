@@ -48,7 +48,7 @@ impl DeviceManager {
     ///   - An allocated id or range has no device.
     ///   - Two devices have the same range.
     /// - `OutOfMemory` if an allocation fails.
-    #[tactic(auto, using(crate::proofs::ManagerFields::no_fields))]
+    #[tactic(auto, using(crate::proofs::SavedManagers::no_fields))]
     pub fn from_value(alloc: Global, value: &Value) -> std::result::Result<Self, ValueError>
         ensures answer { ReadsInParts (EncodesManager (view value.now)) result }
         ensures state { IfOk result IsDeviceState }

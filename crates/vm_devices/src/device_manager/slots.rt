@@ -2,7 +2,7 @@
 //!
 //! The lowest free id is always allocated first, so the ids are close together, and a vector takes
 //! less time than a map.
-ghost use Rattle.std.specs.Prelude.{◌≡◌, ℕ, ◌+◌, ◌<◌, ◌≤◌, length, max, map as map_list, IfOk, OnOk, OnErr};
+ghost use Rattle.std.specs.Prelude.{◌≡◌, ℕ, ◌+◌, ◌^◌, ◌<◌, ◌≤◌, length, max, map as map_list, IfOk, OnOk, OnErr};
 ghost use Rattle.std.specs.Iterator.{YieldsFirst, item_count};
 ghost use Rattle.std.specs.FinMap as map;
 ghost use Rattle.vm_devices.specs.Queries.{device_of};
@@ -79,13 +79,7 @@ impl Slots {
         ensures inserted { OnOk result (self.new ≡ map.insert self.old id range) }
         ensures err { OnErr result (self.new ≡ self.old) }
     {
-        if self.ranges.is_empty() {
-            self.first_id = id;
-        }
-        if id < self.first_id {
-            self.ranges = with_empty_first(alloc, self.first_id - id, &self.ranges)?;
-            self.first_id = id;
-        }
+        lower_first(alloc, &mut self.first_id, &mut self.ranges, id)?;
         let index = (id - self.first_id) as usize;
         extend_to(&mut self.ranges, index)?;
         self.ranges[index] = Some(range);
@@ -112,6 +106,31 @@ impl Slots {
             slots: &self.ranges,
         }
     }
+}
+
+/// Moves the first slot to the id if it is above it. An error changes nothing.
+#[tactic(auto, using(crate::proofs::Slots::first_lowered))]
+fn lower_first(
+    alloc: Global,
+    first_id: &mut u32,
+    slots: &mut Vec<Option<RangeInclusive>>,
+    id: u32,
+) -> Result<(), AllocError>
+    requires { first_id.old + length slots.old.items ≤ 2 ^ 32 }
+    ensures entries { slot_entries first_id.new slots.new.items ≡ slot_entries first_id.old slots.old.items }
+    ensures first { OnOk result (first_id.new ≤ id) }
+    ensures bound { first_id.new + length slots.new.items ≤ 2 ^ 32 }
+{
+    if slots.is_empty() {
+        *first_id = id;
+        return Ok(());
+    }
+    if *first_id <= id {
+        return Ok(());
+    }
+    *slots = with_empty_first(alloc, *first_id - id, slots)?;
+    *first_id = id;
+    Ok(())
 }
 
 /// Returns the slots behind `count` empty ones.

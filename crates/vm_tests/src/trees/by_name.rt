@@ -36,7 +36,12 @@ fn refused(
     ends: Ends,
 ) -> Result<RangeInclusive> {
     let key = range(rt, ends.0, ends.1);
-    space.allocate(rt.alloc(), key.len(), 1, AllocPolicy::ExactMatch(key.start()))
+    space.allocate(
+        rt.alloc(),
+        key.len(),
+        1,
+        AllocPolicy::ExactMatch(key.start()),
+    )
 }
 
 /// Checks the height of a tree of at most 11 nodes, which is at most 4 if the tree is balanced.
@@ -56,7 +61,11 @@ fn test_is_free(rt: HostRuntime) {
 #[test]
 fn test_search(rt: HostRuntime) {
     let space = space_of(&rt, &[(0x100, 0x110), (0x90, 0x99), (0x200, 0x2FF)]);
-    for (ends, held) in [((0x90, 0x99), true), ((0x200, 0x250), false), ((0x111, 0x1FE), false)] {
+    for (ends, held) in [
+        ((0x90, 0x99), true),
+        ((0x200, 0x250), false),
+        ((0x111, 0x1FE), false),
+    ] {
         let key = range(&rt, ends.0, ends.1);
         expect_eq(&rt, &space.holds(&key), &held, &ends);
     }
@@ -89,11 +98,17 @@ fn test_search_superset(rt: HostRuntime) {
 #[test]
 fn test_tree_insert_balanced(rt: HostRuntime) {
     let (first, low) = ((0x300, 0x310), (0x100, 0x110));
-    let mut space = space_of(&rt, &[first, low, (0x350, 0x360), (0x340, 0x34F), (0x311, 0x33F)]);
+    let mut space = space_of(
+        &rt,
+        &[first, low, (0x350, 0x360), (0x340, 0x34F), (0x311, 0x33F)],
+    );
     delete(&rt, &mut space, first);
     expect_balanced(&rt, &space);
 
-    let mut space = space_of(&rt, &[first, low, (0x90, 0x9F), (0x311, 0x313), (0x314, 0x316)]);
+    let mut space = space_of(
+        &rt,
+        &[first, low, (0x90, 0x9F), (0x311, 0x313), (0x314, 0x316)],
+    );
     for ends in [(0x317, 0x319), (0x321, 0x323)] {
         insert(&rt, &mut space, ends);
         expect_balanced(&rt, &space);
@@ -148,7 +163,11 @@ fn test_tree_mark_as_allocated_resource_not_available(rt: HostRuntime) {
 fn test_tree_mark_as_allocated(rt: HostRuntime) {
     let mut space = space_of(&rt, &[(0x100, 0x110)]);
     insert(&rt, &mut space, (0x200, 0x2FF));
-    expect_true(&rt, space.holds(&range(&rt, 0x200, 0x2FF)), &"it is allocated");
+    expect_true(
+        &rt,
+        space.holds(&range(&rt, 0x200, 0x2FF)),
+        &"it is allocated",
+    );
 }
 
 #[test]
@@ -158,7 +177,11 @@ fn test_tree_delete(rt: HostRuntime) {
     delete(&rt, &mut space, first);
     insert(&rt, &mut space, first);
     insert(&rt, &mut space, low);
-    expect_true(&rt, holds_exactly(&space, &[low, first, high]), &"all three");
+    expect_true(
+        &rt,
+        holds_exactly(&space, &[low, first, high]),
+        &"all three",
+    );
     delete(&rt, &mut space, first);
     delete(&rt, &mut space, high);
     expect_true(&rt, holds_exactly(&space, &[low]), &"the lowest");

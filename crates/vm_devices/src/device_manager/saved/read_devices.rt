@@ -70,7 +70,7 @@ impl ReadDevices {
     }
 
     /// Returns whether the id of the device is above the ids of the devices before it.
-    #[tactic(auto, using(crate::proofs::PushedDevices::pushes))]
+    #[tactic(auto, using(crate::proofs::IncreasingIds::pushes))]
     fn can_be_next(&self, device: &DeviceSlot) -> bool
         ensures { IsTestOf result (HaveIncreasingIds (self.now ++ device.now ∷ [])) }
     {

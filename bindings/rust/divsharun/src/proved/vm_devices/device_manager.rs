@@ -93,9 +93,8 @@ impl DeviceManager {
         policy: AllocPolicy,
     ) -> Result<DeviceSlot> {
         let id = self.id_allocator.peek_id()?;
-        let range = self.mmio_allocator.allocate(alloc, size, align, policy)?;
-        let (ids, space) = (&mut self.id_allocator, &mut self.mmio_allocator);
-        enter_device(ids, space, &mut self.slots, alloc, id, range)
+        let request = Constraint::new(size, align, policy)?;
+        self.reserve_range(alloc, id, request)
     }
 
     /// Reserves an id and a range like [`reserve`](Self::reserve), for a request that was made before.
@@ -109,10 +108,9 @@ impl DeviceManager {
     /// - The errors of `AddressAllocator::allocate_constraint`, in the order of its documentation.
     /// - `OutOfMemory` if an allocation for the table of devices fails.
     pub fn reserve_constraint(&mut self, alloc: Global, request: Constraint) -> Result<DeviceSlot> {
-        let (ids, space) = (&mut self.id_allocator, &mut self.mmio_allocator);
+        let ids = &self.id_allocator;
         let id = ids.peek_id()?;
-        let range = space.allocate_constraint(alloc, request)?;
-        enter_device(ids, space, &mut self.slots, alloc, id, range)
+        self.reserve_range(alloc, id, request)
     }
 
     /// Releases a device: frees its id and its range.
@@ -139,24 +137,17 @@ impl DeviceManager {
     pub fn slot(&self, id: u32) -> Option<RangeInclusive> {
         self.slots.get(id)
     }
-}
 
-/// Makes a device of the lowest free id and of an allocated range. If memory runs out, it frees the
-/// range.
-fn enter_device(
-    ids: &mut IdAllocator,
-    space: &mut AddressAllocator,
-    slots: &mut DeviceTable,
-    alloc: Global,
-    id: u32,
-    range: RangeInclusive,
-) -> Result<DeviceSlot> {
-    if let Err(refused) = slots.insert(alloc, id, range) {
-        // Freeing an allocated range always succeeds.
-        let _ = space.free(&range);
-        return Err(refused.into());
+    /// Makes a device of the lowest free id and of a range for the request. An error changes nothing.
+    fn reserve_range(&mut self, alloc: Global, id: u32, request: Constraint) -> Result<DeviceSlot> {
+        let range = self.mmio_allocator.allocate_constraint(alloc, request)?;
+        if let Err(refused) = self.slots.insert(alloc, id, range) {
+            // Freeing an allocated range always succeeds.
+            let _ = self.mmio_allocator.free(&range);
+            return Err(refused.into());
+        }
+        // `peek_id` returned this id, so this succeeds.
+        let _ = self.id_allocator.allocate_id();
+        Ok(DeviceSlot { id, range })
     }
-    // `peek_id` returned this id, so this succeeds.
-    let _ = ids.allocate_id();
-    Ok(DeviceSlot { id, range })
 }

@@ -17,12 +17,6 @@ pub(super) fn starts_before(range: &RangeInclusive, other: &RangeInclusive) -> b
     other.start() > range.start()
 }
 
-/// Returns `true` if `range` ends before `other` starts.
-#[inline(always)]
-pub(super) fn ends_before(range: &RangeInclusive, other: &RangeInclusive) -> bool {
-    other.start() > range.end()
-}
-
 /// Returns the range from `start` to `end`. The caller proves that these are the ends of a range.
 #[inline(always)]
 pub(super) fn valid_range(start: u64, end: u64) -> RangeInclusive {

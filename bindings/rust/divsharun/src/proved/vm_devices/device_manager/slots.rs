@@ -46,13 +46,7 @@ impl Slots {
         id: u32,
         range: RangeInclusive,
     ) -> Result<(), AllocError> {
-        if self.ranges.is_empty() {
-            self.first_id = id;
-        }
-        if id < self.first_id {
-            self.ranges = with_empty_first(alloc, self.first_id - id, &self.ranges)?;
-            self.first_id = id;
-        }
+        lower_first(alloc, &mut self.first_id, &mut self.ranges, id)?;
         let index = (id - self.first_id) as usize;
         extend_to(&mut self.ranges, index)?;
         self.ranges[index] = Some(range);
@@ -74,6 +68,25 @@ impl Slots {
             slots: &self.ranges,
         }
     }
+}
+
+/// Moves the first slot to the id if it is above it. An error changes nothing.
+fn lower_first(
+    alloc: Global,
+    first_id: &mut u32,
+    slots: &mut Vec<Option<RangeInclusive>>,
+    id: u32,
+) -> Result<(), AllocError> {
+    if slots.is_empty() {
+        *first_id = id;
+        return Ok(());
+    }
+    if *first_id <= id {
+        return Ok(());
+    }
+    *slots = with_empty_first(alloc, *first_id - id, slots)?;
+    *first_id = id;
+    Ok(())
 }
 
 /// Returns the slots behind `count` empty ones.

@@ -1,7 +1,7 @@
 use Rattle.std.proofs.Common.{ap, refl}
 use Rattle.std.proofs.lemmas.Bool.{both_ways}
 use Rattle.vm_devices.specs.Devices.{DeviceState}
-use Rattle.vm_devices.proofs.ComparedManagers.{tested, tested_by_order}
+use Rattle.vm_devices.proofs.WrittenManagers.{tested, tested_by_order}
 use Rattle.vm_devices.proofs.device_manager.comparing.DeviceManagerPartialEq.eq.Goals as goal
 
 pub returns-then-has_allocators_of-clause-equal : goal.returns-then-has_allocators_of-clause-equal

@@ -1,10 +1,7 @@
-use Rattle.std.proofs.Common.{◌≡◌, ◌≤◌, length, Err, arith, sym, rules}
+use Rattle.std.proofs.Common.{◌≡◌, Err, sym, rules}
 use Rattle.vm_ranges.specs.Saving.{value_error}
-use Rattle.vm_devices.proofs.SavedDevices.{none_read, no_device, one_read, push_refused, all_read}
+use Rattle.vm_devices.proofs.SavedManagers.{no_device, one_read, push_refused}
 use Rattle.vm_devices.proofs.device_manager.saved.slots.read_slots.Goals as goal
-
-pub loop-item-init : goal.loop-item-init
-loop-item-init c = none_read c.args.list.now c.new-devices.result c.new-devices.ensures
 
 pub returns-in_default : goal.returns-in_default
 returns-in_default c =
@@ -22,8 +19,3 @@ pub loop-item-preserved : goal.loop-item-preserved
 loop-item-preserved c =
     one_read c.args.list.now c.loop-item.item-index c.item-item.result c.loop-item-test.true c.item-item.is c.loop-item.devices c.in-Some.device c.loop-item.invariant (sym c.in-Some.ensures)
     c.push.new.self c.in_ok-push.ensures
-
-pub returns : goal.returns
-returns c =
-    let all : length c.args.list.now ≤ c.loop-item.item-index = omega (arith, c.loop-item-test.false) in
-    all_read c.args.list.now c.loop-item.item-index c.loop-item.devices all c.loop-item.invariant

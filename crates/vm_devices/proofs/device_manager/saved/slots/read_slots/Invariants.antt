@@ -1,4 +1,4 @@
-use Rattle.vm_devices.proofs.SavedDevices.{AreReadSoFar}
+use Rattle.vm_devices.proofs.SavedManagers.{AreReadSoFar}
 use Rattle.vm_devices.proofs.device_manager.saved.slots.read_slots.Given as goal
 
 -- The items so far encode the devices so far.
