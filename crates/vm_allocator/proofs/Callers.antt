@@ -20,11 +20,11 @@ use Rattle.vm_ranges.specs.declared.constraint.AllocPolicy.TheVariants.{ExactMat
 use Rattle.vm_engine.proofs.Blocks.PlainWords.{IsHeldAddress, IsHeld as IsHeldRange, contains_held, held_contains, all_miss, none_holds, held_address}
 use Rattle.vm_engine.proofs.Blocks.HeldSets.{held_lies, one_held}
 use Rattle.vm_engine.proofs.Blocks.HeldChanges.{held_now, held_without, not_held_without}
-use Rattle.vm_engine.proofs.Answers.AddressAnswers.{releases_held}
-use Rattle.vm_engine.proofs.Answers.Once.{chosen_place, place_in_window}
+use Rattle.vm_engine.proofs.Results.AddressResults.{releases_held}
+use Rattle.vm_engine.proofs.Results.Once.{chosen_place, place_in_window}
 use Rattle.vm_engine.proofs.Choosing.WindowPlaces.{lies_in}
-use Rattle.vm_engine.proofs.Answers.Filling.{allocates_chosen}
-use Rattle.vm_engine.proofs.Answers.Outcomes.{allocates_outcome}
+use Rattle.vm_engine.proofs.Results.Filling.{allocates_chosen}
+use Rattle.vm_engine.proofs.Results.Outcomes.{allocates_outcome}
 use Rattle.vm_allocator.proofs.Reading.ReadAllocators.{one_allocator, encoded_state as encoded_addresses}
 use Rattle.vm_allocator.proofs.Ids.ReadIdStates.{one_encoded, encoded_state as encoded_ids}
 -- A list of different held ranges or ids contains all of them if and only if its length is their number.

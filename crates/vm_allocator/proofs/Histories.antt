@@ -1,5 +1,5 @@
 pub mod AlongHistories
-pub mod HistoryAnswers
+pub mod HistoryResults
 pub mod Releases
 pub mod AddressEnds
 pub mod MovedRanges

@@ -7,7 +7,7 @@ pub mod HeldIds
 pub mod FreedLists
 pub mod ComparedIds
 pub mod FreedIds
-pub mod IdAnswers
+pub mod IdResults
 pub mod EveryIdCall
 pub mod AlongIdHistories
 pub mod IdEnds

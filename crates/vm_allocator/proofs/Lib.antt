@@ -1,6 +1,6 @@
 pub mod Ids
 pub mod Decisions
-pub mod Answers
+pub mod Results
 pub mod Histories
 pub mod Reading
 pub mod Callers

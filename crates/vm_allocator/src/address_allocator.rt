@@ -65,7 +65,7 @@ impl AddressAllocator {
     /// - `Underflow` if `size` is 0.
     /// - `Overflow` if the last address would be past `u64::MAX`.
     /// - `OutOfMemory` if the allocation of the node fails.
-    #[tactic(auto, using(crate::proofs::Answers::Making::making, crate::proofs::Trees::trees))]
+    #[tactic(auto, using(crate::proofs::Results::Making::making, crate::proofs::Trees::trees))]
     pub fn new(alloc: Global, base: u64, size: u64) -> Result<Self>
         ensures answer { Makes base size (made_state result) }
         ensures state { IfOk result (λ allocator. IsAddressState (state_of allocator)) }
@@ -95,7 +95,7 @@ impl AddressAllocator {
     ///   - `Overflow` if it ends at `u64::MAX`.
     /// - `Overflow` if the ranges and the gaps together are 2^49 or more.
     /// - `OutOfMemory` if the allocation of a node fails.
-    #[tactic(auto, using(crate::proofs::Answers::Making::making_held, crate::proofs::Trees::trees))]
+    #[tactic(auto, using(crate::proofs::Results::Making::making_held, crate::proofs::Trees::trees))]
     pub fn with_held(
         alloc: Global,
         base: u64,
@@ -158,7 +158,7 @@ impl AddressAllocator {
     ///   - `Overflow` if the height of the tree is 48 or more. This takes more than 6 * 10^9
     ///     allocated ranges.
     ///   - `OutOfMemory` if the allocation of a node fails.
-    #[tactic(auto, using(crate::proofs::Callers::allocations, vm_engine::proofs::Answers::Requests::allocating, vm_engine::proofs::Answers::Filling::succeeding, crate::proofs::Trees::trees))]
+    #[tactic(auto, using(crate::proofs::Callers::allocations, vm_engine::proofs::Results::Requests::allocating, vm_engine::proofs::Results::Filling::succeeding, crate::proofs::Trees::trees))]
     pub fn allocate(
         &mut self,
         alloc: Global,
@@ -206,7 +206,7 @@ impl AddressAllocator {
     ///   the window fits.
     /// - `ResourceNotAvailable` if the start of `ExactMatch` is outside the window, or a part of its
     ///   range is, unless exactly this range is already allocated.
-    #[tactic(auto, using(crate::proofs::Callers::constraint_allocations, vm_engine::proofs::Answers::Filling::succeeding, crate::proofs::Trees::trees))]
+    #[tactic(auto, using(crate::proofs::Callers::constraint_allocations, vm_engine::proofs::Results::Filling::succeeding, crate::proofs::Trees::trees))]
     pub fn allocate_constraint(
         &mut self,
         alloc: Global,
@@ -300,7 +300,7 @@ impl AddressAllocator {
     /// # Errors
     ///
     /// Those of [`allocate_constraint`](Self::allocate_constraint), in the same order.
-    #[tactic(auto, using(crate::proofs::Callers::constraint_allocations, vm_engine::proofs::Counts::Allocating::valid_allocations, vm_engine::proofs::Answers::Filling::succeeding, crate::proofs::Trees::trees))]
+    #[tactic(auto, using(crate::proofs::Callers::constraint_allocations, vm_engine::proofs::Counts::Allocating::valid_allocations, vm_engine::proofs::Results::Filling::succeeding, crate::proofs::Trees::trees))]
     pub fn allocate_constraint_counted(
         &mut self,
         alloc: Global,
@@ -357,7 +357,7 @@ impl AddressAllocator {
     /// # Errors
     ///
     /// Those of [`free`](Self::free).
-    #[tactic(auto, using(crate::proofs::Trees::trees, vm_engine::proofs::Answers::Filling::succeeding))]
+    #[tactic(auto, using(crate::proofs::Trees::trees, vm_engine::proofs::Results::Filling::succeeding))]
     pub fn free_counted(&mut self, key: &RangeInclusive) -> (Result<()>, u64)
         ensures answer { Frees (state_of self.old) key.now result.0 (state_of self.new) }
         ensures unchanged { OnErr result.0 (self.new ≡ self.old) }
@@ -401,7 +401,7 @@ impl AddressAllocator {
 /// Returns the range of the `size` addresses that start at `base`.
 ///
 /// Its errors are `Underflow` for size 0, and `Overflow` if the range would end past `u64::MAX`.
-#[tactic(auto, using(crate::proofs::Answers::Making::making_held))]
+#[tactic(auto, using(crate::proofs::Results::Making::making_held))]
 fn space_from(base: u64, size: u64) -> Result<RangeInclusive>
     ensures { MakesSpace base size result }
 {

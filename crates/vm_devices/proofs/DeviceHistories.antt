@@ -5,11 +5,11 @@ use Rattle.std.specs.FinMap as map
 use Rattle.vm_ranges.specs.Range.{Range, MAX, Overlaps, Covers}
 use Rattle.vm_engine.specs.Address.{holding}
 use Rattle.vm_allocator.specs.Ids.{IsOfRange}
-use Rattle.vm_engine.proofs.Answers.AddressAnswers.{lie_apart}
+use Rattle.vm_engine.proofs.Results.AddressResults.{lie_apart}
 use Rattle.vm_allocator.proofs.Callers.{given}
 use Rattle.vm_devices.specs.declared.device_slot.DeviceSlot.{DeviceSlot}
 use Rattle.vm_devices.specs.Devices.{DeviceState, IsDevice, IsDeviceState}
-use Rattle.vm_ranges.proofs.CloneAnswers.{cloning_keeps}
+use Rattle.vm_ranges.proofs.Clones.{cloning_keeps}
 use Rattle.vm_devices.specs.Histories.{DeviceCall, Reservation, Release, Cloning, IsDeviceCallFrom, IsDeviceHistoryFrom, IsManagerMade, BeginsWithDevices, AreDevicesReached, WasReserved, WasThereFirst}
 use Rattle.vm_devices.specs.Laws.{DevicesAreValid}
 use Rattle.vm_devices.proofs.Tables.{with_cases, without_is}

@@ -11,9 +11,9 @@ use Rattle.vm_ranges.specs.declared.error.Error.{Error}
 use Rattle.vm_ranges.specs.declared.error.Error.TheVariants.{OutOfMemory}
 use Rattle.vm_ranges.specs.declared.constraint.AllocPolicy.TheVariants.{ExactMatch}
 use Rattle.vm_allocator.proofs.Callers.{allocated_held, allocated_again, frees_held}
-use Rattle.vm_engine.proofs.Answers.Once.{allocates_once}
-use Rattle.vm_engine.proofs.Answers.AddressAnswers.{freeing_undoes}
-use Rattle.vm_allocator.proofs.Ids.IdAnswers.{one_lowest}
+use Rattle.vm_engine.proofs.Results.Once.{allocates_once}
+use Rattle.vm_engine.proofs.Results.AddressResults.{freeing_undoes}
+use Rattle.vm_allocator.proofs.Ids.IdResults.{one_lowest}
 use Rattle.vm_devices.specs.declared.device_slot.DeviceSlot.{DeviceSlot}
 use Rattle.vm_devices.specs.Devices.{DeviceState, IsDevice, with_device, without_device, Pairs, Reserves, Releases}
 use Rattle.vm_devices.specs.Laws.{IsLimit, ReservedAgain, RangeIsReservedAgain}

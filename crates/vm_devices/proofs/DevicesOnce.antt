@@ -7,8 +7,8 @@ use Rattle.vm_allocator.specs.Ids.{IdState}
 use Rattle.vm_engine.specs.Answer.{SPLIT_LIMIT_MIN_HELD}
 use Rattle.vm_ranges.specs.declared.error.Error.{Error}
 use Rattle.vm_ranges.specs.declared.error.Error.TheVariants.{OutOfMemory}
-use Rattle.vm_allocator.proofs.Answers.BelowLimits.{placed_once, made_once}
-use Rattle.vm_allocator.proofs.Ids.IdAnswers.{making_is_determined, by_same_lowest}
+use Rattle.vm_allocator.proofs.Results.BelowLimits.{placed_once, made_once}
+use Rattle.vm_allocator.proofs.Ids.IdResults.{making_is_determined, by_same_lowest}
 use Rattle.vm_devices.specs.declared.device_slot.DeviceSlot.{DeviceSlot}
 use Rattle.vm_devices.specs.Devices.{DeviceState, made_devices, MakesManager, Pairs, Reserves, Releases}
 use Rattle.vm_devices.specs.Laws.{DevicesDecide}

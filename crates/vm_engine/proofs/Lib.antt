@@ -5,7 +5,7 @@ pub mod Choosing
 pub mod Splitting
 pub mod Releasing
 pub mod Counts
-pub mod Answers
+pub mod Results
 pub mod Walking
 pub mod Comparing
 pub mod Reading

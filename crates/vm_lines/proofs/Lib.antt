@@ -9,5 +9,5 @@ pub mod Parts
 pub mod Known
 pub mod Progress
 pub mod OneText
-pub mod SomeAnswer
+pub mod SomeResult
 pub mod SomeText

@@ -9,9 +9,9 @@ use Rattle.vm_ranges.specs.declared.constraint.AllocPolicy.TheVariants.{FirstMat
 use Rattle.vm_ranges.specs.declared.error.Error.{Error}
 use Rattle.vm_ranges.specs.declared.error.Error.TheVariants.{OutOfMemory}
 use Rattle.vm_ranges.proofs.TwoFacts.{unless_same}
-use Rattle.vm_engine.proofs.Answers.Once.{frees_once}
-use Rattle.vm_allocator.proofs.Answers.BelowLimits.{placed_once, made_once}
-use Rattle.vm_allocator.proofs.Ids.IdAnswers.{making_is_determined, allocating_is_determined, freeing_is_determined}
+use Rattle.vm_engine.proofs.Results.Once.{frees_once}
+use Rattle.vm_allocator.proofs.Results.BelowLimits.{placed_once, made_once}
+use Rattle.vm_allocator.proofs.Ids.IdResults.{making_is_determined, allocating_is_determined, freeing_is_determined}
 use Rattle.vm_lines.specs.Commands.{command_of}
 use Rattle.vm_lines.specs.Lines.{newline}
 use Rattle.vm_devices.specs.Devices.{DeviceState}

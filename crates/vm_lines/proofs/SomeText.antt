@@ -21,7 +21,7 @@ use Rattle.vm_lines.specs.declared.command.Command.{Command}
 use Rattle.vm_lines.specs.declared.command.Command.TheVariants.{Space, First, Last, Exact, Free, Ids, Id, Unid, Has, Manager, Device, Undevice, Malformed}
 use Rattle.vm_lines.specs.declared.reply.Reply.{Reply}
 use Rattle.vm_lines.specs.declared.reply.Reply.TheVariants.{Held, Failed, NoSpace, NoIds, NoManager, NotInLanguage}
-use Rattle.vm_lines.proofs.SomeAnswer.{IsAnswered, allocates_answered, releases_answered, makes_answered, allocates_id_answered, frees_id_answered, makes_ids_answered}
+use Rattle.vm_lines.proofs.SomeResult.{IsAnswered, allocates_answered, releases_answered, makes_answered, allocates_id_answered, frees_id_answered, makes_ids_answered}
 
 -- One line.
 

@@ -1,5 +1,5 @@
 pub mod TwoFacts
-pub mod CloneAnswers
+pub mod Clones
 pub mod Listed
 pub mod Decisions
 pub mod Power

@@ -5,7 +5,7 @@ use Rattle.vm_allocator.specs.Values.AllocatorValues.{EncodesAddresses}
 use Rattle.vm_allocator.specs.Values.RepairedValues.{EncodesRepaired}
 use Rattle.vm_allocator.specs.Histories.AddressHistories.{Call, Cloning, IsHistoryFrom}
 use Rattle.vm_allocator.specs.Laws.HistoryLaws.{CloneIsReached, ReadIsReached, EqualStatesAreEqual, FreeMakesEqual, FreesInAnyOrderMakeEqual}
-use Rattle.vm_ranges.proofs.CloneAnswers.{clone_is}
+use Rattle.vm_ranges.proofs.Clones.{clone_is}
 use Rattle.vm_engine.proofs.Comparing.StateOrders.{equal_states}
 use Rattle.vm_allocator.proofs.Histories.AlongHistories.{alike_state, release_undoes}
 use Rattle.vm_allocator.proofs.Histories.Releases.{order_is_free}

@@ -10,16 +10,16 @@ use Rattle.vm_allocator.specs.Histories.AddressHistories.{Call, Allocation, Seve
 use Rattle.vm_allocator.specs.Laws.HistoryLaws.{HeldAreValid, HaveSameState, StateDecides, FreeUndoes}
 use Rattle.vm_ranges.specs.declared.error.Error.{Error}
 use Rattle.vm_engine.proofs.Blocks.PlainWords.{IsHeld, contains_held, held_contains}
-use Rattle.vm_engine.proofs.Answers.Outcomes.{IsRefused}
+use Rattle.vm_engine.proofs.Results.Outcomes.{IsRefused}
 use Rattle.vm_allocator.proofs.Reading.ReadAllocators.{encoded_state}
 use Rattle.vm_allocator.proofs.Reading.ReadRepaired.{repaired_state}
-use Rattle.vm_ranges.proofs.CloneAnswers.{cloning_keeps}
-use Rattle.vm_engine.proofs.Answers.Once.{allocates_once, frees_once}
+use Rattle.vm_ranges.proofs.Clones.{cloning_keeps}
+use Rattle.vm_engine.proofs.Results.Once.{allocates_once, frees_once}
 use Rattle.vm_allocator.proofs.Callers.{given, request_inside}
-use Rattle.vm_allocator.proofs.Answers.HeldOnes.{held_state}
+use Rattle.vm_allocator.proofs.Results.HeldOnes.{held_state}
 use Rattle.vm_engine.proofs.Blocks.HeldSets.{same_ranges_held}
 use Rattle.vm_engine.proofs.Blocks.HeldChanges.{held_with, held_without}
-use Rattle.vm_engine.proofs.Answers.AddressAnswers.{IsAllocation, outcome, allocated_state, freed_state, made_is, made_state, lie_apart, freeing_undoes}
+use Rattle.vm_engine.proofs.Results.AddressResults.{IsAllocation, outcome, allocated_state, freed_state, made_is, made_state, lie_apart, freeing_undoes}
 
 -- ---- Every reached state is valid
 each_valid : (qs : List Request) (rs : List Range) (old new : AddressState) → IsAddressState old → AllocatesEach old qs rs new → IsAddressState new

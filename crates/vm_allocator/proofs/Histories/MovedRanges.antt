@@ -6,7 +6,7 @@ use Rattle.vm_engine.specs.Address.{AddressState, AreClear, releasing, with_rang
 use Rattle.vm_engine.specs.Answer.{Allocates, Frees, IsChosen}
 use Rattle.vm_engine.proofs.Blocks.PlainWords.{IsHeld, contains_held, held_contains}
 use Rattle.vm_engine.proofs.Blocks.HeldChanges.{held_now, still_held_with, others_held}
-use Rattle.vm_engine.proofs.Answers.AddressAnswers.{allocated_state, releases_held}
+use Rattle.vm_engine.proofs.Results.AddressResults.{allocated_state, releases_held}
 use Rattle.vm_allocator.specs.Moves.{request_to, MovesRange}
 use Rattle.vm_allocator.specs.Histories.AddressHistories.{Call, Allocation, Release, IsHistoryFrom, IsReached, Reached}
 use Rattle.vm_allocator.specs.Laws.MoveLaws.{MovedIsHeld, OldPlaceIsClear, MoveIsReached}

@@ -12,7 +12,7 @@ use Rattle.vm_allocator.specs.Laws.HistoryLaws.{FreesInAnyOrder}
 use Rattle.vm_engine.proofs.Blocks.PlainWords.{IsHeld, contains_held, held_contains}
 use Rattle.vm_engine.proofs.Blocks.HeldSets.{one_start}
 use Rattle.vm_engine.proofs.Blocks.HeldChanges.{held_without, not_held_without, others_held}
-use Rattle.vm_engine.proofs.Answers.AddressAnswers.{freed_held, freed_state, releases_held}
+use Rattle.vm_engine.proofs.Results.AddressResults.{freed_held, freed_state, releases_held}
 use Rattle.vm_allocator.proofs.Histories.AlongHistories.{history_state, reached_state, same_members, same_state}
 
 -- The ranges that are held after some ranges are freed: those held before, without the freed ones.

@@ -21,9 +21,9 @@ use Rattle.vm_allocator.specs.Ids.{IdState, IsHeld, IsLowestNotHeld, IsIdState, 
 use Rattle.vm_allocator.specs.Histories.IdHistories.{IdCall, Allocation, ExactAllocation, WindowAllocation, SeveralAllocations, Release, Cloning, IsIdCallFrom, IsIdHistoryFrom, AreIdsMade, AreIdsMadeOfFreed, AreIdsMadeOfHeld, AreIdsRead, AllocatedTheId, is_held_after, is_allocated_after}
 use Rattle.vm_allocator.specs.Laws.IdHistoryLaws.{EachIsLowestNotHeld, NoIdIsHeldTwice, HeldIsAllocated, StatesAreOfIds}
 use Rattle.vm_ranges.specs.declared.error.Error.{Error}
-use Rattle.vm_ranges.proofs.CloneAnswers.{cloning_keeps}
+use Rattle.vm_ranges.proofs.Clones.{cloning_keeps}
 use Rattle.vm_allocator.proofs.Ids.ReadIdStates.{encoded_state}
-use Rattle.vm_allocator.proofs.Ids.IdAnswers.{id_states_are_preserved, allocating_adds, freeing_removes}
+use Rattle.vm_allocator.proofs.Ids.IdResults.{id_states_are_preserved, allocating_adds, freeing_removes}
 
 -- One call.
 

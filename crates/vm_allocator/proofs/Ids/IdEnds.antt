@@ -3,7 +3,7 @@ use Rattle.std.proofs.Common.{List, [], ◌∷◌, ◌++◌, refl, subst, inr, O
 use Rattle.vm_allocator.specs.Ids.{IdState}
 use Rattle.vm_allocator.specs.Histories.IdHistories.{IdCall, Cloning, IsIdHistoryFrom}
 use Rattle.vm_allocator.specs.Laws.IdHistoryLaws.{IdCloneIsReached, IdReadIsReached}
-use Rattle.vm_ranges.proofs.CloneAnswers.{clone_is}
+use Rattle.vm_ranges.proofs.Clones.{clone_is}
 
 history_append : (xs ys : List IdCall) (first mid last : IdState) → IsIdHistoryFrom first xs mid → IsIdHistoryFrom mid ys last → IsIdHistoryFrom first (xs ++ ys) last
 history_append [] ys first mid last h k = subst (λ (v : IdState). IsIdHistoryFrom v ys last) h k

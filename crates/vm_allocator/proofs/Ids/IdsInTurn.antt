@@ -18,7 +18,7 @@ use Rattle.vm_ranges.specs.declared.error.Error.TheVariants.{Overflow, ResourceN
 use Rattle.vm_allocator.proofs.Callers.{id_is_lowest, id_state}
 use Rattle.vm_allocator.proofs.Ids.IdCounts.{tells_apart}
 use Rattle.vm_allocator.proofs.Ids.IncreasingBounds.{IncreaseWithin, rise}
-use Rattle.vm_allocator.proofs.Ids.IdAnswers.{id_states_are_preserved}
+use Rattle.vm_allocator.proofs.Ids.IdResults.{id_states_are_preserved}
 use Rattle.vm_allocator.proofs.Ids.EveryIdCall.{lowest_or_all, decided_held}
 use Rattle.vm_allocator.proofs.Ids.ExactIds.{absent, holding_in_range, exact_state, exact_was_free}
 use Rattle.vm_allocator.proofs.Ids.FreeIds.{in_free, free_in, free_rise, lowest_first, holding_more, ids_taken}

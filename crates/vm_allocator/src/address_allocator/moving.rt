@@ -33,7 +33,7 @@ impl AddressAllocator {
     /// - Only if the new range splits its gap:
     ///   - `Overflow` if the height of the tree is 48 or more.
     ///   - `OutOfMemory` if the allocation of a node fails.
-    #[tactic(auto, using(crate::proofs::Answers::Moves::moves, crate::proofs::Trees::trees))]
+    #[tactic(auto, using(crate::proofs::Results::Moves::moves, crate::proofs::Trees::trees))]
     pub fn move_range(
         &mut self,
         alloc: Global,

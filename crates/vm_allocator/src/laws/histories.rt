@@ -60,7 +60,7 @@ fn frees_leave_no_trace()
 {}
 
 /// Proves that every call has a result in every state, so every list of calls has a history.
-#[tactic(auto, using(crate::proofs::Answers::EveryAddressCall::answers))]
+#[tactic(auto, using(crate::proofs::Results::EveryAddressCall::answers))]
 fn every_call_is_answered()
     ensures call { EveryCallIsAnswered }
     ensures list { EveryListHasHistory }

@@ -12,7 +12,7 @@ ghost use Rattle.vm_allocator.specs.Laws.IdLaws.{
 };
 
 /// Proves that a call has one result and one next state in each state, unless memory runs out.
-#[tactic(auto, using(crate::proofs::Ids::IdAnswers::determined))]
+#[tactic(auto, using(crate::proofs::Ids::IdResults::determined))]
 fn calls_are_determined()
     ensures makes { MakingIsDetermined }
     ensures allocates { AllocatingIsDetermined }
@@ -22,13 +22,13 @@ fn calls_are_determined()
 
 /// Proves that the calls preserve the valid states: the ids ever allocated are the first ids of the
 /// range, and only such ids are allocated.
-#[tactic(auto, using(crate::proofs::Ids::IdAnswers::kept))]
+#[tactic(auto, using(crate::proofs::Ids::IdResults::kept))]
 fn id_states_are_preserved()
     ensures { IdStateIsPreserved }
 {}
 
 /// Proves that allocating or freeing an id changes only this id.
-#[tactic(auto, using(crate::proofs::Ids::IdAnswers::changes))]
+#[tactic(auto, using(crate::proofs::Ids::IdResults::changes))]
 fn one_id_changes()
     ensures takes { AllocatingAdds }
     ensures frees_one { FreeingRemoves }

@@ -6,7 +6,7 @@ use Rattle.vm_engine.specs.Address.{AddressState, IsClear, with_range, without_r
 use Rattle.vm_engine.specs.Tree.Blocks.{gap_before, blocks_between, blocks_of}
 use Rattle.vm_ranges.specs.declared.state.NodeState.TheVariants.{Allocated}
 use Rattle.vm_engine.specs.Laws.MemoryLaws.{block_count, IsOneIf, AreClearBeside, OneNodeForEachBlock, AllocationAddsParts, FreeingRemovesGaps, BlocksAreFew}
-use Rattle.vm_engine.proofs.Answers.AddressAnswers.{gets, lies_clear, freed_held}
+use Rattle.vm_engine.proofs.Results.AddressResults.{gets, lies_clear, freed_held}
 use Rattle.vm_engine.proofs.Blocks.PlainWords.{IsHeldAddress, IsHeld, all_miss, none_holds}
 use Rattle.vm_engine.proofs.Blocks.HeldChanges.{Misses, beside, misses_later, in_order_without, with_without}
 use Rattle.vm_engine.proofs.Blocks.HeldSets.{one_start, later_above, held_lies}

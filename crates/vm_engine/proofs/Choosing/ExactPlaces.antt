@@ -20,7 +20,7 @@ use Rattle.vm_engine.specs.declared.node.places.Place.{Place}
 use Rattle.vm_engine.proofs.Blocks.OneList.{same_block}
 use Rattle.vm_ranges.proofs.RangeCalls.{same_range}
 use Rattle.vm_engine.proofs.Nodes.TreeEdits.{address_cut, address_missed}
-use Rattle.vm_engine.proofs.Answers.Requests.{request_in, with_policy}
+use Rattle.vm_engine.proofs.Results.Requests.{request_in, with_policy}
 use Rattle.vm_engine.proofs.Choosing.ExactStart.{named, IsWithin, exact_at_max, exact_outside, exact_over, exact_held, exact_other, exact_short, exact_at_end, exact_taken}
 
 pub in_held : (k : Range) (st : NodeState) (t last : ℕ) → st ≡ Allocated → k.start ≡ t → k.end ≡ last → ExactPlace k st t last (Err (InvalidStateTransition k Allocated))

@@ -19,8 +19,8 @@ use Rattle.vm_ranges.specs.declared.constraint.AllocPolicy.TheVariants.{ExactMat
 use Rattle.vm_engine.specs.declared.node.places.Place.{Place}
 use Rattle.vm_engine.proofs.Blocks.PlainWords.{held_contains}
 use Rattle.vm_engine.proofs.Nodes.TreeEdits.{address_missed}
-use Rattle.vm_engine.proofs.Answers.Once.{clear_anywhere, place_anywhere}
-use Rattle.vm_engine.proofs.Answers.Requests.{request_in, with_policy}
+use Rattle.vm_engine.proofs.Results.Once.{clear_anywhere, place_anywhere}
+use Rattle.vm_engine.proofs.Results.Requests.{request_in, with_policy}
 use Rattle.vm_engine.proofs.Choosing.ExactStart.{named, IsWithin, all_missed, in_space, as_cut, clear_in_block, free_not_held}
 use Rattle.vm_engine.proofs.Choosing.ExactPlaces.{aligned_if, within_block, over_named, chooses_in, exact_past}
 

@@ -20,8 +20,8 @@ use Rattle.vm_ranges.specs.declared.error.Error.TheVariants.{Overflow, ResourceN
 use Rattle.vm_ranges.specs.declared.constraint.AllocPolicy.{AllocPolicy}
 use Rattle.vm_ranges.specs.declared.constraint.AllocPolicy.TheVariants.{FirstMatch, LastMatch, ExactMatch}
 use Rattle.vm_engine.specs.declared.node.places.Place.{Place}
-use Rattle.vm_engine.proofs.Answers.Requests.{request_in, with_policy}
-use Rattle.vm_engine.proofs.Answers.Once.{chosen_once}
+use Rattle.vm_engine.proofs.Results.Requests.{request_in, with_policy}
+use Rattle.vm_engine.proofs.Results.Once.{chosen_once}
 use Rattle.vm_engine.specs.Counts.Steps.{NoneEndsBelowMax}
 use Rattle.vm_engine.proofs.Counts.NodeCountCases.{search_first, search_last, search_first_in, search_last_in}
 use Rattle.vm_engine.proofs.Choosing.PlaceSearch.{lowest_within, highest_within}

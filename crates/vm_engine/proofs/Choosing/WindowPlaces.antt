@@ -13,7 +13,7 @@ use Rattle.vm_ranges.specs.declared.state.NodeState.{NodeState}
 use Rattle.vm_ranges.specs.declared.state.NodeState.TheVariants.{Free, Allocated}
 use Rattle.vm_engine.proofs.Blocks.Gaps.{InFreeBlock}
 use Rattle.vm_engine.proofs.Choosing.Places.{place_in_block, block_place, place_divides, fit_within, above}
-use Rattle.vm_engine.proofs.Answers.Once.{place_anywhere}
+use Rattle.vm_engine.proofs.Results.Once.{place_anywhere}
 
 -- The n addresses that start at u lie in the window.
 abbrev pub LiesIn : Range → ℕ → ℕ → Type 0

@@ -8,7 +8,7 @@ use Rattle.vm_engine.specs.Counts.Steps.{IsGrantCount, IsAllocationCount, Enters
 use Rattle.vm_ranges.specs.declared.error.Error.{Error}
 use Rattle.vm_ranges.specs.declared.error.Error.TheVariants.{OutOfMemory}
 use Rattle.vm_ranges.proofs.Requests.{constraint_made}
-use Rattle.vm_engine.proofs.Answers.Filling.{no_constraint_fault}
+use Rattle.vm_engine.proofs.Results.Filling.{no_constraint_fault}
 
 -- ---- Requests that can be invalid
 pub invalid_count : (h : ℕ) (old : AddressState) (request : Request) (e : Error) → IsAllocationCount h old request (Err e) 0

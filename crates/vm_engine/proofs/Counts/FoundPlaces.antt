@@ -22,7 +22,7 @@ use Rattle.vm_engine.proofs.Counts.WindowGaps.{sides}
 use Rattle.vm_engine.proofs.Splitting.TakenRanges.{as_blocks}
 use Rattle.vm_ranges.specs.Request.{Request}
 use Rattle.vm_engine.specs.Answer.{IsChosen, AllocatesAt, Grants}
-use Rattle.vm_engine.proofs.Answers.Outcomes.{grants_outcome}
+use Rattle.vm_engine.proofs.Results.Outcomes.{grants_outcome}
 
 -- ---- A block with a fit contains the n addresses that start at some multiple of a
 pub fit_room : (n a : ℕ) (bs : List Block) → 0 < n → 0 < a → list_any (has_fit n a) bs ≡ true → (t : ℕ) × (t % a ≡ 0) × InFreeBlock bs t (t + n - 1)

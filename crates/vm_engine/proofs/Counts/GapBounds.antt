@@ -22,8 +22,8 @@ use Rattle.vm_engine.proofs.Choosing.Places.{block_place, place_divides}
 use Rattle.vm_engine.proofs.Comparing.Tilings.{tree_blocks}
 use Rattle.vm_ranges.proofs.Requests.{constraint_made}
 use Rattle.vm_engine.proofs.Counts.Allocating.{allocations}
-use Rattle.vm_engine.proofs.Answers.Requests.{request_in, allocating}
-use Rattle.vm_engine.proofs.Answers.Filling.{succeeding}
+use Rattle.vm_engine.proofs.Results.Requests.{request_in, allocating}
+use Rattle.vm_engine.proofs.Results.Filling.{succeeding}
 use Rattle.vm_engine.proofs.Nodes.Spaces.{spaces}
 use Rattle.vm_engine.proofs.Counts.WindowGaps.{first_in_at_most, last_in_at_most}
 use Rattle.vm_engine.proofs.Counts.SearchedGaps.{HasOneWithoutPlace, misaligned_in_vain, too_short_in_vain, first_without_place, first_to_place, last_without_place, last_to_place}

@@ -30,8 +30,8 @@ use Rattle.vm_engine.specs.Windows.{within}
 use Rattle.vm_engine.proofs.Counts.FoundPlaces.{fits_there, fits_part, keys_of, given_range, granted_place}
 use Rattle.vm_engine.proofs.Counts.PlacePaths.{path_and_split, left_first_and_split, right_first_and_split, first_is_left_first, last_is_right_first, address_at_most_path}
 use Rattle.vm_engine.proofs.Counts.WindowPaths.{first_is_left_first_in, last_is_right_first_in}
-use Rattle.vm_engine.proofs.Answers.Requests.{request_in}
-use Rattle.vm_engine.proofs.Answers.Once.{place_in_window}
+use Rattle.vm_engine.proofs.Results.Requests.{request_in}
+use Rattle.vm_engine.proofs.Results.Once.{place_in_window}
 use Rattle.vm_engine.proofs.Choosing.Places.{place_divides}
 use Rattle.vm_engine.proofs.Choosing.WindowPlaces.{lies_in}
 use Rattle.vm_ranges.proofs.Power.{alignment_pos}

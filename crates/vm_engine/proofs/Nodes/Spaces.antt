@@ -17,7 +17,7 @@ use Rattle.vm_engine.proofs.Blocks.BlockStates.{is_state}
 use Rattle.vm_ranges.specs.Request.{Request}
 use Rattle.vm_engine.specs.Answer.{AllocatesAt, Grants, Frees}
 use Rattle.vm_ranges.specs.declared.error.Error.{Error}
-use Rattle.vm_engine.proofs.Answers.Outcomes.{IsRefused, IsTaken, grants_outcome}
+use Rattle.vm_engine.proofs.Results.Outcomes.{IsRefused, IsTaken, grants_outcome}
 
 -- A tiling ends where the space ends.
 last_tile : (p : NodeState) (lo hi : ℕ) (bs : List Block) → Tiles p (lo + 1) bs hi → last_end lo bs ≡ hi

@@ -47,7 +47,7 @@ impl InnerNode {
 impl IntervalTree {
     /// Allocates like [`allocate`](Self::allocate), and also returns the number of nodes that it
     /// entered.
-    #[tactic(auto, using(crate::proofs::Choosing::Searched::granting, crate::proofs::Counts::Granting::grantings, crate::proofs::Counts::GapBounds::of_trees, crate::proofs::Nodes::Spaces::states, crate::proofs::Answers::AddressAnswers::granted))]
+    #[tactic(auto, using(crate::proofs::Choosing::Searched::granting, crate::proofs::Counts::Granting::grantings, crate::proofs::Counts::GapBounds::of_trees, crate::proofs::Nodes::Spaces::states, crate::proofs::Results::AddressResults::granted))]
     pub fn allocate_counted(
         &mut self,
         alloc: Global,
@@ -74,7 +74,7 @@ impl IntervalTree {
     }
 
     /// Frees like [`free`](Self::free), and also returns the number of nodes that it entered.
-    #[tactic(auto, using(crate::proofs::Counts::FreeCounts::releasings, crate::proofs::Nodes::Spaces::states, crate::proofs::Answers::AddressAnswers::freed))]
+    #[tactic(auto, using(crate::proofs::Counts::FreeCounts::releasings, crate::proofs::Nodes::Spaces::states, crate::proofs::Results::AddressResults::freed))]
     pub fn free_counted(&mut self, key: &RangeInclusive) -> (Result<()>, u64)
         ensures answer { Frees (tree_state self.old) key.now result.0 (tree_state self.new) }
         ensures unchanged { OnErr result.0 (self.new ≡ self.old) }

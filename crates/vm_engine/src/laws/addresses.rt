@@ -18,13 +18,13 @@ ghost use Rattle.vm_engine.specs.Laws.CountLaws.{EntersFew, RemovalIsExact, Path
 /// States that an allocation has one result and one next state, except that a split may fail.
 ///
 /// A split fails with `OutOfMemory`, or with `Overflow` if the tree is too high.
-#[tactic(auto, using(crate::proofs::Answers::Once::allocates_once))]
+#[tactic(auto, using(crate::proofs::Results::Once::allocates_once))]
 fn allocates_once()
     ensures { AllocatesOnce }
 {}
 
 /// States that a call of `free` has one result and one next state.
-#[tactic(auto, using(crate::proofs::Answers::Once::frees_once))]
+#[tactic(auto, using(crate::proofs::Results::Once::frees_once))]
 fn frees_once()
     ensures { FreesOnce }
 {}
@@ -33,7 +33,7 @@ fn frees_once()
 ///
 /// In a valid state, allocated ranges never overlap, lie in the space, and do not contain
 /// `u64::MAX`.
-#[tactic(auto, using(crate::proofs::Answers::AddressAnswers::preserved))]
+#[tactic(auto, using(crate::proofs::Results::AddressResults::preserved))]
 fn states_are_preserved()
     ensures preserved { StateIsPreserved }
     ensures apart { HeldAreDisjoint }
@@ -41,7 +41,7 @@ fn states_are_preserved()
 
 /// States which range an allocation adds, and which range `free` removes. Freeing a range right
 /// after its allocation restores the state.
-#[tactic(auto, using(crate::proofs::Answers::AddressAnswers::changes))]
+#[tactic(auto, using(crate::proofs::Results::AddressResults::changes))]
 fn one_range_changes()
     ensures takes { AllocatingAddsRange }
     ensures frees_one { FreeingRemovesRange }

@@ -16,7 +16,7 @@ ghost use Rattle.vm_engine.specs.Laws.QueryLaws.{
 
 /// States that each address of the space is either in exactly one allocated range or in exactly one
 /// gap. `held_at` and `gap_at` agree with both lists.
-#[tactic(auto, using(crate::proofs::Answers::HeldAndGaps::one_range))]
+#[tactic(auto, using(crate::proofs::Results::HeldAndGaps::one_range))]
 fn addresses_are_in_one_range()
     ensures one { EachAddressIsInOne }
     ensures agrees { HeldAtAgrees }
@@ -51,7 +51,7 @@ fn clear_addresses_are_few()
 
 /// States that the number of free addresses and the lengths of the allocated ranges add up to the
 /// size of the space.
-#[tactic(auto, using(crate::proofs::Answers::HeldAndGaps::counts))]
+#[tactic(auto, using(crate::proofs::Results::HeldAndGaps::counts))]
 fn counts_add_up()
     ensures { CountsAddUp }
 {}

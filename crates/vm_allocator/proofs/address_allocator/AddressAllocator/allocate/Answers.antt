@@ -1,5 +1,5 @@
 use Rattle.std.proofs.Common.{◌≡◌, rules, Err}
-use Rattle.vm_engine.proofs.Answers.Filling.{no_constraint_fault}
+use Rattle.vm_engine.proofs.Results.Filling.{no_constraint_fault}
 use Rattle.vm_engine.proofs.Counts.Allocating.{invalid_low, valid_low}
 use Rattle.vm_allocator.proofs.address_allocator.AddressAllocator.allocate.Goals as goal
 

@@ -2,7 +2,7 @@ use Rattle.std.proofs.Common.{◌≡◌, ◌+◌, ◌∙◌, take, sym, ap, subs
 use Rattle.vm_engine.specs.Address.{AddressState, IsAddressState}
 use Rattle.vm_engine.specs.Tree.SpaceTree.{tree_state}
 use Rattle.vm_allocator.specs.Several.{EachBy, FailsAtIndex, AllocatesInTree}
-use Rattle.vm_allocator.proofs.Answers.Several.{each_space, each_state, each_up_to, refused_by, refused_state, failed_in_tree, in_tree, all_taken, one_more}
+use Rattle.vm_allocator.proofs.Results.Several.{each_space, each_state, each_up_to, refused_by, refused_state, failed_in_tree, in_tree, all_taken, one_more}
 use Rattle.vm_allocator.proofs.address_allocator.AddressAllocator.allocate_all.Goals as goal
 
 -- The state is that before the first request.

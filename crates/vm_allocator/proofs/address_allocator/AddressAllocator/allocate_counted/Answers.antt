@@ -1,4 +1,4 @@
-use Rattle.vm_engine.proofs.Answers.Filling.{no_constraint_fault}
+use Rattle.vm_engine.proofs.Results.Filling.{no_constraint_fault}
 use Rattle.vm_engine.proofs.Counts.Allocating.{grant_count, invalid_low, valid_low}
 use Rattle.vm_allocator.proofs.address_allocator.AddressAllocator.allocate_counted.Goals as goal
 

@@ -2,7 +2,7 @@ use Rattle.std.proofs.Common.{◌≡◌, ◌∙◌, ◌++◌, ◌-◌, ℕ, ap, 
 use Rattle.vm_ranges.specs.Range.{Range}
 use Rattle.vm_engine.specs.Tree.SpaceTree.{tree_state}
 use Rattle.vm_allocator.specs.Several.{AllocatesEach}
-use Rattle.vm_allocator.proofs.Answers.Several.{last_undone, none_given}
+use Rattle.vm_allocator.proofs.Results.Several.{last_undone, none_given}
 use Rattle.vm_allocator.proofs.address_allocator.several.free_all.Goals as goal
 
 pub loop-range-init : goal.loop-range-init

@@ -2,7 +2,7 @@ use Rattle.std.proofs.Common.{◌≡◌, ◌≤◌, List, ℕ, take, Err, refl, 
 use Rattle.std.proofs.lemmas.List.{take_all}
 use Rattle.vm_allocator.specs.Ids.{MAX_ID, new_ids}
 use Rattle.vm_allocator.specs.IdRequests.{fault_of_held, holding_ids}
-use Rattle.vm_allocator.proofs.Ids.IdAnswers.{id_states_are_preserved}
+use Rattle.vm_allocator.proofs.Ids.IdResults.{id_states_are_preserved}
 use Rattle.vm_allocator.proofs.Ids.WithHeld.{checked_error, checked_right, made_state, made_error, held_refused, held_no_memory, held_made, none_yet, one_more_held, new_held_state, new_held_error}
 use Rattle.vm_allocator.proofs.id_allocator.IdAllocator.with_held.Goals as goal
 

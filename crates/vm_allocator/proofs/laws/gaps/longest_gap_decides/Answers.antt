@@ -1,4 +1,4 @@
-use Rattle.vm_allocator.proofs.Answers.LongestGap.{longest_decides}
+use Rattle.vm_allocator.proofs.Results.LongestGap.{longest_decides}
 use Rattle.vm_allocator.proofs.laws.gaps.longest_gap_decides.Goals as goal
 
 pub returns : goal.returns

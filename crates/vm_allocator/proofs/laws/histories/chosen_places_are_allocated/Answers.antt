@@ -1,4 +1,4 @@
-use Rattle.vm_allocator.proofs.Histories.HistoryAnswers.{first_is_lowest, last_is_highest, exact_is_named}
+use Rattle.vm_allocator.proofs.Histories.HistoryResults.{first_is_lowest, last_is_highest, exact_is_named}
 use Rattle.vm_allocator.proofs.laws.histories.chosen_places_are_allocated.Goals as goal
 
 pub returns-clause-first : goal.returns-clause-first

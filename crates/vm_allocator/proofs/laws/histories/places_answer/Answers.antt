@@ -1,4 +1,4 @@
-use Rattle.vm_allocator.proofs.Histories.HistoryAnswers.{places_answer, errors_change_nothing}
+use Rattle.vm_allocator.proofs.Histories.HistoryResults.{places_answer, errors_change_nothing}
 use Rattle.vm_allocator.proofs.laws.histories.places_answer.Goals as goal
 
 pub returns-clause-answers : goal.returns-clause-answers

@@ -1,5 +1,5 @@
-use Rattle.vm_allocator.proofs.Answers.HeldOnes.{held_as_allocated, held_is_equal}
-use Rattle.vm_allocator.proofs.Answers.HeldFaults.{fault_is_that_of_exact_match}
+use Rattle.vm_allocator.proofs.Results.HeldOnes.{held_as_allocated, held_is_equal}
+use Rattle.vm_allocator.proofs.Results.HeldFaults.{fault_is_that_of_exact_match}
 use Rattle.vm_allocator.proofs.laws.several.held_is_allocated.Goals as goal
 
 pub returns-clause-state : goal.returns-clause-state

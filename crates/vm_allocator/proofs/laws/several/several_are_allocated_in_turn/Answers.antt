@@ -1,4 +1,4 @@
-use Rattle.vm_allocator.proofs.Answers.SeveralParts.{one_is_allocated, parts_are_allocated_in_turn, failure_changes_nothing}
+use Rattle.vm_allocator.proofs.Results.SeveralParts.{one_is_allocated, parts_are_allocated_in_turn, failure_changes_nothing}
 use Rattle.vm_allocator.proofs.laws.several.several_are_allocated_in_turn.Goals as goal
 
 pub returns-clause-one : goal.returns-clause-one

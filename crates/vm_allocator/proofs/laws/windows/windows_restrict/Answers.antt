@@ -1,4 +1,4 @@
-use Rattle.vm_allocator.proofs.Answers.WindowAnswers.{inside, whole_window, kept_in_window}
+use Rattle.vm_allocator.proofs.Results.WindowResults.{inside, whole_window, kept_in_window}
 use Rattle.vm_allocator.proofs.laws.windows.windows_restrict.Goals as goal
 
 pub returns-clause-inside : goal.returns-clause-inside

@@ -1,4 +1,4 @@
-use Rattle.vm_engine.proofs.Answers.HeldAndGaps.{gaps_are_longest, held_and_gaps_are_blocks}
+use Rattle.vm_engine.proofs.Results.HeldAndGaps.{gaps_are_longest, held_and_gaps_are_blocks}
 use Rattle.vm_engine.proofs.laws.queries.gaps_are_longest.Goals as goal
 
 pub returns-clause-longest : goal.returns-clause-longest

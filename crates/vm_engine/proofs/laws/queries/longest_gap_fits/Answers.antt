@@ -1,4 +1,4 @@
-use Rattle.vm_engine.proofs.Answers.HeldAndGaps.{longest_is_zero, longest_fits}
+use Rattle.vm_engine.proofs.Results.HeldAndGaps.{longest_is_zero, longest_fits}
 use Rattle.vm_engine.proofs.laws.queries.longest_gap_fits.Goals as goal
 
 pub returns-clause-zero : goal.returns-clause-zero

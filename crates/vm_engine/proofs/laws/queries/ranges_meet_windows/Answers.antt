@@ -1,4 +1,4 @@
-use Rattle.vm_engine.proofs.Answers.Meeting.{meeting_is_overlap, clear_if_none_meets}
+use Rattle.vm_engine.proofs.Results.Meeting.{meeting_is_overlap, clear_if_none_meets}
 use Rattle.vm_engine.proofs.laws.queries.ranges_meet_windows.Goals as goal
 
 pub returns-clause-overlaps : goal.returns-clause-overlaps

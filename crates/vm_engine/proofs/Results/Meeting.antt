@@ -9,7 +9,7 @@ use Rattle.vm_engine.specs.Queries.{gaps_of, meets, meeting}
 use Rattle.vm_engine.specs.Tree.Blocks.{blocks_of}
 use Rattle.vm_engine.specs.Laws.QueryLaws.{ListsOverlaps, MeetingIsOverlap, IsClearIfNoneMeets, ClearIfNoneMeets}
 use Rattle.vm_ranges.specs.declared.state.NodeState.TheVariants.{Allocated}
-use Rattle.vm_engine.proofs.Answers.HeldAndGaps.{held_range, tiles, gap_clear, clear_gap}
+use Rattle.vm_engine.proofs.Results.HeldAndGaps.{held_range, tiles, gap_clear, clear_gap}
 use Rattle.vm_engine.proofs.Blocks.GapLists.{free_lies}
 use Rattle.vm_engine.proofs.Blocks.HeldSets.{held_lies}
 use Rattle.vm_engine.proofs.Blocks.PlainWords.{IsHeldAddress, IsHeld, contains_held, held_contains, all_miss, none_holds, held_address}

@@ -4,7 +4,7 @@ use Rattle.std.proofs.lemmas.Bool.{cases_eq}
 use Rattle.vm_ranges.specs.Range.{Range, MAX, IsIn, span}
 use Rattle.vm_engine.specs.Address.{AddressState, IsPlace, IsAddressState}
 use Rattle.vm_engine.specs.Windows.{within}
-use Rattle.vm_engine.proofs.Answers.Requests.{request_in}
+use Rattle.vm_engine.proofs.Results.Requests.{request_in}
 use Rattle.vm_ranges.specs.Request.{Request, request_for, IsRequest, ByConstraint, MakesConstraint}
 use Rattle.vm_engine.specs.Answer.{IsChosen, ByStart, ByExactPolicy, ByPlace, AllocatesAt, Grants, Allocates, Frees}
 use Rattle.vm_allocator.specs.Laws.HistoryLaws.{FirstIsLowest, LastIsHighest, ExactIsAtItsStart, FailsInOrder, IsAnswered, PlacesAnswer, ErrorsChangeNothing}
@@ -15,9 +15,9 @@ use Rattle.vm_ranges.specs.declared.constraint.AllocPolicy.TheVariants.{FirstMat
 use Rattle.vm_ranges.proofs.TwoFacts.{if_same, unless_same}
 use Rattle.vm_engine.proofs.Blocks.PlainWords.{held_contains}
 use Rattle.vm_engine.proofs.Blocks.HeldSets.{held_lies}
-use Rattle.vm_engine.proofs.Answers.Once.{place_in_window}
-use Rattle.vm_engine.proofs.Answers.Filling.{otherwise, given, faulty, lacking, clear_not_held, request_grants, allocates_chosen}
-use Rattle.vm_engine.proofs.Answers.Outcomes.{allocates_outcome}
+use Rattle.vm_engine.proofs.Results.Once.{place_in_window}
+use Rattle.vm_engine.proofs.Results.Filling.{otherwise, given, faulty, lacking, clear_not_held, request_grants, allocates_chosen}
+use Rattle.vm_engine.proofs.Results.Outcomes.{allocates_outcome}
 use Rattle.vm_allocator.proofs.Histories.AlongHistories.{reached_state}
 
 -- ---- An allocated range starts at the chosen place

@@ -6,9 +6,9 @@ use Rattle.vm_engine.specs.Address.{IsPlace}
 use Rattle.vm_engine.specs.Windows.{within}
 use Rattle.vm_engine.specs.Queries.{gaps_of, longest_in}
 use Rattle.vm_allocator.specs.Laws.GapLaws.{LongestDecides, LongGapSuffices}
-use Rattle.vm_engine.proofs.Answers.HeldAndGaps.{longest_fits}
-use Rattle.vm_allocator.proofs.Histories.HistoryAnswers.{answered}
-use Rattle.vm_engine.proofs.Answers.Capacity.{long_gap_fits}
+use Rattle.vm_engine.proofs.Results.HeldAndGaps.{longest_fits}
+use Rattle.vm_allocator.proofs.Histories.HistoryResults.{answered}
+use Rattle.vm_engine.proofs.Results.Capacity.{long_gap_fits}
 use Rattle.vm_ranges.proofs.Power.{alignment_pos}
 
 pub longest_decides : LongestDecides

@@ -11,7 +11,7 @@ use Rattle.vm_engine.specs.Counts.Steps.{SplitsIfLow}
 use Rattle.vm_engine.specs.Tree.SpaceTree.{tree_state}
 use Rattle.vm_allocator.specs.Several.{EachBy, FailsBy, FailsAtIndex, AllocatesEach, RefusesOne, AllocatesInTree}
 use Rattle.vm_ranges.specs.declared.error.Error.{Error}
-use Rattle.vm_engine.proofs.Answers.AddressAnswers.{allocated_state, freeing_undoes}
+use Rattle.vm_engine.proofs.Results.AddressResults.{allocated_state, freeing_undoes}
 use Rattle.vm_allocator.proofs.Callers.{given}
 
 -- The result of a valid request is that of `allocate`.

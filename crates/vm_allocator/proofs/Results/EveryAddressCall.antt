@@ -7,8 +7,8 @@ use Rattle.vm_ranges.specs.Range.{Range, MAX, span}
 use Rattle.vm_engine.specs.Address.{AddressState, AreClear, IsPlace, IsLowestPlace, IsHighestPlace, holding, releasing}
 use Rattle.vm_ranges.specs.Request.{Request, IsStartAligned, ByConstraint}
 use Rattle.vm_engine.specs.Windows.{within}
-use Rattle.vm_engine.proofs.Answers.Requests.{request_in}
-use Rattle.vm_engine.proofs.Answers.AddressAnswers.{outcome}
+use Rattle.vm_engine.proofs.Results.Requests.{request_in}
+use Rattle.vm_engine.proofs.Results.AddressResults.{outcome}
 use Rattle.vm_engine.specs.Answer.{IsChosen, ByStart, ByExactPolicy, ByPlace, AllocatesAt, Grants, Allocates, Frees, Makes}
 use Rattle.vm_ranges.specs.Cloning.{Clones}
 use Rattle.vm_engine.specs.Held.{range_fault, or_else, first_fault, TOO_MANY_BLOCKS, BySpace, MakesHeld, MakesWithHeld}

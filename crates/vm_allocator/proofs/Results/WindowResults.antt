@@ -13,8 +13,8 @@ use Rattle.vm_ranges.specs.declared.constraint.AllocPolicy.{AllocPolicy}
 use Rattle.vm_ranges.specs.declared.constraint.AllocPolicy.TheVariants.{FirstMatch, LastMatch, ExactMatch}
 use Rattle.vm_ranges.proofs.Requests.{constraint_map}
 use Rattle.vm_ranges.proofs.RangeCalls.{same_range}
-use Rattle.vm_engine.proofs.Answers.Once.{place_anywhere}
-use Rattle.vm_engine.proofs.Answers.Requests.{request_in}
+use Rattle.vm_engine.proofs.Results.Once.{place_anywhere}
+use Rattle.vm_engine.proofs.Results.Requests.{request_in}
 use Rattle.vm_engine.proofs.Choosing.WindowPlaces.{LiesIn, place_lying}
 use Rattle.vm_engine.proofs.Choosing.ExactWindows.{narrow_grants}
 use Rattle.vm_allocator.proofs.Callers.{given, lies_in_window}

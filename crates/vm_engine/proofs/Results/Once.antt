@@ -5,7 +5,7 @@ use Rattle.vm_ranges.specs.Range.{Range, MAX, span}
 use Rattle.vm_engine.specs.Address.{AddressState, IsClear, IsPlace, IsLowestPlace, IsHighestPlace}
 use Rattle.vm_ranges.specs.Request.{Request, ByConstraint}
 use Rattle.vm_engine.specs.Windows.{within}
-use Rattle.vm_engine.proofs.Answers.Requests.{request_in}
+use Rattle.vm_engine.proofs.Results.Requests.{request_in}
 use Rattle.vm_engine.specs.Answer.{IsChosen, ByStart, ByExactPolicy, ByPlace, AllocatesAt, Grants, Allocates, Frees}
 use Rattle.vm_engine.specs.Laws.AddressLaws.{AgreeExceptSplits, AllocatesOnce, FreesOnce}
 use Rattle.vm_ranges.specs.declared.error.Error.{Error}

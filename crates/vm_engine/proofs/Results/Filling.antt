@@ -6,14 +6,14 @@ use Rattle.vm_ranges.specs.Range.{Range, MAX, IsIn, span}
 use Rattle.vm_engine.specs.Address.{AddressState, AreClear, IsPlace}
 use Rattle.vm_ranges.specs.Request.{Request, IsRequest, ByConstraint, MakesConstraint}
 use Rattle.vm_engine.specs.Windows.{within}
-use Rattle.vm_engine.proofs.Answers.Requests.{request_in}
+use Rattle.vm_engine.proofs.Results.Requests.{request_in}
 use Rattle.vm_engine.specs.Answer.{IsChosen, ByStart, ByExactPolicy, ByPlace, AllocatesAt, Grants, Allocates, FillsGap, Frees}
 use Rattle.vm_ranges.specs.declared.error.Error.{Error}
 use Rattle.vm_ranges.specs.declared.error.Error.TheVariants.{Overflow}
 use Rattle.vm_ranges.specs.declared.constraint.AllocPolicy.{AllocPolicy}
 use Rattle.vm_ranges.specs.declared.constraint.AllocPolicy.TheVariants.{FirstMatch, LastMatch, ExactMatch}
 use Rattle.vm_engine.proofs.Blocks.PlainWords.{held_contains, none_holds, held_address}
-use Rattle.vm_engine.proofs.Answers.Once.{chosen_once, place_in_window}
+use Rattle.vm_engine.proofs.Results.Once.{chosen_once, place_in_window}
 
 -- The branch of a case distinction that remains if its condition is false, and if it is true.
 pub otherwise : (c P Q : Type 0) → ¬ c → IfElse c P Q → Q

@@ -8,7 +8,7 @@ use Rattle.vm_allocator.specs.Ids.{IdState, ByLowestNotHeld, AllocatesId, MakesI
 use Rattle.vm_ranges.specs.declared.error.Error.{Error}
 use Rattle.vm_ranges.specs.declared.error.Error.TheVariants.{OutOfMemory}
 use Rattle.vm_ranges.proofs.TwoFacts.{if_same}
-use Rattle.vm_engine.proofs.Answers.Once.{allocates_once}
+use Rattle.vm_engine.proofs.Results.Once.{allocates_once}
 
 -- ---- One result
 -- If few ranges are held, the height never makes a request fail.

@@ -14,8 +14,8 @@ use Rattle.vm_ranges.specs.declared.error.Error.{Error}
 use Rattle.vm_ranges.specs.declared.error.Error.TheVariants.{Overflow, ResourceNotAvailable}
 use Rattle.vm_ranges.specs.declared.constraint.AllocPolicy.TheVariants.{ExactMatch}
 use Rattle.vm_engine.proofs.Blocks.PlainWords.{IsHeldAddress, held_contains, held_address, all_miss}
-use Rattle.vm_engine.proofs.Answers.Filling.{request_grants}
-use Rattle.vm_allocator.proofs.Answers.HeldOnes.{held_if_no_fault}
+use Rattle.vm_engine.proofs.Results.Filling.{request_grants}
+use Rattle.vm_allocator.proofs.Results.HeldOnes.{held_if_no_fault}
 
 module _ (space : Range) (before : List Range) (lo : ℕ) (r : Range) (some : r.start ≤ r.end) (top : r.end ≤ MAX) (from : space.start ≤ lo) (behind : lo ≤ r.start) (above : (x : ℕ) → lo ≤ x → ¬ IsHeldAddress before x) where
   abbrev state : AddressState

@@ -7,4 +7,4 @@ pub mod SeveralParts
 pub mod HeldOnes
 pub mod HeldFaults
 pub mod LongestGap
-pub mod WindowAnswers
+pub mod WindowResults

@@ -8,7 +8,7 @@ use Rattle.vm_engine.specs.Tree.Blocks.{blocks_between, blocks_of}
 use Rattle.vm_engine.specs.Queries.{free_of, gaps_of, longest_of, count_of}
 use Rattle.vm_engine.specs.Counts.NodeCounts.{multiple_from}
 use Rattle.vm_engine.specs.Laws.QueryLaws.{LongGapFits, ClearAreFew}
-use Rattle.vm_engine.proofs.Answers.HeldAndGaps.{longest_fits}
+use Rattle.vm_engine.proofs.Results.HeldAndGaps.{longest_fits}
 use Rattle.vm_engine.proofs.Counts.Searching.{lowest_from}
 use Rattle.vm_ranges.specs.declared.state.NodeState.TheVariants.{Free, Allocated}
 use Rattle.vm_engine.specs.Tree.Block.{Block}

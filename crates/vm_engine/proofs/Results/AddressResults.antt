@@ -9,9 +9,9 @@ use Rattle.vm_engine.specs.Laws.AddressLaws.{HeldAreDisjoint, StateIsPreserved, 
 use Rattle.vm_ranges.specs.declared.error.Error.{Error}
 use Rattle.vm_ranges.specs.declared.error.Error.TheVariants.{Overflow, OutOfMemory}
 use Rattle.vm_engine.proofs.Blocks.PlainWords.{IsHeld, contains_held, held_contains, none_holds}
-use Rattle.vm_engine.proofs.Answers.Outcomes.{IsRefused, IsTaken, allocates_outcome, grants_outcome}
+use Rattle.vm_engine.proofs.Results.Outcomes.{IsRefused, IsTaken, allocates_outcome, grants_outcome}
 use Rattle.vm_ranges.proofs.RangeCalls.{covers}
-use Rattle.vm_engine.proofs.Answers.Once.{chosen_place}
+use Rattle.vm_engine.proofs.Results.Once.{chosen_place}
 use Rattle.vm_engine.proofs.Blocks.HeldChanges.{Misses, in_order_with, held_with, held_now, still_held_with, in_order_without, without_with, held_without, not_held_without, others_held}
 use Rattle.vm_engine.proofs.Blocks.HeldSets.{held_lies, one_held}
 
