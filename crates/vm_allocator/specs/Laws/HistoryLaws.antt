@@ -6,7 +6,7 @@ use Rattle.serde_json.specs.Data.{Data}
 use Rattle.vm_ranges.specs.Range.{Range, MAX, IsIn, span}
 use Rattle.vm_engine.specs.Address.{AddressState, AreClear, IsPlace, IsLowestPlace, IsHighestPlace, IsAddressState}
 use Rattle.vm_engine.specs.Windows.{within}
-use Rattle.vm_ranges.specs.Request.{Request, request_for, IsRequest, MakesConstraint}
+use Rattle.vm_ranges.specs.Request.{Request, IsRequest, MakesConstraint}
 use Rattle.vm_engine.specs.Answer.{IsChosen, AllocatesAt, Allocates, Frees, Makes}
 use Rattle.vm_engine.specs.Held.{MakesWithHeld}
 use Rattle.vm_allocator.specs.Several.{AllocatesAll}
@@ -19,26 +19,26 @@ use Rattle.vm_ranges.specs.declared.error.Error.TheVariants.{Overflow, ResourceN
 use Rattle.vm_ranges.specs.declared.state.NodeState.TheVariants.{Allocated}
 use Rattle.vm_ranges.specs.declared.constraint.AllocPolicy.TheVariants.{FirstMatch, LastMatch, ExactMatch}
 
--- A range that FirstMatch allocates starts at the lowest place of the state before.
+-- A range that FirstMatch allocates starts at the lowest place of the state before, of those in the window of the request.
 abbrev pub FirstIsLowest : Type 0
 FirstIsLowest =
-    (old : Reached) (new : AddressState) (size align : ℕ) (r : Range) →
-    Allocates old.state (request_for size align FirstMatch) (Ok r) new →
-    IsLowestPlace size align old.state r.start × (r ≡ span r.start size)
+    (old : Reached) (new : AddressState) (request : Request) (r : Range) → request.policy ≡ FirstMatch →
+    Allocates old.state request (Ok r) new →
+    IsLowestPlace request.size request.align (within request.window old.state) r.start × (r ≡ span r.start request.size)
 
--- A range that LastMatch allocates starts at the highest place of the state before.
+-- A range that LastMatch allocates starts at the highest place of the state before, of those in the window of the request.
 abbrev pub LastIsHighest : Type 0
 LastIsHighest =
-    (old : Reached) (new : AddressState) (size align : ℕ) (r : Range) →
-    Allocates old.state (request_for size align LastMatch) (Ok r) new →
-    IsHighestPlace size align old.state r.start × (r ≡ span r.start size)
+    (old : Reached) (new : AddressState) (request : Request) (r : Range) → request.policy ≡ LastMatch →
+    Allocates old.state request (Ok r) new →
+    IsHighestPlace request.size request.align (within request.window old.state) r.start × (r ≡ span r.start request.size)
 
--- A range that ExactMatch allocates starts at the given start, which is a place.
+-- A range that ExactMatch allocates starts at the given start, which is a place in the window of the request.
 abbrev pub ExactIsAtItsStart : Type 0
 ExactIsAtItsStart =
-    (old : Reached) (new : AddressState) (size align start : ℕ) (r : Range) →
-    Allocates old.state (request_for size align (ExactMatch start)) (Ok r) new →
-    IsPlace size align old.state start × (r ≡ span start size)
+    (old : Reached) (new : AddressState) (request : Request) (start : ℕ) (r : Range) → request.policy ≡ ExactMatch start →
+    Allocates old.state request (Ok r) new →
+    IsPlace request.size request.align (within request.window old.state) start × (r ≡ span start request.size)
 
 -- A request for the n addresses starting at t returns the error of the first condition that is true, in this order: t
 -- is MAX; t is outside the space; the range passes MAX; the range is held; an address of it is not clear; it ends at

@@ -24,7 +24,8 @@ ghost use Rattle.vm_allocator.specs.Laws.HistoryLaws.{
 };
 
 /// Proves that in every history `FirstMatch` allocates the lowest place, `LastMatch` the highest
-/// place, and `ExactMatch` the place at its start.
+/// place, and `ExactMatch` the place at its start. If the request has a window, these are the places
+/// in the window.
 fn chosen_places_are_allocated()
     ensures first { FirstIsLowest }
     ensures last { LastIsHighest }
