@@ -1,3 +1,4 @@
+pub mod MoveSteps
 pub mod AlongHistories
 pub mod HistoryAnswers
 pub mod Releases

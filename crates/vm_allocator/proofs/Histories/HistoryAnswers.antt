@@ -19,6 +19,7 @@ use Rattle.vm_engine.proofs.Answers.Once.{place_in_window}
 use Rattle.vm_engine.proofs.Answers.Filling.{otherwise, given, faulty, lacking, clear_not_held, request_grants, allocates_chosen}
 use Rattle.vm_engine.proofs.Answers.Outcomes.{allocates_outcome}
 use Rattle.vm_allocator.proofs.Histories.AlongHistories.{reached_state}
+use Rattle.vm_allocator.proofs.Histories.MoveSteps.{move_error_keeps}
 
 -- ---- An allocated range starts at the chosen place
 takes_given : (old new : AddressState) (r p : Range) → AllocatesAt old r (Ok p) new → p ≡ r
@@ -177,5 +178,7 @@ release_refused old new r e h = ⊎_elim (λ l. absurd (cc (l.1.0))) (λ k. k.1.
 pub errors_change_nothing : ErrorsChangeNothing
 errors_change_nothing = record {
   allocation = λ old new request e h. allocation_refused request old.state new e h;
+  several = λ old new requests e h. h.0;
+  move = λ old new r t e h. move_error_keeps old.state new r t e h;
   release = λ old new r e h. release_refused old.state new r e h;
 }

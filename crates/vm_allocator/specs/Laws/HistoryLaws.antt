@@ -10,7 +10,8 @@ use Rattle.vm_ranges.specs.Request.{Request, IsRequest, MakesConstraint}
 use Rattle.vm_engine.specs.Answer.{IsChosen, AllocatesAt, Allocates, Frees, Makes}
 use Rattle.vm_engine.specs.Held.{MakesWithHeld}
 use Rattle.vm_allocator.specs.Several.{AllocatesAll}
-use Rattle.vm_engine.specs.Laws.AddressLaws.{AgreeExceptSplits, AreDisjoint}
+use Rattle.vm_allocator.specs.Moves.{MovesRange}
+use Rattle.vm_engine.specs.Laws.AddressLaws.{DifferBySplit, AgreeExceptSplits, AreDisjoint}
 use Rattle.vm_ranges.specs.Cloning.{Clones}
 use Rattle.vm_engine.specs.Comparison.{AreEqual}
 use Rattle.vm_allocator.specs.Histories.AddressHistories.{Call, Cloning, Asked, asked_by, RunsOutOfMemory, IsHistoryFrom, IsReached, Reached, WasAllocated, WasHeldFirst, releases}
@@ -85,6 +86,10 @@ PlacesAnswer =
 pub record ErrorsChangeNothing : Type 0 where
   pub allocation : (old : Reached) (new : AddressState) (request : Request) (e : Error) →
       Allocates old.state request (Err e) new → new ≡ old.state
+  pub several : (old : Reached) (new : AddressState) (requests : List Request) (e : Error) →
+      AllocatesAll old.state requests (Err e) new → new ≡ old.state
+  pub move : (old : Reached) (new : AddressState) (r : Range) (t : ℕ) (e : Error) →
+      MovesRange old.state r t (Err e) new → new ≡ old.state
   pub release : (old : Reached) (new : AddressState) (r : Range) (e : Error) →
       Frees old.state r (Err e) new → new ≡ old.state
 
@@ -101,6 +106,13 @@ pub record HaveSameState (first second : AddressState) : Type 0 where
   pub space : first.space ≡ second.space
   pub held : (r : Range) → Contains first.held r ↔ Contains second.held r
 
+-- Two moves have the same result and the same next state, except that the split of their allocations may fail.
+abbrev pub MovesAgreeExceptSplits : AddressState →
+    Result Range Error → AddressState → Result Range Error → AddressState → Type 0
+MovesAgreeExceptSplits old answer new other later =
+    ((answer ≡ other) × (new ≡ later))
+    ⊎ ((mid : AddressState) × (after : AddressState) × DifferBySplit old answer mid other after)
+
 -- The result of a call and the state after it depend only on the space and the held ranges, except whether a split
 -- fails.
 pub record StateDecides : Type 0 where
@@ -108,6 +120,10 @@ pub record StateDecides : Type 0 where
       (answer other : Result Range Error) → HaveSameState first.state second.state →
       Allocates first.state request answer new → Allocates second.state request other later →
       AgreeExceptSplits first.state answer new other later
+  pub move : (first second : Reached) (new later : AddressState) (r : Range) (t : ℕ)
+      (answer other : Result Range Error) → HaveSameState first.state second.state →
+      MovesRange first.state r t answer new → MovesRange second.state r t other later →
+      MovesAgreeExceptSplits first.state answer new other later
   pub release : (first second : Reached) (new later : AddressState) (r : Range)
       (answer other : Result (Unit {0}) Error) → HaveSameState first.state second.state →
       Frees first.state r answer new → Frees second.state r other later → (answer ≡ other) × (new ≡ later)
@@ -140,6 +156,9 @@ pub record EveryCallIsAnswered : Type 0 where
       Allocates old request answer new × (answer ≢ Err OutOfMemory)
   pub freed : (old : AddressState) (r : Range) →
       (answer : Result (Unit {0}) Error) × (new : AddressState) × Frees old r answer new
+  pub moved : (old : AddressState) (r : Range) (t : ℕ) →
+      (answer : Result Range Error) × (new : AddressState) ×
+      MovesRange old r t answer new × (answer ≢ Err OutOfMemory)
   pub cloned : (old : AddressState) →
       (answer : Result AddressState Error) × Clones old answer × (answer ≢ Err OutOfMemory)
 
