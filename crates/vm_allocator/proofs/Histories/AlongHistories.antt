@@ -14,6 +14,7 @@ use Rattle.vm_engine.proofs.Blocks.PlainWords.{IsHeld, contains_held, held_conta
 use Rattle.vm_engine.proofs.Answers.Outcomes.{IsRefused}
 use Rattle.vm_allocator.proofs.Reading.ReadAllocators.{encoded_state}
 use Rattle.vm_allocator.proofs.Reading.ReadRepaired.{repaired_state}
+use Rattle.vm_allocator.proofs.Reading.ReadNodes.{tree_read_state, keys_read_state}
 use Rattle.vm_ranges.proofs.CloneAnswers.{cloning_keeps}
 use Rattle.vm_engine.proofs.Answers.Once.{allocates_once, frees_once}
 use Rattle.vm_allocator.proofs.Callers.{given, request_inside}
@@ -45,7 +46,8 @@ history_state (call ∷ calls) first last h i = history_state calls h.0 last h.2
 first_state : (first : AddressState) → Begins first → IsAddressState first
 first_state first (inl m) = made_state m.base m.size first m.word m.made
 first_state first (inr (inl m)) = held_state m.base m.size m.held first m.word m.ranges m.made
-first_state first (inr (inr r)) = ⊎_elim (λ s. subst IsAddressState s.is (encoded_state r.value s.allocator s.encoded)) (repaired_state r.value first) r.encoded
+first_state first (inr (inr (inr n))) = ⊎_elim (tree_read_state n.space n.tree first n.range) (keys_read_state n.space n.tree first n.range) n.nodes
+first_state first (inr (inr (inl r))) = ⊎_elim (λ s. subst IsAddressState s.is (encoded_state r.value s.allocator s.encoded)) (repaired_state r.value first) r.encoded
 
 pub reached_state : (old : Reached) → IsAddressState old.state
 reached_state old =

@@ -8,6 +8,7 @@ use Rattle.vm_engine.specs.Address.{AddressState}
 use Rattle.vm_ranges.specs.Request.{Request}
 use Rattle.vm_engine.specs.Answer.{Allocates, Frees, Makes}
 use Rattle.vm_engine.specs.Held.{MakesWithHeld}
+use Rattle.vm_engine.specs.Values.SavedTrees.{Saved, HasHeldKeys, HasTreeOf}
 use Rattle.vm_allocator.specs.Several.{AllocatesAll}
 use Rattle.vm_allocator.specs.Moves.{request_to, MovesRange}
 use Rattle.vm_ranges.specs.Cloning.{Clones}
@@ -84,9 +85,17 @@ pub record IsRead (state : AddressState) : Type 0 where
   pub value : Data
   pub encoded : EncodesAddresses value state ⊎ EncodesRepaired value state
 
--- Ranges can be held in the state from the start: it is that of an allocator that was made with held ranges, or was read.
+-- A state that a saved tree of a space has, for the reader of nodes without repairs or for the one with repairs.
+pub record IsReadOfNodes (state : AddressState) : Type 0 where
+  pub space : Range
+  pub tree : Saved
+  pub range : IsRange space.start space.end
+  pub nodes : HasTreeOf space tree state ⊎ HasHeldKeys space tree state
+
+-- Ranges can be held in the state from the start: it is that of an allocator that was made with held ranges, or was read
+-- from a value or node by node.
 abbrev pub BeginsHeld : AddressState → Type 0
-BeginsHeld first = IsMadeWithHeld first ⊎ IsRead first
+BeginsHeld first = IsMadeWithHeld first ⊎ (IsRead first ⊎ IsReadOfNodes first)
 
 -- The first state of a history is that of an allocator that is new, was made with held ranges, or was read.
 abbrev pub Begins : AddressState → Type 0

@@ -3,12 +3,13 @@ use Rattle.std.specs.Prelude.{◌≡◌, ◌≢◌, ℕ, ◌+◌, ◌-◌, ◌<�
 use Rattle.std.specs.List.{All, Contains}
 use Rattle.std.specs.List.Sorted.{IsPermutation}
 use Rattle.serde_json.specs.Data.{Data}
-use Rattle.vm_ranges.specs.Range.{Range, MAX, IsIn, span}
+use Rattle.vm_ranges.specs.Range.{Range, MAX, IsRange, IsIn, span}
 use Rattle.vm_engine.specs.Address.{AddressState, AreClear, IsPlace, IsLowestPlace, IsHighestPlace, IsAddressState}
 use Rattle.vm_engine.specs.Windows.{within}
 use Rattle.vm_ranges.specs.Request.{Request, IsRequest, MakesConstraint}
 use Rattle.vm_engine.specs.Answer.{IsChosen, AllocatesAt, Allocates, Frees, Makes}
 use Rattle.vm_engine.specs.Held.{MakesWithHeld}
+use Rattle.vm_engine.specs.Values.SavedTrees.{Saved}
 use Rattle.vm_allocator.specs.Several.{AllocatesAll}
 use Rattle.vm_allocator.specs.Moves.{MovesRange}
 use Rattle.vm_engine.specs.Laws.AddressLaws.{DifferBySplit, AgreeExceptSplits, AreDisjoint}
@@ -178,6 +179,13 @@ CloneIsReached =
 -- The state of an allocator that was read is reached without a call.
 abbrev pub ReadIsReached : (Data → AddressState → Type 0) → Type 0
 ReadIsReached States = (value : Data) (state : AddressState) → States value state → IsReached [] state
+
+-- The state of an allocator that was read node by node is reached without a call. `Nodes` is what the saved tree of the space
+-- has to be.
+abbrev pub NodesAreReached : (Range → Saved → AddressState → Type 0) → Type 0
+NodesAreReached Nodes =
+    (space : Range) (t : Saved) (state : AddressState) → IsRange space.start space.end → Nodes space t state →
+    IsReached [] state
 
 -- Reached allocators with the same space and the same held ranges are equal, whatever calls led there.
 abbrev pub EqualStatesAreEqual : Type 0

@@ -4,6 +4,7 @@
 //! clone.
 ghost use Rattle.vm_allocator.specs.Values.AllocatorValues.{EncodesAddresses};
 ghost use Rattle.vm_allocator.specs.Values.RepairedValues.{EncodesRepaired};
+ghost use Rattle.vm_engine.specs.Values.SavedTrees.{HasHeldKeys, HasTreeOf};
 ghost use Rattle.vm_allocator.specs.Laws.HistoryLaws.{
   FirstIsLowest,
   LastIsHighest,
@@ -18,6 +19,7 @@ ghost use Rattle.vm_allocator.specs.Laws.HistoryLaws.{
   EveryListHasHistory,
   CloneIsReached,
   ReadIsReached,
+  NodesAreReached,
   EqualStatesAreEqual,
   FreeMakesEqual,
   FreesInAnyOrderMakeEqual,
@@ -73,11 +75,13 @@ fn clones_are_reached()
     ensures { CloneIsReached }
 {}
 
-/// Proves that an allocator that was read, with or without repairs, is reached by a history without
-/// calls. So what is true for every history is true for it.
+/// Proves that an allocator that was read, with or without repairs, from a value or node by node, is
+/// reached by a history without calls. So what is true for every history is true for it.
 fn reads_are_reached()
     ensures read { ReadIsReached EncodesAddresses }
     ensures repaired { ReadIsReached EncodesRepaired }
+    ensures nodes { NodesAreReached HasTreeOf }
+    ensures repaired_nodes { NodesAreReached HasHeldKeys }
 {}
 
 /// Proves that allocators with the same space and the same allocated ranges are equal. The order
