@@ -1,4 +1,5 @@
 pub mod ReadAgain
+pub mod Restored
 pub mod AllocatorParts
 pub mod ReadAllocators
 pub mod ReadNodes
