@@ -1,4 +1,5 @@
 pub mod MoveSteps
+pub mod SeveralOnce
 pub mod AlongHistories
 pub mod HistoryAnswers
 pub mod Releases

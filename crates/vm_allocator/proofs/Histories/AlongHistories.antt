@@ -5,7 +5,7 @@ use Rattle.vm_ranges.specs.Range.{Range, span}
 use Rattle.vm_engine.specs.Address.{AddressState, IsPlace, IsAddressState}
 use Rattle.vm_ranges.specs.Request.{Request}
 use Rattle.vm_engine.specs.Answer.{Allocates, Frees}
-use Rattle.vm_allocator.specs.Several.{AllocatesEach}
+use Rattle.vm_allocator.specs.Several.{AllocatesEach, AllocatesAll}
 use Rattle.vm_allocator.specs.Moves.{request_to, MovesRange}
 use Rattle.vm_allocator.specs.Histories.AddressHistories.{Call, Allocation, Several, Release, Move, Cloning, IsCallFrom, IsHistoryFrom, Begins, Reached, Gives, WasAllocated, WasHeldFirst}
 use Rattle.vm_allocator.specs.Laws.HistoryLaws.{HeldAreValid, HaveSameState, StateDecides, FreeUndoes}
@@ -18,6 +18,7 @@ use Rattle.vm_allocator.proofs.Reading.ReadNodes.{tree_read_state, keys_read_sta
 use Rattle.vm_ranges.proofs.CloneAnswers.{cloning_keeps}
 use Rattle.vm_engine.proofs.Answers.Once.{allocates_once, frees_once}
 use Rattle.vm_allocator.proofs.Callers.{given, request_inside}
+use Rattle.vm_allocator.proofs.Histories.SeveralOnce.{all_once}
 use Rattle.vm_allocator.proofs.Histories.MoveSteps.{IsNewPlace, move_state, move_gives, moves_once}
 use Rattle.vm_allocator.proofs.Answers.HeldOnes.{held_state}
 use Rattle.vm_engine.proofs.Blocks.HeldSets.{same_ranges_held}
@@ -188,6 +189,9 @@ decided = record {
   move = λ first second new later r start answer other h s t.
       let e = alike_state first second h in
       moves_once first.state new later r start answer other s (subst (λ (v : AddressState). MovesRange v r start other later) (sym e) t);
+  several = λ first second new later requests answer other h s t.
+      let e = alike_state first second h in
+      all_once requests first.state new later answer other s (subst (λ (v : AddressState). AllocatesAll v requests other later) (sym e) t);
   release = λ first second new later r answer other h s t.
       let e = alike_state first second h in
       frees_once first.state new later r answer other s (subst (λ (v : AddressState). Frees v r other later) (sym e) t);

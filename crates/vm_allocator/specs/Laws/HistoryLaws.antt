@@ -1,5 +1,5 @@
 -- Laws of every history of an address allocator that was made or read.
-use Rattle.std.specs.Prelude.{◌≡◌, ◌≢◌, ℕ, ◌+◌, ◌-◌, ◌<◌, ◌≤◌, ◌⊎◌, ◌↔◌, List, [], ◌∷◌, ◌++◌, map, Result, Ok, Err}
+use Rattle.std.specs.Prelude.{◌≡◌, ◌≢◌, ℕ, ◌+◌, ◌-◌, ◌<◌, ◌≤◌, ◌⊎◌, ◌↔◌, List, [], ◌∷◌, ◌++◌, length, map, Result, Ok, Err}
 use Rattle.std.specs.List.{All, Contains}
 use Rattle.std.specs.List.Sorted.{IsPermutation}
 use Rattle.serde_json.specs.Data.{Data}
@@ -7,10 +7,10 @@ use Rattle.vm_ranges.specs.Range.{Range, MAX, IsRange, IsIn, span}
 use Rattle.vm_engine.specs.Address.{AddressState, AreClear, IsPlace, IsLowestPlace, IsHighestPlace, IsAddressState}
 use Rattle.vm_engine.specs.Windows.{within}
 use Rattle.vm_ranges.specs.Request.{Request, IsRequest, MakesConstraint}
-use Rattle.vm_engine.specs.Answer.{IsChosen, AllocatesAt, Allocates, Frees, Makes}
+use Rattle.vm_engine.specs.Answer.{SPLIT_LIMIT_MIN_HELD, IsChosen, AllocatesAt, Allocates, Frees, Makes}
 use Rattle.vm_engine.specs.Held.{MakesWithHeld}
 use Rattle.vm_engine.specs.Values.SavedTrees.{Saved}
-use Rattle.vm_allocator.specs.Several.{AllocatesAll}
+use Rattle.vm_allocator.specs.Several.{AllocatesEach, AllocatesAll}
 use Rattle.vm_allocator.specs.Moves.{MovesRange}
 use Rattle.vm_engine.specs.Laws.AddressLaws.{DifferBySplit, AgreeExceptSplits, AreDisjoint}
 use Rattle.vm_ranges.specs.Cloning.{Clones}
@@ -114,8 +114,31 @@ MovesAgreeExceptSplits old answer new other later =
     ((answer ≡ other) × (new ≡ later))
     ⊎ ((mid : AddressState) × (after : AddressState) × DifferBySplit old answer mid other after)
 
+-- A split of one of the requests fails for the height of the tree. The requests before it got their ranges, and at least
+-- SPLIT_LIMIT_MIN_HELD ranges are held then.
+pub record ReachesSplitLimit (old : AddressState) (requests : List Request) : Type 0 where
+  pub before : List Request
+  pub request : Request
+  pub after : List Request
+  pub cut : requests ≡ before ++ request ∷ after
+  pub ranges : List Range
+  pub mid : AddressState
+  pub each : AllocatesEach old before ranges mid
+  pub many : SPLIT_LIMIT_MIN_HELD ≤ length mid.held
+
+-- The state does not decide this error of several requests: memory runs out, or a split fails for the height of the tree.
+abbrev pub IsLimitOfAll : AddressState → List Request → Result (List Range) Error → Type 0
+IsLimitOfAll old requests answer =
+    (answer ≡ Err OutOfMemory) ⊎ ((answer ≡ Err Overflow) × ReachesSplitLimit old requests)
+
+-- Two results of several requests and the states after them are equal, except that memory may run out or a split may fail.
+abbrev pub AllAgreeExceptSplits : AddressState → List Request →
+    Result (List Range) Error → AddressState → Result (List Range) Error → AddressState → Type 0
+AllAgreeExceptSplits old requests answer new other later =
+    ((answer ≡ other) × (new ≡ later)) ⊎ (IsLimitOfAll old requests answer ⊎ IsLimitOfAll old requests other)
+
 -- The result of a call and the state after it depend only on the space and the held ranges, except whether a split
--- fails.
+-- fails. Several requests can also fail because there is no memory for the list of their ranges.
 pub record StateDecides : Type 0 where
   pub allocation : (first second : Reached) (new later : AddressState) (request : Request)
       (answer other : Result Range Error) → HaveSameState first.state second.state →
@@ -125,6 +148,10 @@ pub record StateDecides : Type 0 where
       (answer other : Result Range Error) → HaveSameState first.state second.state →
       MovesRange first.state r t answer new → MovesRange second.state r t other later →
       MovesAgreeExceptSplits first.state answer new other later
+  pub several : (first second : Reached) (new later : AddressState) (requests : List Request)
+      (answer other : Result (List Range) Error) → HaveSameState first.state second.state →
+      AllocatesAll first.state requests answer new → AllocatesAll second.state requests other later →
+      AllAgreeExceptSplits first.state requests answer new other later
   pub release : (first second : Reached) (new later : AddressState) (r : Range)
       (answer other : Result (Unit {0}) Error) → HaveSameState first.state second.state →
       Frees first.state r answer new → Frees second.state r other later → (answer ≡ other) × (new ≡ later)
