@@ -4,8 +4,8 @@ use Rattle.vm_ranges.specs.Range.{Range}
 use Rattle.vm_ranges.specs.Request.{Request}
 use Rattle.vm_ranges.specs.declared.error.Error.{Error}
 use Rattle.vm_ranges.specs.declared.error.Error.TheVariants.{Overflow, OutOfMemory}
-use Rattle.vm_engine.specs.Address.{AddressState}
-use Rattle.vm_engine.specs.Answer.{IsSplitRefusal, Allocates}
+use Rattle.vm_engine.specs.Address.{AddressState, SplitsGap}
+use Rattle.vm_engine.specs.Answer.{IsSplitRefusal, AllocatesAt, Allocates}
 use Rattle.vm_engine.specs.Laws.AddressLaws.{DifferBySplit}
 use Rattle.vm_engine.proofs.Answers.Once.{allocates_once}
 use Rattle.vm_allocator.specs.Several.{AllocatesEach, RefusesOne, AllocatesAll}
@@ -24,11 +24,36 @@ not_refused : (old : AddressState) (r : Range) → IsSplitRefusal old (Ok r) →
 not_refused old r (inl e) = cc e
 not_refused old r (inr k) = let e = k.1 in cc
 
-limit_here : (old : AddressState) (q : Request) (qs : List Request) (e : Error) → IsSplitRefusal old (Err e) → IsLimit old (q ∷ qs) e
-limit_here old q qs e (inl m) = inl (cc m)
-limit_here old q qs e (inr k) =
+-- The split of a range fails with the error e.
+record FailsToSplit (old : AddressState) (e : Error) : Type 0 where
+  range : Range
+  split : SplitsGap old range
+  fails : AllocatesAt old range (Err e) old
+  refused : IsSplitRefusal old (Err e)
+
+limit_here : (old : AddressState) (q : Request) (qs : List Request) (e : Error) → FailsToSplit old e → IsLimit old (q ∷ qs) e
+limit_here old q qs e f =
+    ⊎_elim
+    (λ m. inl (cc m))
+    (λ k.
     let over : e ≡ Overflow = let h = k.1 in cc in
-    inr (over, record { before = []; request = q; after = qs; cut = refl; ranges = []; mid = old; each = refl; many = k.0 })
+    inr (
+      over,
+      record {
+        before = [];
+        request = q;
+        after = qs;
+        cut = refl;
+        ranges = [];
+        mid = old;
+        each = refl;
+        range = f.range;
+        split = f.split;
+        fails = subst (λ (v : Error). AllocatesAt old f.range (Err v) old) over f.fails;
+        many = k.0;
+      },
+    ))
+    f.refused
 
 limit_later : (old mid : AddressState) (q : Request) (qs : List Request) (r : Range) (e : Error) → Allocates old q (Ok r) mid → IsLimit mid qs e → IsLimit old (q ∷ qs) e
 limit_later old mid q qs r e a (inl m) = inl m
@@ -44,6 +69,9 @@ limit_later old mid q qs r e a (inr k) =
         ranges = r ∷ l.ranges;
         mid = l.mid;
         each = (mid, a, l.each);
+        range = l.range;
+        split = l.split;
+        fails = l.fails;
         many = l.many;
       },
     )
@@ -56,11 +84,17 @@ given_once old mid after q r p a b =
     (λ (d : DifferBySplit old (Ok r) mid (Ok p) after). absurd (⊎_elim (not_refused old r) (not_refused old p) d.refused))
     (allocates_once old mid after q (Ok r) (Ok p) a b)
 
-given_or_refused : (old mid after : AddressState) (q : Request) (r : Range) (e : Error) → Allocates old q (Ok r) mid → Allocates old q (Err e) after → IsSplitRefusal old (Err e)
+fails_keeps : (old new : AddressState) (r : Range) (e : Error) → AllocatesAt old r (Err e) new → AllocatesAt old r (Err e) old
+unfolding AllocatesAt
+fails_keeps old new r e a = ⊎_elim (λ l. absurd (cc (l.0))) (λ k. inr (k.0, refl, k.2)) a
+
+given_or_refused : (old mid after : AddressState) (q : Request) (r : Range) (e : Error) → Allocates old q (Ok r) mid → Allocates old q (Err e) after → FailsToSplit old e
 given_or_refused old mid after q r e a b =
     ⊎_elim
     (λ same. let f = same.0 in absurd (cc f))
-    (λ (d : DifferBySplit old (Ok r) mid (Err e) after). ⊎_elim (λ n. absurd (not_refused old r n)) (λ n. n) d.refused)
+    (λ (d : DifferBySplit old (Ok r) mid (Err e) after).
+    let refused : IsSplitRefusal old (Err e) = ⊎_elim (λ n. absurd (not_refused old r n)) (λ n. n) d.refused in
+    record { range = d.range; split = d.split; fails = fails_keeps old after d.range e d.second; refused = refused })
     (allocates_once old mid after q (Ok r) (Err e) a b)
 
 -- ---- A list of requests
@@ -88,7 +122,10 @@ refused_once [] old e f a b = absurd a
 refused_once (q ∷ qs) old e f (inl a) (inl b) =
     ⊎_elim
     (λ same. let g = same.0 in inl (cc))
-    (λ (d : DifferBySplit old (Err e) old (Err f) old). inr (⊎_elim (λ n. inl (limit_here old q qs e n)) (λ n. inr (limit_here old q qs f n)) d.refused))
+    (λ (d : DifferBySplit old (Err e) old (Err f) old). inr (⊎_elim
+    (λ n. inl (limit_here old q qs e (record { range = d.range; split = d.split; fails = d.first; refused = n })))
+    (λ n. inr (limit_here old q qs f (record { range = d.range; split = d.split; fails = d.second; refused = n })))
+    d.refused))
     (allocates_once old old old q (Err e) (Err f) a b)
 refused_once (q ∷ qs) old e f (inl a) (inr k) = inr (inl (limit_here old q qs e (given_or_refused old k.1 old q k.0 e k.2 a)))
 refused_once (q ∷ qs) old e f (inr k) (inl b) = inr (inr (limit_here old q qs f (given_or_refused old k.1 old q k.0 f k.2 b)))

@@ -4,7 +4,7 @@ use Rattle.std.specs.List.{All, Contains}
 use Rattle.std.specs.List.Sorted.{IsPermutation}
 use Rattle.serde_json.specs.Data.{Data}
 use Rattle.vm_ranges.specs.Range.{Range, MAX, IsRange, IsIn, span}
-use Rattle.vm_engine.specs.Address.{AddressState, AreClear, IsPlace, IsLowestPlace, IsHighestPlace, IsAddressState}
+use Rattle.vm_engine.specs.Address.{AddressState, AreClear, SplitsGap, IsPlace, IsLowestPlace, IsHighestPlace, IsAddressState}
 use Rattle.vm_engine.specs.Windows.{within}
 use Rattle.vm_ranges.specs.Request.{Request, IsRequest, MakesConstraint}
 use Rattle.vm_engine.specs.Answer.{SPLIT_LIMIT_MIN_HELD, IsChosen, AllocatesAt, Allocates, Frees, Makes}
@@ -38,8 +38,8 @@ LastIsHighest =
 -- A range that ExactMatch allocates starts at the given start, which is a place in the window of the request.
 abbrev pub ExactIsAtItsStart : Type 0
 ExactIsAtItsStart =
-    (old : Reached) (new : AddressState) (request : Request) (start : ℕ) (r : Range) → request.policy ≡ ExactMatch start →
-    Allocates old.state request (Ok r) new →
+    (old : Reached) (new : AddressState) (request : Request) (start : ℕ) (r : Range) →
+    request.policy ≡ ExactMatch start → Allocates old.state request (Ok r) new →
     IsPlace request.size request.align (within request.window old.state) start × (r ≡ span start request.size)
 
 -- A request for the n addresses starting at t returns the error of the first condition that is true, in this order: t
@@ -114,7 +114,7 @@ MovesAgreeExceptSplits old answer new other later =
     ((answer ≡ other) × (new ≡ later))
     ⊎ ((mid : AddressState) × (after : AddressState) × DifferBySplit old answer mid other after)
 
--- A split of one of the requests fails for the height of the tree. The requests before it got their ranges, and at least
+-- The split of one of the requests fails for the height of the tree, after the requests before it got their ranges. At least
 -- SPLIT_LIMIT_MIN_HELD ranges are held then.
 pub record ReachesSplitLimit (old : AddressState) (requests : List Request) : Type 0 where
   pub before : List Request
@@ -124,6 +124,9 @@ pub record ReachesSplitLimit (old : AddressState) (requests : List Request) : Ty
   pub ranges : List Range
   pub mid : AddressState
   pub each : AllocatesEach old before ranges mid
+  pub range : Range
+  pub split : SplitsGap mid range
+  pub fails : AllocatesAt mid range (Err Overflow) mid
   pub many : SPLIT_LIMIT_MIN_HELD ≤ length mid.held
 
 -- The state does not decide this error of several requests: memory runs out, or a split fails for the height of the tree.
@@ -207,8 +210,8 @@ CloneIsReached =
 abbrev pub ReadIsReached : (Data → AddressState → Type 0) → Type 0
 ReadIsReached States = (value : Data) (state : AddressState) → States value state → IsReached [] state
 
--- The state of an allocator that was read node by node is reached without a call. `Nodes` is what the saved tree of the space
--- has to be.
+-- The state of an allocator that was read node by node is reached without a call. `Nodes` is what the saved tree of the
+-- space has to be.
 abbrev pub NodesAreReached : (Range → Saved → AddressState → Type 0) → Type 0
 NodesAreReached Nodes =
     (space : Range) (t : Saved) (state : AddressState) → IsRange space.start space.end → Nodes space t state →

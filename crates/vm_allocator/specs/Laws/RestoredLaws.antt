@@ -38,8 +38,8 @@ pub record RestoredCountsAgree : Type 0 where
       IsCountedCallFrom saved (Release r answer n) new →
       IsCountedCallFrom restored (Release r answer m) later → n ≡ m
 
--- An allocator that is restored node by node, from the tree that is written for the saved one, has the state of the saved one.
--- So a list of calls with its results is a history of the one exactly if it is a history of the other.
+-- An allocator that is restored node by node, from the tree that is written for the saved one, has the state of the saved
+-- one. So a list of calls with its results is a history of the one exactly if it is a history of the other.
 abbrev pub RestoredNodesHaveState : Type 0
 RestoredNodesHaveState =
     (saved : Shape) (t : Saved) (restored last : AddressState) (calls : List Call) →

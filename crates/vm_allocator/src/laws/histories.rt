@@ -50,7 +50,7 @@ fn held_are_valid()
 {}
 
 /// Proves that the result of a call depends only on the space and the allocated ranges, except
-/// whether a split fails.
+/// whether a split fails, or whether `allocate_all` has memory for its list.
 #[tactic(auto, using(crate::proofs::Histories::AlongHistories::decided))]
 fn state_decides()
     ensures { StateDecides }
