@@ -1,3 +1,5 @@
+pub mod MoveSteps
+pub mod SeveralOnce
 pub mod AlongHistories
 pub mod HistoryResults
 pub mod Releases

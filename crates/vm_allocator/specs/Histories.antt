@@ -1,2 +1,3 @@
 pub mod AddressHistories
+pub mod CountedHistories
 pub mod IdHistories

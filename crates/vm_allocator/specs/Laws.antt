@@ -4,6 +4,7 @@ pub mod GapLaws
 pub mod WindowLaws
 pub mod MoveLaws
 pub mod ValueLaws
+pub mod RestoredLaws
 pub mod IdLaws
 pub mod IdRequestLaws
 pub mod IdHistoryLaws

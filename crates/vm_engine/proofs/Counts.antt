@@ -18,4 +18,5 @@ pub mod RemovalPaths
 pub mod FreeCounts
 pub mod Balanced
 pub mod Allocating
+pub mod OneCount
 pub mod SimpleBounds

@@ -3,8 +3,9 @@ use Rattle.std.proofs.Common.{List, [], ◌∷◌, ◌++◌, refl, subst, inl, i
 use Rattle.vm_engine.specs.Address.{AddressState}
 use Rattle.vm_allocator.specs.Values.AllocatorValues.{EncodesAddresses}
 use Rattle.vm_allocator.specs.Values.RepairedValues.{EncodesRepaired}
-use Rattle.vm_allocator.specs.Histories.AddressHistories.{Call, Cloning, IsHistoryFrom}
-use Rattle.vm_allocator.specs.Laws.HistoryLaws.{CloneIsReached, ReadIsReached, EqualStatesAreEqual, FreeMakesEqual, FreesInAnyOrderMakeEqual}
+use Rattle.vm_allocator.specs.Histories.AddressHistories.{Call, Cloning, IsHistoryFrom, IsReadOfNodes}
+use Rattle.vm_engine.specs.Values.SavedTrees.{HasHeldKeys, HasTreeOf}
+use Rattle.vm_allocator.specs.Laws.HistoryLaws.{CloneIsReached, ReadIsReached, NodesAreReached, EqualStatesAreEqual, FreeMakesEqual, FreesInAnyOrderMakeEqual}
 use Rattle.vm_ranges.proofs.Clones.{clone_is}
 use Rattle.vm_engine.proofs.Comparing.StateOrders.{equal_states}
 use Rattle.vm_allocator.proofs.Histories.AlongHistories.{alike_state, release_undoes}
@@ -26,10 +27,20 @@ clone_is_reached old clone c =
     )
 
 pub read_is_reached : ReadIsReached EncodesAddresses
-read_is_reached value state s = record { first = state; begins = inr (inr (record { value = value; encoded = inl s })); history = refl }
+read_is_reached value state s = record { first = state; begins = inr (inr (inl (record { value = value; encoded = inl s }))); history = refl }
 
 pub repaired_is_reached : ReadIsReached EncodesRepaired
-repaired_is_reached value state s = record { first = state; begins = inr (inr (record { value = value; encoded = inr s })); history = refl }
+repaired_is_reached value state s = record { first = state; begins = inr (inr (inl (record { value = value; encoded = inr s }))); history = refl }
+
+pub nodes_are_reached : NodesAreReached HasTreeOf
+nodes_are_reached space t state r h =
+    let nodes : IsReadOfNodes state = record { space = space; tree = t; range = r; nodes = inl h } in
+    record { first = state; begins = inr (inr (inr nodes)); history = refl }
+
+pub repaired_nodes_are_reached : NodesAreReached HasHeldKeys
+repaired_nodes_are_reached space t state r h =
+    let nodes : IsReadOfNodes state = record { space = space; tree = t; range = r; nodes = inr h } in
+    record { first = state; begins = inr (inr (inr nodes)); history = refl }
 
 pub one_end_is_equal : EqualStatesAreEqual
 one_end_is_equal first second h = equal_states first.state second.state (alike_state first second h)

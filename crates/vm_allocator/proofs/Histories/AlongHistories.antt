@@ -5,17 +5,21 @@ use Rattle.vm_ranges.specs.Range.{Range, span}
 use Rattle.vm_engine.specs.Address.{AddressState, IsPlace, IsAddressState}
 use Rattle.vm_ranges.specs.Request.{Request}
 use Rattle.vm_engine.specs.Answer.{Allocates, Frees}
-use Rattle.vm_allocator.specs.Several.{AllocatesEach}
-use Rattle.vm_allocator.specs.Histories.AddressHistories.{Call, Allocation, Several, Release, Cloning, IsCallFrom, IsHistoryFrom, Begins, Reached, Gives, WasAllocated, WasHeldFirst}
+use Rattle.vm_allocator.specs.Several.{AllocatesEach, AllocatesAll}
+use Rattle.vm_allocator.specs.Moves.{request_to, MovesRange}
+use Rattle.vm_allocator.specs.Histories.AddressHistories.{Call, Allocation, Several, Release, Move, Cloning, IsCallFrom, IsHistoryFrom, Begins, Reached, Gives, WasAllocated, WasHeldFirst}
 use Rattle.vm_allocator.specs.Laws.HistoryLaws.{HeldAreValid, HaveSameState, StateDecides, FreeUndoes}
 use Rattle.vm_ranges.specs.declared.error.Error.{Error}
 use Rattle.vm_engine.proofs.Blocks.PlainWords.{IsHeld, contains_held, held_contains}
 use Rattle.vm_engine.proofs.Results.Outcomes.{IsRefused}
 use Rattle.vm_allocator.proofs.Reading.ReadAllocators.{encoded_state}
 use Rattle.vm_allocator.proofs.Reading.ReadRepaired.{repaired_state}
+use Rattle.vm_allocator.proofs.Reading.ReadNodes.{tree_read_state, keys_read_state}
 use Rattle.vm_ranges.proofs.Clones.{cloning_keeps}
 use Rattle.vm_engine.proofs.Results.Once.{allocates_once, frees_once}
 use Rattle.vm_allocator.proofs.Callers.{given, request_inside}
+use Rattle.vm_allocator.proofs.Histories.SeveralOnce.{all_once}
+use Rattle.vm_allocator.proofs.Histories.MoveSteps.{IsNewPlace, move_state, move_gives, moves_once}
 use Rattle.vm_allocator.proofs.Results.HeldOnes.{held_state}
 use Rattle.vm_engine.proofs.Blocks.HeldSets.{same_ranges_held}
 use Rattle.vm_engine.proofs.Blocks.HeldChanges.{held_with, held_without}
@@ -33,6 +37,7 @@ call_state old new (Allocation request answer) h i = allocated_state old new req
 call_state old new (Several requests (Ok rs)) h i = each_valid requests rs old new i h
 call_state old new (Several requests (Err e)) h i = subst IsAddressState (sym h.0) i
 call_state old new (Release r answer) h i = freed_state old new r answer i h
+call_state old new (Move r t answer) h i = move_state old new r t answer i h
 call_state old new (Cloning answer) h i = subst IsAddressState (sym (cloning_keeps old new answer h.0 h.1)) i
 
 pub history_state : (calls : List Call) (first last : AddressState) → IsHistoryFrom first calls last → IsAddressState first → IsAddressState last
@@ -42,7 +47,8 @@ history_state (call ∷ calls) first last h i = history_state calls h.0 last h.2
 first_state : (first : AddressState) → Begins first → IsAddressState first
 first_state first (inl m) = made_state m.base m.size first m.word m.made
 first_state first (inr (inl m)) = held_state m.base m.size m.held first m.word m.ranges m.made
-first_state first (inr (inr r)) = ⊎_elim (λ s. subst IsAddressState s.is (encoded_state r.value s.allocator s.encoded)) (repaired_state r.value first) r.encoded
+first_state first (inr (inr (inr n))) = ⊎_elim (tree_read_state n.space n.tree first n.range) (keys_read_state n.space n.tree first n.range) n.nodes
+first_state first (inr (inr (inl r))) = ⊎_elim (λ s. subst IsAddressState s.is (encoded_state r.value s.allocator s.encoded)) (repaired_state r.value first) r.encoded
 
 pub reached_state : (old : Reached) → IsAddressState old.state
 reached_state old =
@@ -128,6 +134,11 @@ call_gives old new (Several requests (Err e)) calls r s h = inl (subst (λ (v : 
 call_gives old new (Release q answer) calls r s h =
     let P : AddressState → Type 0 = λ v. IsHeld v.held r in
     ⊎_elim (λ l. inl (held_without q r old.held (subst P l.1.1 h))) (λ l. inl (subst P l.1.1 h)) s
+call_gives old new (Move q t answer) calls r s h =
+    ⊎_elim
+    (λ (k : IsHeld old.held r). inl k)
+    (λ (p : IsNewPlace old q t answer r). inr (given_here old p.mid (request_to q t) r (Move q t answer) calls (refl, p.given) p.allocated))
+    (move_gives old new q t answer r s h)
 call_gives old new (Cloning answer) calls r s h =
     let P : AddressState → Type 0 = λ v. IsHeld v.held r in
     inl (subst P (cloning_keeps old new answer s.0 s.1) h)
@@ -175,6 +186,12 @@ decided = record {
   allocation = λ first second new later request answer other h s t.
       let e = alike_state first second h in
       allocates_once first.state new later request answer other s (subst (λ (v : AddressState). Allocates v request other later) (sym e) t);
+  move = λ first second new later r start answer other h s t.
+      let e = alike_state first second h in
+      moves_once first.state new later r start answer other s (subst (λ (v : AddressState). MovesRange v r start other later) (sym e) t);
+  several = λ first second new later requests answer other h s t.
+      let e = alike_state first second h in
+      all_once requests first.state new later answer other s (subst (λ (v : AddressState). AllocatesAll v requests other later) (sym e) t);
   release = λ first second new later r answer other h s t.
       let e = alike_state first second h in
       frees_once first.state new later r answer other s (subst (λ (v : AddressState). Frees v r other later) (sym e) t);

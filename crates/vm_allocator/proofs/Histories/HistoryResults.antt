@@ -2,10 +2,10 @@
 use Rattle.std.proofs.Common.{◌≡◌, ◌≢◌, ℕ, ◌+◌, ◌-◌, ◌<◌, arith, sym, ap, ◌∙◌, ◌⊎◌, ⊎_elim, subst, Option, Result, Ok, Err}
 use Rattle.std.proofs.lemmas.Bool.{cases_eq}
 use Rattle.vm_ranges.specs.Range.{Range, MAX, IsIn, span}
-use Rattle.vm_engine.specs.Address.{AddressState, IsPlace, IsAddressState}
+use Rattle.vm_engine.specs.Address.{AddressState, IsPlace, IsLowestPlace, IsHighestPlace, IsAddressState}
 use Rattle.vm_engine.specs.Windows.{within}
 use Rattle.vm_engine.proofs.Results.Requests.{request_in}
-use Rattle.vm_ranges.specs.Request.{Request, request_for, IsRequest, ByConstraint, MakesConstraint}
+use Rattle.vm_ranges.specs.Request.{Request, ByPolicy, IsRequest, ByConstraint, MakesConstraint}
 use Rattle.vm_engine.specs.Answer.{IsChosen, ByStart, ByExactPolicy, ByPlace, AllocatesAt, Grants, Allocates, Frees}
 use Rattle.vm_allocator.specs.Laws.HistoryLaws.{FirstIsLowest, LastIsHighest, ExactIsAtItsStart, FailsInOrder, IsAnswered, PlacesAnswer, ErrorsChangeNothing}
 use Rattle.vm_ranges.specs.declared.error.Error.{Error}
@@ -19,6 +19,7 @@ use Rattle.vm_engine.proofs.Results.Once.{place_in_window}
 use Rattle.vm_engine.proofs.Results.Filling.{otherwise, given, faulty, lacking, clear_not_held, request_grants, allocates_chosen}
 use Rattle.vm_engine.proofs.Results.Outcomes.{allocates_outcome}
 use Rattle.vm_allocator.proofs.Histories.AlongHistories.{reached_state}
+use Rattle.vm_allocator.proofs.Histories.MoveSteps.{move_error_keeps}
 
 -- ---- An allocated range starts at the chosen place
 takes_given : (old new : AddressState) (r p : Range) → AllocatesAt old r (Ok p) new → p ≡ r
@@ -36,19 +37,31 @@ allocated_chosen request old new r h =
     (subst (IsChosen request old) start k.1.1, e ∙ ap (λ (s : ℕ). span s request.size) start))
     (allocates_outcome old new (Ok r) request h)
 
-pub first_is_lowest : FirstIsLowest
+-- The chosen place by the policy of the request.
+abbrev ChosenBy : AllocPolicy → Request → AddressState → ℕ → Type 0
+ChosenBy policy request old s =
+    ByPolicy policy
+    (IsLowestPlace request.size request.align (within request.window old) s)
+    (IsHighestPlace request.size request.align (within request.window old) s)
+    (λ start. (s ≡ start) × IsPlace request.size request.align (within request.window old) s)
+
+chosen_by : (request : Request) (old : AddressState) (s : ℕ) (policy : AllocPolicy) → request.policy ≡ policy → IsChosen request old s → ChosenBy policy request old s
 unfolding IsChosen
-first_is_lowest old new size align r h = allocated_chosen (request_for size align FirstMatch) old.state new r h
+chosen_by request old s policy p c = subst (λ (v : AllocPolicy). ChosenBy v request old s) p c
+
+pub first_is_lowest : FirstIsLowest
+first_is_lowest old new request r p h =
+    let g = allocated_chosen request old.state new r h in (chosen_by request old.state r.start FirstMatch p g.0, g.1)
 
 pub last_is_highest : LastIsHighest
-unfolding IsChosen
-last_is_highest old new size align r h = allocated_chosen (request_for size align LastMatch) old.state new r h
+last_is_highest old new request r p h =
+    let g = allocated_chosen request old.state new r h in (chosen_by request old.state r.start LastMatch p g.0, g.1)
 
 pub exact_is_named : ExactIsAtItsStart
-unfolding IsChosen
-exact_is_named old new size align start r h =
-    let g = allocated_chosen (request_for size align (ExactMatch start)) old.state new r h in
-    (subst (IsPlace size align old.state) g.0.0 g.0.1, g.1 ∙ ap (λ (s : ℕ). span s size) g.0.0)
+exact_is_named old new request start r p h =
+    let g = allocated_chosen request old.state new r h in
+    let c = chosen_by request old.state r.start (ExactMatch start) p g.0 in
+    (subst (IsPlace request.size request.align (within request.window old.state)) c.0 c.1, g.1 ∙ ap (λ (s : ℕ). span s request.size) c.0)
 
 -- ---- The places decide the result of each request
 -- An invalid request returns the error of its constraint.
@@ -165,5 +178,7 @@ release_refused old new r e h = ⊎_elim (λ l. absurd (cc (l.1.0))) (λ k. k.1.
 pub errors_change_nothing : ErrorsChangeNothing
 errors_change_nothing = record {
   allocation = λ old new request e h. allocation_refused request old.state new e h;
+  several = λ old new requests e h. h.0;
+  move = λ old new r t e h. move_error_keeps old.state new r t e h;
   release = λ old new r e h. release_refused old.state new r e h;
 }

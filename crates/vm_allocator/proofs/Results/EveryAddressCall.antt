@@ -14,7 +14,8 @@ use Rattle.vm_ranges.specs.Cloning.{Clones}
 use Rattle.vm_engine.specs.Held.{range_fault, or_else, first_fault, TOO_MANY_BLOCKS, BySpace, MakesHeld, MakesWithHeld}
 use Rattle.vm_engine.specs.Tree.Blocks.{blocks_of}
 use Rattle.vm_allocator.specs.Several.{FailsBy, AllocatesAll}
-use Rattle.vm_allocator.specs.Histories.AddressHistories.{Allocation, Several, Release, Cloning, Asked, Allocate, AllocateAll, Free, Clone, RunsOutOfMemory}
+use Rattle.vm_allocator.specs.Moves.{request_to, MovesRange}
+use Rattle.vm_allocator.specs.Histories.AddressHistories.{Allocation, Several, Release, Move, Cloning, Asked, Allocate, AllocateAll, Free, MoveTo, Clone, RunsOutOfMemory}
 use Rattle.vm_allocator.specs.Laws.HistoryLaws.{EveryCallIsAnswered, EveryListHasHistory}
 use Rattle.vm_ranges.specs.declared.error.Error.{Error}
 use Rattle.vm_ranges.specs.declared.error.Error.TheVariants.{OutOfMemory, Overflow, ResourceNotAvailable, Underflow, InvalidStateTransition, InvalidSize, InvalidAlignment, UnalignedAddress}
@@ -23,6 +24,7 @@ use Rattle.vm_ranges.specs.declared.constraint.AllocPolicy.{AllocPolicy}
 use Rattle.vm_ranges.specs.declared.constraint.AllocPolicy.TheVariants.{FirstMatch, LastMatch, ExactMatch}
 use Rattle.std.proofs.lemmas.List.Elements.{All-nil, All-cons}
 use Rattle.vm_ranges.proofs.Decisions.{Decided, decided_below, decided_up_to, decided_alignment, decided_start, lowest_or_none, highest_or_none}
+use Rattle.vm_allocator.proofs.Results.Moves.{move_refused, move_stays}
 use Rattle.vm_allocator.proofs.Decisions.{decided_all_clear, decided_place, decided_inside, decided_held}
 
 -- ---- A result of a relation, by deciding its conditions
@@ -123,6 +125,26 @@ total_frees old r =
     (λ (not_held : Contains old.held r → ⊥). (Err ResourceNotAvailable, old, inr (not_held, (refl, refl))))
     (decided_held old.held r)
 
+-- A move to another start has the result of its allocation.
+moved_by : (old mid : AddressState) (r : Range) (t : ℕ) (answer : Result Range Error) → Contains old.held r → t ≢ r.start → Allocates old (request_to r t) answer mid → (new : AddressState) × MovesRange old r t answer new
+unfolding MovesRange
+moved_by old mid r t (Ok q) c d a = (releasing r mid, inr (c, inr (d, (mid, a, refl))))
+moved_by old mid r t (Err e) c d a = (old, inr (c, inr (d, (mid, a, refl))))
+
+total_moves : (old : AddressState) (r : Range) (t : ℕ) → IsTotal (MovesRange old r t)
+total_moves old r t =
+    ⊎_elim
+    (λ (held : Contains old.held r).
+    ⊎_elim
+    (λ (same : t ≡ r.start). (Ok r, old, move_stays old r t r.start held refl same, λ h. absurd (cc h)))
+    (λ (other : t ≡ r.start → ⊥).
+    let a = total_allocates old (request_to r t) in
+    let m = moved_by old a.1 r t a.0 held other a.2 in
+    (a.0, m.0, m.1, a.3))
+    (cases_eq t r.start))
+    (λ (none : ¬ Contains old.held r). (Err ResourceNotAvailable, old, move_refused old r t none, λ h. absurd (cc h)))
+    (decided_held old.held r)
+
 total_makes : (base size : ℕ) → (answer : Result AddressState Error) × Makes base size answer × (answer ≢ Err OutOfMemory)
 unfolding Makes
 total_makes base size =
@@ -220,6 +242,7 @@ every_call = record {
   several = total_several;
   allocated = total_allocates;
   freed = total_frees;
+  moved = total_moves;
   cloned = total_clones;
 }
 
@@ -253,6 +276,15 @@ every_list old (Free r ∷ asked) =
       (f.1, f.2, rest.2),
       ap (λ (v : List Asked). Free r ∷ v) rest.3,
       All-cons (λ call. ¬ RunsOutOfMemory call) (Release r f.0) rest.0 (λ h. h) rest.4,
+    )
+every_list old (MoveTo r t ∷ asked) =
+    let a = total_moves old r t in
+    let rest = every_list a.1 asked in (
+      Move r t a.0 ∷ rest.0,
+      rest.1,
+      (a.1, a.2, rest.2),
+      ap (λ (v : List Asked). MoveTo r t ∷ v) rest.3,
+      All-cons (λ call. ¬ RunsOutOfMemory call) (Move r t a.0) rest.0 a.3 rest.4,
     )
 every_list old (Clone ∷ asked) =
     let c = total_clones old in

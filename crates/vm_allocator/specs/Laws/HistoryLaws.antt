@@ -1,16 +1,18 @@
 -- Laws of every history of an address allocator that was made or read.
-use Rattle.std.specs.Prelude.{◌≡◌, ◌≢◌, ℕ, ◌+◌, ◌-◌, ◌<◌, ◌≤◌, ◌⊎◌, ◌↔◌, List, [], ◌∷◌, ◌++◌, map, Result, Ok, Err}
+use Rattle.std.specs.Prelude.{◌≡◌, ◌≢◌, ℕ, ◌+◌, ◌-◌, ◌<◌, ◌≤◌, ◌⊎◌, ◌↔◌, List, [], ◌∷◌, ◌++◌, length, map, Result, Ok, Err}
 use Rattle.std.specs.List.{All, Contains}
 use Rattle.std.specs.List.Sorted.{IsPermutation}
 use Rattle.serde_json.specs.Data.{Data}
-use Rattle.vm_ranges.specs.Range.{Range, MAX, IsIn, span}
-use Rattle.vm_engine.specs.Address.{AddressState, AreClear, IsPlace, IsLowestPlace, IsHighestPlace, IsAddressState}
+use Rattle.vm_ranges.specs.Range.{Range, MAX, IsRange, IsIn, span}
+use Rattle.vm_engine.specs.Address.{AddressState, AreClear, SplitsGap, IsPlace, IsLowestPlace, IsHighestPlace, IsAddressState}
 use Rattle.vm_engine.specs.Windows.{within}
-use Rattle.vm_ranges.specs.Request.{Request, request_for, IsRequest, MakesConstraint}
-use Rattle.vm_engine.specs.Answer.{IsChosen, AllocatesAt, Allocates, Frees, Makes}
+use Rattle.vm_ranges.specs.Request.{Request, IsRequest, MakesConstraint}
+use Rattle.vm_engine.specs.Answer.{SPLIT_LIMIT_MIN_HELD, IsChosen, AllocatesAt, Allocates, Frees, Makes}
 use Rattle.vm_engine.specs.Held.{MakesWithHeld}
-use Rattle.vm_allocator.specs.Several.{AllocatesAll}
-use Rattle.vm_engine.specs.Laws.AddressLaws.{AgreeExceptSplits, AreDisjoint}
+use Rattle.vm_engine.specs.Values.SavedTrees.{Saved}
+use Rattle.vm_allocator.specs.Several.{AllocatesEach, AllocatesAll}
+use Rattle.vm_allocator.specs.Moves.{MovesRange}
+use Rattle.vm_engine.specs.Laws.AddressLaws.{DifferBySplit, AgreeExceptSplits, AreDisjoint}
 use Rattle.vm_ranges.specs.Cloning.{Clones}
 use Rattle.vm_engine.specs.Comparison.{AreEqual}
 use Rattle.vm_allocator.specs.Histories.AddressHistories.{Call, Cloning, Asked, asked_by, RunsOutOfMemory, IsHistoryFrom, IsReached, Reached, WasAllocated, WasHeldFirst, releases}
@@ -19,26 +21,26 @@ use Rattle.vm_ranges.specs.declared.error.Error.TheVariants.{Overflow, ResourceN
 use Rattle.vm_ranges.specs.declared.state.NodeState.TheVariants.{Allocated}
 use Rattle.vm_ranges.specs.declared.constraint.AllocPolicy.TheVariants.{FirstMatch, LastMatch, ExactMatch}
 
--- A range that FirstMatch allocates starts at the lowest place of the state before.
+-- A range that FirstMatch allocates starts at the lowest place of the state before, of those in the window of the request.
 abbrev pub FirstIsLowest : Type 0
 FirstIsLowest =
-    (old : Reached) (new : AddressState) (size align : ℕ) (r : Range) →
-    Allocates old.state (request_for size align FirstMatch) (Ok r) new →
-    IsLowestPlace size align old.state r.start × (r ≡ span r.start size)
+    (old : Reached) (new : AddressState) (request : Request) (r : Range) → request.policy ≡ FirstMatch →
+    Allocates old.state request (Ok r) new →
+    IsLowestPlace request.size request.align (within request.window old.state) r.start × (r ≡ span r.start request.size)
 
--- A range that LastMatch allocates starts at the highest place of the state before.
+-- A range that LastMatch allocates starts at the highest place of the state before, of those in the window of the request.
 abbrev pub LastIsHighest : Type 0
 LastIsHighest =
-    (old : Reached) (new : AddressState) (size align : ℕ) (r : Range) →
-    Allocates old.state (request_for size align LastMatch) (Ok r) new →
-    IsHighestPlace size align old.state r.start × (r ≡ span r.start size)
+    (old : Reached) (new : AddressState) (request : Request) (r : Range) → request.policy ≡ LastMatch →
+    Allocates old.state request (Ok r) new →
+    IsHighestPlace request.size request.align (within request.window old.state) r.start × (r ≡ span r.start request.size)
 
--- A range that ExactMatch allocates starts at the given start, which is a place.
+-- A range that ExactMatch allocates starts at the given start, which is a place in the window of the request.
 abbrev pub ExactIsAtItsStart : Type 0
 ExactIsAtItsStart =
-    (old : Reached) (new : AddressState) (size align start : ℕ) (r : Range) →
-    Allocates old.state (request_for size align (ExactMatch start)) (Ok r) new →
-    IsPlace size align old.state start × (r ≡ span start size)
+    (old : Reached) (new : AddressState) (request : Request) (start : ℕ) (r : Range) →
+    request.policy ≡ ExactMatch start → Allocates old.state request (Ok r) new →
+    IsPlace request.size request.align (within request.window old.state) start × (r ≡ span start request.size)
 
 -- A request for the n addresses starting at t returns the error of the first condition that is true, in this order: t
 -- is MAX; t is outside the space; the range passes MAX; the range is held; an address of it is not clear; it ends at
@@ -85,6 +87,10 @@ PlacesAnswer =
 pub record ErrorsChangeNothing : Type 0 where
   pub allocation : (old : Reached) (new : AddressState) (request : Request) (e : Error) →
       Allocates old.state request (Err e) new → new ≡ old.state
+  pub several : (old : Reached) (new : AddressState) (requests : List Request) (e : Error) →
+      AllocatesAll old.state requests (Err e) new → new ≡ old.state
+  pub move : (old : Reached) (new : AddressState) (r : Range) (t : ℕ) (e : Error) →
+      MovesRange old.state r t (Err e) new → new ≡ old.state
   pub release : (old : Reached) (new : AddressState) (r : Range) (e : Error) →
       Frees old.state r (Err e) new → new ≡ old.state
 
@@ -101,13 +107,54 @@ pub record HaveSameState (first second : AddressState) : Type 0 where
   pub space : first.space ≡ second.space
   pub held : (r : Range) → Contains first.held r ↔ Contains second.held r
 
+-- Two moves have the same result and the same next state, except that the split of their allocations may fail.
+abbrev pub MovesAgreeExceptSplits : AddressState →
+    Result Range Error → AddressState → Result Range Error → AddressState → Type 0
+MovesAgreeExceptSplits old answer new other later =
+    ((answer ≡ other) × (new ≡ later))
+    ⊎ ((mid : AddressState) × (after : AddressState) × DifferBySplit old answer mid other after)
+
+-- The split of one of the requests fails for the height of the tree, after the requests before it got their ranges. At least
+-- SPLIT_LIMIT_MIN_HELD ranges are held then.
+pub record ReachesSplitLimit (old : AddressState) (requests : List Request) : Type 0 where
+  pub before : List Request
+  pub request : Request
+  pub after : List Request
+  pub cut : requests ≡ before ++ request ∷ after
+  pub ranges : List Range
+  pub mid : AddressState
+  pub each : AllocatesEach old before ranges mid
+  pub range : Range
+  pub split : SplitsGap mid range
+  pub fails : AllocatesAt mid range (Err Overflow) mid
+  pub many : SPLIT_LIMIT_MIN_HELD ≤ length mid.held
+
+-- The state does not decide this error of several requests: memory runs out, or a split fails for the height of the tree.
+abbrev pub IsLimitOfAll : AddressState → List Request → Result (List Range) Error → Type 0
+IsLimitOfAll old requests answer =
+    (answer ≡ Err OutOfMemory) ⊎ ((answer ≡ Err Overflow) × ReachesSplitLimit old requests)
+
+-- Two results of several requests and the states after them are equal, except that memory may run out or a split may fail.
+abbrev pub AllAgreeExceptSplits : AddressState → List Request →
+    Result (List Range) Error → AddressState → Result (List Range) Error → AddressState → Type 0
+AllAgreeExceptSplits old requests answer new other later =
+    ((answer ≡ other) × (new ≡ later)) ⊎ (IsLimitOfAll old requests answer ⊎ IsLimitOfAll old requests other)
+
 -- The result of a call and the state after it depend only on the space and the held ranges, except whether a split
--- fails.
+-- fails. Several requests can also fail because there is no memory for the list of their ranges.
 pub record StateDecides : Type 0 where
   pub allocation : (first second : Reached) (new later : AddressState) (request : Request)
       (answer other : Result Range Error) → HaveSameState first.state second.state →
       Allocates first.state request answer new → Allocates second.state request other later →
       AgreeExceptSplits first.state answer new other later
+  pub move : (first second : Reached) (new later : AddressState) (r : Range) (t : ℕ)
+      (answer other : Result Range Error) → HaveSameState first.state second.state →
+      MovesRange first.state r t answer new → MovesRange second.state r t other later →
+      MovesAgreeExceptSplits first.state answer new other later
+  pub several : (first second : Reached) (new later : AddressState) (requests : List Request)
+      (answer other : Result (List Range) Error) → HaveSameState first.state second.state →
+      AllocatesAll first.state requests answer new → AllocatesAll second.state requests other later →
+      AllAgreeExceptSplits first.state requests answer new other later
   pub release : (first second : Reached) (new later : AddressState) (r : Range)
       (answer other : Result (Unit {0}) Error) → HaveSameState first.state second.state →
       Frees first.state r answer new → Frees second.state r other later → (answer ≡ other) × (new ≡ later)
@@ -140,6 +187,9 @@ pub record EveryCallIsAnswered : Type 0 where
       Allocates old request answer new × (answer ≢ Err OutOfMemory)
   pub freed : (old : AddressState) (r : Range) →
       (answer : Result (Unit {0}) Error) × (new : AddressState) × Frees old r answer new
+  pub moved : (old : AddressState) (r : Range) (t : ℕ) →
+      (answer : Result Range Error) × (new : AddressState) ×
+      MovesRange old r t answer new × (answer ≢ Err OutOfMemory)
   pub cloned : (old : AddressState) →
       (answer : Result AddressState Error) × Clones old answer × (answer ≢ Err OutOfMemory)
 
@@ -159,6 +209,13 @@ CloneIsReached =
 -- The state of an allocator that was read is reached without a call.
 abbrev pub ReadIsReached : (Data → AddressState → Type 0) → Type 0
 ReadIsReached States = (value : Data) (state : AddressState) → States value state → IsReached [] state
+
+-- The state of an allocator that was read node by node is reached without a call. `Nodes` is what the saved tree of the
+-- space has to be.
+abbrev pub NodesAreReached : (Range → Saved → AddressState → Type 0) → Type 0
+NodesAreReached Nodes =
+    (space : Range) (t : Saved) (state : AddressState) → IsRange space.start space.end → Nodes space t state →
+    IsReached [] state
 
 -- Reached allocators with the same space and the same held ranges are equal, whatever calls led there.
 abbrev pub EqualStatesAreEqual : Type 0

@@ -4,6 +4,7 @@
 //! clone.
 ghost use Rattle.vm_allocator.specs.Values.AllocatorValues.{EncodesAddresses};
 ghost use Rattle.vm_allocator.specs.Values.RepairedValues.{EncodesRepaired};
+ghost use Rattle.vm_engine.specs.Values.SavedTrees.{HasHeldKeys, HasTreeOf};
 ghost use Rattle.vm_allocator.specs.Laws.HistoryLaws.{
   FirstIsLowest,
   LastIsHighest,
@@ -18,13 +19,15 @@ ghost use Rattle.vm_allocator.specs.Laws.HistoryLaws.{
   EveryListHasHistory,
   CloneIsReached,
   ReadIsReached,
+  NodesAreReached,
   EqualStatesAreEqual,
   FreeMakesEqual,
   FreesInAnyOrderMakeEqual,
 };
 
 /// Proves that in every history `FirstMatch` allocates the lowest place, `LastMatch` the highest
-/// place, and `ExactMatch` the place at its start.
+/// place, and `ExactMatch` the place at its start. If the request has a window, these are the places
+/// in the window.
 fn chosen_places_are_allocated()
     ensures first { FirstIsLowest }
     ensures last { LastIsHighest }
@@ -47,7 +50,7 @@ fn held_are_valid()
 {}
 
 /// Proves that the result of a call depends only on the space and the allocated ranges, except
-/// whether a split fails.
+/// whether a split fails, or whether `allocate_all` has memory for its list.
 #[tactic(auto, using(crate::proofs::Histories::AlongHistories::decided))]
 fn state_decides()
     ensures { StateDecides }
@@ -72,11 +75,13 @@ fn clones_are_reached()
     ensures { CloneIsReached }
 {}
 
-/// Proves that an allocator that was read, with or without repairs, is reached by a history without
-/// calls. So what is true for every history is true for it.
+/// Proves that an allocator that was read, with or without repairs, from a value or node by node, is
+/// reached by a history without calls. So what is true for every history is true for it.
 fn reads_are_reached()
     ensures read { ReadIsReached EncodesAddresses }
     ensures repaired { ReadIsReached EncodesRepaired }
+    ensures nodes { NodesAreReached HasTreeOf }
+    ensures repaired_nodes { NodesAreReached HasHeldKeys }
 {}
 
 /// Proves that allocators with the same space and the same allocated ranges are equal. The order

@@ -1,5 +1,5 @@
 //! Laws of moves of allocated ranges.
-ghost use Rattle.vm_allocator.specs.Laws.MoveLaws.{MovedIsHeld, OldPlaceIsClear, MoveIsReached};
+ghost use Rattle.vm_allocator.specs.Laws.MoveLaws.{MovedIsHeld, OldPlaceIsClear, MoveIsTwoCalls};
 
 /// Proves that a moved range is allocated at its new start, and that the addresses that it had before
 /// are free.
@@ -8,8 +8,8 @@ fn moved_ranges_leave_their_place()
     ensures clear { OldPlaceIsClear }
 {}
 
-/// Proves that a move is reached by a history. So what is true for every history is true after moves.
-#[tactic(auto, using(crate::proofs::Histories::MovedRanges::move_is_reached))]
-fn moves_are_reached()
-    ensures { MoveIsReached }
+/// Proves that a move to another start is an allocation there and the freeing of the range.
+#[tactic(auto, using(crate::proofs::Histories::MovedRanges::move_is_two_calls))]
+fn moves_are_two_calls()
+    ensures { MoveIsTwoCalls }
 {}

@@ -3,6 +3,13 @@ ghost use Rattle.vm_ranges.specs.RangeValues.{EncodesRange, EncodesState};
 ghost use Rattle.vm_allocator.specs.Values.AllocatorValues.{EncodesAllocator};
 ghost use Rattle.vm_allocator.specs.Values.RepairedValues.{EncodesRepaired};
 ghost use Rattle.vm_allocator.specs.Values.IdValues.{EncodesIds};
+ghost use Rattle.vm_allocator.specs.Histories.CountedHistories.{IsCountedHistoryFrom};
+ghost use Rattle.vm_allocator.specs.Histories.IdHistories.{IsIdHistoryFrom};
+ghost use Rattle.vm_allocator.specs.Laws.RestoredLaws.{
+  RestoredIsSaved,
+  RestoredCountsAgree,
+  RestoredNodesHaveState,
+};
 ghost use Rattle.vm_allocator.specs.Laws.ValueLaws.{
   EncodesAtMostOne,
   ReadsWritten,
@@ -30,6 +37,21 @@ fn written_is_read()
     ensures node_states { ReadsWritten EncodesState }
     ensures address_allocators { ReadsWritten EncodesAllocator }
     ensures id_allocators { ReadsWritten EncodesIds }
+{}
+
+/// Proves that a restored allocator is the saved one: `from_value` of the value that `to_value` wrote
+/// returns the same tree, node for node, and for ids the same state. So the same lists of calls, with
+/// their results and counts, are possible for both, and a call with the same result enters the same
+/// number of nodes.
+///
+/// An allocator that `from_nodes` restores has the state of the saved one, in a tree of the minimum
+/// height. So its results are those of the saved one, except that a split can fail for the height of
+/// only one of the trees, and its counts can differ.
+fn restored_are_saved()
+    ensures address_allocators { RestoredIsSaved EncodesAllocator IsCountedHistoryFrom }
+    ensures id_allocators { RestoredIsSaved EncodesIds IsIdHistoryFrom }
+    ensures counts { RestoredCountsAgree }
+    ensures nodes { RestoredNodesHaveState }
 {}
 
 /// Proves that a saved object survives its JSON text: `to_value`, `to_string`, `from_str` and

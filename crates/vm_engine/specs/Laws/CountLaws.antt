@@ -3,7 +3,9 @@ use Rattle.std.specs.Prelude.{ℕ, ◌+◌, ◌*◌, ◌≤◌, Result, ◌≡�
 use Rattle.vm_ranges.specs.Range.{Range}
 use Rattle.vm_ranges.specs.declared.error.Error.{Error}
 use Rattle.vm_ranges.specs.declared.constraint.AllocPolicy.TheVariants.{FirstMatch, LastMatch, ExactMatch}
-use Rattle.vm_engine.specs.Counts.Steps.{max_entered, IsFreeCount}
+use Rattle.vm_ranges.specs.Request.{Request}
+use Rattle.vm_engine.specs.Tree.SpaceTree.{IsSpaceTree}
+use Rattle.vm_engine.specs.Counts.Steps.{max_entered, IsFreeCount, EntersToAllocate, EntersToFree}
 use Rattle.vm_engine.specs.Counts.GapSearch.{IsGapSearchCount}
 use Rattle.vm_engine.specs.Tree.BlockList.{replace_block, find_key}
 use Rattle.vm_engine.specs.Tree.Shape.{Shape, blocks, height_of, IsTree}
@@ -18,6 +20,13 @@ pub record EntersFew : Type 0 where
   pub last : (h k : ℕ) → max_entered LastMatch h k ≤ 2 * k + 1 + (8 * h + 8)
   pub gaps : (h v : ℕ) (answer : Result Range Error) (count : ℕ) →
       IsGapSearchCount h v answer count → count ≤ h * (v + 1) + (8 * h + 8)
+
+-- The tree, a call and its result decide the number of nodes that the call enters.
+pub record CountsAreDecided : Type 0 where
+  pub allocation : (s : Shape) (request : Request) (answer : Result Range Error) (n m : ℕ) → IsSpaceTree s →
+      EntersToAllocate s request answer n → EntersToAllocate s request answer m → n ≡ m
+  pub release : (s : Shape) (k : Range) (answer : Result (Unit {0}) Error) (n m : ℕ) → IsSpaceTree s →
+      EntersToFree s k answer 0 n → EntersToFree s k answer 0 m → n ≡ m
 
 -- The tree without the block with key k is a balanced search tree of the other blocks. It is as high as before, or one lower.
 pub record IsWithoutKey (k : Range) (s : Shape) : Type 0 where

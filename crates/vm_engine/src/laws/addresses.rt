@@ -13,7 +13,7 @@ ghost use Rattle.vm_engine.specs.Laws.AddressLaws.{
   TooShortIsExact,
   TooShortAreFew,
 };
-ghost use Rattle.vm_engine.specs.Laws.CountLaws.{EntersFew, RemovalIsExact, PathsSinkLittle};
+ghost use Rattle.vm_engine.specs.Laws.CountLaws.{EntersFew, CountsAreDecided, RemovalIsExact, PathsSinkLittle};
 
 /// States that an allocation has one result and one next state, except that a split may fail.
 ///
@@ -75,6 +75,12 @@ fn too_short_gaps_are_exact()
 #[tactic(auto, using(crate::proofs::Counts::SimpleBounds::simple_bounds))]
 fn calls_enter_few()
     ensures { EntersFew }
+{}
+
+/// States that the tree, a call and its result decide the number of nodes that the call enters.
+#[tactic(auto, using(crate::proofs::Counts::OneCount::counts_are_decided))]
+fn counts_are_decided()
+    ensures { CountsAreDecided }
 {}
 
 /// States that the tree without a block is balanced, has the other blocks, and is at most one lower.
