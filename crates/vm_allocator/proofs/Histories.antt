@@ -1,5 +1,6 @@
 pub mod MoveSteps
 pub mod SeveralOnce
+pub mod SameCalls
 pub mod AlongHistories
 pub mod HistoryResults
 pub mod Releases

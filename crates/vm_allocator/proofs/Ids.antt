@@ -23,3 +23,4 @@ pub mod LowestIds
 pub mod FreeIds
 pub mod WithHeld
 pub mod IdsInTurn
+pub mod SameIdCalls

@@ -12,7 +12,7 @@ use Rattle.vm_engine.proofs.Results.Once.{allocates_once}
 
 -- ---- One result
 -- If few ranges are held, the height never makes a request fail.
-no_split_refusal : (old : AddressState) (answer : Result Range Error) → length old.held < SPLIT_LIMIT_MIN_HELD
+pub no_split_refusal : (old : AddressState) (answer : Result Range Error) → length old.held < SPLIT_LIMIT_MIN_HELD
     → answer ≢ Err OutOfMemory → IsSplitRefusal old answer → ⊥
 no_split_refusal old answer few plain (inl e) = plain e
 no_split_refusal old answer few plain (inr p) = omega (arith, few, p.0)

@@ -15,7 +15,7 @@ use Rattle.vm_allocator.specs.Moves.{MovesRange}
 use Rattle.vm_engine.specs.Laws.AddressLaws.{DifferBySplit, AgreeExceptSplits, AreDisjoint}
 use Rattle.vm_ranges.specs.Cloning.{Clones}
 use Rattle.vm_engine.specs.Comparison.{AreEqual}
-use Rattle.vm_allocator.specs.Histories.AddressHistories.{Call, Cloning, Asked, asked_by, RunsOutOfMemory, IsHistoryFrom, IsReached, Reached, WasAllocated, WasHeldFirst, releases}
+use Rattle.vm_allocator.specs.Histories.AddressHistories.{Call, Cloning, Asked, Allocate, AllocateAll, Free, MoveTo, Clone, asked_by, RunsOutOfMemory, IsHistoryFrom, IsReached, Reached, WasAllocated, WasHeldFirst, releases}
 use Rattle.vm_ranges.specs.declared.error.Error.{Error}
 use Rattle.vm_ranges.specs.declared.error.Error.TheVariants.{Overflow, ResourceNotAvailable, InvalidStateTransition, OutOfMemory}
 use Rattle.vm_ranges.specs.declared.state.NodeState.TheVariants.{Allocated}
@@ -158,6 +158,25 @@ pub record StateDecides : Type 0 where
   pub release : (first second : Reached) (new later : AddressState) (r : Range)
       (answer other : Result (Unit {0}) Error) → HaveSameState first.state second.state →
       Frees first.state r answer new → Frees second.state r other later → (answer ≡ other) × (new ≡ later)
+
+-- The maximum number of ranges that the calls can add.
+abbrev pub added_at_most : List Asked → ℕ
+added_at_most [] = 0
+added_at_most (Allocate request ∷ asked) = added_at_most asked + 1
+added_at_most (AllocateAll requests ∷ asked) = added_at_most asked + length requests
+added_at_most (Free r ∷ asked) = added_at_most asked
+added_at_most (MoveTo r t ∷ asked) = added_at_most asked + 1
+added_at_most (Clone ∷ asked) = added_at_most asked
+
+-- The same list of calls in the same state has the same results and the same last state, if no call returns OutOfMemory and
+-- so few ranges can be held that the height of the tree never makes a split fail.
+abbrev pub SameCallsSameResults : Type 0
+SameCallsSameResults =
+    (old new later : AddressState) (calls others : List Call) →
+    IsHistoryFrom old calls new → IsHistoryFrom old others later → map asked_by calls ≡ map asked_by others →
+    All (λ call. ¬ RunsOutOfMemory call) calls → All (λ call. ¬ RunsOutOfMemory call) others →
+    length old.held + added_at_most (map asked_by calls) ≤ SPLIT_LIMIT_MIN_HELD →
+    (calls ≡ others) × (new ≡ later)
 
 -- Freeing the range that was just allocated succeeds, and leaves the state before the allocation.
 abbrev pub FreeUndoes : Type 0

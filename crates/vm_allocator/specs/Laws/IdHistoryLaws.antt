@@ -60,6 +60,14 @@ EveryIdListHasHistory =
     (calls : List IdCall) × (new : IdState) × IsIdHistoryFrom old calls new × (map id_asked_by calls ≡ asked) ×
     All (λ call. ¬ RunsOutOfMemory call) calls
 
+-- The same list of calls in the same state has the same results and the same last state, if no call returns OutOfMemory.
+abbrev pub SameIdCallsSameResults : Type 0
+SameIdCallsSameResults =
+    (old new later : IdState) (calls others : List IdCall) →
+    IsIdHistoryFrom old calls new → IsIdHistoryFrom old others later → map id_asked_by calls ≡ map id_asked_by others →
+    All (λ call. ¬ RunsOutOfMemory call) calls → All (λ call. ¬ RunsOutOfMemory call) others →
+    (calls ≡ others) × (new ≡ later)
+
 -- A clone of a reached allocator is reached, and has the state of its original.
 abbrev pub IdCloneIsReached : Type 0
 IdCloneIsReached =

@@ -13,6 +13,7 @@ ghost use Rattle.vm_allocator.specs.Laws.HistoryLaws.{
   ErrorsChangeNothing,
   HeldAreValid,
   StateDecides,
+  SameCallsSameResults,
   FreeUndoes,
   FreesInAnyOrder,
   EveryCallIsAnswered,
@@ -54,6 +55,15 @@ fn held_are_valid()
 #[tactic(auto, using(crate::proofs::Histories::AlongHistories::decided))]
 fn state_decides()
     ensures { StateDecides }
+{}
+
+/// Proves that the same list of calls in the same state has the same results and leads to the same
+/// state, if memory suffices and at most 6,293,134,512 ranges are held and requested.
+///
+/// An allocator that `from_nodes` restores has the state of the saved one. So later calls have the
+/// same results for both.
+fn same_calls_have_same_results()
+    ensures { SameCallsSameResults }
 {}
 
 /// Proves that freed ranges leave no trace, in whatever order they are freed.

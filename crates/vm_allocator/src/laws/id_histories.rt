@@ -9,6 +9,7 @@ ghost use Rattle.vm_allocator.specs.Laws.IdHistoryLaws.{
   StatesAreOfIds,
   EveryIdCallIsAnswered,
   EveryIdListHasHistory,
+  SameIdCallsSameResults,
   IdCloneIsReached,
   IdReadIsReached,
 };
@@ -34,6 +35,12 @@ fn held_ids_are_allocated()
 fn every_id_call_is_answered()
     ensures call { EveryIdCallIsAnswered }
     ensures list { EveryIdListHasHistory }
+{}
+
+/// Proves that the same list of calls in the same state has the same results and leads to the same
+/// state, if memory suffices.
+fn same_id_calls_have_same_results()
+    ensures { SameIdCallsSameResults }
 {}
 
 /// Proves that a clone is reached by a history. So what is true for every history is true for

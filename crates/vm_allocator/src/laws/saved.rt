@@ -45,8 +45,8 @@ fn written_is_read()
 /// number of nodes.
 ///
 /// An allocator that `from_nodes` restores has the state of the saved one, in a tree of the minimum
-/// height. So its results are those of the saved one, except that a split can fail for the height of
-/// only one of the trees, and its counts can differ.
+/// height. So by the law `StateDecides` its results are those of the saved one, except that a split can
+/// fail for the height of only one of the trees. Its counts can differ.
 fn restored_are_saved()
     ensures address_allocators { RestoredIsSaved EncodesAllocator IsCountedHistoryFrom }
     ensures id_allocators { RestoredIsSaved EncodesIds IsIdHistoryFrom }

@@ -29,7 +29,7 @@ use Rattle.vm_engine.proofs.Walking.GapsInTrees.{clear_in_tree, clear_middle}
 use Rattle.vm_engine.proofs.Walking.HeldInTrees.{few_held}
 
 -- ---- A range added to a list
-length_with : (r : Range) (hs : List Range) → length (with_range r hs) ≡ length hs + 1
+pub length_with : (r : Range) (hs : List Range) → length (with_range r hs) ≡ length hs + 1
 length_with r [] = omega arith
 length_with r (h ∷ hs) =
     ⊎_elim
