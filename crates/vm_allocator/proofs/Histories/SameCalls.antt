@@ -6,19 +6,19 @@ use Rattle.vm_ranges.specs.Range.{Range}
 use Rattle.vm_ranges.specs.Request.{Request}
 use Rattle.vm_ranges.specs.declared.error.Error.{Error}
 use Rattle.vm_ranges.specs.declared.error.Error.TheVariants.{OutOfMemory}
-use Rattle.vm_ranges.proofs.CloneAnswers.{cloning_keeps}
+use Rattle.vm_ranges.proofs.Clones.{cloning_keeps}
 use Rattle.vm_engine.specs.Address.{AddressState, without_range}
 use Rattle.vm_engine.specs.Answer.{SPLIT_LIMIT_MIN_HELD, Allocates, Frees}
-use Rattle.vm_engine.proofs.Answers.AddressAnswers.{IsAllocation, outcome}
-use Rattle.vm_engine.proofs.Answers.Outcomes.{IsRefused}
-use Rattle.vm_engine.proofs.Answers.Once.{frees_once}
+use Rattle.vm_engine.proofs.Results.AddressResults.{IsAllocation, outcome}
+use Rattle.vm_engine.proofs.Results.Outcomes.{IsRefused}
+use Rattle.vm_engine.proofs.Results.Once.{frees_once}
 use Rattle.vm_engine.proofs.Nodes.CountedTrees.{length_with}
 use Rattle.vm_allocator.specs.Several.{AllocatesEach}
 use Rattle.vm_allocator.specs.Moves.{request_to}
 use Rattle.vm_allocator.specs.Histories.AddressHistories.{Call, Allocation, Several, Release, Move, Cloning, Asked, Allocate, AllocateAll, Free, MoveTo, Clone, asked_by, RunsOutOfMemory, IsCallFrom, IsHistoryFrom}
 use Rattle.vm_allocator.specs.Laws.HistoryLaws.{IsLimitOfAll, added_at_most, SameCallsSameResults}
 use Rattle.vm_allocator.proofs.Callers.{given}
-use Rattle.vm_allocator.proofs.Answers.BelowLimits.{no_split_refusal, placed_once}
+use Rattle.vm_allocator.proofs.Results.BelowLimits.{no_split_refusal, placed_once}
 use Rattle.vm_allocator.proofs.Histories.MoveSteps.{move_outcome, moves_once}
 use Rattle.vm_allocator.proofs.Histories.SeveralOnce.{all_once}
 

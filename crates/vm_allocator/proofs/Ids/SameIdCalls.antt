@@ -2,11 +2,11 @@
 use Rattle.std.proofs.Common.{◌≡◌, ℕ, List, [], ◌∷◌, map, refl, sym, ap, ◌∙◌, ⊎_elim, subst, Result}
 use Rattle.std.proofs.lemmas.List.Elements.{All-head, All-tail}
 use Rattle.vm_ranges.specs.declared.error.Error.{Error}
-use Rattle.vm_ranges.proofs.CloneAnswers.{cloning_keeps}
+use Rattle.vm_ranges.proofs.Clones.{cloning_keeps}
 use Rattle.vm_allocator.specs.Ids.{IdState}
 use Rattle.vm_allocator.specs.Histories.IdHistories.{IdCall, Allocation, ExactAllocation, WindowAllocation, SeveralAllocations, Release, Cloning, IdAsked, Allocate, AllocateExact, AllocateIn, AllocateSeveral, Free, Clone, id_asked_by, RunsOutOfMemory, IsIdCallFrom, IsIdHistoryFrom}
 use Rattle.vm_allocator.specs.Laws.IdHistoryLaws.{SameIdCallsSameResults}
-use Rattle.vm_allocator.proofs.Ids.IdAnswers.{allocating_is_determined, freeing_is_determined}
+use Rattle.vm_allocator.proofs.Ids.IdResults.{allocating_is_determined, freeing_is_determined}
 use Rattle.vm_allocator.proofs.Ids.IdsInTurn.{requests_are_determined}
 
 -- ---- A call is what was asked, with a result
