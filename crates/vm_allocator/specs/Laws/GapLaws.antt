@@ -18,8 +18,8 @@ LongestDecides =
     (request.policy ≡ FirstMatch) ⊎ (request.policy ≡ LastMatch) → Allocates old request answer new →
     (answer ≡ Err ResourceNotAvailable) ↔ (longest_in request.window (gaps_of old) < request.size)
 
--- A valid request for n addresses at alignment a does not return ResourceNotAvailable if a gap has n + a - 1 addresses, or
--- a part of a gap in its window. This is true for FirstMatch and LastMatch.
+-- A valid request for n addresses at alignment a does not return ResourceNotAvailable if a gap has n + a - 1 addresses. If
+-- the request has a window, a part of a gap in the window must have them. This is true for FirstMatch and LastMatch.
 abbrev pub LongGapSuffices : Type 0
 LongGapSuffices =
     (old new : AddressState) (request : Request) (answer : Result Range Error) →

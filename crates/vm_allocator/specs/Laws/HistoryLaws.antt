@@ -141,7 +141,7 @@ AllAgreeExceptSplits old requests answer new other later =
     ((answer ≡ other) × (new ≡ later)) ⊎ (IsLimitOfAll old requests answer ⊎ IsLimitOfAll old requests other)
 
 -- The result of a call and the state after it depend only on the space and the held ranges, except whether a split
--- fails. Several requests can also fail because there is no memory for the list of their ranges.
+-- fails. Several requests can also fail because memory runs out for the list of their ranges.
 pub record StateDecides : Type 0 where
   pub allocation : (first second : Reached) (new later : AddressState) (request : Request)
       (answer other : Result Range Error) → HaveSameState first.state second.state →
@@ -168,8 +168,8 @@ added_at_most (Free r ∷ asked) = added_at_most asked
 added_at_most (MoveTo r t ∷ asked) = added_at_most asked + 1
 added_at_most (Clone ∷ asked) = added_at_most asked
 
--- The same list of calls in the same state has the same results and the same last state, if no call returns OutOfMemory and
--- so few ranges can be held that the height of the tree never makes a split fail.
+-- The same list of calls in the same state has the same results and the same last state, if no call returns OutOfMemory. So
+-- few ranges can be held that no split fails for the height of the tree.
 abbrev pub SameCallsSameResults : Type 0
 SameCallsSameResults =
     (old new later : AddressState) (calls others : List Call) →

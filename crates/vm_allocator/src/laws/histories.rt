@@ -58,7 +58,7 @@ fn state_decides()
 {}
 
 /// Proves that the same list of calls in the same state has the same results and leads to the same
-/// state, if memory suffices and at most 6,293,134,512 ranges are held and requested.
+/// state. No call may run out of memory, and at most 6,293,134,512 ranges may be held and requested.
 ///
 /// An allocator that `from_nodes` restores has the state of the saved one. So later calls have the
 /// same results for both.

@@ -92,8 +92,8 @@ grown_both h m n x y z p q u =
     let whole : h * (x + y) ≤ h * z = mul-le-mul (omega arith) u in
     omega arith
 
--- ---- A search that enters one child of a node before the other, and the other only if neither the first nor the root has
--- a block that passes the test
+-- ---- A search that enters one child of a node first
+-- It enters the other child only if neither the first one nor the root has a block that passes the test.
 pub record EntersLeftFirst (f : Shape → ℕ) (g : Block → Bool) : Type 0 where
   pub most : (s : Shape) → f s ≤ node_count s
   pub found : (l : Shape) (b : Block) (r : Shape) → (list_any g (blocks l) || g b) ≡ true → f (Fork l b r) ≤ f l + 1

@@ -1,5 +1,5 @@
--- A search within a window enters the paths to the ends of the window, the subtrees with a part of a gap that has no
--- place, and the path to the place that it finds.
+-- A search within a window enters the paths to the ends of the window and to the place that it finds. It also enters subtrees
+-- with a part of a gap that has no place.
 use Rattle.std.specs.Prelude.{◌||◌}
 use Rattle.std.proofs.Common.{◌≡◌, ℕ, ◌+◌, ◌-◌, ◌*◌, ◌<◌, ◌≤◌, Bool, true, false, cond, ltb, List, [], ◌∷◌, ◌++◌, length, refl, sym, ap, ◌∙◌, arith, ⊎_elim}
 use Rattle.std.specs.List.{list_any, filter}

@@ -34,7 +34,7 @@ place_by (ExactMatch u) w n a s state p = p.1
 pub place_in_window : (request : Request) (s : ℕ) (state : AddressState) → IsChosen request state s → IsPlace request.size request.align (within request.window state) s
 place_in_window request s state = place_by request.policy request.window request.size request.align s state
 
--- What is clear in the window is clear, and a place in the window is a place.
+-- An address that is clear in the window is clear, and a place in the window is a place.
 pub clear_anywhere : (w : Option Range) (state : AddressState) (x : ℕ) → IsClear (within w state) x → IsClear state x
 clear_anywhere None state x c = c
 clear_anywhere (Some w) state x c = ((omega (arith, c.0.0), omega (arith, c.0.1)), c.1)

@@ -1,4 +1,4 @@
--- What a span says about the subtree that it stands for.
+-- The meaning of a span for the subtree that it stands for.
 use Rattle.std.proofs.Common.{◌≡◌, ℕ, true, List, [], ◌∷◌, ◌++◌, length, Option, Some, None}
 use Rattle.vm_engine.specs.Tree.Block.{Block}
 use Rattle.vm_engine.specs.Tree.Blocks.{Tiles}

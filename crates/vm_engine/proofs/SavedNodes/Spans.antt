@@ -19,7 +19,7 @@ use Rattle.vm_engine.proofs.Nodes.MinNodes.{power_grows, most_nodes, node_count-
 use Rattle.vm_engine.proofs.SavedNodes.KeyLists.{keys_within, keys_from, keys_join, keys_left, keys_right, keys_next, tiles_join, tiles_cut, held_node, below_both, below_left, below_right, held_few}
 use Rattle.vm_engine.proofs.SavedNodes.Meanings.{HasEnds, IsExact, Means, MeansAll}
 
--- ---- What the span says about a child that can be absent
+-- ---- The span of a child that can be absent
 
 pub height_is : (o : Option Span) (t : Saved) → MeansAll o t → height_of (shape_of t) ≡ nesting_of o
 height_is None t m = rw m refl
@@ -334,7 +334,7 @@ right_readable l r b h x =
       below = below_right (range_if_held b.state b.key) (held_keys r) (below_right (held_keys l) (range_if_held b.state b.key ++ held_keys r) (subst AreBelowMax (held_node (saved_blocks l) b (saved_blocks r)) x.below));
     }
 
--- A span means what it says.
+-- The span of a subtree is true for it.
 pub sound : (t : Saved) (o : Option Span) → HasRanges t → span_of t ≡ Some o → MeansAll o t
 sound Absent o v e = subst (λ (x : Option Span). MeansAll x Absent) (same_Some None o e) refl
 sound (Node l b r h) o v e =

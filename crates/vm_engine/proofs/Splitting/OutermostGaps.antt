@@ -44,7 +44,7 @@ most_replaced f m k ys (b ∷ bs) e p h =
       | false ↦ λ p h. omega (arith, most_replaced f m k ys bs e (omega (arith, p)) h, p)
     ] p h
 
--- Every other block of the tree is no longer than the rest of the gap and has no more alignments, so after the split the
+-- Every other block of the tree is no longer than the rest of the gap and has no more alignments. So after the split the
 -- tree keeps just the free summary of the rest.
 pub keeps_rest : (s n : Shape) (split : Split) (free : Summary) → IsOnlySplit s split free → blocks n ≡ with_split split.place.key split.place.range split.rest (blocks s)
     → (max_free_of n ≡ free.max_free) × (alignments_of n ≡ free.alignments)

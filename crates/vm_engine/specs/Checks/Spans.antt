@@ -1,5 +1,5 @@
--- The span of a subtree that was read, which is all that is kept of it besides its held keys. The lemmas of
--- proofs/SavedNodes show which subtrees have a span.
+-- The span of a subtree that was read. Only this and the held keys are kept of it. The lemmas of proofs/SavedNodes show which
+-- subtrees have a span.
 use Rattle.std.specs.Prelude.{◌≡◌, ℕ, ◌+◌, min, max, Bool, true, false, not, ◌&&◌, ◌||◌, ◌==◌, nat_lt, nat_le, ◌^◌, ◌-◌, if◌then◌else◌, Option, Some, None, option_and_then, List, [], ◌∷◌, ◌++◌, length, ◌<◌, ◌⊎◌, Result, OnOk}
 use Rattle.vm_ranges.specs.Saving.{ReadsParts}
 use Rattle.vm_ranges.specs.declared.saved.SavedError.{SavedError}

@@ -39,8 +39,8 @@ pub record IsWithoutKey (k : Range) (s : Shape) : Type 0 where
 abbrev pub RemovalIsExact : Type 0
 RemovalIsExact = (k : Range) (s : Shape) → IsTree s → IsWithoutKey k s
 
--- The removal of one block and the path to another one afterwards enter at most h nodes more than the path to that other
--- block before, in a tree of height h.
+-- In a tree of height h, the removal of one block and the path to another one afterwards enter few nodes: at most h more
+-- than the path to that other block before.
 abbrev pub PathsSinkLittle : Type 0
 PathsSinkLittle =
     (k key : Range) (s : Shape) → IsTree s → IsSome (find_key key (blocks (without_key k s))) →

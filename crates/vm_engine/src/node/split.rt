@@ -68,7 +68,8 @@ pub(crate) struct Split {
 fn split_here(at: &mut Child, split: &mut Split, count: &mut Steps) -> Change
     requires some { IsSome at.old }
     requires leaves { AreLeaves split.old.rest }
-    requires can_be_split { CanSplit (blocks (side at.old)) (root_block (side at.old)).key split.old.place.range split.old.rest }
+    requires can_be_split { CanSplit (blocks (side at.old)) (root_block (side at.old)).key
+        split.old.place.range split.old.rest }
     requires height { height_of (side at.old) < MAX_HEIGHT }
     requires count_fits { count.old + 2 * height_of (side at.old) ≤ MAX }
     ensures blocks { blocks (side at.new)

@@ -81,8 +81,8 @@ fn refused_without_memory(rt: HostRuntime) {
     expect_true(&rt, is_true, &"two are held");
 }
 
-/// A space by its base and its size, its allocated ranges, the number of its blocks, which are the
-/// ranges and the gaps, and the height of its tree, which is the minimum.
+/// A space by its base and its size, its allocated ranges, the number of its blocks, and the height of
+/// its tree. The blocks are the ranges and the gaps, and the height is the minimum.
 type Created<'a> = (u64, u64, &'a [(u64, u64)], usize, u64);
 
 const CREATED: [Created<'static>; 15] = [

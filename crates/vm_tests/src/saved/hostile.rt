@@ -34,7 +34,7 @@ fn no_whole_numbers(rt: HostRuntime) {
     reject_each(&rt, Reader::State, &parsed(&rt, NO_STATES));
 }
 
-/// Reads a text with a doubled field. The parser of the text decides which of the two the value
+/// Reads a text with a duplicate field. The parser of the text decides which of the two the value
 /// has.
 #[test]
 fn doubled_fields(rt: HostRuntime) {

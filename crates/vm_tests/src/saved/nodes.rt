@@ -13,7 +13,7 @@ const MAX: u64 = u64::MAX;
 /// A node: the ends of its key, its state, the places of its children in the row, and its height.
 type Node = ((u64, u64), NodeState, (Option<usize>, Option<usize>), u64);
 
-/// What the nodes of a row lead to, in the space from 1 to `u64::MAX`.
+/// The result of the nodes of a row, in the space from 1 to `u64::MAX`.
 #[derive(Clone, Copy, Debug)]
 enum Outcome {
     /// The last node is not accepted.
