@@ -516,6 +516,12 @@ impl AddressAllocator {
         self.0.end()
     }
 
+    /// Returns an iterator over the allocated ranges, like [`held_ranges`](Self::held_ranges).
+    #[must_use]
+    pub fn iter(&self) -> HeldRanges<'_> {
+        self.held_ranges()
+    }
+
     /// Returns an iterator over the allocated ranges in ascending order. It does not allocate.
     #[must_use]
     pub fn held_ranges(&self) -> HeldRanges<'_> {

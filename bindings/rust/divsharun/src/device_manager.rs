@@ -256,6 +256,12 @@ impl DeviceManager {
         or_try_error(self.0.release(id))
     }
 
+    /// Returns an iterator over the devices, like [`devices`](Self::devices).
+    #[must_use]
+    pub fn iter(&self) -> Devices<'_> {
+        self.devices()
+    }
+
     /// Returns an iterator over the devices in ascending order of ids. It does not allocate.
     #[must_use]
     pub fn devices(&self) -> Devices<'_> {

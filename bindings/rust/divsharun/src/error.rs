@@ -126,6 +126,7 @@ pub type Result<T> = core::result::Result<T, Error>;
 /// let mut space = AddressAllocator::try_new(0x1000, 0x1000)?;
 /// assert_eq!(window(&mut space)?, 0x1000);
 /// assert_eq!(window(&mut space), Err(TryError::Refused(Error::ResourceNotAvailable)));
+/// assert_eq!(TryError::OutOfMemory.error(), None);
 /// # Ok::<(), TryError>(())
 /// ```
 #[derive(Copy, Clone, PartialEq, Eq, PartialOrd, Ord, Hash, Debug)]
@@ -138,6 +139,17 @@ pub enum TryError {
     OutOfMemory,
 }
 
+impl TryError {
+    /// Returns the error that the call without `try_` would return, or `None` if memory ran out.
+    #[must_use]
+    pub const fn error(&self) -> Option<Error> {
+        match self {
+            TryError::Refused(error) => Some(*error),
+            TryError::OutOfMemory => None,
+        }
+    }
+}
+
 impl fmt::Display for TryError {
     fn fmt(&self, f: &mut fmt::Formatter<'_>) -> fmt::Result {
         match self {
@@ -147,7 +159,15 @@ impl fmt::Display for TryError {
     }
 }
 
-impl core::error::Error for TryError {}
+impl core::error::Error for TryError {
+    /// Returns the error that the call without `try_` would return, or `None` if memory ran out.
+    fn source(&self) -> Option<&(dyn core::error::Error + 'static)> {
+        match self {
+            TryError::Refused(error) => Some(error),
+            TryError::OutOfMemory => None,
+        }
+    }
+}
 
 impl From<Error> for TryError {
     fn from(error: Error) -> TryError {

@@ -154,7 +154,7 @@ impl fmt::Display for Block<'_> {
 /// assert_eq!(gaps.map(|gap| gap.range.len()).max(), Some(0x800));
 /// # Ok::<(), divsharun::Error>(())
 /// ```
-#[derive(Debug)]
+#[derive(Clone, Debug)]
 pub struct Blocks<'a> {
     // The start of the next block, or `None` after the last one.
     next: Option<u64>,

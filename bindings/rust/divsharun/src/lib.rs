@@ -52,7 +52,7 @@
 //!   [`allocate_all`](AddressAllocator::allocate_all),
 //!   [`allocate_constraint`](AddressAllocator::allocate_constraint),
 //!   [`move_range`](AddressAllocator::move_range),
-//!   [`held_ranges`](AddressAllocator::held_ranges),
+//!   [`held_ranges`](AddressAllocator::held_ranges), [`iter`](AddressAllocator::iter),
 //!   [`held_ranges_in`](AddressAllocator::held_ranges_in), [`holds`](AddressAllocator::holds),
 //!   [`held_at`](AddressAllocator::held_at), [`held_count`](AddressAllocator::held_count),
 //!   [`gaps`](AddressAllocator::gaps), [`gaps_in`](AddressAllocator::gaps_in),
@@ -181,6 +181,8 @@
 //! # fn main() {}
 //! ```
 #![cfg_attr(not(test), no_std)]
+// The documentation on docs.rs shows which feature an item needs.
+#![cfg_attr(docsrs, feature(doc_cfg))]
 #![forbid(unsafe_code)]
 #![deny(missing_docs)]
 #![warn(clippy::must_use_candidate)]

@@ -89,6 +89,7 @@ fn answers_are_those_of_a_plain_model() {
     let gaps: Vec<_> = space.gaps().collect();
     for _ in 0..100 {
         assert_eq!(from_both_ends(space.held_ranges(), &mut draw), held);
+        assert_eq!(from_both_ends(space.iter(), &mut draw), held);
         assert_eq!(from_both_ends(space.gaps(), &mut draw), gaps);
     }
     expect_queries(&space, &held, &gaps, &mut draw);
@@ -400,7 +401,9 @@ fn a_layout_has_every_address_once() {
         next = block.range.end().checked_add(1);
     }
     assert_eq!(next, None);
-    assert_eq!(layout.blocks().count(), 4);
+    let mut blocks = layout.blocks();
+    blocks.next();
+    assert_eq!((blocks.clone().count(), layout.blocks().count()), (3, 4));
 }
 
 /// Checks the names and values of fields. An allocator shows its allocated ranges and not its tree.
@@ -522,6 +525,19 @@ fn ranges_convert_and_are_written_in_hexadecimal() {
     let mut spent = 7..=7;
     spent.next();
     assert_eq!(RangeInclusive::try_from(spent), refused(7, 7));
+}
+
+/// Checks that an error of a `try_` call gives the error that is its cause.
+#[test]
+fn causes_of_errors() {
+    use std::error::Error as _;
+
+    let error = TryError::Refused(Error::Overflow);
+    assert_eq!(error.error(), Some(Error::Overflow));
+    let source = error.source().and_then(|source| source.downcast_ref());
+    assert_eq!(source, Some(&Error::Overflow));
+    assert_eq!(TryError::OutOfMemory.error(), None);
+    assert!(TryError::OutOfMemory.source().is_none());
 }
 
 /// Checks that a width applies to a whole text.
@@ -765,6 +781,7 @@ fn objects_are_equal_by_what_they_hold() {
     assert_eq!(first, first.clone());
     assert_ne!(first, devices(AllocPolicy::LastMatch));
     let listed: Vec<DeviceSlot> = (&first).into_iter().collect();
+    assert!(first.iter().eq(listed.iter().copied()));
     assert_eq!(
         (listed.len() as u64, listed[1].id),
         (first.device_count(), 2)
