@@ -1,9 +1,51 @@
-//! Makes the boxes of `rattle` count how often they are followed, if there is `std`.
+//! Copies the folder `rattle` of divsharun, with boxes that count how often they are followed.
+use std::path::Path;
+use std::{env, fs};
+
+/// The places in boxed.rs that follow a box, and the same with a count.
+const FOLLOWED: [(&str, &str); 3] = [
+    ("&self.0[0]\n", "{ follow(); &self.0[0] }\n"),
+    ("&mut self.0[0]\n", "{ follow(); &mut self.0[0] }\n"),
+    ("let [value] = ", "follow(); let [value] = "),
+];
+
+const COUNTER: &str = "
+std::thread_local! {
+    static FOLLOWED: core::cell::Cell<u64> = const { core::cell::Cell::new(0) };
+}
+
+fn follow() {
+    FOLLOWED.with(|count| count.set(count.get() + 1));
+}
+
+/// Returns the number of boxes that the thread has followed.
+pub fn boxes_followed() -> u64 {
+    FOLLOWED.with(core::cell::Cell::get)
+}
+";
 
 fn main() {
-    println!("cargo::rustc-check-cfg=cfg(count_boxes)");
-    if std::env::var_os("CARGO_FEATURE_STD").is_some() {
-        println!("cargo::rustc-cfg=count_boxes");
+    let from = Path::new("../divsharun/src/rattle");
+    let to = Path::new(&env::var_os("OUT_DIR").unwrap()).join("rattle");
+    fs::create_dir_all(&to).unwrap();
+    for file in fs::read_dir(from).unwrap() {
+        let name = file.unwrap().file_name();
+        let mut text = fs::read_to_string(from.join(&name)).unwrap();
+        if name == "boxed.rs" {
+            for (place, counted) in FOLLOWED {
+                assert_eq!(text.matches(place).count(), 1, "{place}");
+                text = text.replace(place, counted);
+            }
+            text += COUNTER;
+        } else if name == "mod.rs" {
+            text += "\npub use boxed::boxes_followed;\n";
+        }
+        fs::write(to.join(&name), text).unwrap();
     }
-    println!("cargo::rerun-if-changed=build.rs");
+    let module = format!(
+        "#[allow(clippy::len_without_is_empty)]\n#[path = {:?}]\npub mod rattle;\n",
+        to.join("mod.rs")
+    );
+    fs::write(to.with_extension("rs"), module).unwrap();
+    println!("cargo::rerun-if-changed={}", from.display());
 }

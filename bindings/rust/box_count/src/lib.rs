@@ -9,9 +9,8 @@ extern crate std;
 #[allow(clippy::all)]
 #[rustfmt::skip]
 pub mod proved;
-#[allow(clippy::len_without_is_empty)]
-#[path = "../../divsharun/src/rattle/mod.rs"]
-pub mod rattle;
+// The module `rattle` of divsharun, with boxes that count. The build script writes it.
+include!(concat!(env!("OUT_DIR"), "/rattle.rs"));
 #[cfg(test)]
 mod rattle_tests;
 pub mod testing;

@@ -25,7 +25,6 @@ impl<T> Box<T> {
     /// Returns the value in the box.
     #[must_use]
     pub fn into_inner(boxed: Self) -> T {
-        follow();
         let [value] = *boxed.0;
         value
     }
@@ -36,7 +35,6 @@ impl<T> Deref for Box<T> {
 
     #[inline(always)]
     fn deref(&self) -> &T {
-        follow();
         &self.0[0]
     }
 }
@@ -44,7 +42,6 @@ impl<T> Deref for Box<T> {
 impl<T> DerefMut for Box<T> {
     #[inline(always)]
     fn deref_mut(&mut self) -> &mut T {
-        follow();
         &mut self.0[0]
     }
 }
@@ -53,25 +50,4 @@ impl<T: fmt::Debug> fmt::Debug for Box<T> {
     fn fmt(&self, f: &mut fmt::Formatter<'_>) -> fmt::Result {
         self.0[0].fmt(f)
     }
-}
-
-#[cfg(not(count_boxes))]
-#[inline(always)]
-fn follow() {}
-
-#[cfg(count_boxes)]
-fn follow() {
-    FOLLOWED.with(|count| count.set(count.get() + 1));
-}
-
-#[cfg(count_boxes)]
-std::thread_local! {
-    static FOLLOWED: core::cell::Cell<u64> = const { core::cell::Cell::new(0) };
-}
-
-/// Returns the number of boxes that the thread has followed. Each step from a box to its value
-/// counts.
-#[cfg(count_boxes)]
-pub fn boxes_followed() -> u64 {
-    FOLLOWED.with(core::cell::Cell::get)
 }

@@ -11,8 +11,6 @@ mod collections;
 pub mod simd;
 mod vec;
 
-#[cfg(count_boxes)]
-pub use boxed::boxes_followed;
 pub use boxed::Box;
 pub use collections::{btree_set, BTreeMap, BTreeSet};
 pub use vec::Vec;
