@@ -1,6 +1,5 @@
 //! Copies the folder `rattle` of divsharun, with boxes that count how often they are followed.
-use std::path::Path;
-use std::{env, fs};
+use std::{env, fs, path::Path};
 
 /// The places in boxed.rs that follow a box, and the same with a count.
 const FOLLOWED: [(&str, &str); 3] = [
