@@ -49,6 +49,18 @@ impl AddressAllocator {
     /// In this order:
     /// - `Underflow` if `size` is 0.
     /// - `Overflow` if the last address would be past `u64::MAX`.
+    ///
+    /// # Example
+    ///
+    /// ```rust
+    /// use divsharun::{AddressAllocator, Error};
+    ///
+    /// // The ports of x86.
+    /// let ports = AddressAllocator::new(0, 0x1_0000)?;
+    /// assert_eq!((ports.base(), ports.end()), (0, 0xffff));
+    /// assert_eq!(AddressAllocator::new(u64::MAX, 2), Err(Error::Overflow));
+    /// # Ok::<(), Error>(())
+    /// ```
     pub fn new(base: u64, size: u64) -> Result<Self> {
         or_abort(proved::AddressAllocator::new(Global, base, size)).map(AddressAllocator)
     }
@@ -61,6 +73,20 @@ impl AddressAllocator {
     /// - `Refused(Underflow)` if `size` is 0.
     /// - `Refused(Overflow)` if the last address would be past `u64::MAX`.
     /// - `OutOfMemory` if memory for the node runs out.
+    ///
+    /// # Example
+    ///
+    /// ```rust
+    /// use divsharun::{AddressAllocator, Error, TryError};
+    ///
+    /// let mmio = AddressAllocator::try_new(0xe000_0000, 0x1000_0000)?;
+    /// assert_eq!(mmio.free_len(), 0x1000_0000);
+    /// assert_eq!(
+    ///     AddressAllocator::try_new(0xe000_0000, 0),
+    ///     Err(TryError::Refused(Error::Underflow))
+    /// );
+    /// # Ok::<(), TryError>(())
+    /// ```
     pub fn try_new(base: u64, size: u64) -> core::result::Result<Self, TryError> {
         or_try_error(proved::AddressAllocator::new(Global, base, size)).map(AddressAllocator)
     }
@@ -169,6 +195,21 @@ impl AddressAllocator {
     /// - `Overflow` if the chosen range ends at `u64::MAX`, even if another range is free.
     /// - `Overflow` if the range fills only a part of its gap and the height of the tree is 48 or
     ///   more. This takes more than 6 * 10^9 ranges.
+    ///
+    /// # Example
+    ///
+    /// ```rust
+    /// use divsharun::{AddressAllocator, AllocPolicy, Error};
+    ///
+    /// let mut mmio = AddressAllocator::new(0xc000_0000, 0x3ec0_0000)?;
+    /// let registers = mmio.allocate(0x1000, 0x1000, AllocPolicy::FirstMatch)?;
+    /// let frames = mmio.allocate(0x100_0000, 0x100_0000, AllocPolicy::FirstMatch)?;
+    /// assert_eq!((registers.start(), frames.start()), (0xc000_0000, 0xc100_0000));
+    ///
+    /// let exact = AllocPolicy::ExactMatch(frames.start());
+    /// assert_eq!(mmio.allocate(0x1000, 0x1000, exact), Err(Error::ResourceNotAvailable));
+    /// # Ok::<(), Error>(())
+    /// ```
     pub fn allocate(
         &mut self,
         size: u64,
@@ -188,6 +229,21 @@ impl AddressAllocator {
     ///   `ResourceNotAvailable` or `InvalidStateTransition`, if `allocate` returns that error.
     /// - `OutOfMemory` if memory for a node runs out. A range that fills its gap does not
     ///   allocate.
+    ///
+    /// # Example
+    ///
+    /// ```rust
+    /// use divsharun::{AddressAllocator, AllocPolicy, Error, TryError};
+    ///
+    /// let mut ports = AddressAllocator::try_new(0xc000, 0x4000)?;
+    /// let bar = ports.try_allocate(0x20, 0x20, AllocPolicy::FirstMatch)?;
+    /// assert_eq!(bar.to_string(), "c000-c01f");
+    /// assert_eq!(
+    ///     ports.try_allocate(0x20, 0x18, AllocPolicy::FirstMatch),
+    ///     Err(TryError::Refused(Error::InvalidAlignment))
+    /// );
+    /// # Ok::<(), TryError>(())
+    /// ```
     pub fn try_allocate(
         &mut self,
         size: u64,
@@ -322,11 +378,15 @@ impl AddressAllocator {
     /// # Example
     ///
     /// ```rust
-    /// use divsharun::{AddressAllocator, AllocPolicy, TryError};
+    /// use divsharun::{AddressAllocator, AllocPolicy, Error, TryError};
     ///
     /// let mut ports = AddressAllocator::try_new(0xc000, 0x1000)?;
     /// let bar = ports.try_allocate(0x100, 0x100, AllocPolicy::FirstMatch)?;
     /// assert_eq!(ports.try_move_range(&bar, 0xc800)?.end(), 0xc8ff);
+    /// assert_eq!(
+    ///     ports.try_move_range(&bar, 0xc900),
+    ///     Err(TryError::Refused(Error::ResourceNotAvailable))
+    /// );
     /// # Ok::<(), TryError>(())
     /// ```
     pub fn try_move_range(
@@ -430,6 +490,22 @@ impl AddressAllocator {
     ///
     /// Those of [`allocate`](Self::allocate), in the same order: `InvalidSize`, `InvalidAlignment`,
     /// `UnalignedAddress`, `Overflow`, `ResourceNotAvailable` and `InvalidStateTransition`.
+    ///
+    /// # Example
+    ///
+    /// ```rust
+    /// use divsharun::{AddressAllocator, AllocPolicy};
+    ///
+    /// let mut mmio = AddressAllocator::new(0xd000_0000, 0x1000_0000)?;
+    /// for _ in 0..100 {
+    ///     mmio.allocate(0x1000, 0x1000, AllocPolicy::FirstMatch)?;
+    /// }
+    /// let (height, exact) = (mmio.height(), AllocPolicy::ExactMatch(0xd800_0000));
+    /// let (range, entered) = mmio.allocate_counted(0x1000, 0x1000, exact);
+    /// assert_eq!(range?.start(), 0xd800_0000);
+    /// assert!(entered <= 2 * height);
+    /// # Ok::<(), divsharun::Error>(())
+    /// ```
     pub fn allocate_counted(
         &mut self,
         size: u64,
@@ -488,6 +564,21 @@ impl AddressAllocator {
     ///   range cannot be freed.
     ///
     /// An error changes nothing.
+    ///
+    /// # Example
+    ///
+    /// ```rust
+    /// use divsharun::{AddressAllocator, AllocPolicy, Error, RangeInclusive};
+    ///
+    /// let mut mmio = AddressAllocator::new(0xd000_0000, 0x1000_0000)?;
+    /// let bar = mmio.allocate(0x4000, 0x4000, AllocPolicy::FirstMatch)?;
+    /// let page = RangeInclusive::from_start_len(bar.start(), 0x1000)?;
+    /// assert_eq!(mmio.free(&page), Err(Error::ResourceNotAvailable));
+    ///
+    /// mmio.free(&bar)?;
+    /// assert_eq!(mmio.held_at(bar.start()), None);
+    /// # Ok::<(), Error>(())
+    /// ```
     pub fn free(&mut self, key: &RangeInclusive) -> Result<()> {
         or_abort(self.0.free(&key.0))
     }
@@ -499,30 +590,94 @@ impl AddressAllocator {
     /// # Errors
     ///
     /// - `ResourceNotAvailable` if exactly this range is not allocated.
+    ///
+    /// # Example
+    ///
+    /// ```rust
+    /// use divsharun::{AddressAllocator, AllocPolicy};
+    ///
+    /// // Memory that is plugged in above 4 GiB.
+    /// let mut memory = AddressAllocator::new(0x1_0000_0000, 0x4000_0000)?;
+    /// let module = memory.allocate(0x800_0000, 0x800_0000, AllocPolicy::LastMatch)?;
+    /// let height = memory.height();
+    /// let (freed, entered) = memory.free_counted(&module);
+    /// assert_eq!((freed, memory.held_count()), (Ok(()), 0));
+    /// assert!(entered <= 4 * height);
+    /// # Ok::<(), divsharun::Error>(())
+    /// ```
     pub fn free_counted(&mut self, key: &RangeInclusive) -> (Result<()>, u64) {
         let (answer, count) = self.0.free_counted(&key.0);
         (or_abort(answer), count)
     }
 
     /// Returns the first address of the space.
+    ///
+    /// # Example
+    ///
+    /// ```rust
+    /// use divsharun::AddressAllocator;
+    ///
+    /// // The ports behind a PCI bridge.
+    /// let ports = AddressAllocator::new(0xc000, 0x1000)?;
+    /// assert_eq!(ports.base(), 0xc000);
+    /// # Ok::<(), divsharun::Error>(())
+    /// ```
     #[must_use]
     pub fn base(&self) -> u64 {
         self.0.base()
     }
 
     /// Returns the last address of the space.
+    ///
+    /// # Example
+    ///
+    /// ```rust
+    /// use divsharun::AddressAllocator;
+    ///
+    /// // The window ends right below the I/O APIC.
+    /// let mmio = AddressAllocator::new(0xe000_0000, 0x1ec0_0000)?;
+    /// assert_eq!(mmio.end() + 1, 0xfec0_0000);
+    /// # Ok::<(), divsharun::Error>(())
+    /// ```
     #[must_use]
     pub fn end(&self) -> u64 {
         self.0.end()
     }
 
     /// Returns an iterator over the allocated ranges, like [`held_ranges`](Self::held_ranges).
+    ///
+    /// # Example
+    ///
+    /// ```rust
+    /// use divsharun::{AddressAllocator, AllocPolicy};
+    ///
+    /// // A serial port and a clock.
+    /// let mut ports = AddressAllocator::new(0, 0x1_0000)?;
+    /// ports.allocate(8, 8, AllocPolicy::ExactMatch(0x3f8))?;
+    /// ports.allocate(2, 1, AllocPolicy::ExactMatch(0x70))?;
+    /// let lengths: Vec<_> = ports.iter().map(|range| range.len()).collect();
+    /// assert_eq!(lengths, [2, 8]);
+    /// # Ok::<(), divsharun::Error>(())
+    /// ```
     #[must_use]
     pub fn iter(&self) -> HeldRanges<'_> {
         self.held_ranges()
     }
 
     /// Returns an iterator over the allocated ranges in ascending order. It does not allocate.
+    ///
+    /// # Example
+    ///
+    /// ```rust
+    /// use divsharun::{AddressAllocator, AllocPolicy};
+    ///
+    /// let mut mmio = AddressAllocator::new(0xa00_0000, 0x4000)?;
+    /// let high = mmio.allocate(0x200, 0x200, AllocPolicy::ExactMatch(0xa00_3e00))?;
+    /// let low = mmio.allocate(0x200, 0x200, AllocPolicy::FirstMatch)?;
+    /// let mut ranges = mmio.held_ranges();
+    /// assert_eq!((ranges.next(), ranges.next(), ranges.next()), (Some(low), Some(high), None));
+    /// # Ok::<(), divsharun::Error>(())
+    /// ```
     #[must_use]
     pub fn held_ranges(&self) -> HeldRanges<'_> {
         HeldRanges(self.0.held_ranges())
@@ -558,6 +713,18 @@ impl AddressAllocator {
     /// Returns whether exactly this range is allocated. A part of an allocated range is not.
     ///
     /// It walks one path of the tree and does not allocate.
+    ///
+    /// # Example
+    ///
+    /// ```rust
+    /// use divsharun::{AddressAllocator, AllocPolicy, RangeInclusive};
+    ///
+    /// let mut ports = AddressAllocator::new(0, 0x1_0000)?;
+    /// let serial = ports.allocate(8, 8, AllocPolicy::ExactMatch(0x2f8))?;
+    /// assert!(ports.holds(&serial));
+    /// assert!(!ports.holds(&RangeInclusive::new(0x2f8, 0x2fb)?));
+    /// # Ok::<(), divsharun::Error>(())
+    /// ```
     #[must_use]
     pub fn holds(&self, key: &RangeInclusive) -> bool {
         self.0.holds(&key.0)
@@ -655,6 +822,22 @@ impl AddressAllocator {
     ///
     /// A request of alignment 1 that names no start fits if and only if its size is at most this
     /// length.
+    ///
+    /// # Example
+    ///
+    /// ```rust
+    /// use divsharun::{AddressAllocator, AllocPolicy, Error};
+    ///
+    /// let mut mmio = AddressAllocator::new(0xd000_0000, 0x1000_0000)?;
+    /// mmio.allocate(0x1000, 0x1000, AllocPolicy::ExactMatch(0xd400_0000))?;
+    /// let longest = mmio.longest_gap();
+    /// assert_eq!(longest, 0xbff_f000);
+    ///
+    /// let request = mmio.allocate(longest + 1, 1, AllocPolicy::FirstMatch);
+    /// assert_eq!(request, Err(Error::ResourceNotAvailable));
+    /// assert_eq!(mmio.allocate(longest, 1, AllocPolicy::FirstMatch)?.start(), 0xd400_1000);
+    /// # Ok::<(), Error>(())
+    /// ```
     #[must_use]
     pub fn longest_gap(&self) -> u64 {
         self.0.longest_gap()
@@ -663,6 +846,19 @@ impl AddressAllocator {
     /// Returns the number of free addresses.
     ///
     /// It takes constant time and does not allocate.
+    ///
+    /// # Example
+    ///
+    /// ```rust
+    /// use divsharun::{AddressAllocator, AllocPolicy};
+    ///
+    /// let mut mmio = AddressAllocator::new(0xfeb0_0000, 0x10_0000)?;
+    /// for size in [0x1000, 0x8000] {
+    ///     mmio.allocate(size, size, AllocPolicy::FirstMatch)?;
+    /// }
+    /// assert_eq!(mmio.free_len(), 0xf_7000);
+    /// # Ok::<(), divsharun::Error>(())
+    /// ```
     #[must_use]
     pub fn free_len(&self) -> u64 {
         self.0.clear_count()
@@ -671,6 +867,18 @@ impl AddressAllocator {
     /// Returns the number of allocated ranges.
     ///
     /// It takes constant time and does not allocate.
+    ///
+    /// # Example
+    ///
+    /// ```rust
+    /// use divsharun::{AddressAllocator, AllocPolicy};
+    ///
+    /// // As many virtio-mmio devices as fit.
+    /// let mut mmio = AddressAllocator::new(0xa00_0000, 0x4000)?;
+    /// while mmio.allocate(0x200, 0x200, AllocPolicy::FirstMatch).is_ok() {}
+    /// assert_eq!(mmio.held_count(), 32);
+    /// # Ok::<(), divsharun::Error>(())
+    /// ```
     #[must_use]
     pub fn held_count(&self) -> u64 {
         self.0.held_count()
@@ -680,6 +888,21 @@ impl AddressAllocator {
     ///
     /// The tree is balanced. With k allocated ranges its height h satisfies F(h + 2) <= 2k + 2,
     /// where F is the Fibonacci sequence 1, 1, 2, 3, 5.
+    ///
+    /// # Example
+    ///
+    /// ```rust
+    /// use divsharun::{AddressAllocator, AllocPolicy};
+    ///
+    /// let mut mmio = AddressAllocator::new(0xd000_0000, 0x1000_0000)?;
+    /// assert_eq!(mmio.height(), 1);
+    /// for _ in 0..1000 {
+    ///     mmio.allocate(0x1000, 0x1000, AllocPolicy::FirstMatch)?;
+    /// }
+    /// // F(17) is 1597, and F(18) is 2584, which is more than 2002.
+    /// assert!(mmio.height() <= 15);
+    /// # Ok::<(), divsharun::Error>(())
+    /// ```
     #[must_use]
     pub fn height(&self) -> u64 {
         self.0.height()
@@ -687,6 +910,17 @@ impl AddressAllocator {
 
     /// Returns a view of the allocated ranges and the gaps between them, which prints them like
     /// `/proc/iomem`.
+    ///
+    /// # Example
+    ///
+    /// ```rust
+    /// use divsharun::{AddressAllocator, AllocPolicy};
+    ///
+    /// let mut ports = AddressAllocator::new(0, 0x400)?;
+    /// ports.allocate(8, 8, AllocPolicy::LastMatch)?;
+    /// assert_eq!(ports.layout().to_string(), "0000-03f7 : gap\n03f8-03ff : held");
+    /// # Ok::<(), divsharun::Error>(())
+    /// ```
     #[must_use]
     pub fn layout(&self) -> Layout<'_> {
         Layout::of(self)
@@ -697,6 +931,20 @@ impl AddressAllocator {
     /// # Errors
     ///
     /// - `OutOfMemory` if memory for a node runs out. The nodes copied so far are freed.
+    ///
+    /// # Example
+    ///
+    /// ```rust
+    /// use divsharun::{AddressAllocator, AllocPolicy, TryError};
+    ///
+    /// let mut mmio = AddressAllocator::try_new(0xd000_0000, 0x1000_0000)?;
+    /// mmio.try_allocate(0x1000, 0x1000, AllocPolicy::FirstMatch)?;
+    /// match mmio.try_clone() {
+    ///     Ok(copy) => assert_eq!(copy, mmio),
+    ///     Err(error) => assert_eq!(error, TryError::OutOfMemory),
+    /// }
+    /// # Ok::<(), TryError>(())
+    /// ```
     pub fn try_clone(&self) -> core::result::Result<Self, TryError> {
         or_try_error(self.0.try_clone(Global)).map(AddressAllocator)
     }

@@ -88,6 +88,20 @@ impl Constraint {
     /// - `InvalidSize(0)` if `size` is 0.
     /// - `InvalidAlignment` if `align` is not a power of two.
     /// - `UnalignedAddress` if `policy` is `ExactMatch` and its start is not a multiple of `align`.
+    ///
+    /// # Example
+    ///
+    /// ```rust
+    /// use divsharun::{AllocPolicy, Constraint, Error};
+    ///
+    /// let serial = Constraint::new(8, 8, AllocPolicy::ExactMatch(0x3f8))?;
+    /// assert_eq!(serial.to_string(), "size 0x8, alignment 0x8, ExactMatch(0x3f8)");
+    /// assert_eq!(
+    ///     Constraint::new(8, 8, AllocPolicy::ExactMatch(0x3fc)),
+    ///     Err(Error::UnalignedAddress)
+    /// );
+    /// # Ok::<(), Error>(())
+    /// ```
     pub const fn new(size: u64, align: u64, policy: AllocPolicy) -> Result<Self> {
         match proved::Constraint::new(size, align, policy.proved()) {
             Ok(request) => Ok(Constraint(request)),
@@ -99,12 +113,34 @@ impl Constraint {
     }
 
     /// Returns the alignment of the first address.
+    ///
+    /// # Example
+    ///
+    /// ```rust
+    /// use divsharun::{AllocPolicy, Constraint};
+    ///
+    /// // A BAR is aligned to its size.
+    /// let bar = Constraint::new(0x4000, 0x4000, AllocPolicy::FirstMatch)?;
+    /// assert_eq!(bar.align(), bar.size());
+    /// # Ok::<(), divsharun::Error>(())
+    /// ```
     #[must_use]
     pub const fn align(self) -> u64 {
         self.0.align()
     }
 
     /// Returns the number of requested addresses.
+    ///
+    /// # Example
+    ///
+    /// ```rust
+    /// use divsharun::{AllocPolicy, Constraint};
+    ///
+    /// // An MSI-X table of 2048 vectors.
+    /// let table = Constraint::new(2048 * 16, 0x1000, AllocPolicy::FirstMatch)?;
+    /// assert_eq!(table.size(), 0x8000);
+    /// # Ok::<(), divsharun::Error>(())
+    /// ```
     #[must_use]
     pub const fn size(self) -> u64 {
         self.0.size()
@@ -158,6 +194,17 @@ impl Constraint {
     }
 
     /// Returns the policy that chooses the range.
+    ///
+    /// # Example
+    ///
+    /// ```rust
+    /// use divsharun::{AllocPolicy, Constraint};
+    ///
+    /// let firmware = AllocPolicy::ExactMatch(0xffc0_0000);
+    /// let request = Constraint::new(0x40_0000, 0x1000, firmware)?;
+    /// assert_eq!(request.policy(), firmware);
+    /// # Ok::<(), divsharun::Error>(())
+    /// ```
     #[must_use]
     pub const fn policy(self) -> AllocPolicy {
         AllocPolicy::of(self.0.policy())

@@ -121,6 +121,17 @@ impl DeviceManager {
     /// - `InvalidRange(id_lo, id_hi)` if `id_hi` is less than `id_lo`.
     /// - `Underflow` if `size` is 0.
     /// - `Overflow` if the last address would be past `u64::MAX`.
+    ///
+    /// # Example
+    ///
+    /// ```rust
+    /// use divsharun::{DeviceManager, Error};
+    ///
+    /// let devices = DeviceManager::new(5, 23, 0xd000_0000, 0x2ec0_0000)?;
+    /// assert_eq!(devices.device_count(), 0);
+    /// assert_eq!(DeviceManager::new(5, 23, 0xd000_0000, 0), Err(Error::Underflow));
+    /// # Ok::<(), Error>(())
+    /// ```
     pub fn new(id_lo: u32, id_hi: u32, base: u64, size: u64) -> Result<Self> {
         or_abort(proved_devices::DeviceManager::new(
             Global, id_lo, id_hi, base, size,
@@ -135,6 +146,20 @@ impl DeviceManager {
     /// In this order:
     /// - `Refused` with `InvalidRange`, `Underflow` or `Overflow`, if `new` returns that error.
     /// - `OutOfMemory` if memory for a node runs out.
+    ///
+    /// # Example
+    ///
+    /// ```rust
+    /// use divsharun::{DeviceManager, Error, TryError};
+    ///
+    /// let devices = DeviceManager::try_new(0, 31, 0xa00_0000, 0x4000)?;
+    /// assert_eq!(devices.device_at(0xa00_0000), None);
+    /// assert_eq!(
+    ///     DeviceManager::try_new(31, 0, 0xa00_0000, 0x4000),
+    ///     Err(TryError::Refused(Error::InvalidRange(31, 0)))
+    /// );
+    /// # Ok::<(), TryError>(())
+    /// ```
     pub fn try_new(
         id_lo: u32,
         id_hi: u32,
@@ -157,6 +182,22 @@ impl DeviceManager {
     /// - `InvalidSize`, `InvalidAlignment`, `UnalignedAddress`, `Overflow`, `ResourceNotAvailable`
     ///   or `InvalidStateTransition`, as of
     ///   [`AddressAllocator::allocate`](crate::AddressAllocator::allocate).
+    ///
+    /// # Example
+    ///
+    /// ```rust
+    /// use divsharun::{AllocPolicy, DeviceManager, Error};
+    ///
+    /// let mut devices = DeviceManager::new(5, 6, 0xd000_0000, 0x1000_0000)?;
+    /// let net = devices.reserve(0x1000, 0x1000, AllocPolicy::FirstMatch)?;
+    /// let disk = devices.reserve(0x1000, 0x1000, AllocPolicy::FirstMatch)?;
+    /// assert_eq!([net.id, disk.id], [5, 6]);
+    /// assert_eq!([net.range.start(), disk.range.start()], [0xd000_0000, 0xd000_1000]);
+    ///
+    /// let third = devices.reserve(0x1000, 0x1000, AllocPolicy::FirstMatch);
+    /// assert_eq!(third, Err(Error::ResourceNotAvailable));
+    /// # Ok::<(), Error>(())
+    /// ```
     pub fn reserve(&mut self, size: u64, align: u64, policy: AllocPolicy) -> Result<DeviceSlot> {
         or_abort(self.0.reserve(Global, size, align, policy.proved())).map(DeviceSlot::of)
     }
@@ -168,6 +209,21 @@ impl DeviceManager {
     /// An error leaves ids, ranges and devices unchanged. In this order:
     /// - `Refused` with the error of `reserve`.
     /// - `OutOfMemory` if memory for a node or for the table of devices runs out.
+    ///
+    /// # Example
+    ///
+    /// ```rust
+    /// use divsharun::{AllocPolicy, DeviceManager, Error, TryError};
+    ///
+    /// let mut devices = DeviceManager::try_new(0, 31, 0xa00_0000, 0x4000)?;
+    /// let console = devices.try_reserve(0x200, 0x200, AllocPolicy::LastMatch)?;
+    /// assert_eq!(console.range.start(), 0xa00_3e00);
+    /// assert_eq!(
+    ///     devices.try_reserve(0x4000, 0x200, AllocPolicy::LastMatch),
+    ///     Err(TryError::Refused(Error::ResourceNotAvailable))
+    /// );
+    /// # Ok::<(), TryError>(())
+    /// ```
     pub fn try_reserve(
         &mut self,
         size: u64,
@@ -240,6 +296,19 @@ impl DeviceManager {
     /// # Errors
     ///
     /// - `NeverAllocated(id)` if no device has this id. Nothing changes then.
+    ///
+    /// # Example
+    ///
+    /// ```rust
+    /// use divsharun::{AllocPolicy, DeviceManager, Error};
+    ///
+    /// let mut devices = DeviceManager::new(1, 31, 0xfe00_0000, 0x20_0000)?;
+    /// let net = devices.reserve(0x2_0000, 0x2_0000, AllocPolicy::FirstMatch)?;
+    /// devices.release(net.id)?;
+    /// assert_eq!(devices.device_at(net.range.start()), None);
+    /// assert_eq!(devices.release(2), Err(Error::NeverAllocated(2)));
+    /// # Ok::<(), Error>(())
+    /// ```
     pub fn release(&mut self, id: u32) -> Result<()> {
         or_abort(self.0.release(id))
     }
@@ -252,23 +321,78 @@ impl DeviceManager {
     /// An error changes nothing. In this order:
     /// - `Refused(NeverAllocated(id))` if no device has this id.
     /// - `OutOfMemory` if an allocation for the set of freed ids fails.
+    ///
+    /// # Example
+    ///
+    /// ```rust
+    /// use divsharun::{AllocPolicy, DeviceManager, Error, TryError};
+    ///
+    /// let mut devices = DeviceManager::try_new(5, 23, 0xd000_0000, 0x2ec0_0000)?;
+    /// let id = devices.try_reserve(0x1000, 0x1000, AllocPolicy::FirstMatch)?.id;
+    /// devices.try_release(id)?;
+    /// assert_eq!(
+    ///     devices.try_release(id),
+    ///     Err(TryError::Refused(Error::NeverAllocated(5)))
+    /// );
+    /// # Ok::<(), TryError>(())
+    /// ```
     pub fn try_release(&mut self, id: u32) -> core::result::Result<(), TryError> {
         or_try_error(self.0.release(id))
     }
 
     /// Returns an iterator over the devices, like [`devices`](Self::devices).
+    ///
+    /// # Example
+    ///
+    /// ```rust
+    /// use divsharun::{AllocPolicy, DeviceManager};
+    ///
+    /// let mut devices = DeviceManager::new(5, 23, 0xd000_0000, 0x2ec0_0000)?;
+    /// for size in [0x4000, 0x1000] {
+    ///     devices.reserve(size, size, AllocPolicy::FirstMatch)?;
+    /// }
+    /// let bytes: u64 = devices.iter().map(|device| device.range.len()).sum();
+    /// assert_eq!(bytes, 0x5000);
+    /// # Ok::<(), divsharun::Error>(())
+    /// ```
     #[must_use]
     pub fn iter(&self) -> Devices<'_> {
         self.devices()
     }
 
     /// Returns an iterator over the devices in ascending order of ids. It does not allocate.
+    ///
+    /// # Example
+    ///
+    /// ```rust
+    /// use divsharun::{AllocPolicy, DeviceManager};
+    ///
+    /// let mut devices = DeviceManager::new(5, 23, 0xd000_0000, 0x2ec0_0000)?;
+    /// let net = devices.reserve(0x1000, 0x1000, AllocPolicy::LastMatch)?;
+    /// let disk = devices.reserve(0x1000, 0x1000, AllocPolicy::LastMatch)?;
+    /// assert!(net.range > disk.range);
+    /// assert!(devices.devices().eq([net, disk]));
+    /// # Ok::<(), divsharun::Error>(())
+    /// ```
     #[must_use]
     pub fn devices(&self) -> Devices<'_> {
         Devices(self.0.devices())
     }
 
     /// Returns the number of devices in constant time. It does not allocate.
+    ///
+    /// # Example
+    ///
+    /// ```rust
+    /// use divsharun::{AllocPolicy, DeviceManager};
+    ///
+    /// let mut devices = DeviceManager::new(1, 31, 0xfe00_0000, 0x20_0000)?;
+    /// let disk = devices.reserve(0x4000, 0x4000, AllocPolicy::FirstMatch)?;
+    /// devices.reserve(0x1000, 0x1000, AllocPolicy::FirstMatch)?;
+    /// devices.release(disk.id)?;
+    /// assert_eq!(devices.device_count(), 1);
+    /// # Ok::<(), divsharun::Error>(())
+    /// ```
     #[must_use]
     pub fn device_count(&self) -> u64 {
         self.0.device_count()
@@ -300,12 +424,41 @@ impl DeviceManager {
     /// # Errors
     ///
     /// - `OutOfMemory` if memory runs out.
+    ///
+    /// # Example
+    ///
+    /// ```rust
+    /// use divsharun::{AllocPolicy, DeviceManager, Error, TryError};
+    ///
+    /// // Two devices or none.
+    /// let mut devices = DeviceManager::try_new(5, 23, 0xd000_0000, 0x1800)?;
+    /// let mut both = devices.try_clone()?;
+    /// both.try_reserve(0x1000, 0x1000, AllocPolicy::FirstMatch)?;
+    /// match both.try_reserve(0x1000, 0x1000, AllocPolicy::FirstMatch) {
+    ///     Ok(_) => devices = both,
+    ///     Err(error) => assert_eq!(error, TryError::Refused(Error::ResourceNotAvailable)),
+    /// }
+    /// assert_eq!(devices.device_count(), 0);
+    /// # Ok::<(), TryError>(())
+    /// ```
     pub fn try_clone(&self) -> core::result::Result<Self, TryError> {
         or_try_error(self.0.try_clone(Global)).map(DeviceManager)
     }
 
     /// Returns the range of the device with this id, or `None` if there is no such device. It does
     /// not allocate.
+    ///
+    /// # Example
+    ///
+    /// ```rust
+    /// use divsharun::{AllocPolicy, DeviceManager};
+    ///
+    /// let mut devices = DeviceManager::new(5, 23, 0xd000_0000, 0x2ec0_0000)?;
+    /// let console = devices.reserve(0x1000, 0x1000, AllocPolicy::FirstMatch)?;
+    /// assert_eq!(devices.slot(5), Some(console.range));
+    /// assert_eq!(devices.slot(6), None);
+    /// # Ok::<(), divsharun::Error>(())
+    /// ```
     pub fn slot(&self, id: u32) -> Option<RangeInclusive> {
         self.0.slot(id).map(RangeInclusive)
     }

@@ -141,6 +141,18 @@ pub enum TryError {
 
 impl TryError {
     /// Returns the error that the call without `try_` would return, or `None` if memory ran out.
+    ///
+    /// # Example
+    ///
+    /// ```rust
+    /// use divsharun::{Error, IdAllocator, TryError};
+    ///
+    /// let mut lines = IdAllocator::new(5, 23)?;
+    /// let refused = lines.try_free_id(9).map_err(|error| error.error());
+    /// assert_eq!(refused, Err(Some(Error::NeverAllocated(9))));
+    /// assert_eq!(TryError::OutOfMemory.error(), None);
+    /// # Ok::<(), Error>(())
+    /// ```
     #[must_use]
     pub const fn error(&self) -> Option<Error> {
         match self {

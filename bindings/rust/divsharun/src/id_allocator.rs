@@ -59,6 +59,18 @@ impl IdAllocator {
     /// # Errors
     ///
     /// - `InvalidRange(range_base, range_end)` if `range_end` is less than `range_base`.
+    ///
+    /// # Example
+    ///
+    /// ```rust
+    /// use divsharun::{Error, IdAllocator};
+    ///
+    /// // The memory slots of a virtual machine.
+    /// let slots = IdAllocator::new(0, 508)?;
+    /// assert_eq!((slots.free_count(), slots.peek_id()), (509, Ok(0)));
+    /// assert_eq!(IdAllocator::new(508, 0), Err(Error::InvalidRange(508, 0)));
+    /// # Ok::<(), Error>(())
+    /// ```
     pub fn new(range_base: u32, range_end: u32) -> Result<Self> {
         or_abort(proved::IdAllocator::new(Global, range_base, range_end)).map(IdAllocator)
     }
@@ -102,6 +114,21 @@ impl IdAllocator {
     /// - `Refused` with `InvalidRange`, `OutOfRange` or `ResourceNotAvailable`, if `with_held` returns
     ///   that error.
     /// - `OutOfMemory` if an allocation of memory fails.
+    ///
+    /// # Example
+    ///
+    /// ```rust
+    /// use divsharun::{Error, IdAllocator, TryError};
+    ///
+    /// // The timer and the clock have fixed lines.
+    /// let lines = IdAllocator::try_with_held(0, 15, &[0, 8])?;
+    /// assert_eq!(lines.peek_id(), Ok(1));
+    /// assert_eq!(
+    ///     IdAllocator::try_with_held(0, 15, &[8, 0]),
+    ///     Err(TryError::Refused(Error::ResourceNotAvailable))
+    /// );
+    /// # Ok::<(), TryError>(())
+    /// ```
     pub fn try_with_held(
         range_base: u32,
         range_end: u32,
@@ -118,6 +145,20 @@ impl IdAllocator {
     /// If all ids are allocated:
     /// - `Overflow` if the last id is `u32::MAX`.
     /// - `ResourceNotAvailable` otherwise.
+    ///
+    /// # Example
+    ///
+    /// ```rust
+    /// use divsharun::{Error, IdAllocator};
+    ///
+    /// let mut lines = IdAllocator::new(10, 11)?;
+    /// assert_eq!((lines.allocate_id(), lines.allocate_id()), (Ok(10), Ok(11)));
+    /// assert_eq!(lines.allocate_id(), Err(Error::ResourceNotAvailable));
+    ///
+    /// lines.free_id(10)?;
+    /// assert_eq!(lines.allocate_id(), Ok(10));
+    /// # Ok::<(), Error>(())
+    /// ```
     pub fn allocate_id(&mut self) -> Result<u32> {
         or_abort(self.0.allocate_id())
     }
@@ -157,6 +198,21 @@ impl IdAllocator {
     /// An error changes nothing. In this order:
     /// - `Refused` with `OutOfRange` or `ResourceNotAvailable`, if `allocate_exact` returns that error.
     /// - `OutOfMemory` if an allocation of memory fails.
+    ///
+    /// # Example
+    ///
+    /// ```rust
+    /// use divsharun::{Error, IdAllocator, TryError};
+    ///
+    /// // Shared interrupts of a GIC.
+    /// let mut interrupts = IdAllocator::new(32, 127)?;
+    /// assert_eq!(interrupts.try_allocate_exact(33), Ok(33));
+    /// assert_eq!(
+    ///     interrupts.try_allocate_exact(128),
+    ///     Err(TryError::Refused(Error::OutOfRange(128)))
+    /// );
+    /// # Ok::<(), TryError>(())
+    /// ```
     pub fn try_allocate_exact(&mut self, id: u32) -> core::result::Result<u32, TryError> {
         or_try_error(self.0.allocate_exact(id))
     }
@@ -196,6 +252,21 @@ impl IdAllocator {
     /// An error changes nothing. In this order:
     /// - `Refused` with `InvalidRange` or `ResourceNotAvailable`, if `allocate_in` returns that error.
     /// - `OutOfMemory` if an allocation of memory fails.
+    ///
+    /// # Example
+    ///
+    /// ```rust
+    /// use divsharun::{Error, IdAllocator, TryError};
+    ///
+    /// // The lines of PCI.
+    /// let mut lines = IdAllocator::new(5, 23)?;
+    /// assert_eq!(lines.try_allocate_in(20, 23)?, 20);
+    /// assert_eq!(
+    ///     lines.try_allocate_in(23, 20),
+    ///     Err(TryError::Refused(Error::InvalidRange(23, 20)))
+    /// );
+    /// # Ok::<(), TryError>(())
+    /// ```
     pub fn try_allocate_in(
         &mut self,
         first: u32,
@@ -236,6 +307,22 @@ impl IdAllocator {
     /// An error changes nothing. In this order:
     /// - `Refused` with `Overflow` or `ResourceNotAvailable`, if `allocate_ids` returns that error.
     /// - `OutOfMemory` if memory for the list runs out.
+    ///
+    /// # Example
+    ///
+    /// ```rust
+    /// use divsharun::{Error, IdAllocator, TryError};
+    ///
+    /// // The vectors of a device with three queues.
+    /// let mut vectors = IdAllocator::new(32, 238)?;
+    /// assert_eq!(vectors.try_allocate_ids(3)?, [32, 33, 34]);
+    /// assert_eq!(
+    ///     vectors.try_allocate_ids(205),
+    ///     Err(TryError::Refused(Error::ResourceNotAvailable))
+    /// );
+    /// assert_eq!(vectors.free_count(), 204);
+    /// # Ok::<(), TryError>(())
+    /// ```
     pub fn try_allocate_ids(&mut self, count: usize) -> core::result::Result<Vec<u32>, TryError> {
         or_try_error(self.0.allocate_ids(Global, count)).map(Vec::from)
     }
@@ -248,11 +335,35 @@ impl IdAllocator {
     /// If all ids are allocated:
     /// - `Overflow` if the last id is `u32::MAX`.
     /// - `ResourceNotAvailable` otherwise.
+    ///
+    /// # Example
+    ///
+    /// ```rust
+    /// use divsharun::{Error, IdAllocator};
+    ///
+    /// let mut lines = IdAllocator::with_held(9, 10, &[9])?;
+    /// assert_eq!(lines.peek_id(), Ok(10));
+    /// assert_eq!(lines.allocate_id(), Ok(10));
+    /// assert_eq!(lines.peek_id(), Err(Error::ResourceNotAvailable));
+    /// # Ok::<(), Error>(())
+    /// ```
     pub fn peek_id(&self) -> Result<u32> {
         or_abort(self.0.peek_id())
     }
 
     /// Returns whether the id is allocated. An id outside the range is not.
+    ///
+    /// # Example
+    ///
+    /// ```rust
+    /// use divsharun::IdAllocator;
+    ///
+    /// let mut lines = IdAllocator::new(5, 23)?;
+    /// lines.allocate_exact(12)?;
+    /// assert!(lines.is_allocated(12));
+    /// assert!(!lines.is_allocated(11) && !lines.is_allocated(24));
+    /// # Ok::<(), divsharun::Error>(())
+    /// ```
     #[must_use]
     pub fn is_allocated(&self, id: u32) -> bool {
         self.0.is_allocated(id)
@@ -266,6 +377,19 @@ impl IdAllocator {
     /// - `OutOfRange(id)` if the id is outside the range.
     /// - `NeverAllocated(id)` if the id was never allocated.
     /// - `AlreadyReleased(id)` if the id is already freed.
+    ///
+    /// # Example
+    ///
+    /// ```rust
+    /// use divsharun::{Error, IdAllocator};
+    ///
+    /// let mut lines = IdAllocator::new(5, 23)?;
+    /// lines.allocate_ids(2)?;
+    /// assert_eq!(lines.free_id(6), Ok(6));
+    /// assert_eq!(lines.free_id(7), Err(Error::NeverAllocated(7)));
+    /// assert_eq!(lines.free_id(24), Err(Error::OutOfRange(24)));
+    /// # Ok::<(), Error>(())
+    /// ```
     pub fn free_id(&mut self, id: u32) -> Result<u32> {
         or_abort(self.0.free_id(id))
     }
@@ -278,17 +402,53 @@ impl IdAllocator {
     /// - `Refused` with `OutOfRange`, `NeverAllocated` or `AlreadyReleased`, if `free_id` returns
     ///   that error.
     /// - `OutOfMemory` if an allocation of memory fails.
+    ///
+    /// # Example
+    ///
+    /// ```rust
+    /// use divsharun::{Error, IdAllocator, TryError};
+    ///
+    /// // The vsock addresses of guests.
+    /// let mut guests = IdAllocator::new(3, 0xffff_fffe)?;
+    /// let id = guests.allocate_id()?;
+    /// assert_eq!(guests.try_free_id(id)?, 3);
+    /// assert_eq!(guests.try_free_id(id), Err(TryError::Refused(Error::AlreadyReleased(3))));
+    /// # Ok::<(), TryError>(())
+    /// ```
     pub fn try_free_id(&mut self, id: u32) -> core::result::Result<u32, TryError> {
         or_try_error(self.0.free_id(id))
     }
 
     /// Returns the first id of the range.
+    ///
+    /// # Example
+    ///
+    /// ```rust
+    /// use divsharun::IdAllocator;
+    ///
+    /// // A device tree counts shared interrupts from the first one.
+    /// let mut interrupts = IdAllocator::new(32, 1019)?;
+    /// let serial = interrupts.allocate_exact(33)?;
+    /// assert_eq!(serial - interrupts.range_base(), 1);
+    /// # Ok::<(), divsharun::Error>(())
+    /// ```
     #[must_use]
     pub const fn range_base(&self) -> u32 {
         self.0.range_base()
     }
 
     /// Returns the last id of the range.
+    ///
+    /// # Example
+    ///
+    /// ```rust
+    /// use divsharun::IdAllocator;
+    ///
+    /// // An I/O APIC with 24 pins.
+    /// let pins = IdAllocator::new(0, 24 - 1)?;
+    /// assert_eq!(pins.range_end(), 23);
+    /// # Ok::<(), divsharun::Error>(())
+    /// ```
     #[must_use]
     pub const fn range_end(&self) -> u32 {
         self.0.range_end()
@@ -320,17 +480,51 @@ impl IdAllocator {
     /// # Errors
     ///
     /// - `OutOfMemory` if an allocation of memory fails.
+    ///
+    /// # Example
+    ///
+    /// ```rust
+    /// use divsharun::{IdAllocator, TryError};
+    ///
+    /// let lines = IdAllocator::with_held(5, 23, &[5, 8])?;
+    /// let copy: Result<IdAllocator, TryError> = lines.try_clone();
+    /// assert_eq!(copy, Ok(lines));
+    /// # Ok::<(), TryError>(())
+    /// ```
     pub fn try_clone(&self) -> core::result::Result<Self, TryError> {
         or_try_error(self.0.try_clone(Global)).map(IdAllocator)
     }
 
     /// Returns the number of allocated ids in constant time. It does not allocate memory.
+    ///
+    /// # Example
+    ///
+    /// ```rust
+    /// use divsharun::IdAllocator;
+    ///
+    /// let mut lines = IdAllocator::with_held(0, 15, &[0, 1, 8, 12])?;
+    /// lines.free_id(1)?;
+    /// assert_eq!(lines.held_count(), 3);
+    /// # Ok::<(), divsharun::Error>(())
+    /// ```
     #[must_use]
     pub fn held_count(&self) -> u64 {
         self.0.held_count()
     }
 
     /// Returns the number of free ids in constant time. It does not allocate memory.
+    ///
+    /// # Example
+    ///
+    /// ```rust
+    /// use divsharun::IdAllocator;
+    ///
+    /// // A device gets at most as many queues as there are vectors.
+    /// let mut vectors = IdAllocator::new(32, 63)?;
+    /// vectors.allocate_ids(24)?;
+    /// assert_eq!(vectors.free_count().min(16), 8);
+    /// # Ok::<(), divsharun::Error>(())
+    /// ```
     #[must_use]
     pub fn free_count(&self) -> u64 {
         self.0.free_count()

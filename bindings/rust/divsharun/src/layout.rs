@@ -41,6 +41,18 @@ impl<'a> Layout<'a> {
     }
 
     /// Adds names for allocated ranges. A name for any other range is not shown.
+    ///
+    /// # Example
+    ///
+    /// ```rust
+    /// use divsharun::{AddressAllocator, AllocPolicy};
+    ///
+    /// let mut ports = AddressAllocator::new(0x3f0, 0x10)?;
+    /// let serial = ports.allocate(8, 8, AllocPolicy::LastMatch)?;
+    /// let layout = ports.layout().named([(serial, "ttyS0")]);
+    /// assert_eq!(layout.to_string(), "03f0-03f7 : gap\n03f8-03ff : ttyS0");
+    /// # Ok::<(), divsharun::Error>(())
+    /// ```
     #[must_use]
     pub fn named(self, names: impl IntoIterator<Item = (RangeInclusive, &'a str)>) -> Self {
         self.try_named(names).unwrap_or_else(|_| out_of_memory())
@@ -51,6 +63,20 @@ impl<'a> Layout<'a> {
     /// # Errors
     ///
     /// - `OutOfMemory` if memory for the names runs out.
+    ///
+    /// # Example
+    ///
+    /// ```rust
+    /// use divsharun::{AddressAllocator, AllocPolicy, TryError};
+    ///
+    /// let mut mmio = AddressAllocator::try_new(0xfec0_0000, 0x1000)?;
+    /// let io_apic = mmio.try_allocate(0x1000, 0x1000, AllocPolicy::FirstMatch)?;
+    /// match mmio.layout().try_named([(io_apic, "IOAPIC 0")]) {
+    ///     Ok(layout) => assert_eq!(layout.to_string(), "fec00000-fec00fff : IOAPIC 0"),
+    ///     Err(error) => assert_eq!(error, TryError::OutOfMemory),
+    /// }
+    /// # Ok::<(), TryError>(())
+    /// ```
     pub fn try_named(
         mut self,
         names: impl IntoIterator<Item = (RangeInclusive, &'a str)>,
@@ -63,6 +89,19 @@ impl<'a> Layout<'a> {
     }
 
     /// Returns an iterator over the allocated ranges and the gaps, in ascending order.
+    ///
+    /// # Example
+    ///
+    /// ```rust
+    /// use divsharun::{AddressAllocator, AllocPolicy};
+    ///
+    /// let mut mmio = AddressAllocator::new(0xd000_0000, 0x4000)?;
+    /// let bar = mmio.allocate(0x1000, 0x1000, AllocPolicy::ExactMatch(0xd000_1000))?;
+    /// let layout = mmio.layout().named([(bar, "virtio-net")]);
+    /// let names: Vec<_> = layout.blocks().map(|block| block.to_string()).collect();
+    /// assert_eq!(names, ["gap", "virtio-net", "gap"]);
+    /// # Ok::<(), divsharun::Error>(())
+    /// ```
     #[must_use]
     pub fn blocks(&self) -> Blocks<'_> {
         Blocks {

@@ -45,6 +45,18 @@ impl RangeInclusive {
     ///
     /// - `InvalidRange(start, end)` if `start` is past `end`, or if the range would have all 2^64
     ///   addresses.
+    ///
+    /// # Example
+    ///
+    /// ```rust
+    /// use divsharun::{Error, RangeInclusive};
+    ///
+    /// // The local APICs and MSI.
+    /// let apics = RangeInclusive::new(0xfee0_0000, 0xfeef_ffff)?;
+    /// assert_eq!(apics, RangeInclusive::from_start_len(0xfee0_0000, 0x10_0000)?);
+    /// assert_eq!(RangeInclusive::new(0x3ff, 0x3f8), Err(Error::InvalidRange(0x3ff, 0x3f8)));
+    /// # Ok::<(), Error>(())
+    /// ```
     pub const fn new(start: u64, end: u64) -> Result<Self> {
         match proved::RangeInclusive::new(start, end) {
             Ok(range) => Ok(RangeInclusive(range)),
@@ -100,30 +112,88 @@ impl RangeInclusive {
     }
 
     /// Returns the number of addresses in the range.
+    ///
+    /// # Example
+    ///
+    /// ```rust
+    /// use divsharun::RangeInclusive;
+    ///
+    /// let serial = RangeInclusive::new(0x3f8, 0x3ff)?;
+    /// assert_eq!(serial.len(), 8);
+    /// # Ok::<(), divsharun::Error>(())
+    /// ```
     #[must_use]
     pub const fn len(&self) -> u64 {
         self.0.len()
     }
 
     /// Returns whether both ranges share an address.
+    ///
+    /// # Example
+    ///
+    /// ```rust
+    /// use divsharun::RangeInclusive;
+    ///
+    /// let io_apic = RangeInclusive::new(0xfec0_0000, 0xfec0_0fff)?;
+    /// assert!(RangeInclusive::new(0xfeb0_0000, 0xfec0_0000)?.overlaps(&io_apic));
+    /// assert!(!RangeInclusive::new(0xfeb0_0000, 0xfebf_ffff)?.overlaps(&io_apic));
+    /// # Ok::<(), divsharun::Error>(())
+    /// ```
     #[must_use]
     pub const fn overlaps(&self, other: &RangeInclusive) -> bool {
         self.0.overlaps(&other.0)
     }
 
     /// Returns whether every address of `other` is in the range.
+    ///
+    /// # Example
+    ///
+    /// ```rust
+    /// use divsharun::RangeInclusive;
+    ///
+    /// let bridge = RangeInclusive::new(0xfe00_0000, 0xfe1f_ffff)?;
+    /// let bar = RangeInclusive::new(0xfe10_0000, 0xfe10_3fff)?;
+    /// assert!(bridge.contains(&bar));
+    /// assert!(!bar.contains(&bridge));
+    /// # Ok::<(), divsharun::Error>(())
+    /// ```
     #[must_use]
     pub const fn contains(&self, other: &RangeInclusive) -> bool {
         self.0.contains(&other.0)
     }
 
     /// Returns whether the address is in the range.
+    ///
+    /// # Example
+    ///
+    /// ```rust
+    /// use divsharun::RangeInclusive;
+    ///
+    /// let clock = RangeInclusive::new(0x70, 0x71)?;
+    /// assert!(clock.contains_address(0x71));
+    /// assert!(!clock.contains_address(0x72));
+    /// # Ok::<(), divsharun::Error>(())
+    /// ```
     #[must_use]
     pub const fn contains_address(&self, address: u64) -> bool {
         self.start() <= address && address <= self.end()
     }
 
     /// Returns the addresses that are in both ranges, or `None` if there are none.
+    ///
+    /// # Example
+    ///
+    /// ```rust
+    /// use divsharun::RangeInclusive;
+    ///
+    /// let low = RangeInclusive::new(0, 0xffff_ffff)?;
+    /// let window = RangeInclusive::new(0xc000_0000, 0x1_3fff_ffff)?;
+    /// let low_part = RangeInclusive::new(0xc000_0000, 0xffff_ffff)?;
+    /// assert_eq!(window.intersection(&low), Some(low_part));
+    /// let high = RangeInclusive::new(0x1_0000_0000, 0x1_3fff_ffff)?;
+    /// assert_eq!(high.intersection(&low), None);
+    /// # Ok::<(), divsharun::Error>(())
+    /// ```
     #[must_use]
     pub fn intersection(&self, other: &RangeInclusive) -> Option<RangeInclusive> {
         let start = self.start().max(other.start());
@@ -131,12 +201,33 @@ impl RangeInclusive {
     }
 
     /// Returns the first address.
+    ///
+    /// # Example
+    ///
+    /// ```rust
+    /// use divsharun::RangeInclusive;
+    ///
+    /// let timer = RangeInclusive::try_from(0xfed0_0000..=0xfed0_03ff)?;
+    /// assert_eq!(timer.start(), 0xfed0_0000);
+    /// # Ok::<(), divsharun::Error>(())
+    /// ```
     #[must_use]
     pub const fn start(&self) -> u64 {
         self.0.start()
     }
 
     /// Returns the last address.
+    ///
+    /// # Example
+    ///
+    /// ```rust
+    /// use divsharun::RangeInclusive;
+    ///
+    /// // The configuration space of 256 PCI buses.
+    /// let buses = RangeInclusive::from_start_len(0xb000_0000, 0x1000_0000)?;
+    /// assert_eq!(buses.end(), 0xbfff_ffff);
+    /// # Ok::<(), divsharun::Error>(())
+    /// ```
     #[must_use]
     pub const fn end(&self) -> u64 {
         self.0.end()

@@ -128,6 +128,26 @@ impl crate::AddressAllocator {
     /// # Errors
     ///
     /// - `OutOfMemory` if memory for a list of the blocks runs out.
+    ///
+    /// # Example
+    ///
+    /// ```rust
+    /// # #[cfg(feature = "serde")]
+    /// # fn main() -> Result<(), Box<dyn std::error::Error>> {
+    /// use divsharun::{AddressAllocator, AllocPolicy};
+    ///
+    /// let mut mmio = AddressAllocator::new(0xd000_0000, 0x2ec0_0000)?;
+    /// mmio.allocate(0x1000, 0x1000, AllocPolicy::FirstMatch)?;
+    /// let mut buffer = [0; 0x400];
+    /// let mut rest = &mut buffer[..];
+    /// serde_json::to_writer(&mut rest, &mmio.try_saved()?)?;
+    /// let end = 0x400 - rest.len();
+    /// assert_eq!(serde_json::from_slice::<AddressAllocator>(&buffer[..end])?, mmio);
+    /// # Ok(())
+    /// # }
+    /// # #[cfg(not(feature = "serde"))]
+    /// # fn main() {}
+    /// ```
     pub fn try_saved(&self) -> Result<Saved<'_, Self>, TryError> {
         Saved::of(self, &self.0)
     }
@@ -140,6 +160,25 @@ impl crate::DeviceManager {
     /// # Errors
     ///
     /// - `OutOfMemory` if memory for a list of the blocks runs out.
+    ///
+    /// # Example
+    ///
+    /// ```rust
+    /// # #[cfg(feature = "serde")]
+    /// # fn main() -> Result<(), Box<dyn std::error::Error>> {
+    /// use divsharun::{AllocPolicy, DeviceManager, TryError};
+    ///
+    /// let mut devices = DeviceManager::new(5, 23, 0xd000_0000, 0x2ec0_0000)?;
+    /// devices.reserve(0x1000, 0x1000, AllocPolicy::FirstMatch)?;
+    /// match devices.try_saved() {
+    ///     Ok(view) => assert_eq!(serde_json::to_value(view)?, serde_json::to_value(devices)?),
+    ///     Err(error) => assert_eq!(error, TryError::OutOfMemory),
+    /// }
+    /// # Ok(())
+    /// # }
+    /// # #[cfg(not(feature = "serde"))]
+    /// # fn main() {}
+    /// ```
     pub fn try_saved(&self) -> Result<Saved<'_, Self>, TryError> {
         Saved::of(self, self.0.addresses())
     }
