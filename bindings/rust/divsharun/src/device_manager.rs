@@ -459,6 +459,7 @@ impl DeviceManager {
     /// assert_eq!(devices.slot(6), None);
     /// # Ok::<(), divsharun::Error>(())
     /// ```
+    #[must_use]
     pub fn slot(&self, id: u32) -> Option<RangeInclusive> {
         self.0.slot(id).map(RangeInclusive)
     }
