@@ -1,4 +1,4 @@
-//! Copies the folder `rattle` of divsharun, with boxes that count how often they are followed.
+//! Copies the folder `rattle` of divsharun. With `std`, boxes count how often they are followed.
 use std::{env, fs, path::Path};
 
 /// The places in boxed.rs that follow a box, and the same with a count.
@@ -7,7 +7,6 @@ const FOLLOWED: [(&str, &str); 3] = [
     ("&mut self.0[0]\n", "{ follow(); &mut self.0[0] }\n"),
     ("let [value] = ", "follow(); let [value] = "),
 ];
-
 const COUNTER: &str = "
 std::thread_local! {
     static FOLLOWED: core::cell::Cell<u64> = const { core::cell::Cell::new(0) };
@@ -25,18 +24,19 @@ pub fn boxes_followed() -> u64 {
 
 fn main() {
     let from = Path::new("../divsharun/src/rattle");
+    let counts = env::var_os("CARGO_FEATURE_STD").is_some();
     let to = Path::new(&env::var_os("OUT_DIR").unwrap()).join("rattle");
     fs::create_dir_all(&to).unwrap();
     for file in fs::read_dir(from).unwrap() {
         let name = file.unwrap().file_name();
         let mut text = fs::read_to_string(from.join(&name)).unwrap();
-        if name == "boxed.rs" {
+        if counts && name == "boxed.rs" {
             for (place, counted) in FOLLOWED {
                 assert_eq!(text.matches(place).count(), 1, "{place}");
                 text = text.replace(place, counted);
             }
             text += COUNTER;
-        } else if name == "mod.rs" {
+        } else if counts && name == "mod.rs" {
             text += "\npub use boxed::boxes_followed;\n";
         }
         fs::write(to.join(&name), text).unwrap();
