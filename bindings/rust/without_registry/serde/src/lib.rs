@@ -1,1 +1,1 @@
-compile_error!("this workspace builds without serde: the folder `patched` and the packaged crate use it");
+compile_error!("this serde is empty: with a registry, run `cargo test -p divsharun --features serde` in bindings/rust");
