@@ -55,8 +55,9 @@
  * Calls on one id or device take logarithmic time too, but dvs_id_allocate_exact()
  * and dvs_id_allocate_in() also add each id that they skip to the freed ones.
  * Counts, dvs_longest_gap() and the ends of a space or of a range of ids take
- * constant time. All other calls take time linear in the size of the object, the
- * array or the text.
+ * constant time. Allocating an array takes the time of each request or id. All
+ * other calls take time at most linear in the size of the object, the array or the
+ * text.
  *
  * Stack. 64 KiB are enough for every call.
  *

@@ -113,7 +113,7 @@ impl IdAllocator {
     /// In this order:
     /// - `Refused` with `InvalidRange`, `OutOfRange` or `ResourceNotAvailable`, if `with_held` returns
     ///   that error.
-    /// - `OutOfMemory` if an allocation of memory fails.
+    /// - `OutOfMemory` if memory runs out.
     ///
     /// # Example
     ///
@@ -197,7 +197,7 @@ impl IdAllocator {
     ///
     /// An error changes nothing. In this order:
     /// - `Refused` with `OutOfRange` or `ResourceNotAvailable`, if `allocate_exact` returns that error.
-    /// - `OutOfMemory` if an allocation of memory fails.
+    /// - `OutOfMemory` if memory runs out.
     ///
     /// # Example
     ///
@@ -251,7 +251,7 @@ impl IdAllocator {
     ///
     /// An error changes nothing. In this order:
     /// - `Refused` with `InvalidRange` or `ResourceNotAvailable`, if `allocate_in` returns that error.
-    /// - `OutOfMemory` if an allocation of memory fails.
+    /// - `OutOfMemory` if memory runs out.
     ///
     /// # Example
     ///
@@ -401,7 +401,7 @@ impl IdAllocator {
     /// An error changes nothing. In this order:
     /// - `Refused` with `OutOfRange`, `NeverAllocated` or `AlreadyReleased`, if `free_id` returns
     ///   that error.
-    /// - `OutOfMemory` if an allocation of memory fails.
+    /// - `OutOfMemory` if memory runs out.
     ///
     /// # Example
     ///
@@ -479,7 +479,7 @@ impl IdAllocator {
     ///
     /// # Errors
     ///
-    /// - `OutOfMemory` if an allocation of memory fails.
+    /// - `OutOfMemory` if memory runs out.
     ///
     /// # Example
     ///

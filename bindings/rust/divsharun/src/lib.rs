@@ -71,7 +71,7 @@
 //! - [`ListError`], which names the item of a list that failed;
 //! - with the feature `serde`, `AddressAllocator::deserialize_strict` and `try_saved` of address
 //!   allocators and managers;
-//! - the `try_` variants of all calls that allocate.
+//! - the `try_` variants of all calls that allocate, except the counted ones.
 //!
 //! # Out of memory
 //!
