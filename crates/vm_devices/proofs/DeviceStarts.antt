@@ -1,4 +1,4 @@
--- Devices start at different addresses, a new device starts at none of them, and the device at an address is found by a start.
+-- Devices start at different addresses, and a new device starts at none of them. The device at an address is found by a start.
 use Rattle.std.proofs.Common.{◌≡◌, ℕ, refl, sym, ap, ◌∙◌, arith, inl, inr, subst, Option, Some, None, IsSome, Ok, ◌↔◌, option_map}
 use Rattle.std.specs.List.{Contains}
 use Rattle.std.specs.FinMap as map

@@ -168,8 +168,8 @@ added_at_most (Free r ∷ asked) = added_at_most asked
 added_at_most (MoveTo r t ∷ asked) = added_at_most asked + 1
 added_at_most (Clone ∷ asked) = added_at_most asked
 
--- The same list of calls in the same state has the same results and the same last state, if no call returns OutOfMemory. So
--- few ranges can be held that no split fails for the height of the tree.
+-- The same list of calls in the same state has the same results and the same last state. No call returns OutOfMemory, and
+-- the calls hold too few ranges for a tree so high that a split fails.
 abbrev pub SameCallsSameResults : Type 0
 SameCallsSameResults =
     (old new later : AddressState) (calls others : List Call) →

@@ -1,16 +1,16 @@
 -- From the first or the last fit of a tree to the result of a request.
-use Rattle.std.proofs.Common.{Option, Some, None, IfSome, ◌≡◌, ℕ, ◌+◌, ◌-◌, ◌<◌, ◌≤◌, List, ◌∷◌, ◌++◌, refl, sym, arith, inl, inr, ◌⊎◌, ⊎_elim, subst, Result, Ok, Err, IfErr, ap}
+use Rattle.std.proofs.Common.{Option, Some, None, ◌≡◌, ℕ, ◌+◌, ◌-◌, ◌<◌, ◌≤◌, List, ◌∷◌, ◌++◌, refl, sym, arith, inl, inr, ◌⊎◌, ⊎_elim, subst, Result, Ok, Err, IfErr, ap}
 use Rattle.std.specs.List.{All}
 use Rattle.vm_ranges.specs.Range.{Range, MAX, span}
 use Rattle.vm_engine.specs.Tree.Block.{Block, free_block}
 use Rattle.vm_engine.specs.Address.{AddressState, IsPlace, IsLowestPlace, IsHighestPlace}
 use Rattle.vm_ranges.specs.Request.{Request, IsRequest}
 use Rattle.vm_engine.specs.Answer.{IsChosen, ByExactPolicy, ByPlace, AllocatesAt, Grants}
-use Rattle.vm_engine.specs.Tree.Fit.{HasNoFit, IsLowestFit, IsHighestFit}
+use Rattle.vm_engine.specs.Tree.Fit.{HasNoFit}
 use Rattle.vm_engine.specs.Tree.BlockEdits.{IsTakenFrom}
 use Rattle.vm_engine.specs.Engine.Place.{IsFirstFit, IsLastFit, FindsFirst, FindsLast}
 use Rattle.vm_engine.specs.Engine.WindowPlace.{HasNoFitIn, IsFirstFitIn, IsLastFitIn, FindsFirstIn, FindsLastIn}
-use Rattle.vm_engine.specs.Windows.{within, cut_to}
+use Rattle.vm_engine.specs.Windows.{within}
 use Rattle.vm_engine.specs.Tree.Blocks.{IsBlocksOf}
 use Rattle.vm_engine.specs.Tree.Shape.{Shape, blocks}
 use Rattle.vm_engine.specs.Engine.Choosing.{ChoosesAt, IsChosenPlace, AllocatingGrants, Chooses, ChoosesBelowMax}

@@ -1,7 +1,7 @@
 -- The number of nodes that a request enters.
 use Rattle.std.proofs.Common.{◌≡◌, ◌≢◌, ℕ, ◌+◌, ◌*◌, ◌<◌, ◌≤◌, eqb, refl, sym, subst, arith, inl, inr, Option, Some, None, Result, Ok, Err, OnOk, IfOk, length, ◌⊎◌}
 use Rattle.std.proofs.lemmas.Bool.{lt-ltb}
-use Rattle.vm_ranges.specs.Range.{Range, MAX, at_address, span}
+use Rattle.vm_ranges.specs.Range.{Range, MAX, span}
 use Rattle.vm_engine.specs.Address.{AddressState, SplitsGap}
 use Rattle.vm_ranges.specs.Request.{Request, IsRequest}
 use Rattle.vm_engine.specs.Answer.{AllocatesAt, IsChosen, Grants}
@@ -11,7 +11,7 @@ use Rattle.vm_engine.specs.Tree.Shape.{Shape, Tip, Fork, blocks, height_of, node
 use Rattle.vm_engine.specs.Counts.NodeCounts.{nodes_to_address, nodes_by_policy, nodes_of_search, nodes_to_split, nodes_to_allocate, nodes_if_allocated, has_fit, has_fit_in, nodes_to, nodes_of_first, nodes_of_last, nodes_of_first_in, nodes_of_last_in}
 use Rattle.vm_engine.specs.Engine.Choosing.{max_searched, IsChosenPlace}
 use Rattle.vm_engine.specs.Tree.SpaceTree.{space_of, tree_state, IsSpaceTree}
-use Rattle.vm_engine.specs.Counts.Steps.{max_entered, IsGrantCount, IsHeldIn, Enters, SplitsIfLow, NoneEndsBelowMax, SPLIT_HEIGHT_LIMIT}
+use Rattle.vm_engine.specs.Counts.Steps.{max_entered, IsGrantCount, IsHeldIn, Enters, SplitsIfLow, SPLIT_HEIGHT_LIMIT}
 use Rattle.vm_ranges.specs.declared.error.Error.{Error}
 use Rattle.vm_ranges.specs.declared.error.Error.TheVariants.{OutOfMemory, Overflow}
 use Rattle.vm_ranges.specs.declared.constraint.AllocPolicy.{AllocPolicy}
@@ -53,10 +53,6 @@ of_splits P s place (Ok r) new h i t f = λ left. f (given_part s place r new h 
 
 pub split_low : (s : Shape) (request : Request) (place : Place) (answer : Result Range Error) (new : AddressState) → IsSpaceTree s → IsChosenPlace (blocks s) place → AllocatesAt (tree_state s) place.range answer new → (NeedsSplit place.key place.range → OnOk answer (height_of s < SPLIT_HEIGHT_LIMIT)) → (answer ≡ Err OutOfMemory → height_of s < SPLIT_HEIGHT_LIMIT) → (answer ≡ Err Overflow → SPLIT_HEIGHT_LIMIT ≤ height_of s) → SplitsIfLow (height_of s) (tree_state s) request answer
 split_low s request place answer new h i t low memory high = record { split = of_splits (height_of s < SPLIT_HEIGHT_LIMIT) s place answer new h i t low; memory = memory; high = λ r o. inl (high o) }
-
--- The error of a search is not OutOfMemory, and is Overflow only if no chosen place ends below MAX.
-pub refused_low : (h : ℕ) (old : AddressState) (request : Request) (e : Error) → e ≢ OutOfMemory → (e ≡ Overflow → NoneEndsBelowMax old request) → SplitsIfLow h old request (Err e)
-refused_low h old request e n over = record { split = tt; memory = λ m. absurd (n (cc m)); high = λ r o. inr (over (cc (o))) }
 
 -- ---- The exact number of nodes that a request enters
 search_at_most : (request : Request) (s : Shape) → nodes_of_search request s ≤ max_searched request.policy s

@@ -1,8 +1,8 @@
 -- The number of nodes on the paths through a tree, case by case.
 use Rattle.std.proofs.Common.{◌≡◌, ◌≢◌, ℕ, ◌+◌, ◌<◌, ◌≤◌, true, false, Some, None, refl, sym, arith, inl, inr, ⊎_elim}
 use Rattle.std.proofs.lemmas.Bool.{lt-ltb, le-ltb, eq-eqb, ne_eqb}
-use Rattle.vm_ranges.specs.Range.{Range, MAX, at_address}
-use Rattle.vm_ranges.specs.RangeOrder.{Before, StartsBefore, StartsAtOrAfter, EndsBefore, EndsAtOrAfterStartOf, is_before}
+use Rattle.vm_ranges.specs.Range.{Range, MAX}
+use Rattle.vm_ranges.specs.RangeOrder.{Before, StartsBefore, StartsAtOrAfter, is_before}
 use Rattle.vm_engine.specs.Tree.Block.{Block}
 use Rattle.vm_engine.specs.Tree.Shape.{Shape, Tip, Fork}
 use Rattle.vm_engine.specs.Counts.NodeCounts.{nodes_down, nodes_to, nodes_to_address, nodes_to_first, nodes_to_last, nodes_to_join, nodes_to_delete, nodes_around, nodes_of_first, nodes_of_last, nodes_of_first_in, nodes_of_last_in, nodes_of_search}

@@ -1,11 +1,11 @@
 -- Ranges that overlap no key of a list.
-use Rattle.std.proofs.Common.{ℕ, ◌+◌, ◌<◌, ◌≤◌, List, [], ◌∷◌, ◌++◌, Some, None, Option, inl, inr, ◌⊎◌, ⊎_elim}
+use Rattle.std.proofs.Common.{ℕ, ◌+◌, ◌<◌, ◌≤◌, List, [], ◌∷◌, inl, inr, ⊎_elim}
 use Rattle.std.proofs.lemmas.Bool.{cases_lt}
 use Rattle.std.specs.Prelude.{◌↔◌}
 use Rattle.std.specs.List.{All}
 use Rattle.std.proofs.lemmas.List.Elements.{All-nil, All-cons, All-head, All-tail}
 use Rattle.vm_ranges.specs.Range.{Range, Overlaps}
-use Rattle.vm_ranges.specs.RangeOrder.{EndsBefore, EndsAtOrAfterStartOf, IsInOrder, Apart}
+use Rattle.vm_ranges.specs.RangeOrder.{Apart}
 use Rattle.vm_engine.specs.Tree.Block.{Block}
 use Rattle.vm_engine.specs.Tree.BlockList.{IsOrderedFrom, IsClearOf}
 use Rattle.vm_ranges.proofs.RangeCalls.{meet, apart_below, apart_above}

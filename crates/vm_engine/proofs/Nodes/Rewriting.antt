@@ -1,7 +1,7 @@
 -- A block of a tree with a new key or a new state.
-use Rattle.std.proofs.Common.{◌≡◌, ℕ, ◌+◌, max, true, false, cond, List, [], ◌∷◌, ◌++◌, refl, subst, arith, IsSome}
+use Rattle.std.proofs.Common.{◌≡◌, ℕ, max, List, [], ◌∷◌, ◌++◌, refl, subst, IsSome}
 use Rattle.vm_ranges.specs.Range.{Range}
-use Rattle.vm_ranges.specs.RangeOrder.{Before, same_range}
+use Rattle.vm_ranges.specs.RangeOrder.{Before}
 use Rattle.vm_engine.specs.Tree.Block.{Block, free_length}
 use Rattle.vm_engine.specs.Tree.Multiples.{free_alignments}
 use Rattle.vm_engine.specs.Tree.BlockList.{IsOrderedFrom, replace_block, find_key}

@@ -1,14 +1,12 @@
 -- The block whose key contains a range.
-use Rattle.std.proofs.Common.{◌≡◌, ℕ, ◌+◌, ◌<◌, ◌≤◌, true, false, cond, leb, List, [], ◌∷◌, ◌++◌, refl, sym, ap, ◌∙◌, arith, Some, None}
+use Rattle.std.proofs.Common.{◌≡◌, ℕ, ◌+◌, ◌<◌, ◌≤◌, true, false, cond, leb, List, [], ◌∷◌, ◌++◌, refl, ap, ◌∙◌, arith, Some, None}
 use Rattle.std.proofs.lemmas.Bool.{and_parts, leb-true, le-leb, false_from_ne_true}
 use Rattle.vm_ranges.specs.Range.{Range, Covers}
-use Rattle.vm_ranges.specs.RangeOrder.{EndsBefore, EndsAtOrAfterStartOf, IsInOrder, covers, same_range}
+use Rattle.vm_ranges.specs.RangeOrder.{EndsBefore, EndsAtOrAfterStartOf, IsInOrder, covers}
 use Rattle.vm_engine.specs.Tree.Block.{Block}
-use Rattle.vm_engine.specs.Tree.BlockList.{IsOrderedFrom, find_key, find_superset}
+use Rattle.vm_engine.specs.Tree.BlockList.{IsOrderedFrom, find_superset}
 use Rattle.vm_engine.specs.Tree.Shape.{Shape, Fork, blocks, IsTree}
 use Rattle.vm_engine.proofs.Blocks.BlockOrder.{ordered_middle}
-use Rattle.vm_engine.proofs.Blocks.Replacement.{same_range_self, same_range_true}
-use Rattle.vm_engine.proofs.Nodes.TreeEdits.{ranges_if}
 
 covers_true : (a k : Range) → covers a k ≡ true → (a.start ≤ k.start) × (k.end ≤ a.end)
 unfolding covers
@@ -27,10 +25,6 @@ covers_if a k p c =
     let s = c k.start (omega arith, p) in
     let e = c k.end (p, omega arith) in
     rw (le-leb a.start k.start s.0, le-leb k.end a.end e.1)
-
-no_covers_if : (a k : Range) → ¬ Covers a k → covers a k ≡ false
-unfolding Covers
-no_covers_if a k n = false_from_ne_true (covers a k) (λ e. let t = covers_true a k e in n (λ x i. (omega (arith, i.0, t.0), omega (arith, i.1, t.1))))
 
 superset_above : (lo : ℕ) (k : Range) (bs : List Block) → k.start < lo → IsOrderedFrom lo bs → find_superset k bs ≡ None
 superset_above lo k [] p o = refl
@@ -68,15 +62,3 @@ unfolding IsInOrder EndsAtOrAfterStartOf
 superset_here s l x r k e p q c t =
     let o : IsOrderedFrom 0 (blocks l ++ x ∷ blocks r) = rw e at t.ordered in
     ap (λ (v : Shape). find_superset k (blocks v)) e ∙ superset_past 0 k (blocks l) x (blocks r) q o ∙ rw (covers_if x.key k p c)
-
--- A range that overlaps a key, but does not lie in it, lies in no other key.
-pub superset_nowhere : (s l : Shape) (x : Block) (r : Shape) (k : Range) → s ≡ Fork l x r → EndsAtOrAfterStartOf k x.key → EndsAtOrAfterStartOf x.key k → ¬ Covers x.key k → IsTree s → find_superset k (blocks s) ≡ None
-unfolding EndsAtOrAfterStartOf
-superset_nowhere s l x r k e p q c t =
-    let o : IsOrderedFrom 0 (blocks l ++ x ∷ blocks r) = rw e at t.ordered in
-    let m = ordered_middle 0 (blocks l) x (blocks r) o in
-    ap (λ (v : Shape). find_superset k (blocks v)) e
-    ∙ superset_past 0 k (blocks l) x (blocks r) p o
-    ∙ rw (no_covers_if x.key k c, superset_above (x.key.end + 1) k (blocks r) (omega arith) m.2)
-
-pub ruleset supersets = (superset_in_left, superset_in_right, superset_here, superset_nowhere)

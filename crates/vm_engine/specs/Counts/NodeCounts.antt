@@ -1,7 +1,7 @@
 -- The number of nodes entered on each path through a tree. The searches and changes of vm_engine enter exactly these.
 use Rattle.std.specs.Prelude.{ℕ, ◌+◌, ◌-◌, ◌%◌, ◌&&◌, ◌||◌, ◌==◌, if◌then◌else◌, nat_lt, nat_le, Bool, Option, Some, None, Result, Ok, Err}
 use Rattle.std.specs.List.{list_any}
-use Rattle.vm_ranges.specs.Range.{Range, MAX, at_address}
+use Rattle.vm_ranges.specs.Range.{Range, MAX}
 use Rattle.vm_ranges.specs.RangeOrder.{same_range, is_before}
 use Rattle.vm_engine.specs.Tree.Block.{Block, is_free}
 use Rattle.vm_engine.specs.Tree.Multiples.{has_aligned}

@@ -1,7 +1,7 @@
 -- The range that is chosen for a request, and the free block that contains it.
-use Rattle.std.specs.Prelude.{◌≡◌, ℕ, ◌+◌, ◌-◌, ◌<◌, ◌⊎◌, List, ◌∷◌, ◌++◌, Option, MatchOption, Result, Ok, Err}
+use Rattle.std.specs.Prelude.{◌≡◌, ℕ, ◌<◌, ◌⊎◌, List, ◌∷◌, ◌++◌, Option, MatchOption, Result, Ok, Err}
 use Rattle.vm_ranges.specs.Cases.{IfElse}
-use Rattle.vm_ranges.specs.Range.{Range, MAX, span}
+use Rattle.vm_ranges.specs.Range.{Range, MAX}
 use Rattle.vm_ranges.specs.Request.{Request}
 use Rattle.vm_engine.specs.Tree.Block.{Block, free_block}
 use Rattle.vm_engine.specs.Address.{AddressState}
@@ -62,8 +62,8 @@ ExactPlace key Free t last answer =
     IfElse (last ≡ MAX) (answer ≡ Err Overflow)
     (answer ≡ Ok (record { key = key; range = record { start = t; end = last } })))
 
--- The result of `place_in_window`: that of `place_in_block`, but ResourceNotAvailable if the block is free and the window ends
--- before `last`.
+-- The result of `place_in_window`: that of `place_in_block`, but ResourceNotAvailable if the block is free and the window
+-- ends before `last`.
 unfoldable pub ExactPlaceIn : Range → Range → NodeState → ℕ → ℕ → Result Place Error → Type 0
 ExactPlaceIn window key Allocated t last answer = ExactPlace key Allocated t last answer
 ExactPlaceIn window key Free t last answer =

@@ -11,7 +11,8 @@ use Rattle.vm_engine.specs.declared.node.places.Place.{Place}
 unfoldable pub HasNoFitIn : Range → ℕ → ℕ → Block → Type 0
 HasNoFitIn w n a b = HasNoFit n a (cut_to w b)
 
--- The place is the n addresses at the lowest fit within the window of the first block that has a fit there. Its key is the whole block.
+-- The place is the n addresses at the lowest fit within the window of the first block that has a fit there. Its key is the
+-- whole block.
 pub record IsFirstFitIn (w : Range) (n a : ℕ) (bs : List Block) (place : Place) : Type 0 where
   pub before : List Block
   pub after : List Block
@@ -20,7 +21,8 @@ pub record IsFirstFitIn (w : Range) (n a : ℕ) (bs : List Block) (place : Place
   pub fit : IsLowestFit n a (cut_to w (free_block place.key)) place.range.start
   pub long : place.range ≡ span place.range.start n
 
--- The place is the n addresses at the highest fit within the window of the last block that has a fit there. Its key is the whole block.
+-- The place is the n addresses at the highest fit within the window of the last block that has a fit there. Its key is the
+-- whole block.
 pub record IsLastFitIn (w : Range) (n a : ℕ) (bs : List Block) (place : Place) : Type 0 where
   pub before : List Block
   pub after : List Block

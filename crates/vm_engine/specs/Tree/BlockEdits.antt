@@ -1,5 +1,5 @@
 -- The parts of a block from which a range is allocated.
-use Rattle.std.specs.Prelude.{ℕ, ◌+◌, ◌-◌, ◌<◌, ◌≤◌, ◌⊎◌, List, [], ◌∷◌, ◌++◌, if◌then◌else◌, nat_lt}
+use Rattle.std.specs.Prelude.{◌+◌, ◌-◌, ◌<◌, ◌≤◌, ◌⊎◌, List, [], ◌∷◌, ◌++◌, if◌then◌else◌, nat_lt}
 use Rattle.vm_ranges.specs.Range.{Range}
 use Rattle.vm_engine.specs.Tree.Block.{Block, free_block}
 use Rattle.vm_ranges.specs.declared.state.NodeState.TheVariants.{Allocated}
@@ -27,7 +27,3 @@ pub record IsTakenFrom (k r : Range) : Type 0 where
 -- The range r does not fill k.
 abbrev pub NeedsSplit : Range → Range → Type 0
 NeedsSplit k r = (k.start < r.start) ⊎ (r.end < k.end)
-
--- The n addresses that start at s lie in the block.
-unfoldable pub HasLength : ℕ → ℕ → Block → Type 0
-HasLength s n b = (b.key.start ≤ s) × (s + n ≤ b.key.end + 1)

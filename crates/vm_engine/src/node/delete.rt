@@ -65,7 +65,6 @@ pub(super) fn join(left: Child, mut right: Child, count: &mut Steps) -> Child
     requires trees { IsTree (side left) × IsTree (side right) }
     requires ordered { IsOrderedFrom 0 (blocks (side left) ++ blocks (side right)) }
     requires close { DifferByAtMost 1 (height_of (side left)) (height_of (side right)) }
-    requires height_fits { max (height_of (side left)) (height_of (side right)) + 1 < 2 ^ 32 }
     requires count_fits { count.old + height_of (side right) < MAX }
     requires depth { height_of (side right) ≤ MAX_HEIGHT }
     ensures joins { Joins (side left) (side right) (side result) }

@@ -1,4 +1,4 @@
-//! The span of a subtree that was read, which is kept in place of the subtree.
+//! The span of a subtree that was read. It is kept, and the subtree is not.
 //!
 //! A node can be checked if its block and the spans of its children are known. So no tree is needed
 //! to decide whether a saved tree is valid.
