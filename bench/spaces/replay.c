@@ -1,10 +1,12 @@
 /*
  * Runs the lines of the replay language on a space (space, first, last, exact,
  * free), from the standard input to the standard output. It knows one error:
- * that nothing fits.
+ * that nothing fits. With an argument, it prints the bytes that are allocated at
+ * the end to the standard error.
  */
 #include "space.h"
 
+#include <malloc.h>
 #include <stdio.h>
 #include <string.h>
 
@@ -106,7 +108,7 @@ static size_t answer_lines(char *input, size_t length)
 	return (size_t)(line - input);
 }
 
-int main(void)
+int main(int count, char **arguments)
 {
 	static char input[PIECE], answers[8 * PIECE];
 	size_t kept = 0, length;
@@ -121,5 +123,8 @@ int main(void)
 		kept += length - answered;
 		memmove(input, input + answered, kept);
 	}
+	(void)arguments;
+	if (count > 1)
+		fprintf(stderr, "%zu\n", mallinfo2().uordblks);
 	return 0;
 }

@@ -1,4 +1,7 @@
-/* The space of replay.c and window.c: with Linux's drm_mm, or with the C library of this repository. */
+/*
+ * The space of replay.c and window.c: with Linux's drm_mm, with its maple tree, or with the C library of this
+ * repository.
+ */
 #ifndef SPACE_H
 #define SPACE_H
 

@@ -209,7 +209,7 @@ impl Devices {
             })
             .collect();
         draw.shuffle(&mut ranges);
-        let moved = ranges[..(count as usize / 10).min(1000)].to_vec();
+        let moved = ranges[..(count as usize / 10).clamp(1, 1000)].to_vec();
         Devices {
             end: next,
             ranges,
@@ -217,8 +217,26 @@ impl Devices {
         }
     }
 
+    /// Returns the number of devices.
+    pub fn count(&self) -> usize {
+        self.ranges.len()
+    }
+
+    /// Returns the number of copies of a space on which a round makes the calls, so that it makes at least
+    /// a hundred.
+    fn copies(&self) -> usize {
+        (100 / self.moved.len()).max(1)
+    }
+
+    /// Returns the items, once for each copy of a space.
+    fn on_copies<T: Copy>(&self, items: &[T]) -> Vec<(usize, T)> {
+        (0..self.copies())
+            .flat_map(|copy| items.iter().map(move |item| (copy, *item)))
+            .collect()
+    }
+
     /// Returns the space with all devices in it.
-    fn full<L: Library>(&self) -> L::Space {
+    pub fn full<L: Library>(&self) -> L::Space {
         let mut space = L::space(BASE, self.end - BASE);
         for range in &self.ranges {
             let size = size_of(range);
@@ -235,16 +253,18 @@ impl Devices {
         }
     }
 
-    /// Frees the moved ranges and allocates them again, or empties the cache.
-    fn prepare<L: Library>(&self, space: &mut L::Space, cache: Cache) {
+    /// Frees the moved ranges and allocates them again in each copy, or empties the cache.
+    fn prepare<L: Library>(&self, spaces: &mut [L::Space], cache: Cache) {
         if cache == Cache::Cold {
             return empty_cache();
         }
-        for range in &self.moved {
-            L::free(space, *range).expect("it is held");
-        }
-        for range in &self.moved {
-            L::allocate(space, size_of(range), 1, Place::Exact(range.0)).expect("it is clear");
+        for space in spaces {
+            for range in &self.moved {
+                L::free(space, *range).expect("it is held");
+            }
+            for range in &self.moved {
+                L::allocate(space, size_of(range), 1, Place::Exact(range.0)).expect("it is clear");
+            }
         }
     }
 
@@ -254,12 +274,14 @@ impl Devices {
         for round in 0..rounds {
             let mut draw = Draw::from_seed(round);
             let mut moved = self.moved.clone();
-            let mut space = full.clone();
+            let mut spaces = vec![full.clone(); self.copies()];
             draw.shuffle(&mut moved);
-            self.prepare::<L>(&mut space, cache);
-            timing.of(call == Call::Free, &moved, |range| {
-                L::free(&mut space, *range)
-            });
+            self.prepare::<L>(&mut spaces, cache);
+            timing.of(
+                call == Call::Free,
+                &self.on_copies(&moved),
+                |(copy, range)| L::free(&mut spaces[*copy], *range),
+            );
             // The ranges were freed right before, so the cache is warm.
             if cache == Cache::Cold {
                 empty_cache();
@@ -267,14 +289,19 @@ impl Devices {
             draw.shuffle(&mut moved);
             // The largest first, so that each one fits.
             moved.sort_by_key(|range| u64::MAX - size_of(range));
-            timing.of(call != Call::Free, &moved, |range| {
-                let place = match call {
-                    Call::First => Place::First,
-                    Call::Last => Place::Last,
-                    _ => Place::Exact(range.0),
-                };
-                L::allocate(&mut space, size_of(range), size_of(range), place)
-            });
+            timing.of(
+                call != Call::Free,
+                &self.on_copies(&moved),
+                |(copy, range)| {
+                    let place = match call {
+                        Call::First => Place::First,
+                        Call::Last => Place::Last,
+                        _ => Place::Exact(range.0),
+                    };
+                    let size = size_of(range);
+                    L::allocate(&mut spaces[*copy], size, size, place)
+                },
+            );
         }
         timing.done()
     }
@@ -288,22 +315,28 @@ impl Devices {
         let mut timing = Timing::default();
         for round in 0..rounds {
             let mut draw = Draw::from_seed(round);
-            let mut ids = full.clone();
-            let mut all: Vec<u32> = (0..count).collect();
-            draw.shuffle(&mut all);
-            let moved = &all[..self.moved.len()];
+            let mut all_ids = vec![full.clone(); self.copies()];
+            let mut drawn: Vec<u32> = (0..count).collect();
+            draw.shuffle(&mut drawn);
+            let moved = self.on_copies(&drawn[..self.moved.len()]);
             if cache == Cache::Cold {
                 empty_cache();
             } else {
-                moved.iter().for_each(|id| drop(L::free_id(&mut ids, *id)));
-                moved.iter().for_each(|_| drop(L::allocate_id(&mut ids)));
+                for (copy, id) in &moved {
+                    drop(L::free_id(&mut all_ids[*copy], *id));
+                }
+                for (copy, _) in &moved {
+                    drop(L::allocate_id(&mut all_ids[*copy]));
+                }
             }
-            timing.of(call == Call::FreeId, moved, |id| L::free_id(&mut ids, *id));
+            timing.of(call == Call::FreeId, &moved, |(copy, id)| {
+                L::free_id(&mut all_ids[*copy], *id)
+            });
             if cache == Cache::Cold {
                 empty_cache();
             }
-            timing.of(call == Call::AllocateId, moved, |_| {
-                L::allocate_id(&mut ids)
+            timing.of(call == Call::AllocateId, &moved, |(copy, _)| {
+                L::allocate_id(&mut all_ids[*copy])
             });
         }
         timing.done()

@@ -11,6 +11,7 @@ mod difference;
 mod histories;
 #[path = "../../tests/packed/mod.rs"]
 mod packed;
+mod plain;
 #[path = "../../tests/refusing/mod.rs"]
 mod refusing;
 mod saved;
@@ -18,6 +19,8 @@ mod saved;
 mod workload;
 
 use difference::Tally;
+use plain::Plain;
+use refusing::peak_of;
 use std::process::ExitCode;
 use std::time::SystemTime;
 use workload::{library, Cache, Call, Devices};
@@ -55,11 +58,11 @@ fn seed_of_the_clock() -> u64 {
     now.map_or(1, |time| time.as_nanos() as u64)
 }
 
-/// Measures both libraries and compares their results. Prints nanoseconds per call of divsharun,
-/// and the time of `vm-allocator` as a multiple.
+/// Measures the libraries and compares their results. Prints nanoseconds per call of divsharun, and the
+/// times of `vm-allocator` and of an ordered map divided by it.
 fn measure(tally: &mut Tally) {
-    println!("| call | 1,000 ranges | 10,000 ranges | 100,000 ranges |\n|---|---|---|---|");
-    let devices = [1_000, 10_000, 100_000].map(Devices::new);
+    println!("| call | 10 | 100 | 1,000 | 10,000 | 100,000 ranges |\n|---|---|---|---|---|---|");
+    let devices = [10, 100, 1_000, 10_000, 100_000].map(Devices::new);
     for (call, cache) in Call::ALL
         .into_iter()
         .flat_map(|call| Cache::ALL.map(|cache| (call, cache)))
@@ -70,16 +73,35 @@ fn measure(tally: &mut Tally) {
             .collect();
         println!("| {call}, {cache:?} | {} |", cells.join(" | "));
     }
+    let cells: Vec<String> = devices.iter().map(bytes_per_range).collect();
+    println!("| bytes per range | {} |", cells.join(" | "));
 }
 
 fn measure_call(call: Call, cache: Cache, devices: &Devices, tally: &mut Tally) -> String {
-    let rust = devices.measure::<Rust>(call, cache, ROUNDS);
     let port = devices.measure::<Port>(call, cache, ROUNDS);
-    for (rust_answer, port_answer) in rust.answers.iter().zip(&port.answers) {
-        if rust_answer != port_answer {
-            tally.unnamed_difference(&format!("{call}: {rust_answer:?} and {port_answer:?}"));
+    let ratios = [
+        devices.measure::<Rust>(call, cache, ROUNDS),
+        devices.measure::<Plain>(call, cache, ROUNDS),
+    ]
+    .map(|other| {
+        for (answer, port_answer) in other.answers.iter().zip(&port.answers) {
+            if answer != port_answer {
+                tally.unnamed_difference(&format!("{call}: {answer:?} and {port_answer:?}"));
+            }
         }
-    }
-    let (rust, port) = (rust.nanoseconds, port.nanoseconds);
-    format!("{port:.0} ns (× {:.1})", rust / port)
+        format!("{:.1}", other.nanoseconds / port.nanoseconds)
+    });
+    format!("{:.0} ns ({})", port.nanoseconds, ratios.join(", "))
+}
+
+/// Returns the bytes of a space per allocated range, and those of the others divided by them.
+fn bytes_per_range(devices: &Devices) -> String {
+    let bytes = [
+        peak_of(|| devices.full::<Port>()).1,
+        peak_of(|| devices.full::<Rust>()).1,
+        peak_of(|| devices.full::<Plain>()).1,
+    ]
+    .map(|bytes| bytes as f64 / devices.count() as f64);
+    let [port, rust, plain] = bytes;
+    format!("{port:.0} ({:.1}, {:.1})", rust / port, plain / port)
 }

@@ -1,5 +1,7 @@
 //! Functions that the tests share. A second try of a call is for a run in which one allocation
 //! fails.
+#![tactic(auto)]
+
 use serde_json::Value;
 use std::alloc::Global;
 use std::fmt::Debug;
@@ -23,45 +25,45 @@ const COUNT_ALLOCATION: usize = 1_000_100;
 const FAILED_ONCE: &str = "memory is refused once";
 
 /// Ends the test if a result is not the expected one. The message contains `of`.
-pub(crate) fn expect_eq<T: PartialEq + Debug>(rt: &impl Abort, got: &T, want: &T, of: &impl Debug) {
+pub fn expect_eq<T: PartialEq + Debug>(rt: &impl Abort, got: &T, want: &T, of: &impl Debug) {
     assert!(rt; got == want, "{of:?}: {got:?} where {want:?} is due");
 }
 
 /// Ends the test if `is_true` is false. The message contains `of`.
-pub(crate) fn expect_true(rt: &impl Abort, is_true: bool, of: &impl Debug) {
+pub fn expect_true(rt: &impl Abort, is_true: bool, of: &impl Debug) {
     assert!(rt; is_true, "{of:?} is not so");
 }
 
 /// Returns the range from one address to another.
-pub(crate) fn range(rt: &impl Abort, start: u64, end: u64) -> RangeInclusive {
+pub fn range(rt: &impl Abort, start: u64, end: u64) -> RangeInclusive {
     RangeInclusive::new(start, end).expect(rt, "it is a range")
 }
 
 /// Allocates, whether that fails or not. tests/refused_memory makes every later allocation fail.
-pub(crate) fn fail_from_here(alloc: Global) {
+pub fn fail_from_here(alloc: Global) {
     let _ = Vec::<u8>::with_capacity(alloc, LAST_ALLOCATION);
 }
 
 /// Allocates, whether that fails or not. tests/refused_memory checks that all memory that is
 /// allocated from one call of this to the next is freed.
-pub(crate) fn balance(alloc: Global) {
+pub fn balance(alloc: Global) {
     let _ = Vec::<u8>::with_capacity(alloc, BALANCE_ALLOCATION);
 }
 
 /// Allocates, whether that fails or not. tests/refused_memory counts the allocations after this.
-pub(crate) fn count_allocations(alloc: Global) {
+pub fn count_allocations(alloc: Global) {
     let _ = Vec::<u8>::with_capacity(alloc, COUNT_ALLOCATION);
 }
 
 /// Allocates, whether that fails or not. tests/refused_memory checks the number of counted
 /// allocations, if none failed.
-pub(crate) fn expect_allocations(alloc: Global, number: usize) {
+pub fn expect_allocations(alloc: Global, number: usize) {
     let size = COUNT_ALLOCATION.saturating_add(number).saturating_add(1);
     let _ = Vec::<u8>::with_capacity(alloc, size);
 }
 
 /// Creates an empty list with memory for a number of items.
-pub(crate) fn list_for<T>(rt: &(impl Abort + AllocGlobal), number: usize) -> Vec<T> {
+pub fn list_for<T>(rt: &(impl Abort + AllocGlobal), number: usize) -> Vec<T> {
     match Vec::with_capacity(rt.alloc(), number) {
         Ok(list) => list,
         Err(_) => Vec::with_capacity(rt.alloc(), number).expect(rt, FAILED_ONCE),
@@ -69,7 +71,7 @@ pub(crate) fn list_for<T>(rt: &(impl Abort + AllocGlobal), number: usize) -> Vec
 }
 
 /// Creates the allocator of a space.
-pub(crate) fn made(rt: &(impl Abort + AllocGlobal), base: u64, size: u64) -> AddressAllocator {
+pub fn made(rt: &(impl Abort + AllocGlobal), base: u64, size: u64) -> AddressAllocator {
     match AddressAllocator::new(rt.alloc(), base, size) {
         Ok(space) => space,
         Err(_) => AddressAllocator::new(rt.alloc(), base, size).expect(rt, FAILED_ONCE),
@@ -77,10 +79,7 @@ pub(crate) fn made(rt: &(impl Abort + AllocGlobal), base: u64, size: u64) -> Add
 }
 
 /// Clones an allocator.
-pub(crate) fn cloned(
-    rt: &(impl Abort + AllocGlobal),
-    space: &AddressAllocator,
-) -> AddressAllocator {
+pub fn cloned(rt: &(impl Abort + AllocGlobal), space: &AddressAllocator) -> AddressAllocator {
     match space.try_clone(rt.alloc()) {
         Ok(clone) => clone,
         Err(_) => space.try_clone(rt.alloc()).expect(rt, FAILED_ONCE),
@@ -88,7 +87,7 @@ pub(crate) fn cloned(
 }
 
 /// Returns whether exactly these ranges are allocated.
-pub(crate) fn holds_exactly(space: &AddressAllocator, ranges: &[(u64, u64)]) -> bool {
+pub fn holds_exactly(space: &AddressAllocator, ranges: &[(u64, u64)]) -> bool {
     let mut held = space.held_ranges();
     for range in ranges {
         match held.next() {
@@ -100,7 +99,7 @@ pub(crate) fn holds_exactly(space: &AddressAllocator, ranges: &[(u64, u64)]) -> 
 }
 
 /// Returns whether exactly these ranges are the gaps.
-pub(crate) fn gaps_exactly(space: &AddressAllocator, ranges: &[(u64, u64)]) -> bool {
+pub fn gaps_exactly(space: &AddressAllocator, ranges: &[(u64, u64)]) -> bool {
     let mut gaps = space.gaps();
     for range in ranges {
         match gaps.next() {
@@ -112,7 +111,7 @@ pub(crate) fn gaps_exactly(space: &AddressAllocator, ranges: &[(u64, u64)]) -> b
 }
 
 /// Parses the value of a text.
-pub(crate) fn parsed(rt: &(impl Abort + AllocGlobal), text: &str) -> Value {
+pub fn parsed(rt: &(impl Abort + AllocGlobal), text: &str) -> Value {
     match Value::from_str(rt.alloc(), text) {
         Ok(value) => value,
         Err(_) => Value::from_str(rt.alloc(), text).expect(rt, FAILED_ONCE),
@@ -120,12 +119,12 @@ pub(crate) fn parsed(rt: &(impl Abort + AllocGlobal), text: &str) -> Value {
 }
 
 /// Returns the items of a list.
-pub(crate) fn items<'a>(rt: &impl Abort, list: &'a Value) -> &'a [Value] {
+pub fn items<'a>(rt: &impl Abort, list: &'a Value) -> &'a [Value] {
     list.as_array().expect(rt, "it is a list").as_slice()
 }
 
 /// Returns the text of a value.
-pub(crate) fn text_of(rt: &(impl Abort + AllocGlobal), value: &Value) -> String {
+pub fn text_of(rt: &(impl Abort + AllocGlobal), value: &Value) -> String {
     match value.to_string(rt.alloc()) {
         Ok(text) => text,
         Err(_) => value.to_string(rt.alloc()).expect(rt, FAILED_ONCE),
@@ -133,7 +132,7 @@ pub(crate) fn text_of(rt: &(impl Abort + AllocGlobal), value: &Value) -> String 
 }
 
 /// Returns the saved value of an allocator, with its tree node for node.
-pub(crate) fn saved(rt: &(impl Abort + AllocGlobal), space: &AddressAllocator) -> Value {
+pub fn saved(rt: &(impl Abort + AllocGlobal), space: &AddressAllocator) -> Value {
     match space.to_value(rt.alloc()) {
         Ok(value) => value,
         Err(_) => space.to_value(rt.alloc()).expect(rt, FAILED_ONCE),
@@ -141,12 +140,7 @@ pub(crate) fn saved(rt: &(impl Abort + AllocGlobal), space: &AddressAllocator) -
 }
 
 /// Allocates a range that is free.
-pub(crate) fn hold(
-    rt: &(impl Abort + AllocGlobal),
-    space: &mut AddressAllocator,
-    start: u64,
-    size: u64,
-) {
+pub fn hold(rt: &(impl Abort + AllocGlobal), space: &mut AddressAllocator, start: u64, size: u64) {
     let policy = AllocPolicy::ExactMatch(start);
     if space.allocate(rt.alloc(), size, 1, policy).is_err() {
         let again = space.allocate(rt.alloc(), size, 1, policy);
@@ -155,13 +149,13 @@ pub(crate) fn hold(
 }
 
 /// Returns the number of blocks in the tree of an allocator.
-pub(crate) fn block_count(rt: &(impl Abort + AllocGlobal), space: &AddressAllocator) -> usize {
+pub fn block_count(rt: &(impl Abort + AllocGlobal), space: &AddressAllocator) -> usize {
     let text = text_of(rt, &saved(rt, space));
     text.as_str().match_indices("node_state").count()
 }
 
 /// Returns the saved value of an id allocator.
-pub(crate) fn saved_ids(rt: &(impl Abort + AllocGlobal), ids: &IdAllocator) -> Value {
+pub fn saved_ids(rt: &(impl Abort + AllocGlobal), ids: &IdAllocator) -> Value {
     match ids.to_value(rt.alloc()) {
         Ok(value) => value,
         Err(_) => ids.to_value(rt.alloc()).expect(rt, FAILED_ONCE),
@@ -169,7 +163,7 @@ pub(crate) fn saved_ids(rt: &(impl Abort + AllocGlobal), ids: &IdAllocator) -> V
 }
 
 /// Reads the allocator of a value.
-pub(crate) fn read(
+pub fn read(
     rt: &(impl Abort + AllocGlobal),
     value: &Value,
 ) -> Result<AddressAllocator, ValueError> {
@@ -180,7 +174,7 @@ pub(crate) fn read(
 }
 
 /// Reads the allocator of a value with repairs.
-pub(crate) fn read_repaired(
+pub fn read_repaired(
     rt: &(impl Abort + AllocGlobal),
     value: &Value,
 ) -> Result<AddressAllocator, ValueError> {
@@ -191,10 +185,7 @@ pub(crate) fn read_repaired(
 }
 
 /// Reads the id allocator of a value.
-pub(crate) fn read_ids(
-    rt: &(impl Abort + AllocGlobal),
-    value: &Value,
-) -> Result<IdAllocator, ValueError> {
+pub fn read_ids(rt: &(impl Abort + AllocGlobal), value: &Value) -> Result<IdAllocator, ValueError> {
     match IdAllocator::from_value(rt.alloc(), value) {
         Err(ValueError::OutOfMemory) => IdAllocator::from_value(rt.alloc(), value),
         answer => answer,
@@ -202,7 +193,7 @@ pub(crate) fn read_ids(
 }
 
 /// Checks that the result is an allocator that is equal to this one.
-pub(crate) fn expect_space(
+pub fn expect_space(
     rt: &impl Abort,
     answer: Result<AddressAllocator, ValueError>,
     want: &AddressAllocator,
@@ -217,7 +208,7 @@ pub(crate) fn expect_space(
 
 /// A reader of values.
 #[derive(Clone, Copy, Debug)]
-pub(crate) enum Reader {
+pub enum Reader {
     Range,
     State,
     Space,
@@ -241,7 +232,7 @@ impl Reader {
 }
 
 /// Checks that this reader rejects the value. The message contains `of`.
-pub(crate) fn expect_refused(
+pub fn expect_refused(
     rt: &(impl Abort + AllocGlobal),
     reader: Reader,
     value: &Value,
@@ -255,20 +246,20 @@ pub(crate) fn expect_refused(
 }
 
 /// Checks that this reader rejects each value of the list.
-pub(crate) fn reject_each(rt: &(impl Abort + AllocGlobal), reader: Reader, list: &Value) {
+pub fn reject_each(rt: &(impl Abort + AllocGlobal), reader: Reader, list: &Value) {
     for (number, value) in items(rt, list).iter().enumerate() {
         expect_refused(rt, reader, value, &number);
     }
 }
 
 /// Replaces the part at a path of a value.
-pub(crate) fn put(rt: &impl Abort, value: &mut Value, place: &str, part: Value) {
+pub fn put(rt: &impl Abort, value: &mut Value, place: &str, part: Value) {
     *value.pointer_mut(place).expect(rt, "it has the place") = part;
 }
 
 /// Returns nested copies of a node. Each has one address as its key and the copy before it at
 /// `side`. The keys increase from 0, or decrease from `first`, the key of the innermost node.
-pub(crate) fn chain(
+pub fn chain(
     rt: &(impl Abort + AllocGlobal),
     node: &str,
     keys: u64,

@@ -1,0 +1,107 @@
+//! Short recipes for a monitor. `monitor.rs` has most of them together.
+
+use std::sync::{Arc, Mutex};
+use std::thread;
+use vm_allocator::{
+    AddressAllocator, AllocPolicy, Constraint, IdAllocator, RangeInclusive, Result,
+};
+
+const PAGE: u64 = 0x1000;
+const MIB: u64 = 1 << 20;
+const GIB: u64 = 1 << 30;
+
+/// A 32-bit BAR is below 4 GiB, and a 64-bit BAR is above it.
+fn bars(space: &mut AddressAllocator) -> Result<()> {
+    let below = RangeInclusive::new(0, 4 * GIB - 1)?;
+    let above = RangeInclusive::new(4 * GIB, u64::MAX)?;
+    let request = Constraint::new(MIB, MIB, AllocPolicy::FirstMatch)?;
+    let of_32_bits = space.allocate_constraint(request.within(below))?;
+    let of_64_bits = space.allocate_constraint(request.within(above))?;
+    assert!(below.contains(&of_32_bits) && above.contains(&of_64_bits));
+    Ok(())
+}
+
+/// The window of a bridge is a range of the space, and an allocator for the devices behind it.
+fn bridge_window(space: &mut AddressAllocator) -> Result<()> {
+    let window = space.allocate(32 * MIB, MIB, AllocPolicy::FirstMatch)?;
+    let mut behind = AddressAllocator::new(window.start(), window.len())?;
+    let bar = behind.allocate(PAGE, PAGE, AllocPolicy::FirstMatch)?;
+    assert!(window.contains(&bar));
+    // The bridge is unplugged together with its devices.
+    space.free(&window)
+}
+
+/// A device gets all of its BARs, or none.
+fn hot_plug(space: &mut AddressAllocator) -> Result<()> {
+    let bar = |size| Constraint::new(size, size, AllocPolicy::FirstMatch);
+    let before = space.clone();
+    assert!(space.allocate_all(&[bar(MIB)?, bar(1 << 40)?]).is_err());
+    assert_eq!(*space, before);
+    assert_eq!(space.allocate_all(&[bar(MIB)?, bar(PAGE)?])?.len(), 2);
+    Ok(())
+}
+
+/// The guest programs another start of a BAR.
+fn moved_bar(space: &mut AddressAllocator) -> Result<()> {
+    let bar = space.allocate(PAGE, PAGE, AllocPolicy::FirstMatch)?;
+    let moved = space.move_range(&bar, 0xe000_0000)?;
+    assert!(space.holds(&moved) && !space.holds(&bar));
+    Ok(())
+}
+
+/// Some interrupts have a fixed number or a short range.
+fn fixed_interrupts() -> Result<()> {
+    let mut interrupts = IdAllocator::new(5, 23)?;
+    assert_eq!(interrupts.allocate_exact(9)?, 9);
+    assert_eq!(interrupts.allocate_in(16, 23)?, 16);
+    assert_eq!(interrupts.allocate_id()?, 5);
+    Ok(())
+}
+
+/// MSI needs blocks of vectors, aligned to their lengths. The addresses of an allocator can be vectors.
+fn blocks_of_vectors() -> Result<()> {
+    let mut vectors = AddressAllocator::new(32, 224)?;
+    vectors.allocate(1, 1, AllocPolicy::FirstMatch)?;
+    let block = vectors.allocate(16, 16, AllocPolicy::FirstMatch)?;
+    assert_eq!((block.start(), block.end()), (48, 63));
+    Ok(())
+}
+
+/// A snapshot is restored. What this crate saved is read by the strict reader.
+#[cfg(feature = "serde")]
+fn snapshot(space: &AddressAllocator) {
+    let text = serde_json::to_string(space).expect("it is written");
+    let mut reader = serde_json::Deserializer::from_str(&text);
+    let restored = AddressAllocator::deserialize_strict(&mut reader).expect("it is read");
+    assert_eq!(restored, *space);
+}
+
+#[cfg(not(feature = "serde"))]
+fn snapshot(space: &AddressAllocator) {
+    assert_eq!(space.clone(), *space);
+}
+
+/// Threads share an allocator behind a lock.
+fn threads(space: AddressAllocator) -> Result<()> {
+    let space = Arc::new(Mutex::new(space));
+    let worker = Arc::clone(&space);
+    let plugged = thread::spawn(move || {
+        let mut space = worker.lock().expect("no call panics");
+        space.allocate(PAGE, PAGE, AllocPolicy::LastMatch)
+    });
+    let bar = plugged.join().expect("no call panics")?;
+    assert!(space.lock().expect("no call panics").holds(&bar));
+    Ok(())
+}
+
+fn main() -> Result<()> {
+    let mut space = AddressAllocator::new(3 * GIB, 253 * GIB)?;
+    bars(&mut space)?;
+    bridge_window(&mut space)?;
+    hot_plug(&mut space)?;
+    moved_bar(&mut space)?;
+    fixed_interrupts()?;
+    blocks_of_vectors()?;
+    snapshot(&space);
+    threads(space)
+}
