@@ -51,7 +51,7 @@ rules() { # command ..: runs it for each check of texts, up to the first that fa
     for rule in count_rule error_rule; do
         "$@" "tests/$rule" && "$@" "tests/$rule" --mutants || return 1
     done
-    "$@" tests/readme_example && "$@" tests/calling_contracts
+    "$@" tests/pages
 }
 
 finish_parts() { # name of the check
