@@ -59,14 +59,14 @@ METHODS = {
     "and_then", "as_array", "as_object", "as_slice", "as_str", "as_u64", "capacity", "checked_add", "checked_mul",
     "checked_sub", "clone", "cmp", "contains", "copied", "copy_from_slice", "enumerate", "first", "first_chunk", "flush", "get",
     "get_mut", "ilog2", "insert", "into", "is_ascii_digit", "is_empty", "is_none", "is_null", "is_power_of_two",
-    "is_some", "iter", "last", "len", "max", "min", "next", "ok", "ok_or", "pop", "pop_first", "push", "range", "read", "remove", "reserve_exact", "rotate_left",
-    "saturating_add", "saturating_sub", "simd_eq", "split_at", "split_first", "take", "to_bitmask", "trailing_zeros", "unwrap", "write_all",
+    "is_some", "iter", "last", "len", "max", "min", "next", "next_back", "ok", "ok_or", "pop", "pop_first", "push", "range", "read", "remove", "reserve_exact", "rotate_left",
+    "saturating_add", "saturating_sub", "simd_eq", "split_at", "split_first", "split_last", "take", "to_bitmask", "trailing_zeros", "unwrap", "write_all",
 }
 MACROS = {"json", "unreachable"}
 DERIVES = {"Clone", "Copy", "Debug", "Default", "Drop", "Eq", "Error", "Hash", "Ord", "PartialEq", "PartialOrd"}
 # Names that no item of a crate may have, because the tables mean the items of the libraries.
 TAKEN = (PRELUDE | NAMES | NUMBERS | {path.split("::")[0] for path in ASSOCIATED}) - {"Result"}
-TRAITS = {"DoubleEndedIterator", "Eq", "From", "Iterator", "Ord", "PartialEq", "PartialOrd"}
+TRAITS = {"DoubleEndedIterator", "Eq", "ExactSizeIterator", "From", "Iterator", "Ord", "PartialEq", "PartialOrd"}
 TRAITS_OF_TESTS = {"Read", "Write"}
 ATTRIBUTES = {"allow", "cold", "default", "derive", "error", "inline"}
 KEYWORDS = set("""_ as bool break const continue crate else enum false fn for if impl in let loop match mod

@@ -1,6 +1,7 @@
 -- Ranges of devices in a list of slots.
-use Rattle.std.proofs.Common.{◌≡◌, ◌==◌, ℕ, nat_lt, ◌+◌, ◌-◌, ◌≤◌, ◌<◌, cond, slice_set, List, [], ◌∷◌, ◌++◌, length, get_or, Option, Some, None, refl, sym, ap, ◌∙◌, arith, Less}
+use Rattle.std.proofs.Common.{◌≡◌, ◌==◌, ℕ, suc, nat_lt, ◌+◌, ◌-◌, ◌≤◌, ◌<◌, cond, slice_set, List, [], ◌∷◌, ◌++◌, length, map as map_list, get_or, Option, Some, None, refl, sym, ap, ◌∙◌, arith, Less}
 use Rattle.std.proofs.lemmas.Grind.{common_steps}
+use Rattle.std.proofs.lemmas.List.{length_push, map-append}
 use Rattle.std.specs.Cmp.{nat_cmp_total, unsigned_tied}
 use Rattle.std.specs.List.{AllByRecursion}
 use Rattle.std.specs.List.Sorted.{IsStrictlySortedBy}
@@ -10,6 +11,7 @@ use Rattle.std.specs.FinMap as map
 use Rattle.vm_ranges.proofs.Items.{less}
 use Rattle.vm_ranges.specs.Range.{Range}
 use Rattle.vm_allocator.proofs.Callers.{entries_of_sorted}
+use Rattle.vm_devices.specs.Queries.{device_of}
 use Rattle.vm_devices.specs.Slots.{slot_entries, slot_map}
 use Rattle.vm_devices.proofs.Tables.{get_with, get_without}
 
@@ -94,3 +96,28 @@ slots_rise f (Some r ∷ slots) = (above f (f + 1) slots (omega arith), slots_ri
 
 pub entries_of_slots : (f : ℕ) (slots : List (Option Range)) → map.entries (slot_map f slots) ≡ slot_entries f slots
 entries_of_slots f slots = entries_of_sorted (slot_entries f slots) (slots_rise f slots)
+
+pub entries_counted : (f : ℕ) (slots : List (Option Range)) → map.len (slot_map f slots) ≡ length (slot_entries f slots)
+entries_counted f slots = map.len-entries (slot_map f slots) ∙ ap length (entries_of_slots f slots)
+
+pub ruleset listings = (entries_of_slots, entries_counted)
+
+-- ---- The last slot
+one_further : (f : ℕ) (slots : List (Option Range)) (r : Range) {all : List (ℕ × Range)} → all ≡ slot_entries (f + 1) slots ++ (f + 1 + length slots, r) ∷ [] → all ≡ slot_entries (f + 1) slots ++ (f + suc (length slots), r) ∷ []
+one_further f slots r e = let here : f + 1 + length slots ≡ f + suc (length slots) = omega arith in e ∙ ap (λ (n : ℕ). slot_entries (f + 1) slots ++ (n, r) ∷ []) here
+
+device_last : (f : ℕ) (slots : List (Option Range)) (r : Range) → slot_entries f (slots ++ Some r ∷ []) ≡ slot_entries f slots ++ (f + length slots, r) ∷ []
+device_last f [] r = let here : f ≡ f + 0 = omega arith in ap (λ (n : ℕ). (n, r) ∷ []) here
+device_last f (None ∷ slots) r = one_further f slots r (device_last (f + 1) slots r)
+device_last f (Some s ∷ slots) r = ap (λ (v : List (ℕ × Range)). (f, s) ∷ v) (one_further f slots r (device_last (f + 1) slots r))
+
+pub last_counted : (f : ℕ) (slots : List (Option Range)) (r : Range) → length (slot_entries f (slots ++ Some r ∷ [])) ≡ length (slot_entries f slots) + 1
+last_counted f slots r = ap length (device_last f slots r) ∙ length_push (slot_entries f slots) (f + length slots, r)
+
+pub last_listed : (f : ℕ) (slots : List (Option Range)) (r : Range) → map_list device_of (slot_entries f (slots ++ Some r ∷ [])) ≡ map_list device_of (slot_entries f slots) ++ device_of (f + length slots, r) ∷ []
+last_listed f slots r = ap (map_list device_of) (device_last f slots r) ∙ map-append device_of (slot_entries f slots) ((f + length slots, r) ∷ [])
+
+pub one_more_listed : (f : ℕ) (slots : List (Option Range)) (r : Range) → length (map_list device_of (slot_entries f (slots ++ Some r ∷ []))) ≡ length (map_list device_of (slot_entries f slots)) + 1
+one_more_listed f slots r = ap length (last_listed f slots r) ∙ length_push (map_list device_of (slot_entries f slots)) (device_of (f + length slots, r))
+
+pub ruleset last_slot = (empty_last, last_counted, last_listed, one_more_listed)

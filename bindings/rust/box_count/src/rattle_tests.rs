@@ -6,6 +6,7 @@ mod refusing;
 
 use crate::rattle::{AllocError, AllocFailed, BTreeMap, BTreeSet, Box, Global, Vec};
 use refusing::{blocks, peak_of, refusing};
+use std::fmt::Debug;
 use std::string::ToString;
 use std::{collections, format};
 
@@ -114,6 +115,29 @@ fn maps() {
     assert_eq!(blocks(), before);
 }
 
+/// Takes items from both ends, in random order, from an iterator and from one of Rust.
+fn expect_same_ends<I: PartialEq + Debug>(
+    mut items: impl DoubleEndedIterator<Item = I> + Clone,
+    mut rust: impl DoubleEndedIterator<Item = I> + Clone,
+    mut draw: u64,
+) {
+    loop {
+        draw = draw * 75 % 65_537;
+        let (item, want) = match draw % 2 {
+            0 => (items.next(), rust.next()),
+            _ => (items.next_back(), rust.next_back()),
+        };
+        assert_eq!(item, want);
+        if item.is_none() {
+            break;
+        }
+        if draw < 32 {
+            assert!(items.clone().eq(rust.clone()));
+        }
+    }
+    assert_eq!((items.next(), items.next_back()), (None, None));
+}
+
 #[test]
 fn sets() {
     for keys in [8u32, 500, 20_000] {
@@ -135,6 +159,9 @@ fn sets() {
             assert_eq!(set.contains(&value), rust.contains(&value));
             let range = value..=value + 9;
             assert!(set.range(range.clone()).eq(rust.range(range)));
+            if step % (keys / 4) == 0 {
+                expect_same_ends(set.iter(), rust.iter(), u64::from(draw));
+            }
         }
         assert!(set.iter().eq(rust.iter()) && set.clone().is_ok_and(|clone| clone == set));
         assert_eq!(format!("{set:?}"), format!("{rust:?}"));

@@ -501,8 +501,26 @@ impl<'a> IntoIterator for &'a DeviceManager {
     }
 }
 
-/// An iterator over the devices of a [`DeviceManager`], in ascending order of ids. It is created by
-/// [`devices`](DeviceManager::devices).
+/// An iterator over the devices of a [`DeviceManager`], in ascending order of ids or from both ends.
+/// Its length is exact.
+///
+/// It is created by [`devices`](DeviceManager::devices) and [`iter`](DeviceManager::iter).
+///
+/// # Example
+///
+/// ```rust
+/// use divsharun::{AllocPolicy, DeviceManager};
+///
+/// let mut manager = DeviceManager::new(5, 23, 0xd000_0000, 0x2ec0_0000)?;
+/// let net = manager.reserve(0x1000, 0x1000, AllocPolicy::FirstMatch)?;
+/// let disk = manager.reserve(0x4000, 0x4000, AllocPolicy::FirstMatch)?;
+/// let mut devices = manager.devices();
+/// assert_eq!(devices.len(), 2);
+/// assert!(devices.clone().rev().eq([disk, net]));
+/// assert_eq!((devices.next(), devices.len()), (Some(net), 1));
+/// # Ok::<(), divsharun::Error>(())
+/// ```
+#[derive(Clone)]
 pub struct Devices<'a>(proved_devices::Devices<'a>);
 
 impl Iterator for Devices<'_> {
@@ -510,6 +528,22 @@ impl Iterator for Devices<'_> {
 
     fn next(&mut self) -> Option<DeviceSlot> {
         self.0.next().map(DeviceSlot::of)
+    }
+
+    fn size_hint(&self) -> (usize, Option<usize>) {
+        self.0.size_hint()
+    }
+}
+
+impl DoubleEndedIterator for Devices<'_> {
+    fn next_back(&mut self) -> Option<DeviceSlot> {
+        self.0.next_back().map(DeviceSlot::of)
+    }
+}
+
+impl ExactSizeIterator for Devices<'_> {
+    fn len(&self) -> usize {
+        self.0.len()
     }
 }
 

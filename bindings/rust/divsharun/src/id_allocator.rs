@@ -454,6 +454,22 @@ impl IdAllocator {
         self.0.range_end()
     }
 
+    /// Returns an iterator over the allocated ids, like [`held_ids`](Self::held_ids).
+    ///
+    /// # Example
+    ///
+    /// ```rust
+    /// use divsharun::IdAllocator;
+    ///
+    /// let lines = IdAllocator::with_held(5, 23, &[5, 8])?;
+    /// assert_eq!(lines.iter().max(), Some(8));
+    /// # Ok::<(), divsharun::Error>(())
+    /// ```
+    #[must_use]
+    pub fn iter(&self) -> HeldIds<'_> {
+        self.held_ids()
+    }
+
     /// Returns an iterator over the allocated ids in ascending order. It does not allocate memory,
     /// and visits each id that was allocated at some time.
     ///
@@ -543,8 +559,36 @@ impl fmt::Debug for IdAllocator {
     }
 }
 
-/// An iterator over the allocated ids of an [`IdAllocator`], in ascending order. It is created by
-/// [`held_ids`](IdAllocator::held_ids).
+impl<'a> IntoIterator for &'a IdAllocator {
+    type Item = u32;
+    type IntoIter = HeldIds<'a>;
+
+    /// Returns an iterator over the allocated ids.
+    fn into_iter(self) -> HeldIds<'a> {
+        self.held_ids()
+    }
+}
+
+/// An iterator over the allocated ids of an [`IdAllocator`], in ascending order or from both ends. Its
+/// length is exact.
+///
+/// It is created by [`held_ids`](IdAllocator::held_ids) and [`iter`](IdAllocator::iter).
+///
+/// # Example
+///
+/// ```rust
+/// use divsharun::IdAllocator;
+///
+/// let lines = IdAllocator::with_held(5, 23, &[5, 8, 9])?;
+/// let mut ids = lines.held_ids();
+/// assert_eq!(ids.next_back(), Some(9));
+/// # #[cfg(target_pointer_width = "64")]
+/// assert_eq!(ids.len(), 2);
+/// assert!(ids.clone().rev().eq([8, 5]));
+/// assert!(ids.eq([5, 8]));
+/// # Ok::<(), divsharun::Error>(())
+/// ```
+#[derive(Clone)]
 pub struct HeldIds<'a>(proved::HeldIds<'a>);
 
 impl Iterator for HeldIds<'_> {
@@ -553,7 +597,22 @@ impl Iterator for HeldIds<'_> {
     fn next(&mut self) -> Option<u32> {
         self.0.next()
     }
+
+    fn size_hint(&self) -> (usize, Option<usize>) {
+        let left = usize::try_from(self.0.count_left());
+        (left.unwrap_or(usize::MAX), left.ok())
+    }
 }
+
+impl DoubleEndedIterator for HeldIds<'_> {
+    fn next_back(&mut self) -> Option<u32> {
+        self.0.next_back()
+    }
+}
+
+// 2^32 ids are too many for a `usize` of 32 bits.
+#[cfg(target_pointer_width = "64")]
+impl ExactSizeIterator for HeldIds<'_> {}
 
 impl FusedIterator for HeldIds<'_> {}
 

@@ -47,7 +47,8 @@
 //!   [`allocate_exact`](IdAllocator::allocate_exact), [`allocate_in`](IdAllocator::allocate_in),
 //!   [`allocate_ids`](IdAllocator::allocate_ids), [`peek_id`](IdAllocator::peek_id),
 //!   [`held_count`](IdAllocator::held_count), [`free_count`](IdAllocator::free_count),
-//!   [`held_ids`](IdAllocator::held_ids), the ends of the range and equality;
+//!   [`held_ids`](IdAllocator::held_ids), [`iter`](IdAllocator::iter), the ends of the range and
+//!   equality;
 //! - of an [`AddressAllocator`]: [`with_held`](AddressAllocator::with_held),
 //!   [`allocate_all`](AddressAllocator::allocate_all),
 //!   [`allocate_constraint`](AddressAllocator::allocate_constraint),

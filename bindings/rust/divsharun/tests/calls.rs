@@ -2,6 +2,7 @@
 //! does not have and the texts that the library writes.
 
 mod draw;
+mod items;
 mod model;
 
 use divsharun::{
@@ -9,6 +10,7 @@ use divsharun::{
     ListError, NodeState, RangeInclusive, TryError,
 };
 use draw::Draw;
+use items::expect_items;
 use model::{Model, WIDTH};
 use std::collections::{BTreeSet, HashSet};
 
@@ -348,7 +350,8 @@ fn ids_are_those_of_a_plain_model() {
             };
             assert_eq!(ids.free_id(id), want);
             assert_eq!(ids.held_count(), held.len() as u64);
-            assert!(ids.held_ids().eq(held.iter().copied()));
+            let list: Vec<_> = held.iter().copied().collect();
+            expect_items(ids.held_ids(), &list, |items| Some(items.len()), &mut draw);
         }
         assert_eq!((ids.range_base(), ids.range_end()), (first, last));
     }
@@ -363,6 +366,7 @@ fn ids_can_be_looked_at() {
     assert_eq!(ids.peek_id(), Err(Error::ResourceNotAvailable));
     assert_eq!(ids.free_id(6), Ok(6));
     assert_eq!((ids.peek_id(), ids.held_count()), (Ok(6), 2));
+    assert_eq!(Vec::from_iter(&ids), [5, 7]);
     let mut clone = ids.clone();
     assert_eq!(clone.allocate_id(), Ok(6));
     assert!(clone.is_allocated(6) && !ids.is_allocated(6));
@@ -381,6 +385,28 @@ fn a_device_gets_both_or_neither() {
     let refused = devices.reserve(0, 1, AllocPolicy::FirstMatch);
     assert_eq!(refused, Err(Error::InvalidSize(0)));
     assert!(devices.reserve(0x1000, 1, AllocPolicy::FirstMatch).is_ok());
+}
+
+#[test]
+fn devices_are_listed_by_their_ids() {
+    let mut draw = Draw(4);
+    let mut devices = DeviceManager::new(u32::MAX - 9, u32::MAX, BASE, WIDTH).unwrap();
+    let mut list: Vec<DeviceSlot> = Vec::new();
+    for _ in 0..500 {
+        let id = u32::MAX - draw.below(10) as u32;
+        if draw.below(2) == 0 {
+            list.extend(devices.reserve(1 + draw.below(6), 1, AllocPolicy::LastMatch));
+        } else if devices.release(id).is_ok() {
+            list.retain(|device| device.id != id);
+        }
+        list.sort_by_key(|device| device.id);
+        expect_items(
+            devices.devices(),
+            &list,
+            |items| Some(items.len()),
+            &mut draw,
+        );
+    }
 }
 
 #[test]

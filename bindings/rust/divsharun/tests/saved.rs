@@ -229,6 +229,10 @@ fn written_values_are_read() {
         (all.held_count(), all.is_allocated(u32::MAX)),
         (1 << 32, true)
     );
+    assert_eq!(
+        (all.held_ids().len(), all.held_ids().next_back()),
+        (1 << 32, Some(u32::MAX))
+    );
 }
 
 #[test]

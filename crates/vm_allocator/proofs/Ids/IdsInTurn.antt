@@ -15,9 +15,10 @@ use Rattle.vm_allocator.specs.IdRequests.{free_ids, holding_ids, HoldsId, Alloca
 use Rattle.vm_allocator.specs.Laws.IdRequestLaws.{AllocatesInTurn, AllocatesExactlyInTurn, FreesInTurn, free_ids_below, SeveralAreAsSingle, ExactIsAsSingle, WindowsOfIds, HeldIdsAreAsExact, IdRequestsAreDetermined, IdRequestsPreserveStates}
 use Rattle.vm_ranges.specs.declared.error.Error.{Error}
 use Rattle.vm_ranges.specs.declared.error.Error.TheVariants.{Overflow, ResourceNotAvailable, OutOfMemory}
+use Rattle.vm_allocator.specs.Checks.IdQueries.{IncreaseWithin}
 use Rattle.vm_allocator.proofs.Callers.{id_is_lowest, id_state}
 use Rattle.vm_allocator.proofs.Ids.IdCounts.{tells_apart}
-use Rattle.vm_allocator.proofs.Ids.IncreasingBounds.{IncreaseWithin, rise}
+use Rattle.vm_allocator.proofs.Ids.IncreasingBounds.{rise}
 use Rattle.vm_allocator.proofs.Ids.IdResults.{id_states_are_preserved}
 use Rattle.vm_allocator.proofs.Ids.EveryIdCall.{lowest_or_all, decided_held}
 use Rattle.vm_allocator.proofs.Ids.ExactIds.{absent, holding_in_range, exact_state, exact_was_free}

@@ -11,11 +11,7 @@ use Rattle.vm_ranges.proofs.Items.{less, less_is}
 use Rattle.vm_ranges.specs.Lists.{EncodesItems}
 use Rattle.vm_allocator.specs.Values.IdValues.{EncodesNumber}
 use Rattle.vm_allocator.specs.Checks.IdChecks.{increasing}
-
--- The numbers are in strictly increasing order, at least `lowest` and below `bound`.
-abbrev pub IncreaseWithin : ℕ → ℕ → List ℕ → Type 0
-IncreaseWithin lowest bound [] = Unit {0}
-IncreaseWithin lowest bound (n ∷ ns) = (lowest ≤ n) × (n < bound) × IncreaseWithin (n + 1) bound ns
+use Rattle.vm_allocator.specs.Checks.IdQueries.{IncreaseWithin}
 
 pub increasing-states : (lowest bound : ℕ) (ds : Items) (ns : List ℕ) → increasing lowest bound ds ≡ Some ns → EncodesItems EncodesNumber ds ns × IncreaseWithin lowest bound ns
 increasing-states lowest bound no_items [] e = (tt, tt)

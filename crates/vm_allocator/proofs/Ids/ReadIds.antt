@@ -23,8 +23,9 @@ use Rattle.vm_allocator.specs.FreedLists.{AreFreedOf, is_next}
 use Rattle.vm_allocator.specs.Checks.FreedChecks.{ends_of, AreEndsOf, ChecksParts}
 use Rattle.vm_allocator.specs.Checks.IdChecks.{increasing, ids_in, decoded_next, decoded_ids}
 use Rattle.vm_ranges.proofs.Nulls.{null_of}
+use Rattle.vm_allocator.specs.Checks.IdQueries.{IncreaseWithin}
 use Rattle.vm_allocator.proofs.Ids.IncreasingNumbers.{some_of, one_list}
-use Rattle.vm_allocator.proofs.Ids.IncreasingBounds.{IncreaseWithin, increasing-states, states-increasing, sorted, within, rise}
+use Rattle.vm_allocator.proofs.Ids.IncreasingBounds.{increasing-states, states-increasing, sorted, within, rise}
 
 -- The next id.
 

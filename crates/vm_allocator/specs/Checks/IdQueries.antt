@@ -1,17 +1,37 @@
 -- The walk over the held ids, and a part of equality. Only private functions and the iterator cite them.
-use Rattle.std.specs.Prelude.{◌≡◌, ℕ, zero, suc, ◌+◌, ◌==◌, if◌then◌else◌, List, [], ◌∷◌, Option, Some, None}
+use Rattle.std.specs.Prelude.{◌≡◌, ℕ, ◌+◌, ◌-◌, ◌^◌, ◌<◌, ◌≤◌, not, List, [], ◌∷◌, ◌++◌, length, Option, Some, None}
+use Rattle.std.specs.List.{filter, list_any, range_with_len}
+use Rattle.std.specs.Ordering.{nat_cmp, eq_by_cmp}
 use Rattle.vm_allocator.specs.Ids.{IdState}
 
--- The freed ids that the walk did not visit yet: the next one, and those above it.
-abbrev pub freed_left : Option ℕ → List ℕ → List ℕ
-freed_left None above = []
-freed_left (Some id) above = id ∷ above
+-- The freed ids that the walk from below did not visit: the next one, and those above it.
+abbrev pub freed_from : Option ℕ → List ℕ → List ℕ
+freed_from None above = []
+freed_from (Some id) above = id ∷ above
 
--- The held ids among the n ids that start at id. The freed ids are in increasing order.
-abbrev pub ids_left : ℕ → ℕ → List ℕ → List ℕ
-ids_left zero id freed = []
-ids_left (suc n) id [] = id ∷ ids_left n (id + 1) []
-ids_left (suc n) id (f ∷ fs) = if f == id then ids_left n (id + 1) fs else id ∷ ids_left n (id + 1) (f ∷ fs)
+-- The freed ids that the walk from above did not visit: those below the next one, and it.
+abbrev pub freed_to : List ℕ → Option ℕ → List ℕ
+freed_to below None = []
+freed_to below (Some id) = below ++ id ∷ []
+
+-- The ids from `next` up to below `bound` that are not in the list of freed ids.
+unfoldable pub ids_left : ℕ → ℕ → List ℕ → List ℕ
+ids_left next bound freed =
+    filter (λ i. not (list_any (eq_by_cmp nat_cmp i) freed)) (range_with_len next (bound - next))
+
+-- The numbers are in strictly increasing order, at least `lowest` and below `bound`.
+abbrev pub IncreaseWithin : ℕ → ℕ → List ℕ → Type 0
+IncreaseWithin lowest bound [] = Unit {0}
+IncreaseWithin lowest bound (n ∷ ns) = (lowest ≤ n) × (n < bound) × IncreaseWithin (n + 1) bound ns
+
+-- The fields of the walk are valid: the freed ids are in increasing order, in both lists are the same ones of the ids that
+-- were not visited, and the number of ids that are left is right.
+pub record AreIdsLeft (next bound : ℕ) (above below : List ℕ) (left : ℕ) : Type 0 where
+  pub ids : bound ≤ 2 ^ 32
+  pub from_next : IncreaseWithin next (2 ^ 32) above
+  pub to_bound : IncreaseWithin 0 bound below
+  pub same : (i : ℕ) → next ≤ i → i < bound → list_any (eq_by_cmp nat_cmp i) above ≡ list_any (eq_by_cmp nat_cmp i) below
+  pub counted : left ≡ length (ids_left next bound above)
 
 -- The states have the same range and the same bound.
 pub record HaveSameBounds (a b : IdState) : Type 0 where

@@ -65,11 +65,12 @@ impl DeviceTable {
         self.slots.get(id)
     }
 
-    /// Returns an iterator over the devices, by increasing ids.
-    pub(super) fn iter(&self) -> Devices<'_>
+    /// Returns an iterator over the devices, by increasing ids. `count` is their number.
+    pub(super) fn iter(&self, count: u64) -> Devices<'_>
+        requires { count ≡ map.len self.now }
         ensures { result ≡ map_list device_of (map.entries self.now) }
     {
-        self.slots.iter()
+        self.slots.iter(count)
     }
 
     /// Returns the id of the device whose range starts at `start`, or `None` if there is none.

@@ -16,7 +16,7 @@ impl DeviceManager {
     pub fn devices(&self) -> Devices<'_>
         ensures { result ≡ device_list self.now }
     {
-        self.slots.iter()
+        self.slots.iter(self.device_count())
     }
 
     /// Returns the number of devices.

@@ -3,7 +3,7 @@
 //! The lowest free id is always allocated first, so the ids are close together, and a vector takes
 //! less time than a map.
 ghost use Rattle.std.specs.Prelude.{◌≡◌, ℕ, ◌+◌, ◌^◌, ◌<◌, ◌≤◌, length, max, map as map_list, IfOk, OnOk, OnErr};
-ghost use Rattle.std.specs.Iterator.{YieldsFirst, item_count};
+ghost use Rattle.std.specs.Iterator.{YieldsFirst, YieldsLast, item_count};
 ghost use Rattle.std.specs.FinMap as map;
 ghost use Rattle.vm_devices.specs.Queries.{device_of};
 ghost use Rattle.vm_devices.specs.Slots.{slot_entries};
@@ -96,14 +96,16 @@ impl Slots {
         })
     }
 
-    /// Returns an iterator over the devices, by increasing ids.
-    #[tactic(auto, using(crate::proofs::Slots::entries_of_slots))]
-    pub(super) fn iter(&self) -> Devices<'_>
+    /// Returns an iterator over the devices, by increasing ids. `count` is their number.
+    #[tactic(auto, using(crate::proofs::Slots::listings))]
+    pub(super) fn iter(&self, count: u64) -> Devices<'_>
+        requires { count ≡ map.len self.now }
         ensures { result ≡ map_list device_of (map.entries self.now) }
     {
         Devices {
             next_id: u64::from(self.first_id),
             slots: &self.ranges,
+            left: count as usize,
         }
     }
 }
@@ -166,18 +168,21 @@ fn extend_to(slots: &mut Vec<Option<RangeInclusive>>, index: usize) -> Result<()
     Ok(())
 }
 
-/// An iterator over the devices, by increasing ids. It does not allocate.
+/// An iterator over the devices, by increasing ids, or backwards. It does not allocate.
 ///
 /// It visits each id between the lowest and the highest that had a device. Its model is the list of
 /// the devices that it has not returned yet.
-#[derive(Drop)]
+#[derive(Clone, Drop)]
 pub struct Devices<'a> {
+    // The id of the first slot that was not visited, and the slots that were not visited.
     next_id: u64,
     slots: &'a [Option<RangeInclusive>],
+    // The number of devices that were not returned.
+    left: usize,
 }
 
 impl<'a> Model for Devices<'a> {
-    ghost use Rattle.std.specs.Prelude.{ℕ, ◌+◌, ◌^◌, ◌≤◌, List, length, map};
+    ghost use Rattle.std.specs.Prelude.{◌≡◌, ℕ, ◌+◌, ◌^◌, ◌≤◌, List, length, map};
     ghost use Rattle.vm_devices.specs.declared.device_slot.DeviceSlot.{DeviceSlot};
     ghost use Rattle.vm_devices.specs.Queries.{device_of};
     ghost use Rattle.vm_devices.specs.Slots.{slot_entries};
@@ -186,7 +191,8 @@ impl<'a> Model for Devices<'a> {
 
     ghost view = { λ d. map device_of (slot_entries d.next_id d.slots.now) };
 
-    ghost invariant = { λ d. d.next_id + length d.slots.now ≤ 2 ^ 32 };
+    ghost invariant = { λ d.
+        (d.next_id + length d.slots.now ≤ 2 ^ 32) × (d.left ≡ length (slot_entries d.next_id d.slots.now)) };
 }
 
 impl<'a> Iterator for Devices<'a> {
@@ -196,16 +202,47 @@ impl<'a> Iterator for Devices<'a> {
 
     ghost remaining = { item_count (λ d. d) };
 
-    /// Returns the next device.
+    /// Returns the device with the lowest id that is left.
     fn next(&mut self) -> Option<DeviceSlot> {
         while let Some((slot, rest)) = self.slots.split_first() {
             let id = self.next_id as u32;
             self.next_id += 1;
             self.slots = rest;
             if let Some(range) = slot {
+                self.left -= 1;
                 return Some(DeviceSlot { id, range: *range });
             }
         }
         None
+    }
+
+    /// Returns the number of devices that are left, twice.
+    fn size_hint(&self) -> (usize, Option<usize>) {
+        (self.left, Some(self.left))
+    }
+}
+
+impl<'a> DoubleEndedIterator for Devices<'a> {
+    ghost next_back_gives = { YieldsLast (λ d. d) };
+
+    /// Returns the device with the highest id that is left.
+    #[tactic(auto, using(crate::proofs::Slots::last_slot))]
+    fn next_back(&mut self) -> Option<DeviceSlot> {
+        while let Some((slot, rest)) = self.slots.split_last() {
+            let id = (self.next_id + rest.len() as u64) as u32;
+            self.slots = rest;
+            if let Some(range) = slot {
+                self.left -= 1;
+                return Some(DeviceSlot { id, range: *range });
+            }
+        }
+        None
+    }
+}
+
+impl<'a> ExactSizeIterator for Devices<'a> {
+    /// Returns the number of devices that are left. It takes constant time.
+    fn len(&self) -> usize {
+        self.left
     }
 }

@@ -33,6 +33,16 @@ fn read_ones(rt: HostRuntime) {
     }
 }
 
+#[test]
+fn every_id_of_32_bits(rt: HostRuntime) {
+    let text = r#"{"range_base":0,"next_id":null,"range_end":4294967295,"freed_ids":[]}"#;
+    let ids = read_ids(&rt, &parsed(&rt, text)).expect(&rt, text);
+    let mut held = ids.held_ids();
+    let answers = (held.count_left(), held.next_back(), held.next());
+    let want = (4294967296, Some(4294967295), Some(0));
+    expect_eq(&rt, &answers, &want, &text);
+}
+
 /// Values that do not encode an id allocator:
 /// - The next id is missing, or does not fit the range.
 /// - The freed ids decrease, repeat, or were never allocated.

@@ -10,15 +10,23 @@ fn parts(device: DeviceSlot) -> (u32, u64, u64) {
     (device.id, device.range.start(), device.range.end())
 }
 
-/// Returns whether exactly these are the devices.
+/// Returns whether exactly these are the devices, from both ends, and with their number.
 fn are_devices(devices: &DeviceManager, want: &[(u32, u64, u64)]) -> bool {
-    let mut listed = devices.devices();
+    let (mut up, mut down) = (devices.devices(), devices.devices());
+    if up.len() != want.len() || devices.device_count() != want.len() as u64 {
+        return false;
+    }
     for device in want {
-        if listed.next().map(parts) != Some(*device) {
+        if up.next().map(parts) != Some(*device) {
             return false;
         }
     }
-    listed.next().is_none() && devices.device_count() == want.len() as u64
+    for device in want.iter().rev() {
+        if down.next_back().map(parts) != Some(*device) {
+            return false;
+        }
+    }
+    up.next().is_none() && down.next_back().is_none() && down.len() == 0
 }
 
 /// Checks the device at an address.

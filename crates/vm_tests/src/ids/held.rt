@@ -1,15 +1,23 @@
 //! Tests of the lists of the allocated and the freed ids, of the next id, and of equality.
 use super::*;
 
-/// Returns whether exactly these ids are allocated.
+/// Returns whether exactly these ids are allocated, from both ends, and with their number.
 fn holds_exactly(ids: &IdAllocator, want: &[u32]) -> bool {
-    let mut held = ids.held_ids();
+    let (mut up, mut down) = (ids.held_ids(), ids.held_ids());
+    if up.count_left() != want.len() as u64 {
+        return false;
+    }
     for id in want {
-        if held.next() != Some(*id) {
+        if up.next() != Some(*id) {
             return false;
         }
     }
-    held.next().is_none()
+    for id in want.iter().rev() {
+        if down.next_back() != Some(*id) {
+            return false;
+        }
+    }
+    up.next().is_none() && down.next_back().is_none() && down.count_left() == 0
 }
 
 /// Makes the calls in turn, and checks the allocated ids afterwards.
@@ -40,6 +48,16 @@ fn held_in_the_middle(rt: HostRuntime) {
     expect_held(&rt, &mut ids, &[Allocate(Id(5))], &[5, 6, 8]);
     expect_held(&rt, &mut ids, &[Free(5, Id(5)), Free(6, Id(6))], &[8]);
     expect_held(&rt, &mut ids, &[Free(8, Id(8))], &[]);
+}
+
+#[test]
+fn held_from_both_ends(rt: HostRuntime) {
+    let ids = reached(&rt, &[TakeAll(5, 9), Free(7, Id(7)), Free(9, Id(9))]);
+    let mut held = ids.held_ids();
+    let ends = (held.next_back(), held.next(), held.count_left());
+    expect_eq(&rt, &ends, &(Some(8), Some(5), 1), &"both ends");
+    let last = (held.next_back(), held.next(), held.count_left());
+    expect_eq(&rt, &last, &(Some(6), None, 0), &"the last id");
 }
 
 #[test]

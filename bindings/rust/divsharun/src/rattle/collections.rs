@@ -212,7 +212,8 @@ impl<K: Ord + Copy, V> BTreeMap<K, V> {
     pub fn iter(&self) -> btree_map::Iter<'_, K, V> {
         btree_map::Iter {
             chunks: &self.chunks,
-            entries: &[],
+            lowest: &[],
+            highest: &[],
         }
     }
 
@@ -224,10 +225,11 @@ impl<K: Ord + Copy, V> BTreeMap<K, V> {
         };
         btree_map::Iter {
             chunks: &self.chunks[..chunk],
-            entries: self
+            lowest: self
                 .chunks
                 .get(chunk)
                 .map_or(&[], |entries| &entries[..count]),
+            highest: &[],
         }
     }
 }
@@ -260,23 +262,48 @@ impl<K: Ord + Copy + fmt::Debug, V: fmt::Debug> fmt::Debug for BTreeMap<K, V> {
 pub mod btree_map {
     use alloc::vec::Vec;
 
-    /// An iterator over the entries of a map in ascending order of keys.
+    /// An iterator over the entries of a map in ascending order of keys, or backwards.
+    #[derive(Clone)]
     pub struct Iter<'a, K, V> {
-        // The chunks that were not begun yet, and the entries that are left of the current one.
+        // The chunks that were not begun yet, and the entries that are left of those that were begun: of
+        // the one with the lowest keys, and of the one with the highest keys.
         pub(super) chunks: &'a [Vec<(K, V)>],
-        pub(super) entries: &'a [(K, V)],
+        pub(super) lowest: &'a [(K, V)],
+        pub(super) highest: &'a [(K, V)],
     }
 
     impl<'a, K, V> Iterator for Iter<'a, K, V> {
         type Item = (&'a K, &'a V);
 
         fn next(&mut self) -> Option<Self::Item> {
-            while self.entries.is_empty() {
-                let (lowest, rest) = self.chunks.split_last()?;
-                (self.chunks, self.entries) = (rest, lowest);
+            if self.lowest.is_empty() {
+                self.lowest = match self.chunks.split_last() {
+                    Some((chunk, rest)) => {
+                        self.chunks = rest;
+                        chunk
+                    }
+                    None => core::mem::take(&mut self.highest),
+                };
             }
-            let ((key, value), rest) = self.entries.split_last()?;
-            self.entries = rest;
+            let ((key, value), rest) = self.lowest.split_last()?;
+            self.lowest = rest;
+            Some((key, value))
+        }
+    }
+
+    impl<K, V> DoubleEndedIterator for Iter<'_, K, V> {
+        fn next_back(&mut self) -> Option<Self::Item> {
+            if self.highest.is_empty() {
+                self.highest = match self.chunks.split_first() {
+                    Some((chunk, rest)) => {
+                        self.chunks = rest;
+                        chunk
+                    }
+                    None => core::mem::take(&mut self.lowest),
+                };
+            }
+            let ((key, value), rest) = self.highest.split_first()?;
+            self.highest = rest;
             Some((key, value))
         }
     }
@@ -364,7 +391,8 @@ impl<T: Ord + Copy + fmt::Debug> fmt::Debug for BTreeSet<T> {
 pub mod btree_set {
     use super::btree_map;
 
-    /// An iterator over the values of a set in ascending order.
+    /// An iterator over the values of a set in ascending order, or backwards.
+    #[derive(Clone)]
     pub struct Iter<'a, T>(pub(super) btree_map::Iter<'a, T, ()>);
 
     impl<'a, T> Iterator for Iter<'a, T> {
@@ -372,6 +400,12 @@ pub mod btree_set {
 
         fn next(&mut self) -> Option<&'a T> {
             self.0.next().map(|(value, ())| value)
+        }
+    }
+
+    impl<T> DoubleEndedIterator for Iter<'_, T> {
+        fn next_back(&mut self) -> Option<Self::Item> {
+            self.0.next_back().map(|(value, ())| value)
         }
     }
 

@@ -40,9 +40,9 @@ impl DeviceTable {
         self.slots.get(id)
     }
 
-    /// Returns an iterator over the devices, by increasing ids.
-    pub(super) fn iter(&self) -> Devices<'_> {
-        self.slots.iter()
+    /// Returns an iterator over the devices, by increasing ids. `count` is their number.
+    pub(super) fn iter(&self, count: u64) -> Devices<'_> {
+        self.slots.iter(count)
     }
 
     /// Returns the id of the device whose range starts at `start`, or `None` if there is none.

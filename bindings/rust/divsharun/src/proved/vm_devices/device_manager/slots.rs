@@ -61,11 +61,12 @@ impl Slots {
         })
     }
 
-    /// Returns an iterator over the devices, by increasing ids.
-    pub(super) fn iter(&self) -> Devices<'_> {
+    /// Returns an iterator over the devices, by increasing ids. `count` is their number.
+    pub(super) fn iter(&self, count: u64) -> Devices<'_> {
         Devices {
             next_id: u64::from(self.first_id),
             slots: &self.ranges,
+            left: count as usize,
         }
     }
 }
@@ -113,28 +114,60 @@ fn extend_to(slots: &mut Vec<Option<RangeInclusive>>, index: usize) -> Result<()
     Ok(())
 }
 
-/// An iterator over the devices, by increasing ids. It does not allocate.
+/// An iterator over the devices, by increasing ids, or backwards. It does not allocate.
 ///
 /// It visits each id between the lowest and the highest that had a device. Its model is the list of
 /// the devices that it has not returned yet.
+#[derive(Clone)]
 pub struct Devices<'a> {
+    // The id of the first slot that was not visited, and the slots that were not visited.
     next_id: u64,
     slots: &'a [Option<RangeInclusive>],
+    // The number of devices that were not returned.
+    left: usize,
 }
 
 impl<'a> Iterator for Devices<'a> {
     type Item = DeviceSlot;
 
-    /// Returns the next device.
+    /// Returns the device with the lowest id that is left.
     fn next(&mut self) -> Option<DeviceSlot> {
         while let Some((slot, rest)) = self.slots.split_first() {
             let id = self.next_id as u32;
             self.next_id += 1;
             self.slots = rest;
             if let Some(range) = slot {
+                self.left -= 1;
                 return Some(DeviceSlot { id, range: *range });
             }
         }
         None
+    }
+
+    /// Returns the number of devices that are left, twice.
+    fn size_hint(&self) -> (usize, Option<usize>) {
+        (self.left, Some(self.left))
+    }
+}
+
+impl<'a> DoubleEndedIterator for Devices<'a> {
+    /// Returns the device with the highest id that is left.
+    fn next_back(&mut self) -> Option<DeviceSlot> {
+        while let Some((slot, rest)) = self.slots.split_last() {
+            let id = (self.next_id + rest.len() as u64) as u32;
+            self.slots = rest;
+            if let Some(range) = slot {
+                self.left -= 1;
+                return Some(DeviceSlot { id, range: *range });
+            }
+        }
+        None
+    }
+}
+
+impl<'a> ExactSizeIterator for Devices<'a> {
+    /// Returns the number of devices that are left. It takes constant time.
+    fn len(&self) -> usize {
+        self.left
     }
 }
