@@ -19,7 +19,7 @@ ghost use Rattle.vm_engine.specs.Tree.SpaceTree.{tree_state};
 ghost use Rattle.vm_engine.specs.Counts.Steps.{SPLIT_HEIGHT_LIMIT};
 ghost use Rattle.vm_engine.specs.Counts.NodeCounts.{nodes_if_allocated};
 
-use super::IntervalTree;
+use super::{IntervalTree, some_count};
 use crate::Steps;
 use crate::block::Block;
 use crate::node::edge::Edge;
@@ -67,6 +67,7 @@ impl IntervalTree {
                 count,
             );
             self.held_count += 1;
+            self.gap_count -= 1;
             self.clear_count -= place.range.len();
             return Ok(place.range);
         }
@@ -76,6 +77,7 @@ impl IntervalTree {
         let rest = rest_of(alloc, &place)?;
         let mut split = Split { place, rest };
         self.held_count += 1;
+        self.gap_count = self.gap_count + some_count(&split.rest.before, &split.rest.after) - 1;
         self.clear_count -= place.range.len();
         split_gap(&mut self.root, &mut split, edge, count);
         Ok(place.range)

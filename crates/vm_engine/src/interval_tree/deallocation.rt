@@ -16,7 +16,7 @@ ghost use Rattle.vm_engine.specs.Tree.SpaceTree.{tree_state, IsSpaceTree};
 ghost use Rattle.vm_engine.specs.Counts.Steps.{EntersToFree, nodes_to_widen};
 ghost use Rattle.vm_engine.specs.Counts.NodeCounts.{nodes_to_delete_if_some};
 
-use super::IntervalTree;
+use super::{IntervalTree, some_count};
 use crate::Steps;
 use crate::node::Child;
 use crate::node::delete::delete_at;
@@ -41,6 +41,7 @@ impl IntervalTree {
         };
         join_free(&mut self.root, key, &beside, count);
         self.held_count -= 1;
+        self.gap_count = self.gap_count + 1 - some_count(&beside.before, &beside.after);
         self.clear_count += key.len();
         Ok(())
     }
