@@ -66,7 +66,7 @@ MACROS = {"json", "unreachable"}
 DERIVES = {"Clone", "Copy", "Debug", "Default", "Drop", "Eq", "Error", "Hash", "Ord", "PartialEq", "PartialOrd"}
 # Names that no item of a crate may have, because the tables mean the items of the libraries.
 TAKEN = (PRELUDE | NAMES | NUMBERS | {path.split("::")[0] for path in ASSOCIATED}) - {"Result"}
-TRAITS = {"DoubleEndedIterator", "Eq", "From", "Iterator", "Ord", "PartialEq", "PartialOrd"}
+TRAITS = {"DoubleEndedIterator", "Eq", "ExactSizeIterator", "From", "Iterator", "Ord", "PartialEq", "PartialOrd"}
 TRAITS_OF_TESTS = {"Read", "Write"}
 ATTRIBUTES = {"allow", "cold", "default", "derive", "error", "inline"}
 KEYWORDS = set("""_ as bool break const continue crate else enum false fn for if impl in let loop match mod
@@ -89,7 +89,7 @@ MODULES = ORIGIN.format("crates.txt") + """
 """
 ATTRIBUTES_WITH_TESTS = "#![allow(dead_code, unused_assignments, unused_variables)]\n"
 # Code that only readers of values or callers in Rattle reach, in files that the package has, and an error that no call returns.
-UNREACHED = re.compile(r"^ *(?=(?:pub\(.*\) fn (?:count_clear|count_held)|pub fn align_(?:down|up)|Overlap)\(|pub enum ValueError\b)", re.MULTILINE)
+UNREACHED = re.compile(r"^ *(?=(?:pub\(.*\) fn count_tree|pub fn align_(?:down|up)|Overlap)\(|pub enum ValueError\b)", re.MULTILINE)
 PRELUDE_OF_TESTS = "use crate::testing::*;\nuse crate::testing::{assert, assert_eq};\n"
 RUNTIME = "{\n    let rt = HostRuntime;"
 DISPLAY = """

@@ -41,8 +41,15 @@ pub struct IntervalTree {
     /// The number of allocated ranges.
     pub(in crate::proved::vm_engine) held_count: u64,
     pub(in crate::proved::vm_engine) root: Child,
+    /// The number of gaps.
+    pub(in crate::proved::vm_engine) gap_count: u64,
     /// The number of free addresses.
     pub(in crate::proved::vm_engine) clear_count: u64,
+}
+
+/// Returns how many of two options have a value.
+fn some_count<T>(first: &Option<T>, second: &Option<T>) -> u64 {
+    u64::from(first.is_some()) + u64::from(second.is_some())
 }
 
 impl IntervalTree {
@@ -58,6 +65,7 @@ impl IntervalTree {
         Ok(IntervalTree {
             root: Some(node),
             held_count: 0,
+            gap_count: 1,
             clear_count: key.len(),
         })
     }
@@ -71,6 +79,7 @@ impl IntervalTree {
         Ok(IntervalTree {
             root: Some(copy(self.root(), alloc)?),
             held_count: self.held_count,
+            gap_count: self.gap_count,
             clear_count: self.clear_count,
         })
     }

@@ -7,7 +7,7 @@
 //! nothing.
 
 use crate::rattle::Box;
-use super::IntervalTree;
+use super::{IntervalTree, some_count};
 use crate::proved::vm_engine::Steps;
 use crate::proved::vm_engine::block::Block;
 use crate::proved::vm_engine::node::edge::Edge;
@@ -44,6 +44,7 @@ impl IntervalTree {
                 count,
             );
             self.held_count += 1;
+            self.gap_count -= 1;
             self.clear_count -= place.range.len();
             return Ok(place.range);
         }
@@ -53,6 +54,7 @@ impl IntervalTree {
         let rest = rest_of(alloc, &place)?;
         let mut split = Split { place, rest };
         self.held_count += 1;
+        self.gap_count = self.gap_count + some_count(&split.rest.before, &split.rest.after) - 1;
         self.clear_count -= place.range.len();
         split_gap(&mut self.root, &mut split, edge, count);
         Ok(place.range)

@@ -7,7 +7,7 @@
 //! descents keep the proof simple, because no case depends on which of the three nodes is above
 //! which.
 
-use super::IntervalTree;
+use super::{IntervalTree, some_count};
 use crate::proved::vm_engine::Steps;
 use crate::proved::vm_engine::node::Child;
 use crate::proved::vm_engine::node::delete::delete_at;
@@ -24,6 +24,7 @@ impl IntervalTree {
         };
         join_free(&mut self.root, key, &beside, count);
         self.held_count -= 1;
+        self.gap_count = self.gap_count + 1 - some_count(&beside.before, &beside.after);
         self.clear_count += key.len();
         Ok(())
     }
