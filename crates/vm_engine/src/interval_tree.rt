@@ -13,7 +13,7 @@
 //! A counted call passes on a counter at 0, and returns the final count. A plain call makes the
 //! counted call and drops the count. A tree of height 49 has fewer than 2^49 nodes, so a counter
 //! that starts at 0 never overflows. This is proved once, so callers have no condition on it.
-ghost use Rattle.std.specs.Prelude.{◌≡◌, ◌+◌, ◌≤◌, OnErr, OnOk, IfOk};
+ghost use Rattle.std.specs.Prelude.{◌≡◌, OnErr, OnOk, IfOk};
 ghost use Rattle.vm_engine.specs.Address.{IsAddressState};
 ghost use Rattle.vm_engine.specs.Answer.{Grants, Frees};
 ghost use Rattle.vm_ranges.specs.Cloning.{Clones};
@@ -23,7 +23,6 @@ ghost use Rattle.vm_engine.specs.Counts.GapSearch.{SearchesGaps, SearchesAligned
 ghost use Rattle.vm_engine.specs.Counts.Steps.{Enters, EntersToFree, IsBalancedTreeOf, IsGrantCount, IsFreeCount, SplitsIfLow};
 ghost use Rattle.vm_engine.specs.Tree.SpaceTree.{tree_state, IsSpaceTree, MakesTree};
 ghost use Rattle.vm_engine.specs.Engine.WindowBlocks.{meeting_blocks};
-ghost use Rattle.vm_engine.specs.Engine.CountedTrees.{one_if_some};
 
 use crate::Steps;
 use crate::block::Block;
@@ -49,9 +48,9 @@ pub(crate) mod placement;
 pub struct IntervalTree {
     /// The number of allocated ranges.
     pub(crate) held_count: u64,
-    pub(crate) root: Child,
     /// The number of gaps.
     pub(crate) gap_count: u64,
+    pub(crate) root: Child,
     /// The number of free addresses.
     pub(crate) clear_count: u64,
 }
@@ -71,14 +70,6 @@ impl Model for IntervalTree {
     ghost use Rattle.vm_engine.specs.Engine.CountedTrees.{IsCountedTree};
 
     ghost invariant = { λ a. IsCountedTree (side a.root) a.held_count a.gap_count a.clear_count };
-}
-
-/// Returns how many of two options have a value.
-fn some_count<T>(first: &Option<T>, second: &Option<T>) -> u64
-    ensures value { result ≡ one_if_some first.now + one_if_some second.now }
-    ensures few { result ≤ 2 }
-{
-    u64::from(first.is_some()) + u64::from(second.is_some())
 }
 
 impl IntervalTree {

@@ -109,15 +109,27 @@ rest_parts k r rest i =
 pub one_part : (k r : Range) → ¬ NeedsSplit k r → length (parts k r) ≡ 1
 one_part k r n = omega (arith, length-append (before_part k r) (held_block r ∷ after_part k r), ap length (none_before k r n), ap length (none_after k r n))
 
+pub some_part : (k r : Range) → NeedsSplit k r → 2 ≤ length (parts k r)
+some_part k r n =
+    let all = length-append (before_part k r) (held_block r ∷ after_part k r) in
+    ⊎_elim
+    (λ (l : k.start < r.start). let one : length (before_part k r) ≡ 1 = rw (lt-ltb k.start r.start l) refl in omega (arith, all, one))
+    (λ (l : r.end < k.end). let one : length (after_part k r) ≡ 1 = rw (lt-ltb r.end k.end l) refl in omega (arith, all, one))
+    n
+
 one_neighbour : (key : Option Range) → length (free_if_some key) ≡ one_if_some key
 one_neighbour None = refl
 one_neighbour (Some k) = refl
+
+one_gap : (key : Option Range) → length (free_of (free_if_some key)) ≡ one_if_some key
+one_gap None = refl
+one_gap (Some k) = refl
 
 -- ---- The counts after a range is allocated
 pub held_fits : (s : Shape) (held gaps clear : ℕ) → IsCountedTree s held gaps clear → held < MAX
 held_fits s held gaps clear h = omega (arith, few_held s h.tree.height, h.held_count)
 
-pub gaps_fit : (s : Shape) (held gaps clear : ℕ) → IsCountedTree s held gaps clear → gaps + 2 ≤ MAX
+pub gaps_fit : (s : Shape) (held gaps clear : ℕ) → IsCountedTree s held gaps clear → gaps < MAX
 gaps_fit s held gaps clear h = omega (arith, few_free s h.tree.height, h.gap_count)
 
 -- A range is allocated in one of the gaps.
@@ -160,6 +172,23 @@ module _ (s n : Shape) (held gaps clear : ℕ) (place : Place) (h : IsCountedTre
   }
 
 -- ---- The counts after a range is freed
+-- The free neighbours are gaps.
+pub neighbours_counted : (s : Shape) (held gaps clear : ℕ) (k : Range) (n : Neighbours) → IsCountedTree s held gaps clear → HasHeld (blocks s) k n.before n.after → one_if_some n.before + one_if_some n.after ≤ gaps
+neighbours_counted s held gaps clear k n h f =
+    let a = (held_range_freed s k n h.tree f).around in
+    let all = ap (λ (v : List Block). length (free_of v)) a.cut in
+    let above = free_if_some n.after ++ a.upper in
+    omega (
+      arith,
+      h.gap_count,
+      all,
+      length-free_of a.lower (free_if_some n.before ++ held_block k ∷ above),
+      length-free_of (free_if_some n.before) (held_block k ∷ above),
+      length-free_of (free_if_some n.after) a.upper,
+      one_gap n.before,
+      one_gap n.after,
+    )
+
 module _ (s m : Shape) (held gaps clear : ℕ) (k : Range) (n : Neighbours) (h : IsCountedTree s held gaps clear) (f : HasHeld (blocks s) k n.before n.after) (e : blocks m ≡ with_joined k n (blocks s)) (l : height_of m ≤ height_of s) where
   given : Given s k n
   given = held_range_freed s k n h.tree f
@@ -191,22 +220,16 @@ module _ (s m : Shape) (held gaps clear : ℕ) (k : Range) (n : Neighbours) (h :
         one_neighbour n.after,
       )
 
-  freed_gaps : length (free_of (blocks m)) + one_if_some n.before + one_if_some n.after ≡ length (free_of (blocks s)) + 1
-  freed_gaps = omega (arith, less.held, fewer_blocks, all_blocks (blocks s), all_blocks (blocks m))
-
-  pub neighbours_counted : one_if_some n.before + one_if_some n.after ≤ gaps + 1
-  neighbours_counted = omega (arith, h.gap_count, freed_gaps)
-
   pub freed_held : 0 < held
   freed_held = omega (arith, h.held_count, less.held)
 
   pub freed_fits : clear + address_count k ≤ MAX
   freed_fits = omega (arith, clear_in_tree m freed_tree, h.clear_count, less.clear)
 
-  pub freed_counted : (beside count : ℕ) → beside ≡ one_if_some n.before + one_if_some n.after → count ≡ address_count k → IsCountedTree m (held - 1) (gaps + 1 - beside) (clear + count)
-  freed_counted beside count b g = record {
+  pub freed_counted : (left count : ℕ) → left + one_if_some n.before + one_if_some n.after ≡ gaps → count ≡ address_count k → IsCountedTree m (held - 1) (left + 1) (clear + count)
+  freed_counted left count b g = record {
     tree = freed_tree;
     held_count = omega (arith, h.held_count, less.held);
-    gap_count = omega (arith, b, h.gap_count, freed_gaps);
+    gap_count = omega (arith, b, h.gap_count, less.held, fewer_blocks, all_blocks (blocks s), all_blocks (blocks m));
     clear_count = omega (arith, g, h.clear_count, less.clear);
   }

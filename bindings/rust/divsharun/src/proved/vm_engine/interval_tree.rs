@@ -40,16 +40,11 @@ pub(in crate::proved::vm_engine) mod placement;
 pub struct IntervalTree {
     /// The number of allocated ranges.
     pub(in crate::proved::vm_engine) held_count: u64,
-    pub(in crate::proved::vm_engine) root: Child,
     /// The number of gaps.
     pub(in crate::proved::vm_engine) gap_count: u64,
+    pub(in crate::proved::vm_engine) root: Child,
     /// The number of free addresses.
     pub(in crate::proved::vm_engine) clear_count: u64,
-}
-
-/// Returns how many of two options have a value.
-fn some_count<T>(first: &Option<T>, second: &Option<T>) -> u64 {
-    u64::from(first.is_some()) + u64::from(second.is_some())
 }
 
 impl IntervalTree {

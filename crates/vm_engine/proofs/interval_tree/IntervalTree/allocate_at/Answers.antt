@@ -2,7 +2,7 @@ use Rattle.std.proofs.Common.{arith, refl, rules}
 use Rattle.std.proofs.lemmas.Grind.{common_steps}
 use Rattle.vm_engine.specs.Engine.NodeFields.{side}
 use Rattle.vm_engine.specs.Tree.Shape.{blocks}
-use Rattle.vm_engine.proofs.Nodes.CountedTrees.{rest_parts, one_part, held_fits, gaps_fit, gap_counted, place_fits, taken_counted}
+use Rattle.vm_engine.proofs.Nodes.CountedTrees.{rest_parts, one_part, some_part, held_fits, gaps_fit, gap_counted, place_fits, taken_counted}
 use Rattle.vm_engine.proofs.Splitting.SplitStates.{cut_of, known, can_split, whole_split, rest_split, taken_in}
 use Rattle.vm_engine.proofs.interval_tree.IntervalTree.allocate_at.Goals as goal
 
@@ -35,14 +35,15 @@ split_gap-requires-clause-can_be_split c =
 pub overflow_add-self-2 : goal.overflow_add-self-2
 overflow_add-self-2 c = omega (arith, held_fits _ _ _ _ c.self.invariant)
 
-pub overflow_add-self-3 : goal.overflow_add-self-3
-overflow_add-self-3 c = omega (arith, gaps_fit _ _ _ _ c.self.invariant, c.some_count.ensures.few)
+pub count_rest-requires-clause-some : goal.count_rest-requires-clause-some
+count_rest-requires-clause-some c =
+    omega (arith, some_part _ _ c.if-not-needs_split.ensures, rest_parts _ _ _ c.in_ok-rest.ensures.rest)
+
+pub count_rest-requires-clause-fits : goal.count_rest-requires-clause-fits
+count_rest-requires-clause-fits c = omega (arith, gaps_fit _ _ _ _ c.self.invariant)
 
 pub overflow_sub-self-2 : goal.overflow_sub-self-2
-overflow_sub-self-2 c = omega (arith, gap_counted _ _ _ _ c.args.place c.self.invariant (rw (← c.self.view_is) at c.requires.place))
-
-pub overflow_sub-self-3 : goal.overflow_sub-self-3
-overflow_sub-self-3 c =
+overflow_sub-self-2 c =
     omega (arith, c.len-2.ensures, place_fits _ _ _ _ c.args.place c.self.invariant (rw (← c.self.view_is) at c.requires.place))
 
 pub invariant_of-self-2 : goal.invariant_of-self-2
@@ -50,8 +51,7 @@ invariant_of-self-2 c =
     let place = rw (← c.self.view_is) at c.requires.place in
     let split_states = rest_split _ (blocks (side c.split_gap.new.at)) _ _ _ (cut_of _ c.args.place c.self.invariant.tree place) c.in_ok-rest.ensures.rest (search rules) in
     let height = rw (← c.self.view_is) at c.height.ensures.value in
-    let gap = gap_counted _ _ _ _ c.args.place c.self.invariant place in
-    taken_counted _ _ _ _ _ c.args.place c.self.invariant place split_states (grind (arith, common_steps)) _ _ (omega (arith, gap, c.some_count.ensures.value, rest_parts _ _ _ c.in_ok-rest.ensures.rest)) c.len-2.ensures
+    taken_counted _ _ _ _ _ c.args.place c.self.invariant place split_states (grind (arith, common_steps)) _ _ (omega (arith, c.count_rest.ensures, rest_parts _ _ _ c.in_ok-rest.ensures.rest)) c.len-2.ensures
 
 pub returns-clause-answer : goal.returns-clause-answer
 returns-clause-answer c =
