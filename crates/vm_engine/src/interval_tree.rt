@@ -48,6 +48,8 @@ pub(crate) mod placement;
 pub struct IntervalTree {
     /// The number of allocated ranges.
     pub(crate) held_count: u64,
+    /// The number of gaps.
+    pub(crate) gap_count: u64,
     pub(crate) root: Child,
     /// The number of free addresses.
     pub(crate) clear_count: u64,
@@ -67,7 +69,7 @@ impl Model for IntervalTree {
 
     ghost use Rattle.vm_engine.specs.Engine.CountedTrees.{IsCountedTree};
 
-    ghost invariant = { λ a. IsCountedTree (side a.root) a.held_count a.clear_count };
+    ghost invariant = { λ a. IsCountedTree (side a.root) a.held_count a.gap_count a.clear_count };
 }
 
 impl IntervalTree {
@@ -87,6 +89,7 @@ impl IntervalTree {
         Ok(IntervalTree {
             root: Some(node),
             held_count: 0,
+            gap_count: 1,
             clear_count: key.len(),
         })
     }
@@ -102,6 +105,7 @@ impl IntervalTree {
         Ok(IntervalTree {
             root: Some(copy(self.root(), alloc)?),
             held_count: self.held_count,
+            gap_count: self.gap_count,
             clear_count: self.clear_count,
         })
     }

@@ -664,7 +664,8 @@ impl AddressAllocator {
         self.held_ranges()
     }
 
-    /// Returns an iterator over the allocated ranges in ascending order. It does not allocate.
+    /// Returns an iterator over the allocated ranges in ascending order. Its length is exact, and it
+    /// does not allocate.
     ///
     /// # Example
     ///
@@ -706,8 +707,8 @@ impl AddressAllocator {
     /// # Ok::<(), divsharun::Error>(())
     /// ```
     #[must_use]
-    pub fn held_ranges_in(&self, range: &RangeInclusive) -> HeldRanges<'_> {
-        HeldRanges(self.0.held_ranges_in(&range.0))
+    pub fn held_ranges_in(&self, range: &RangeInclusive) -> HeldRangesIn<'_> {
+        HeldRangesIn(self.0.held_ranges_in(&range.0))
     }
 
     /// Returns whether exactly this range is allocated. A part of an allocated range is not.
@@ -754,7 +755,7 @@ impl AddressAllocator {
     /// Returns an iterator over the gaps in ascending order. A gap is a run of free addresses with
     /// no free address next to it.
     ///
-    /// It does not allocate.
+    /// The length of the iterator is exact, and it does not allocate.
     ///
     /// # Example
     ///
@@ -793,8 +794,8 @@ impl AddressAllocator {
     /// # Ok::<(), divsharun::Error>(())
     /// ```
     #[must_use]
-    pub fn gaps_in(&self, range: &RangeInclusive) -> Gaps<'_> {
-        Gaps(self.0.gaps_in(&range.0))
+    pub fn gaps_in(&self, range: &RangeInclusive) -> GapsIn<'_> {
+        GapsIn(self.0.gaps_in(&range.0))
     }
 
     /// Returns the gap that contains the address, or `None` if the address is allocated or outside
@@ -841,6 +842,27 @@ impl AddressAllocator {
     #[must_use]
     pub fn longest_gap(&self) -> u64 {
         self.0.longest_gap()
+    }
+
+    /// Returns the number of gaps.
+    ///
+    /// It takes constant time and does not allocate.
+    ///
+    /// # Example
+    ///
+    /// ```rust
+    /// use divsharun::{AddressAllocator, AllocPolicy};
+    ///
+    /// let mut ports = AddressAllocator::new(0, 0x100)?;
+    /// assert_eq!(ports.gap_count(), 1);
+    /// ports.allocate(0x10, 1, AllocPolicy::ExactMatch(0x40))?;
+    /// assert_eq!(ports.gap_count(), 2);
+    /// assert_eq!(ports.gaps().len(), 2);
+    /// # Ok::<(), divsharun::Error>(())
+    /// ```
+    #[must_use]
+    pub fn gap_count(&self) -> u64 {
+        self.0.gap_count()
     }
 
     /// Returns the number of free addresses.
@@ -995,10 +1017,10 @@ impl fmt::Debug for DebugRanges<'_> {
 }
 
 /// An iterator over the allocated ranges of an [`AddressAllocator`], in ascending order or from
-/// both ends.
+/// both ends. Its length is exact.
 ///
 /// It is created by [`held_ranges`](AddressAllocator::held_ranges) and
-/// [`held_ranges_in`](AddressAllocator::held_ranges_in).
+/// [`iter`](AddressAllocator::iter).
 ///
 /// # Example
 ///
@@ -1008,6 +1030,7 @@ impl fmt::Debug for DebugRanges<'_> {
 /// let mut space = AddressAllocator::new(0, 0x1000)?;
 /// let last = space.allocate(0x10, 1, AllocPolicy::LastMatch)?;
 /// let first = space.allocate(0x10, 1, AllocPolicy::FirstMatch)?;
+/// assert_eq!(space.held_ranges().len(), 2);
 /// assert!(space.held_ranges().eq([first, last]));
 /// assert!(space.held_ranges().rev().eq([last, first]));
 /// # Ok::<(), divsharun::Error>(())
@@ -1015,25 +1038,69 @@ impl fmt::Debug for DebugRanges<'_> {
 #[derive(Clone)]
 pub struct HeldRanges<'a>(proved::HeldRanges<'a>);
 
-impl Iterator for HeldRanges<'_> {
-    type Item = RangeInclusive;
+/// An iterator over the allocated ranges of an [`AddressAllocator`] that have an address in common
+/// with a range, in ascending order or from both ends.
+///
+/// It is created by [`held_ranges_in`](AddressAllocator::held_ranges_in).
+#[derive(Clone)]
+pub struct HeldRangesIn<'a>(proved::HeldRangesIn<'a>);
 
-    fn next(&mut self) -> Option<RangeInclusive> {
-        self.0.next().map(RangeInclusive)
+/// An iterator over the gaps of an [`AddressAllocator`], in ascending order or from both ends. Its
+/// length is exact.
+///
+/// It is created by [`gaps`](AddressAllocator::gaps).
+#[derive(Clone)]
+pub struct Gaps<'a>(proved::Gaps<'a>);
+
+/// An iterator over the gaps of an [`AddressAllocator`] that have an address in common with a
+/// range, in ascending order or from both ends.
+///
+/// It is created by [`gaps_in`](AddressAllocator::gaps_in).
+#[derive(Clone)]
+pub struct GapsIn<'a>(proved::GapsIn<'a>);
+
+/// Implements iteration from both ends, and a short `Debug`, for iterators over ranges.
+macro_rules! iterate {
+    ($($name:ident)*) => {$(
+        impl Iterator for $name<'_> {
+            type Item = RangeInclusive;
+
+            fn next(&mut self) -> Option<RangeInclusive> {
+                self.0.next().map(RangeInclusive)
+            }
+
+            fn size_hint(&self) -> (usize, Option<usize>) {
+                self.0.size_hint()
+            }
+        }
+
+        impl DoubleEndedIterator for $name<'_> {
+            fn next_back(&mut self) -> Option<RangeInclusive> {
+                self.0.next_back().map(RangeInclusive)
+            }
+        }
+
+        impl FusedIterator for $name<'_> {}
+
+        impl fmt::Debug for $name<'_> {
+            fn fmt(&self, f: &mut fmt::Formatter<'_>) -> fmt::Result {
+                f.debug_struct(stringify!($name)).finish_non_exhaustive()
+            }
+        }
+    )*};
+}
+
+iterate!(HeldRanges HeldRangesIn Gaps GapsIn);
+
+impl ExactSizeIterator for HeldRanges<'_> {
+    fn len(&self) -> usize {
+        self.0.len()
     }
 }
 
-impl DoubleEndedIterator for HeldRanges<'_> {
-    fn next_back(&mut self) -> Option<RangeInclusive> {
-        self.0.next_back().map(RangeInclusive)
-    }
-}
-
-impl FusedIterator for HeldRanges<'_> {}
-
-impl fmt::Debug for HeldRanges<'_> {
-    fn fmt(&self, f: &mut fmt::Formatter<'_>) -> fmt::Result {
-        f.debug_struct("HeldRanges").finish_non_exhaustive()
+impl ExactSizeIterator for Gaps<'_> {
+    fn len(&self) -> usize {
+        self.0.len()
     }
 }
 
@@ -1044,33 +1111,5 @@ impl<'a> IntoIterator for &'a AddressAllocator {
     /// Returns an iterator over the allocated ranges.
     fn into_iter(self) -> HeldRanges<'a> {
         self.held_ranges()
-    }
-}
-
-/// An iterator over the gaps of an [`AddressAllocator`], in ascending order or from both ends.
-///
-/// It is created by [`gaps`](AddressAllocator::gaps) and [`gaps_in`](AddressAllocator::gaps_in).
-#[derive(Clone)]
-pub struct Gaps<'a>(proved::Gaps<'a>);
-
-impl Iterator for Gaps<'_> {
-    type Item = RangeInclusive;
-
-    fn next(&mut self) -> Option<RangeInclusive> {
-        self.0.next().map(RangeInclusive)
-    }
-}
-
-impl DoubleEndedIterator for Gaps<'_> {
-    fn next_back(&mut self) -> Option<RangeInclusive> {
-        self.0.next_back().map(RangeInclusive)
-    }
-}
-
-impl FusedIterator for Gaps<'_> {}
-
-impl fmt::Debug for Gaps<'_> {
-    fn fmt(&self, f: &mut fmt::Formatter<'_>) -> fmt::Result {
-        f.debug_struct("Gaps").finish_non_exhaustive()
     }
 }

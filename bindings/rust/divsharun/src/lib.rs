@@ -57,9 +57,9 @@
 //!   [`held_ranges_in`](AddressAllocator::held_ranges_in), [`holds`](AddressAllocator::holds),
 //!   [`held_at`](AddressAllocator::held_at), [`held_count`](AddressAllocator::held_count),
 //!   [`gaps`](AddressAllocator::gaps), [`gaps_in`](AddressAllocator::gaps_in),
-//!   [`gap_at`](AddressAllocator::gap_at), [`longest_gap`](AddressAllocator::longest_gap),
-//!   [`free_len`](AddressAllocator::free_len), [`height`](AddressAllocator::height),
-//!   [`layout`](AddressAllocator::layout),
+//!   [`gap_at`](AddressAllocator::gap_at), [`gap_count`](AddressAllocator::gap_count),
+//!   [`longest_gap`](AddressAllocator::longest_gap), [`free_len`](AddressAllocator::free_len),
+//!   [`height`](AddressAllocator::height), [`layout`](AddressAllocator::layout),
 //!   [`allocate_counted`](AddressAllocator::allocate_counted),
 //!   [`allocate_constraint_counted`](AddressAllocator::allocate_constraint_counted) and
 //!   [`free_counted`](AddressAllocator::free_counted);
@@ -225,7 +225,7 @@ pub mod replay;
 mod saved;
 mod texts;
 
-pub use address_allocator::{AddressAllocator, Gaps, HeldRanges};
+pub use address_allocator::{AddressAllocator, Gaps, GapsIn, HeldRanges, HeldRangesIn};
 pub use constraint::{AllocPolicy, Constraint, DEFAULT_CONSTRAINT_ALIGN};
 pub use device_manager::{DeviceManager, DeviceSlot, Devices};
 pub use error::{Error, ListError, Result, TryError};
@@ -244,7 +244,9 @@ const _: () = {
     is_shared_and_sent::<DeviceManager>();
     is_shared_and_sent::<DeviceSlot>();
     is_shared_and_sent::<HeldRanges<'_>>();
+    is_shared_and_sent::<HeldRangesIn<'_>>();
     is_shared_and_sent::<Gaps<'_>>();
+    is_shared_and_sent::<GapsIn<'_>>();
     is_shared_and_sent::<HeldIds<'_>>();
     is_shared_and_sent::<Devices<'_>>();
     is_shared_and_sent::<Layout<'_>>();

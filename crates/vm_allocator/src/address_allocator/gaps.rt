@@ -1,17 +1,17 @@
 //! Queries of the free addresses: the gaps, a search by an address, the length of the longest gap, and
-//! a count.
+//! counts.
 //!
 //! A gap is a run of free addresses with no free address next to it.
-ghost use Rattle.std.specs.Prelude.{◌≡◌};
+ghost use Rattle.std.specs.Prelude.{◌≡◌, length};
 ghost use Rattle.vm_engine.specs.Queries.{gaps_of, longest_of, count_of, IsGapAt, meeting};
 ghost use Rattle.vm_allocator.specs.Allocator.{state_of};
 
 use super::AddressAllocator;
-use vm_engine::Gaps;
+use vm_engine::{Gaps, GapsIn};
 use vm_ranges::RangeInclusive;
 
 impl AddressAllocator {
-    /// Returns an iterator over the gaps, from the lowest to the highest.
+    /// Returns an iterator over the gaps, from the lowest to the highest. Its length is exact.
     ///
     /// It does not allocate.
     pub fn gaps(&self) -> Gaps<'_>
@@ -25,7 +25,7 @@ impl AddressAllocator {
     ///
     /// Each gap is returned whole. It descends one path of the tree for each end of `range` and does
     /// not allocate.
-    pub fn gaps_in(&self, range: &RangeInclusive) -> Gaps<'_>
+    pub fn gaps_in(&self, range: &RangeInclusive) -> GapsIn<'_>
         ensures { result ≡ meeting range.now (gaps_of (state_of self.now)) }
     {
         self.interval_tree.gaps_in(range)
@@ -49,6 +49,15 @@ impl AddressAllocator {
         ensures { result ≡ longest_of (gaps_of (state_of self.now)) }
     {
         self.interval_tree.longest_gap()
+    }
+
+    /// Returns the number of gaps.
+    ///
+    /// It takes constant time and does not allocate.
+    pub fn gap_count(&self) -> u64
+        ensures { result ≡ length (gaps_of (state_of self.now)) }
+    {
+        self.interval_tree.gap_count()
     }
 
     /// Returns the number of free addresses.

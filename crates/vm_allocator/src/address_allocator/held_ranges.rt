@@ -6,11 +6,12 @@ ghost use Rattle.vm_engine.specs.Queries.{IsHeldAt, meeting};
 ghost use Rattle.vm_allocator.specs.Allocator.{state_of};
 
 use super::AddressAllocator;
-use vm_engine::HeldRanges;
+use vm_engine::{HeldRanges, HeldRangesIn};
 use vm_ranges::RangeInclusive;
 
 impl AddressAllocator {
-    /// Returns an iterator over the allocated ranges, from the lowest to the highest.
+    /// Returns an iterator over the allocated ranges, from the lowest to the highest. Its length is
+    /// exact.
     ///
     /// It does not allocate.
     pub fn held_ranges(&self) -> HeldRanges<'_>
@@ -24,7 +25,7 @@ impl AddressAllocator {
     ///
     /// Each range is returned whole. If `range` is in the space, it is free exactly if there is no
     /// item. It descends one path of the tree for each end of `range` and does not allocate.
-    pub fn held_ranges_in(&self, range: &RangeInclusive) -> HeldRanges<'_>
+    pub fn held_ranges_in(&self, range: &RangeInclusive) -> HeldRangesIn<'_>
         ensures { result ≡ meeting range.now (state_of self.now).held }
     {
         self.interval_tree.held_ranges_in(range)

@@ -1,5 +1,5 @@
 -- The tree of the blocks of a space with some ranges held.
-use Rattle.std.proofs.Common.{◌≡◌, ℕ, ◌+◌, ◌^◌, ◌≤◌, ◌<◌, List, [], ◌∷◌, ◌++◌, length, Some, None, Option, MatchOption, ◌⊎◌, Result, Ok, Err, refl, sym, ap, ◌∙◌, arith, subst, ⊎_elim, inl, inr}
+use Rattle.std.proofs.Common.{◌≡◌, ℕ, ◌+◌, ◌-◌, ◌^◌, ◌≤◌, ◌<◌, List, [], ◌∷◌, ◌++◌, length, Some, None, Option, MatchOption, ◌⊎◌, Result, Ok, Err, refl, sym, ap, ◌∙◌, arith, subst, ⊎_elim, inl, inr}
 use Rattle.std.proofs.lemmas.Bool.{cases_lt}
 use Rattle.std.proofs.lemmas.List.{append-nil}
 use Rattle.vm_ranges.specs.Range.{Range, IsRange, address_count}
@@ -18,6 +18,7 @@ use Rattle.vm_ranges.specs.declared.error.Error.{Error}
 use Rattle.vm_ranges.specs.declared.error.Error.TheVariants.{Overflow, OutOfMemory}
 use Rattle.vm_engine.proofs.Blocks.GapLists.{all_counted}
 use Rattle.vm_engine.proofs.Comparing.Tilings.{held_of-blocks_of}
+use Rattle.vm_engine.proofs.Walking.HeldInTrees.{all_blocks}
 use Rattle.vm_engine.proofs.Nodes.MinNodes.{power_grows}
 use Rattle.vm_engine.proofs.Nodes.Spaces.{space_tiled, space_tree}
 use Rattle.vm_engine.proofs.Making.BlockCursors.{between_tiles}
@@ -65,13 +66,17 @@ module _ (space : Range) (held : List Range) (range : IsRange space.start space.
   pub built_tree : IsSpaceTree s
   built_tree = space_tree space s tiling range low
 
-  pub built_counted : (clear : ℕ) → clear + count_of held ≡ address_count space → IsCountedTree s (length held) clear
+  pub held_counted : length held ≤ n
+  held_counted = omega (arith, count, all_blocks (blocks s), ap length held_are, ap length blocks_are)
+
+  pub built_counted : (clear : ℕ) → clear + count_of held ≡ address_count space → IsCountedTree s (length held) (n - length held) clear
   unfolding TilesSpace
   built_counted clear f =
       let all = all_counted Allocated space.start space.end (blocks s) tiling.tiles in
       record {
         tree = built_tree;
         held_count = ap length (sym held_are);
+        gap_count = omega (arith, count, all_blocks (blocks s), ap length held_are, ap length blocks_are);
         clear_count = omega (arith, f, all, ap count_of held_are, range.0);
       }
 

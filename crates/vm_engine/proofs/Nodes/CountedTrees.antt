@@ -1,32 +1,39 @@
 -- The counts of a tree before and after a range is allocated or freed.
-use Rattle.std.proofs.Common.{◌≡◌, ℕ, ◌+◌, ◌-◌, ◌<◌, ◌≤◌, List, [], ◌∷◌, length, drop, get_or, refl, sym, ap, ◌∙◌, arith, ⊎_elim}
+use Rattle.std.proofs.Common.{◌≡◌, ℕ, ◌+◌, ◌-◌, ◌<◌, ◌≤◌, List, [], ◌∷◌, ◌++◌, length, drop, get_or, refl, sym, ap, ◌∙◌, arith, ⊎_elim, length-append, Option, Some, None, IfSome}
 use Rattle.std.proofs.lemmas.Bool.{cases_lt, lt-ltb, le-ltb}
 use Rattle.std.proofs.lemmas.List.{drop_more}
+use Rattle.std.specs.Global.{Box}
 use Rattle.std.specs.List.{Contains}
 use Rattle.vm_ranges.specs.Range.{Range, MAX, address_count}
 use Rattle.vm_engine.specs.Address.{AddressState, AreInOrder, with_range, holding, releasing}
 use Rattle.vm_engine.specs.Answer.{AllocatesAt, Frees}
 use Rattle.vm_engine.specs.Engine.Choosing.{IsChosenPlace, Splits}
-use Rattle.vm_engine.specs.Engine.FreedBlocks.{with_joined}
-use Rattle.vm_engine.specs.Engine.CountedTrees.{IsCountedTree}
+use Rattle.vm_engine.specs.Engine.FreedBlocks.{joined, with_joined}
+use Rattle.vm_engine.specs.Engine.Changes.{IsLeaf}
+use Rattle.vm_engine.specs.Engine.CountedTrees.{IsCountedTree, one_if_some}
+use Rattle.vm_engine.specs.Engine.NodeFields.{side}
+use Rattle.vm_engine.specs.Engine.SplitBlocks.{IsRest}
 use Rattle.vm_engine.specs.Queries.{free_of, count_of}
-use Rattle.vm_engine.specs.Tree.Block.{Block, free_block}
+use Rattle.vm_engine.specs.Tree.Block.{Block, free_block, held_block}
+use Rattle.vm_engine.specs.Tree.BlockEdits.{before_part, after_part, parts, NeedsSplit}
 use Rattle.vm_engine.specs.Tree.Blocks.{TilesSpace, held_of}
-use Rattle.vm_engine.specs.Tree.FreeBeside.{HasHeld}
-use Rattle.vm_engine.specs.Tree.Shape.{Shape, blocks, height_of}
+use Rattle.vm_engine.specs.Tree.FreeBeside.{HasHeld, free_if_some}
+use Rattle.vm_engine.specs.Tree.Shape.{Shape, blocks, height_of, root_block, single}
 use Rattle.vm_engine.specs.Tree.SpaceTree.{space_of, tree_state, IsSpaceTree}
 use Rattle.vm_engine.specs.declared.node.neighbours.Neighbours.{Neighbours}
+use Rattle.vm_engine.specs.declared.node.InnerNode.{InnerNode}
 use Rattle.vm_engine.specs.declared.node.places.Place.{Place}
+use Rattle.vm_engine.specs.declared.node.split.Rest.{Rest}
 use Rattle.vm_ranges.specs.declared.state.NodeState.TheVariants.{Allocated}
 use Rattle.vm_engine.proofs.Blocks.HeldChanges.{with_without}
 use Rattle.vm_engine.proofs.Blocks.GapLists.{all_counted}
 use Rattle.vm_engine.proofs.Blocks.PlainWords.{held_contains}
 use Rattle.vm_engine.proofs.Nodes.Spaces.{state_of_tree}
 use Rattle.vm_engine.proofs.Releasing.Apart.{Given, held_range_freed}
-use Rattle.vm_engine.proofs.Releasing.JoinedBlocks.{space_given, frees_held_block}
-use Rattle.vm_engine.proofs.Splitting.SplitStates.{space_taken, taken_in}
-use Rattle.vm_engine.proofs.Walking.GapsInTrees.{clear_in_tree, clear_middle}
-use Rattle.vm_engine.proofs.Walking.HeldInTrees.{few_held}
+use Rattle.vm_engine.proofs.Releasing.JoinedBlocks.{rejoined_is, space_given, frees_held_block}
+use Rattle.vm_engine.proofs.Splitting.SplitStates.{leaf_blocks, none_before, none_after, space_taken, taken_in}
+use Rattle.vm_engine.proofs.Walking.GapsInTrees.{clear_in_tree, clear_middle, length-free_of}
+use Rattle.vm_engine.proofs.Walking.HeldInTrees.{all_blocks, few_held, few_free}
 
 -- ---- A range added to a list
 pub length_with : (r : Range) (hs : List Range) → length (with_range r hs) ≡ length hs + 1
@@ -81,17 +88,63 @@ held_again s n r h c e =
     let back = with_without sp.start sp.end r (held_of (blocks s)) (state_of_tree s h).in_order (held_contains (held_of (blocks s)) r c) in
     ap (λ (v : List Range). record { space = sp; held = v }) (sym back) ∙ ap (holding r) (sym e)
 
+-- ---- The number of parts and of neighbours
+one_leaf : (leaf : Option (Box InnerNode)) → IfSome leaf (λ n. IsLeaf n.value) → length (blocks (side leaf)) ≡ one_if_some leaf
+one_leaf None h = refl
+one_leaf (Some n) h = let e : n.value ≡ single (root_block n.value) = h in rw e refl
+
+-- The leaves of the rest are the parts beside the range.
+pub rest_parts : (k r : Range) (rest : Rest) → IsRest k r rest → length (parts k r) ≡ one_if_some rest.before + one_if_some rest.after + 1
+rest_parts k r rest i =
+    let leaves = leaf_blocks k r rest i in
+    omega (
+      arith,
+      length-append (before_part k r) (held_block r ∷ after_part k r),
+      ap length leaves.0,
+      ap length leaves.1,
+      one_leaf rest.before i.leaves.before,
+      one_leaf rest.after i.leaves.after,
+    )
+
+pub one_part : (k r : Range) → ¬ NeedsSplit k r → length (parts k r) ≡ 1
+one_part k r n = omega (arith, length-append (before_part k r) (held_block r ∷ after_part k r), ap length (none_before k r n), ap length (none_after k r n))
+
+pub some_part : (k r : Range) → NeedsSplit k r → 2 ≤ length (parts k r)
+some_part k r n =
+    let all = length-append (before_part k r) (held_block r ∷ after_part k r) in
+    ⊎_elim
+    (λ (l : k.start < r.start). let one : length (before_part k r) ≡ 1 = rw (lt-ltb k.start r.start l) refl in omega (arith, all, one))
+    (λ (l : r.end < k.end). let one : length (after_part k r) ≡ 1 = rw (lt-ltb r.end k.end l) refl in omega (arith, all, one))
+    n
+
+one_neighbour : (key : Option Range) → length (free_if_some key) ≡ one_if_some key
+one_neighbour None = refl
+one_neighbour (Some k) = refl
+
+one_gap : (key : Option Range) → length (free_of (free_if_some key)) ≡ one_if_some key
+one_gap None = refl
+one_gap (Some k) = refl
+
 -- ---- The counts after a range is allocated
-pub held_fits : (s : Shape) (held clear : ℕ) → IsCountedTree s held clear → held < MAX
-held_fits s held clear h = omega (arith, few_held s h.tree.height, h.held_count)
+pub held_fits : (s : Shape) (held gaps clear : ℕ) → IsCountedTree s held gaps clear → held < MAX
+held_fits s held gaps clear h = omega (arith, few_held s h.tree.height, h.held_count)
+
+pub gaps_fit : (s : Shape) (held gaps clear : ℕ) → IsCountedTree s held gaps clear → gaps < MAX
+gaps_fit s held gaps clear h = omega (arith, few_free s h.tree.height, h.gap_count)
+
+-- A range is allocated in one of the gaps.
+pub gap_counted : (s : Shape) (held gaps clear : ℕ) (place : Place) → IsCountedTree s held gaps clear → IsChosenPlace (blocks s) place → 0 < gaps
+gap_counted s held gaps clear place h i =
+    let all = ap (λ (v : List Block). length (free_of v)) i.cut in
+    omega (arith, h.gap_count, all, length-free_of i.before (free_block place.key ∷ i.after))
 
 -- A range in a free block has at most as many addresses as are clear.
-pub place_fits : (s : Shape) (held clear : ℕ) (place : Place) → IsCountedTree s held clear → IsChosenPlace (blocks s) place → address_count place.range ≤ clear
-place_fits s held clear place h i =
+pub place_fits : (s : Shape) (held gaps clear : ℕ) (place : Place) → IsCountedTree s held gaps clear → IsChosenPlace (blocks s) place → address_count place.range ≤ clear
+place_fits s held gaps clear place h i =
     let all = ap (λ (v : List Block). count_of (free_of v)) i.cut in
     omega (arith, h.clear_count, all, clear_middle i.before i.after (free_block place.key) refl, i.within.from, i.within.some, i.within.upto)
 
-module _ (s n : Shape) (held clear : ℕ) (place : Place) (h : IsCountedTree s held clear) (i : IsChosenPlace (blocks s) place) (c : Splits (blocks s) place.key place.range (blocks n)) (l : height_of n ≤ 49) where
+module _ (s n : Shape) (held gaps clear : ℕ) (place : Place) (h : IsCountedTree s held gaps clear) (i : IsChosenPlace (blocks s) place) (c : Splits (blocks s) place.key place.range (blocks n)) (l : height_of n ≤ 49) where
   taken_tree : IsSpaceTree n
   taken_tree = space_taken s n place h.tree i c l
 
@@ -103,15 +156,40 @@ module _ (s n : Shape) (held clear : ℕ) (place : Place) (h : IsCountedTree s h
       (λ k. absurd (⊎_elim (λ m. cc m) (λ m. cc m.1) k.2))
       (taken_in s n place place.range h.tree i c refl)
 
-  pub taken_counted : (count : ℕ) → count ≡ address_count place.range → IsCountedTree n (held + 1) (clear - count)
-  taken_counted count e = record {
+  -- The parts replace one block.
+  more_blocks : length (blocks n) + 1 ≡ length (blocks s) + length (parts place.key place.range)
+  more_blocks =
+      let old = ap length c.cut ∙ length-append c.before (free_block place.key ∷ c.after) in
+      let new = ap length c.is ∙ length-append c.before (parts place.key place.range ++ c.after) in
+      omega (arith, old, new, length-append (parts place.key place.range) c.after)
+
+  pub taken_counted : (left count : ℕ) → left + 2 ≡ gaps + length (parts place.key place.range) → count ≡ address_count place.range → IsCountedTree n (held + 1) left (clear - count)
+  taken_counted left count f e = record {
     tree = taken_tree;
     held_count = omega (arith, h.held_count, more.held);
+    gap_count = omega (arith, f, h.gap_count, more.held, more_blocks, all_blocks (blocks s), all_blocks (blocks n));
     clear_count = omega (arith, e, h.clear_count, more.clear);
   }
 
 -- ---- The counts after a range is freed
-module _ (s m : Shape) (held clear : ℕ) (k : Range) (n : Neighbours) (h : IsCountedTree s held clear) (f : HasHeld (blocks s) k n.before n.after) (e : blocks m ≡ with_joined k n (blocks s)) (l : height_of m ≤ height_of s) where
+-- The free neighbours are gaps.
+pub neighbours_counted : (s : Shape) (held gaps clear : ℕ) (k : Range) (n : Neighbours) → IsCountedTree s held gaps clear → HasHeld (blocks s) k n.before n.after → one_if_some n.before + one_if_some n.after ≤ gaps
+neighbours_counted s held gaps clear k n h f =
+    let a = (held_range_freed s k n h.tree f).around in
+    let all = ap (λ (v : List Block). length (free_of v)) a.cut in
+    let above = free_if_some n.after ++ a.upper in
+    omega (
+      arith,
+      h.gap_count,
+      all,
+      length-free_of a.lower (free_if_some n.before ++ held_block k ∷ above),
+      length-free_of (free_if_some n.before) (held_block k ∷ above),
+      length-free_of (free_if_some n.after) a.upper,
+      one_gap n.before,
+      one_gap n.after,
+    )
+
+module _ (s m : Shape) (held gaps clear : ℕ) (k : Range) (n : Neighbours) (h : IsCountedTree s held gaps clear) (f : HasHeld (blocks s) k n.before n.after) (e : blocks m ≡ with_joined k n (blocks s)) (l : height_of m ≤ height_of s) where
   given : Given s k n
   given = held_range_freed s k n h.tree f
 
@@ -126,15 +204,32 @@ module _ (s m : Shape) (held clear : ℕ) (k : Range) (n : Neighbours) (h : IsCo
       (λ c. absurd (cc c.1.0))
       (frees_held_block s m k n h.tree f given e)
 
+  -- The range becomes one block with its free neighbours.
+  fewer_blocks : length (blocks m) + one_if_some n.before + one_if_some n.after ≡ length (blocks s)
+  fewer_blocks =
+      let a = given.around in
+      let old = ap length a.cut ∙ length-append a.lower (free_if_some n.before ++ held_block k ∷ (free_if_some n.after ++ a.upper)) in
+      let new = ap length (e ∙ rejoined_is (blocks s) k n a) ∙ length-append a.lower (free_block (joined k n) ∷ a.upper) in
+      omega (
+        arith,
+        old,
+        new,
+        length-append (free_if_some n.before) (held_block k ∷ (free_if_some n.after ++ a.upper)),
+        length-append (free_if_some n.after) a.upper,
+        one_neighbour n.before,
+        one_neighbour n.after,
+      )
+
   pub freed_held : 0 < held
   freed_held = omega (arith, h.held_count, less.held)
 
   pub freed_fits : clear + address_count k ≤ MAX
   freed_fits = omega (arith, clear_in_tree m freed_tree, h.clear_count, less.clear)
 
-  pub freed_counted : (count : ℕ) → count ≡ address_count k → IsCountedTree m (held - 1) (clear + count)
-  freed_counted count g = record {
+  pub freed_counted : (left count : ℕ) → left + one_if_some n.before + one_if_some n.after ≡ gaps → count ≡ address_count k → IsCountedTree m (held - 1) (left + 1) (clear + count)
+  freed_counted left count b g = record {
     tree = freed_tree;
     held_count = omega (arith, h.held_count, less.held);
+    gap_count = omega (arith, b, h.gap_count, less.held, fewer_blocks, all_blocks (blocks s), all_blocks (blocks m));
     clear_count = omega (arith, g, h.clear_count, less.clear);
   }

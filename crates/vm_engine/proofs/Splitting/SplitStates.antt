@@ -74,7 +74,7 @@ pub none_after : (k r : Range) → ¬ NeedsSplit k r → [] ≡ after_part k r
 none_after k r n = rw (le-ltb r.end k.end (⊎_elim (λ (l : r.end < k.end). absurd (n (inr l))) (λ (l : k.end ≤ r.end). l) (cases_lt r.end k.end))) refl
 
 -- The leaf of a part has exactly that part.
-leaf_blocks : (k r : Range) (rest : Rest) → IsRest k r rest → (blocks (side rest.before) ≡ before_part k r) × (blocks (side rest.after) ≡ after_part k r)
+pub leaf_blocks : (k r : Range) (rest : Rest) → IsRest k r rest → (blocks (side rest.before) ≡ before_part k r) × (blocks (side rest.after) ≡ after_part k r)
 leaf_blocks k r rest i = (
   ap blocks i.before ∙ elim (ltb k.start r.start) as (λ v. blocks (leaf_of (cond v (free_block (record { start = k.start; end = r.start - 1 }) ∷ []) [])) ≡ cond v (free_block (record { start = k.start; end = r.start - 1 }) ∷ []) []) [ true ↦ refl | false ↦ refl ],
   ap blocks i.after ∙ elim (ltb r.end k.end) as (λ v. blocks (leaf_of (cond v (free_block (record { start = r.end + 1; end = k.end }) ∷ []) [])) ≡ cond v (free_block (record { start = r.end + 1; end = k.end }) ∷ []) []) [ true ↦ refl | false ↦ refl ],

@@ -1,5 +1,5 @@
--- The free blocks of a tree: their ranges, the longest one, and the number of their addresses.
-use Rattle.std.proofs.Common.{◌≡◌, ℕ, ◌+◌, ◌<◌, ◌≤◌, max, List, [], ◌∷◌, ◌++◌, refl, sym, ap, ◌∙◌, arith, append_assoc, ⊎_elim}
+-- The free blocks of a tree: their ranges, their number, the longest one, and the number of their addresses.
+use Rattle.std.proofs.Common.{◌≡◌, ℕ, ◌+◌, ◌<◌, ◌≤◌, max, List, [], ◌∷◌, ◌++◌, length, refl, sym, ap, ◌∙◌, arith, append_assoc, length-append, ⊎_elim}
 use Rattle.std.proofs.lemmas.Bool.{cases_lt}
 use Rattle.std.proofs.lemmas.List.{append-nil}
 use Rattle.vm_ranges.specs.Range.{Range, MAX, address_count}
@@ -33,6 +33,16 @@ pub free_of-last_free : (bs : List Block) (b : Block) → b.state ≡ Free → f
 free_of-last_free bs b e = free_of-append bs (b ∷ []) ∙ ap (λ (v : List Range). free_of bs ++ v) (free_of-free b [] e)
 
 pub ruleset free_of_last = (free_of-last_held, free_of-last_free)
+
+-- ---- Their number
+pub length-free_of : (xs ys : List Block) → length (free_of (xs ++ ys)) ≡ length (free_of xs) + length (free_of ys)
+length-free_of xs ys = ap length (free_of-append xs ys) ∙ length-append (free_of xs) (free_of ys)
+
+pub free_fork-free : (l : Shape) (b : Block) (r : Shape) → b.state ≡ Free → length (free_of (blocks (Fork l b r))) ≡ length (free_of (blocks l)) + length (free_of (blocks r)) + 1
+free_fork-free l b r e = omega (arith, length-free_of (blocks l) (b ∷ blocks r), ap length (free_of-free b (blocks r) e))
+
+pub free_fork-held : (l : Shape) (b : Block) (r : Shape) → b.state ≡ Allocated → length (free_of (blocks (Fork l b r))) ≡ length (free_of (blocks l)) + length (free_of (blocks r))
+free_fork-held l b r e = omega (arith, length-free_of (blocks l) (b ∷ blocks r), ap length (free_of-held b (blocks r) e))
 
 -- ---- The number of their addresses
 count_of-append : (xs ys : List Range) → count_of (xs ++ ys) ≡ count_of xs + count_of ys

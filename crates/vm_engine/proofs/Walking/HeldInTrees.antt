@@ -1,13 +1,15 @@
--- The held blocks of a tree: the search by a key, and their number.
+-- The held blocks of a tree: the search by a key, and their number. The number of all blocks.
 use Rattle.std.proofs.Common.{◌≡◌, ◌+◌, ◌^◌, ◌<◌, ◌≤◌, List, [], ◌∷◌, ◌++◌, length, refl, sym, ap, ◌∙◌, arith, append_assoc, length-append, ⊎_elim, ◌↔◌, Bool, IsTrue, Some}
 use Rattle.std.proofs.lemmas.List.{append-nil}
 use Rattle.vm_ranges.specs.Range.{Range}
 use Rattle.vm_engine.specs.Tree.Block.{Block, held_block}
+use Rattle.vm_engine.specs.Queries.{free_of}
 use Rattle.vm_engine.specs.Tree.Blocks.{range_if_held, held_of}
 use Rattle.vm_engine.specs.Tree.Shape.{Shape, Fork, MAX_HEIGHT, blocks, height_of}
 use Rattle.vm_ranges.specs.declared.state.NodeState.TheVariants.{Free, Allocated}
 use Rattle.vm_engine.proofs.Blocks.Gaps.{state_cases}
 use Rattle.vm_engine.proofs.Blocks.OneList.{held_of-free, held_of-held, same_block}
+use Rattle.vm_engine.proofs.Walking.GapsInTrees.{free_of-free, free_of-held, free_fork-free, free_fork-held}
 use Rattle.vm_engine.proofs.Nodes.TreeEdits.{some_same}
 use Rattle.vm_engine.proofs.Nodes.MinNodes.{most_nodes, node_count-blocks, power_grows}
 
@@ -39,21 +41,27 @@ held_fork-held l b r e =
     let own = ap length (held_of-held b (blocks r) e) in
     omega (arith, both, own)
 
-held_of-few : (bs : List Block) → length (held_of bs) ≤ length bs
-held_of-few [] = omega arith
-held_of-few (b ∷ bs) =
-    let rest = held_of-few bs in
+-- Each block is held or free.
+pub all_blocks : (bs : List Block) → length (held_of bs) + length (free_of bs) ≡ length bs
+all_blocks [] = refl
+all_blocks (b ∷ bs) =
+    let rest = all_blocks bs in
     ⊎_elim
-    (λ (e : b.state ≡ Free). let own = ap length (held_of-free b bs e) in omega (arith, own, rest))
-    (λ (e : b.state ≡ Allocated). let own = ap length (held_of-held b bs e) in omega (arith, own, rest))
+    (λ (e : b.state ≡ Free). omega (arith, rest, ap length (held_of-free b bs e), ap length (free_of-free b bs e)))
+    (λ (e : b.state ≡ Allocated). omega (arith, rest, ap length (held_of-held b bs e), ap length (free_of-held b bs e)))
     (state_cases b.state)
 
--- A tree of the maximum height has fewer than 2 ^ MAX_HEIGHT held blocks.
-pub few_held : (s : Shape) → height_of s ≤ MAX_HEIGHT → length (held_of (blocks s)) < 2 ^ MAX_HEIGHT
-few_held s h =
-    omega (arith, held_of-few (blocks s), node_count-blocks s, most_nodes s, power_grows (height_of s) MAX_HEIGHT h)
+-- A tree of the maximum height has fewer than 2 ^ MAX_HEIGHT blocks.
+few_in_tree : (s : Shape) → height_of s ≤ MAX_HEIGHT → length (blocks s) < 2 ^ MAX_HEIGHT
+few_in_tree s h = omega (arith, node_count-blocks s, most_nodes s, power_grows (height_of s) MAX_HEIGHT h)
 
-pub ruleset held_numbers = (held_fork-free, held_fork-held, few_held)
+pub few_held : (s : Shape) → height_of s ≤ MAX_HEIGHT → length (held_of (blocks s)) < 2 ^ MAX_HEIGHT
+few_held s h = omega (arith, all_blocks (blocks s), few_in_tree s h)
+
+pub few_free : (s : Shape) → height_of s ≤ MAX_HEIGHT → length (free_of (blocks s)) < 2 ^ MAX_HEIGHT
+few_free s h = omega (arith, all_blocks (blocks s), few_in_tree s h)
+
+pub ruleset block_numbers = (held_fork-free, held_fork-held, free_fork-free, free_fork-held, few_held, few_free)
 
 -- ---- The search by a key
 -- The node with the key has a held block, or no held block has the key.

@@ -12,6 +12,7 @@ ghost use Rattle.vm_ranges.specs.Cases.{IsTestOf};
 ghost use Rattle.vm_engine.specs.Engine.SplitBlocks.{IsRest};
 ghost use Rattle.vm_engine.specs.Tree.Shape.{blocks, height_of, single, leaf_of};
 ghost use Rattle.vm_engine.specs.Engine.Changes.{IsLeaf};
+ghost use Rattle.vm_engine.specs.Engine.CountedTrees.{one_if_some};
 ghost use Rattle.vm_engine.specs.Engine.NodeFields.{side};
 ghost use Rattle.vm_engine.specs.Engine.Choosing.{IsChosenPlace};
 ghost use Rattle.vm_engine.specs.Engine.Outermost.{KnowsPlace};
@@ -67,6 +68,7 @@ impl IntervalTree {
                 count,
             );
             self.held_count += 1;
+            self.gap_count -= 1;
             self.clear_count -= place.range.len();
             return Ok(place.range);
         }
@@ -76,6 +78,7 @@ impl IntervalTree {
         let rest = rest_of(alloc, &place)?;
         let mut split = Split { place, rest };
         self.held_count += 1;
+        count_rest(&mut self.gap_count, &split.rest);
         self.clear_count -= place.range.len();
         split_gap(&mut self.root, &mut split, edge, count);
         Ok(place.range)
@@ -87,6 +90,17 @@ fn needs_split(place: &Place) -> bool
     ensures { IsTestOf result (NeedsSplit place.now.key place.now.range) }
 {
     place.key.start() < place.range.start() || place.range.end() < place.key.end()
+}
+
+/// Counts the parts of a free block in place of the block.
+fn count_rest(gaps: &mut u64, rest: &Rest)
+    requires some { 0 < one_if_some rest.now.before + one_if_some rest.now.after }
+    requires fits { gaps.old < MAX }
+    ensures { gaps.new + 1 ≡ gaps.old + one_if_some rest.now.before + one_if_some rest.now.after }
+{
+    if rest.before.is_some() && rest.after.is_some() {
+        *gaps += 1;
+    }
 }
 
 /// Allocates the leaves for the parts of the free block before and after the range.

@@ -9,6 +9,7 @@ ghost use Rattle.vm_ranges.specs.Range.{MAX, IsRange};
 ghost use Rattle.vm_engine.specs.Answer.{Frees};
 ghost use Rattle.vm_engine.specs.Tree.FreeBeside.{without_if_some};
 ghost use Rattle.vm_engine.specs.Tree.Removal.{without_key_if_some};
+ghost use Rattle.vm_engine.specs.Engine.CountedTrees.{one_if_some};
 ghost use Rattle.vm_engine.specs.Engine.FreedBlocks.{IsAround, joined, with_joined, start_with, end_with};
 ghost use Rattle.vm_engine.specs.Tree.Shape.{MAX_HEIGHT, blocks, height_of, IsTree};
 ghost use Rattle.vm_engine.specs.Engine.NodeFields.{side};
@@ -39,27 +40,36 @@ impl IntervalTree {
         let Some(beside) = self.root().neighbours(key, count) else {
             return Err(Error::ResourceNotAvailable);
         };
-        join_free(&mut self.root, key, &beside, count);
+        join_free(&mut self.root, &mut self.gap_count, key, &beside, count);
         self.held_count -= 1;
+        self.gap_count += 1;
         self.clear_count += key.len();
         Ok(())
     }
 }
 
-/// Removes the free neighbours of an allocated block. Then makes the block free, with the addresses
-/// of all three.
+/// Removes the free neighbours of an allocated block, and subtracts them from the number of gaps. Then
+/// makes the block free, with the addresses of all three.
 #[tactic(auto, using(crate::proofs::Releasing::JoinedBlocks::joins_free, crate::proofs::Counts::FreeCounts::deletions))]
-fn join_free(root: &mut Child, key: &RangeInclusive, beside: &Neighbours, count: &mut Steps)
+fn join_free(
+    root: &mut Child,
+    gaps: &mut u64,
+    key: &RangeInclusive,
+    beside: &Neighbours,
+    count: &mut Steps,
+)
     requires around { IsAround (blocks (side root.old)) key.now beside.now }
+    requires gaps { one_if_some beside.now.before + one_if_some beside.now.after ≤ gaps.old }
     requires count_fits { count.old + 3 * height_of (side root.old) < MAX }
     requires depth { height_of (side root.old) ≤ MAX_HEIGHT }
     ensures blocks { blocks (side root.new) ≡ with_joined key.now beside.now (blocks (side root.old)) }
     ensures height { height_of (side root.new) ≤ height_of (side root.old) }
+    ensures gaps { gaps.new + one_if_some beside.now.before + one_if_some beside.now.after ≡ gaps.old }
     ensures count { count.new ≡ count.old + nodes_to_widen key.now beside.now.before beside.now.after (side root.old) }
 {
     let range = joined(key, beside);
-    delete_if_some(root, &beside.before, count);
-    delete_if_some(root, &beside.after, count);
+    delete_if_some(root, gaps, &beside.before, count);
+    delete_if_some(root, gaps, &beside.after, count);
     widen(root, key, &range, count);
 }
 
@@ -79,11 +89,13 @@ fn joined(key: &RangeInclusive, beside: &Neighbours) -> RangeInclusive
     valid_range(start, end)
 }
 
-/// Removes the node with this key, if there is a key.
+/// Removes the node of the gap with this key, if there is a key. Subtracts it from the number of gaps.
 #[tactic(auto, using(crate::proofs::Counts::NodeCountBounds::deletion_bounds))]
-fn delete_if_some(root: &mut Child, key: &Option<RangeInclusive>, count: &mut Steps)
+fn delete_if_some(root: &mut Child, gaps: &mut u64, key: &Option<RangeInclusive>, count: &mut Steps)
+    requires gaps { one_if_some key.now ≤ gaps.old }
     requires count_fits { count.old + height_of (side root.old) < MAX }
     requires depth { height_of (side root.old) ≤ MAX_HEIGHT }
+    ensures gaps { gaps.new + one_if_some key.now ≡ gaps.old }
     ensures blocks { blocks (side root.new) ≡ without_if_some key.now (blocks (side root.old)) }
     ensures height { height_of (side root.new) ≤ height_of (side root.old) }
     ensures shape { side root.new ≡ without_key_if_some key.now (side root.old) }
@@ -91,5 +103,6 @@ fn delete_if_some(root: &mut Child, key: &Option<RangeInclusive>, count: &mut St
 {
     if let Some(key) = key {
         delete_at(root, key, count);
+        *gaps -= 1;
     }
 }

@@ -1,8 +1,8 @@
 //! Queries about the free addresses: the gaps, the gap at an address, the length of the longest gap,
-//! and the number of free addresses.
+//! and the numbers of gaps and of free addresses.
 //!
 //! A gap is a run of free addresses with no free address next to it. Each free block is a gap.
-ghost use Rattle.std.specs.Prelude.{◌≡◌};
+ghost use Rattle.std.specs.Prelude.{◌≡◌, length};
 ghost use Rattle.std.specs.Iterator.{YieldsFirst, YieldsLast, item_count};
 ghost use Rattle.vm_engine.specs.Queries.{gaps_of, longest_of, count_of, IsGapAt, meeting};
 ghost use Rattle.vm_engine.specs.Tree.SpaceTree.{tree_state};
@@ -13,15 +13,16 @@ use crate::node::walks::both_ends::WalkBothEnds;
 use std::marker::Model;
 use vm_ranges::{NodeState, RangeInclusive};
 
-/// An iterator over the gaps, from the lowest to the highest, or backwards. It does not allocate.
+/// An iterator over the gaps in a window, from the lowest to the highest, or backwards. It does not
+/// allocate.
 ///
 /// Its model is the list of the gaps that it has not returned yet.
 #[derive(Clone, Drop)]
-pub struct Gaps<'a> {
+pub struct GapsIn<'a> {
     blocks: WalkBothEnds<'a>,
 }
 
-impl<'a> Model for Gaps<'a> {
+impl<'a> Model for GapsIn<'a> {
     ghost use Rattle.std.specs.Prelude.{List};
     ghost use Rattle.vm_ranges.specs.Range.{Range};
     ghost use Rattle.vm_engine.specs.Queries.{free_of};
@@ -31,7 +32,7 @@ impl<'a> Model for Gaps<'a> {
     ghost view = { λ g. free_of g.blocks };
 }
 
-impl<'a> Iterator for Gaps<'a> {
+impl<'a> Iterator for GapsIn<'a> {
     type Item = RangeInclusive;
 
     ghost next_gives = { YieldsFirst (λ g. g) };
@@ -50,7 +51,7 @@ impl<'a> Iterator for Gaps<'a> {
     }
 }
 
-impl<'a> DoubleEndedIterator for Gaps<'a> {
+impl<'a> DoubleEndedIterator for GapsIn<'a> {
     ghost next_back_gives = { YieldsLast (λ g. g) };
 
     /// Returns the highest gap that is left.
@@ -65,24 +66,85 @@ impl<'a> DoubleEndedIterator for Gaps<'a> {
     }
 }
 
+/// An iterator over all gaps, from the lowest to the highest, or backwards. It has an exact length,
+/// and does not allocate.
+///
+/// Its model is the list of the gaps that it has not returned yet.
+#[derive(Clone, Drop)]
+pub struct Gaps<'a> {
+    gaps: GapsIn<'a>,
+    /// The number of gaps that are left.
+    left: usize,
+}
+
+impl<'a> Model for Gaps<'a> {
+    ghost use Rattle.std.specs.Prelude.{◌≡◌, List, length};
+    ghost use Rattle.vm_ranges.specs.Range.{Range};
+
+    ghost Value = { List Range };
+
+    ghost view = { λ g. g.gaps };
+
+    ghost invariant = { λ g. g.left ≡ length g.gaps };
+}
+
+impl<'a> Iterator for Gaps<'a> {
+    type Item = RangeInclusive;
+
+    ghost next_gives = { YieldsFirst (λ g. g) };
+
+    ghost remaining = { item_count (λ g. g) };
+
+    /// Returns the lowest gap that is left.
+    fn next(&mut self) -> Option<RangeInclusive> {
+        let gap = self.gaps.next()?;
+        self.left -= 1;
+        Some(gap)
+    }
+
+    fn size_hint(&self) -> (usize, Option<usize>) {
+        (self.left, Some(self.left))
+    }
+}
+
+impl<'a> DoubleEndedIterator for Gaps<'a> {
+    ghost next_back_gives = { YieldsLast (λ g. g) };
+
+    /// Returns the highest gap that is left.
+    fn next_back(&mut self) -> Option<RangeInclusive> {
+        let gap = self.gaps.next_back()?;
+        self.left -= 1;
+        Some(gap)
+    }
+}
+
+impl<'a> ExactSizeIterator for Gaps<'a> {
+    /// Returns the number of gaps that are left.
+    fn len(&self) -> usize {
+        self.left
+    }
+}
+
 impl IntervalTree {
     /// Returns an iterator over the gaps, from the lowest to the highest. It does not allocate.
     #[tactic(auto, using(crate::proofs::Walking::GapsInTrees::gaps_in_trees))]
     pub fn gaps(&self) -> Gaps<'_>
         ensures { result ≡ gaps_of (tree_state self.now) }
     {
+        let blocks = self.blocks();
         Gaps {
-            blocks: self.blocks(),
+            gaps: GapsIn { blocks },
+            left: self.gap_count as usize,
         }
     }
 
     /// Returns an iterator over the gaps that have an address in common with `range`, from the
     /// lowest to the highest.
     #[tactic(auto, using(crate::proofs::Walking::Windows::ranges_in_windows))]
-    pub fn gaps_in(&self, range: &RangeInclusive) -> Gaps<'_>
+    pub fn gaps_in(&self, range: &RangeInclusive) -> GapsIn<'_>
         ensures { result ≡ meeting range.now (gaps_of (tree_state self.now)) }
     {
-        Gaps {
+        GapsIn {
             blocks: self.blocks_in(range),
         }
     }
@@ -106,6 +168,14 @@ impl IntervalTree {
         ensures { result ≡ longest_of (gaps_of (tree_state self.now)) }
     {
         self.root().max_free()
+    }
+
+    /// Returns the number of gaps. It takes constant time and does not allocate.
+    #[tactic(auto, using(crate::proofs::Walking::GapsInTrees::gaps_in_trees))]
+    pub fn gap_count(&self) -> u64
+        ensures { result ≡ length (gaps_of (tree_state self.now)) }
+    {
+        self.gap_count
     }
 
     /// Returns the number of free addresses. It takes constant time and does not allocate.

@@ -12,16 +12,16 @@ use crate::node::walks::held::has_held;
 use std::marker::Model;
 use vm_ranges::{NodeState, RangeInclusive};
 
-/// An iterator over the allocated ranges, from the lowest to the highest, or backwards. It does not
-/// allocate.
+/// An iterator over the allocated ranges in a window, from the lowest to the highest, or backwards.
+/// It does not allocate.
 ///
 /// Its model is the list of the ranges that it has not returned yet.
 #[derive(Clone, Drop)]
-pub struct HeldRanges<'a> {
+pub struct HeldRangesIn<'a> {
     blocks: WalkBothEnds<'a>,
 }
 
-impl<'a> Model for HeldRanges<'a> {
+impl<'a> Model for HeldRangesIn<'a> {
     ghost use Rattle.std.specs.Prelude.{List};
     ghost use Rattle.vm_ranges.specs.Range.{Range};
     ghost use Rattle.vm_engine.specs.Tree.Blocks.{held_of};
@@ -31,7 +31,7 @@ impl<'a> Model for HeldRanges<'a> {
     ghost view = { λ h. held_of h.blocks };
 }
 
-impl<'a> Iterator for HeldRanges<'a> {
+impl<'a> Iterator for HeldRangesIn<'a> {
     type Item = RangeInclusive;
 
     ghost next_gives = { YieldsFirst (λ h. h) };
@@ -50,7 +50,7 @@ impl<'a> Iterator for HeldRanges<'a> {
     }
 }
 
-impl<'a> DoubleEndedIterator for HeldRanges<'a> {
+impl<'a> DoubleEndedIterator for HeldRangesIn<'a> {
     ghost next_back_gives = { YieldsLast (λ h. h) };
 
     /// Returns the highest allocated range that is left.
@@ -65,24 +65,85 @@ impl<'a> DoubleEndedIterator for HeldRanges<'a> {
     }
 }
 
+/// An iterator over all allocated ranges, from the lowest to the highest, or backwards. It has an
+/// exact length, and does not allocate.
+///
+/// Its model is the list of the ranges that it has not returned yet.
+#[derive(Clone, Drop)]
+pub struct HeldRanges<'a> {
+    ranges: HeldRangesIn<'a>,
+    /// The number of ranges that are left.
+    left: usize,
+}
+
+impl<'a> Model for HeldRanges<'a> {
+    ghost use Rattle.std.specs.Prelude.{◌≡◌, List, length};
+    ghost use Rattle.vm_ranges.specs.Range.{Range};
+
+    ghost Value = { List Range };
+
+    ghost view = { λ h. h.ranges };
+
+    ghost invariant = { λ h. h.left ≡ length h.ranges };
+}
+
+impl<'a> Iterator for HeldRanges<'a> {
+    type Item = RangeInclusive;
+
+    ghost next_gives = { YieldsFirst (λ h. h) };
+
+    ghost remaining = { item_count (λ h. h) };
+
+    /// Returns the lowest allocated range that is left.
+    fn next(&mut self) -> Option<RangeInclusive> {
+        let range = self.ranges.next()?;
+        self.left -= 1;
+        Some(range)
+    }
+
+    fn size_hint(&self) -> (usize, Option<usize>) {
+        (self.left, Some(self.left))
+    }
+}
+
+impl<'a> DoubleEndedIterator for HeldRanges<'a> {
+    ghost next_back_gives = { YieldsLast (λ h. h) };
+
+    /// Returns the highest allocated range that is left.
+    fn next_back(&mut self) -> Option<RangeInclusive> {
+        let range = self.ranges.next_back()?;
+        self.left -= 1;
+        Some(range)
+    }
+}
+
+impl<'a> ExactSizeIterator for HeldRanges<'a> {
+    /// Returns the number of allocated ranges that are left.
+    fn len(&self) -> usize {
+        self.left
+    }
+}
+
 impl IntervalTree {
     /// Returns an iterator over the allocated ranges, from the lowest to the highest. It does not
     /// allocate.
     pub fn held_ranges(&self) -> HeldRanges<'_>
         ensures { result ≡ (tree_state self.now).held }
     {
+        let blocks = self.blocks();
         HeldRanges {
-            blocks: self.blocks(),
+            ranges: HeldRangesIn { blocks },
+            left: self.held_count as usize,
         }
     }
 
     /// Returns an iterator over the allocated ranges that have an address in common with `range`,
     /// from the lowest to the highest.
     #[tactic(auto, using(crate::proofs::Walking::Windows::ranges_in_windows))]
-    pub fn held_ranges_in(&self, range: &RangeInclusive) -> HeldRanges<'_>
+    pub fn held_ranges_in(&self, range: &RangeInclusive) -> HeldRangesIn<'_>
         ensures { result ≡ meeting range.now (tree_state self.now).held }
     {
-        HeldRanges {
+        HeldRangesIn {
             blocks: self.blocks_in(range),
         }
     }

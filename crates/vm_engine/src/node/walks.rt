@@ -2,7 +2,7 @@
 //!
 //! A `Walk` stores its path in an array of 49 links, so it does not allocate. Two walks side by
 //! side find the first difference of two trees of different shapes. `addresses`, `copying`,
-//! `encoding`, `held` and `gaps` are recursive. `encoding` is in this folder because it reads the
+//! `encoding`, `held` and `counts` are recursive. `encoding` is in this folder because it reads the
 //! fields of nodes.
 ghost use Rattle.std.specs.Prelude.{◌≡◌, ◌≤◌, ◌++◌, drop};
 ghost use Rattle.std.specs.Iterator.{YieldsFirst, item_count};
@@ -15,8 +15,8 @@ ghost use Rattle.vm_engine.specs.Engine.WindowBlocks.{blocks_reaching};
 pub(crate) mod addresses;
 pub(crate) mod both_ends;
 pub(crate) mod copying;
+pub(crate) mod counts;
 pub(crate) mod encoding;
-pub(crate) mod gaps;
 pub(crate) mod held;
 
 use super::{Child, InnerNode};

@@ -12,9 +12,8 @@ ghost use Rattle.vm_engine.specs.Checks.ValueParts.{HasShapeWithin};
 
 use crate::IntervalTree;
 use crate::block::Block;
+use crate::node::walks::counts::count_tree;
 use crate::node::walks::encoding::encode;
-use crate::node::walks::gaps::count_clear;
-use crate::node::walks::held::count_held;
 use crate::node::{Child, InnerNode, MAX_HEIGHT};
 use crate::saved::check::check_nodes;
 use crate::saved::node::decode_node;
@@ -56,10 +55,12 @@ impl IntervalTree {
             return Err(ValueError::NotAState);
         }
         let root = build(value, MAX_HEIGHT, alloc)?;
+        let counts = count_tree(&root);
         Ok(IntervalTree {
-            held_count: count_held(&root),
-            clear_count: count_clear(&root),
             root,
+            held_count: counts.held,
+            gap_count: counts.gaps,
+            clear_count: counts.clear,
         })
     }
 }

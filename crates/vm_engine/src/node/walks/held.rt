@@ -1,8 +1,7 @@
-//! Queries about the allocated blocks of a tree.
+//! The search for an allocated block by its key.
 //!
-//! No contract promises the number of nodes that they enter, so they do not take a counter.
-ghost use Rattle.std.specs.Prelude.{◌≡◌, ◌≤◌, ◌↔◌, IsTrue, Some, length};
-ghost use Rattle.vm_engine.specs.Tree.Blocks.{held_of};
+//! No contract promises the number of nodes that it enters, so it does not take a counter.
+ghost use Rattle.std.specs.Prelude.{◌≡◌, ◌≤◌, ◌↔◌, IsTrue, Some};
 ghost use Rattle.vm_engine.specs.Tree.BlockList.{find_key};
 ghost use Rattle.vm_engine.specs.Tree.Block.{held_block};
 ghost use Rattle.vm_engine.specs.Tree.Shape.{MAX_HEIGHT, blocks, height_of};
@@ -25,20 +24,5 @@ pub(crate) fn has_held(tree: &Child, key: &RangeInclusive) -> bool
         Ordering::Greater => has_held(&node.left, key),
         Ordering::Less => has_held(&node.right, key),
         Ordering::Equal => node.block.state == NodeState::Allocated,
-    }
-}
-
-/// Returns the number of allocated blocks.
-#[tactic(auto, using(crate::proofs::Walking::HeldInTrees::held_numbers))]
-pub(crate) fn count_held(tree: &Child) -> u64
-    requires { height_of (side tree.now) ≤ MAX_HEIGHT }
-    ensures { result ≡ length (held_of (blocks (side tree.now))) }
-{
-    let Some(node) = tree else { return 0 };
-    let node: &InnerNode = node;
-    let beside = count_held(&node.left) + count_held(&node.right);
-    match node.block.state {
-        NodeState::Free => beside,
-        NodeState::Allocated => beside + 1,
     }
 }

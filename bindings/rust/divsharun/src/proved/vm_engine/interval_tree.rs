@@ -40,6 +40,8 @@ pub(in crate::proved::vm_engine) mod placement;
 pub struct IntervalTree {
     /// The number of allocated ranges.
     pub(in crate::proved::vm_engine) held_count: u64,
+    /// The number of gaps.
+    pub(in crate::proved::vm_engine) gap_count: u64,
     pub(in crate::proved::vm_engine) root: Child,
     /// The number of free addresses.
     pub(in crate::proved::vm_engine) clear_count: u64,
@@ -58,6 +60,7 @@ impl IntervalTree {
         Ok(IntervalTree {
             root: Some(node),
             held_count: 0,
+            gap_count: 1,
             clear_count: key.len(),
         })
     }
@@ -71,6 +74,7 @@ impl IntervalTree {
         Ok(IntervalTree {
             root: Some(copy(self.root(), alloc)?),
             held_count: self.held_count,
+            gap_count: self.gap_count,
             clear_count: self.clear_count,
         })
     }

@@ -7,6 +7,7 @@
 //!
 //! - [`IntervalTree`] allocates and frees ranges.
 //! - [`HeldRanges`] iterates over the allocated ranges, and [`Gaps`] over the gaps between them.
+//!   [`HeldRangesIn`] and [`GapsIn`] iterate over those in a window.
 
 mod block;
 mod interval_tree;
@@ -16,8 +17,8 @@ mod saved;
 
 pub use interval_tree::IntervalTree;
 use interval_tree::counted::Steps;
-pub use interval_tree::gaps::Gaps;
-pub use interval_tree::held_ranges::HeldRanges;
+pub use interval_tree::gaps::{Gaps, GapsIn};
+pub use interval_tree::held_ranges::{HeldRanges, HeldRangesIn};
 pub use saved::nodes::ReadNodes;
 pub use saved::span::Span;
 pub use saved::written::{WrittenBlocks, WrittenNode, WrittenTree};

@@ -12,25 +12,20 @@ returns-then-not-has_tree_of c = none_encoded (view c.args.value.now) c.args.spa
 pub build-requires-clause-shape : goal.build-requires-clause-shape
 build-requires-clause-shape c = has_shape (view c.args.value.now) c.args.space.now c.if-not-has_tree_of.ensures.space (sym c.if-not-has_tree_of.ensures.value)
 
-pub count_held-requires : goal.count_held-requires
-count_held-requires c =
+pub count_tree-counts-requires-clause-depth : goal.count_tree-counts-requires-clause-depth
+count_tree-counts-requires-clause-depth c =
     let tree = built_tree (view c.args.value.now) c.args.space.now (side c.in_ok-root.root) c.if-not-has_tree_of.ensures.space (sym c.if-not-has_tree_of.ensures.value) c.in_ok-root.ensures in
     tree.height
 
-pub count_clear-requires-clause-depth : goal.count_clear-requires-clause-depth
-count_clear-requires-clause-depth c =
-    let tree = built_tree (view c.args.value.now) c.args.space.now (side c.in_ok-root.root) c.if-not-has_tree_of.ensures.space (sym c.if-not-has_tree_of.ensures.value) c.in_ok-root.ensures in
-    tree.height
-
-pub count_clear-requires-clause-few : goal.count_clear-requires-clause-few
-count_clear-requires-clause-few c =
+pub count_tree-counts-requires-clause-few : goal.count_tree-counts-requires-clause-few
+count_tree-counts-requires-clause-few c =
     let tree = built_tree (view c.args.value.now) c.args.space.now (side c.in_ok-root.root) c.if-not-has_tree_of.ensures.space (sym c.if-not-has_tree_of.ensures.value) c.in_ok-root.ensures in
     clear_in_tree (side c.in_ok-root.root) tree
 
 pub invariant_of-result : goal.invariant_of-result
 invariant_of-result c =
     let tree = built_tree (view c.args.value.now) c.args.space.now (side c.in_ok-root.root) c.if-not-has_tree_of.ensures.space (sym c.if-not-has_tree_of.ensures.value) c.in_ok-root.ensures in
-    record { tree = tree; held_count = c.count_held.ensures; clear_count = c.count_clear.ensures }
+    record { tree = tree; held_count = c.count_tree-counts.ensures.held; gap_count = c.count_tree-counts.ensures.gaps; clear_count = c.count_tree-counts.ensures.clear }
 
 pub returns : goal.returns
 returns c = built_states (view c.args.value.now) c.args.space.now (side c.in_ok-root.root) c.if-not-has_tree_of.ensures.space (sym c.if-not-has_tree_of.ensures.value) c.in_ok-root.ensures

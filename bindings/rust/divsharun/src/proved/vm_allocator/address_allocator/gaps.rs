@@ -1,16 +1,16 @@
 // Written by bindings/erase from crates/vm_allocator/src/address_allocator/gaps.rt: do not edit.
 
 //! Queries of the free addresses: the gaps, a search by an address, the length of the longest gap, and
-//! a count.
+//! counts.
 //!
 //! A gap is a run of free addresses with no free address next to it.
 
 use super::AddressAllocator;
-use crate::proved::vm_engine::Gaps;
+use crate::proved::vm_engine::{Gaps, GapsIn};
 use crate::proved::vm_ranges::RangeInclusive;
 
 impl AddressAllocator {
-    /// Returns an iterator over the gaps, from the lowest to the highest.
+    /// Returns an iterator over the gaps, from the lowest to the highest. Its length is exact.
     ///
     /// It does not allocate.
     pub fn gaps(&self) -> Gaps<'_> {
@@ -22,7 +22,7 @@ impl AddressAllocator {
     ///
     /// Each gap is returned whole. It descends one path of the tree for each end of `range` and does
     /// not allocate.
-    pub fn gaps_in(&self, range: &RangeInclusive) -> Gaps<'_> {
+    pub fn gaps_in(&self, range: &RangeInclusive) -> GapsIn<'_> {
         self.interval_tree.gaps_in(range)
     }
 
@@ -40,6 +40,13 @@ impl AddressAllocator {
     /// is more than this length. It reads one node and does not allocate.
     pub fn longest_gap(&self) -> u64 {
         self.interval_tree.longest_gap()
+    }
+
+    /// Returns the number of gaps.
+    ///
+    /// It takes constant time and does not allocate.
+    pub fn gap_count(&self) -> u64 {
+        self.interval_tree.gap_count()
     }
 
     /// Returns the number of free addresses.

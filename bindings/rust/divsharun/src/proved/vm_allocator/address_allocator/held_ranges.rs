@@ -3,11 +3,12 @@
 //! Queries of the allocated ranges: iterators, a test, a search by an address, and a count.
 
 use super::AddressAllocator;
-use crate::proved::vm_engine::HeldRanges;
+use crate::proved::vm_engine::{HeldRanges, HeldRangesIn};
 use crate::proved::vm_ranges::RangeInclusive;
 
 impl AddressAllocator {
-    /// Returns an iterator over the allocated ranges, from the lowest to the highest.
+    /// Returns an iterator over the allocated ranges, from the lowest to the highest. Its length is
+    /// exact.
     ///
     /// It does not allocate.
     pub fn held_ranges(&self) -> HeldRanges<'_> {
@@ -19,7 +20,7 @@ impl AddressAllocator {
     ///
     /// Each range is returned whole. If `range` is in the space, it is free exactly if there is no
     /// item. It descends one path of the tree for each end of `range` and does not allocate.
-    pub fn held_ranges_in(&self, range: &RangeInclusive) -> HeldRanges<'_> {
+    pub fn held_ranges_in(&self, range: &RangeInclusive) -> HeldRangesIn<'_> {
         self.interval_tree.held_ranges_in(range)
     }
 

@@ -44,6 +44,7 @@ impl IntervalTree {
                 count,
             );
             self.held_count += 1;
+            self.gap_count -= 1;
             self.clear_count -= place.range.len();
             return Ok(place.range);
         }
@@ -53,6 +54,7 @@ impl IntervalTree {
         let rest = rest_of(alloc, &place)?;
         let mut split = Split { place, rest };
         self.held_count += 1;
+        count_rest(&mut self.gap_count, &split.rest);
         self.clear_count -= place.range.len();
         split_gap(&mut self.root, &mut split, edge, count);
         Ok(place.range)
@@ -62,6 +64,13 @@ impl IntervalTree {
 /// Returns `true` if the range does not fill its free block.
 fn needs_split(place: &Place) -> bool {
     place.key.start() < place.range.start() || place.range.end() < place.key.end()
+}
+
+/// Counts the parts of a free block in place of the block.
+fn count_rest(gaps: &mut u64, rest: &Rest) {
+    if rest.before.is_some() && rest.after.is_some() {
+        *gaps += 1;
+    }
 }
 
 /// Allocates the leaves for the parts of the free block before and after the range.

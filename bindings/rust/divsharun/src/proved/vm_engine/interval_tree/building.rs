@@ -38,6 +38,7 @@ impl IntervalTree {
         Ok(IntervalTree {
             root,
             held_count: held.len() as u64,
+            gap_count: count - held.len() as u64,
             clear_count: count_left(&key, held),
         })
     }

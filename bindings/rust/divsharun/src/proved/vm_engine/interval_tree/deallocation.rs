@@ -22,19 +22,26 @@ impl IntervalTree {
         let Some(beside) = self.root().neighbours(key, count) else {
             return Err(Error::ResourceNotAvailable);
         };
-        join_free(&mut self.root, key, &beside, count);
+        join_free(&mut self.root, &mut self.gap_count, key, &beside, count);
         self.held_count -= 1;
+        self.gap_count += 1;
         self.clear_count += key.len();
         Ok(())
     }
 }
 
-/// Removes the free neighbours of an allocated block. Then makes the block free, with the addresses
-/// of all three.
-fn join_free(root: &mut Child, key: &RangeInclusive, beside: &Neighbours, count: &mut Steps) {
+/// Removes the free neighbours of an allocated block, and subtracts them from the number of gaps. Then
+/// makes the block free, with the addresses of all three.
+fn join_free(
+    root: &mut Child,
+    gaps: &mut u64,
+    key: &RangeInclusive,
+    beside: &Neighbours,
+    count: &mut Steps,
+) {
     let range = joined(key, beside);
-    delete_if_some(root, &beside.before, count);
-    delete_if_some(root, &beside.after, count);
+    delete_if_some(root, gaps, &beside.before, count);
+    delete_if_some(root, gaps, &beside.after, count);
     widen(root, key, &range, count);
 }
 
@@ -51,9 +58,10 @@ fn joined(key: &RangeInclusive, beside: &Neighbours) -> RangeInclusive {
     valid_range(start, end)
 }
 
-/// Removes the node with this key, if there is a key.
-fn delete_if_some(root: &mut Child, key: &Option<RangeInclusive>, count: &mut Steps) {
+/// Removes the node of the gap with this key, if there is a key. Subtracts it from the number of gaps.
+fn delete_if_some(root: &mut Child, gaps: &mut u64, key: &Option<RangeInclusive>, count: &mut Steps) {
     if let Some(key) = key {
         delete_at(root, key, count);
+        *gaps -= 1;
     }
 }

@@ -1,7 +1,7 @@
 // Written by bindings/erase from crates/vm_engine/src/interval_tree/gaps.rt: do not edit.
 
 //! Queries about the free addresses: the gaps, the gap at an address, the length of the longest gap,
-//! and the number of free addresses.
+//! and the numbers of gaps and of free addresses.
 //!
 //! A gap is a run of free addresses with no free address next to it. Each free block is a gap.
 
@@ -10,15 +10,16 @@ use crate::proved::vm_engine::node::walks::addresses::block_at;
 use crate::proved::vm_engine::node::walks::both_ends::WalkBothEnds;
 use crate::proved::vm_ranges::{NodeState, RangeInclusive};
 
-/// An iterator over the gaps, from the lowest to the highest, or backwards. It does not allocate.
+/// An iterator over the gaps in a window, from the lowest to the highest, or backwards. It does not
+/// allocate.
 ///
 /// Its model is the list of the gaps that it has not returned yet.
 #[derive(Clone)]
-pub struct Gaps<'a> {
+pub struct GapsIn<'a> {
     blocks: WalkBothEnds<'a>,
 }
 
-impl<'a> Iterator for Gaps<'a> {
+impl<'a> Iterator for GapsIn<'a> {
     type Item = RangeInclusive;
 
     /// Returns the lowest gap that is left.
@@ -32,7 +33,7 @@ impl<'a> Iterator for Gaps<'a> {
     }
 }
 
-impl<'a> DoubleEndedIterator for Gaps<'a> {
+impl<'a> DoubleEndedIterator for GapsIn<'a> {
     /// Returns the highest gap that is left.
     fn next_back(&mut self) -> Option<RangeInclusive> {
         while let Some(block) = self.blocks.next_back() {
@@ -44,18 +45,62 @@ impl<'a> DoubleEndedIterator for Gaps<'a> {
     }
 }
 
+/// An iterator over all gaps, from the lowest to the highest, or backwards. It has an exact length,
+/// and does not allocate.
+///
+/// Its model is the list of the gaps that it has not returned yet.
+#[derive(Clone)]
+pub struct Gaps<'a> {
+    gaps: GapsIn<'a>,
+    /// The number of gaps that are left.
+    left: usize,
+}
+
+impl<'a> Iterator for Gaps<'a> {
+    type Item = RangeInclusive;
+
+    /// Returns the lowest gap that is left.
+    fn next(&mut self) -> Option<RangeInclusive> {
+        let gap = self.gaps.next()?;
+        self.left -= 1;
+        Some(gap)
+    }
+
+    fn size_hint(&self) -> (usize, Option<usize>) {
+        (self.left, Some(self.left))
+    }
+}
+
+impl<'a> DoubleEndedIterator for Gaps<'a> {
+    /// Returns the highest gap that is left.
+    fn next_back(&mut self) -> Option<RangeInclusive> {
+        let gap = self.gaps.next_back()?;
+        self.left -= 1;
+        Some(gap)
+    }
+}
+
+impl<'a> ExactSizeIterator for Gaps<'a> {
+    /// Returns the number of gaps that are left.
+    fn len(&self) -> usize {
+        self.left
+    }
+}
+
 impl IntervalTree {
     /// Returns an iterator over the gaps, from the lowest to the highest. It does not allocate.
     pub fn gaps(&self) -> Gaps<'_> {
+        let blocks = self.blocks();
         Gaps {
-            blocks: self.blocks(),
+            gaps: GapsIn { blocks },
+            left: self.gap_count as usize,
         }
     }
 
     /// Returns an iterator over the gaps that have an address in common with `range`, from the
     /// lowest to the highest.
-    pub fn gaps_in(&self, range: &RangeInclusive) -> Gaps<'_> {
-        Gaps {
+    pub fn gaps_in(&self, range: &RangeInclusive) -> GapsIn<'_> {
+        GapsIn {
             blocks: self.blocks_in(range),
         }
     }
@@ -73,6 +118,11 @@ impl IntervalTree {
     /// Returns the length of the longest gap in addresses, or 0 if no address is free.
     pub fn longest_gap(&self) -> u64 {
         self.root().max_free()
+    }
+
+    /// Returns the number of gaps. It takes constant time and does not allocate.
+    pub fn gap_count(&self) -> u64 {
+        self.gap_count
     }
 
     /// Returns the number of free addresses. It takes constant time and does not allocate.

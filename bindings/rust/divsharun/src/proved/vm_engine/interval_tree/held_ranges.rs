@@ -8,16 +8,16 @@ use crate::proved::vm_engine::node::walks::both_ends::WalkBothEnds;
 use crate::proved::vm_engine::node::walks::held::has_held;
 use crate::proved::vm_ranges::{NodeState, RangeInclusive};
 
-/// An iterator over the allocated ranges, from the lowest to the highest, or backwards. It does not
-/// allocate.
+/// An iterator over the allocated ranges in a window, from the lowest to the highest, or backwards.
+/// It does not allocate.
 ///
 /// Its model is the list of the ranges that it has not returned yet.
 #[derive(Clone)]
-pub struct HeldRanges<'a> {
+pub struct HeldRangesIn<'a> {
     blocks: WalkBothEnds<'a>,
 }
 
-impl<'a> Iterator for HeldRanges<'a> {
+impl<'a> Iterator for HeldRangesIn<'a> {
     type Item = RangeInclusive;
 
     /// Returns the lowest allocated range that is left.
@@ -31,7 +31,7 @@ impl<'a> Iterator for HeldRanges<'a> {
     }
 }
 
-impl<'a> DoubleEndedIterator for HeldRanges<'a> {
+impl<'a> DoubleEndedIterator for HeldRangesIn<'a> {
     /// Returns the highest allocated range that is left.
     fn next_back(&mut self) -> Option<RangeInclusive> {
         while let Some(block) = self.blocks.next_back() {
@@ -43,19 +43,63 @@ impl<'a> DoubleEndedIterator for HeldRanges<'a> {
     }
 }
 
+/// An iterator over all allocated ranges, from the lowest to the highest, or backwards. It has an
+/// exact length, and does not allocate.
+///
+/// Its model is the list of the ranges that it has not returned yet.
+#[derive(Clone)]
+pub struct HeldRanges<'a> {
+    ranges: HeldRangesIn<'a>,
+    /// The number of ranges that are left.
+    left: usize,
+}
+
+impl<'a> Iterator for HeldRanges<'a> {
+    type Item = RangeInclusive;
+
+    /// Returns the lowest allocated range that is left.
+    fn next(&mut self) -> Option<RangeInclusive> {
+        let range = self.ranges.next()?;
+        self.left -= 1;
+        Some(range)
+    }
+
+    fn size_hint(&self) -> (usize, Option<usize>) {
+        (self.left, Some(self.left))
+    }
+}
+
+impl<'a> DoubleEndedIterator for HeldRanges<'a> {
+    /// Returns the highest allocated range that is left.
+    fn next_back(&mut self) -> Option<RangeInclusive> {
+        let range = self.ranges.next_back()?;
+        self.left -= 1;
+        Some(range)
+    }
+}
+
+impl<'a> ExactSizeIterator for HeldRanges<'a> {
+    /// Returns the number of allocated ranges that are left.
+    fn len(&self) -> usize {
+        self.left
+    }
+}
+
 impl IntervalTree {
     /// Returns an iterator over the allocated ranges, from the lowest to the highest. It does not
     /// allocate.
     pub fn held_ranges(&self) -> HeldRanges<'_> {
+        let blocks = self.blocks();
         HeldRanges {
-            blocks: self.blocks(),
+            ranges: HeldRangesIn { blocks },
+            left: self.held_count as usize,
         }
     }
 
     /// Returns an iterator over the allocated ranges that have an address in common with `range`,
     /// from the lowest to the highest.
-    pub fn held_ranges_in(&self, range: &RangeInclusive) -> HeldRanges<'_> {
-        HeldRanges {
+    pub fn held_ranges_in(&self, range: &RangeInclusive) -> HeldRangesIn<'_> {
+        HeldRangesIn {
             blocks: self.blocks_in(range),
         }
     }

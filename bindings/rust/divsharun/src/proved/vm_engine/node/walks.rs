@@ -4,13 +4,13 @@
 //!
 //! A `Walk` stores its path in an array of 49 links, so it does not allocate. Two walks side by
 //! side find the first difference of two trees of different shapes. `addresses`, `copying`,
-//! `encoding`, `held` and `gaps` are recursive. `encoding` is in this folder because it reads the
+//! `encoding`, `held` and `counts` are recursive. `encoding` is in this folder because it reads the
 //! fields of nodes.
 
 pub(in crate::proved::vm_engine) mod addresses;
 pub(in crate::proved::vm_engine) mod both_ends;
 pub(in crate::proved::vm_engine) mod copying;
-pub(in crate::proved::vm_engine) mod gaps;
+pub(in crate::proved::vm_engine) mod counts;
 pub(in crate::proved::vm_engine) mod held;
 
 use super::{Child, InnerNode};

@@ -1,8 +1,8 @@
 // Written by bindings/erase from crates/vm_engine/src/node/walks/held.rt: do not edit.
 
-//! Queries about the allocated blocks of a tree.
+//! The search for an allocated block by its key.
 //!
-//! No contract promises the number of nodes that they enter, so they do not take a counter.
+//! No contract promises the number of nodes that it enters, so it does not take a counter.
 
 use crate::proved::vm_engine::node::{Child, InnerNode};
 use crate::proved::vm_engine::ordering::compare;
@@ -18,16 +18,5 @@ pub(in crate::proved::vm_engine) fn has_held(tree: &Child, key: &RangeInclusive)
         Ordering::Greater => has_held(&node.left, key),
         Ordering::Less => has_held(&node.right, key),
         Ordering::Equal => node.block.state == NodeState::Allocated,
-    }
-}
-
-/// Returns the number of allocated blocks.
-#[allow(dead_code)] pub(in crate::proved::vm_engine) fn count_held(tree: &Child) -> u64 {
-    let Some(node) = tree else { return 0 };
-    let node: &InnerNode = node;
-    let beside = count_held(&node.left) + count_held(&node.right);
-    match node.block.state {
-        NodeState::Free => beside,
-        NodeState::Allocated => beside + 1,
     }
 }

@@ -2,7 +2,7 @@ use Rattle.std.proofs.Common.{◌≡◌, ◌<◌, [], ◌∷◌, ◌++◌, lengt
 use Rattle.vm_engine.specs.Queries.{free_of}
 use Rattle.vm_ranges.specs.declared.state.NodeState.TheVariants.{Free}
 use Rattle.vm_engine.proofs.Walking.GapsInTrees.{free_of-last_free}
-use Rattle.vm_engine.proofs.interval_tree.gaps.GapsDoubleEndedIterator.next_back.Goals as goal
+use Rattle.vm_engine.proofs.interval_tree.gaps.GapsInDoubleEndedIterator.next_back.Goals as goal
 
 pub returns-then-eq-clause-goes : goal.returns-then-eq-clause-goes
 returns-then-eq-clause-goes c =

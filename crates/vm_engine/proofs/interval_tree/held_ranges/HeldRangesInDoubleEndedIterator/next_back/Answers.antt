@@ -2,7 +2,7 @@ use Rattle.std.proofs.Common.{◌≡◌, ◌<◌, [], ◌∷◌, ◌++◌, lengt
 use Rattle.vm_engine.specs.Tree.Blocks.{held_of}
 use Rattle.vm_ranges.specs.declared.state.NodeState.TheVariants.{Allocated}
 use Rattle.vm_engine.proofs.Walking.HeldInTrees.{held_of-last_held}
-use Rattle.vm_engine.proofs.interval_tree.held_ranges.HeldRangesDoubleEndedIterator.next_back.Goals as goal
+use Rattle.vm_engine.proofs.interval_tree.held_ranges.HeldRangesInDoubleEndedIterator.next_back.Goals as goal
 
 pub returns-then-eq-clause-goes : goal.returns-then-eq-clause-goes
 returns-then-eq-clause-goes c =

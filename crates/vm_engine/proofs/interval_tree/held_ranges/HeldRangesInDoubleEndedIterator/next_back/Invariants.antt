@@ -1,6 +1,6 @@
 use Rattle.std.proofs.Common.{◌≡◌, length}
 use Rattle.vm_engine.specs.Tree.Blocks.{held_of}
-use Rattle.vm_engine.proofs.interval_tree.held_ranges.HeldRangesIterator.next.Given as goal
+use Rattle.vm_engine.proofs.interval_tree.held_ranges.HeldRangesInDoubleEndedIterator.next_back.Given as goal
 
 abbrev pub invariant-loop-block : goal.invariant-loop-block
 invariant-loop-block l = held_of l.self-inside.blocks ≡ held_of l.initial.self-inside.blocks
