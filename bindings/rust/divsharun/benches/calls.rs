@@ -14,7 +14,7 @@ fn main() {
     let is_short = !std::env::args().any(|argument| argument == "--bench");
     let (counts, rounds): (&[u64], u64) = match is_short {
         true => (&[1_000], 1),
-        false => (&[10, 100, 1_000, 10_000, 100_000], 21),
+        false => (&[10, 100, 1_000, 10_000, 100_000], 11),
     };
     let heads: Vec<String> = counts
         .iter()
