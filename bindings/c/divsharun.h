@@ -301,9 +301,12 @@ dvs_status dvs_address_allocator_with_held(uint64_t base, uint64_t size, const d
 
 /*
  * Destroys an allocator, with all its allocated ranges. It does nothing if the
- * pointer is null or during a visit of the allocator.
+ * pointer is null. Only a call by a visitor can fail, so others need not check the
+ * status.
+ *
+ * Errors: DVS_BUSY during a visit of the allocator, which then still exists.
  */
-void dvs_address_allocator_destroy(dvs_address_allocator *allocator);
+dvs_status dvs_address_allocator_destroy(dvs_address_allocator *allocator);
 
 /*
  * Writes the range of the `length` addresses that start at `start` to `range`,
@@ -636,11 +639,8 @@ dvs_status dvs_id_allocator_with_held(uint32_t first, uint32_t last, const uint3
                                       size_t count, dvs_id_allocator **allocator,
                                       dvs_refusal *refusal);
 
-/*
- * Destroys an allocator, with all its allocated ids. It does nothing if the
- * pointer is null or during a visit of the allocator.
- */
-void dvs_id_allocator_destroy(dvs_id_allocator *allocator);
+/* Destroys an allocator, with all its allocated ids, like dvs_address_allocator_destroy(). */
+dvs_status dvs_id_allocator_destroy(dvs_id_allocator *allocator);
 
 /* Writes the first and the last id of the range. Errors: DVS_NULL. */
 DVS_WARN_UNUSED
@@ -762,11 +762,8 @@ DVS_WARN_UNUSED
 dvs_status dvs_device_manager_new(uint32_t first_id, uint32_t last_id, uint64_t base, uint64_t size,
                                   dvs_device_manager **manager, dvs_refusal *refusal);
 
-/*
- * Destroys a manager, with all its devices. It does nothing if the pointer is
- * null or during a visit of the manager.
- */
-void dvs_device_manager_destroy(dvs_device_manager *manager);
+/* Destroys a manager, with all its devices, like dvs_address_allocator_destroy(). */
+dvs_status dvs_device_manager_destroy(dvs_device_manager *manager);
 
 /* Writes the first and the last address of the space to `space`. Errors: DVS_NULL. */
 DVS_WARN_UNUSED

@@ -14,6 +14,8 @@
 
 #include "divsharun.h"
 
+#include <cstdio>
+#include <cstdlib>
 #include <exception>
 #include <memory>
 #include <string>
@@ -74,14 +76,33 @@ DVS_MUST_CHECK inline error offset_of(dvs_range range, uint64_t address,
     return code(dvs_range_offset_of(range, address, &offset));
 }
 
-/* Owns an object, and destroys it. It is empty until a method has created the object. */
-template <typename T, void (*Destroy)(T *)> class owner {
+/*
+ * Owns an object, and destroys it. It is empty until a method has created the object.
+ *
+ * A method that replaces the object returns DVS_BUSY, after every other error, during
+ * a visit of the object. Then it changes nothing. A move assignment exchanges two
+ * objects, so that none is lost. The destructor of an owner ends the process with
+ * abort(), after a line that gives the reason, if its object is being visited.
+ */
+template <typename T, dvs_status (*Destroy)(T *)> class owner {
     struct destroyer {
-        void operator()(T *owned) const noexcept { Destroy(owned); }
+        void operator()(T *owned) const noexcept {
+            if (Destroy(owned) == DVS_OK)
+                return;
+            std::fputs("divsharun: the process ends because a visitor destroyed an owner\n",
+                       stderr);
+            std::abort();
+        }
     };
     std::unique_ptr<T, destroyer> object;
 
   public:
+    owner() noexcept = default;
+    owner(owner &&other) noexcept = default;
+    owner &operator=(owner &&other) noexcept {
+        object.swap(other.object);
+        return *this;
+    }
     T *get() const noexcept { return object.get(); }
     explicit operator bool() const noexcept { return object != nullptr; }
 
@@ -90,8 +111,13 @@ template <typename T, void (*Destroy)(T *)> class owner {
     template <typename Call> DVS_MUST_CHECK error create(Call call) {
         T *made = nullptr;
         dvs_status status = call(&made);
+        std::unique_ptr<T, destroyer> owned(made);
         if (status == DVS_OK)
-            object.reset(made);
+            status = Destroy(get());
+        if (status == DVS_OK) {
+            static_cast<void>(object.release());
+            object.swap(owned);
+        }
         return code(status);
     }
 

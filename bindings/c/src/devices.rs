@@ -52,11 +52,13 @@ pub extern "C" fn dvs_device_manager_new(
 
 /// # Safety
 ///
-/// The manager is null or from a call that creates one, and is not used after this call.
+/// The manager is null or from a call that creates one, and is not used after `DVS_OK`.
 #[unsafe(no_mangle)]
-pub unsafe extern "C" fn dvs_device_manager_destroy(manager: *mut dvs_device_manager) {
+pub unsafe extern "C" fn dvs_device_manager_destroy(
+    manager: *mut dvs_device_manager,
+) -> dvs_status {
     // SAFETY: the caller's contract.
-    unsafe { Handle::destroy(manager) }
+    status_of(unsafe { Handle::destroy(manager) }, None)
 }
 
 #[unsafe(no_mangle)]

@@ -38,18 +38,23 @@ impl<T> Handle<T> {
         Ok(Box::into_raw(one.into_boxed_slice()).cast())
     }
 
-    /// Drops an object. It does nothing if the pointer is null or the object is being visited.
+    /// Drops an object. It does nothing if the pointer is null.
+    ///
+    /// # Errors
+    ///
+    /// - `Busy` if the object is being visited. It is not dropped then.
     ///
     /// # Safety
     ///
-    /// The pointer is null or from `new`, and is not used after this call.
-    pub(crate) unsafe fn destroy(pointer: *mut Handle<T>) {
+    /// The pointer is null or from `new`, and is not used after a call that drops the object.
+    pub(crate) unsafe fn destroy(pointer: *mut Handle<T>) -> Result<(), CallError> {
         // SAFETY: it is null or points to a handle that `new` made.
-        let handle = unsafe { pointer.as_ref() };
-        if handle.is_some_and(|handle| handle.check_not_visited().is_ok()) {
+        if let Some(handle) = unsafe { pointer.as_ref() } {
+            handle.check_not_visited()?;
             // SAFETY: `new` made it as a box of one handle, and it is dropped only here.
             drop(unsafe { Box::from_raw(pointer) });
         }
+        Ok(())
     }
 
     /// Returns the object for reading.

@@ -51,11 +51,11 @@ pub unsafe extern "C" fn dvs_id_allocator_with_held(
 
 /// # Safety
 ///
-/// The allocator is null or from a call that creates one, and is not used after this call.
+/// The allocator is null or from a call that creates one, and is not used after `DVS_OK`.
 #[unsafe(no_mangle)]
-pub unsafe extern "C" fn dvs_id_allocator_destroy(allocator: *mut dvs_id_allocator) {
+pub unsafe extern "C" fn dvs_id_allocator_destroy(allocator: *mut dvs_id_allocator) -> dvs_status {
     // SAFETY: the caller's contract.
-    unsafe { Handle::destroy(allocator) }
+    status_of(unsafe { Handle::destroy(allocator) }, None)
 }
 
 #[unsafe(no_mangle)]

@@ -80,7 +80,7 @@ static void make_spaces(void) {
     CHECK(dvs_address_allocator_space(space, &range) == DVS_OK);
     CHECK(is_range(range, 1, UINT64_MAX));
     dvs_address_allocator_destroy(space);
-    dvs_address_allocator_destroy(NULL);
+    CHECK(dvs_address_allocator_destroy(NULL) == DVS_OK);
 }
 
 static void make_ranges(void) {
@@ -265,8 +265,7 @@ static int visit_range(void *context, dvs_range range) {
     CHECK(dvs_range_allocate_exact(visit->space, 1, 1, 1, &other, NULL) == DVS_BUSY);
     CHECK(dvs_range_allocate(visit->space, &worst, &other, NULL) == DVS_BUSY);
     CHECK(dvs_range_free(visit->space, range, NULL) == DVS_BUSY);
-    /* Does nothing during a visit. */
-    dvs_address_allocator_destroy(visit->space);
+    CHECK(dvs_address_allocator_destroy(visit->space) == DVS_BUSY);
     CHECK(dvs_range_is_held(visit->space, range, &is_held, NULL) == DVS_OK && is_held);
     text = saved_space(visit->space, &length);
     dvs_text_destroy(text);
@@ -351,6 +350,66 @@ static void visit_in_other_ways(void) {
     CHECK(dvs_range_visit(visit.space, visit_deeper, &visit) == DVS_OK && visit.next == MANY);
     CHECK(dvs_range_free(visit.space, range, NULL) == DVS_OK);
     dvs_address_allocator_destroy(visit.space);
+}
+
+static int destroy_space(void *space, dvs_range range) {
+    (void)range;
+    CHECK(dvs_address_allocator_destroy((dvs_address_allocator *)space) == DVS_BUSY);
+    return 1;
+}
+
+static int destroy_ids(void *ids, uint32_t id) {
+    (void)id;
+    CHECK(dvs_id_allocator_destroy((dvs_id_allocator *)ids) == DVS_BUSY);
+    return 1;
+}
+
+static int destroy_manager(void *manager, dvs_device device) {
+    (void)device;
+    CHECK(dvs_device_manager_destroy((dvs_device_manager *)manager) == DVS_BUSY);
+    return 1;
+}
+
+typedef dvs_status space_visit(const dvs_address_allocator *space, dvs_range_visitor *visitor,
+                               void *context);
+
+static dvs_status visit_ranges_in(const dvs_address_allocator *space, dvs_range_visitor *visitor,
+                                  void *context) {
+    return dvs_range_visit_in(space, range_of(0, 3), visitor, context, NULL);
+}
+
+static dvs_status visit_gaps_in(const dvs_address_allocator *space, dvs_range_visitor *visitor,
+                                void *context) {
+    return dvs_gap_visit_in(space, range_of(0, 3), visitor, context, NULL);
+}
+
+/* Checks that no visitor can destroy its object, which has the same text after each visit. */
+static void destroy_in_visits(void) {
+    static space_visit *const visits[] = {dvs_range_visit, dvs_gap_visit, visit_ranges_in,
+                                          visit_gaps_in};
+    dvs_address_allocator *space;
+    dvs_id_allocator *ids;
+    dvs_device_manager *manager;
+    dvs_device device;
+    dvs_range range;
+    uint32_t id;
+    size_t i;
+
+    CHECK(dvs_address_allocator_new(0, 4, &space) == DVS_OK);
+    for (i = 0; i < sizeof visits / sizeof visits[0]; i++) {
+        CHECK(dvs_range_allocate_first(space, 1, 1, &range, NULL) == DVS_OK && range.start == 0);
+        CHECK(visits[i](space, destroy_space, space) == DVS_OK);
+        CHECK(dvs_range_free(space, range, NULL) == DVS_OK);
+    }
+    CHECK(dvs_id_allocator_new(0, 3, &ids, NULL) == DVS_OK && dvs_id_allocate(ids, &id) == DVS_OK);
+    CHECK(dvs_id_visit(ids, destroy_ids, ids) == DVS_OK && dvs_id_free(ids, id, NULL) == DVS_OK);
+    CHECK(dvs_device_manager_new(0, 3, 0, 4, &manager, NULL) == DVS_OK);
+    CHECK(dvs_device_reserve_first(manager, 1, 1, &device, NULL) == DVS_OK);
+    CHECK(dvs_device_visit(manager, destroy_manager, manager) == DVS_OK);
+    CHECK(dvs_device_release(manager, device.id, NULL) == DVS_OK);
+    CHECK(dvs_address_allocator_destroy(space) == DVS_OK);
+    CHECK(dvs_id_allocator_destroy(ids) == DVS_OK);
+    CHECK(dvs_device_manager_destroy(manager) == DVS_OK);
 }
 
 /* ---- Ids ---- */
@@ -1129,7 +1188,7 @@ static void give_null_ids(void) {
 
     CHECK(dvs_id_allocator_new(0, 10, &ids, NULL) == DVS_OK);
     IS_NULL(dvs_id_allocator_new(1, 0, NULL, NULL));
-    dvs_id_allocator_destroy(NULL);
+    CHECK(dvs_id_allocator_destroy(NULL) == DVS_OK);
     IS_NULL(dvs_id_allocate(NULL, &id));
     IS_NULL(dvs_id_allocate(ids, NULL));
     IS_NULL(dvs_id_peek(NULL, &id));
@@ -1168,7 +1227,7 @@ static void give_null_managers(void) {
 
     CHECK(dvs_device_manager_new(0, 10, 0, 10, &manager, NULL) == DVS_OK);
     IS_NULL(dvs_device_manager_new(1, 0, 0, 0, NULL, NULL));
-    dvs_device_manager_destroy(NULL);
+    CHECK(dvs_device_manager_destroy(NULL) == DVS_OK);
     IS_NULL(dvs_device_reserve_first(NULL, 1, 1, &device, &refusal));
     CHECK(are_told(0, 0, 0));
     IS_NULL(dvs_device_reserve_first(manager, 1, 1, NULL, NULL));
@@ -1255,6 +1314,7 @@ int main(void) {
     allocate_many_ranges();
     visit_ranges();
     visit_in_other_ways();
+    destroy_in_visits();
     allocate_ids();
     allocate_ids_by_number();
     allocate_several_ids();

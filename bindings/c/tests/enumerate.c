@@ -326,7 +326,6 @@ static int change_ids(void *context, uint32_t id) {
     uint32_t next;
 
     CHECK(dvs_id_free(ids, id, NULL) == DVS_BUSY && dvs_id_allocate(ids, &next) == DVS_BUSY);
-    dvs_id_allocator_destroy(ids);
     return 1;
 }
 
@@ -356,7 +355,6 @@ static int change_devices(void *context, dvs_device device) {
 
     CHECK(dvs_device_reserve(manager, &request, &device, NULL) == DVS_BUSY);
     CHECK(dvs_device_release(manager, device.id, NULL) == DVS_BUSY);
-    dvs_device_manager_destroy(manager);
     return 1;
 }
 

@@ -211,6 +211,29 @@ static void throw_in_a_visit() {
     CHECK(!space.for_each([&calls](dvs_range) { return ++calls < 3; }) && calls == 3);
 }
 
+/* A visitor replaces the owner of the object that it visits. */
+static void replace_in_a_visit() {
+    dvs::address_allocator space, other;
+    std::string text;
+    int calls = 0;
+
+    CHECK(!space.make_with_held(0, 16, {range_of(1, 1)}) && !other.make(16, 16));
+    CHECK(!space.save(text));
+    CHECK(!space.for_each([&](dvs_range) {
+        CHECK(space.make(0, 0) == DVS_UNDERFLOW && space.make(0, 16) == DVS_BUSY);
+        CHECK(space.make_with_held(0, 16, {}) == DVS_BUSY && space.read(text) == DVS_BUSY);
+        CHECK(space.read_repaired(text) == DVS_BUSY && space.ranges().size() == 1);
+        space = std::move(other);
+        CHECK(space.ranges().empty() && other.ranges().size() == 1);
+        CHECK(other.free(range_of(1, 1)) == DVS_BUSY && !space.make(16, 16));
+        return ++calls < 9;
+    }));
+    CHECK(calls == 1 && !other.free(range_of(1, 1)) && !other.make(0, 16));
+    dvs::address_allocator &itself = space;
+    space = std::move(itself);
+    CHECK(space && space.gaps().size() == 1);
+}
+
 int main() {
     allocate();
     allocate_in_windows();
@@ -220,6 +243,7 @@ int main() {
     reserve_in_windows();
     save();
     throw_in_a_visit();
+    replace_in_a_visit();
     puts("owners: the header for C++ checked");
     return 0;
 }
