@@ -161,16 +161,39 @@ typedef struct dvs_range {
  * returns DVS_OK writes none. The pointer can be null.
  */
 typedef struct dvs_refusal {
-    /* DVS_INVALID_RANGE, DVS_OVERLAP: the range. DVS_INVALID_STATE_TRANSITION: the allocated range.
+    /*
+     * DVS_INVALID_RANGE, DVS_OVERLAP: the range. DVS_INVALID_STATE_TRANSITION: the
+     * allocated range. With a cause: the requested range, or 0 to 0 if it would end
+     * past UINT64_MAX.
      */
     dvs_range range;
-    /* DVS_OVERLAP: the existing range. */
+    /* DVS_OVERLAP: the existing range. With a cause: the range that the cause names. */
     dvs_range other;
     /* DVS_INVALID_SIZE: the size. */
     uint64_t size;
     /* DVS_OUT_OF_RANGE, DVS_ALREADY_RELEASED, DVS_NEVER_ALLOCATED: the id. */
     uint32_t id;
+    /* DVS_RESOURCE_NOT_AVAILABLE: why the range at a start that the caller gives is not available.
+     */
+    uint32_t cause;
 } dvs_refusal;
+
+/*
+ * The causes. The first of these that is true is told: outside the window, outside
+ * the space, allocated, an earlier request.
+ */
+enum {
+    /* Any other error, or no start was given, or no id is free. */
+    DVS_CAUSE_NONE = 0,
+    /* An address is allocated. `other` is the lowest allocated range that has one. */
+    DVS_CAUSE_ALLOCATED = 1,
+    /* An address is outside the space. `other` is the space. */
+    DVS_CAUSE_OUTSIDE_SPACE = 2,
+    /* An address is outside the window of the request. `other` is the window. */
+    DVS_CAUSE_OUTSIDE_WINDOW = 3,
+    /* An address is in the range of an earlier request of the same call. `other` is 0 to 0. */
+    DVS_CAUSE_EARLIER_REQUEST = 4
+};
 
 /* The resources of a device. */
 typedef struct dvs_device {
@@ -366,12 +389,12 @@ dvs_status dvs_range_allocate_last(dvs_address_allocator *allocator, uint64_t si
  * - DVS_INVALID_ALIGNMENT if `alignment` is not a power of two.
  * - DVS_UNALIGNED_ADDRESS if `start` is not a multiple of `alignment`.
  * - DVS_OVERFLOW if `start` is UINT64_MAX.
- * - DVS_RESOURCE_NOT_AVAILABLE if `start` is outside the space.
+ * - DVS_RESOURCE_NOT_AVAILABLE, with a cause, if `start` is outside the space.
  * - DVS_OVERFLOW if the range would end past UINT64_MAX.
  * - DVS_INVALID_STATE_TRANSITION, with the range, if exactly this range is
  *   already allocated.
- * - DVS_RESOURCE_NOT_AVAILABLE if an address of the range is allocated or
- *   outside the space.
+ * - DVS_RESOURCE_NOT_AVAILABLE, with a cause, if an address of the range is
+ *   allocated or outside the space.
  * - DVS_OVERFLOW if the range ends at UINT64_MAX, or more than 6 * 10^9 ranges
  *   are allocated.
  * - DVS_OUT_OF_MEMORY.
@@ -446,12 +469,12 @@ dvs_status dvs_range_free(dvs_address_allocator *allocator, dvs_range range, dvs
  * - DVS_INVALID_RANGE if `range` is not a valid range.
  * - DVS_RESOURCE_NOT_AVAILABLE if exactly this range is not allocated.
  * - DVS_OVERFLOW if `start` is UINT64_MAX.
- * - DVS_RESOURCE_NOT_AVAILABLE if `start` is outside the space.
+ * - DVS_RESOURCE_NOT_AVAILABLE, with a cause, if `start` is outside the space.
  * - DVS_OVERFLOW if the new range would end past UINT64_MAX.
  * - DVS_INVALID_STATE_TRANSITION, with the new range, if exactly that range is
  *   already allocated.
- * - DVS_RESOURCE_NOT_AVAILABLE if an address of the new range is allocated, also
- *   if it is one of `range`, or is outside the space.
+ * - DVS_RESOURCE_NOT_AVAILABLE, with a cause, if an address of the new range is
+ *   allocated, also if it is one of `range`, or is outside the space.
  * - DVS_OVERFLOW if the new range ends at UINT64_MAX, or more than 6 * 10^9
  *   ranges are allocated.
  * - DVS_OUT_OF_MEMORY.

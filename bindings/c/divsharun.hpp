@@ -68,6 +68,19 @@ inline error code(dvs_status status) noexcept {
     return {static_cast<int>(status), category()};
 }
 
+/* Why the range at a given start is not available. */
+enum class cause : uint32_t {
+    none = DVS_CAUSE_NONE,
+    allocated = DVS_CAUSE_ALLOCATED,
+    outside_space = DVS_CAUSE_OUTSIDE_SPACE,
+    outside_window = DVS_CAUSE_OUTSIDE_WINDOW,
+    earlier_request = DVS_CAUSE_EARLIER_REQUEST
+};
+
+inline cause cause_of(const dvs_refusal &refusal) noexcept {
+    return static_cast<cause>(refusal.cause);
+}
+
 DVS_MUST_CHECK inline error range_from(uint64_t start, uint64_t length, dvs_range &range) noexcept {
     return code(dvs_range_from_start_length(start, length, &range));
 }

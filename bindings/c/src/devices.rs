@@ -3,11 +3,11 @@
 use crate::handle::{create, visit, with_mut, with_mut_unit, with_ref, Handle};
 use crate::ids::write_range;
 use crate::json::dvs_text_limits;
-use crate::proved::vm_allocator::{AllocPolicy, Error};
+use crate::proved::vm_allocator::{AllocPolicy, Constraint, Error};
 use crate::proved::vm_devices::{DeviceManager, DeviceSlot};
 use crate::ranges::space_of;
 use crate::rattle::Global;
-use crate::requests::{dvs_request, with_request};
+use crate::requests::{dvs_request, refused, with_request};
 use crate::texts::{dvs_text_fault, read, read_devices, save};
 use crate::{dvs_range, dvs_refusal, dvs_status, status_of, CallError, Out};
 use core::ffi::{c_char, c_int, c_void};
@@ -107,9 +107,23 @@ fn reserve(
     device: Out<dvs_device>,
 ) -> Result<(), CallError> {
     with_mut(manager, device, |manager| {
-        let slot = manager.reserve(Global, size, alignment, policy)?;
-        Ok(slot.into())
+        let reserved = manager.reserve(Global, size, alignment, policy);
+        reserved.map(Into::into).map_err(|error| {
+            let request = Constraint::new(size, alignment, policy);
+            refused_device(manager, request.ok(), error)
+        })
     })
+}
+
+/// Returns the error of a refused device. If all ids are allocated, no range is in the way.
+#[cold]
+fn refused_device(manager: &DeviceManager, request: Option<Constraint>, error: Error) -> CallError {
+    match request {
+        Some(request) if manager.ids().peek_id().is_ok() => {
+            refused(manager.addresses(), &request, error)
+        }
+        _ => error.into(),
+    }
 }
 
 #[unsafe(no_mangle)]
@@ -120,7 +134,10 @@ pub extern "C" fn dvs_device_reserve(
     refusal: Out<dvs_refusal>,
 ) -> dvs_status {
     let taken = with_request(manager, request, device, |manager, request| {
-        Ok(manager.reserve_constraint(Global, request)?.into())
+        let reserved = manager.reserve_constraint(Global, request);
+        reserved
+            .map(Into::into)
+            .map_err(|error| refused_device(manager, Some(request), error))
     });
     status_of(taken, refusal)
 }

@@ -142,13 +142,13 @@ pub(crate) fn with_ref<T, A>(
 
 /// Changes an object, and writes the result to `out`.
 #[inline(always)]
-pub(crate) fn with_mut<T, A>(
+pub(crate) fn with_mut<T, A, E: Into<CallError>>(
     handle: Option<&Handle<T>>,
     out: Out<A>,
-    taken: impl FnOnce(&mut T) -> Answer<A>,
+    taken: impl FnOnce(&mut T) -> Result<A, E>,
 ) -> Result<(), CallError> {
     let (handle, out) = (non_null(handle)?, non_null(out)?);
-    out.write(taken(handle.get_mut()?)?);
+    out.write(taken(handle.get_mut()?).map_err(Into::into)?);
     Ok(())
 }
 

@@ -4,9 +4,11 @@ use crate::handle::{
     create, visit, visit_some, with_mut, with_mut_unit, with_out, with_ref, Handle,
 };
 use crate::json::dvs_text_limits;
-use crate::proved::vm_allocator::{AddressAllocator, AllocPolicy, Error, RangeInclusive};
+use crate::proved::vm_allocator::{
+    AddressAllocator, AllocPolicy, Constraint, Error, RangeInclusive,
+};
 use crate::rattle::Global;
-use crate::requests::{dvs_request, with_request};
+use crate::requests::{dvs_request, refused, with_request};
 use crate::texts::{dvs_text_fault, read, read_space, save};
 use crate::{dvs_range, dvs_refusal, dvs_status, status_of, CallError, Out};
 use core::ffi::{c_char, c_int, c_void};
@@ -127,9 +129,19 @@ fn allocate(
     range: Out<dvs_range>,
 ) -> Result<(), CallError> {
     with_mut(allocator, range, |allocator| {
-        let range = allocator.allocate(Global, size, alignment, policy)?;
-        Ok(range.into())
+        allocate_request(allocator, Constraint::new(size, alignment, policy)?)
     })
+}
+
+#[inline(always)]
+fn allocate_request(
+    allocator: &mut AddressAllocator,
+    request: Constraint,
+) -> Result<dvs_range, CallError> {
+    let allocated = allocator.allocate_constraint(Global, request);
+    allocated
+        .map(Into::into)
+        .map_err(|error| refused(allocator, &request, error))
 }
 
 #[unsafe(no_mangle)]
@@ -139,9 +151,7 @@ pub extern "C" fn dvs_range_allocate(
     range: Out<dvs_range>,
     refusal: Out<dvs_refusal>,
 ) -> dvs_status {
-    let taken = with_request(allocator, request, range, |allocator, request| {
-        Ok(allocator.allocate_constraint(Global, request)?.into())
-    });
+    let taken = with_request(allocator, request, range, allocate_request);
     status_of(taken, refusal)
 }
 
@@ -164,10 +174,25 @@ pub extern "C" fn dvs_range_move(
     refusal: Out<dvs_refusal>,
 ) -> dvs_status {
     let answer = with_mut(allocator, moved, |allocator| {
-        let moved = allocator.move_range(Global, &range.try_into()?, start)?;
-        Ok(moved.into())
+        let range = range.try_into()?;
+        move_range(allocator, &range, start)
     });
     status_of(answer, refusal)
+}
+
+fn move_range(
+    allocator: &mut AddressAllocator,
+    range: &RangeInclusive,
+    start: u64,
+) -> Result<dvs_range, CallError> {
+    let request = Constraint::new(range.len(), 1, AllocPolicy::ExactMatch(start))?;
+    let moved = allocator.move_range(Global, range, start);
+    moved
+        .map(Into::into)
+        .map_err(|error| match allocator.holds(range) {
+            true => refused(allocator, &request, error),
+            false => error.into(),
+        })
 }
 
 #[unsafe(no_mangle)]

@@ -43,7 +43,13 @@ static const dvs_request worst = {0, 0, 1, DVS_EXACT + 1, &backwards};
 /* Returns whether a call wrote all details: these, and 0 for the others. */
 static bool are_told(uint64_t start, uint64_t end, uint32_t id) {
     return is_range(refusal.range, start, end) && is_range(refusal.other, 0, 0) &&
-           refusal.size == 0 && refusal.id == id;
+           refusal.size == 0 && refusal.id == id && refusal.cause == DVS_CAUSE_NONE;
+}
+
+/* Returns whether a call wrote the range of a request, and why it is not available. */
+static bool is_in_the_way(dvs_range wanted, uint32_t cause, dvs_range other) {
+    return is_range(refusal.range, wanted.start, wanted.end) && refusal.cause == cause &&
+           is_range(refusal.other, other.start, other.end) && refusal.size == 0 && refusal.id == 0;
 }
 
 /* Checks that a call returns this status. Its details go to `refusal`. */
@@ -113,7 +119,7 @@ static void refuse_requests(dvs_address_allocator *space) {
             dvs_range_allocate_exact(space, 1, 1, UINT64_MAX, &answer, &refusal));
     REFUSED(DVS_RESOURCE_NOT_AVAILABLE, dvs_range,
             dvs_range_allocate_exact(space, 1, 1, 0xfff, &answer, &refusal));
-    CHECK(are_told(0, 0, 0));
+    CHECK(is_in_the_way(range_of(0xfff, 0xfff), DVS_CAUSE_OUTSIDE_SPACE, range_of(0x1000, 0x1fff)));
     REFUSED(DVS_RESOURCE_NOT_AVAILABLE, dvs_range,
             dvs_range_allocate_first(space, 0x1001, 1, &answer, NULL));
 }
@@ -137,7 +143,7 @@ static void refuse_held(dvs_address_allocator *space) {
 }
 
 static void refuse_moves(dvs_address_allocator *space) {
-    const dvs_range held = range_of(0x1000, 0x10ff);
+    const dvs_range held = range_of(0x1000, 0x10ff), whole = range_of(0x1000, 0x1fff);
 
     REFUSED(DVS_INVALID_RANGE, dvs_range,
             dvs_range_move(space, range_of(2, 1), UINT64_MAX, &answer, &refusal));
@@ -148,10 +154,16 @@ static void refuse_moves(dvs_address_allocator *space) {
     REFUSED(DVS_OVERFLOW, dvs_range, dvs_range_move(space, held, UINT64_MAX, &answer, &refusal));
     REFUSED(DVS_RESOURCE_NOT_AVAILABLE, dvs_range,
             dvs_range_move(space, held, 0xfff, &answer, &refusal));
+    CHECK(is_in_the_way(range_of(0xfff, 0x10fe), DVS_CAUSE_OUTSIDE_SPACE, whole));
     REFUSED(DVS_RESOURCE_NOT_AVAILABLE, dvs_range,
             dvs_range_move(space, held, UINT64_MAX - 1, &answer, &refusal));
+    CHECK(is_in_the_way(range_of(0, 0), DVS_CAUSE_OUTSIDE_SPACE, whole));
     REFUSED(DVS_RESOURCE_NOT_AVAILABLE, dvs_range,
             dvs_range_move(space, held, 0x1080, &answer, &refusal));
+    CHECK(is_in_the_way(range_of(0x1080, 0x117f), DVS_CAUSE_ALLOCATED, held));
+    REFUSED(DVS_RESOURCE_NOT_AVAILABLE, dvs_range,
+            dvs_range_move(space, held, 0x1280, &answer, &refusal));
+    CHECK(is_in_the_way(range_of(0x1280, 0x137f), DVS_CAUSE_ALLOCATED, range_of(0x1200, 0x12ff)));
     REFUSED(DVS_INVALID_STATE_TRANSITION, dvs_range,
             dvs_range_move(space, held, 0x1200, &answer, &refusal));
     CHECK(are_told(0x1200, 0x12ff, 0));
@@ -550,6 +562,7 @@ static void make_managers(void) {
 }
 
 static void reserve_devices(void) {
+    const dvs_request no_place = {0x100, 1, 0x1ef0, DVS_EXACT, NULL};
     dvs_device_manager *manager;
     dvs_device first, last, exact;
     dvs_range range;
@@ -562,12 +575,20 @@ static void reserve_devices(void) {
     REFUSED(DVS_INVALID_STATE_TRANSITION, dvs_device,
             dvs_device_reserve_exact(manager, 0x100, 1, 0x1000, &answer, &refusal));
     CHECK(are_told(0x1000, 0x10ff, 0));
+    REFUSED(DVS_RESOURCE_NOT_AVAILABLE, dvs_device,
+            dvs_device_reserve_exact(manager, 0x100, 1, 0x1ef0, &answer, &refusal));
+    CHECK(is_in_the_way(range_of(0x1ef0, 0x1fef), DVS_CAUSE_ALLOCATED, last.range));
     CHECK(dvs_device_reserve_exact(manager, 1, 1, 0x1801, &exact, &refusal) == DVS_OK);
     CHECK(first.id == 1 && is_range(first.range, 0x1000, 0x10ff));
     CHECK(last.id == 2 && is_range(last.range, 0x1f00, 0x1fff));
     CHECK(exact.id == 3 && is_range(exact.range, 0x1801, 0x1801));
+    /* No id is free. */
     REFUSED(DVS_RESOURCE_NOT_AVAILABLE, dvs_device,
-            dvs_device_reserve_first(manager, 1, 1, &answer, &refusal));
+            dvs_device_reserve_exact(manager, 0x100, 3, 0x1ef0, &answer, &refusal));
+    CHECK(are_told(0, 0, 0));
+    REFUSED(DVS_RESOURCE_NOT_AVAILABLE, dvs_device,
+            dvs_device_reserve(manager, &no_place, &answer, &refusal));
+    CHECK(are_told(0, 0, 0));
     CHECK(dvs_device_range(manager, 2, &range, &refusal) == DVS_OK &&
           is_range(range, 0x1f00, 0x1fff));
     CHECK(dvs_device_release(manager, 2, &refusal) == DVS_OK);
@@ -617,141 +638,180 @@ struct row {
     uint64_t size, alignment, start;
     dvs_range window;
     dvs_status status;
-    /* The range that is allocated, or the range in the details of the error. */
+    uint32_t cause;
+    /* The range that is allocated, or the range in the details of an error without a cause. */
     dvs_range range;
 };
+
+#define GETS(start, end)                                                                           \
+    DVS_OK, DVS_CAUSE_NONE, {                                                                      \
+        start, end                                                                                 \
+    }
+#define TELLS(status, start, end)                                                                  \
+    status, DVS_CAUSE_NONE, {                                                                      \
+        start, end                                                                                 \
+    }
+#define FAILS(status) TELLS(status, 0, 0)
+#define IN_THE_WAY(cause)                                                                          \
+    DVS_RESOURCE_NOT_AVAILABLE, DVS_CAUSE_##cause, {                                               \
+        0, 0                                                                                       \
+    }
 
 /* In the space from 0x1000 to 0x1fff, with the ranges of `held` allocated. */
 static const dvs_range held[] = {{0x1400, 0x14ff}, {0x1800, 0x18ff}};
 
 static const struct row in_gaps[] = {
     /* A gap. */
-    {DVS_FIRST, 0x100, 0x100, 0, {0x1500, 0x17ff}, DVS_OK, {0x1500, 0x15ff}},
-    {DVS_LAST, 0x100, 0x100, 0, {0x1500, 0x17ff}, DVS_OK, {0x1700, 0x17ff}},
-    {DVS_EXACT, 0x100, 0x100, 0x1500, {0x1500, 0x17ff}, DVS_OK, {0x1500, 0x15ff}},
-    {DVS_EXACT, 0x100, 0x100, 0x1700, {0x1500, 0x17ff}, DVS_OK, {0x1700, 0x17ff}},
+    {DVS_FIRST, 0x100, 0x100, 0, {0x1500, 0x17ff}, GETS(0x1500, 0x15ff)},
+    {DVS_LAST, 0x100, 0x100, 0, {0x1500, 0x17ff}, GETS(0x1700, 0x17ff)},
+    {DVS_EXACT, 0x100, 0x100, 0x1500, {0x1500, 0x17ff}, GETS(0x1500, 0x15ff)},
+    {DVS_EXACT, 0x100, 0x100, 0x1700, {0x1500, 0x17ff}, GETS(0x1700, 0x17ff)},
     /* A part of a gap. */
-    {DVS_FIRST, 0x10, 1, 0, {0x1510, 0x17ef}, DVS_OK, {0x1510, 0x151f}},
-    {DVS_FIRST, 0x10, 0x100, 0, {0x1510, 0x17ef}, DVS_OK, {0x1600, 0x160f}},
-    {DVS_LAST, 0x10, 1, 0, {0x1510, 0x17ef}, DVS_OK, {0x17e0, 0x17ef}},
-    {DVS_LAST, 0x10, 0x100, 0, {0x1510, 0x17ef}, DVS_OK, {0x1700, 0x170f}},
-    {DVS_EXACT, 0x10, 1, 0x1510, {0x1510, 0x17ef}, DVS_OK, {0x1510, 0x151f}},
-    {DVS_EXACT, 0x10, 1, 0x17e0, {0x1510, 0x17ef}, DVS_OK, {0x17e0, 0x17ef}},
-    {DVS_EXACT, 0x10, 1, 0x150f, {0x1510, 0x17ef}, DVS_RESOURCE_NOT_AVAILABLE, {0, 0}},
-    {DVS_EXACT, 0x10, 1, 0x17e1, {0x1510, 0x17ef}, DVS_RESOURCE_NOT_AVAILABLE, {0, 0}},
+    {DVS_FIRST, 0x10, 1, 0, {0x1510, 0x17ef}, GETS(0x1510, 0x151f)},
+    {DVS_FIRST, 0x10, 0x100, 0, {0x1510, 0x17ef}, GETS(0x1600, 0x160f)},
+    {DVS_LAST, 0x10, 1, 0, {0x1510, 0x17ef}, GETS(0x17e0, 0x17ef)},
+    {DVS_LAST, 0x10, 0x100, 0, {0x1510, 0x17ef}, GETS(0x1700, 0x170f)},
+    {DVS_EXACT, 0x10, 1, 0x1510, {0x1510, 0x17ef}, GETS(0x1510, 0x151f)},
+    {DVS_EXACT, 0x10, 1, 0x17e0, {0x1510, 0x17ef}, GETS(0x17e0, 0x17ef)},
+    {DVS_EXACT, 0x10, 1, 0x150f, {0x1510, 0x17ef}, IN_THE_WAY(OUTSIDE_WINDOW)},
+    {DVS_EXACT, 0x10, 1, 0x17e1, {0x1510, 0x17ef}, IN_THE_WAY(OUTSIDE_WINDOW)},
     /* All addresses of the window, and one more. */
-    {DVS_FIRST, 0x2e0, 1, 0, {0x1510, 0x17ef}, DVS_OK, {0x1510, 0x17ef}},
-    {DVS_LAST, 0x2e0, 1, 0, {0x1510, 0x17ef}, DVS_OK, {0x1510, 0x17ef}},
-    {DVS_EXACT, 0x2e0, 1, 0x1510, {0x1510, 0x17ef}, DVS_OK, {0x1510, 0x17ef}},
-    {DVS_FIRST, 0x2e1, 1, 0, {0x1510, 0x17ef}, DVS_RESOURCE_NOT_AVAILABLE, {0, 0}},
-    {DVS_LAST, 0x2e1, 1, 0, {0x1510, 0x17ef}, DVS_RESOURCE_NOT_AVAILABLE, {0, 0}},
-    {DVS_EXACT, 0x2e1, 1, 0x1510, {0x1510, 0x17ef}, DVS_RESOURCE_NOT_AVAILABLE, {0, 0}},
+    {DVS_FIRST, 0x2e0, 1, 0, {0x1510, 0x17ef}, GETS(0x1510, 0x17ef)},
+    {DVS_LAST, 0x2e0, 1, 0, {0x1510, 0x17ef}, GETS(0x1510, 0x17ef)},
+    {DVS_EXACT, 0x2e0, 1, 0x1510, {0x1510, 0x17ef}, GETS(0x1510, 0x17ef)},
+    {DVS_FIRST, 0x2e1, 1, 0, {0x1510, 0x17ef}, FAILS(DVS_RESOURCE_NOT_AVAILABLE)},
+    {DVS_LAST, 0x2e1, 1, 0, {0x1510, 0x17ef}, FAILS(DVS_RESOURCE_NOT_AVAILABLE)},
+    {DVS_EXACT, 0x2e1, 1, 0x1510, {0x1510, 0x17ef}, IN_THE_WAY(OUTSIDE_WINDOW)},
     /* Three gaps. */
-    {DVS_FIRST, 0x100, 1, 0, {0x1300, 0x19ff}, DVS_OK, {0x1300, 0x13ff}},
-    {DVS_FIRST, 0x101, 1, 0, {0x1300, 0x19ff}, DVS_OK, {0x1500, 0x1600}},
-    {DVS_LAST, 0x100, 1, 0, {0x1300, 0x19ff}, DVS_OK, {0x1900, 0x19ff}},
-    {DVS_LAST, 0x101, 1, 0, {0x1300, 0x19ff}, DVS_OK, {0x16ff, 0x17ff}},
-    {DVS_FIRST, 0x301, 1, 0, {0x1300, 0x19ff}, DVS_RESOURCE_NOT_AVAILABLE, {0, 0}},
-    {DVS_LAST, 0x301, 1, 0, {0x1300, 0x19ff}, DVS_RESOURCE_NOT_AVAILABLE, {0, 0}},
+    {DVS_FIRST, 0x100, 1, 0, {0x1300, 0x19ff}, GETS(0x1300, 0x13ff)},
+    {DVS_FIRST, 0x101, 1, 0, {0x1300, 0x19ff}, GETS(0x1500, 0x1600)},
+    {DVS_LAST, 0x100, 1, 0, {0x1300, 0x19ff}, GETS(0x1900, 0x19ff)},
+    {DVS_LAST, 0x101, 1, 0, {0x1300, 0x19ff}, GETS(0x16ff, 0x17ff)},
+    {DVS_FIRST, 0x301, 1, 0, {0x1300, 0x19ff}, FAILS(DVS_RESOURCE_NOT_AVAILABLE)},
+    {DVS_LAST, 0x301, 1, 0, {0x1300, 0x19ff}, FAILS(DVS_RESOURCE_NOT_AVAILABLE)},
     /* One address, which is free or allocated. */
-    {DVS_FIRST, 1, 1, 0, {0x1555, 0x1555}, DVS_OK, {0x1555, 0x1555}},
-    {DVS_LAST, 1, 1, 0, {0x1555, 0x1555}, DVS_OK, {0x1555, 0x1555}},
-    {DVS_EXACT, 1, 1, 0x1555, {0x1555, 0x1555}, DVS_OK, {0x1555, 0x1555}},
-    {DVS_FIRST, 1, 2, 0, {0x1555, 0x1555}, DVS_RESOURCE_NOT_AVAILABLE, {0, 0}},
-    {DVS_LAST, 2, 1, 0, {0x1555, 0x1555}, DVS_RESOURCE_NOT_AVAILABLE, {0, 0}},
-    {DVS_EXACT, 1, 1, 0x1554, {0x1555, 0x1555}, DVS_RESOURCE_NOT_AVAILABLE, {0, 0}},
-    {DVS_EXACT, 1, 1, 0x1556, {0x1555, 0x1555}, DVS_RESOURCE_NOT_AVAILABLE, {0, 0}},
-    {DVS_FIRST, 1, 1, 0, {0x1400, 0x1400}, DVS_RESOURCE_NOT_AVAILABLE, {0, 0}},
-    {DVS_LAST, 1, 1, 0, {0x14ff, 0x14ff}, DVS_RESOURCE_NOT_AVAILABLE, {0, 0}},
+    {DVS_FIRST, 1, 1, 0, {0x1555, 0x1555}, GETS(0x1555, 0x1555)},
+    {DVS_LAST, 1, 1, 0, {0x1555, 0x1555}, GETS(0x1555, 0x1555)},
+    {DVS_EXACT, 1, 1, 0x1555, {0x1555, 0x1555}, GETS(0x1555, 0x1555)},
+    {DVS_FIRST, 1, 2, 0, {0x1555, 0x1555}, FAILS(DVS_RESOURCE_NOT_AVAILABLE)},
+    {DVS_LAST, 2, 1, 0, {0x1555, 0x1555}, FAILS(DVS_RESOURCE_NOT_AVAILABLE)},
+    {DVS_EXACT, 1, 1, 0x1554, {0x1555, 0x1555}, IN_THE_WAY(OUTSIDE_WINDOW)},
+    {DVS_EXACT, 1, 1, 0x1556, {0x1555, 0x1555}, IN_THE_WAY(OUTSIDE_WINDOW)},
+    {DVS_FIRST, 1, 1, 0, {0x1400, 0x1400}, FAILS(DVS_RESOURCE_NOT_AVAILABLE)},
+    {DVS_LAST, 1, 1, 0, {0x14ff, 0x14ff}, FAILS(DVS_RESOURCE_NOT_AVAILABLE)},
 };
 
 static const struct row at_ends[] = {
     /* No address of the space. */
-    {DVS_FIRST, 1, 1, 0, {0, 0xfff}, DVS_RESOURCE_NOT_AVAILABLE, {0, 0}},
-    {DVS_LAST, 1, 1, 0, {0x2000, TOP - 1}, DVS_RESOURCE_NOT_AVAILABLE, {0, 0}},
-    {DVS_EXACT, 1, 1, 0x1000, {0, 0xfff}, DVS_RESOURCE_NOT_AVAILABLE, {0, 0}},
-    {DVS_EXACT, 1, 1, 0xf00, {0, 0xfff}, DVS_RESOURCE_NOT_AVAILABLE, {0, 0}},
-    {DVS_EXACT, 1, 1, 0x2000, {0x2000, TOP}, DVS_RESOURCE_NOT_AVAILABLE, {0, 0}},
-    {DVS_FIRST, 1, 1, 0, {0, 0}, DVS_RESOURCE_NOT_AVAILABLE, {0, 0}},
-    {DVS_LAST, 1, 1, 0, {TOP, TOP}, DVS_RESOURCE_NOT_AVAILABLE, {0, 0}},
+    {DVS_FIRST, 1, 1, 0, {0, 0xfff}, FAILS(DVS_RESOURCE_NOT_AVAILABLE)},
+    {DVS_LAST, 1, 1, 0, {0x2000, TOP - 1}, FAILS(DVS_RESOURCE_NOT_AVAILABLE)},
+    {DVS_EXACT, 1, 1, 0x1000, {0, 0xfff}, IN_THE_WAY(OUTSIDE_WINDOW)},
+    {DVS_EXACT, 1, 1, 0xf00, {0, 0xfff}, IN_THE_WAY(OUTSIDE_SPACE)},
+    {DVS_EXACT, 1, 1, 0x2000, {0x2000, TOP}, IN_THE_WAY(OUTSIDE_SPACE)},
+    {DVS_FIRST, 1, 1, 0, {0, 0}, FAILS(DVS_RESOURCE_NOT_AVAILABLE)},
+    {DVS_LAST, 1, 1, 0, {TOP, TOP}, FAILS(DVS_RESOURCE_NOT_AVAILABLE)},
     /* The space or a part of it, and addresses outside it. */
-    {DVS_FIRST, 0x10, 1, 0, {0, 0x2fff}, DVS_OK, {0x1000, 0x100f}},
-    {DVS_LAST, 0x10, 1, 0, {0, 0x2fff}, DVS_OK, {0x1ff0, 0x1fff}},
-    {DVS_EXACT, 0x10, 1, 0x1ff0, {1, TOP}, DVS_OK, {0x1ff0, 0x1fff}},
-    {DVS_EXACT, 0x11, 1, 0x1ff0, {1, TOP}, DVS_RESOURCE_NOT_AVAILABLE, {0, 0}},
-    {DVS_FIRST, 0x10, 1, 0, {0x1f00, TOP}, DVS_OK, {0x1f00, 0x1f0f}},
-    {DVS_LAST, 0x10, 1, 0, {0, 0x100f}, DVS_OK, {0x1000, 0x100f}},
-    {DVS_LAST, 0x11, 1, 0, {0, 0x100f}, DVS_RESOURCE_NOT_AVAILABLE, {0, 0}},
+    {DVS_FIRST, 0x10, 1, 0, {0, 0x2fff}, GETS(0x1000, 0x100f)},
+    {DVS_LAST, 0x10, 1, 0, {0, 0x2fff}, GETS(0x1ff0, 0x1fff)},
+    {DVS_EXACT, 0x10, 1, 0x1ff0, {1, TOP}, GETS(0x1ff0, 0x1fff)},
+    {DVS_EXACT, 0x11, 1, 0x1ff0, {1, TOP}, IN_THE_WAY(OUTSIDE_SPACE)},
+    {DVS_FIRST, 0x10, 1, 0, {0x1f00, TOP}, GETS(0x1f00, 0x1f0f)},
+    {DVS_LAST, 0x10, 1, 0, {0, 0x100f}, GETS(0x1000, 0x100f)},
+    {DVS_LAST, 0x11, 1, 0, {0, 0x100f}, FAILS(DVS_RESOURCE_NOT_AVAILABLE)},
     /* All addresses: no limit. */
-    {DVS_FIRST, 0x10, 1, 0, {0, TOP}, DVS_OK, {0x1000, 0x100f}},
-    {DVS_LAST, 0x10, 1, 0, {0, TOP}, DVS_OK, {0x1ff0, 0x1fff}},
-    {DVS_EXACT, 0x10, 1, 0x1500, {0, TOP}, DVS_OK, {0x1500, 0x150f}},
-    {DVS_EXACT, 0x100, 1, 0x1400, {0, TOP}, DVS_INVALID_STATE_TRANSITION, {0x1400, 0x14ff}},
-    {DVS_FIRST, 0x701, 1, 0, {0, TOP}, DVS_RESOURCE_NOT_AVAILABLE, {0, 0}},
+    {DVS_FIRST, 0x10, 1, 0, {0, TOP}, GETS(0x1000, 0x100f)},
+    {DVS_LAST, 0x10, 1, 0, {0, TOP}, GETS(0x1ff0, 0x1fff)},
+    {DVS_EXACT, 0x10, 1, 0x1500, {0, TOP}, GETS(0x1500, 0x150f)},
+    {DVS_EXACT, 0x100, 1, 0x1400, {0, TOP}, TELLS(DVS_INVALID_STATE_TRANSITION, 0x1400, 0x14ff)},
+    {DVS_FIRST, 0x701, 1, 0, {0, TOP}, FAILS(DVS_RESOURCE_NOT_AVAILABLE)},
 };
 
 /* Windows that are not ranges, allocated ranges, and requests with two errors. */
 static const struct row refused[] = {
-    {DVS_FIRST, 1, 1, 0, {9, 8}, DVS_INVALID_RANGE, {9, 8}},
-    {DVS_LAST, 1, 1, 0, {TOP, 0}, DVS_INVALID_RANGE, {TOP, 0}},
-    {DVS_EXACT, 1, 1, 0x1500, {0x1501, 0x1500}, DVS_INVALID_RANGE, {0x1501, 0x1500}},
-    {DVS_EXACT, 0x100, 1, 0x1400, {0x1400, 0x14fe}, DVS_INVALID_STATE_TRANSITION, {0x1400, 0x14ff}},
-    {DVS_EXACT, 0x100, 1, 0x1400, {0x1400, 0x1400}, DVS_INVALID_STATE_TRANSITION, {0x1400, 0x14ff}},
-    {DVS_EXACT, 0x100, 1, 0x1400, {0x1401, 0x14ff}, DVS_RESOURCE_NOT_AVAILABLE, {0, 0}},
-    {DVS_EXACT, 0x80, 1, 0x1400, {0x1400, 0x14fe}, DVS_RESOURCE_NOT_AVAILABLE, {0, 0}},
-    {DVS_EXACT + 1, 0, 3, 0, {9, 8}, DVS_INVALID_POLICY, {0, 0}},
-    {UINT32_MAX, 1, 1, 0, {0x1500, 0x17ff}, DVS_INVALID_POLICY, {0, 0}},
-    {DVS_EXACT, 0, 3, 1, {9, 8}, DVS_INVALID_RANGE, {9, 8}},
-    {DVS_EXACT, 0, 3, 1, {0, 0xfff}, DVS_INVALID_SIZE, {0, 0}},
-    {DVS_EXACT, 1, 3, 1, {0, 0xfff}, DVS_INVALID_ALIGNMENT, {0, 0}},
-    {DVS_EXACT, 1, 4, 0x1502, {0, 0xfff}, DVS_UNALIGNED_ADDRESS, {0, 0}},
-    {DVS_EXACT, 2, 1, TOP, {0, 0xfff}, DVS_OVERFLOW, {0, 0}},
-    {DVS_EXACT, TOP, 1, 0x1500, {0x1600, 0x17ff}, DVS_RESOURCE_NOT_AVAILABLE, {0, 0}},
-    {DVS_EXACT, TOP, 1, 0x1500, {0x1500, 0x1501}, DVS_OVERFLOW, {0, 0}},
-    {DVS_EXACT, TOP, 1, 0x1400, {0x1400, 0x1401}, DVS_OVERFLOW, {0, 0}},
+    {DVS_FIRST, 1, 1, 0, {9, 8}, TELLS(DVS_INVALID_RANGE, 9, 8)},
+    {DVS_LAST, 1, 1, 0, {TOP, 0}, TELLS(DVS_INVALID_RANGE, TOP, 0)},
+    {DVS_EXACT, 1, 1, 0x1500, {0x1501, 0x1500}, TELLS(DVS_INVALID_RANGE, 0x1501, 0x1500)},
+    {DVS_EXACT,
+     0x100,
+     1,
+     0x1400,
+     {0x1400, 0x14fe},
+     TELLS(DVS_INVALID_STATE_TRANSITION, 0x1400, 0x14ff)},
+    {DVS_EXACT,
+     0x100,
+     1,
+     0x1400,
+     {0x1400, 0x1400},
+     TELLS(DVS_INVALID_STATE_TRANSITION, 0x1400, 0x14ff)},
+    {DVS_EXACT, 0x100, 1, 0x1400, {0x1401, 0x14ff}, IN_THE_WAY(OUTSIDE_WINDOW)},
+    {DVS_EXACT, 0x80, 1, 0x1400, {0x1400, 0x14fe}, IN_THE_WAY(ALLOCATED)},
+    {DVS_EXACT + 1, 0, 3, 0, {9, 8}, FAILS(DVS_INVALID_POLICY)},
+    {UINT32_MAX, 1, 1, 0, {0x1500, 0x17ff}, FAILS(DVS_INVALID_POLICY)},
+    {DVS_EXACT, 0, 3, 1, {9, 8}, TELLS(DVS_INVALID_RANGE, 9, 8)},
+    {DVS_EXACT, 0, 3, 1, {0, 0xfff}, FAILS(DVS_INVALID_SIZE)},
+    {DVS_EXACT, 1, 3, 1, {0, 0xfff}, FAILS(DVS_INVALID_ALIGNMENT)},
+    {DVS_EXACT, 1, 4, 0x1502, {0, 0xfff}, FAILS(DVS_UNALIGNED_ADDRESS)},
+    {DVS_EXACT, 2, 1, TOP, {0, 0xfff}, FAILS(DVS_OVERFLOW)},
+    {DVS_EXACT, TOP, 1, 0x1500, {0x1600, 0x17ff}, IN_THE_WAY(OUTSIDE_WINDOW)},
+    {DVS_EXACT, TOP, 1, 0x1500, {0x1500, 0x1501}, FAILS(DVS_OVERFLOW)},
+    {DVS_EXACT, TOP, 1, 0x1400, {0x1400, 0x1401}, FAILS(DVS_OVERFLOW)},
 };
 
 /* In the space from 0 to 0xff. */
 static const struct row at_zero[] = {
-    {DVS_FIRST, 1, 1, 0, {0, 0}, DVS_OK, {0, 0}},
-    {DVS_LAST, 1, 1, 0, {0, 0}, DVS_OK, {0, 0}},
-    {DVS_EXACT, 1, 1, 0, {0, 0}, DVS_OK, {0, 0}},
-    {DVS_EXACT, 2, 1, 0, {0, 0}, DVS_RESOURCE_NOT_AVAILABLE, {0, 0}},
-    {DVS_EXACT, 1, 1, 0, {1, TOP}, DVS_RESOURCE_NOT_AVAILABLE, {0, 0}},
-    {DVS_FIRST, 1, 1, 0, {1, TOP}, DVS_OK, {1, 1}},
-    {DVS_FIRST, 0x100, 0x100, 0, {0, 0xff}, DVS_OK, {0, 0xff}},
-    {DVS_LAST, 0x100, 0x100, 0, {0, 0xfe}, DVS_RESOURCE_NOT_AVAILABLE, {0, 0}},
-    {DVS_LAST, 0x10, 0x10, 0, {0, 0xfe}, DVS_OK, {0xe0, 0xef}},
+    {DVS_FIRST, 1, 1, 0, {0, 0}, GETS(0, 0)},
+    {DVS_LAST, 1, 1, 0, {0, 0}, GETS(0, 0)},
+    {DVS_EXACT, 1, 1, 0, {0, 0}, GETS(0, 0)},
+    {DVS_EXACT, 2, 1, 0, {0, 0}, IN_THE_WAY(OUTSIDE_WINDOW)},
+    {DVS_EXACT, 1, 1, 0, {1, TOP}, IN_THE_WAY(OUTSIDE_WINDOW)},
+    {DVS_FIRST, 1, 1, 0, {1, TOP}, GETS(1, 1)},
+    {DVS_FIRST, 0x100, 0x100, 0, {0, 0xff}, GETS(0, 0xff)},
+    {DVS_LAST, 0x100, 0x100, 0, {0, 0xfe}, FAILS(DVS_RESOURCE_NOT_AVAILABLE)},
+    {DVS_LAST, 0x10, 0x10, 0, {0, 0xfe}, GETS(0xe0, 0xef)},
 };
 
 /* In the space of the 256 addresses up to UINT64_MAX. */
 static const struct row at_top[] = {
-    {DVS_FIRST, 1, 1, 0, {TOP, TOP}, DVS_OVERFLOW, {0, 0}},
-    {DVS_FIRST, 0x80, 1, 0, {TOP - 0x7f, TOP}, DVS_OVERFLOW, {0, 0}},
-    {DVS_FIRST, 0x81, 1, 0, {TOP - 0x7f, TOP}, DVS_RESOURCE_NOT_AVAILABLE, {0, 0}},
-    {DVS_FIRST, 0x10, 1, 0, {TOP - 0x7f, TOP}, DVS_OK, {TOP - 0x7f, TOP - 0x70}},
-    {DVS_LAST, 0x10, 1, 0, {TOP - 0x7f, TOP}, DVS_OVERFLOW, {0, 0}},
-    {DVS_LAST, 0x10, 1, 0, {TOP - 0x7f, TOP - 1}, DVS_OK, {TOP - 0x10, TOP - 1}},
-    {DVS_LAST, 0x10, 0x10, 0, {TOP - 0x7f, TOP - 1}, DVS_OK, {TOP - 0x1f, TOP - 0x10}},
-    {DVS_LAST, 1, 1, 0, {0, TOP}, DVS_OVERFLOW, {0, 0}},
-    {DVS_LAST, 1, 1, 0, {0, TOP - 1}, DVS_OK, {TOP - 1, TOP - 1}},
-    {DVS_EXACT, 0x10, 1, TOP - 0xf, {TOP - 0x7f, TOP}, DVS_OVERFLOW, {0, 0}},
-    {DVS_EXACT, 0x11, 1, TOP - 0xf, {TOP - 0x7f, TOP}, DVS_OVERFLOW, {0, 0}},
-    {DVS_EXACT, 0x10, 1, TOP - 0xf, {TOP - 0x7f, TOP - 1}, DVS_RESOURCE_NOT_AVAILABLE, {0, 0}},
-    {DVS_EXACT, 0x10, 1, TOP - 0x10, {TOP - 0x7f, TOP - 1}, DVS_OK, {TOP - 0x10, TOP - 1}},
-    {DVS_EXACT, 1, 1, TOP, {TOP, TOP}, DVS_OVERFLOW, {0, 0}},
+    {DVS_FIRST, 1, 1, 0, {TOP, TOP}, FAILS(DVS_OVERFLOW)},
+    {DVS_FIRST, 0x80, 1, 0, {TOP - 0x7f, TOP}, FAILS(DVS_OVERFLOW)},
+    {DVS_FIRST, 0x81, 1, 0, {TOP - 0x7f, TOP}, FAILS(DVS_RESOURCE_NOT_AVAILABLE)},
+    {DVS_FIRST, 0x10, 1, 0, {TOP - 0x7f, TOP}, GETS(TOP - 0x7f, TOP - 0x70)},
+    {DVS_LAST, 0x10, 1, 0, {TOP - 0x7f, TOP}, FAILS(DVS_OVERFLOW)},
+    {DVS_LAST, 0x10, 1, 0, {TOP - 0x7f, TOP - 1}, GETS(TOP - 0x10, TOP - 1)},
+    {DVS_LAST, 0x10, 0x10, 0, {TOP - 0x7f, TOP - 1}, GETS(TOP - 0x1f, TOP - 0x10)},
+    {DVS_LAST, 1, 1, 0, {0, TOP}, FAILS(DVS_OVERFLOW)},
+    {DVS_LAST, 1, 1, 0, {0, TOP - 1}, GETS(TOP - 1, TOP - 1)},
+    {DVS_EXACT, 0x10, 1, TOP - 0xf, {TOP - 0x7f, TOP}, FAILS(DVS_OVERFLOW)},
+    {DVS_EXACT, 0x11, 1, TOP - 0xf, {TOP - 0x7f, TOP}, FAILS(DVS_OVERFLOW)},
+    {DVS_EXACT, 0x10, 1, TOP - 0xf, {TOP - 0x7f, TOP - 1}, IN_THE_WAY(OUTSIDE_WINDOW)},
+    {DVS_EXACT, 0x10, 1, TOP - 0x10, {TOP - 0x7f, TOP - 1}, GETS(TOP - 0x10, TOP - 1)},
+    {DVS_EXACT, 1, 1, TOP, {TOP, TOP}, FAILS(DVS_OVERFLOW)},
+};
+
+/* Requests without a window. */
+static const struct row in_the_way[] = {
+    {DVS_EXACT, 1, 1, 0xfff, {0, TOP}, IN_THE_WAY(OUTSIDE_SPACE)},
+    {DVS_EXACT, 0x10, 1, 0xff8, {0, TOP}, IN_THE_WAY(OUTSIDE_SPACE)},
+    {DVS_EXACT, 2, 1, 0x1fff, {0, TOP}, IN_THE_WAY(OUTSIDE_SPACE)},
+    {DVS_EXACT, 0x1000, 1, 0x1400, {0, TOP}, IN_THE_WAY(OUTSIDE_SPACE)},
+    {DVS_EXACT, TOP, 1, 0x2000, {0, TOP}, IN_THE_WAY(OUTSIDE_SPACE)},
+    {DVS_EXACT, TOP, 1, 0, {0, TOP}, IN_THE_WAY(OUTSIDE_SPACE)},
+    {DVS_EXACT, 0x1000, 1, 0x1000, {0, TOP}, IN_THE_WAY(ALLOCATED)},
+    {DVS_EXACT, 2, 1, 0x13ff, {0, TOP}, IN_THE_WAY(ALLOCATED)},
+    {DVS_EXACT, 2, 1, 0x14ff, {0, TOP}, IN_THE_WAY(ALLOCATED)},
+    {DVS_EXACT, 0x400, 1, 0x1500, {0, TOP}, IN_THE_WAY(ALLOCATED)},
 };
 
 /* In a manager whose id UINT32_MAX is allocated. An error of the id precedes that of the range. */
 static const struct row without_ids[] = {
-    {DVS_EXACT + 1, 0, 3, 1, {9, 8}, DVS_INVALID_POLICY, {0, 0}},
-    {DVS_EXACT, 0, 3, 1, {9, 8}, DVS_INVALID_RANGE, {9, 8}},
-    {DVS_EXACT, 0, 3, 1, {0, 0xfff}, DVS_INVALID_SIZE, {0, 0}},
-    {DVS_EXACT, 1, 3, 1, {0, 0xfff}, DVS_INVALID_ALIGNMENT, {0, 0}},
-    {DVS_EXACT, 1, 4, 0x1502, {0, 0xfff}, DVS_UNALIGNED_ADDRESS, {0, 0}},
-    {DVS_EXACT, 0x100, 1, 0x1400, {0x1400, 0x14ff}, DVS_OVERFLOW, {0, 0}},
-    {DVS_FIRST, 1, 1, 0, {0, 0xfff}, DVS_OVERFLOW, {0, 0}},
-    {DVS_LAST, 1, 1, 0, {0x1500, 0x17ff}, DVS_OVERFLOW, {0, 0}},
+    {DVS_EXACT + 1, 0, 3, 1, {9, 8}, FAILS(DVS_INVALID_POLICY)},
+    {DVS_EXACT, 0, 3, 1, {9, 8}, TELLS(DVS_INVALID_RANGE, 9, 8)},
+    {DVS_EXACT, 0, 3, 1, {0, 0xfff}, FAILS(DVS_INVALID_SIZE)},
+    {DVS_EXACT, 1, 3, 1, {0, 0xfff}, FAILS(DVS_INVALID_ALIGNMENT)},
+    {DVS_EXACT, 1, 4, 0x1502, {0, 0xfff}, FAILS(DVS_UNALIGNED_ADDRESS)},
+    {DVS_EXACT, 0x100, 1, 0x1400, {0x1400, 0x14ff}, FAILS(DVS_OVERFLOW)},
+    {DVS_FIRST, 1, 1, 0, {0, 0xfff}, FAILS(DVS_OVERFLOW)},
+    {DVS_LAST, 1, 1, 0, {0x1500, 0x17ff}, FAILS(DVS_OVERFLOW)},
 };
 
 /* A call with a request, on a space or a manager. It frees what it has allocated. */
@@ -792,6 +852,28 @@ static dvs_status reserve_one(void *object, const dvs_request *request, dvs_rang
     return status;
 }
 
+/* The space of the rows. */
+static dvs_range whole;
+
+/* Returns whether a call wrote the details of a row. */
+static bool are_those_of(const struct row *row) {
+    dvs_range wanted = {0, 0}, other = {0, 0};
+    size_t i = 2;
+
+    if (row->cause == DVS_CAUSE_NONE)
+        return are_told(row->range.start, row->range.end, 0);
+    if (row->start <= TOP - (row->size - 1))
+        wanted = range_of(row->start, row->start + (row->size - 1));
+    while (row->cause == DVS_CAUSE_ALLOCATED && i-- > 0)
+        if (wanted.start <= held[i].end && held[i].start <= wanted.end)
+            other = held[i];
+    if (row->cause == DVS_CAUSE_OUTSIDE_SPACE)
+        other = whole;
+    if (row->cause == DVS_CAUSE_OUTSIDE_WINDOW)
+        other = row->window;
+    return is_in_the_way(wanted, row->cause, other);
+}
+
 /* Checks the result of a call for a row. A window of all addresses is also NULL. */
 static void check_call(const struct row *row, request_call *call, void *object) {
     dvs_request request = {row->size, row->alignment, row->start, row->policy, &row->window};
@@ -808,7 +890,7 @@ static void check_call(const struct row *row, request_call *call, void *object) 
             CHECK(is_untouched(&refusal, sizeof refusal));
         } else {
             CHECK(is_untouched(&range, sizeof range));
-            CHECK(are_told(row->range.start, row->range.end, 0));
+            CHECK(are_those_of(row));
         }
         request.window = NULL;
     }
@@ -856,6 +938,7 @@ static void check_rows(uint64_t base, uint64_t size, uint32_t held_count, const 
     dvs_address_allocator *space;
     size_t i;
 
+    whole = range_of(base, base + (size - 1));
     CHECK(dvs_address_allocator_with_held(base, size, held, held_count, &space, NULL, NULL) ==
           DVS_OK);
     for (i = 0; i < count; i++)
@@ -873,6 +956,7 @@ static void request_in_windows(void) {
     check_rows(0x1000, 0x1000, 2, ROWS(in_gaps));
     check_rows(0x1000, 0x1000, 2, ROWS(at_ends));
     check_rows(0x1000, 0x1000, 2, ROWS(refused));
+    check_rows(0x1000, 0x1000, 2, ROWS(in_the_way));
     check_rows(0, 0x100, 0, ROWS(at_zero));
     check_rows(TOP - 0xff, 0x100, 0, ROWS(at_top));
     for (i = 0; i < sizeof without_ids / sizeof without_ids[0]; i++)
@@ -919,6 +1003,21 @@ static dvs_status searched(const dvs_request *request, dvs_range window, uint64_
     return DVS_RESOURCE_NOT_AVAILABLE;
 }
 
+/* Returns whether a call wrote why the range of a request is not available, found by a search. */
+static bool is_cause_found(const dvs_request *request) {
+    const dvs_range wanted = range_of(request->start, request->start + request->size - 1);
+    uint64_t at = 0;
+
+    if (wanted.start < request->window->start || request->window->end < wanted.end)
+        return is_in_the_way(wanted, DVS_CAUSE_OUTSIDE_WINDOW, *request->window);
+    if (wanted.end > BASE + 63)
+        return is_in_the_way(wanted, DVS_CAUSE_OUTSIDE_SPACE, range_of(BASE, BASE + 63));
+    while (sizes[at] == 0 || BASE + at + sizes[at] <= wanted.start)
+        at++;
+    return is_in_the_way(wanted, DVS_CAUSE_ALLOCATED,
+                         range_of(BASE + at, BASE + at + sizes[at] - 1));
+}
+
 static void request_at_random(void) {
     dvs_address_allocator *space;
     dvs_range window, range;
@@ -937,7 +1036,9 @@ static void request_at_random(void) {
         request.policy = (uint32_t)drawn(3);
         status = searched(&request, window, &start);
         counts[status]++;
-        CHECK(dvs_range_allocate(space, &request, &range, NULL) == status);
+        RETURNS(status, dvs_range_allocate(space, &request, &range, &refusal));
+        if (status == DVS_RESOURCE_NOT_AVAILABLE)
+            CHECK(request.policy == DVS_EXACT ? is_cause_found(&request) : are_told(0, 0, 0));
         if (status == DVS_OK) {
             CHECK(is_range(range, BASE + start, BASE + start + request.size - 1));
             bits |= bits_of(start, request.size);

@@ -266,22 +266,32 @@ static void allocate_in_windows(void) {
     dvs_address_allocator_destroy(space);
 }
 
+#define NO_PLACE(cause) DVS_RESOURCE_NOT_AVAILABLE, DVS_CAUSE_##cause
+
 static void allocate_none(void) {
     static const dvs_range backwards = {5, 4}, outside = {0x4000, UINT64_MAX};
     static const struct row {
         dvs_request request;
         dvs_status status;
+        uint32_t cause;
+        dvs_range other;
     } rows[] = {
-        {{0, 1, 0, DVS_FIRST, NULL}, DVS_INVALID_SIZE},
-        {{1, 3, 0, DVS_FIRST, NULL}, DVS_INVALID_ALIGNMENT},
-        {{1, 2, 1, DVS_EXACT, NULL}, DVS_UNALIGNED_ADDRESS},
-        {{0x1000, 1, 0x1000, DVS_EXACT, NULL}, DVS_INVALID_STATE_TRANSITION},
-        {{0x1000, 1, 0, DVS_LAST, NULL}, DVS_RESOURCE_NOT_AVAILABLE},
-        {{1, 1, 0, DVS_FIRST, &outside}, DVS_RESOURCE_NOT_AVAILABLE},
-        {{1, 1, UINT64_MAX, DVS_EXACT, NULL}, DVS_OVERFLOW},
-        {{1, 1, 0, DVS_EXACT + 1, NULL}, DVS_INVALID_POLICY},
-        {{1, 1, 0, UINT32_MAX, &backwards}, DVS_INVALID_POLICY},
-        {{1, 1, 0, DVS_LAST, &backwards}, DVS_INVALID_RANGE},
+        {{0, 1, 0, DVS_FIRST, NULL}, DVS_INVALID_SIZE, 0, {0, 0}},
+        {{1, 3, 0, DVS_FIRST, NULL}, DVS_INVALID_ALIGNMENT, 0, {0, 0}},
+        {{1, 2, 1, DVS_EXACT, NULL}, DVS_UNALIGNED_ADDRESS, 0, {0, 0}},
+        {{0x1000, 1, 0x1000, DVS_EXACT, NULL}, DVS_INVALID_STATE_TRANSITION, 0, {0, 0}},
+        {{0x1000, 1, 0, DVS_LAST, NULL}, DVS_RESOURCE_NOT_AVAILABLE, 0, {0, 0}},
+        {{1, 1, 0, DVS_FIRST, &outside}, DVS_RESOURCE_NOT_AVAILABLE, 0, {0, 0}},
+        /* The first two requests have 0 to 0xfff and 0x2000 to 0x27ff. */
+        {{1, 1, 0xfff, DVS_EXACT, NULL}, NO_PLACE(EARLIER_REQUEST), {0, 0}},
+        {{0x900, 1, 0x2700, DVS_EXACT, NULL}, NO_PLACE(EARLIER_REQUEST), {0, 0}},
+        {{0x2000, 1, 0x800, DVS_EXACT, NULL}, NO_PLACE(ALLOCATED), {0x1000, 0x1fff}},
+        {{0x4000, 1, 1, DVS_EXACT, NULL}, NO_PLACE(OUTSIDE_SPACE), {0, 0x3fff}},
+        {{1, 1, 0, DVS_EXACT, &outside}, NO_PLACE(OUTSIDE_WINDOW), {0x4000, UINT64_MAX}},
+        {{1, 1, UINT64_MAX, DVS_EXACT, NULL}, DVS_OVERFLOW, 0, {0, 0}},
+        {{1, 1, 0, DVS_EXACT + 1, NULL}, DVS_INVALID_POLICY, 0, {0, 0}},
+        {{1, 1, 0, UINT32_MAX, &backwards}, DVS_INVALID_POLICY, 0, {0, 0}},
+        {{1, 1, 0, DVS_LAST, &backwards}, DVS_INVALID_RANGE, 0, {0, 0}},
     };
     dvs_address_allocator *space = two_held();
     dvs_address_allocator *before = two_held();
@@ -303,6 +313,9 @@ static void allocate_none(void) {
         CHECK(dvs_address_allocator_allocate_all(space, requests, 4, ranges, &failed, &refusal) ==
               rows[i].status);
         CHECK(failed == 2 && is_range(ranges[0], 1, 2) && refusal.id == 0);
+        CHECK(refusal.cause == rows[i].cause);
+        CHECK(is_range(refusal.other, rows[i].other.start, rows[i].other.end));
+        CHECK(refusal.cause == 0 || refusal.range.start == rows[i].request.start);
         CHECK(dvs_range_visit(space, see_range, &now) == DVS_OK);
         CHECK(dvs_range_visit(before, see_range, &then) == DVS_OK);
         CHECK(memcmp(&now, &then, sizeof now) == 0);

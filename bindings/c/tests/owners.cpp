@@ -70,6 +70,22 @@ static void allocate_in_windows() {
     CHECK(is_range(refusal.range, 9, 8) && is_range(refusal.other, 0, 0) && refusal.size == 0 &&
           refusal.id == 0);
     CHECK(space.allocate({1, 1, 0, 3, nullptr}, range) == dvs::code(DVS_INVALID_POLICY));
+    CHECK(dvs::cause_of(refusal) == dvs::cause::none);
+    CHECK(space.allocate(request::exact(2, 1, 0x1fdf), range, &refusal) ==
+          DVS_RESOURCE_NOT_AVAILABLE);
+    CHECK(dvs::cause_of(refusal) == dvs::cause::allocated);
+    CHECK(is_range(refusal.range, 0x1fdf, 0x1fe0) && is_range(refusal.other, 0x1fc0, 0x1fdf));
+    CHECK(space.allocate(request::exact(2, 1, 0x1100).within(low), range) == DVS_OK);
+    CHECK(space.move_range(range, 0x3fff, range, &refusal) == DVS_RESOURCE_NOT_AVAILABLE);
+    CHECK(dvs::cause_of(refusal) == dvs::cause::outside_space);
+    CHECK(space.allocate(request::exact(2, 1, 0x1fff).within(low), range, &refusal) ==
+          DVS_RESOURCE_NOT_AVAILABLE);
+    CHECK(dvs::cause_of(refusal) == dvs::cause::outside_window &&
+          is_range(refusal.other, 0x1000, 0x1fff));
+    std::vector<dvs_range> ranges;
+    CHECK(space.allocate_all({request::exact(2, 1, 0x1200), request::exact(2, 1, 0x1201)}, ranges,
+                             nullptr, &refusal) == DVS_RESOURCE_NOT_AVAILABLE);
+    CHECK(dvs::cause_of(refusal) == dvs::cause::earlier_request);
 }
 
 static void allocate_all_in_windows() {
