@@ -49,8 +49,8 @@
  * Cost. Let k be the number of allocated ranges. Allocating, moving and freeing
  * a range takes time of the order of log k, and so do dvs_range_is_held(),
  * dvs_range_at() and dvs_gap_at(). An alignment can make the search for a range
- * visit more gaps. A visit within a range takes time of the order of log k, plus
- * the number of allocated ranges and gaps that have an address in it.
+ * visit more gaps. A visit within a range or from an address takes time of the order
+ * of log k, plus the number of allocated ranges and gaps up to where it ends.
  *
  * Calls on one id or device take logarithmic time too, but dvs_id_allocate_exact()
  * and dvs_id_allocate_in() also add each id that they skip to the freed ones.
@@ -567,6 +567,48 @@ dvs_status dvs_gap_visit_in(const dvs_address_allocator *allocator, dvs_range wi
                             dvs_range_visitor *visitor, void *context, dvs_refusal *refusal);
 
 /*
+ * Visits the allocated ranges that have an address at or above `address`, like
+ * dvs_range_visit(). Each of them is passed whole. So the first one contains
+ * `address` or is the next one above it.
+ */
+dvs_status dvs_range_visit_from(const dvs_address_allocator *allocator, uint64_t address,
+                                dvs_range_visitor *visitor, void *context);
+
+/*
+ * Visits the allocated ranges that have an address at or below `address`, in
+ * descending order, like dvs_range_visit(). Each of them is passed whole. So the
+ * first one contains `address` or is the next one below it.
+ */
+dvs_status dvs_range_visit_back(const dvs_address_allocator *allocator, uint64_t address,
+                                dvs_range_visitor *visitor, void *context);
+
+/* Visits the gaps like dvs_range_visit_from() visits the allocated ranges. */
+dvs_status dvs_gap_visit_from(const dvs_address_allocator *allocator, uint64_t address,
+                              dvs_range_visitor *visitor, void *context);
+
+/* Visits the gaps like dvs_range_visit_back() visits the allocated ranges. */
+dvs_status dvs_gap_visit_back(const dvs_address_allocator *allocator, uint64_t address,
+                              dvs_range_visitor *visitor, void *context);
+
+/*
+ * Creates a copy of the allocator, with the same allocated ranges. Destroy it with
+ * dvs_address_allocator_destroy().
+ *
+ * Errors: DVS_OUT_OF_MEMORY.
+ */
+DVS_WARN_UNUSED
+dvs_status dvs_address_allocator_copy(const dvs_address_allocator *allocator,
+                                      dvs_address_allocator **copied);
+
+/*
+ * Writes to `are_equal` whether both allocators have the same space and the same
+ * allocated ranges. It does not allocate memory. Errors: DVS_NULL.
+ */
+DVS_WARN_UNUSED
+dvs_status dvs_address_allocator_equal(const dvs_address_allocator *one,
+                                       const dvs_address_allocator *other, bool *are_equal);
+
+/*
  * Saves the allocator as JSON. Writes the text to `text` and its length in
  * bytes, without the terminating zero, to `length`. Free the text with
  * dvs_text_destroy().
@@ -754,6 +796,18 @@ typedef int dvs_id_visitor(void *context, uint32_t id);
 /* Visits the allocated ids in ascending order, like dvs_range_visit() visits ranges. */
 dvs_status dvs_id_visit(const dvs_id_allocator *allocator, dvs_id_visitor *visitor, void *context);
 
+/* Creates a copy of the allocator, like dvs_address_allocator_copy(). */
+DVS_WARN_UNUSED
+dvs_status dvs_id_allocator_copy(const dvs_id_allocator *allocator, dvs_id_allocator **copied);
+
+/*
+ * Writes to `are_equal` whether both allocators have the same range of ids, the same
+ * allocated ids and the same freed ids. It does not allocate memory. Errors: DVS_NULL.
+ */
+DVS_WARN_UNUSED
+dvs_status dvs_id_allocator_equal(const dvs_id_allocator *one, const dvs_id_allocator *other,
+                                  bool *are_equal);
+
 /* Saves like dvs_address_allocator_save(). */
 DVS_WARN_UNUSED
 dvs_status dvs_id_allocator_save(const dvs_id_allocator *allocator, char **text, size_t *length);
@@ -876,6 +930,19 @@ typedef int dvs_device_visitor(void *context, dvs_device device);
 /* Visits the devices in ascending order of ids, like dvs_range_visit() visits ranges. */
 dvs_status dvs_device_visit(const dvs_device_manager *manager, dvs_device_visitor *visitor,
                             void *context);
+
+/* Creates a copy of the manager, like dvs_address_allocator_copy(). */
+DVS_WARN_UNUSED
+dvs_status dvs_device_manager_copy(const dvs_device_manager *manager, dvs_device_manager **copied);
+
+/*
+ * Writes to `are_equal` whether both managers have the same space, the same devices
+ * and ids that dvs_id_allocator_equal() finds equal. It does not allocate memory.
+ * Errors: DVS_NULL.
+ */
+DVS_WARN_UNUSED
+dvs_status dvs_device_manager_equal(const dvs_device_manager *one, const dvs_device_manager *other,
+                                    bool *are_equal);
 
 /* Saves like dvs_address_allocator_save(). */
 DVS_WARN_UNUSED

@@ -1,6 +1,6 @@
 //! The device manager: an id and a range for each device.
 
-use crate::handle::{create, visit, with_mut, with_mut_unit, with_ref, Handle};
+use crate::handle::{compare, copy, create, visit, with_mut, with_mut_unit, with_ref, Handle};
 use crate::ids::write_range;
 use crate::json::dvs_text_limits;
 use crate::proved::vm_allocator::{AllocPolicy, Constraint, Error};
@@ -216,6 +216,24 @@ pub extern "C" fn dvs_device_manager_ids(
 ) -> dvs_status {
     let written = write_range(manager, DeviceManager::ids, first, last);
     status_of(written, None)
+}
+
+#[unsafe(no_mangle)]
+pub extern "C" fn dvs_device_manager_copy(
+    manager: Option<&dvs_device_manager>,
+    copied: Out<*mut dvs_device_manager>,
+) -> dvs_status {
+    let made = copy(manager, copied, |manager| manager.try_clone(Global));
+    status_of(made, None)
+}
+
+#[unsafe(no_mangle)]
+pub extern "C" fn dvs_device_manager_equal(
+    one: Option<&dvs_device_manager>,
+    other: Option<&dvs_device_manager>,
+    are_equal: Out<bool>,
+) -> dvs_status {
+    status_of(compare(one, other, are_equal), None)
 }
 
 #[unsafe(no_mangle)]

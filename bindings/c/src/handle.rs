@@ -119,6 +119,27 @@ pub(crate) fn create<T>(
     Ok(())
 }
 
+/// Copies an object, and writes the pointer of the copy to `out`.
+pub(crate) fn copy<T>(
+    handle: Option<&Handle<T>>,
+    out: Out<*mut Handle<T>>,
+    copied: impl FnOnce(&T) -> Answer<T>,
+) -> Result<(), CallError> {
+    let (handle, out) = (non_null(handle)?, non_null(out)?);
+    create(Some(out), || copied(handle.get()))
+}
+
+/// Writes whether two objects are equal to `out`.
+pub(crate) fn compare<T: PartialEq>(
+    one: Option<&Handle<T>>,
+    other: Option<&Handle<T>>,
+    out: Out<bool>,
+) -> Result<(), CallError> {
+    let (one, other, out) = (non_null(one)?, non_null(other)?, non_null(out)?);
+    out.write(one.get() == other.get());
+    Ok(())
+}
+
 /// Writes the result of a call without an object to `out`.
 pub(crate) fn with_out<A>(
     out: Out<A>,

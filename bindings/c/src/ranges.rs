@@ -1,11 +1,11 @@
 //! The address allocator.
 
 use crate::handle::{
-    create, visit, visit_some, with_mut, with_mut_unit, with_out, with_ref, Handle,
+    compare, copy, create, visit, visit_some, with_mut, with_mut_unit, with_out, with_ref, Handle,
 };
 use crate::json::dvs_text_limits;
 use crate::proved::vm_allocator::{
-    AddressAllocator, AllocPolicy, Constraint, Error, RangeInclusive,
+    AddressAllocator, AllocPolicy, Constraint, Error, RangeInclusive, Result as Answer,
 };
 use crate::rattle::Global;
 use crate::requests::{dvs_request, refused, with_request};
@@ -261,18 +261,37 @@ pub extern "C" fn dvs_clear_count(
     status_of(asked, None)
 }
 
+/// Returns a visitor of ranges or gaps that calls the one that C passes.
+fn calling(
+    visitor: Option<dvs_range_visitor>,
+    context: *mut c_void,
+) -> Option<impl Fn(RangeInclusive) -> c_int> {
+    visitor.map(|visitor| move |range: RangeInclusive| visitor(context, range.into()))
+}
+
+/// Returns the part of the space that begins at `address`, or one address outside the space if there is
+/// none.
+fn at_or_above(space: &AddressAllocator, address: u64) -> Answer<RangeInclusive> {
+    RangeInclusive::new(space.base().max(address), space.end().max(address))
+}
+
+/// Returns the part of the space that ends at `address`, like [`at_or_above`].
+fn at_or_below(space: &AddressAllocator, address: u64) -> Answer<RangeInclusive> {
+    RangeInclusive::new(space.base().min(address), space.end().min(address))
+}
+
 #[unsafe(no_mangle)]
 pub extern "C" fn dvs_range_visit(
     allocator: Option<&dvs_address_allocator>,
     visitor: Option<dvs_range_visitor>,
     context: *mut c_void,
 ) -> dvs_status {
-    let visitor =
-        visitor.map(|visitor| move |range: RangeInclusive| visitor(context, range.into()));
-    status_of(
-        visit(allocator, AddressAllocator::held_ranges, visitor),
-        None,
-    )
+    let visited = visit(
+        allocator,
+        AddressAllocator::held_ranges,
+        calling(visitor, context),
+    );
+    status_of(visited, None)
 }
 
 #[unsafe(no_mangle)]
@@ -281,8 +300,8 @@ pub extern "C" fn dvs_gap_visit(
     visitor: Option<dvs_range_visitor>,
     context: *mut c_void,
 ) -> dvs_status {
-    let visitor = visitor.map(|visitor| move |gap: RangeInclusive| visitor(context, gap.into()));
-    status_of(visit(allocator, AddressAllocator::gaps, visitor), None)
+    let visited = visit(allocator, AddressAllocator::gaps, calling(visitor, context));
+    status_of(visited, None)
 }
 
 #[unsafe(no_mangle)]
@@ -293,12 +312,10 @@ pub extern "C" fn dvs_range_visit_in(
     context: *mut c_void,
     refusal: Out<dvs_refusal>,
 ) -> dvs_status {
-    let visitor =
-        visitor.map(|visitor| move |range: RangeInclusive| visitor(context, range.into()));
     let visited = visit_some(
         allocator,
-        |allocator| Ok(allocator.held_ranges_in(&within.try_into()?)),
-        visitor,
+        |space| Ok(space.held_ranges_in(&within.try_into()?)),
+        calling(visitor, context),
     );
     status_of(visited, refusal)
 }
@@ -311,13 +328,90 @@ pub extern "C" fn dvs_gap_visit_in(
     context: *mut c_void,
     refusal: Out<dvs_refusal>,
 ) -> dvs_status {
-    let visitor = visitor.map(|visitor| move |gap: RangeInclusive| visitor(context, gap.into()));
     let visited = visit_some(
         allocator,
-        |allocator| Ok(allocator.gaps_in(&within.try_into()?)),
-        visitor,
+        |space| Ok(space.gaps_in(&within.try_into()?)),
+        calling(visitor, context),
     );
     status_of(visited, refusal)
+}
+
+#[unsafe(no_mangle)]
+pub extern "C" fn dvs_range_visit_from(
+    allocator: Option<&dvs_address_allocator>,
+    address: u64,
+    visitor: Option<dvs_range_visitor>,
+    context: *mut c_void,
+) -> dvs_status {
+    let visited = visit_some(
+        allocator,
+        |space| Ok(space.held_ranges_in(&at_or_above(space, address)?)),
+        calling(visitor, context),
+    );
+    status_of(visited, None)
+}
+
+#[unsafe(no_mangle)]
+pub extern "C" fn dvs_range_visit_back(
+    allocator: Option<&dvs_address_allocator>,
+    address: u64,
+    visitor: Option<dvs_range_visitor>,
+    context: *mut c_void,
+) -> dvs_status {
+    let visited = visit_some(
+        allocator,
+        |space| Ok(space.held_ranges_in(&at_or_below(space, address)?).rev()),
+        calling(visitor, context),
+    );
+    status_of(visited, None)
+}
+
+#[unsafe(no_mangle)]
+pub extern "C" fn dvs_gap_visit_from(
+    allocator: Option<&dvs_address_allocator>,
+    address: u64,
+    visitor: Option<dvs_range_visitor>,
+    context: *mut c_void,
+) -> dvs_status {
+    let visited = visit_some(
+        allocator,
+        |space| Ok(space.gaps_in(&at_or_above(space, address)?)),
+        calling(visitor, context),
+    );
+    status_of(visited, None)
+}
+
+#[unsafe(no_mangle)]
+pub extern "C" fn dvs_gap_visit_back(
+    allocator: Option<&dvs_address_allocator>,
+    address: u64,
+    visitor: Option<dvs_range_visitor>,
+    context: *mut c_void,
+) -> dvs_status {
+    let visited = visit_some(
+        allocator,
+        |space| Ok(space.gaps_in(&at_or_below(space, address)?).rev()),
+        calling(visitor, context),
+    );
+    status_of(visited, None)
+}
+
+#[unsafe(no_mangle)]
+pub extern "C" fn dvs_address_allocator_copy(
+    allocator: Option<&dvs_address_allocator>,
+    copied: Out<*mut dvs_address_allocator>,
+) -> dvs_status {
+    let made = copy(allocator, copied, |allocator| allocator.try_clone(Global));
+    status_of(made, None)
+}
+
+#[unsafe(no_mangle)]
+pub extern "C" fn dvs_address_allocator_equal(
+    one: Option<&dvs_address_allocator>,
+    other: Option<&dvs_address_allocator>,
+    are_equal: Out<bool>,
+) -> dvs_status {
+    status_of(compare(one, other, are_equal), None)
 }
 
 #[unsafe(no_mangle)]

@@ -395,10 +395,32 @@ static dvs_status visit_gaps_in(const dvs_address_allocator *space, dvs_range_vi
     return dvs_gap_visit_in(space, range_of(0, 3), visitor, context, NULL);
 }
 
+static dvs_status visit_ranges_from(const dvs_address_allocator *space, dvs_range_visitor *visitor,
+                                    void *context) {
+    return dvs_range_visit_from(space, 0, visitor, context);
+}
+
+static dvs_status visit_ranges_back(const dvs_address_allocator *space, dvs_range_visitor *visitor,
+                                    void *context) {
+    return dvs_range_visit_back(space, 3, visitor, context);
+}
+
+static dvs_status visit_gaps_from(const dvs_address_allocator *space, dvs_range_visitor *visitor,
+                                  void *context) {
+    return dvs_gap_visit_from(space, 0, visitor, context);
+}
+
+static dvs_status visit_gaps_back(const dvs_address_allocator *space, dvs_range_visitor *visitor,
+                                  void *context) {
+    return dvs_gap_visit_back(space, 3, visitor, context);
+}
+
 /* Checks that no visitor can destroy its object, which has the same text after each visit. */
 static void destroy_in_visits(void) {
-    static space_visit *const visits[] = {dvs_range_visit, dvs_gap_visit, visit_ranges_in,
-                                          visit_gaps_in};
+    static space_visit *const visits[] = {
+        dvs_range_visit,   dvs_gap_visit,     visit_ranges_in, visit_gaps_in,
+        visit_ranges_from, visit_ranges_back, visit_gaps_from, visit_gaps_back,
+    };
     dvs_address_allocator *space;
     dvs_id_allocator *ids;
     dvs_device_manager *manager;
@@ -1056,6 +1078,67 @@ static void request_at_random(void) {
     dvs_address_allocator_destroy(space);
 }
 
+/* ---- Copies ---- */
+
+/* Compares two objects, and checks that each equals itself. */
+#define EQUAL(name, type)                                                                          \
+    static bool name(const type *one, const type *other) {                                         \
+        bool is_equal = false, are_equal = true;                                                   \
+                                                                                                   \
+        CHECK(type##_equal(one, one, &is_equal) == DVS_OK && is_equal);                            \
+        CHECK(type##_equal(other, other, &is_equal) == DVS_OK && is_equal);                        \
+        CHECK(type##_equal(one, other, &is_equal) == DVS_OK);                                      \
+        CHECK(type##_equal(other, one, &are_equal) == DVS_OK && is_equal == are_equal);            \
+        return are_equal;                                                                          \
+    }
+
+EQUAL(are_equal_spaces, dvs_address_allocator)
+EQUAL(are_equal_ids, dvs_id_allocator)
+EQUAL(are_equal_managers, dvs_device_manager)
+
+static void copy_objects(void) {
+    dvs_address_allocator *space, *other_space;
+    dvs_id_allocator *ids, *other_ids;
+    dvs_device_manager *manager, *other_manager;
+    dvs_range range;
+    dvs_device device;
+    uint32_t id;
+
+    CHECK(dvs_address_allocator_new(0, 16, &space) == DVS_OK);
+    CHECK(dvs_range_allocate_first(space, 4, 1, &range, NULL) == DVS_OK);
+    CHECK(dvs_address_allocator_copy(space, &other_space) == DVS_OK);
+    CHECK(are_equal_spaces(space, other_space));
+    CHECK(dvs_range_free(other_space, range, NULL) == DVS_OK);
+    CHECK(!are_equal_spaces(space, other_space));
+    CHECK(dvs_range_free(space, range, NULL) == DVS_OK && are_equal_spaces(space, other_space));
+    CHECK(dvs_address_allocator_destroy(space) == DVS_OK);
+    CHECK(dvs_address_allocator_new(0, 17, &space) == DVS_OK);
+    CHECK(!are_equal_spaces(space, other_space));
+    CHECK(dvs_id_allocator_new(5, 9, &ids, NULL) == DVS_OK);
+    CHECK(dvs_id_allocate_exact(ids, 7, NULL) == DVS_OK);
+    CHECK(dvs_id_allocator_copy(ids, &other_ids) == DVS_OK && are_equal_ids(ids, other_ids));
+    CHECK(dvs_id_allocate(other_ids, &id) == DVS_OK && id == 5 && !are_equal_ids(ids, other_ids));
+    CHECK(dvs_id_free(other_ids, 5, NULL) == DVS_OK && are_equal_ids(ids, other_ids));
+    /* The id 8 is freed in one, and was never allocated in the other. */
+    CHECK(dvs_id_allocate_exact(ids, 8, NULL) == DVS_OK && dvs_id_free(ids, 8, NULL) == DVS_OK);
+    CHECK(!are_equal_ids(ids, other_ids));
+    CHECK(dvs_device_manager_new(5, 9, 0, 16, &manager, NULL) == DVS_OK);
+    CHECK(dvs_device_reserve_last(manager, 4, 1, &device, NULL) == DVS_OK);
+    CHECK(dvs_device_manager_copy(manager, &other_manager) == DVS_OK);
+    CHECK(are_equal_managers(manager, other_manager));
+    CHECK(dvs_device_at(other_manager, 12, &device) == DVS_OK && device.id == 5);
+    CHECK(dvs_device_release(other_manager, 5, NULL) == DVS_OK);
+    CHECK(!are_equal_managers(manager, other_manager));
+    CHECK(dvs_device_reserve_first(other_manager, 4, 1, &device, NULL) == DVS_OK);
+    CHECK(device.id == 5 && !are_equal_managers(manager, other_manager));
+    dvs_address_allocator_destroy(space);
+    dvs_address_allocator_destroy(other_space);
+    dvs_id_allocator_destroy(ids);
+    dvs_id_allocator_destroy(other_ids);
+    dvs_device_manager_destroy(manager);
+    dvs_device_manager_destroy(other_manager);
+}
+
 /* ---- Texts ---- */
 
 static const char SPACE[] =
@@ -1264,6 +1347,19 @@ static void give_null_spaces(void) {
     IS_NULL(dvs_range_count(space, NULL));
     IS_NULL(dvs_range_visit(NULL, visit_range, NULL));
     IS_NULL(dvs_range_visit(space, NULL, NULL));
+    IS_NULL(dvs_address_allocator_copy(NULL, &space));
+    IS_NULL(dvs_address_allocator_copy(space, NULL));
+    IS_NULL(dvs_address_allocator_equal(NULL, space, &is_held));
+    IS_NULL(dvs_address_allocator_equal(space, NULL, &is_held));
+    IS_NULL(dvs_address_allocator_equal(space, space, NULL));
+    IS_NULL(dvs_range_visit_from(NULL, 0, visit_range, NULL));
+    IS_NULL(dvs_range_visit_from(space, 0, NULL, NULL));
+    IS_NULL(dvs_range_visit_back(NULL, 0, visit_range, NULL));
+    IS_NULL(dvs_range_visit_back(space, 0, NULL, NULL));
+    IS_NULL(dvs_gap_visit_from(NULL, 0, visit_range, NULL));
+    IS_NULL(dvs_gap_visit_from(space, 0, NULL, NULL));
+    IS_NULL(dvs_gap_visit_back(NULL, 0, visit_range, NULL));
+    IS_NULL(dvs_gap_visit_back(space, 0, NULL, NULL));
     IS_NULL(dvs_address_allocator_save(NULL, &text, &length));
     IS_NULL(dvs_address_allocator_save(space, NULL, &length));
     IS_NULL(dvs_address_allocator_save(space, &text, NULL));
@@ -1308,6 +1404,11 @@ static void give_null_ids(void) {
     IS_NULL(dvs_ids_allocate(ids, NULL, 1));
     IS_NULL(dvs_id_allocator_with_held(1, 0, NULL, 1, &ids, NULL));
     IS_NULL(dvs_id_allocator_with_held(1, 0, NULL, 0, NULL, NULL));
+    IS_NULL(dvs_id_allocator_copy(NULL, &ids));
+    IS_NULL(dvs_id_allocator_copy(ids, NULL));
+    IS_NULL(dvs_id_allocator_equal(NULL, ids, &is_held));
+    IS_NULL(dvs_id_allocator_equal(ids, NULL, &is_held));
+    IS_NULL(dvs_id_allocator_equal(ids, ids, NULL));
     IS_NULL(dvs_id_allocator_save(NULL, &text, &length));
     IS_NULL(dvs_id_allocator_save(ids, NULL, &length));
     IS_NULL(dvs_id_allocator_save(ids, &text, NULL));
@@ -1321,6 +1422,7 @@ static void give_null_ids(void) {
 
 static void give_null_managers(void) {
     dvs_device_manager *manager;
+    bool are_equal;
     dvs_device device;
     dvs_range range;
     size_t length;
@@ -1343,6 +1445,11 @@ static void give_null_managers(void) {
     IS_NULL(dvs_device_release(NULL, 0, NULL));
     IS_NULL(dvs_device_range(NULL, 0, &range, NULL));
     IS_NULL(dvs_device_range(manager, 0, NULL, NULL));
+    IS_NULL(dvs_device_manager_copy(NULL, &manager));
+    IS_NULL(dvs_device_manager_copy(manager, NULL));
+    IS_NULL(dvs_device_manager_equal(NULL, manager, &are_equal));
+    IS_NULL(dvs_device_manager_equal(manager, NULL, &are_equal));
+    IS_NULL(dvs_device_manager_equal(manager, manager, NULL));
     IS_NULL(dvs_device_manager_save(NULL, &text, &length));
     IS_NULL(dvs_device_manager_save(manager, NULL, &length));
     IS_NULL(dvs_device_manager_save(manager, &text, NULL));
@@ -1427,6 +1534,7 @@ int main(void) {
     reserve_many_devices(0x7fffff80);
     request_in_windows();
     request_at_random();
+    copy_objects();
     save_spaces();
     save_ids();
     save_devices();

@@ -205,6 +205,56 @@ static void visit_within(void) {
     dvs_address_allocator_destroy(space);
 }
 
+typedef dvs_status visit_all(const dvs_address_allocator *space, dvs_range_visitor *visitor,
+                             void *context);
+typedef dvs_status visit_at(const dvs_address_allocator *space, uint64_t address,
+                            dvs_range_visitor *visitor, void *context);
+
+/* Compares the visits from an address, up and down, with a visit of all ranges or gaps. */
+static void visit_from(const dvs_address_allocator *space, uint64_t address, visit_all *all,
+                       visit_at *up, visit_at *down) {
+    struct seen every = all_of(), above = all_of(), below = all_of(), next = all_of();
+    size_t i, ups = 0, downs = 0;
+
+    CHECK(all(space, see_range, &every) == DVS_OK);
+    CHECK(up(space, address, see_range, &above) == DVS_OK);
+    CHECK(down(space, address, see_range, &below) == DVS_OK);
+    for (i = 0; i < every.count; i++) {
+        dvs_range low = every.ranges[i], high = every.ranges[every.count - 1 - i];
+
+        if (low.end >= address)
+            CHECK(is_range(above.ranges[ups++], low.start, low.end));
+        if (high.start <= address)
+            CHECK(is_range(below.ranges[downs++], high.start, high.end));
+    }
+    CHECK(above.count == ups && below.count == downs);
+    next.stop_at = 1;
+    CHECK(up(space, address, see_range, &next) == DVS_OK && next.count == (ups > 0));
+}
+
+/* Visits from the ends of each range, from the addresses next to them, and from the ends of all. */
+static void visit_from_addresses(void) {
+    static const dvs_range held[] = {{2, 4}, {5, 9}, {20, UINT64_MAX - 9}};
+    static const uint64_t bases[] = {0, 2, 1},
+                          lasts[] = {UINT64_MAX - 1, UINT64_MAX, UINT64_MAX - 9};
+    uint64_t addresses[] = {0, 1, 2, 3, 4, 5, 9, 10, 19, 20, 21, 0, 0, 0, 0, 0};
+    dvs_address_allocator *space;
+    size_t i, j;
+
+    for (j = 0; j < 5; j++)
+        addresses[11 + j] = UINT64_MAX - (j < 3 ? j : 5 + j);
+    for (i = 0; i < 3; i++) {
+        CHECK(dvs_address_allocator_with_held(bases[i], lasts[i] - bases[i] + 1, held, 3, &space,
+                                              NULL, NULL) == DVS_OK);
+        for (j = 0; j < sizeof addresses / sizeof addresses[0]; j++) {
+            visit_from(space, addresses[j], dvs_range_visit, dvs_range_visit_from,
+                       dvs_range_visit_back);
+            visit_from(space, addresses[j], dvs_gap_visit, dvs_gap_visit_from, dvs_gap_visit_back);
+        }
+        dvs_address_allocator_destroy(space);
+    }
+}
+
 /* ---- Several requests ---- */
 
 static void allocate_all(void) {
@@ -456,6 +506,7 @@ int main(void) {
     look_up_ranges();
     visit_gaps();
     visit_within();
+    visit_from_addresses();
     allocate_all();
     allocate_in_windows();
     allocate_none();

@@ -163,6 +163,27 @@ static void save() {
     CHECK(moved && !space);
 }
 
+static void copy() {
+    dvs::address_allocator space, other;
+    dvs::id_allocator ids, other_ids;
+    dvs::device_manager devices, other_devices;
+    std::vector<dvs_range> seen;
+    auto see_first = [&seen](dvs_range range) { return seen.push_back(range), false; };
+
+    CHECK(space == other && other.make_copy(space) == DVS_NULL);
+    CHECK(!space.make_with_held(0, 16, {range_of(1, 2), range_of(4, 4)}) && space != other);
+    CHECK(!other.make_copy(space) && space == other && !other.free({4, 4}) && space != other);
+    CHECK(!space.make_copy(space) && space.ranges().size() == 2);
+    CHECK(!ids.make(5, 9) && !other_ids.make_copy(ids) && ids == other_ids);
+    CHECK(!ids.allocate_exact(7) && ids != other_ids);
+    CHECK(!devices.make(5, 9, 0, 16) && !other_devices.make_copy(devices));
+    CHECK(devices == other_devices && !other_devices.make(5, 9, 0, 17) && devices != other_devices);
+    CHECK(!space.for_each_from(3, see_first) && !space.for_each_back(3, see_first));
+    CHECK(!space.for_each_gap_from(4, see_first) && !space.for_each_gap_back(2, see_first));
+    CHECK(seen.size() == 4 && is_range(seen[0], 4, 4) && is_range(seen[1], 1, 2));
+    CHECK(is_range(seen[2], 5, 15) && is_range(seen[3], 0, 0));
+}
+
 static void compare_errors() {
     dvs::address_allocator space;
     dvs::error failure = space.make(UINT64_MAX, 2);
@@ -254,6 +275,7 @@ int main() {
     allocate();
     allocate_in_windows();
     allocate_all_in_windows();
+    copy();
     compare_errors();
     ask();
     reserve_in_windows();
