@@ -1,6 +1,8 @@
 /* Checks the calls that list, look up and count, and the calls with arrays. */
 #include "check.h"
 
+#include <limits.h>
+
 enum { MOST = 8 };
 
 /* The arguments of the visitor's calls. */
@@ -255,6 +257,60 @@ static void visit_from_addresses(void) {
     }
 }
 
+/* ---- The order and the end of a visit ---- */
+
+/* Nests more visits than a byte can count. The allocator stays busy until all of them end. */
+enum { MANY = 300 };
+
+struct deep {
+    dvs_address_allocator *space;
+    int visits;
+};
+
+static int visit_deeper(void *context, dvs_range range) {
+    struct deep *deep = (struct deep *)context;
+
+    if (++deep->visits < MANY)
+        CHECK(dvs_range_visit(deep->space, visit_deeper, deep) == DVS_OK);
+    CHECK(dvs_range_free(deep->space, range, NULL) == DVS_BUSY);
+    return 1;
+}
+
+/* Counts the calls of the visitor, and returns the number that it must return. */
+static int end_visit(void *context, dvs_range range) {
+    int *numbers = (int *)context;
+
+    (void)range;
+    numbers[1]++;
+    return numbers[0];
+}
+
+/* Any number but 0 ends a visit. */
+static void end_visits(void) {
+    static const int ends[] = {0, 1, -1, 256, 65536, INT_MAX, INT_MIN};
+    struct deep deep = {NULL, 0};
+    struct seen seen = all_of();
+    size_t i;
+
+    CHECK(dvs_address_allocator_new(0, 100, &deep.space) == DVS_OK);
+    CHECK(dvs_range_visit(deep.space, see_range, &seen) == DVS_OK && seen.count == 0);
+    for (i = 0; i < MOST; i++)
+        CHECK(dvs_range_allocate_exact(deep.space, 1, 1, 2 * i, &seen.ranges[i], NULL) == DVS_OK);
+    CHECK(dvs_range_visit(deep.space, see_range, &seen) == DVS_OK && seen.count == MOST);
+    for (i = 0; i < MOST; i++)
+        CHECK(is_range(seen.ranges[i], 2 * i, 2 * i));
+    for (i = 0; i < sizeof ends / sizeof ends[0]; i++) {
+        int numbers[2] = {0, 0};
+
+        numbers[0] = ends[i];
+        CHECK(dvs_range_visit(deep.space, end_visit, numbers) == DVS_OK);
+        CHECK(numbers[1] == (ends[i] == 0 ? MOST : 1));
+    }
+    CHECK(dvs_range_visit(deep.space, visit_deeper, &deep) == DVS_OK && deep.visits == MANY);
+    CHECK(dvs_range_free(deep.space, seen.ranges[0], NULL) == DVS_OK);
+    dvs_address_allocator_destroy(deep.space);
+}
+
 /* ---- Several requests ---- */
 
 static void allocate_all(void) {
@@ -384,14 +440,6 @@ static void allocate_none(void) {
 
 /* ---- Ids and devices ---- */
 
-static int change_ids(void *context, uint32_t id) {
-    dvs_id_allocator *ids = (dvs_id_allocator *)context;
-    uint32_t next;
-
-    CHECK(dvs_id_free(ids, id, NULL) == DVS_BUSY && dvs_id_allocate(ids, &next) == DVS_BUSY);
-    return 1;
-}
-
 static void visit_ids(void) {
     dvs_id_allocator *ids;
     struct seen seen = all_of();
@@ -408,17 +456,30 @@ static void visit_ids(void) {
     CHECK(dvs_id_visit(ids, see_id, &seen) == DVS_OK && seen.count == 3);
     CHECK(seen.ids[0] == UINT32_MAX - 3 && seen.ids[1] == UINT32_MAX - 2 &&
           seen.ids[2] == UINT32_MAX);
-    CHECK(dvs_id_visit(ids, change_ids, ids) == DVS_OK);
     dvs_id_allocator_destroy(ids);
 }
 
-static int change_devices(void *context, dvs_device device) {
-    dvs_device_manager *manager = (dvs_device_manager *)context;
-    dvs_request request = request_of(0, 0, DVS_EXACT + 1, 0);
+static void allocate_several_ids(void) {
+    const uint32_t held[2] = {6, 9};
+    uint32_t several[4] = {0, 0, 0, 0};
+    dvs_id_allocator *ids;
+    struct seen seen = all_of();
+    uint64_t count;
 
-    CHECK(dvs_device_reserve(manager, &request, &device, NULL) == DVS_BUSY);
-    CHECK(dvs_device_release(manager, device.id, NULL) == DVS_BUSY);
-    return 1;
+    CHECK(dvs_id_allocator_with_held(5, 12, held, 2, &ids, NULL) == DVS_OK);
+    CHECK(dvs_ids_allocate(ids, several, 7) == DVS_RESOURCE_NOT_AVAILABLE);
+    CHECK(several[0] == 0);
+    CHECK(dvs_ids_allocate(ids, NULL, 0) == DVS_OK);
+    CHECK(dvs_ids_allocate(ids, several, 4) == DVS_OK);
+    CHECK(several[0] == 5 && several[1] == 7 && several[2] == 8 && several[3] == 10);
+    CHECK(dvs_id_free_count(ids, &count) == DVS_OK && count == 2);
+    CHECK(dvs_id_visit(ids, see_id, &seen) == DVS_OK && seen.count == 6 && seen.ids[5] == 10);
+    dvs_id_allocator_destroy(ids);
+    CHECK(dvs_id_allocator_with_held(UINT32_MAX, UINT32_MAX, NULL, 0, &ids, NULL) == DVS_OK);
+    CHECK(dvs_ids_allocate(ids, several, 2) == DVS_OVERFLOW && several[0] == 5);
+    CHECK(dvs_ids_allocate(ids, several, 1) == DVS_OK && several[0] == UINT32_MAX);
+    CHECK(dvs_ids_allocate(ids, several, SIZE_MAX) == DVS_OVERFLOW && several[1] == 7);
+    dvs_id_allocator_destroy(ids);
 }
 
 static void look_up_devices(void) {
@@ -445,58 +506,6 @@ static void look_up_devices(void) {
     CHECK(dvs_device_at(manager, 0x1f00, &device) == DVS_OK && device.id == 5);
     CHECK(dvs_device_at(manager, 0x1000, &device) == DVS_RESOURCE_NOT_AVAILABLE && device.id == 5);
     CHECK(dvs_device_at(manager, UINT64_MAX, &device) == DVS_RESOURCE_NOT_AVAILABLE);
-    CHECK(dvs_device_visit(manager, change_devices, manager) == DVS_OK);
-    dvs_device_manager_destroy(manager);
-}
-
-/* ---- Null pointers ---- */
-
-static void give_null(void) {
-    dvs_address_allocator *space = two_held();
-    dvs_id_allocator *ids;
-    dvs_device_manager *manager;
-    dvs_range range;
-    dvs_request request = request_of(1, 1, DVS_FIRST, 0);
-    dvs_device device;
-    uint64_t number;
-    uint32_t id;
-
-    CHECK(dvs_id_allocator_new(1, 2, &ids, NULL) == DVS_OK);
-    CHECK(dvs_device_manager_new(1, 2, 3, 4, &manager, NULL) == DVS_OK);
-    CHECK(dvs_address_allocator_with_held(0, 4, NULL, 1, &space, NULL, NULL) == DVS_NULL);
-    CHECK(dvs_address_allocator_with_held(0, 0, NULL, 0, NULL, NULL, NULL) == DVS_NULL);
-    CHECK(dvs_address_allocator_allocate_all(NULL, &request, 1, &range, NULL, NULL) == DVS_NULL);
-    CHECK(dvs_address_allocator_allocate_all(space, NULL, 1, &range, NULL, NULL) == DVS_NULL);
-    CHECK(dvs_address_allocator_allocate_all(space, &request, 1, NULL, NULL, NULL) == DVS_NULL);
-    CHECK(dvs_range_at(NULL, 0, &range) == DVS_NULL && dvs_range_at(space, 0, NULL) == DVS_NULL);
-    CHECK(dvs_longest_gap(NULL, &number) == DVS_NULL && dvs_longest_gap(space, NULL) == DVS_NULL);
-    CHECK(dvs_clear_count(NULL, &number) == DVS_NULL && dvs_clear_count(space, NULL) == DVS_NULL);
-    CHECK(dvs_gap_at(NULL, 0, &range) == DVS_NULL && dvs_gap_at(space, 0, NULL) == DVS_NULL);
-    range = range_of(5, 4);
-    CHECK(dvs_range_visit_in(NULL, range, see_range, NULL, NULL) == DVS_NULL);
-    CHECK(dvs_range_visit_in(space, range, NULL, NULL, NULL) == DVS_NULL);
-    CHECK(dvs_gap_visit_in(NULL, range, see_range, NULL, NULL) == DVS_NULL);
-    CHECK(dvs_gap_visit_in(space, range, NULL, NULL, NULL) == DVS_NULL);
-    CHECK(dvs_gap_visit(NULL, see_range, NULL) == DVS_NULL);
-    CHECK(dvs_gap_visit(space, NULL, NULL) == DVS_NULL);
-    CHECK(dvs_id_visit(NULL, see_id, NULL) == DVS_NULL &&
-          dvs_id_visit(ids, NULL, NULL) == DVS_NULL);
-    CHECK(dvs_id_allocator_range(NULL, &id, &id) == DVS_NULL);
-    CHECK(dvs_id_allocator_range(ids, NULL, &id) == DVS_NULL);
-    CHECK(dvs_id_allocator_range(ids, &id, NULL) == DVS_NULL);
-    CHECK(dvs_device_visit(NULL, see_device, NULL) == DVS_NULL);
-    CHECK(dvs_device_visit(manager, NULL, NULL) == DVS_NULL);
-    CHECK(dvs_device_manager_space(NULL, &range) == DVS_NULL);
-    CHECK(dvs_device_manager_space(manager, NULL) == DVS_NULL);
-    CHECK(dvs_device_manager_ids(NULL, &id, &id) == DVS_NULL);
-    CHECK(dvs_device_manager_ids(manager, NULL, &id) == DVS_NULL);
-    CHECK(dvs_device_manager_ids(manager, &id, NULL) == DVS_NULL);
-    CHECK(dvs_device_count(NULL, &number) == DVS_NULL);
-    CHECK(dvs_device_count(manager, NULL) == DVS_NULL);
-    CHECK(dvs_device_at(NULL, 0, &device) == DVS_NULL);
-    CHECK(dvs_device_at(manager, 0, NULL) == DVS_NULL);
-    dvs_address_allocator_destroy(space);
-    dvs_id_allocator_destroy(ids);
     dvs_device_manager_destroy(manager);
 }
 
@@ -507,12 +516,13 @@ int main(void) {
     visit_gaps();
     visit_within();
     visit_from_addresses();
+    end_visits();
     allocate_all();
     allocate_in_windows();
     allocate_none();
     visit_ids();
+    allocate_several_ids();
     look_up_devices();
-    give_null();
     CHECK(dvs_version_number() == DVS_VERSION_NUMBER);
     puts("enumerate: every list, look-up and array checked");
     return 0;
