@@ -15,13 +15,17 @@
  * Units. Addresses, sizes and alignments are in addresses of the space: bytes
  * of memory, or ports for PIO. A range includes its start and its end.
  *
- * Errors. Each call that can fail returns a status. It writes its results
- * through its last pointers, and only if it returns DVS_OK. An error leaves the
- * results and the object unchanged. The pointers `failed`, `refusal` and `fault`
- * come after the results: `refusal` and `fault` are written only on an error, and
- * `failed` always. Two errors come first in every call: DVS_NULL if a pointer is
- * null that must not be, and DVS_BUSY (see dvs_range_visit()). The comment of a
- * call lists the other errors in the order in which they are checked.
+ * Errors. Each call that can fail returns a status. An error leaves the results
+ * and the object unchanged. Two errors come first in every call: DVS_NULL if a
+ * pointer is null that must not be, and DVS_BUSY (see dvs_range_visit()). The
+ * comment of a call lists the other errors in the order in which they are checked.
+ *
+ * Results. A call writes its results through its last pointers if it returns
+ * DVS_OK. Some calls have more pointers after these, which can be null:
+ * - `refusal` and `fault` receive the details of an error. An error writes all
+ *   members, with 0 or NULL for those without a meaning. DVS_OK writes none.
+ * - `failed` receives the index of the member of an array that has the error. If no
+ *   member has one, also with DVS_OK, it receives the length of the array.
  *
  * Ownership. You own an object from the call that creates it until the call
  * that destroys it. You own a saved text until dvs_text_destroy(), and free()
@@ -155,11 +159,7 @@ typedef struct dvs_range {
     uint64_t end;
 } dvs_range;
 
-/*
- * Details of an error. A call that returns an error writes all members of the
- * dvs_refusal that it was given, with 0 for those without a meaning. A call that
- * returns DVS_OK writes none. The pointer can be null.
- */
+/* Details of an error. The other members are 0. */
 typedef struct dvs_refusal {
     /*
      * DVS_INVALID_RANGE, DVS_OVERLAP: the range. DVS_INVALID_STATE_TRANSITION: the
@@ -173,17 +173,16 @@ typedef struct dvs_refusal {
     uint64_t size;
     /* DVS_OUT_OF_RANGE, DVS_ALREADY_RELEASED, DVS_NEVER_ALLOCATED: the id. */
     uint32_t id;
-    /* DVS_RESOURCE_NOT_AVAILABLE: why the range at a start that the caller gives is not available.
-     */
+    /* DVS_RESOURCE_NOT_AVAILABLE: why the range at a given start is not available. */
     uint32_t cause;
 } dvs_refusal;
 
 /*
- * The causes. The first of these that is true is told: outside the window, outside
- * the space, allocated, an earlier request.
+ * The causes. The first one that applies is told, in this order: outside the window,
+ * outside the space, allocated, an earlier request.
  */
 enum {
-    /* Any other error, or no start was given, or no id is free. */
+    /* Another error, no given start, no free id, or the range to move is not allocated. */
     DVS_CAUSE_NONE = 0,
     /* An address is allocated. `other` is the lowest allocated range that has one. */
     DVS_CAUSE_ALLOCATED = 1,
@@ -239,11 +238,7 @@ typedef struct dvs_text_limits {
     uint32_t depth;
 } dvs_text_limits;
 
-/*
- * The reason why a text was not read. A call that returns an error writes all
- * members of the dvs_text_fault that it was given. A call that returns DVS_OK
- * writes none. The pointer can be null.
- */
+/* Why a text was not read. */
 typedef struct dvs_text_fault {
     /* The number of bytes before the place of the fault. */
     size_t offset;
@@ -299,9 +294,6 @@ dvs_status dvs_address_allocator_new(uint64_t base, uint64_t size,
  * Creates an allocator like dvs_address_allocator_new(), in which the `count`
  * ranges of `held` are allocated. They must be in ascending order. `held` can be
  * null if `count` is 0.
- *
- * On an error of a range, its index is written to `failed`, which can be null.
- * Otherwise `count` is written to it.
  *
  * Errors, in order:
  * - DVS_INVALID_RANGE, with the first range that is not a valid range.
@@ -432,9 +424,6 @@ dvs_status dvs_range_allocate(dvs_address_allocator *allocator, const dvs_reques
  * them to the array `ranges` of `count` members. It allocates all of them or
  * none. Each range is the one that dvs_range_allocate() would allocate after the
  * requests before it. Each request can have a different window.
- *
- * On an error of a request, its index is written to `failed`, which can be null.
- * Otherwise `count` is written to it.
  *
  * Errors, in order:
  * - For the first request that is invalid for every allocator:
@@ -638,8 +627,7 @@ dvs_status dvs_address_allocator_read(const char *text, size_t length,
                                       dvs_address_allocator **allocator);
 
 /*
- * Reads like dvs_address_allocator_read(), within `limits`, and writes to `fault`
- * why a text was not read. Both pointers can be null.
+ * Reads like dvs_address_allocator_read(), within `limits`, which can be null.
  *
  * Errors: DVS_LIMIT_EXCEEDED if the text is longer than the limit. Otherwise
  * those of dvs_address_allocator_read(), with DVS_LIMIT_EXCEEDED instead of

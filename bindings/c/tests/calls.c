@@ -12,6 +12,7 @@ static const uint64_t bad[4] = {3, 0, 1, 0};
  * none. */
 static void refuse(int call, void *object, dvs_status expected) {
     static const dvs_refusal none = {{0, 0}, {0, 0}, 0, 0, 0};
+    const bool has_fault = SPACE_WITHIN <= call && call <= MANAGER_WITHIN;
     dvs_status status;
 
     prepare();
@@ -22,6 +23,9 @@ static void refuse(int call, void *object, dvs_status expected) {
         fprintf(stderr, "call %d: status %d\n", call, (int)status);
     CHECK(noted(status) == expected && is_untouched(&results, sizeof results));
     CHECK(is_untouched(&refusal, sizeof refusal) || memcmp(&refusal, &none, sizeof none) == 0);
+    CHECK(is_untouched(&fault.offset, sizeof fault.offset) == !has_fault);
+    CHECK(is_untouched(&fault.reason, sizeof fault.reason) == !has_fault);
+    CHECK(is_untouched(&fault.field, sizeof fault.field) == !has_fault);
 }
 
 /* ---- The calls that each group has ---- */
