@@ -15,13 +15,17 @@
  * Units. Addresses, sizes and alignments are in addresses of the space: bytes
  * of memory, or ports for PIO. A range includes its start and its end.
  *
- * Errors. Each call that can fail returns a status. It writes its results
- * through its last pointers, and only if it returns DVS_OK. An error leaves the
- * results and the object unchanged. The pointers `failed`, `refusal` and `fault`
- * come after the results: `refusal` and `fault` are written only on an error, and
- * `failed` always. Two errors come first in every call: DVS_NULL if a pointer is
- * null that must not be, and DVS_BUSY (see dvs_range_visit()). The comment of a
- * call lists the other errors in the order in which they are checked.
+ * Errors. Each call that can fail returns a status. An error leaves the results
+ * and the object unchanged. Two errors come first in every call: DVS_NULL if a
+ * pointer is null that must not be, and DVS_BUSY (see dvs_range_visit()). The
+ * comment of a call lists the other errors in the order in which they are checked.
+ *
+ * Results. A call writes its results through its last pointers if it returns
+ * DVS_OK. Some calls have more pointers after these, which can be null:
+ * - `refusal` and `fault` receive the details of an error. An error writes all
+ *   members, with 0 or NULL for those without a meaning. DVS_OK writes none.
+ * - `failed` receives the index of the member of an array that has the error. If no
+ *   member has one, also with DVS_OK, it receives the length of the array.
  *
  * Ownership. You own an object from the call that creates it until the call
  * that destroys it. You own a saved text until dvs_text_destroy(), and free()
@@ -49,8 +53,8 @@
  * Cost. Let k be the number of allocated ranges. Allocating, moving and freeing
  * a range takes time of the order of log k, and so do dvs_range_is_held(),
  * dvs_range_at() and dvs_gap_at(). An alignment can make the search for a range
- * visit more gaps. A visit within a range takes time of the order of log k, plus
- * the number of allocated ranges and gaps that have an address in it.
+ * visit more gaps. A visit within a range or from an address takes time of the order
+ * of log k, plus the number of allocated ranges and gaps up to where it ends.
  *
  * Calls on one id or device take logarithmic time too, but dvs_id_allocate_exact()
  * and dvs_id_allocate_in() also add each id that they skip to the freed ones.
@@ -155,22 +159,40 @@ typedef struct dvs_range {
     uint64_t end;
 } dvs_range;
 
-/*
- * Details of an error. A call that returns an error writes all members of the
- * dvs_refusal that it was given, with 0 for those without a meaning. A call that
- * returns DVS_OK writes none. The pointer can be null.
- */
+/* Details of an error. The other members are 0. */
 typedef struct dvs_refusal {
-    /* DVS_INVALID_RANGE, DVS_OVERLAP: the range. DVS_INVALID_STATE_TRANSITION: the allocated range.
+    /*
+     * DVS_INVALID_RANGE, DVS_OVERLAP: the range. DVS_INVALID_STATE_TRANSITION: the
+     * allocated range. With a cause: the requested range, or 0 to 0 if it would end
+     * past UINT64_MAX.
      */
     dvs_range range;
-    /* DVS_OVERLAP: the existing range. */
+    /* DVS_OVERLAP: the existing range. With a cause: the range that the cause names. */
     dvs_range other;
     /* DVS_INVALID_SIZE: the size. */
     uint64_t size;
     /* DVS_OUT_OF_RANGE, DVS_ALREADY_RELEASED, DVS_NEVER_ALLOCATED: the id. */
     uint32_t id;
+    /* DVS_RESOURCE_NOT_AVAILABLE: why the range at a given start is not available. */
+    uint32_t cause;
 } dvs_refusal;
+
+/*
+ * The causes. The first one that applies is told, in this order: outside the window,
+ * outside the space, allocated, an earlier request.
+ */
+enum {
+    /* Another error, no given start, no free id, or the range to move is not allocated. */
+    DVS_CAUSE_NONE = 0,
+    /* An address is allocated. `other` is the lowest allocated range that has one. */
+    DVS_CAUSE_ALLOCATED = 1,
+    /* An address is outside the space. `other` is the space. */
+    DVS_CAUSE_OUTSIDE_SPACE = 2,
+    /* An address is outside the window of the request. `other` is the window. */
+    DVS_CAUSE_OUTSIDE_WINDOW = 3,
+    /* An address is in the range of an earlier request of the same call. `other` is 0 to 0. */
+    DVS_CAUSE_EARLIER_REQUEST = 4
+};
 
 /* The resources of a device. */
 typedef struct dvs_device {
@@ -216,11 +238,7 @@ typedef struct dvs_text_limits {
     uint32_t depth;
 } dvs_text_limits;
 
-/*
- * The reason why a text was not read. A call that returns an error writes all
- * members of the dvs_text_fault that it was given. A call that returns DVS_OK
- * writes none. The pointer can be null.
- */
+/* Why a text was not read. */
 typedef struct dvs_text_fault {
     /* The number of bytes before the place of the fault. */
     size_t offset;
@@ -277,9 +295,6 @@ dvs_status dvs_address_allocator_new(uint64_t base, uint64_t size,
  * ranges of `held` are allocated. They must be in ascending order. `held` can be
  * null if `count` is 0.
  *
- * On an error of a range, its index is written to `failed`, which can be null.
- * Otherwise `count` is written to it.
- *
  * Errors, in order:
  * - DVS_INVALID_RANGE, with the first range that is not a valid range.
  * - DVS_OUT_OF_MEMORY if memory for a copy of the list runs out.
@@ -301,9 +316,12 @@ dvs_status dvs_address_allocator_with_held(uint64_t base, uint64_t size, const d
 
 /*
  * Destroys an allocator, with all its allocated ranges. It does nothing if the
- * pointer is null or during a visit of the allocator.
+ * pointer is null. Only a call by a visitor can fail, so others need not check the
+ * status.
+ *
+ * Errors: DVS_BUSY during a visit of the allocator, which then still exists.
  */
-void dvs_address_allocator_destroy(dvs_address_allocator *allocator);
+dvs_status dvs_address_allocator_destroy(dvs_address_allocator *allocator);
 
 /*
  * Writes the range of the `length` addresses that start at `start` to `range`,
@@ -363,12 +381,12 @@ dvs_status dvs_range_allocate_last(dvs_address_allocator *allocator, uint64_t si
  * - DVS_INVALID_ALIGNMENT if `alignment` is not a power of two.
  * - DVS_UNALIGNED_ADDRESS if `start` is not a multiple of `alignment`.
  * - DVS_OVERFLOW if `start` is UINT64_MAX.
- * - DVS_RESOURCE_NOT_AVAILABLE if `start` is outside the space.
+ * - DVS_RESOURCE_NOT_AVAILABLE, with a cause, if `start` is outside the space.
  * - DVS_OVERFLOW if the range would end past UINT64_MAX.
  * - DVS_INVALID_STATE_TRANSITION, with the range, if exactly this range is
  *   already allocated.
- * - DVS_RESOURCE_NOT_AVAILABLE if an address of the range is allocated or
- *   outside the space.
+ * - DVS_RESOURCE_NOT_AVAILABLE, with a cause, if an address of the range is
+ *   allocated or outside the space.
  * - DVS_OVERFLOW if the range ends at UINT64_MAX, or more than 6 * 10^9 ranges
  *   are allocated.
  * - DVS_OUT_OF_MEMORY.
@@ -407,9 +425,6 @@ dvs_status dvs_range_allocate(dvs_address_allocator *allocator, const dvs_reques
  * none. Each range is the one that dvs_range_allocate() would allocate after the
  * requests before it. Each request can have a different window.
  *
- * On an error of a request, its index is written to `failed`, which can be null.
- * Otherwise `count` is written to it.
- *
  * Errors, in order:
  * - For the first request that is invalid for every allocator:
  *   DVS_INVALID_POLICY, DVS_INVALID_RANGE, DVS_INVALID_SIZE,
@@ -443,12 +458,12 @@ dvs_status dvs_range_free(dvs_address_allocator *allocator, dvs_range range, dvs
  * - DVS_INVALID_RANGE if `range` is not a valid range.
  * - DVS_RESOURCE_NOT_AVAILABLE if exactly this range is not allocated.
  * - DVS_OVERFLOW if `start` is UINT64_MAX.
- * - DVS_RESOURCE_NOT_AVAILABLE if `start` is outside the space.
+ * - DVS_RESOURCE_NOT_AVAILABLE, with a cause, if `start` is outside the space.
  * - DVS_OVERFLOW if the new range would end past UINT64_MAX.
  * - DVS_INVALID_STATE_TRANSITION, with the new range, if exactly that range is
  *   already allocated.
- * - DVS_RESOURCE_NOT_AVAILABLE if an address of the new range is allocated, also
- *   if it is one of `range`, or is outside the space.
+ * - DVS_RESOURCE_NOT_AVAILABLE, with a cause, if an address of the new range is
+ *   allocated, also if it is one of `range`, or is outside the space.
  * - DVS_OVERFLOW if the new range ends at UINT64_MAX, or more than 6 * 10^9
  *   ranges are allocated.
  * - DVS_OUT_OF_MEMORY.
@@ -541,6 +556,48 @@ dvs_status dvs_gap_visit_in(const dvs_address_allocator *allocator, dvs_range wi
                             dvs_range_visitor *visitor, void *context, dvs_refusal *refusal);
 
 /*
+ * Visits the allocated ranges that have an address at or above `address`, like
+ * dvs_range_visit(). Each of them is passed whole. So the first one contains
+ * `address` or is the next one above it.
+ */
+dvs_status dvs_range_visit_from(const dvs_address_allocator *allocator, uint64_t address,
+                                dvs_range_visitor *visitor, void *context);
+
+/*
+ * Visits the allocated ranges that have an address at or below `address`, in
+ * descending order, like dvs_range_visit(). Each of them is passed whole. So the
+ * first one contains `address` or is the next one below it.
+ */
+dvs_status dvs_range_visit_back(const dvs_address_allocator *allocator, uint64_t address,
+                                dvs_range_visitor *visitor, void *context);
+
+/* Visits the gaps like dvs_range_visit_from() visits the allocated ranges. */
+dvs_status dvs_gap_visit_from(const dvs_address_allocator *allocator, uint64_t address,
+                              dvs_range_visitor *visitor, void *context);
+
+/* Visits the gaps like dvs_range_visit_back() visits the allocated ranges. */
+dvs_status dvs_gap_visit_back(const dvs_address_allocator *allocator, uint64_t address,
+                              dvs_range_visitor *visitor, void *context);
+
+/*
+ * Creates a copy of the allocator, with the same allocated ranges. Destroy it with
+ * dvs_address_allocator_destroy().
+ *
+ * Errors: DVS_OUT_OF_MEMORY.
+ */
+DVS_WARN_UNUSED
+dvs_status dvs_address_allocator_copy(const dvs_address_allocator *allocator,
+                                      dvs_address_allocator **copied);
+
+/*
+ * Writes to `are_equal` whether both allocators have the same space and the same
+ * allocated ranges. It does not allocate memory. Errors: DVS_NULL.
+ */
+DVS_WARN_UNUSED
+dvs_status dvs_address_allocator_equal(const dvs_address_allocator *one,
+                                       const dvs_address_allocator *other, bool *are_equal);
+
+/*
  * Saves the allocator as JSON. Writes the text to `text` and its length in
  * bytes, without the terminating zero, to `length`. Free the text with
  * dvs_text_destroy().
@@ -570,8 +627,7 @@ dvs_status dvs_address_allocator_read(const char *text, size_t length,
                                       dvs_address_allocator **allocator);
 
 /*
- * Reads like dvs_address_allocator_read(), within `limits`, and writes to `fault`
- * why a text was not read. Both pointers can be null.
+ * Reads like dvs_address_allocator_read(), within `limits`, which can be null.
  *
  * Errors: DVS_LIMIT_EXCEEDED if the text is longer than the limit. Otherwise
  * those of dvs_address_allocator_read(), with DVS_LIMIT_EXCEEDED instead of
@@ -636,11 +692,8 @@ dvs_status dvs_id_allocator_with_held(uint32_t first, uint32_t last, const uint3
                                       size_t count, dvs_id_allocator **allocator,
                                       dvs_refusal *refusal);
 
-/*
- * Destroys an allocator, with all its allocated ids. It does nothing if the
- * pointer is null or during a visit of the allocator.
- */
-void dvs_id_allocator_destroy(dvs_id_allocator *allocator);
+/* Destroys an allocator, with all its allocated ids, like dvs_address_allocator_destroy(). */
+dvs_status dvs_id_allocator_destroy(dvs_id_allocator *allocator);
 
 /* Writes the first and the last id of the range. Errors: DVS_NULL. */
 DVS_WARN_UNUSED
@@ -731,6 +784,18 @@ typedef int dvs_id_visitor(void *context, uint32_t id);
 /* Visits the allocated ids in ascending order, like dvs_range_visit() visits ranges. */
 dvs_status dvs_id_visit(const dvs_id_allocator *allocator, dvs_id_visitor *visitor, void *context);
 
+/* Creates a copy of the allocator, like dvs_address_allocator_copy(). */
+DVS_WARN_UNUSED
+dvs_status dvs_id_allocator_copy(const dvs_id_allocator *allocator, dvs_id_allocator **copied);
+
+/*
+ * Writes to `are_equal` whether both allocators have the same range of ids, the same
+ * allocated ids and the same freed ids. It does not allocate memory. Errors: DVS_NULL.
+ */
+DVS_WARN_UNUSED
+dvs_status dvs_id_allocator_equal(const dvs_id_allocator *one, const dvs_id_allocator *other,
+                                  bool *are_equal);
+
 /* Saves like dvs_address_allocator_save(). */
 DVS_WARN_UNUSED
 dvs_status dvs_id_allocator_save(const dvs_id_allocator *allocator, char **text, size_t *length);
@@ -762,11 +827,8 @@ DVS_WARN_UNUSED
 dvs_status dvs_device_manager_new(uint32_t first_id, uint32_t last_id, uint64_t base, uint64_t size,
                                   dvs_device_manager **manager, dvs_refusal *refusal);
 
-/*
- * Destroys a manager, with all its devices. It does nothing if the pointer is
- * null or during a visit of the manager.
- */
-void dvs_device_manager_destroy(dvs_device_manager *manager);
+/* Destroys a manager, with all its devices, like dvs_address_allocator_destroy(). */
+dvs_status dvs_device_manager_destroy(dvs_device_manager *manager);
 
 /* Writes the first and the last address of the space to `space`. Errors: DVS_NULL. */
 DVS_WARN_UNUSED
@@ -856,6 +918,19 @@ typedef int dvs_device_visitor(void *context, dvs_device device);
 /* Visits the devices in ascending order of ids, like dvs_range_visit() visits ranges. */
 dvs_status dvs_device_visit(const dvs_device_manager *manager, dvs_device_visitor *visitor,
                             void *context);
+
+/* Creates a copy of the manager, like dvs_address_allocator_copy(). */
+DVS_WARN_UNUSED
+dvs_status dvs_device_manager_copy(const dvs_device_manager *manager, dvs_device_manager **copied);
+
+/*
+ * Writes to `are_equal` whether both managers have the same space, the same devices
+ * and ids that dvs_id_allocator_equal() finds equal. It does not allocate memory.
+ * Errors: DVS_NULL.
+ */
+DVS_WARN_UNUSED
+dvs_status dvs_device_manager_equal(const dvs_device_manager *one, const dvs_device_manager *other,
+                                    bool *are_equal);
 
 /* Saves like dvs_address_allocator_save(). */
 DVS_WARN_UNUSED

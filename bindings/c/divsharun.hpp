@@ -14,6 +14,8 @@
 
 #include "divsharun.h"
 
+#include <cstdio>
+#include <cstdlib>
 #include <exception>
 #include <memory>
 #include <string>
@@ -66,6 +68,19 @@ inline error code(dvs_status status) noexcept {
     return {static_cast<int>(status), category()};
 }
 
+/* Why the range at a given start is not available. */
+enum class cause : uint32_t {
+    none = DVS_CAUSE_NONE,
+    allocated = DVS_CAUSE_ALLOCATED,
+    outside_space = DVS_CAUSE_OUTSIDE_SPACE,
+    outside_window = DVS_CAUSE_OUTSIDE_WINDOW,
+    earlier_request = DVS_CAUSE_EARLIER_REQUEST
+};
+
+inline cause cause_of(const dvs_refusal &refusal) noexcept {
+    return static_cast<cause>(refusal.cause);
+}
+
 DVS_MUST_CHECK inline error range_from(uint64_t start, uint64_t length, dvs_range &range) noexcept {
     return code(dvs_range_from_start_length(start, length, &range));
 }
@@ -74,24 +89,63 @@ DVS_MUST_CHECK inline error offset_of(dvs_range range, uint64_t address,
     return code(dvs_range_offset_of(range, address, &offset));
 }
 
-/* Owns an object, and destroys it. It is empty until a method has created the object. */
-template <typename T, void (*Destroy)(T *)> class owner {
+/*
+ * Owns an object, and destroys it. It is empty until a method has created the object.
+ *
+ * A method that replaces the object returns DVS_BUSY, after every other error, during
+ * a visit of the object. Then it changes nothing. A move assignment exchanges two
+ * objects, so that none is lost. The destructor of an owner ends the process with
+ * abort(), after a line that gives the reason, if its object is being visited.
+ */
+template <typename T, dvs_status (*Destroy)(T *), dvs_status (*Copy)(const T *, T **),
+          dvs_status (*Equal)(const T *, const T *, bool *)>
+class owner {
     struct destroyer {
-        void operator()(T *owned) const noexcept { Destroy(owned); }
+        void operator()(T *owned) const noexcept {
+            if (Destroy(owned) == DVS_OK)
+                return;
+            std::fputs("divsharun: the process ends because a visitor destroyed an owner\n",
+                       stderr);
+            std::abort();
+        }
     };
     std::unique_ptr<T, destroyer> object;
 
   public:
+    owner() noexcept = default;
+    owner(owner &&other) noexcept = default;
+    owner &operator=(owner &&other) noexcept {
+        object.swap(other.object);
+        return *this;
+    }
     T *get() const noexcept { return object.get(); }
     explicit operator bool() const noexcept { return object != nullptr; }
+    /* Replaces the object by a copy of another one. */
+    DVS_MUST_CHECK error make_copy(const owner &other) {
+        return create([&](T **out) { return Copy(other.get(), out); });
+    }
+    /* An empty owner equals only empty ones. */
+    friend bool operator==(const owner &one, const owner &other) noexcept {
+        bool are_equal = false;
+        dvs_status status = Equal(one.get(), other.get(), &are_equal);
+        return status == DVS_OK ? are_equal : one.get() == other.get();
+    }
+    friend bool operator!=(const owner &one, const owner &other) noexcept {
+        return !(one == other);
+    }
 
   protected:
     /* Replaces the object by a new one, if the call that creates it succeeds. */
     template <typename Call> DVS_MUST_CHECK error create(Call call) {
         T *made = nullptr;
         dvs_status status = call(&made);
+        std::unique_ptr<T, destroyer> owned(made);
         if (status == DVS_OK)
-            object.reset(made);
+            status = Destroy(get());
+        if (status == DVS_OK) {
+            static_cast<void>(object.release());
+            object.swap(owned);
+        }
         return code(status);
     }
 
@@ -181,7 +235,8 @@ class request {
     }
 };
 
-class address_allocator : public owner<dvs_address_allocator, dvs_address_allocator_destroy> {
+class address_allocator : public owner<dvs_address_allocator, dvs_address_allocator_destroy,
+                                       dvs_address_allocator_copy, dvs_address_allocator_equal> {
     using object = dvs_address_allocator;
 
   public:
@@ -280,8 +335,34 @@ class address_allocator : public owner<dvs_address_allocator, dvs_address_alloca
     template <typename Action> DVS_MUST_CHECK error for_each(Action action) const {
         return visit_by<dvs_range>(dvs_range_visit, std::move(action));
     }
+    /* The ranges or the gaps from an address upwards, or back from it downwards. */
+    template <typename Action>
+    DVS_MUST_CHECK error for_each_from(uint64_t address, Action action) const {
+        return visit_at(dvs_range_visit_from, address, std::move(action));
+    }
+    template <typename Action>
+    DVS_MUST_CHECK error for_each_back(uint64_t address, Action action) const {
+        return visit_at(dvs_range_visit_back, address, std::move(action));
+    }
+    template <typename Action>
+    DVS_MUST_CHECK error for_each_gap_from(uint64_t address, Action action) const {
+        return visit_at(dvs_gap_visit_from, address, std::move(action));
+    }
+    template <typename Action>
+    DVS_MUST_CHECK error for_each_gap_back(uint64_t address, Action action) const {
+        return visit_at(dvs_gap_visit_back, address, std::move(action));
+    }
 
   private:
+    template <typename Visit, typename Action>
+    DVS_MUST_CHECK error visit_at(Visit call, uint64_t address, Action action) const {
+        return visit_by<dvs_range>(
+            [=](const object *from, dvs_range_visitor *visitor, void *context) {
+                return call(from, address, visitor, context);
+            },
+            std::move(action));
+    }
+
     /* Replaces `ranges` by the result of a visit within a range. An error leaves it unchanged. */
     template <typename Visit>
     DVS_MUST_CHECK error list_in(Visit call, dvs_range within,
@@ -298,7 +379,8 @@ class address_allocator : public owner<dvs_address_allocator, dvs_address_alloca
     }
 };
 
-class id_allocator : public owner<dvs_id_allocator, dvs_id_allocator_destroy> {
+class id_allocator : public owner<dvs_id_allocator, dvs_id_allocator_destroy, dvs_id_allocator_copy,
+                                  dvs_id_allocator_equal> {
     using object = dvs_id_allocator;
 
   public:
@@ -348,7 +430,8 @@ class id_allocator : public owner<dvs_id_allocator, dvs_id_allocator_destroy> {
     std::vector<uint32_t> ids() const { return list_by<uint32_t>(dvs_id_visit); }
 };
 
-class device_manager : public owner<dvs_device_manager, dvs_device_manager_destroy> {
+class device_manager : public owner<dvs_device_manager, dvs_device_manager_destroy,
+                                    dvs_device_manager_copy, dvs_device_manager_equal> {
     using object = dvs_device_manager;
 
   public:

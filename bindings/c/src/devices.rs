@@ -1,13 +1,13 @@
 //! The device manager: an id and a range for each device.
 
-use crate::handle::{create, visit, with_mut, with_mut_unit, with_ref, Handle};
+use crate::handle::{compare, copy, create, visit, with_mut, with_mut_unit, with_ref, Handle};
 use crate::ids::write_range;
 use crate::json::dvs_text_limits;
-use crate::proved::vm_allocator::{AllocPolicy, Error};
+use crate::proved::vm_allocator::{AllocPolicy, Constraint, Error};
 use crate::proved::vm_devices::{DeviceManager, DeviceSlot};
 use crate::ranges::space_of;
 use crate::rattle::Global;
-use crate::requests::{dvs_request, with_request};
+use crate::requests::{dvs_request, refused, with_request};
 use crate::texts::{dvs_text_fault, read, read_devices, save};
 use crate::{dvs_range, dvs_refusal, dvs_status, status_of, CallError, Out};
 use core::ffi::{c_char, c_int, c_void};
@@ -52,11 +52,13 @@ pub extern "C" fn dvs_device_manager_new(
 
 /// # Safety
 ///
-/// The manager is null or from a call that creates one, and is not used after this call.
+/// The manager is null or from a call that creates one, and is not used after `DVS_OK`.
 #[unsafe(no_mangle)]
-pub unsafe extern "C" fn dvs_device_manager_destroy(manager: *mut dvs_device_manager) {
+pub unsafe extern "C" fn dvs_device_manager_destroy(
+    manager: *mut dvs_device_manager,
+) -> dvs_status {
     // SAFETY: the caller's contract.
-    unsafe { Handle::destroy(manager) }
+    status_of(unsafe { Handle::destroy(manager) }, None)
 }
 
 #[unsafe(no_mangle)]
@@ -105,9 +107,23 @@ fn reserve(
     device: Out<dvs_device>,
 ) -> Result<(), CallError> {
     with_mut(manager, device, |manager| {
-        let slot = manager.reserve(Global, size, alignment, policy)?;
-        Ok(slot.into())
+        let reserved = manager.reserve(Global, size, alignment, policy);
+        reserved.map(Into::into).map_err(|error| {
+            let request = Constraint::new(size, alignment, policy);
+            refused_device(manager, request.ok(), error)
+        })
     })
+}
+
+/// Returns the error of a refused device. If all ids are allocated, no range is in the way.
+#[cold]
+fn refused_device(manager: &DeviceManager, request: Option<Constraint>, error: Error) -> CallError {
+    match request {
+        Some(request) if manager.ids().peek_id().is_ok() => {
+            refused(manager.addresses(), &request, error)
+        }
+        _ => error.into(),
+    }
 }
 
 #[unsafe(no_mangle)]
@@ -118,7 +134,10 @@ pub extern "C" fn dvs_device_reserve(
     refusal: Out<dvs_refusal>,
 ) -> dvs_status {
     let taken = with_request(manager, request, device, |manager, request| {
-        Ok(manager.reserve_constraint(Global, request)?.into())
+        let reserved = manager.reserve_constraint(Global, request);
+        reserved
+            .map(Into::into)
+            .map_err(|error| refused_device(manager, Some(request), error))
     });
     status_of(taken, refusal)
 }
@@ -197,6 +216,24 @@ pub extern "C" fn dvs_device_manager_ids(
 ) -> dvs_status {
     let written = write_range(manager, DeviceManager::ids, first, last);
     status_of(written, None)
+}
+
+#[unsafe(no_mangle)]
+pub extern "C" fn dvs_device_manager_copy(
+    manager: Option<&dvs_device_manager>,
+    copied: Out<*mut dvs_device_manager>,
+) -> dvs_status {
+    let made = copy(manager, copied, |manager| manager.try_clone(Global));
+    status_of(made, None)
+}
+
+#[unsafe(no_mangle)]
+pub extern "C" fn dvs_device_manager_equal(
+    one: Option<&dvs_device_manager>,
+    other: Option<&dvs_device_manager>,
+    are_equal: Out<bool>,
+) -> dvs_status {
+    status_of(compare(one, other, are_equal), None)
 }
 
 #[unsafe(no_mangle)]

@@ -38,18 +38,23 @@ impl<T> Handle<T> {
         Ok(Box::into_raw(one.into_boxed_slice()).cast())
     }
 
-    /// Drops an object. It does nothing if the pointer is null or the object is being visited.
+    /// Drops an object. It does nothing if the pointer is null.
+    ///
+    /// # Errors
+    ///
+    /// - `Busy` if the object is being visited. It is not dropped then.
     ///
     /// # Safety
     ///
-    /// The pointer is null or from `new`, and is not used after this call.
-    pub(crate) unsafe fn destroy(pointer: *mut Handle<T>) {
+    /// The pointer is null or from `new`, and is not used after a call that drops the object.
+    pub(crate) unsafe fn destroy(pointer: *mut Handle<T>) -> Result<(), CallError> {
         // SAFETY: it is null or points to a handle that `new` made.
-        let handle = unsafe { pointer.as_ref() };
-        if handle.is_some_and(|handle| handle.check_not_visited().is_ok()) {
+        if let Some(handle) = unsafe { pointer.as_ref() } {
+            handle.check_not_visited()?;
             // SAFETY: `new` made it as a box of one handle, and it is dropped only here.
             drop(unsafe { Box::from_raw(pointer) });
         }
+        Ok(())
     }
 
     /// Returns the object for reading.
@@ -114,6 +119,27 @@ pub(crate) fn create<T>(
     Ok(())
 }
 
+/// Copies an object, and writes the pointer of the copy to `out`.
+pub(crate) fn copy<T>(
+    handle: Option<&Handle<T>>,
+    out: Out<*mut Handle<T>>,
+    copied: impl FnOnce(&T) -> Answer<T>,
+) -> Result<(), CallError> {
+    let (handle, out) = (non_null(handle)?, non_null(out)?);
+    create(Some(out), || copied(handle.get()))
+}
+
+/// Writes whether two objects are equal to `out`.
+pub(crate) fn compare<T: PartialEq>(
+    one: Option<&Handle<T>>,
+    other: Option<&Handle<T>>,
+    out: Out<bool>,
+) -> Result<(), CallError> {
+    let (one, other, out) = (non_null(one)?, non_null(other)?, non_null(out)?);
+    out.write(one.get() == other.get());
+    Ok(())
+}
+
 /// Writes the result of a call without an object to `out`.
 pub(crate) fn with_out<A>(
     out: Out<A>,
@@ -137,13 +163,13 @@ pub(crate) fn with_ref<T, A>(
 
 /// Changes an object, and writes the result to `out`.
 #[inline(always)]
-pub(crate) fn with_mut<T, A>(
+pub(crate) fn with_mut<T, A, E: Into<CallError>>(
     handle: Option<&Handle<T>>,
     out: Out<A>,
-    taken: impl FnOnce(&mut T) -> Answer<A>,
+    taken: impl FnOnce(&mut T) -> Result<A, E>,
 ) -> Result<(), CallError> {
     let (handle, out) = (non_null(handle)?, non_null(out)?);
-    out.write(taken(handle.get_mut()?)?);
+    out.write(taken(handle.get_mut()?).map_err(Into::into)?);
     Ok(())
 }
 

@@ -1,6 +1,8 @@
 //! The id allocator.
 
-use crate::handle::{create, non_null, visit, with_mut, with_mut_unit, with_ref, Handle};
+use crate::handle::{
+    compare, copy, create, non_null, visit, with_mut, with_mut_unit, with_ref, Handle,
+};
 use crate::json::dvs_text_limits;
 use crate::lists::array;
 use crate::proved::vm_allocator::IdAllocator;
@@ -51,11 +53,11 @@ pub unsafe extern "C" fn dvs_id_allocator_with_held(
 
 /// # Safety
 ///
-/// The allocator is null or from a call that creates one, and is not used after this call.
+/// The allocator is null or from a call that creates one, and is not used after `DVS_OK`.
 #[unsafe(no_mangle)]
-pub unsafe extern "C" fn dvs_id_allocator_destroy(allocator: *mut dvs_id_allocator) {
+pub unsafe extern "C" fn dvs_id_allocator_destroy(allocator: *mut dvs_id_allocator) -> dvs_status {
     // SAFETY: the caller's contract.
-    unsafe { Handle::destroy(allocator) }
+    status_of(unsafe { Handle::destroy(allocator) }, None)
 }
 
 #[unsafe(no_mangle)]
@@ -203,6 +205,24 @@ pub(crate) fn write_range<T>(
     first.write(ids.range_base());
     last.write(ids.range_end());
     Ok(())
+}
+
+#[unsafe(no_mangle)]
+pub extern "C" fn dvs_id_allocator_copy(
+    allocator: Option<&dvs_id_allocator>,
+    copied: Out<*mut dvs_id_allocator>,
+) -> dvs_status {
+    let made = copy(allocator, copied, |allocator| allocator.try_clone(Global));
+    status_of(made, None)
+}
+
+#[unsafe(no_mangle)]
+pub extern "C" fn dvs_id_allocator_equal(
+    one: Option<&dvs_id_allocator>,
+    other: Option<&dvs_id_allocator>,
+    are_equal: Out<bool>,
+) -> dvs_status {
+    status_of(compare(one, other, are_equal), None)
 }
 
 #[unsafe(no_mangle)]

@@ -4,7 +4,7 @@ use crate::handle::{non_null, Handle};
 use crate::proved::vm_allocator::{AddressAllocator, ListError};
 use crate::ranges::dvs_address_allocator;
 use crate::rattle::Global;
-use crate::requests::dvs_request;
+use crate::requests::{dvs_request, refused};
 use crate::{dvs_range, dvs_refusal, dvs_status, status_of, CallError, Out};
 use alloc::vec::Vec;
 use core::slice;
@@ -138,7 +138,14 @@ pub unsafe extern "C" fn dvs_address_allocator_allocate_all(
         }
         let object = allocator.get_mut()?;
         let requests = converted(requests, dvs_request::constraint)?;
-        let allocated = object.allocate_all(Global, &requests)?;
+        let allocated = object.allocate_all(Global, &requests).map_err(|failure| {
+            let index = failure.index;
+            let error = match index.and_then(|index| requests.get(index)) {
+                Some(request) => refused(object, request, failure.error),
+                None => failure.error.into(),
+            };
+            ArrayError { index, error }
+        })?;
         for (index, range) in allocated.iter().enumerate() {
             // SAFETY: there is a writable range for each request.
             unsafe { ranges.add(index).write((*range).into()) };

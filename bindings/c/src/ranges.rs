@@ -1,12 +1,14 @@
 //! The address allocator.
 
 use crate::handle::{
-    create, visit, visit_some, with_mut, with_mut_unit, with_out, with_ref, Handle,
+    compare, copy, create, visit, visit_some, with_mut, with_mut_unit, with_out, with_ref, Handle,
 };
 use crate::json::dvs_text_limits;
-use crate::proved::vm_allocator::{AddressAllocator, AllocPolicy, Error, RangeInclusive};
+use crate::proved::vm_allocator::{
+    AddressAllocator, AllocPolicy, Constraint, Error, RangeInclusive, Result as Answer,
+};
 use crate::rattle::Global;
-use crate::requests::{dvs_request, with_request};
+use crate::requests::{dvs_request, refused, with_request};
 use crate::texts::{dvs_text_fault, read, read_space, save};
 use crate::{dvs_range, dvs_refusal, dvs_status, status_of, CallError, Out};
 use core::ffi::{c_char, c_int, c_void};
@@ -29,11 +31,13 @@ pub extern "C" fn dvs_address_allocator_new(
 
 /// # Safety
 ///
-/// The allocator is null or from a call that creates one, and is not used after this call.
+/// The allocator is null or from a call that creates one, and is not used after `DVS_OK`.
 #[unsafe(no_mangle)]
-pub unsafe extern "C" fn dvs_address_allocator_destroy(allocator: *mut dvs_address_allocator) {
+pub unsafe extern "C" fn dvs_address_allocator_destroy(
+    allocator: *mut dvs_address_allocator,
+) -> dvs_status {
     // SAFETY: the caller's contract.
-    unsafe { Handle::destroy(allocator) }
+    status_of(unsafe { Handle::destroy(allocator) }, None)
 }
 
 #[unsafe(no_mangle)]
@@ -125,9 +129,19 @@ fn allocate(
     range: Out<dvs_range>,
 ) -> Result<(), CallError> {
     with_mut(allocator, range, |allocator| {
-        let range = allocator.allocate(Global, size, alignment, policy)?;
-        Ok(range.into())
+        allocate_request(allocator, Constraint::new(size, alignment, policy)?)
     })
+}
+
+#[inline(always)]
+fn allocate_request(
+    allocator: &mut AddressAllocator,
+    request: Constraint,
+) -> Result<dvs_range, CallError> {
+    let allocated = allocator.allocate_constraint(Global, request);
+    allocated
+        .map(Into::into)
+        .map_err(|error| refused(allocator, &request, error))
 }
 
 #[unsafe(no_mangle)]
@@ -137,9 +151,7 @@ pub extern "C" fn dvs_range_allocate(
     range: Out<dvs_range>,
     refusal: Out<dvs_refusal>,
 ) -> dvs_status {
-    let taken = with_request(allocator, request, range, |allocator, request| {
-        Ok(allocator.allocate_constraint(Global, request)?.into())
-    });
+    let taken = with_request(allocator, request, range, allocate_request);
     status_of(taken, refusal)
 }
 
@@ -162,10 +174,25 @@ pub extern "C" fn dvs_range_move(
     refusal: Out<dvs_refusal>,
 ) -> dvs_status {
     let answer = with_mut(allocator, moved, |allocator| {
-        let moved = allocator.move_range(Global, &range.try_into()?, start)?;
-        Ok(moved.into())
+        let range = range.try_into()?;
+        move_range(allocator, &range, start)
     });
     status_of(answer, refusal)
+}
+
+fn move_range(
+    allocator: &mut AddressAllocator,
+    range: &RangeInclusive,
+    start: u64,
+) -> Result<dvs_range, CallError> {
+    let request = Constraint::new(range.len(), 1, AllocPolicy::ExactMatch(start))?;
+    let moved = allocator.move_range(Global, range, start);
+    moved
+        .map(Into::into)
+        .map_err(|error| match allocator.holds(range) {
+            true => refused(allocator, &request, error),
+            false => error.into(),
+        })
 }
 
 #[unsafe(no_mangle)]
@@ -234,18 +261,37 @@ pub extern "C" fn dvs_clear_count(
     status_of(asked, None)
 }
 
+/// Returns a visitor of ranges or gaps that calls the one that C passes.
+fn calling(
+    visitor: Option<dvs_range_visitor>,
+    context: *mut c_void,
+) -> Option<impl Fn(RangeInclusive) -> c_int> {
+    visitor.map(|visitor| move |range: RangeInclusive| visitor(context, range.into()))
+}
+
+/// Returns the part of the space that begins at `address`, or one address outside the space if there is
+/// none.
+fn at_or_above(space: &AddressAllocator, address: u64) -> Answer<RangeInclusive> {
+    RangeInclusive::new(space.base().max(address), space.end().max(address))
+}
+
+/// Returns the part of the space that ends at `address`, like [`at_or_above`].
+fn at_or_below(space: &AddressAllocator, address: u64) -> Answer<RangeInclusive> {
+    RangeInclusive::new(space.base().min(address), space.end().min(address))
+}
+
 #[unsafe(no_mangle)]
 pub extern "C" fn dvs_range_visit(
     allocator: Option<&dvs_address_allocator>,
     visitor: Option<dvs_range_visitor>,
     context: *mut c_void,
 ) -> dvs_status {
-    let visitor =
-        visitor.map(|visitor| move |range: RangeInclusive| visitor(context, range.into()));
-    status_of(
-        visit(allocator, AddressAllocator::held_ranges, visitor),
-        None,
-    )
+    let visited = visit(
+        allocator,
+        AddressAllocator::held_ranges,
+        calling(visitor, context),
+    );
+    status_of(visited, None)
 }
 
 #[unsafe(no_mangle)]
@@ -254,8 +300,8 @@ pub extern "C" fn dvs_gap_visit(
     visitor: Option<dvs_range_visitor>,
     context: *mut c_void,
 ) -> dvs_status {
-    let visitor = visitor.map(|visitor| move |gap: RangeInclusive| visitor(context, gap.into()));
-    status_of(visit(allocator, AddressAllocator::gaps, visitor), None)
+    let visited = visit(allocator, AddressAllocator::gaps, calling(visitor, context));
+    status_of(visited, None)
 }
 
 #[unsafe(no_mangle)]
@@ -266,12 +312,10 @@ pub extern "C" fn dvs_range_visit_in(
     context: *mut c_void,
     refusal: Out<dvs_refusal>,
 ) -> dvs_status {
-    let visitor =
-        visitor.map(|visitor| move |range: RangeInclusive| visitor(context, range.into()));
     let visited = visit_some(
         allocator,
-        |allocator| Ok(allocator.held_ranges_in(&within.try_into()?)),
-        visitor,
+        |space| Ok(space.held_ranges_in(&within.try_into()?)),
+        calling(visitor, context),
     );
     status_of(visited, refusal)
 }
@@ -284,13 +328,90 @@ pub extern "C" fn dvs_gap_visit_in(
     context: *mut c_void,
     refusal: Out<dvs_refusal>,
 ) -> dvs_status {
-    let visitor = visitor.map(|visitor| move |gap: RangeInclusive| visitor(context, gap.into()));
     let visited = visit_some(
         allocator,
-        |allocator| Ok(allocator.gaps_in(&within.try_into()?)),
-        visitor,
+        |space| Ok(space.gaps_in(&within.try_into()?)),
+        calling(visitor, context),
     );
     status_of(visited, refusal)
+}
+
+#[unsafe(no_mangle)]
+pub extern "C" fn dvs_range_visit_from(
+    allocator: Option<&dvs_address_allocator>,
+    address: u64,
+    visitor: Option<dvs_range_visitor>,
+    context: *mut c_void,
+) -> dvs_status {
+    let visited = visit_some(
+        allocator,
+        |space| Ok(space.held_ranges_in(&at_or_above(space, address)?)),
+        calling(visitor, context),
+    );
+    status_of(visited, None)
+}
+
+#[unsafe(no_mangle)]
+pub extern "C" fn dvs_range_visit_back(
+    allocator: Option<&dvs_address_allocator>,
+    address: u64,
+    visitor: Option<dvs_range_visitor>,
+    context: *mut c_void,
+) -> dvs_status {
+    let visited = visit_some(
+        allocator,
+        |space| Ok(space.held_ranges_in(&at_or_below(space, address)?).rev()),
+        calling(visitor, context),
+    );
+    status_of(visited, None)
+}
+
+#[unsafe(no_mangle)]
+pub extern "C" fn dvs_gap_visit_from(
+    allocator: Option<&dvs_address_allocator>,
+    address: u64,
+    visitor: Option<dvs_range_visitor>,
+    context: *mut c_void,
+) -> dvs_status {
+    let visited = visit_some(
+        allocator,
+        |space| Ok(space.gaps_in(&at_or_above(space, address)?)),
+        calling(visitor, context),
+    );
+    status_of(visited, None)
+}
+
+#[unsafe(no_mangle)]
+pub extern "C" fn dvs_gap_visit_back(
+    allocator: Option<&dvs_address_allocator>,
+    address: u64,
+    visitor: Option<dvs_range_visitor>,
+    context: *mut c_void,
+) -> dvs_status {
+    let visited = visit_some(
+        allocator,
+        |space| Ok(space.gaps_in(&at_or_below(space, address)?).rev()),
+        calling(visitor, context),
+    );
+    status_of(visited, None)
+}
+
+#[unsafe(no_mangle)]
+pub extern "C" fn dvs_address_allocator_copy(
+    allocator: Option<&dvs_address_allocator>,
+    copied: Out<*mut dvs_address_allocator>,
+) -> dvs_status {
+    let made = copy(allocator, copied, |allocator| allocator.try_clone(Global));
+    status_of(made, None)
+}
+
+#[unsafe(no_mangle)]
+pub extern "C" fn dvs_address_allocator_equal(
+    one: Option<&dvs_address_allocator>,
+    other: Option<&dvs_address_allocator>,
+    are_equal: Out<bool>,
+) -> dvs_status {
+    status_of(compare(one, other, are_equal), None)
 }
 
 #[unsafe(no_mangle)]

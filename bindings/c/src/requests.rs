@@ -1,12 +1,19 @@
 //! Requests for a range.
 
 use crate::handle::{non_null, Handle};
-use crate::proved::vm_allocator::{AllocPolicy, Constraint, RangeInclusive, Result as Answer};
+use crate::proved::vm_allocator::{
+    AddressAllocator, AllocPolicy, Constraint, Error, RangeInclusive, Result as Answer,
+};
 use crate::{dvs_range, CallError, Out};
 
 const DVS_FIRST: u32 = 0;
 const DVS_LAST: u32 = 1;
 const DVS_EXACT: u32 = 2;
+
+const DVS_CAUSE_ALLOCATED: u32 = 1;
+const DVS_CAUSE_OUTSIDE_SPACE: u32 = 2;
+const DVS_CAUSE_OUTSIDE_WINDOW: u32 = 3;
+const DVS_CAUSE_EARLIER_REQUEST: u32 = 4;
 
 /// A request for a range.
 #[repr(C)]
@@ -63,10 +70,40 @@ pub(crate) fn with_request<T, A>(
     handle: Option<&Handle<T>>,
     request: Option<&dvs_request>,
     out: Out<A>,
-    taken: impl FnOnce(&mut T, Constraint) -> Answer<A>,
+    taken: impl FnOnce(&mut T, Constraint) -> Result<A, CallError>,
 ) -> Result<(), CallError> {
     let (handle, request, out) = (non_null(handle)?, non_null(request)?, non_null(out)?);
     let object = handle.get_mut()?;
     out.write(taken(object, request.constraint()?)?);
     Ok(())
+}
+
+/// Returns the error of a refused request. If the range at the start that it names is not available,
+/// the error has the cause.
+#[cold]
+#[inline(never)]
+pub(crate) fn refused(space: &AddressAllocator, request: &Constraint, error: Error) -> CallError {
+    let (Error::ResourceNotAvailable, AllocPolicy::ExactMatch(start)) = (&error, request.policy())
+    else {
+        return error.into();
+    };
+    let range = RangeInclusive::from_start_len(start, request.size()).ok();
+    let is_outside = |part: &RangeInclusive| !range.is_some_and(|range| part.contains(&range));
+    let window = request.window().filter(is_outside);
+    let whole = RangeInclusive::new(space.base(), space.end()).ok();
+    let whole = whole.filter(is_outside);
+    let held = range.and_then(|range| space.held_ranges_in(&range).next());
+    let (cause, other) = match (window, whole, held) {
+        (Some(_), _, _) => (DVS_CAUSE_OUTSIDE_WINDOW, window),
+        (_, Some(_), _) => (DVS_CAUSE_OUTSIDE_SPACE, whole),
+        (_, _, Some(_)) => (DVS_CAUSE_ALLOCATED, held),
+        // `allocate_all` has freed the ranges of the requests before this one.
+        (None, None, None) => (DVS_CAUSE_EARLIER_REQUEST, None),
+    };
+    let ends = |range: Option<RangeInclusive>| range.map_or(dvs_range::default(), Into::into);
+    CallError::InTheWay {
+        range: ends(range),
+        cause,
+        other: ends(other),
+    }
 }

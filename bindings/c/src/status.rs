@@ -60,6 +60,7 @@ pub struct dvs_refusal {
     other: dvs_range,
     size: u64,
     id: u32,
+    cause: u32,
 }
 
 /// The error of a call.
@@ -69,6 +70,12 @@ pub(crate) enum CallError {
     OutOfMemory,
     InvalidPolicy,
     Call(Error),
+    /// The range of a request is not available, because of `other`.
+    InTheWay {
+        range: dvs_range,
+        cause: u32,
+        other: dvs_range,
+    },
 }
 
 impl From<Error> for CallError {
@@ -88,6 +95,7 @@ impl CallError {
             CallError::OutOfMemory => DVS_OUT_OF_MEMORY,
             CallError::InvalidPolicy => DVS_INVALID_POLICY,
             CallError::Call(error) => status_of_error(error),
+            CallError::InTheWay { .. } => DVS_RESOURCE_NOT_AVAILABLE,
         }
     }
 
@@ -96,6 +104,16 @@ impl CallError {
         let none = dvs_refusal::default();
         match self {
             CallError::Call(error) => numbers_of_error(error),
+            CallError::InTheWay {
+                range,
+                cause,
+                other,
+            } => dvs_refusal {
+                range: *range,
+                other: *other,
+                cause: *cause,
+                ..none
+            },
             _ => none,
         }
     }

@@ -1,1282 +1,712 @@
 /*
- * Checks every call and every status that it returns, except DVS_OUT_OF_MEMORY.
- * An error must leave the results and the object unchanged.
+ * Checks every call and every status that it returns, except DVS_OUT_OF_MEMORY and
+ * what windows.c, enumerate.c and random_texts.py check. Most calls are the rows of
+ * tables. An error must leave the results and the object unchanged.
  */
-#include "check.h"
+#include "every_call.h"
 
-#include <limits.h>
+/* Numbers that are invalid in each call. */
+static const uint64_t bad[4] = {3, 0, 1, 0};
 
-enum { STATUSES = DVS_LIMIT_EXCEEDED + 1 };
+/* Checks that a call with bad numbers returns an error. It must write no result, and all details or
+ * none. */
+static void refuse(int call, void *object, dvs_status expected) {
+    static const dvs_refusal none = {{0, 0}, {0, 0}, 0, 0, 0};
+    const bool has_fault = SPACE_WITHIN <= call && call <= MANAGER_WITHIN;
+    dvs_status status;
 
-/* The value of a byte that a call must not write. */
-enum { UNTOUCHED = 0xa5 };
-
-/* More than a byte can count. */
-enum { MANY = 300 };
-
-static bool seen[STATUSES];
-
-/* The details of the last error. */
-static dvs_refusal refusal;
-
-/* Records that a status was returned. */
-static dvs_status noted(dvs_status status) {
-    CHECK((int)status >= 0 && (int)status < STATUSES);
-    seen[status] = true;
-    return status;
+    prepare();
+    failed = MANY;
+    status = make_call(call, object, bad);
+    CHECK(failed == (call == LIST || call == WITH_RANGES ? 1 : MANY));
+    if (status != expected)
+        fprintf(stderr, "call %d: status %d\n", call, (int)status);
+    CHECK(noted(status) == expected && is_untouched(&results, sizeof results));
+    CHECK(is_untouched(&refusal, sizeof refusal) || memcmp(&refusal, &none, sizeof none) == 0);
+    CHECK(is_untouched(&fault.offset, sizeof fault.offset) == !has_fault);
+    CHECK(is_untouched(&fault.reason, sizeof fault.reason) == !has_fault);
+    CHECK(is_untouched(&fault.field, sizeof fault.field) == !has_fault);
 }
 
-static bool is_untouched(const void *bytes, size_t length) {
-    const unsigned char *byte = (const unsigned char *)bytes;
+/* ---- The calls that each group has ---- */
+
+static void destroy(int group, void *object) {
+    CHECK(make_call(groups[group].queries - 1, object, bad) == DVS_OK);
+}
+
+/* Returns the object that a call has created. */
+static void *created(int group) {
+    return group == 0   ? (void *)results.space
+           : group == 1 ? (void *)results.ids
+                        : (void *)results.manager;
+}
+
+static void *copied(int group, void *object) {
+    prepare();
+    CHECK(make_call(groups[group].visits - 2, object, bad) == DVS_OK);
+    return created(group);
+}
+
+/* Checks the saved text of an object. */
+static void is_saved_as(int group, void *object, const char *text) {
+    prepare();
+    CHECK(make_call(groups[group].visits - 1, object, bad) == DVS_OK);
+    CHECK(strcmp(results.text, text) == 0 && strlen(text) == results.length);
+    dvs_text_destroy(results.text);
+}
+
+/* Checks whether two objects are equal. Each equals itself. */
+static void compare(int group, void *one, void *other, bool are_equal) {
+    void *pairs[4][2] = {{one, other}, {other, one}, {one, one}, {other, other}};
+    int i;
+
+    for (i = 0; i < 4; i++) {
+        given = usual;
+        given.other = pairs[i][1];
+        prepare();
+        CHECK(make_call(groups[group].visits - 3, pairs[i][0], bad) == DVS_OK);
+        CHECK(results.flag == (are_equal || i >= 2));
+    }
+}
+
+/* ---- Calls with numbers ---- */
+
+struct step {
+    int call;
+    uint64_t numbers[4];
+    struct outcome outcome;
+};
+
+/* Makes the calls of a table on an object, one after the other. */
+static void run(void *object, const struct step *steps, size_t count) {
     size_t i;
 
-    for (i = 0; i < length; i++)
-        if (byte[i] != UNTOUCHED)
-            return false;
-    return true;
+    given = usual;
+    for (i = 0; i < count; i++) {
+        dvs_status status;
+
+        prepare();
+        status = make_call(steps[i].call, object, steps[i].numbers);
+        if (status == DVS_OK && (steps[i].call == IS_HELD || steps[i].call == IS_ID_HELD))
+            results.device.range.start = results.flag;
+        if (!has_outcome(&steps[i].outcome, status))
+            fprintf(stderr, "row %d: status %d\n", (int)i, (int)status);
+        CHECK(has_outcome(&steps[i].outcome, status));
+    }
 }
 
-/* A request that is invalid in each member. */
-static const dvs_range backwards = {2, 1};
-static const dvs_request worst = {0, 0, 1, DVS_EXACT + 1, &backwards};
-
-/* Returns whether a call wrote all details: these, and 0 for the others. */
-static bool are_told(uint64_t start, uint64_t end, uint32_t id) {
-    return is_range(refusal.range, start, end) && is_range(refusal.other, 0, 0) &&
-           refusal.size == 0 && refusal.id == id;
-}
-
-/* Checks that a call returns this status. Its details go to `refusal`. */
-#define RETURNS(expected, call)                                                                    \
-    do {                                                                                           \
-        memset(&refusal, UNTOUCHED, sizeof refusal);                                               \
-        CHECK(noted(call) == (expected));                                                          \
-    } while (0)
-
-/* Checks the same for a call that must not write its result, `answer`. */
-#define REFUSED(expected, type, call)                                                              \
-    do {                                                                                           \
-        type answer;                                                                               \
-                                                                                                   \
-        memset(&answer, UNTOUCHED, sizeof answer);                                                 \
-        RETURNS(expected, call);                                                                   \
-        CHECK(is_untouched(&answer, sizeof answer));                                               \
-    } while (0)
-
-SAVED(saved_space, dvs_address_allocator)
-SAVED(saved_ids, dvs_id_allocator)
-SAVED(saved_devices, dvs_device_manager)
-
-/* ---- Ranges ---- */
-
-static void make_spaces(void) {
+static void run_on_space(uint64_t base, uint64_t size, const struct step *steps, size_t count) {
     dvs_address_allocator *space;
-    dvs_range range;
 
-    REFUSED(DVS_UNDERFLOW, dvs_address_allocator *, dvs_address_allocator_new(16, 0, &answer));
-    REFUSED(DVS_OVERFLOW, dvs_address_allocator *,
-            dvs_address_allocator_new(2, UINT64_MAX, &answer));
-    CHECK(noted(dvs_address_allocator_new(1, UINT64_MAX, &space)) == DVS_OK);
-    CHECK(dvs_address_allocator_space(space, &range) == DVS_OK);
-    CHECK(is_range(range, 1, UINT64_MAX));
-    dvs_address_allocator_destroy(space);
-    dvs_address_allocator_destroy(NULL);
+    CHECK(dvs_address_allocator_new(base, size, &space) == DVS_OK);
+    run(space, steps, count);
+    destroy(0, space);
 }
 
-static void make_ranges(void) {
-    dvs_range range;
-    uint64_t offset;
+/* Also checks the saved ids. */
+static void run_on_ids(uint32_t first, uint32_t last, const struct step *steps, size_t count,
+                       const char *text) {
+    dvs_id_allocator *ids;
 
-    REFUSED(DVS_INVALID_SIZE, dvs_range, dvs_range_from_start_length(UINT64_MAX, 0, &answer));
-    REFUSED(DVS_OVERFLOW, dvs_range, dvs_range_from_start_length(UINT64_MAX, 2, &answer));
-    CHECK(noted(dvs_range_from_start_length(UINT64_MAX, 1, &range)) == DVS_OK);
-    CHECK(is_range(range, UINT64_MAX, UINT64_MAX));
-    CHECK(dvs_range_from_start_length(0, UINT64_MAX, &range) == DVS_OK);
-    CHECK(is_range(range, 0, UINT64_MAX - 1));
-    CHECK(dvs_range_from_start_length(0x1000, 0x100, &range) == DVS_OK);
-    CHECK(is_range(range, 0x1000, 0x10ff));
-    CHECK(dvs_range_offset_of(range, 0x1010, &offset) == DVS_OK && offset == 0x10);
-    CHECK(dvs_range_offset_of(range, 0x10ff, &offset) == DVS_OK && offset == 0xff);
-    REFUSED(DVS_RESOURCE_NOT_AVAILABLE, uint64_t, dvs_range_offset_of(range, 0xfff, &answer));
-    REFUSED(DVS_RESOURCE_NOT_AVAILABLE, uint64_t, dvs_range_offset_of(range, 0x1100, &answer));
-    REFUSED(DVS_INVALID_RANGE, uint64_t, dvs_range_offset_of(range_of(2, 1), 1, &answer));
+    CHECK(dvs_id_allocator_new(first, last, &ids, NULL) == DVS_OK);
+    run(ids, steps, count);
+    is_saved_as(1, ids, text);
+    destroy(1, ids);
 }
 
-static void refuse_requests(dvs_address_allocator *space) {
-    REFUSED(DVS_INVALID_SIZE, dvs_range, dvs_range_allocate_first(space, 0, 3, &answer, &refusal));
-    CHECK(are_told(0, 0, 0));
-    REFUSED(DVS_INVALID_ALIGNMENT, dvs_range,
-            dvs_range_allocate_last(space, 1, 3, &answer, &refusal));
-    REFUSED(DVS_UNALIGNED_ADDRESS, dvs_range,
-            dvs_range_allocate_exact(space, 1, 4, 0x1002, &answer, &refusal));
-    REFUSED(DVS_OVERFLOW, dvs_range,
-            dvs_range_allocate_exact(space, 1, 1, UINT64_MAX, &answer, &refusal));
-    REFUSED(DVS_RESOURCE_NOT_AVAILABLE, dvs_range,
-            dvs_range_allocate_exact(space, 1, 1, 0xfff, &answer, &refusal));
-    CHECK(are_told(0, 0, 0));
-    REFUSED(DVS_RESOURCE_NOT_AVAILABLE, dvs_range,
-            dvs_range_allocate_first(space, 0x1001, 1, &answer, NULL));
+static const struct step on_none[] = {
+    {FROM_LENGTH, {TOP, 0}, ENDS(DVS_INVALID_SIZE)},
+    {FROM_LENGTH, {TOP, 2}, ENDS(DVS_OVERFLOW)},
+    {FROM_LENGTH, {TOP, 1}, GETS(TOP, TOP)},
+    {FROM_LENGTH, {0, TOP}, GETS(0, TOP - 1)},
+    {FROM_LENGTH, {0x1000, 0x100}, GETS(0x1000, 0x10ff)},
+    {OFFSET_OF, {0x1000, 0x10ff, 0x1010}, GETS_NUMBER(0x10)},
+    {OFFSET_OF, {0x1000, 0x10ff, 0x10ff}, GETS_NUMBER(0xff)},
+    {OFFSET_OF, {0x1000, 0x10ff, 0xfff}, ENDS(DVS_RESOURCE_NOT_AVAILABLE)},
+    {OFFSET_OF, {0x1000, 0x10ff, 0x1100}, ENDS(DVS_RESOURCE_NOT_AVAILABLE)},
+    {OFFSET_OF, {2, 1, 1}, ENDS(DVS_INVALID_RANGE)},
+    {NEW_SPACE, {16, 0}, ENDS(DVS_UNDERFLOW)},
+    {NEW_SPACE, {2, TOP}, ENDS(DVS_OVERFLOW)},
+    {NEW_IDS, {23, 5}, TELLS(DVS_INVALID_RANGE, 23, 5)},
+    {NEW_MANAGER, {2, 1, 0, 0}, TELLS(DVS_INVALID_RANGE, 2, 1)},
+    {NEW_MANAGER, {1, 2, 0, 0}, FAILS(DVS_UNDERFLOW)},
+    {NEW_MANAGER, {1, 2, TOP, 2}, FAILS(DVS_OVERFLOW)},
+    {WITH_IDS, {23, 5}, TELLS(DVS_INVALID_RANGE, 23, 5)},
+    {WITH_IDS, {10, 12}, TELLS_ID(DVS_OUT_OF_RANGE, 9)},
+    {WITH_IDS, {5, 12}, NO_PLACE},
+    {DESTROY_SPACE, {0}, SUCCEEDS},
+    {DESTROY_IDS, {0}, SUCCEEDS},
+    {DESTROY_MANAGER, {0}, SUCCEEDS},
+};
+
+/* In the space from 0x1000 to 0x1fff. */
+static const struct step on_space[] = {
+    {FIRST, {0, 3}, FAILS(DVS_INVALID_SIZE)},
+    {LAST, {1, 3}, FAILS(DVS_INVALID_ALIGNMENT)},
+    {EXACT, {1, 4, 0x1002}, FAILS(DVS_UNALIGNED_ADDRESS)},
+    {EXACT, {1, 1, TOP}, FAILS(DVS_OVERFLOW)},
+    {EXACT, {1, 1, 0xfff}, IN_THE_WAY(0xfff, 0xfff, OUTSIDE_SPACE, 0x1000, 0x1fff)},
+    {REQUEST, {0}, FAILS(DVS_INVALID_POLICY)},
+    {LIST, {0}, FAILS(DVS_INVALID_POLICY)},
+    {FIRST, {0x1001, 1}, NO_PLACE},
+    {FIRST, {0x100, 0x100}, GETS(0x1000, 0x10ff)},
+    {LAST, {0x10, 0x100}, GETS(0x1f00, 0x1f0f)},
+    {EXACT, {0x10, 1, 0x1801}, GETS(0x1801, 0x1810)},
+    {IS_HELD, {0x1000, 0x10ff}, GETS_NUMBER(true)},
+    {EXACT, {0x100, 0x100, 0x1000}, TELLS(DVS_INVALID_STATE_TRANSITION, 0x1000, 0x10ff)},
+    {FREE, {0x1000, 0x10fe}, NO_PLACE},
+    {FREE, {2, 1}, TELLS(DVS_INVALID_RANGE, 2, 1)},
+    {IS_HELD, {0, TOP}, TELLS(DVS_INVALID_RANGE, 0, TOP)},
+    {IS_HELD, {0x1000, 0x10fe}, GETS_NUMBER(false)},
+    {COUNT, {0}, GETS_NUMBER(3)},
+    {FREE, {0x1801, 0x1810}, SUCCEEDS},
+    {FREE, {0x1000, 0x10ff}, SUCCEEDS},
+    {FREE, {0x1f00, 0x1f0f}, SUCCEEDS},
+    {COUNT, {0}, GETS_NUMBER(0)},
+    {FIRST, {0x1000, 1}, GETS(0x1000, 0x1fff)},
+};
+
+static const struct step of_moves[] = {
+    {FIRST, {0x100, 0x100}, GETS(0x1000, 0x10ff)},
+    {EXACT, {0x100, 0x100, 0x1200}, GETS(0x1200, 0x12ff)},
+    {MOVE, {2, 1, TOP}, TELLS(DVS_INVALID_RANGE, 2, 1)},
+    {MOVE, {0x1000, 0x10fe, TOP}, NO_PLACE},
+    {MOVE, {0x1000, 0x10ff, TOP}, FAILS(DVS_OVERFLOW)},
+    {MOVE, {0x1000, 0x10ff, 0xfff}, IN_THE_WAY(0xfff, 0x10fe, OUTSIDE_SPACE, 0x1000, 0x1fff)},
+    {MOVE, {0x1000, 0x10ff, TOP - 1}, IN_THE_WAY(0, 0, OUTSIDE_SPACE, 0x1000, 0x1fff)},
+    {MOVE, {0x1000, 0x10ff, 0x1080}, IN_THE_WAY(0x1080, 0x117f, ALLOCATED, 0x1000, 0x10ff)},
+    {MOVE, {0x1000, 0x10ff, 0x1280}, IN_THE_WAY(0x1280, 0x137f, ALLOCATED, 0x1200, 0x12ff)},
+    {MOVE, {0x1000, 0x10ff, 0x1200}, TELLS(DVS_INVALID_STATE_TRANSITION, 0x1200, 0x12ff)},
+    {MOVE, {0x1000, 0x10ff, 0x1000}, GETS(0x1000, 0x10ff)},
+    {MOVE, {0x1000, 0x10ff, 0x1f00}, GETS(0x1f00, 0x1fff)},
+    {FREE, {0x1000, 0x10ff}, NO_PLACE},
+    {FREE, {0x1f00, 0x1fff}, SUCCEEDS},
+    {FREE, {0x1200, 0x12ff}, SUCCEEDS},
+    {COUNT, {0}, GETS_NUMBER(0)},
+};
+
+/* Numbers of more than 32 bits, in the 2^40 addresses starting at 0x7654321000001000. */
+static const struct step of_large_ranges[] = {
+    {SPACE, {0}, GETS(0x7654321000001000, 0x7654331000000fff)},
+    {FIRST, {0x200000000, 0x400000000}, GETS(0x7654321400000000, 0x76543215ffffffff)},
+    {LAST, {0x200000001, 0x800000000}, GETS(0x7654330800000000, 0x7654330a00000000)},
+    {EXACT,
+     {0x100000001, 0x800000000, 0x7654328800000000},
+     GETS(0x7654328800000000, 0x7654328900000000)},
+    {EXACT,
+     {0x200000000, 1, 0x7654321400000000},
+     TELLS(DVS_INVALID_STATE_TRANSITION, 0x7654321400000000, 0x76543215ffffffff)},
+    {IS_HELD, {0x7654321400000000, 0x76543215ffffffff}, GETS_NUMBER(true)},
+    {FREE, {0x7654328800000000, 0x7654328900000000}, SUCCEEDS},
+    {FREE, {0x7654330800000000, 0x7654330a00000000}, SUCCEEDS},
+    {FREE, {0x7654321400000000, 0x76543215ffffffff}, SUCCEEDS},
+    {IS_HELD, {0x7654321400000000, 0x76543215ffffffff}, GETS_NUMBER(false)},
+};
+
+static const struct step on_last_space[] = {{SPACE, {0}, GETS(1, TOP)}};
+
+/* On the ids from 5 to 7. */
+static const struct step on_ids[] = {
+    {PEEK, {0}, GETS_ID(5)},
+    {IS_ID_HELD, {5}, GETS_NUMBER(false)},
+    {ID, {0}, GETS_ID(5)},
+    {IS_ID_HELD, {5}, GETS_NUMBER(true)},
+    {IS_ID_HELD, {4}, GETS_NUMBER(false)},
+    {ID, {0}, GETS_ID(6)},
+    {FREE_ID, {5}, SUCCEEDS},
+    {FREE_ID, {4}, TELLS_ID(DVS_OUT_OF_RANGE, 4)},
+    {FREE_ID, {UINT32_MAX}, TELLS_ID(DVS_OUT_OF_RANGE, UINT32_MAX)},
+    {FREE_ID, {7}, TELLS_ID(DVS_NEVER_ALLOCATED, 7)},
+    {FREE_ID, {5}, TELLS_ID(DVS_ALREADY_RELEASED, 5)},
+    {ID_COUNT, {0}, GETS_NUMBER(1)},
+    {ID, {0}, GETS_ID(5)},
+    {ID, {0}, GETS_ID(7)},
+    {ID, {0}, ENDS(DVS_RESOURCE_NOT_AVAILABLE)},
+    {PEEK, {0}, ENDS(DVS_RESOURCE_NOT_AVAILABLE)},
+};
+
+static const struct step on_last_id[] = {
+    {ID, {0}, GETS_ID(UINT32_MAX)},
+    {ID, {0}, ENDS(DVS_OVERFLOW)},
+};
+
+/* On the ids from 5 to 23. */
+static const struct step of_given_ids[] = {
+    {ID_EXACT, {24}, TELLS_ID(DVS_OUT_OF_RANGE, 24)},
+    {ID_EXACT, {8}, SUCCEEDS},
+    {FREE_COUNT, {0}, GETS_NUMBER(18)},
+    {ID_EXACT, {8}, NO_PLACE},
+    {FREE_ID, {5}, TELLS_ID(DVS_ALREADY_RELEASED, 5)},
+    {FREE_ID, {9}, TELLS_ID(DVS_NEVER_ALLOCATED, 9)},
+    {ID_IN, {6, 8}, GETS_ID(6)},
+    {ID_IN, {6, 8}, GETS_ID(7)},
+    {ID_IN, {6, 8}, NO_PLACE},
+    {ID_IN, {8, 6}, TELLS(DVS_INVALID_RANGE, 8, 6)},
+    {ID_IN, {9, UINT32_MAX}, GETS_ID(9)},
+    {FREE_COUNT, {0}, GETS_NUMBER(15)},
+};
+
+/* For the ids from 1 to 3, and the space from 0x1000 to 0x1fff. */
+static const struct step on_devices[] = {
+    {RESERVE_LAST, {0, 1}, FAILS(DVS_INVALID_SIZE)},
+    {RESERVE, {0}, FAILS(DVS_INVALID_POLICY)},
+    {RESERVE_FIRST, {0x100, 0x100}, GETS_DEVICE(1, 0x1000, 0x10ff)},
+    {RESERVE_LAST, {0x100, 0x100}, GETS_DEVICE(2, 0x1f00, 0x1fff)},
+    {RESERVE_EXACT, {0x100, 1, 0x1000}, TELLS(DVS_INVALID_STATE_TRANSITION, 0x1000, 0x10ff)},
+    {RESERVE_EXACT, {0x100, 1, 0x1ef0}, IN_THE_WAY(0x1ef0, 0x1fef, ALLOCATED, 0x1f00, 0x1fff)},
+    {RESERVE_EXACT, {1, 1, 0x1801}, GETS_DEVICE(3, 0x1801, 0x1801)},
+    /* No id is free. */
+    {RESERVE_FIRST, {1, 1}, NO_PLACE},
+    {RESERVE_EXACT, {0x100, 3, 0x1ef0}, NO_PLACE},
+    {RESERVE_EXACT, {0x100, 1, 0x1ef0}, NO_PLACE},
+    {DEVICE_RANGE, {2}, GETS(0x1f00, 0x1fff)},
+    {RELEASE, {2}, SUCCEEDS},
+    {RELEASE, {2}, TELLS_ID(DVS_NEVER_ALLOCATED, 2)},
+    {DEVICE_RANGE, {2}, TELLS_ID(DVS_NEVER_ALLOCATED, 2)},
+};
+
+static void call_with_numbers(void) {
+    dvs_device_manager *manager;
+
+    run(NULL, ROWS(on_none));
+    run_on_space(0x1000, 0x1000, ROWS(on_space));
+    run_on_space(0x1000, 0x1000, ROWS(of_moves));
+    run_on_space(0x7654321000001000, (uint64_t)1 << 40, ROWS(of_large_ranges));
+    run_on_space(1, TOP, ROWS(on_last_space));
+    run_on_ids(5, 7, ROWS(on_ids),
+               "{\"range_base\":5,\"next_id\":8,\"range_end\":7,\"freed_ids\":[]}");
+    run_on_ids(
+        UINT32_MAX, UINT32_MAX, ROWS(on_last_id),
+        "{\"range_base\":4294967295,\"next_id\":null,\"range_end\":4294967295,\"freed_ids\":[]}");
+    run_on_ids(5, 23, ROWS(of_given_ids),
+               "{\"range_base\":5,\"next_id\":10,\"range_end\":23,\"freed_ids\":[5]}");
+    CHECK(dvs_device_manager_new(1, 3, 0x1000, 0x1000, &manager, NULL) == DVS_OK);
+    run(manager, ROWS(on_devices));
+    destroy(2, manager);
 }
 
-static void refuse_held(dvs_address_allocator *space) {
-    bool is_held = false;
+/* ---- More than a byte can count ---- */
 
-    RETURNS(DVS_OK, dvs_range_is_held(space, range_of(0x1000, 0x10ff), &is_held, &refusal));
-    CHECK(is_held && is_untouched(&refusal, sizeof refusal));
-    REFUSED(DVS_INVALID_STATE_TRANSITION, dvs_range,
-            dvs_range_allocate_exact(space, 0x100, 0x100, 0x1000, &answer, &refusal));
-    CHECK(are_told(0x1000, 0x10ff, 0));
-    RETURNS(DVS_RESOURCE_NOT_AVAILABLE, dvs_range_free(space, range_of(0x1000, 0x10fe), &refusal));
-    RETURNS(DVS_INVALID_RANGE, dvs_range_free(space, range_of(2, 1), &refusal));
-    CHECK(are_told(2, 1, 0));
-    REFUSED(DVS_INVALID_RANGE, bool,
-            dvs_range_is_held(space, range_of(0, UINT64_MAX), &answer, &refusal));
-    CHECK(are_told(0, UINT64_MAX, 0));
-    CHECK(dvs_range_is_held(space, range_of(0x1000, 0x10fe), &is_held, NULL) == DVS_OK);
-    CHECK(!is_held);
-}
-
-static void refuse_moves(dvs_address_allocator *space) {
-    const dvs_range held = range_of(0x1000, 0x10ff);
-
-    REFUSED(DVS_INVALID_RANGE, dvs_range,
-            dvs_range_move(space, range_of(2, 1), UINT64_MAX, &answer, &refusal));
-    CHECK(are_told(2, 1, 0));
-    REFUSED(DVS_RESOURCE_NOT_AVAILABLE, dvs_range,
-            dvs_range_move(space, range_of(0x1000, 0x10fe), UINT64_MAX, &answer, &refusal));
-    CHECK(are_told(0, 0, 0));
-    REFUSED(DVS_OVERFLOW, dvs_range, dvs_range_move(space, held, UINT64_MAX, &answer, &refusal));
-    REFUSED(DVS_RESOURCE_NOT_AVAILABLE, dvs_range,
-            dvs_range_move(space, held, 0xfff, &answer, &refusal));
-    REFUSED(DVS_RESOURCE_NOT_AVAILABLE, dvs_range,
-            dvs_range_move(space, held, UINT64_MAX - 1, &answer, &refusal));
-    REFUSED(DVS_RESOURCE_NOT_AVAILABLE, dvs_range,
-            dvs_range_move(space, held, 0x1080, &answer, &refusal));
-    REFUSED(DVS_INVALID_STATE_TRANSITION, dvs_range,
-            dvs_range_move(space, held, 0x1200, &answer, &refusal));
-    CHECK(are_told(0x1200, 0x12ff, 0));
-}
-
-static void move_ranges(void) {
-    dvs_address_allocator *space;
-    dvs_range range, other, moved;
-    uint64_t count;
-
-    CHECK(dvs_address_allocator_new(0x1000, 0x1000, &space) == DVS_OK);
-    CHECK(dvs_range_allocate_first(space, 0x100, 0x100, &range, NULL) == DVS_OK);
-    CHECK(dvs_range_allocate_exact(space, 0x100, 0x100, 0x1200, &other, NULL) == DVS_OK);
-    refuse_moves(space);
-    CHECK(dvs_range_move(space, range, 0x1000, &moved, NULL) == DVS_OK);
-    CHECK(is_range(moved, 0x1000, 0x10ff));
-    CHECK(dvs_range_move(space, range, 0x1f00, &moved, NULL) == DVS_OK);
-    CHECK(is_range(moved, 0x1f00, 0x1fff));
-    CHECK(dvs_range_free(space, range, NULL) == DVS_RESOURCE_NOT_AVAILABLE);
-    CHECK(dvs_range_free(space, moved, NULL) == DVS_OK);
-    CHECK(dvs_range_free(space, other, NULL) == DVS_OK);
-    CHECK(dvs_range_count(space, &count) == DVS_OK && count == 0);
-    dvs_address_allocator_destroy(space);
-}
-
-static void allocate_ranges(void) {
-    dvs_address_allocator *space;
-    dvs_range first, last, exact;
-    uint64_t count;
-
-    CHECK(dvs_address_allocator_new(0x1000, 0x1000, &space) == DVS_OK);
-    refuse_requests(space);
-    CHECK(dvs_range_allocate_first(space, 0x100, 0x100, &first, NULL) == DVS_OK);
-    CHECK(dvs_range_allocate_last(space, 0x10, 0x100, &last, NULL) == DVS_OK);
-    CHECK(dvs_range_allocate_exact(space, 0x10, 1, 0x1801, &exact, NULL) == DVS_OK);
-    CHECK(is_range(first, 0x1000, 0x10ff) && is_range(last, 0x1f00, 0x1f0f));
-    CHECK(is_range(exact, 0x1801, 0x1810));
-    refuse_held(space);
-    CHECK(dvs_range_count(space, &count) == DVS_OK && count == 3);
-    CHECK(dvs_range_free(space, exact, NULL) == DVS_OK);
-    CHECK(dvs_range_free(space, first, NULL) == DVS_OK);
-    CHECK(dvs_range_free(space, last, NULL) == DVS_OK);
-    CHECK(dvs_range_count(space, &count) == DVS_OK && count == 0);
-    CHECK(dvs_range_allocate_first(space, 0x1000, 1, &first, NULL) == DVS_OK);
-    dvs_address_allocator_destroy(space);
-}
-
-/* Uses numbers of more than 32 bits. */
-static void allocate_large_ranges(void) {
-    dvs_address_allocator *space;
-    dvs_range first, last, exact;
-    bool is_held = false;
-
-    CHECK(dvs_address_allocator_new(0x7654321000001000, (uint64_t)1 << 40, &space) == DVS_OK);
-    CHECK(dvs_address_allocator_space(space, &first) == DVS_OK);
-    CHECK(is_range(first, 0x7654321000001000, 0x7654331000000fff));
-    CHECK(dvs_range_allocate_first(space, 0x200000000, 0x400000000, &first, NULL) == DVS_OK);
-    CHECK(is_range(first, 0x7654321400000000, 0x76543215ffffffff));
-    CHECK(dvs_range_allocate_last(space, 0x200000001, 0x800000000, &last, NULL) == DVS_OK);
-    CHECK(is_range(last, 0x7654330800000000, 0x7654330a00000000));
-    CHECK(dvs_range_allocate_exact(space, 0x100000001, 0x800000000, 0x7654328800000000, &exact,
-                                   NULL) == DVS_OK);
-    CHECK(is_range(exact, 0x7654328800000000, 0x7654328900000000));
-    REFUSED(DVS_INVALID_STATE_TRANSITION, dvs_range,
-            dvs_range_allocate_exact(space, 0x200000000, 1, 0x7654321400000000, &answer, &refusal));
-    CHECK(are_told(0x7654321400000000, 0x76543215ffffffff, 0));
-    CHECK(dvs_range_is_held(space, first, &is_held, NULL) == DVS_OK && is_held);
-    CHECK(dvs_range_free(space, exact, NULL) == DVS_OK);
-    CHECK(dvs_range_free(space, last, NULL) == DVS_OK);
-    CHECK(dvs_range_free(space, first, NULL) == DVS_OK);
-    CHECK(dvs_range_is_held(space, first, &is_held, NULL) == DVS_OK && !is_held);
-    dvs_address_allocator_destroy(space);
-}
-
-/* Allocates more ranges than a byte can count. */
 static void allocate_many_ranges(void) {
     dvs_address_allocator *space;
-    dvs_range range;
-    uint64_t i, count;
+    uint64_t i;
 
     CHECK(dvs_address_allocator_new(0, MANY, &space) == DVS_OK);
     for (i = 0; i < MANY; i++) {
-        CHECK(dvs_range_allocate_first(space, 1, 1, &range, NULL) == DVS_OK &&
-              is_range(range, i, i));
-        CHECK(dvs_range_count(space, &count) == DVS_OK && count == i + 1);
+        const struct step steps[] = {{FIRST, {1, 1}, GETS(i, i)}, {COUNT, {0}, GETS_NUMBER(i + 1)}};
+
+        run(space, ROWS(steps));
     }
-    dvs_address_allocator_destroy(space);
-}
-
-/* ---- Visits ---- */
-
-struct visit {
-    dvs_address_allocator *space;
-    uint64_t next;
-    uint64_t last;
-};
-
-/* Checks that queries work during a visit, and that changes return DVS_BUSY. */
-static int visit_range(void *context, dvs_range range) {
-    struct visit *visit = (struct visit *)context;
-    dvs_range other;
-    bool is_held = false;
-    size_t length;
-    char *text;
-
-    CHECK(is_range(range, visit->next, visit->next));
-    visit->next += 2;
-    REFUSED(DVS_BUSY, dvs_range, dvs_range_allocate_first(visit->space, 1, 1, &answer, &refusal));
-    CHECK(are_told(0, 0, 0));
-    CHECK(dvs_range_allocate_last(visit->space, 1, 1, &other, NULL) == DVS_BUSY);
-    CHECK(dvs_range_allocate_exact(visit->space, 1, 1, 1, &other, NULL) == DVS_BUSY);
-    CHECK(dvs_range_allocate(visit->space, &worst, &other, NULL) == DVS_BUSY);
-    CHECK(dvs_range_free(visit->space, range, NULL) == DVS_BUSY);
-    /* Does nothing during a visit. */
-    dvs_address_allocator_destroy(visit->space);
-    CHECK(dvs_range_is_held(visit->space, range, &is_held, NULL) == DVS_OK && is_held);
-    text = saved_space(visit->space, &length);
-    dvs_text_destroy(text);
-    return range.start == visit->last;
-}
-
-/* Visits during a visit. The allocator stays busy until both visits end. */
-static int visit_twice(void *context, dvs_range range) {
-    struct visit *visit = (struct visit *)context;
-    struct visit within = {NULL, 0, UINT64_MAX};
-
-    within.space = visit->space;
-    CHECK(dvs_range_visit(visit->space, visit_range, &within) == DVS_OK && within.next == 20);
-    CHECK(dvs_range_free(visit->space, range, NULL) == DVS_BUSY);
-    return 1;
-}
-
-static void visit_ranges(void) {
-    struct visit visit = {NULL, 0, UINT64_MAX};
-    dvs_range range;
-    uint64_t i;
-
-    CHECK(dvs_address_allocator_new(0, 100, &visit.space) == DVS_OK);
-    CHECK(dvs_range_visit(visit.space, visit_range, &visit) == DVS_OK && visit.next == 0);
-    for (i = 0; i < 10; i++)
-        CHECK(dvs_range_allocate_exact(visit.space, 1, 1, 2 * i, &range, NULL) == DVS_OK);
-    CHECK(dvs_range_visit(visit.space, visit_range, &visit) == DVS_OK && visit.next == 20);
-    visit.next = 0;
-    visit.last = 6;
-    CHECK(dvs_range_visit(visit.space, visit_range, &visit) == DVS_OK && visit.next == 8);
-    CHECK(dvs_range_visit(visit.space, visit_twice, &visit) == DVS_OK);
-    CHECK(dvs_range_free(visit.space, range, NULL) == DVS_OK);
-    dvs_address_allocator_destroy(visit.space);
-}
-
-/* Nests more visits than a byte can count. */
-static int visit_deeper(void *context, dvs_range range) {
-    struct visit *visit = (struct visit *)context;
-
-    if (++visit->next < MANY)
-        CHECK(dvs_range_visit(visit->space, visit_deeper, visit) == DVS_OK);
-    CHECK(dvs_range_free(visit->space, range, NULL) == DVS_BUSY);
-    return 1;
-}
-
-/* The number that a visitor returns, and the number of its calls. */
-struct end {
-    int number;
-    int calls;
-};
-
-static int end_visit(void *context, dvs_range range) {
-    struct end *end = (struct end *)context;
-
-    (void)range;
-    end->calls++;
-    return end->number;
-}
-
-/* Checks that any number but 0 ends a visit. */
-static void end_visits(const dvs_address_allocator *space) {
-    static const int numbers[] = {1, -1, 256, 65536, INT_MAX, INT_MIN};
-    size_t i;
-
-    for (i = 0; i < sizeof numbers / sizeof numbers[0]; i++) {
-        struct end end = {0, 0};
-
-        end.number = numbers[i];
-        CHECK(dvs_range_visit(space, end_visit, &end) == DVS_OK && end.calls == 1);
-    }
-}
-
-static void visit_in_other_ways(void) {
-    struct visit visit = {NULL, 0, 0};
-    dvs_range range;
-    int i;
-
-    CHECK(dvs_address_allocator_new(0, 2, &visit.space) == DVS_OK);
-    for (i = 0; i < 2; i++)
-        CHECK(dvs_range_allocate_first(visit.space, 1, 1, &range, NULL) == DVS_OK);
-    end_visits(visit.space);
-    CHECK(dvs_range_visit(visit.space, visit_deeper, &visit) == DVS_OK && visit.next == MANY);
-    CHECK(dvs_range_free(visit.space, range, NULL) == DVS_OK);
-    dvs_address_allocator_destroy(visit.space);
-}
-
-/* ---- Ids ---- */
-
-static void refuse_ids(dvs_id_allocator *ids) {
-    RETURNS(DVS_OUT_OF_RANGE, dvs_id_free(ids, 4, &refusal));
-    CHECK(are_told(0, 0, 4));
-    RETURNS(DVS_OUT_OF_RANGE, dvs_id_free(ids, UINT32_MAX, &refusal));
-    CHECK(are_told(0, 0, UINT32_MAX));
-    RETURNS(DVS_NEVER_ALLOCATED, dvs_id_free(ids, 7, &refusal));
-    CHECK(are_told(0, 0, 7));
-    RETURNS(DVS_ALREADY_RELEASED, dvs_id_free(ids, 5, &refusal));
-    CHECK(are_told(0, 0, 5));
+    destroy(0, space);
 }
 
 /* Allocates and frees many ids, the lowest first. */
 static void allocate_many_ids(uint32_t first) {
     dvs_id_allocator *ids;
-    uint32_t id, other;
-    uint64_t count;
-    bool is_held;
+    uint32_t id;
 
     CHECK(dvs_id_allocator_new(first, first + MANY, &ids, NULL) == DVS_OK);
     for (id = first; id < first + MANY; id++) {
-        CHECK(dvs_id_peek(ids, &other) == DVS_OK && other == id);
-        CHECK(dvs_id_is_held(ids, id, &is_held) == DVS_OK && !is_held);
-        CHECK(dvs_id_allocate(ids, &other) == DVS_OK && other == id);
-        CHECK(dvs_id_is_held(ids, id, &is_held) == DVS_OK && is_held);
-        CHECK(dvs_id_count(ids, &count) == DVS_OK && count == (uint64_t)id - first + 1);
+        const struct step steps[] = {
+            {PEEK, {0}, GETS_ID(id)},
+            {IS_ID_HELD, {id}, GETS_NUMBER(false)},
+            {ID, {0}, GETS_ID(id)},
+            {IS_ID_HELD, {id}, GETS_NUMBER(true)},
+            {ID_COUNT, {0}, GETS_NUMBER((uint64_t)id - first + 1)},
+        };
+
+        run(ids, ROWS(steps));
     }
     for (id = first; id < first + MANY; id++) {
-        CHECK(dvs_id_free(ids, id, NULL) == DVS_OK);
-        RETURNS(DVS_ALREADY_RELEASED, dvs_id_free(ids, id, &refusal));
-        CHECK(are_told(0, 0, id));
-        CHECK(dvs_id_is_held(ids, id, &is_held) == DVS_OK && !is_held);
+        const struct step steps[] = {
+            {FREE_ID, {id}, SUCCEEDS},
+            {FREE_ID, {id}, TELLS_ID(DVS_ALREADY_RELEASED, id)},
+            {IS_ID_HELD, {id}, GETS_NUMBER(false)},
+        };
+
+        run(ids, ROWS(steps));
     }
-    dvs_id_allocator_destroy(ids);
-}
-
-static void allocate_ids(void) {
-    dvs_id_allocator *ids;
-    uint32_t id;
-    uint64_t count;
-    bool is_held = true;
-
-    REFUSED(DVS_INVALID_RANGE, dvs_id_allocator *, dvs_id_allocator_new(23, 5, &answer, &refusal));
-    CHECK(are_told(23, 5, 0));
-    CHECK(dvs_id_allocator_new(5, 7, &ids, NULL) == DVS_OK);
-    CHECK(dvs_id_peek(ids, &id) == DVS_OK && id == 5);
-    CHECK(dvs_id_is_held(ids, 5, &is_held) == DVS_OK && !is_held);
-    CHECK(dvs_id_allocate(ids, &id) == DVS_OK && id == 5);
-    CHECK(dvs_id_is_held(ids, 5, &is_held) == DVS_OK && is_held);
-    CHECK(dvs_id_is_held(ids, 4, &is_held) == DVS_OK && !is_held);
-    CHECK(dvs_id_allocate(ids, &id) == DVS_OK && id == 6);
-    CHECK(dvs_id_free(ids, 5, &refusal) == DVS_OK);
-    refuse_ids(ids);
-    CHECK(dvs_id_count(ids, &count) == DVS_OK && count == 1);
-    CHECK(dvs_id_allocate(ids, &id) == DVS_OK && id == 5);
-    CHECK(dvs_id_allocate(ids, &id) == DVS_OK && id == 7);
-    REFUSED(DVS_RESOURCE_NOT_AVAILABLE, uint32_t, dvs_id_allocate(ids, &answer));
-    REFUSED(DVS_RESOURCE_NOT_AVAILABLE, uint32_t, dvs_id_peek(ids, &answer));
-    dvs_id_allocator_destroy(ids);
-    CHECK(dvs_id_allocator_new(UINT32_MAX, UINT32_MAX, &ids, NULL) == DVS_OK);
-    CHECK(dvs_id_allocate(ids, &id) == DVS_OK && id == UINT32_MAX);
-    REFUSED(DVS_OVERFLOW, uint32_t, dvs_id_allocate(ids, &answer));
-    dvs_id_allocator_destroy(ids);
-}
-
-/* Checks the number of free ids, and that the allocated ids are these. */
-static void check_ids(const dvs_id_allocator *ids, uint64_t left, const char *text) {
-    size_t length;
-    uint64_t count;
-    char *saved = saved_ids(ids, &length);
-
-    CHECK(dvs_id_free_count(ids, &count) == DVS_OK && count == left);
-    CHECK(strcmp(saved, text) == 0);
-    dvs_text_destroy(saved);
-}
-
-static void allocate_ids_by_number(void) {
-    dvs_id_allocator *ids;
-    uint32_t id;
-
-    CHECK(dvs_id_allocator_new(5, 23, &ids, NULL) == DVS_OK);
-    RETURNS(DVS_OUT_OF_RANGE, dvs_id_allocate_exact(ids, 24, &refusal));
-    CHECK(are_told(0, 0, 24));
-    CHECK(dvs_id_allocate_exact(ids, 8, &refusal) == DVS_OK);
-    check_ids(ids, 18, "{\"range_base\":5,\"next_id\":9,\"range_end\":23,\"freed_ids\":[5,6,7]}");
-    RETURNS(DVS_RESOURCE_NOT_AVAILABLE, dvs_id_allocate_exact(ids, 8, &refusal));
-    CHECK(dvs_id_allocate_in(ids, 6, 8, &id, NULL) == DVS_OK && id == 6);
-    CHECK(dvs_id_allocate_in(ids, 6, 8, &id, &refusal) == DVS_OK && id == 7);
-    REFUSED(DVS_RESOURCE_NOT_AVAILABLE, uint32_t, dvs_id_allocate_in(ids, 6, 8, &answer, &refusal));
-    REFUSED(DVS_INVALID_RANGE, uint32_t, dvs_id_allocate_in(ids, 8, 6, &answer, &refusal));
-    CHECK(are_told(8, 6, 0));
-    CHECK(dvs_id_allocate_in(ids, 9, UINT32_MAX, &id, NULL) == DVS_OK && id == 9);
-    check_ids(ids, 15, "{\"range_base\":5,\"next_id\":10,\"range_end\":23,\"freed_ids\":[5]}");
-    dvs_id_allocator_destroy(ids);
-}
-
-static void allocate_several_ids(void) {
-    const uint32_t held[2] = {6, 9}, wrong[2] = {9, 9};
-    uint32_t several[4] = {0, 0, 0, 0};
-    dvs_id_allocator *ids;
-
-    REFUSED(DVS_INVALID_RANGE, dvs_id_allocator *,
-            dvs_id_allocator_with_held(23, 5, held, 2, &answer, &refusal));
-    CHECK(are_told(23, 5, 0));
-    REFUSED(DVS_OUT_OF_RANGE, dvs_id_allocator *,
-            dvs_id_allocator_with_held(7, 12, held, 2, &answer, &refusal));
-    CHECK(are_told(0, 0, 6));
-    REFUSED(DVS_RESOURCE_NOT_AVAILABLE, dvs_id_allocator *,
-            dvs_id_allocator_with_held(5, 12, wrong, 2, &answer, &refusal));
-    CHECK(dvs_id_allocator_with_held(5, 12, held, 2, &ids, NULL) == DVS_OK);
-    RETURNS(DVS_RESOURCE_NOT_AVAILABLE, dvs_ids_allocate(ids, several, 7));
-    CHECK(several[0] == 0);
-    CHECK(dvs_ids_allocate(ids, NULL, 0) == DVS_OK);
-    CHECK(dvs_ids_allocate(ids, several, 4) == DVS_OK);
-    CHECK(several[0] == 5 && several[1] == 7 && several[2] == 8 && several[3] == 10);
-    check_ids(ids, 2, "{\"range_base\":5,\"next_id\":11,\"range_end\":12,\"freed_ids\":[]}");
-    dvs_id_allocator_destroy(ids);
-    CHECK(dvs_id_allocator_with_held(UINT32_MAX, UINT32_MAX, NULL, 0, &ids, NULL) == DVS_OK);
-    RETURNS(DVS_OVERFLOW, dvs_ids_allocate(ids, several, 2));
-    CHECK(dvs_ids_allocate(ids, several, 1) == DVS_OK && several[0] == UINT32_MAX);
-    RETURNS(DVS_OVERFLOW, dvs_ids_allocate(ids, several, SIZE_MAX));
-    dvs_id_allocator_destroy(ids);
-}
-
-/* ---- Devices ---- */
-
-static void make_managers(void) {
-    REFUSED(DVS_INVALID_RANGE, dvs_device_manager *,
-            dvs_device_manager_new(2, 1, 0, 0, &answer, &refusal));
-    CHECK(are_told(2, 1, 0));
-    REFUSED(DVS_UNDERFLOW, dvs_device_manager *,
-            dvs_device_manager_new(1, 2, 0, 0, &answer, &refusal));
-    REFUSED(DVS_OVERFLOW, dvs_device_manager *,
-            dvs_device_manager_new(1, 2, UINT64_MAX, 2, &answer, &refusal));
-}
-
-static void reserve_devices(void) {
-    dvs_device_manager *manager;
-    dvs_device first, last, exact;
-    dvs_range range;
-
-    CHECK(dvs_device_manager_new(1, 3, 0x1000, 0x1000, &manager, NULL) == DVS_OK);
-    REFUSED(DVS_INVALID_SIZE, dvs_device,
-            dvs_device_reserve_last(manager, 0, 1, &answer, &refusal));
-    CHECK(dvs_device_reserve_first(manager, 0x100, 0x100, &first, NULL) == DVS_OK);
-    CHECK(dvs_device_reserve_last(manager, 0x100, 0x100, &last, NULL) == DVS_OK);
-    REFUSED(DVS_INVALID_STATE_TRANSITION, dvs_device,
-            dvs_device_reserve_exact(manager, 0x100, 1, 0x1000, &answer, &refusal));
-    CHECK(are_told(0x1000, 0x10ff, 0));
-    CHECK(dvs_device_reserve_exact(manager, 1, 1, 0x1801, &exact, &refusal) == DVS_OK);
-    CHECK(first.id == 1 && is_range(first.range, 0x1000, 0x10ff));
-    CHECK(last.id == 2 && is_range(last.range, 0x1f00, 0x1fff));
-    CHECK(exact.id == 3 && is_range(exact.range, 0x1801, 0x1801));
-    REFUSED(DVS_RESOURCE_NOT_AVAILABLE, dvs_device,
-            dvs_device_reserve_first(manager, 1, 1, &answer, &refusal));
-    CHECK(dvs_device_range(manager, 2, &range, &refusal) == DVS_OK &&
-          is_range(range, 0x1f00, 0x1fff));
-    CHECK(dvs_device_release(manager, 2, &refusal) == DVS_OK);
-    RETURNS(DVS_NEVER_ALLOCATED, dvs_device_release(manager, 2, &refusal));
-    CHECK(are_told(0, 0, 2));
-    REFUSED(DVS_NEVER_ALLOCATED, dvs_range, dvs_device_range(manager, 2, &answer, &refusal));
-    CHECK(are_told(0, 0, 2));
-    dvs_device_manager_destroy(manager);
+    destroy(1, ids);
 }
 
 /* Reserves and releases many devices, at addresses of more than 32 bits. */
 static void reserve_many_devices(uint32_t first) {
     const uint64_t base = 0x7654321000000000;
     dvs_device_manager *manager;
-    dvs_device device;
-    dvs_range range;
-    uint64_t start;
     uint32_t i;
 
     CHECK(dvs_device_manager_new(first, first + MANY, base, MANY, &manager, NULL) == DVS_OK);
     for (i = 0; i < MANY; i++) {
-        start = base + MANY - 1 - i;
-        CHECK(dvs_device_reserve_last(manager, 1, 1, &device, NULL) == DVS_OK);
-        CHECK(device.id == first + i && is_range(device.range, start, start));
-        CHECK(dvs_device_range(manager, first + i, &range, NULL) == DVS_OK);
-        CHECK(is_range(range, start, start));
+        const uint64_t start = base + MANY - 1 - i;
+        const struct step steps[] = {
+            {RESERVE_LAST, {1, 1}, GETS_DEVICE(first + i, start, start)},
+            {DEVICE_RANGE, {first + i}, GETS(start, start)},
+        };
+
+        run(manager, ROWS(steps));
     }
-    for (i = 0; i < MANY; i++) {
-        CHECK(dvs_device_release(manager, first + i, NULL) == DVS_OK);
-        REFUSED(DVS_NEVER_ALLOCATED, dvs_range,
-                dvs_device_range(manager, first + i, &answer, &refusal));
-        CHECK(are_told(0, 0, first + i));
+    for (i = first; i < first + MANY; i++) {
+        const struct step steps[] = {
+            {RELEASE, {i}, SUCCEEDS},
+            {DEVICE_RANGE, {i}, TELLS_ID(DVS_NEVER_ALLOCATED, i)},
+        };
+
+        run(manager, ROWS(steps));
     }
-    dvs_device_manager_destroy(manager);
+    destroy(2, manager);
 }
 
-/* ---- Windows ---- */
+/* ---- Null pointers, visits and copies ---- */
 
-#define TOP UINT64_MAX
+/* An object of each group, with one range, id or device. */
+static void *objects[3];
 
-/* The id of the device that a test reserves. */
-enum { NEXT_ID = 2 };
-
-/* A request with a window, and its result. */
-struct row {
-    uint32_t policy;
-    uint64_t size, alignment, start;
-    dvs_range window;
-    dvs_status status;
-    /* The range that is allocated, or the range in the details of the error. */
-    dvs_range range;
-};
-
-/* In the space from 0x1000 to 0x1fff, with the ranges of `held` allocated. */
-static const dvs_range held[] = {{0x1400, 0x14ff}, {0x1800, 0x18ff}};
-
-static const struct row in_gaps[] = {
-    /* A gap. */
-    {DVS_FIRST, 0x100, 0x100, 0, {0x1500, 0x17ff}, DVS_OK, {0x1500, 0x15ff}},
-    {DVS_LAST, 0x100, 0x100, 0, {0x1500, 0x17ff}, DVS_OK, {0x1700, 0x17ff}},
-    {DVS_EXACT, 0x100, 0x100, 0x1500, {0x1500, 0x17ff}, DVS_OK, {0x1500, 0x15ff}},
-    {DVS_EXACT, 0x100, 0x100, 0x1700, {0x1500, 0x17ff}, DVS_OK, {0x1700, 0x17ff}},
-    /* A part of a gap. */
-    {DVS_FIRST, 0x10, 1, 0, {0x1510, 0x17ef}, DVS_OK, {0x1510, 0x151f}},
-    {DVS_FIRST, 0x10, 0x100, 0, {0x1510, 0x17ef}, DVS_OK, {0x1600, 0x160f}},
-    {DVS_LAST, 0x10, 1, 0, {0x1510, 0x17ef}, DVS_OK, {0x17e0, 0x17ef}},
-    {DVS_LAST, 0x10, 0x100, 0, {0x1510, 0x17ef}, DVS_OK, {0x1700, 0x170f}},
-    {DVS_EXACT, 0x10, 1, 0x1510, {0x1510, 0x17ef}, DVS_OK, {0x1510, 0x151f}},
-    {DVS_EXACT, 0x10, 1, 0x17e0, {0x1510, 0x17ef}, DVS_OK, {0x17e0, 0x17ef}},
-    {DVS_EXACT, 0x10, 1, 0x150f, {0x1510, 0x17ef}, DVS_RESOURCE_NOT_AVAILABLE, {0, 0}},
-    {DVS_EXACT, 0x10, 1, 0x17e1, {0x1510, 0x17ef}, DVS_RESOURCE_NOT_AVAILABLE, {0, 0}},
-    /* All addresses of the window, and one more. */
-    {DVS_FIRST, 0x2e0, 1, 0, {0x1510, 0x17ef}, DVS_OK, {0x1510, 0x17ef}},
-    {DVS_LAST, 0x2e0, 1, 0, {0x1510, 0x17ef}, DVS_OK, {0x1510, 0x17ef}},
-    {DVS_EXACT, 0x2e0, 1, 0x1510, {0x1510, 0x17ef}, DVS_OK, {0x1510, 0x17ef}},
-    {DVS_FIRST, 0x2e1, 1, 0, {0x1510, 0x17ef}, DVS_RESOURCE_NOT_AVAILABLE, {0, 0}},
-    {DVS_LAST, 0x2e1, 1, 0, {0x1510, 0x17ef}, DVS_RESOURCE_NOT_AVAILABLE, {0, 0}},
-    {DVS_EXACT, 0x2e1, 1, 0x1510, {0x1510, 0x17ef}, DVS_RESOURCE_NOT_AVAILABLE, {0, 0}},
-    /* Three gaps. */
-    {DVS_FIRST, 0x100, 1, 0, {0x1300, 0x19ff}, DVS_OK, {0x1300, 0x13ff}},
-    {DVS_FIRST, 0x101, 1, 0, {0x1300, 0x19ff}, DVS_OK, {0x1500, 0x1600}},
-    {DVS_LAST, 0x100, 1, 0, {0x1300, 0x19ff}, DVS_OK, {0x1900, 0x19ff}},
-    {DVS_LAST, 0x101, 1, 0, {0x1300, 0x19ff}, DVS_OK, {0x16ff, 0x17ff}},
-    {DVS_FIRST, 0x301, 1, 0, {0x1300, 0x19ff}, DVS_RESOURCE_NOT_AVAILABLE, {0, 0}},
-    {DVS_LAST, 0x301, 1, 0, {0x1300, 0x19ff}, DVS_RESOURCE_NOT_AVAILABLE, {0, 0}},
-    /* One address, which is free or allocated. */
-    {DVS_FIRST, 1, 1, 0, {0x1555, 0x1555}, DVS_OK, {0x1555, 0x1555}},
-    {DVS_LAST, 1, 1, 0, {0x1555, 0x1555}, DVS_OK, {0x1555, 0x1555}},
-    {DVS_EXACT, 1, 1, 0x1555, {0x1555, 0x1555}, DVS_OK, {0x1555, 0x1555}},
-    {DVS_FIRST, 1, 2, 0, {0x1555, 0x1555}, DVS_RESOURCE_NOT_AVAILABLE, {0, 0}},
-    {DVS_LAST, 2, 1, 0, {0x1555, 0x1555}, DVS_RESOURCE_NOT_AVAILABLE, {0, 0}},
-    {DVS_EXACT, 1, 1, 0x1554, {0x1555, 0x1555}, DVS_RESOURCE_NOT_AVAILABLE, {0, 0}},
-    {DVS_EXACT, 1, 1, 0x1556, {0x1555, 0x1555}, DVS_RESOURCE_NOT_AVAILABLE, {0, 0}},
-    {DVS_FIRST, 1, 1, 0, {0x1400, 0x1400}, DVS_RESOURCE_NOT_AVAILABLE, {0, 0}},
-    {DVS_LAST, 1, 1, 0, {0x14ff, 0x14ff}, DVS_RESOURCE_NOT_AVAILABLE, {0, 0}},
-};
-
-static const struct row at_ends[] = {
-    /* No address of the space. */
-    {DVS_FIRST, 1, 1, 0, {0, 0xfff}, DVS_RESOURCE_NOT_AVAILABLE, {0, 0}},
-    {DVS_LAST, 1, 1, 0, {0x2000, TOP - 1}, DVS_RESOURCE_NOT_AVAILABLE, {0, 0}},
-    {DVS_EXACT, 1, 1, 0x1000, {0, 0xfff}, DVS_RESOURCE_NOT_AVAILABLE, {0, 0}},
-    {DVS_EXACT, 1, 1, 0xf00, {0, 0xfff}, DVS_RESOURCE_NOT_AVAILABLE, {0, 0}},
-    {DVS_EXACT, 1, 1, 0x2000, {0x2000, TOP}, DVS_RESOURCE_NOT_AVAILABLE, {0, 0}},
-    {DVS_FIRST, 1, 1, 0, {0, 0}, DVS_RESOURCE_NOT_AVAILABLE, {0, 0}},
-    {DVS_LAST, 1, 1, 0, {TOP, TOP}, DVS_RESOURCE_NOT_AVAILABLE, {0, 0}},
-    /* The space or a part of it, and addresses outside it. */
-    {DVS_FIRST, 0x10, 1, 0, {0, 0x2fff}, DVS_OK, {0x1000, 0x100f}},
-    {DVS_LAST, 0x10, 1, 0, {0, 0x2fff}, DVS_OK, {0x1ff0, 0x1fff}},
-    {DVS_EXACT, 0x10, 1, 0x1ff0, {1, TOP}, DVS_OK, {0x1ff0, 0x1fff}},
-    {DVS_EXACT, 0x11, 1, 0x1ff0, {1, TOP}, DVS_RESOURCE_NOT_AVAILABLE, {0, 0}},
-    {DVS_FIRST, 0x10, 1, 0, {0x1f00, TOP}, DVS_OK, {0x1f00, 0x1f0f}},
-    {DVS_LAST, 0x10, 1, 0, {0, 0x100f}, DVS_OK, {0x1000, 0x100f}},
-    {DVS_LAST, 0x11, 1, 0, {0, 0x100f}, DVS_RESOURCE_NOT_AVAILABLE, {0, 0}},
-    /* All addresses: no limit. */
-    {DVS_FIRST, 0x10, 1, 0, {0, TOP}, DVS_OK, {0x1000, 0x100f}},
-    {DVS_LAST, 0x10, 1, 0, {0, TOP}, DVS_OK, {0x1ff0, 0x1fff}},
-    {DVS_EXACT, 0x10, 1, 0x1500, {0, TOP}, DVS_OK, {0x1500, 0x150f}},
-    {DVS_EXACT, 0x100, 1, 0x1400, {0, TOP}, DVS_INVALID_STATE_TRANSITION, {0x1400, 0x14ff}},
-    {DVS_FIRST, 0x701, 1, 0, {0, TOP}, DVS_RESOURCE_NOT_AVAILABLE, {0, 0}},
-};
-
-/* Windows that are not ranges, allocated ranges, and requests with two errors. */
-static const struct row refused[] = {
-    {DVS_FIRST, 1, 1, 0, {9, 8}, DVS_INVALID_RANGE, {9, 8}},
-    {DVS_LAST, 1, 1, 0, {TOP, 0}, DVS_INVALID_RANGE, {TOP, 0}},
-    {DVS_EXACT, 1, 1, 0x1500, {0x1501, 0x1500}, DVS_INVALID_RANGE, {0x1501, 0x1500}},
-    {DVS_EXACT, 0x100, 1, 0x1400, {0x1400, 0x14fe}, DVS_INVALID_STATE_TRANSITION, {0x1400, 0x14ff}},
-    {DVS_EXACT, 0x100, 1, 0x1400, {0x1400, 0x1400}, DVS_INVALID_STATE_TRANSITION, {0x1400, 0x14ff}},
-    {DVS_EXACT, 0x100, 1, 0x1400, {0x1401, 0x14ff}, DVS_RESOURCE_NOT_AVAILABLE, {0, 0}},
-    {DVS_EXACT, 0x80, 1, 0x1400, {0x1400, 0x14fe}, DVS_RESOURCE_NOT_AVAILABLE, {0, 0}},
-    {DVS_EXACT + 1, 0, 3, 0, {9, 8}, DVS_INVALID_POLICY, {0, 0}},
-    {UINT32_MAX, 1, 1, 0, {0x1500, 0x17ff}, DVS_INVALID_POLICY, {0, 0}},
-    {DVS_EXACT, 0, 3, 1, {9, 8}, DVS_INVALID_RANGE, {9, 8}},
-    {DVS_EXACT, 0, 3, 1, {0, 0xfff}, DVS_INVALID_SIZE, {0, 0}},
-    {DVS_EXACT, 1, 3, 1, {0, 0xfff}, DVS_INVALID_ALIGNMENT, {0, 0}},
-    {DVS_EXACT, 1, 4, 0x1502, {0, 0xfff}, DVS_UNALIGNED_ADDRESS, {0, 0}},
-    {DVS_EXACT, 2, 1, TOP, {0, 0xfff}, DVS_OVERFLOW, {0, 0}},
-    {DVS_EXACT, TOP, 1, 0x1500, {0x1600, 0x17ff}, DVS_RESOURCE_NOT_AVAILABLE, {0, 0}},
-    {DVS_EXACT, TOP, 1, 0x1500, {0x1500, 0x1501}, DVS_OVERFLOW, {0, 0}},
-    {DVS_EXACT, TOP, 1, 0x1400, {0x1400, 0x1401}, DVS_OVERFLOW, {0, 0}},
-};
-
-/* In the space from 0 to 0xff. */
-static const struct row at_zero[] = {
-    {DVS_FIRST, 1, 1, 0, {0, 0}, DVS_OK, {0, 0}},
-    {DVS_LAST, 1, 1, 0, {0, 0}, DVS_OK, {0, 0}},
-    {DVS_EXACT, 1, 1, 0, {0, 0}, DVS_OK, {0, 0}},
-    {DVS_EXACT, 2, 1, 0, {0, 0}, DVS_RESOURCE_NOT_AVAILABLE, {0, 0}},
-    {DVS_EXACT, 1, 1, 0, {1, TOP}, DVS_RESOURCE_NOT_AVAILABLE, {0, 0}},
-    {DVS_FIRST, 1, 1, 0, {1, TOP}, DVS_OK, {1, 1}},
-    {DVS_FIRST, 0x100, 0x100, 0, {0, 0xff}, DVS_OK, {0, 0xff}},
-    {DVS_LAST, 0x100, 0x100, 0, {0, 0xfe}, DVS_RESOURCE_NOT_AVAILABLE, {0, 0}},
-    {DVS_LAST, 0x10, 0x10, 0, {0, 0xfe}, DVS_OK, {0xe0, 0xef}},
-};
-
-/* In the space of the 256 addresses up to UINT64_MAX. */
-static const struct row at_top[] = {
-    {DVS_FIRST, 1, 1, 0, {TOP, TOP}, DVS_OVERFLOW, {0, 0}},
-    {DVS_FIRST, 0x80, 1, 0, {TOP - 0x7f, TOP}, DVS_OVERFLOW, {0, 0}},
-    {DVS_FIRST, 0x81, 1, 0, {TOP - 0x7f, TOP}, DVS_RESOURCE_NOT_AVAILABLE, {0, 0}},
-    {DVS_FIRST, 0x10, 1, 0, {TOP - 0x7f, TOP}, DVS_OK, {TOP - 0x7f, TOP - 0x70}},
-    {DVS_LAST, 0x10, 1, 0, {TOP - 0x7f, TOP}, DVS_OVERFLOW, {0, 0}},
-    {DVS_LAST, 0x10, 1, 0, {TOP - 0x7f, TOP - 1}, DVS_OK, {TOP - 0x10, TOP - 1}},
-    {DVS_LAST, 0x10, 0x10, 0, {TOP - 0x7f, TOP - 1}, DVS_OK, {TOP - 0x1f, TOP - 0x10}},
-    {DVS_LAST, 1, 1, 0, {0, TOP}, DVS_OVERFLOW, {0, 0}},
-    {DVS_LAST, 1, 1, 0, {0, TOP - 1}, DVS_OK, {TOP - 1, TOP - 1}},
-    {DVS_EXACT, 0x10, 1, TOP - 0xf, {TOP - 0x7f, TOP}, DVS_OVERFLOW, {0, 0}},
-    {DVS_EXACT, 0x11, 1, TOP - 0xf, {TOP - 0x7f, TOP}, DVS_OVERFLOW, {0, 0}},
-    {DVS_EXACT, 0x10, 1, TOP - 0xf, {TOP - 0x7f, TOP - 1}, DVS_RESOURCE_NOT_AVAILABLE, {0, 0}},
-    {DVS_EXACT, 0x10, 1, TOP - 0x10, {TOP - 0x7f, TOP - 1}, DVS_OK, {TOP - 0x10, TOP - 1}},
-    {DVS_EXACT, 1, 1, TOP, {TOP, TOP}, DVS_OVERFLOW, {0, 0}},
-};
-
-/* In a manager whose id UINT32_MAX is allocated. An error of the id precedes that of the range. */
-static const struct row without_ids[] = {
-    {DVS_EXACT + 1, 0, 3, 1, {9, 8}, DVS_INVALID_POLICY, {0, 0}},
-    {DVS_EXACT, 0, 3, 1, {9, 8}, DVS_INVALID_RANGE, {9, 8}},
-    {DVS_EXACT, 0, 3, 1, {0, 0xfff}, DVS_INVALID_SIZE, {0, 0}},
-    {DVS_EXACT, 1, 3, 1, {0, 0xfff}, DVS_INVALID_ALIGNMENT, {0, 0}},
-    {DVS_EXACT, 1, 4, 0x1502, {0, 0xfff}, DVS_UNALIGNED_ADDRESS, {0, 0}},
-    {DVS_EXACT, 0x100, 1, 0x1400, {0x1400, 0x14ff}, DVS_OVERFLOW, {0, 0}},
-    {DVS_FIRST, 1, 1, 0, {0, 0xfff}, DVS_OVERFLOW, {0, 0}},
-    {DVS_LAST, 1, 1, 0, {0x1500, 0x17ff}, DVS_OVERFLOW, {0, 0}},
-};
-
-/* A call with a request, on a space or a manager. It frees what it has allocated. */
-typedef dvs_status request_call(void *object, const dvs_request *request, dvs_range *range);
-
-static dvs_status allocate_one(void *object, const dvs_request *request, dvs_range *range) {
-    dvs_address_allocator *space = (dvs_address_allocator *)object;
-    dvs_status status = dvs_range_allocate(space, request, range, &refusal);
-
-    CHECK(status != DVS_OK || dvs_range_free(space, *range, NULL) == DVS_OK);
-    return status;
-}
-
-static dvs_status allocate_list(void *object, const dvs_request *request, dvs_range *range) {
-    dvs_address_allocator *space = (dvs_address_allocator *)object;
-    size_t failed = MANY;
-    dvs_status status =
-        dvs_address_allocator_allocate_all(space, request, 1, range, &failed, &refusal);
-
-    CHECK(failed == (status == DVS_OK ? 1 : 0));
-    CHECK(status != DVS_OK || dvs_range_free(space, *range, NULL) == DVS_OK);
-    return status;
-}
-
-static dvs_status reserve_one(void *object, const dvs_request *request, dvs_range *range) {
-    dvs_device_manager *manager = (dvs_device_manager *)object;
+static void make_objects(void) {
     dvs_device device;
-    dvs_status status;
 
-    memset(&device, UNTOUCHED, sizeof device);
-    status = dvs_device_reserve(manager, request, &device, &refusal);
-    if (status == DVS_OK) {
-        *range = device.range;
-        CHECK(dvs_device_release(manager, NEXT_ID, NULL) == DVS_OK && device.id == NEXT_ID);
-    } else {
-        CHECK(is_untouched(&device, sizeof device));
-    }
-    return status;
+    prepare();
+    CHECK(dvs_address_allocator_new(0, 4, &results.space) == DVS_OK);
+    CHECK(dvs_range_allocate_first(results.space, 1, 1, &device.range, NULL) == DVS_OK);
+    CHECK(dvs_id_allocator_new(0, 3, &results.ids, NULL) == DVS_OK);
+    CHECK(dvs_id_allocate(results.ids, &device.id) == DVS_OK);
+    CHECK(dvs_device_manager_new(0, 3, 0, 4, &results.manager, NULL) == DVS_OK);
+    CHECK(dvs_device_reserve_first(results.manager, 1, 1, &device, NULL) == DVS_OK);
+    objects[0] = results.space;
+    objects[1] = results.ids;
+    objects[2] = results.manager;
 }
 
-/* Checks the result of a call for a row. A window of all addresses is also NULL. */
-static void check_call(const struct row *row, request_call *call, void *object) {
-    dvs_request request = {row->size, row->alignment, row->start, row->policy, &row->window};
-    bool is_all = is_range(row->window, 0, TOP);
-    int i;
+/* Changes and destroys the objects. */
+static void use_objects(void) {
+    static const struct step steps[3][2] = {
+        {{FREE, {0, 0}, SUCCEEDS}, {DESTROY_SPACE, {0}, SUCCEEDS}},
+        {{FREE_ID, {0}, SUCCEEDS}, {DESTROY_IDS, {0}, SUCCEEDS}},
+        {{RELEASE, {0}, SUCCEEDS}, {DESTROY_MANAGER, {0}, SUCCEEDS}},
+    };
+    int group;
 
-    for (i = 0; i <= is_all; i++) {
-        dvs_range range;
+    for (group = 0; group < 3; group++)
+        run(objects[group], ROWS(steps[group]));
+}
 
-        memset(&range, UNTOUCHED, sizeof range);
-        RETURNS(row->status, call(object, &request, &range));
-        if (row->status == DVS_OK) {
-            CHECK(is_range(range, row->range.start, row->range.end));
-            CHECK(is_untouched(&refusal, sizeof refusal));
-        } else {
-            CHECK(is_untouched(&range, sizeof range));
-            CHECK(are_told(row->range.start, row->range.end, 0));
+static int group_of(int call) {
+    return (call >= ID) + (call >= RESERVE_FIRST);
+}
+
+/* Gives null for the object, for each result, and for the other pointers. */
+static void give_null(void) {
+    static const int with_pointers[] = {WITH_RANGES, WITH_IDS,       READ_SPACE,   REPAIR_SPACE,
+                                        READ_IDS,    READ_MANAGER,   SPACE_WITHIN, REPAIR_WITHIN,
+                                        IDS_WITHIN,  MANAGER_WITHIN, REQUEST,      LIST,
+                                        RESERVE,     EQUAL_SPACE,    EQUAL_IDS,    EQUAL_MANAGERS};
+    static const struct arguments none = {true, true, NULL, NULL, NULL, NULL, NULL, 0, {0, 0}};
+    size_t i;
+    int call;
+
+    make_objects();
+    for (call = 0; call < CALLS; call++) {
+        const struct group *group = &groups[group_of(call)];
+
+        given = usual;
+        given.other = objects[group_of(call)];
+        if (call >= FIRST && call != group->queries - 1)
+            refuse(call, NULL, DVS_NULL);
+        given.has_result = false;
+        if (call < group->done || group->queries <= call)
+            refuse(call, objects[group_of(call)], DVS_NULL);
+        given.has_result = true;
+        given.has_second = false;
+        if (call == group->visits - 1 || call == ID_ENDS || call == DEVICE_IDS)
+            refuse(call, objects[group_of(call)], DVS_NULL);
+    }
+    given = none;
+    for (i = 0; i < sizeof with_pointers / sizeof with_pointers[0]; i++)
+        refuse(with_pointers[i], objects[group_of(with_pointers[i])], DVS_NULL);
+    CHECK(dvs_id_allocator_with_held(1, 0, NULL, 0, NULL, NULL) == DVS_NULL);
+    CHECK(dvs_address_allocator_with_held(0, 0, NULL, 0, NULL, NULL, NULL) == DVS_NULL);
+    CHECK(dvs_address_allocator_allocate_all((dvs_address_allocator *)objects[0], NULL, SIZE_MAX,
+                                             &results.device.range, NULL, NULL) == DVS_NULL);
+    dvs_text_destroy(NULL);
+    use_objects();
+}
+
+/* The group whose object is visited, and the number of visits. */
+static int visited, visits;
+
+/* Checks that a visitor can compare, save and copy the object, but not change or destroy it. */
+static int keep_object(void) {
+    void *object = objects[visited], *copy;
+    int call;
+
+    visits++;
+    for (call = groups[visited].changes; call < groups[visited].queries; call++) {
+        given = usual;
+        refuse(call, object, DVS_BUSY);
+    }
+    copy = copied(visited, object);
+    compare(visited, object, copy, true);
+    destroy(visited, copy);
+    prepare();
+    CHECK(make_call(groups[visited].visits - 1, object, bad) == DVS_OK);
+    dvs_text_destroy(results.text);
+    return 1;
+}
+
+static int see_range(void *context, dvs_range range) {
+    return (void)context, (void)range, keep_object();
+}
+
+static int see_id(void *context, uint32_t id) {
+    return (void)context, (void)id, keep_object();
+}
+
+static int see_device(void *context, dvs_device device) {
+    return (void)context, (void)device, keep_object();
+}
+
+static void change_in_visits(void) {
+    int call, calls = 0;
+
+    make_objects();
+    for (visited = 0; visited < 3; visited++)
+        for (call = groups[visited].visits; call < groups[visited].end; call++, calls++) {
+            given = usual;
+            CHECK(make_call(call, objects[visited], bad) == DVS_OK && visits == calls + 1);
         }
-        request.window = NULL;
-    }
+    use_objects();
 }
 
-/* Checks the three calls with a request. An error must change nothing. */
-static void check_row(const struct row *row, dvs_address_allocator *space,
-                      dvs_device_manager *manager) {
-    size_t length;
-    char *ranges = saved_space(space, &length), *devices = saved_devices(manager, &length);
-    char *ranges_after, *devices_after;
+/* Changes of an object or of its copy, and whether both are equal afterwards. */
+static const struct {
+    int group, is_copy;
+    struct step step;
+    bool are_equal;
+} changes[] = {
+    {0, 1, {FREE, {0, 0}, SUCCEEDS}, false},
+    {0, 0, {FREE, {0, 0}, SUCCEEDS}, true},
+    {1, 1, {ID_EXACT, {2}, SUCCEEDS}, false},
+    {1, 0, {ID_EXACT, {2}, SUCCEEDS}, true},
+    {1, 1, {ID, {0}, GETS_ID(1)}, false},
+    {1, 1, {FREE_ID, {1}, SUCCEEDS}, true},
+    {1, 1, {ID_EXACT, {3}, SUCCEEDS}, false},
+    /* The id is freed in one, and was never allocated in the other. */
+    {1, 1, {FREE_ID, {3}, SUCCEEDS}, false},
+    {2, 1, {RELEASE, {0}, SUCCEEDS}, false},
+    {2, 1, {RESERVE_LAST, {1, 1}, GETS_DEVICE(0, 3, 3)}, false},
+    {2, 1, {RELEASE, {0}, SUCCEEDS}, false},
+    {2, 1, {RESERVE_FIRST, {1, 1}, GETS_DEVICE(0, 0, 0)}, true},
+};
 
-    check_call(row, allocate_one, space);
-    check_call(row, allocate_list, space);
-    check_call(row, reserve_one, manager);
-    ranges_after = saved_space(space, &length);
-    devices_after = saved_devices(manager, &length);
-    CHECK(row->status == DVS_OK || strcmp(ranges, ranges_after) == 0);
-    CHECK(row->status == DVS_OK || strcmp(devices, devices_after) == 0);
-    dvs_text_destroy(ranges);
-    dvs_text_destroy(devices);
-    dvs_text_destroy(ranges_after);
-    dvs_text_destroy(devices_after);
-}
-
-/* Returns a manager with a device for each of the first `count` ranges of `held`. */
-static dvs_device_manager *manager_with(uint64_t base, uint64_t size, uint32_t first, uint32_t last,
-                                        uint32_t count) {
-    dvs_device_manager *manager;
-    dvs_device device;
-    uint32_t i;
-
-    CHECK(dvs_device_manager_new(first, last, base, size, &manager, NULL) == DVS_OK);
-    for (i = 0; i < count; i++)
-        CHECK(dvs_device_reserve_exact(manager, held[i].end - held[i].start + 1, 1, held[i].start,
-                                       &device, NULL) == DVS_OK);
-    return manager;
-}
-
-/* Checks rows in a space in which the first `held_count` ranges of `held` are allocated. */
-static void check_rows(uint64_t base, uint64_t size, uint32_t held_count, const struct row *rows,
-                       size_t count) {
-    dvs_device_manager *manager =
-        manager_with(base, size, NEXT_ID - held_count, NEXT_ID, held_count);
-    dvs_address_allocator *space;
+static void copy_objects(void) {
+    dvs_address_allocator *longer;
+    void *pairs[3][2];
+    int group;
     size_t i;
 
-    CHECK(dvs_address_allocator_with_held(base, size, held, held_count, &space, NULL, NULL) ==
-          DVS_OK);
-    for (i = 0; i < count; i++)
-        check_row(&rows[i], space, manager);
-    dvs_address_allocator_destroy(space);
-    dvs_device_manager_destroy(manager);
-}
-
-#define ROWS(rows) rows, sizeof rows / sizeof rows[0]
-
-static void request_in_windows(void) {
-    dvs_device_manager *manager = manager_with(0x1000, 0x1000, UINT32_MAX, UINT32_MAX, 1);
-    size_t i;
-
-    check_rows(0x1000, 0x1000, 2, ROWS(in_gaps));
-    check_rows(0x1000, 0x1000, 2, ROWS(at_ends));
-    check_rows(0x1000, 0x1000, 2, ROWS(refused));
-    check_rows(0, 0x100, 0, ROWS(at_zero));
-    check_rows(TOP - 0xff, 0x100, 0, ROWS(at_top));
-    for (i = 0; i < sizeof without_ids / sizeof without_ids[0]; i++)
-        check_call(&without_ids[i], reserve_one, manager);
-    REFUSED(DVS_OVERFLOW, dvs_device, dvs_device_reserve_first(manager, 0, 3, &answer, &refusal));
-    dvs_device_manager_destroy(manager);
-}
-
-/* ---- Random requests, compared with a search of all addresses ---- */
-
-/* The space has the 64 addresses starting at BASE. */
-enum { BASE = 0x1000, STEPS = 20000 };
-
-/* A bit for each allocated address, and the size of the range that starts at each address, or 0. */
-static uint64_t bits, sizes[64];
-
-static uint64_t drawn(uint64_t below) {
-    static uint64_t seed = 1;
-
-    seed = seed * 6364136223846793005u + 1442695040888963407u;
-    return (seed >> 33) % below;
-}
-
-static uint64_t bits_of(uint64_t start, uint64_t size) {
-    return (((uint64_t)1 << size) - 1) << start;
-}
-
-/* Writes the start of the range of a request to `found`, and returns the status of the request. */
-static dvs_status searched(const dvs_request *request, dvs_range window, uint64_t *found) {
-    bool is_exact = request->policy == DVS_EXACT;
-    uint64_t exact = request->start - BASE, start;
-
-    *found = 64;
-    for (start = 0; start + request->size <= 64; start++)
-        if (start % request->alignment == 0 && (bits & bits_of(start, request->size)) == 0 &&
-            window.start <= BASE + start && BASE + start + request->size - 1 <= window.end &&
-            (!is_exact || start == exact) && (*found == 64 || request->policy == DVS_LAST))
-            *found = start;
-    if (*found < 64)
-        return DVS_OK;
-    if (is_exact && sizes[exact] == request->size && window.start <= request->start &&
-        request->start <= window.end)
-        return DVS_INVALID_STATE_TRANSITION;
-    return DVS_RESOURCE_NOT_AVAILABLE;
-}
-
-static void request_at_random(void) {
-    dvs_address_allocator *space;
-    dvs_range window, range;
-    dvs_request request = {0, 0, 0, 0, &window};
-    uint64_t start, counts[STATUSES] = {0};
-    dvs_status status;
-    int i;
-
-    CHECK(dvs_address_allocator_new(BASE, 64, &space) == DVS_OK);
-    for (i = 0; i < STEPS; i++) {
-        window.start = BASE - 8 + drawn(80);
-        window.end = window.start + drawn(40);
-        request.size = 1 + drawn(8);
-        request.alignment = (uint64_t)1 << drawn(3);
-        request.start = BASE + (drawn(64) & ~(request.alignment - 1));
-        request.policy = (uint32_t)drawn(3);
-        status = searched(&request, window, &start);
-        counts[status]++;
-        CHECK(dvs_range_allocate(space, &request, &range, NULL) == status);
-        if (status == DVS_OK) {
-            CHECK(is_range(range, BASE + start, BASE + start + request.size - 1));
-            bits |= bits_of(start, request.size);
-            sizes[start] = request.size;
-        }
-        start = drawn(64);
-        if (sizes[start] == 0)
-            continue;
-        range = range_of(BASE + start, BASE + start + sizes[start] - 1);
-        CHECK(dvs_range_free(space, range, NULL) == DVS_OK);
-        bits &= ~bits_of(start, sizes[start]);
-        sizes[start] = 0;
+    make_objects();
+    for (group = 0; group < 3; group++) {
+        pairs[group][0] = objects[group];
+        pairs[group][1] = copied(group, objects[group]);
+        compare(group, pairs[group][0], pairs[group][1], true);
     }
-    CHECK(counts[DVS_OK] > STEPS / 8 && counts[DVS_INVALID_STATE_TRANSITION] > 0);
-    dvs_address_allocator_destroy(space);
+    for (i = 0; i < sizeof changes / sizeof changes[0]; i++) {
+        group = changes[i].group;
+        run(pairs[group][changes[i].is_copy], &changes[i].step, 1);
+        compare(group, pairs[group][0], pairs[group][1], changes[i].are_equal);
+    }
+    CHECK(dvs_address_allocator_new(0, 5, &longer) == DVS_OK);
+    compare(0, pairs[0][0], longer, false);
+    destroy(0, longer);
+    for (group = 0; group < 3; group++) {
+        destroy(group, pairs[group][0]);
+        destroy(group, pairs[group][1]);
+    }
 }
 
 /* ---- Texts ---- */
 
-static const char SPACE[] =
+static const char SPACE_TEXT[] =
     "{\"address_space\":{\"start\":16,\"end\":19},\"interval_tree\":{\"root\":"
     "{\"key\":{\"start\":16,\"end\":19},\"node_state\":\"Free\",\"left\":null,\"right\":null,"
     "\"height\":1}}}";
 static const char EMPTY[] =
     "{\"address_space\":{\"end\":19,\"start\":16},\"interval_tree\":{\"root\":null}}";
-static const char IDS[] = "{\"range_base\":5,\"next_id\":7,\"range_end\":23,\"freed_ids\":[5]}";
+static const char IDS_TEXT[] =
+    "{\"range_base\":5,\"next_id\":7,\"range_end\":23,\"freed_ids\":[5]}";
 
-static void save_spaces(void) {
-    dvs_address_allocator *space, *again;
-    size_t length;
-    char *text;
-
-    CHECK(dvs_address_allocator_new(16, 4, &space) == DVS_OK);
-    text = saved_space(space, &length);
-    CHECK(strcmp(text, SPACE) == 0);
-    CHECK(dvs_address_allocator_read(text, length, &again) == DVS_OK);
-    dvs_address_allocator_destroy(again);
-    dvs_text_destroy(text);
-    REFUSED(DVS_NOT_A_STATE, dvs_address_allocator *,
-            dvs_address_allocator_read(EMPTY, strlen(EMPTY), &answer));
-    CHECK(dvs_address_allocator_read_repaired(EMPTY, strlen(EMPTY), &again) == DVS_OK);
-    text = saved_space(again, &length);
-    CHECK(strcmp(text, SPACE) == 0);
-    dvs_text_destroy(text);
-    dvs_address_allocator_destroy(again);
-    dvs_address_allocator_destroy(space);
-}
-
-static void save_ids(void) {
-    dvs_id_allocator *ids;
-    size_t length;
-    char *text;
-
-    CHECK(dvs_id_allocator_read(IDS, strlen(IDS), &ids) == DVS_OK);
-    text = saved_ids(ids, &length);
-    CHECK(strcmp(text, IDS) == 0);
-    dvs_text_destroy(text);
-    dvs_id_allocator_destroy(ids);
-    REFUSED(DVS_NOT_A_STATE, dvs_id_allocator *,
-            dvs_id_allocator_read(SPACE, strlen(SPACE), &answer));
-}
-
-static void save_devices(void) {
-    dvs_device_manager *manager, *again;
-    dvs_device device;
-    dvs_range range;
-    size_t length;
-    char *text;
-
-    CHECK(dvs_device_manager_new(1, 3, 0x1000, 0x1000, &manager, NULL) == DVS_OK);
-    CHECK(dvs_device_reserve_last(manager, 0x100, 1, &device, NULL) == DVS_OK);
-    text = saved_devices(manager, &length);
-    CHECK(dvs_device_manager_read(text, length, &again) == DVS_OK);
-    CHECK(dvs_device_range(again, 1, &range, NULL) == DVS_OK && is_range(range, 0x1f00, 0x1fff));
-    dvs_device_manager_destroy(again);
-    dvs_device_manager_destroy(manager);
-    REFUSED(DVS_NOT_JSON, dvs_device_manager *, dvs_device_manager_read(text, length - 1, &answer));
-    dvs_text_destroy(text);
-}
-
-/* ---- Texts that are not read ---- */
-
-/* Checks why a text was not read. */
-static void check_fault(dvs_text_fault fault, size_t offset, const char *field,
-                        const char *reason) {
-    CHECK(fault.offset == offset && strstr(fault.reason, reason) != NULL);
-    CHECK((field == NULL) == (fault.field == NULL));
-    CHECK(field == NULL || strcmp(field, fault.field) == 0);
-}
-
-/* Texts of ids, each with its status and the fault. */
+/* Texts that are read, and saved texts of the objects. */
 static const struct {
+    int call, group;
+    const char *text, *saved;
+} readings[] = {
+    {READ_SPACE, 0, SPACE_TEXT, SPACE_TEXT}, {SPACE_WITHIN, 0, SPACE_TEXT, SPACE_TEXT},
+    {REPAIR_SPACE, 0, EMPTY, SPACE_TEXT},    {REPAIR_WITHIN, 0, EMPTY, SPACE_TEXT},
+    {READ_IDS, 1, IDS_TEXT, IDS_TEXT},       {IDS_WITHIN, 1, IDS_TEXT, IDS_TEXT},
+};
+
+/* Texts that are not read, each with its status and its fault. */
+static const struct {
+    int call;
     const char *text;
     dvs_status status;
     size_t offset;
     const char *field, *reason;
 } faults[] = {
-    {"", DVS_NOT_JSON, 0, NULL, "a value"},
-    {"[", DVS_NOT_JSON, 1, NULL, "a value"},
-    {"{\"next_id\":01}", DVS_NOT_JSON, 12, NULL, "a comma"},
-    {"{\"next_id\":\"\\ud800\"}", DVS_NOT_JSON, 13, NULL, "an escape"},
-    {"{\"base\":1e999}", DVS_NOT_JSON, 8, NULL, "greater than any double"},
-    {"{\"base\" 5}", DVS_NOT_JSON, 8, NULL, "a colon"},
-    {"{\"range_base\":5 \xff}", DVS_NOT_JSON, 16, NULL, "UTF-8"},
-    {"{\"range_base\":5} x", DVS_NOT_JSON, 17, NULL, "the end"},
-    {"7", DVS_NOT_A_STATE, 0, NULL, "an object"},
-    {" {\"range_base\":5, \"base\":5}", DVS_NOT_A_STATE, 18, NULL, "unknown"},
-    {"{\"range_base\":5}", DVS_NOT_A_STATE, 16, "range_end", "missing"},
-    {"{\"range_base\":5,\"range_base\":5}", DVS_NOT_A_STATE, 16, "range_base", "duplicate"},
-    {"{\"range_base\":null}", DVS_NOT_A_STATE, 14, "range_base", "a whole number"},
-    {"{\"range_base\":4294967296}", DVS_NOT_A_STATE, 14, "range_base", "in its range"},
-    {"{\"freed_ids\":{}}", DVS_NOT_A_STATE, 13, "freed_ids", "a list"},
-    {"{\"freed_ids\":[6,6]}", DVS_NOT_A_STATE, 17, "freed_ids", "ascend"},
-    {"{\"range_base\":5,\"next_id\":7,\"range_end\":4,\"freed_ids\":[]}", DVS_NOT_A_STATE, 57, NULL,
-     "range_base is past range_end"},
+    {IDS_WITHIN, "", DVS_NOT_JSON, 0, NULL, "a value"},
+    {IDS_WITHIN, "[", DVS_NOT_JSON, 1, NULL, "a value"},
+    {IDS_WITHIN, "{\"next_id\":01}", DVS_NOT_JSON, 12, NULL, "a comma"},
+    {IDS_WITHIN, "{\"next_id\":\"\\ud800\"}", DVS_NOT_JSON, 13, NULL, "an escape"},
+    {IDS_WITHIN, "{\"base\":1e999}", DVS_NOT_JSON, 8, NULL, "greater than any double"},
+    {IDS_WITHIN, "{\"base\" 5}", DVS_NOT_JSON, 8, NULL, "a colon"},
+    {IDS_WITHIN, "{\"range_base\":5 \xff}", DVS_NOT_JSON, 16, NULL, "UTF-8"},
+    {IDS_WITHIN, "{\"range_base\":5} x", DVS_NOT_JSON, 17, NULL, "the end"},
+    {IDS_WITHIN, "7", DVS_NOT_A_STATE, 0, NULL, "an object"},
+    {IDS_WITHIN, " {\"range_base\":5, \"base\":5}", DVS_NOT_A_STATE, 18, NULL, "unknown"},
+    {IDS_WITHIN, "{\"range_base\":5}", DVS_NOT_A_STATE, 16, "range_end", "missing"},
+    {IDS_WITHIN, "{\"range_base\":5,\"range_base\":5}", DVS_NOT_A_STATE, 16, "range_base",
+     "duplicate"},
+    {IDS_WITHIN, "{\"range_base\":null}", DVS_NOT_A_STATE, 14, "range_base", "a whole number"},
+    {IDS_WITHIN, "{\"range_base\":4294967296}", DVS_NOT_A_STATE, 14, "range_base", "in its range"},
+    {IDS_WITHIN, "{\"freed_ids\":{}}", DVS_NOT_A_STATE, 13, "freed_ids", "a list"},
+    {IDS_WITHIN, "{\"freed_ids\":[6,6]}", DVS_NOT_A_STATE, 17, "freed_ids", "ascend"},
+    {IDS_WITHIN, "{\"range_base\":5,\"next_id\":7,\"range_end\":4,\"freed_ids\":[]}",
+     DVS_NOT_A_STATE, 57, NULL, "range_base is past range_end"},
+    {IDS_WITHIN, SPACE_TEXT, DVS_NOT_A_STATE, 1, NULL, "unknown"},
+    {MANAGER_WITHIN, SPACE_TEXT, DVS_NOT_A_STATE, 1, NULL, "unknown"},
+    {SPACE_WITHIN, "{\"address_space\":{\"start\":1,\"end\":0}}", DVS_NOT_A_STATE, 36,
+     "address_space", "range"},
+    {SPACE_WITHIN, EMPTY, DVS_NOT_A_STATE, 69, NULL, "it has a gap"},
 };
 
-static void tell_faults(void) {
-    static const char unknown[] = "{\"address_space\":{\"start\":1,\"end\":0}}";
-    dvs_address_allocator *space;
-    dvs_text_fault fault;
+/* Sets the text of calls, with a limit of nesting. */
+static void give_text(const char *text, size_t length, uint32_t depth) {
+    given = usual;
+    given.text = text;
+    given.length = length;
+    given.limits.length = length;
+    given.limits.depth = depth;
+}
+
+static void check_fault(size_t offset, const char *field, const char *reason) {
+    CHECK(fault.offset == offset && strstr(fault.reason, reason) != NULL);
+    CHECK(field == NULL ? fault.field == NULL : strcmp(field, fault.field) == 0);
+}
+
+static void read_texts(void) {
     size_t i;
 
+    for (i = 0; i < sizeof readings / sizeof readings[0]; i++) {
+        void *object;
+
+        /* A value of the space is nested five deep: the object, the tree, the root, the key and a
+         * number. */
+        give_text(readings[i].text, strlen(readings[i].text), 5);
+        prepare();
+        CHECK(make_call(readings[i].call, NULL, bad) == DVS_OK &&
+              is_untouched(&fault, sizeof fault));
+        object = created(readings[i].group);
+        is_saved_as(readings[i].group, object, readings[i].saved);
+        destroy(readings[i].group, object);
+    }
     for (i = 0; i < sizeof faults / sizeof faults[0]; i++) {
-        const char *text = faults[i].text;
-
-        REFUSED(faults[i].status, dvs_id_allocator *,
-                dvs_id_allocator_read_within(text, strlen(text), NULL, &answer, &fault));
-        check_fault(fault, faults[i].offset, faults[i].field, faults[i].reason);
-        REFUSED(faults[i].status, dvs_id_allocator *,
-                dvs_id_allocator_read(text, strlen(text), &answer));
+        give_text(faults[i].text, strlen(faults[i].text), 0);
+        refuse(faults[i].call, NULL, faults[i].status);
+        check_fault(faults[i].offset, faults[i].field, faults[i].reason);
+        refuse(faults[i].call - SPACE_WITHIN + READ_SPACE, NULL, faults[i].status);
     }
-    REFUSED(DVS_NOT_A_STATE, dvs_address_allocator *,
-            dvs_address_allocator_read_within(unknown, strlen(unknown), NULL, &answer, &fault));
-    check_fault(fault, 36, "address_space", "range");
-    REFUSED(DVS_NOT_A_STATE, dvs_device_manager *,
-            dvs_device_manager_read_within(SPACE, strlen(SPACE), NULL, &answer, &fault));
-    check_fault(fault, 1, NULL, "unknown");
-    memset(&fault, UNTOUCHED, sizeof fault);
-    CHECK(dvs_address_allocator_read_repaired_within(EMPTY, strlen(EMPTY), NULL, &space, &fault) ==
-          DVS_OK);
-    CHECK(is_untouched(&fault, sizeof fault));
-    dvs_address_allocator_destroy(space);
+    give_text(SPACE_TEXT, strlen(SPACE_TEXT), 4);
+    refuse(SPACE_WITHIN, NULL, DVS_LIMIT_EXCEEDED);
+    check_fault(79, NULL, "nested");
+    given.limits.length--;
+    refuse(SPACE_WITHIN, NULL, DVS_LIMIT_EXCEEDED);
+    check_fault(strlen(SPACE_TEXT) - 1, NULL, "long");
 }
 
-/* A value of the space is nested five deep: the object, the tree, the root, the key and a number.
- */
-static void keep_limits(void) {
-    dvs_text_limits limits = {0, 0};
-    dvs_address_allocator *space;
-    dvs_text_fault fault;
+/* Reads what it saves, and no part of it. The library must not read past a text, so it refuses
+ * lengths that no object can have. */
+static void read_again(void) {
+    static const int calls[] = {READ_SPACE, READ_IDS, READ_MANAGER, REPAIR_SPACE};
+    int i;
 
-    limits.length = strlen(SPACE);
-    limits.depth = 5;
-    CHECK(dvs_address_allocator_read_within(SPACE, strlen(SPACE), &limits, &space, NULL) == DVS_OK);
-    dvs_address_allocator_destroy(space);
-    limits.depth = 4;
-    REFUSED(DVS_LIMIT_EXCEEDED, dvs_address_allocator *,
-            dvs_address_allocator_read_within(SPACE, strlen(SPACE), &limits, &answer, &fault));
-    check_fault(fault, 79, NULL, "nested");
-    limits.length--;
-    REFUSED(DVS_LIMIT_EXCEEDED, dvs_address_allocator *,
-            dvs_address_allocator_read_within(SPACE, strlen(SPACE), &limits, &answer, &fault));
-    check_fault(fault, limits.length, NULL, "long");
-}
+    make_objects();
+    for (i = 0; i < 4; i++) {
+        void *object = objects[i % 3], *again;
+        char *text;
 
-/* Checks lengths that no object can have. The library must not read past the text. */
-static void give_great_lengths(void) {
-    static const size_t lengths[] = {SIZE_MAX, SIZE_MAX / 2 + 1};
-    dvs_address_allocator *space;
-    size_t length, i;
-    char *text;
-
-    CHECK(dvs_address_allocator_new(16, 4, &space) == DVS_OK);
-    text = saved_space(space, &length);
-    for (i = 0; i < 2; i++) {
-        length = lengths[i];
-        REFUSED(DVS_NOT_JSON, dvs_address_allocator *,
-                dvs_address_allocator_read(text, length, &answer));
-        REFUSED(DVS_NOT_JSON, dvs_address_allocator *,
-                dvs_address_allocator_read_repaired(text, length, &answer));
-        REFUSED(DVS_NOT_JSON, dvs_id_allocator *, dvs_id_allocator_read(text, length, &answer));
-        REFUSED(DVS_NOT_JSON, dvs_device_manager *, dvs_device_manager_read(text, length, &answer));
+        given = usual;
+        prepare();
+        CHECK(make_call(groups[i % 3].visits - 1, object, bad) == DVS_OK);
+        text = results.text;
+        give_text(text, results.length, 0);
+        prepare();
+        CHECK(make_call(calls[i], NULL, bad) == DVS_OK);
+        again = created(i % 3);
+        compare(i % 3, object, again, true);
+        destroy(i % 3, again);
+        give_text(text, strlen(text) - 1, 0);
+        refuse(calls[i], NULL, DVS_NOT_JSON);
+        give_text(text, SIZE_MAX, 0);
+        refuse(calls[i], NULL, DVS_NOT_JSON);
+        give_text(text, SIZE_MAX / 2 + 1, 0);
+        refuse(calls[i], NULL, DVS_NOT_JSON);
+        dvs_text_destroy(text);
     }
-    dvs_text_destroy(text);
-    dvs_address_allocator_destroy(space);
-}
-
-/* ---- Null pointers ---- */
-
-#define IS_NULL(call) RETURNS(DVS_NULL, call)
-
-static void give_null_spaces(void) {
-    dvs_address_allocator *space;
-    dvs_range range;
-    uint64_t count;
-    bool is_held;
-    size_t length;
-    char *text;
-
-    CHECK(dvs_address_allocator_new(0, 10, &space) == DVS_OK);
-    IS_NULL(dvs_range_from_start_length(0, 0, NULL));
-    IS_NULL(dvs_range_offset_of(range_of(2, 1), 0, NULL));
-    IS_NULL(dvs_address_allocator_new(0, 0, NULL));
-    IS_NULL(dvs_address_allocator_space(NULL, &range));
-    IS_NULL(dvs_address_allocator_space(space, NULL));
-    IS_NULL(dvs_range_allocate_first(NULL, 0, 1, &range, NULL));
-    IS_NULL(dvs_range_allocate_first(space, 1, 1, NULL, NULL));
-    IS_NULL(dvs_range_allocate_last(NULL, 1, 1, &range, NULL));
-    IS_NULL(dvs_range_allocate_last(space, 1, 1, NULL, NULL));
-    IS_NULL(dvs_range_allocate_exact(NULL, 1, 1, 0, &range, NULL));
-    IS_NULL(dvs_range_allocate_exact(space, 1, 1, 0, NULL, NULL));
-    IS_NULL(dvs_range_allocate(NULL, &worst, &range, NULL));
-    IS_NULL(dvs_range_allocate(space, NULL, &range, &refusal));
-    CHECK(are_told(0, 0, 0));
-    IS_NULL(dvs_range_allocate(space, &worst, NULL, NULL));
-    IS_NULL(dvs_range_free(NULL, range_of(0, 1), NULL));
-    IS_NULL(dvs_range_move(NULL, range_of(0, 1), 0, &range, NULL));
-    IS_NULL(dvs_range_move(space, range_of(0, 1), 0, NULL, NULL));
-    IS_NULL(dvs_range_is_held(NULL, range_of(0, 1), &is_held, NULL));
-    IS_NULL(dvs_range_is_held(space, range_of(0, 1), NULL, NULL));
-    IS_NULL(dvs_range_count(NULL, &count));
-    IS_NULL(dvs_range_count(space, NULL));
-    IS_NULL(dvs_range_visit(NULL, visit_range, NULL));
-    IS_NULL(dvs_range_visit(space, NULL, NULL));
-    IS_NULL(dvs_address_allocator_save(NULL, &text, &length));
-    IS_NULL(dvs_address_allocator_save(space, NULL, &length));
-    IS_NULL(dvs_address_allocator_save(space, &text, NULL));
-    IS_NULL(dvs_address_allocator_read(NULL, 0, &space));
-    IS_NULL(dvs_address_allocator_read("", 0, NULL));
-    IS_NULL(dvs_address_allocator_read_within(NULL, 0, NULL, &space, NULL));
-    IS_NULL(dvs_address_allocator_read_within("", 0, NULL, NULL, NULL));
-    IS_NULL(dvs_address_allocator_read_repaired_within(NULL, 0, NULL, &space, NULL));
-    IS_NULL(dvs_address_allocator_read_repaired_within("", 0, NULL, NULL, NULL));
-    IS_NULL(dvs_address_allocator_read_repaired(NULL, 0, &space));
-    IS_NULL(dvs_address_allocator_read_repaired("", 0, NULL));
-    CHECK(dvs_range_count(space, &count) == DVS_OK && count == 0);
-    dvs_address_allocator_destroy(space);
-}
-
-static void give_null_ids(void) {
-    dvs_id_allocator *ids;
-    uint32_t id;
-    uint64_t count;
-    bool is_held;
-    size_t length;
-    char *text;
-
-    CHECK(dvs_id_allocator_new(0, 10, &ids, NULL) == DVS_OK);
-    IS_NULL(dvs_id_allocator_new(1, 0, NULL, NULL));
-    dvs_id_allocator_destroy(NULL);
-    IS_NULL(dvs_id_allocate(NULL, &id));
-    IS_NULL(dvs_id_allocate(ids, NULL));
-    IS_NULL(dvs_id_peek(NULL, &id));
-    IS_NULL(dvs_id_peek(ids, NULL));
-    IS_NULL(dvs_id_free(NULL, 0, NULL));
-    IS_NULL(dvs_id_is_held(NULL, 0, &is_held));
-    IS_NULL(dvs_id_is_held(ids, 0, NULL));
-    IS_NULL(dvs_id_count(NULL, &count));
-    IS_NULL(dvs_id_count(ids, NULL));
-    IS_NULL(dvs_id_free_count(NULL, &count));
-    IS_NULL(dvs_id_free_count(ids, NULL));
-    IS_NULL(dvs_id_allocate_exact(NULL, 0, NULL));
-    IS_NULL(dvs_id_allocate_in(NULL, 0, 1, &id, NULL));
-    IS_NULL(dvs_id_allocate_in(ids, 0, 1, NULL, NULL));
-    IS_NULL(dvs_ids_allocate(NULL, &id, 1));
-    IS_NULL(dvs_ids_allocate(ids, NULL, 1));
-    IS_NULL(dvs_id_allocator_with_held(1, 0, NULL, 1, &ids, NULL));
-    IS_NULL(dvs_id_allocator_with_held(1, 0, NULL, 0, NULL, NULL));
-    IS_NULL(dvs_id_allocator_save(NULL, &text, &length));
-    IS_NULL(dvs_id_allocator_save(ids, NULL, &length));
-    IS_NULL(dvs_id_allocator_save(ids, &text, NULL));
-    IS_NULL(dvs_id_allocator_read(NULL, 0, &ids));
-    IS_NULL(dvs_id_allocator_read("", 0, NULL));
-    IS_NULL(dvs_id_allocator_read_within(NULL, 0, NULL, &ids, NULL));
-    IS_NULL(dvs_id_allocator_read_within("", 0, NULL, NULL, NULL));
-    CHECK(dvs_id_count(ids, &count) == DVS_OK && count == 0);
-    dvs_id_allocator_destroy(ids);
-}
-
-static void give_null_managers(void) {
-    dvs_device_manager *manager;
-    dvs_device device;
-    dvs_range range;
-    size_t length;
-    char *text;
-
-    CHECK(dvs_device_manager_new(0, 10, 0, 10, &manager, NULL) == DVS_OK);
-    IS_NULL(dvs_device_manager_new(1, 0, 0, 0, NULL, NULL));
-    dvs_device_manager_destroy(NULL);
-    IS_NULL(dvs_device_reserve_first(NULL, 1, 1, &device, &refusal));
-    CHECK(are_told(0, 0, 0));
-    IS_NULL(dvs_device_reserve_first(manager, 1, 1, NULL, NULL));
-    IS_NULL(dvs_device_reserve_last(NULL, 1, 1, &device, NULL));
-    IS_NULL(dvs_device_reserve_last(manager, 1, 1, NULL, NULL));
-    IS_NULL(dvs_device_reserve_exact(NULL, 1, 1, 0, &device, NULL));
-    IS_NULL(dvs_device_reserve_exact(manager, 1, 1, 0, NULL, NULL));
-    IS_NULL(dvs_device_reserve(NULL, &worst, &device, NULL));
-    IS_NULL(dvs_device_reserve(manager, NULL, &device, &refusal));
-    CHECK(are_told(0, 0, 0));
-    IS_NULL(dvs_device_reserve(manager, &worst, NULL, NULL));
-    IS_NULL(dvs_device_release(NULL, 0, NULL));
-    IS_NULL(dvs_device_range(NULL, 0, &range, NULL));
-    IS_NULL(dvs_device_range(manager, 0, NULL, NULL));
-    IS_NULL(dvs_device_manager_save(NULL, &text, &length));
-    IS_NULL(dvs_device_manager_save(manager, NULL, &length));
-    IS_NULL(dvs_device_manager_save(manager, &text, NULL));
-    IS_NULL(dvs_device_manager_read(NULL, 0, &manager));
-    IS_NULL(dvs_device_manager_read("", 0, NULL));
-    IS_NULL(dvs_device_manager_read_within(NULL, 0, NULL, &manager, NULL));
-    IS_NULL(dvs_device_manager_read_within("", 0, NULL, NULL, NULL));
-    dvs_text_destroy(NULL);
-    CHECK(dvs_device_reserve_first(manager, 10, 1, &device, NULL) == DVS_OK && device.id == 0);
-    dvs_device_manager_destroy(manager);
+    use_objects();
 }
 
 /* ---- Words ---- */
 
-static const struct text {
-    dvs_status status;
-    const char *words;
-} texts[] = {
-    {DVS_OK, "The call succeeded."},
-    {DVS_OVERFLOW, "Management operations on desired resource resulted in overflow."},
-    {DVS_OUT_OF_RANGE, "The id is not in the range."},
-    {DVS_ALREADY_RELEASED, "The id is already released."},
-    {DVS_NEVER_ALLOCATED, "The id was never allocated, can't release it."},
-    {DVS_RESOURCE_NOT_AVAILABLE, "The requested resource is not available."},
-    {DVS_INVALID_RANGE, "The range is not valid."},
-    {DVS_INVALID_ALIGNMENT, "Alignment value is invalid."},
-    {DVS_OVERLAP, "Addresses are overlapping."},
-    {DVS_INVALID_STATE_TRANSITION, "The range is already allocated."},
-    {DVS_UNALIGNED_ADDRESS, "The address is not aligned."},
-    {DVS_UNDERFLOW, "Management operations on desired resource resulted in underflow."},
-    {DVS_INVALID_SIZE, "The size is not valid."},
-    {DVS_OUT_OF_MEMORY, "There is not enough memory."},
-    {DVS_NULL, "A pointer is null."},
-    {DVS_BUSY, "The object is being visited and cannot be changed."},
-    {DVS_NOT_JSON, "The text is not JSON."},
-    {DVS_NOT_A_STATE, "The value does not encode a valid object."},
-    {DVS_INVALID_POLICY, "The policy is not valid."},
-    {DVS_LIMIT_EXCEEDED, "The text exceeds a limit."},
-    /* Numbers that are not a status. */
-    {(dvs_status)STATUSES, "Unknown status."},
-    {(dvs_status)99, "Unknown status."},
-    {(dvs_status)256, "Unknown status."},
-    {(dvs_status)65536, "Unknown status."},
-    {UINT32_MAX, "Unknown status."},
-};
+static const char *const words[STATUSES] = {
+    "The call succeeded.",
+    "Management operations on desired resource resulted in overflow.",
+    "The id is not in the range.",
+    "The id is already released.",
+    "The id was never allocated, can't release it.",
+    "The requested resource is not available.",
+    "The range is not valid.",
+    "Alignment value is invalid.",
+    "Addresses are overlapping.",
+    "The range is already allocated.",
+    "The address is not aligned.",
+    "Management operations on desired resource resulted in underflow.",
+    "The size is not valid.",
+    "There is not enough memory.",
+    "A pointer is null.",
+    "The object is being visited and cannot be changed.",
+    "The text is not JSON.",
+    "The value does not encode a valid object.",
+    "The policy is not valid.",
+    "The text exceeds a limit."};
 
 static void say_words(void) {
+    static const dvs_status unknown[] = {STATUSES, 99, 256, 65536, UINT32_MAX};
+    char version[32];
+    dvs_status status;
     size_t i;
 
-    for (i = 0; i < sizeof texts / sizeof texts[0]; i++)
-        CHECK(strcmp(dvs_status_text(texts[i].status), texts[i].words) == 0);
-    CHECK(strcmp(dvs_version_text(), DVS_VERSION_TEXT) == 0);
-}
-
-static void check_version(void) {
-    char text[32];
-
-    sprintf(text, "%d.%d.%d", DVS_VERSION_MAJOR, DVS_VERSION_MINOR, DVS_VERSION_PATCH);
-    CHECK(strcmp(text, DVS_VERSION_TEXT) == 0);
+    for (status = 0; status < STATUSES; status++)
+        CHECK(strcmp(dvs_status_text(status), words[status]) == 0);
+    for (i = 0; i < sizeof unknown / sizeof unknown[0]; i++)
+        CHECK(strcmp(dvs_status_text(unknown[i]), "Unknown status.") == 0);
+    sprintf(version, "%d.%d.%d", DVS_VERSION_MAJOR, DVS_VERSION_MINOR, DVS_VERSION_PATCH);
+    CHECK(strcmp(version, DVS_VERSION_TEXT) == 0 && strcmp(version, dvs_version_text()) == 0);
 }
 
 int main(void) {
     int status;
 
-    make_ranges();
-    make_spaces();
-    move_ranges();
-    allocate_ranges();
-    allocate_large_ranges();
+    call_with_numbers();
     allocate_many_ranges();
-    visit_ranges();
-    visit_in_other_ways();
-    allocate_ids();
-    allocate_ids_by_number();
-    allocate_several_ids();
     allocate_many_ids(0);
     allocate_many_ids(0x7fffff80);
-    make_managers();
-    reserve_devices();
     reserve_many_devices(0);
     reserve_many_devices(0x7fffff80);
-    request_in_windows();
-    request_at_random();
-    save_spaces();
-    save_ids();
-    save_devices();
-    tell_faults();
-    keep_limits();
-    give_great_lengths();
-    give_null_spaces();
-    give_null_ids();
-    give_null_managers();
+    give_null();
+    change_in_visits();
+    copy_objects();
+    read_texts();
+    read_again();
     say_words();
-    check_version();
     for (status = 0; status < STATUSES; status++)
         CHECK(seen[status] || status == DVS_OVERLAP || status == DVS_OUT_OF_MEMORY);
     puts("calls: every call and every status checked");

@@ -1,6 +1,8 @@
 /* Checks the calls that list, look up and count, and the calls with arrays. */
 #include "check.h"
 
+#include <limits.h>
+
 enum { MOST = 8 };
 
 /* The arguments of the visitor's calls. */
@@ -205,6 +207,110 @@ static void visit_within(void) {
     dvs_address_allocator_destroy(space);
 }
 
+typedef dvs_status visit_all(const dvs_address_allocator *space, dvs_range_visitor *visitor,
+                             void *context);
+typedef dvs_status visit_at(const dvs_address_allocator *space, uint64_t address,
+                            dvs_range_visitor *visitor, void *context);
+
+/* Compares the visits from an address, up and down, with a visit of all ranges or gaps. */
+static void visit_from(const dvs_address_allocator *space, uint64_t address, visit_all *all,
+                       visit_at *up, visit_at *down) {
+    struct seen every = all_of(), above = all_of(), below = all_of(), next = all_of();
+    size_t i, ups = 0, downs = 0;
+
+    CHECK(all(space, see_range, &every) == DVS_OK);
+    CHECK(up(space, address, see_range, &above) == DVS_OK);
+    CHECK(down(space, address, see_range, &below) == DVS_OK);
+    for (i = 0; i < every.count; i++) {
+        dvs_range low = every.ranges[i], high = every.ranges[every.count - 1 - i];
+
+        if (low.end >= address)
+            CHECK(is_range(above.ranges[ups++], low.start, low.end));
+        if (high.start <= address)
+            CHECK(is_range(below.ranges[downs++], high.start, high.end));
+    }
+    CHECK(above.count == ups && below.count == downs);
+    next.stop_at = 1;
+    CHECK(up(space, address, see_range, &next) == DVS_OK && next.count == (ups > 0));
+}
+
+/* Visits from the ends of each range, from the addresses next to them, and from the ends of all. */
+static void visit_from_addresses(void) {
+    static const dvs_range held[] = {{2, 4}, {5, 9}, {20, UINT64_MAX - 9}};
+    static const uint64_t bases[] = {0, 2, 1},
+                          lasts[] = {UINT64_MAX - 1, UINT64_MAX, UINT64_MAX - 9};
+    uint64_t addresses[] = {0, 1, 2, 3, 4, 5, 9, 10, 19, 20, 21, 0, 0, 0, 0, 0};
+    dvs_address_allocator *space;
+    size_t i, j;
+
+    for (j = 0; j < 5; j++)
+        addresses[11 + j] = UINT64_MAX - (j < 3 ? j : 5 + j);
+    for (i = 0; i < 3; i++) {
+        CHECK(dvs_address_allocator_with_held(bases[i], lasts[i] - bases[i] + 1, held, 3, &space,
+                                              NULL, NULL) == DVS_OK);
+        for (j = 0; j < sizeof addresses / sizeof addresses[0]; j++) {
+            visit_from(space, addresses[j], dvs_range_visit, dvs_range_visit_from,
+                       dvs_range_visit_back);
+            visit_from(space, addresses[j], dvs_gap_visit, dvs_gap_visit_from, dvs_gap_visit_back);
+        }
+        dvs_address_allocator_destroy(space);
+    }
+}
+
+/* ---- The order and the end of a visit ---- */
+
+/* Nests more visits than a byte can count. The allocator stays busy until all of them end. */
+enum { MANY = 300 };
+
+struct deep {
+    dvs_address_allocator *space;
+    int visits;
+};
+
+static int visit_deeper(void *context, dvs_range range) {
+    struct deep *deep = (struct deep *)context;
+
+    if (++deep->visits < MANY)
+        CHECK(dvs_range_visit(deep->space, visit_deeper, deep) == DVS_OK);
+    CHECK(dvs_range_free(deep->space, range, NULL) == DVS_BUSY);
+    return 1;
+}
+
+/* Counts the calls of the visitor, and returns the number that it must return. */
+static int end_visit(void *context, dvs_range range) {
+    int *numbers = (int *)context;
+
+    (void)range;
+    numbers[1]++;
+    return numbers[0];
+}
+
+/* Any number but 0 ends a visit. */
+static void end_visits(void) {
+    static const int ends[] = {0, 1, -1, 256, 65536, INT_MAX, INT_MIN};
+    struct deep deep = {NULL, 0};
+    struct seen seen = all_of();
+    size_t i;
+
+    CHECK(dvs_address_allocator_new(0, 100, &deep.space) == DVS_OK);
+    CHECK(dvs_range_visit(deep.space, see_range, &seen) == DVS_OK && seen.count == 0);
+    for (i = 0; i < MOST; i++)
+        CHECK(dvs_range_allocate_exact(deep.space, 1, 1, 2 * i, &seen.ranges[i], NULL) == DVS_OK);
+    CHECK(dvs_range_visit(deep.space, see_range, &seen) == DVS_OK && seen.count == MOST);
+    for (i = 0; i < MOST; i++)
+        CHECK(is_range(seen.ranges[i], 2 * i, 2 * i));
+    for (i = 0; i < sizeof ends / sizeof ends[0]; i++) {
+        int numbers[2] = {0, 0};
+
+        numbers[0] = ends[i];
+        CHECK(dvs_range_visit(deep.space, end_visit, numbers) == DVS_OK);
+        CHECK(numbers[1] == (ends[i] == 0 ? MOST : 1));
+    }
+    CHECK(dvs_range_visit(deep.space, visit_deeper, &deep) == DVS_OK && deep.visits == MANY);
+    CHECK(dvs_range_free(deep.space, seen.ranges[0], NULL) == DVS_OK);
+    dvs_address_allocator_destroy(deep.space);
+}
+
 /* ---- Several requests ---- */
 
 static void allocate_all(void) {
@@ -266,22 +372,32 @@ static void allocate_in_windows(void) {
     dvs_address_allocator_destroy(space);
 }
 
+#define NO_PLACE(cause) DVS_RESOURCE_NOT_AVAILABLE, DVS_CAUSE_##cause
+
 static void allocate_none(void) {
     static const dvs_range backwards = {5, 4}, outside = {0x4000, UINT64_MAX};
     static const struct row {
         dvs_request request;
         dvs_status status;
+        uint32_t cause;
+        dvs_range other;
     } rows[] = {
-        {{0, 1, 0, DVS_FIRST, NULL}, DVS_INVALID_SIZE},
-        {{1, 3, 0, DVS_FIRST, NULL}, DVS_INVALID_ALIGNMENT},
-        {{1, 2, 1, DVS_EXACT, NULL}, DVS_UNALIGNED_ADDRESS},
-        {{0x1000, 1, 0x1000, DVS_EXACT, NULL}, DVS_INVALID_STATE_TRANSITION},
-        {{0x1000, 1, 0, DVS_LAST, NULL}, DVS_RESOURCE_NOT_AVAILABLE},
-        {{1, 1, 0, DVS_FIRST, &outside}, DVS_RESOURCE_NOT_AVAILABLE},
-        {{1, 1, UINT64_MAX, DVS_EXACT, NULL}, DVS_OVERFLOW},
-        {{1, 1, 0, DVS_EXACT + 1, NULL}, DVS_INVALID_POLICY},
-        {{1, 1, 0, UINT32_MAX, &backwards}, DVS_INVALID_POLICY},
-        {{1, 1, 0, DVS_LAST, &backwards}, DVS_INVALID_RANGE},
+        {{0, 1, 0, DVS_FIRST, NULL}, DVS_INVALID_SIZE, 0, {0, 0}},
+        {{1, 3, 0, DVS_FIRST, NULL}, DVS_INVALID_ALIGNMENT, 0, {0, 0}},
+        {{1, 2, 1, DVS_EXACT, NULL}, DVS_UNALIGNED_ADDRESS, 0, {0, 0}},
+        {{0x1000, 1, 0x1000, DVS_EXACT, NULL}, DVS_INVALID_STATE_TRANSITION, 0, {0, 0}},
+        {{0x1000, 1, 0, DVS_LAST, NULL}, DVS_RESOURCE_NOT_AVAILABLE, 0, {0, 0}},
+        {{1, 1, 0, DVS_FIRST, &outside}, DVS_RESOURCE_NOT_AVAILABLE, 0, {0, 0}},
+        /* The first two requests have 0 to 0xfff and 0x2000 to 0x27ff. */
+        {{1, 1, 0xfff, DVS_EXACT, NULL}, NO_PLACE(EARLIER_REQUEST), {0, 0}},
+        {{0x900, 1, 0x2700, DVS_EXACT, NULL}, NO_PLACE(EARLIER_REQUEST), {0, 0}},
+        {{0x2000, 1, 0x800, DVS_EXACT, NULL}, NO_PLACE(ALLOCATED), {0x1000, 0x1fff}},
+        {{0x4000, 1, 1, DVS_EXACT, NULL}, NO_PLACE(OUTSIDE_SPACE), {0, 0x3fff}},
+        {{1, 1, 0, DVS_EXACT, &outside}, NO_PLACE(OUTSIDE_WINDOW), {0x4000, UINT64_MAX}},
+        {{1, 1, UINT64_MAX, DVS_EXACT, NULL}, DVS_OVERFLOW, 0, {0, 0}},
+        {{1, 1, 0, DVS_EXACT + 1, NULL}, DVS_INVALID_POLICY, 0, {0, 0}},
+        {{1, 1, 0, UINT32_MAX, &backwards}, DVS_INVALID_POLICY, 0, {0, 0}},
+        {{1, 1, 0, DVS_LAST, &backwards}, DVS_INVALID_RANGE, 0, {0, 0}},
     };
     dvs_address_allocator *space = two_held();
     dvs_address_allocator *before = two_held();
@@ -303,6 +419,9 @@ static void allocate_none(void) {
         CHECK(dvs_address_allocator_allocate_all(space, requests, 4, ranges, &failed, &refusal) ==
               rows[i].status);
         CHECK(failed == 2 && is_range(ranges[0], 1, 2) && refusal.id == 0);
+        CHECK(refusal.cause == rows[i].cause);
+        CHECK(is_range(refusal.other, rows[i].other.start, rows[i].other.end));
+        CHECK(refusal.cause == 0 || refusal.range.start == rows[i].request.start);
         CHECK(dvs_range_visit(space, see_range, &now) == DVS_OK);
         CHECK(dvs_range_visit(before, see_range, &then) == DVS_OK);
         CHECK(memcmp(&now, &then, sizeof now) == 0);
@@ -321,15 +440,6 @@ static void allocate_none(void) {
 
 /* ---- Ids and devices ---- */
 
-static int change_ids(void *context, uint32_t id) {
-    dvs_id_allocator *ids = (dvs_id_allocator *)context;
-    uint32_t next;
-
-    CHECK(dvs_id_free(ids, id, NULL) == DVS_BUSY && dvs_id_allocate(ids, &next) == DVS_BUSY);
-    dvs_id_allocator_destroy(ids);
-    return 1;
-}
-
 static void visit_ids(void) {
     dvs_id_allocator *ids;
     struct seen seen = all_of();
@@ -346,18 +456,30 @@ static void visit_ids(void) {
     CHECK(dvs_id_visit(ids, see_id, &seen) == DVS_OK && seen.count == 3);
     CHECK(seen.ids[0] == UINT32_MAX - 3 && seen.ids[1] == UINT32_MAX - 2 &&
           seen.ids[2] == UINT32_MAX);
-    CHECK(dvs_id_visit(ids, change_ids, ids) == DVS_OK);
     dvs_id_allocator_destroy(ids);
 }
 
-static int change_devices(void *context, dvs_device device) {
-    dvs_device_manager *manager = (dvs_device_manager *)context;
-    dvs_request request = request_of(0, 0, DVS_EXACT + 1, 0);
+static void allocate_several_ids(void) {
+    const uint32_t held[2] = {6, 9};
+    uint32_t several[4] = {0, 0, 0, 0};
+    dvs_id_allocator *ids;
+    struct seen seen = all_of();
+    uint64_t count;
 
-    CHECK(dvs_device_reserve(manager, &request, &device, NULL) == DVS_BUSY);
-    CHECK(dvs_device_release(manager, device.id, NULL) == DVS_BUSY);
-    dvs_device_manager_destroy(manager);
-    return 1;
+    CHECK(dvs_id_allocator_with_held(5, 12, held, 2, &ids, NULL) == DVS_OK);
+    CHECK(dvs_ids_allocate(ids, several, 7) == DVS_RESOURCE_NOT_AVAILABLE);
+    CHECK(several[0] == 0);
+    CHECK(dvs_ids_allocate(ids, NULL, 0) == DVS_OK);
+    CHECK(dvs_ids_allocate(ids, several, 4) == DVS_OK);
+    CHECK(several[0] == 5 && several[1] == 7 && several[2] == 8 && several[3] == 10);
+    CHECK(dvs_id_free_count(ids, &count) == DVS_OK && count == 2);
+    CHECK(dvs_id_visit(ids, see_id, &seen) == DVS_OK && seen.count == 6 && seen.ids[5] == 10);
+    dvs_id_allocator_destroy(ids);
+    CHECK(dvs_id_allocator_with_held(UINT32_MAX, UINT32_MAX, NULL, 0, &ids, NULL) == DVS_OK);
+    CHECK(dvs_ids_allocate(ids, several, 2) == DVS_OVERFLOW && several[0] == 5);
+    CHECK(dvs_ids_allocate(ids, several, 1) == DVS_OK && several[0] == UINT32_MAX);
+    CHECK(dvs_ids_allocate(ids, several, SIZE_MAX) == DVS_OVERFLOW && several[1] == 7);
+    dvs_id_allocator_destroy(ids);
 }
 
 static void look_up_devices(void) {
@@ -384,58 +506,6 @@ static void look_up_devices(void) {
     CHECK(dvs_device_at(manager, 0x1f00, &device) == DVS_OK && device.id == 5);
     CHECK(dvs_device_at(manager, 0x1000, &device) == DVS_RESOURCE_NOT_AVAILABLE && device.id == 5);
     CHECK(dvs_device_at(manager, UINT64_MAX, &device) == DVS_RESOURCE_NOT_AVAILABLE);
-    CHECK(dvs_device_visit(manager, change_devices, manager) == DVS_OK);
-    dvs_device_manager_destroy(manager);
-}
-
-/* ---- Null pointers ---- */
-
-static void give_null(void) {
-    dvs_address_allocator *space = two_held();
-    dvs_id_allocator *ids;
-    dvs_device_manager *manager;
-    dvs_range range;
-    dvs_request request = request_of(1, 1, DVS_FIRST, 0);
-    dvs_device device;
-    uint64_t number;
-    uint32_t id;
-
-    CHECK(dvs_id_allocator_new(1, 2, &ids, NULL) == DVS_OK);
-    CHECK(dvs_device_manager_new(1, 2, 3, 4, &manager, NULL) == DVS_OK);
-    CHECK(dvs_address_allocator_with_held(0, 4, NULL, 1, &space, NULL, NULL) == DVS_NULL);
-    CHECK(dvs_address_allocator_with_held(0, 0, NULL, 0, NULL, NULL, NULL) == DVS_NULL);
-    CHECK(dvs_address_allocator_allocate_all(NULL, &request, 1, &range, NULL, NULL) == DVS_NULL);
-    CHECK(dvs_address_allocator_allocate_all(space, NULL, 1, &range, NULL, NULL) == DVS_NULL);
-    CHECK(dvs_address_allocator_allocate_all(space, &request, 1, NULL, NULL, NULL) == DVS_NULL);
-    CHECK(dvs_range_at(NULL, 0, &range) == DVS_NULL && dvs_range_at(space, 0, NULL) == DVS_NULL);
-    CHECK(dvs_longest_gap(NULL, &number) == DVS_NULL && dvs_longest_gap(space, NULL) == DVS_NULL);
-    CHECK(dvs_clear_count(NULL, &number) == DVS_NULL && dvs_clear_count(space, NULL) == DVS_NULL);
-    CHECK(dvs_gap_at(NULL, 0, &range) == DVS_NULL && dvs_gap_at(space, 0, NULL) == DVS_NULL);
-    range = range_of(5, 4);
-    CHECK(dvs_range_visit_in(NULL, range, see_range, NULL, NULL) == DVS_NULL);
-    CHECK(dvs_range_visit_in(space, range, NULL, NULL, NULL) == DVS_NULL);
-    CHECK(dvs_gap_visit_in(NULL, range, see_range, NULL, NULL) == DVS_NULL);
-    CHECK(dvs_gap_visit_in(space, range, NULL, NULL, NULL) == DVS_NULL);
-    CHECK(dvs_gap_visit(NULL, see_range, NULL) == DVS_NULL);
-    CHECK(dvs_gap_visit(space, NULL, NULL) == DVS_NULL);
-    CHECK(dvs_id_visit(NULL, see_id, NULL) == DVS_NULL &&
-          dvs_id_visit(ids, NULL, NULL) == DVS_NULL);
-    CHECK(dvs_id_allocator_range(NULL, &id, &id) == DVS_NULL);
-    CHECK(dvs_id_allocator_range(ids, NULL, &id) == DVS_NULL);
-    CHECK(dvs_id_allocator_range(ids, &id, NULL) == DVS_NULL);
-    CHECK(dvs_device_visit(NULL, see_device, NULL) == DVS_NULL);
-    CHECK(dvs_device_visit(manager, NULL, NULL) == DVS_NULL);
-    CHECK(dvs_device_manager_space(NULL, &range) == DVS_NULL);
-    CHECK(dvs_device_manager_space(manager, NULL) == DVS_NULL);
-    CHECK(dvs_device_manager_ids(NULL, &id, &id) == DVS_NULL);
-    CHECK(dvs_device_manager_ids(manager, NULL, &id) == DVS_NULL);
-    CHECK(dvs_device_manager_ids(manager, &id, NULL) == DVS_NULL);
-    CHECK(dvs_device_count(NULL, &number) == DVS_NULL);
-    CHECK(dvs_device_count(manager, NULL) == DVS_NULL);
-    CHECK(dvs_device_at(NULL, 0, &device) == DVS_NULL);
-    CHECK(dvs_device_at(manager, 0, NULL) == DVS_NULL);
-    dvs_address_allocator_destroy(space);
-    dvs_id_allocator_destroy(ids);
     dvs_device_manager_destroy(manager);
 }
 
@@ -445,12 +515,14 @@ int main(void) {
     look_up_ranges();
     visit_gaps();
     visit_within();
+    visit_from_addresses();
+    end_visits();
     allocate_all();
     allocate_in_windows();
     allocate_none();
     visit_ids();
+    allocate_several_ids();
     look_up_devices();
-    give_null();
     CHECK(dvs_version_number() == DVS_VERSION_NUMBER);
     puts("enumerate: every list, look-up and array checked");
     return 0;

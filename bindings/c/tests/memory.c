@@ -164,6 +164,12 @@ static dvs_status destroyed_space(dvs_status status, dvs_address_allocator *made
     return status;
 }
 
+static dvs_status destroyed_ids(dvs_status status, dvs_id_allocator *made) {
+    if (status == DVS_OK)
+        dvs_id_allocator_destroy(made);
+    return status;
+}
+
 static dvs_status destroyed_text(dvs_status status, char *text) {
     if (status == DVS_OK)
         dvs_text_destroy(text);
@@ -245,6 +251,38 @@ static dvs_status move_range(void) {
     return status;
 }
 
+/* Copies all objects that the calls use. The copies equal them. */
+static dvs_status copy_space(void) {
+    dvs_address_allocator *made = NULL;
+    dvs_status status = dvs_address_allocator_copy(space, &made);
+    bool are_equal = false;
+
+    CHECK(status != DVS_OK ||
+          (dvs_address_allocator_equal(space, made, &are_equal) == DVS_OK && are_equal));
+    return destroyed_space(status, made);
+}
+
+static dvs_status copy_ids(void) {
+    dvs_id_allocator *made = NULL;
+    dvs_status status = dvs_id_allocator_copy(ids, &made);
+    bool are_equal = false;
+
+    CHECK(status != DVS_OK ||
+          (dvs_id_allocator_equal(ids, made, &are_equal) == DVS_OK && are_equal));
+    return destroyed_ids(status, made);
+}
+
+static dvs_status copy_manager(void) {
+    dvs_device_manager *made = NULL;
+    dvs_status status = dvs_device_manager_copy(manager, &made);
+    bool are_equal = false;
+
+    CHECK(status != DVS_OK ||
+          (dvs_device_manager_equal(manager, made, &are_equal) == DVS_OK && are_equal));
+    dvs_device_manager_destroy(made);
+    return status;
+}
+
 static dvs_status save_space(void) {
     char *text = NULL;
     size_t length;
@@ -322,12 +360,6 @@ static dvs_status free_id(void) {
 
     if (status == DVS_OK)
         CHECK(dvs_id_allocate(ids, &id) == DVS_OK && id == 0);
-    return status;
-}
-
-static dvs_status destroyed_ids(dvs_status status, dvs_id_allocator *made) {
-    if (status == DVS_OK)
-        dvs_id_allocator_destroy(made);
     return status;
 }
 
@@ -442,6 +474,9 @@ static const struct call {
     {"exact", allocate_exact, 2},
     {"in a window", allocate_in_window, 2},
     {"move", move_range, 2},
+    {"copy a space", copy_space, 17},
+    {"copy ids", copy_ids, 2},
+    {"copy a manager", copy_manager, 4},
     {"save a space", save_space, 3},
     {"save ids", save_ids, 1},
     {"save a manager", save_manager, 2},

@@ -70,6 +70,22 @@ static void allocate_in_windows() {
     CHECK(is_range(refusal.range, 9, 8) && is_range(refusal.other, 0, 0) && refusal.size == 0 &&
           refusal.id == 0);
     CHECK(space.allocate({1, 1, 0, 3, nullptr}, range) == dvs::code(DVS_INVALID_POLICY));
+    CHECK(dvs::cause_of(refusal) == dvs::cause::none);
+    CHECK(space.allocate(request::exact(2, 1, 0x1fdf), range, &refusal) ==
+          DVS_RESOURCE_NOT_AVAILABLE);
+    CHECK(dvs::cause_of(refusal) == dvs::cause::allocated);
+    CHECK(is_range(refusal.range, 0x1fdf, 0x1fe0) && is_range(refusal.other, 0x1fc0, 0x1fdf));
+    CHECK(space.allocate(request::exact(2, 1, 0x1100).within(low), range) == DVS_OK);
+    CHECK(space.move_range(range, 0x3fff, range, &refusal) == DVS_RESOURCE_NOT_AVAILABLE);
+    CHECK(dvs::cause_of(refusal) == dvs::cause::outside_space);
+    CHECK(space.allocate(request::exact(2, 1, 0x1fff).within(low), range, &refusal) ==
+          DVS_RESOURCE_NOT_AVAILABLE);
+    CHECK(dvs::cause_of(refusal) == dvs::cause::outside_window &&
+          is_range(refusal.other, 0x1000, 0x1fff));
+    std::vector<dvs_range> ranges;
+    CHECK(space.allocate_all({request::exact(2, 1, 0x1200), request::exact(2, 1, 0x1201)}, ranges,
+                             nullptr, &refusal) == DVS_RESOURCE_NOT_AVAILABLE);
+    CHECK(dvs::cause_of(refusal) == dvs::cause::earlier_request);
 }
 
 static void allocate_all_in_windows() {
@@ -147,6 +163,27 @@ static void save() {
     CHECK(moved && !space);
 }
 
+static void copy() {
+    dvs::address_allocator space, other;
+    dvs::id_allocator ids, other_ids;
+    dvs::device_manager devices, other_devices;
+    std::vector<dvs_range> seen;
+    auto see_first = [&seen](dvs_range range) { return seen.push_back(range), false; };
+
+    CHECK(space == other && other.make_copy(space) == DVS_NULL);
+    CHECK(!space.make_with_held(0, 16, {range_of(1, 2), range_of(4, 4)}) && space != other);
+    CHECK(!other.make_copy(space) && space == other && !other.free({4, 4}) && space != other);
+    CHECK(!space.make_copy(space) && space.ranges().size() == 2);
+    CHECK(!ids.make(5, 9) && !other_ids.make_copy(ids) && ids == other_ids);
+    CHECK(!ids.allocate_exact(7) && ids != other_ids);
+    CHECK(!devices.make(5, 9, 0, 16) && !other_devices.make_copy(devices));
+    CHECK(devices == other_devices && !other_devices.make(5, 9, 0, 17) && devices != other_devices);
+    CHECK(!space.for_each_from(3, see_first) && !space.for_each_back(3, see_first));
+    CHECK(!space.for_each_gap_from(4, see_first) && !space.for_each_gap_back(2, see_first));
+    CHECK(seen.size() == 4 && is_range(seen[0], 4, 4) && is_range(seen[1], 1, 2));
+    CHECK(is_range(seen[2], 5, 15) && is_range(seen[3], 0, 0));
+}
+
 static void compare_errors() {
     dvs::address_allocator space;
     dvs::error failure = space.make(UINT64_MAX, 2);
@@ -211,15 +248,40 @@ static void throw_in_a_visit() {
     CHECK(!space.for_each([&calls](dvs_range) { return ++calls < 3; }) && calls == 3);
 }
 
+/* A visitor replaces the owner of the object that it visits. */
+static void replace_in_a_visit() {
+    dvs::address_allocator space, other;
+    std::string text;
+    int calls = 0;
+
+    CHECK(!space.make_with_held(0, 16, {range_of(1, 1)}) && !other.make(16, 16));
+    CHECK(!space.save(text));
+    CHECK(!space.for_each([&](dvs_range) {
+        CHECK(space.make(0, 0) == DVS_UNDERFLOW && space.make(0, 16) == DVS_BUSY);
+        CHECK(space.make_with_held(0, 16, {}) == DVS_BUSY && space.read(text) == DVS_BUSY);
+        CHECK(space.read_repaired(text) == DVS_BUSY && space.ranges().size() == 1);
+        space = std::move(other);
+        CHECK(space.ranges().empty() && other.ranges().size() == 1);
+        CHECK(other.free(range_of(1, 1)) == DVS_BUSY && !space.make(16, 16));
+        return ++calls < 9;
+    }));
+    CHECK(calls == 1 && !other.free(range_of(1, 1)) && !other.make(0, 16));
+    dvs::address_allocator &itself = space;
+    space = std::move(itself);
+    CHECK(space && space.gaps().size() == 1);
+}
+
 int main() {
     allocate();
     allocate_in_windows();
     allocate_all_in_windows();
+    copy();
     compare_errors();
     ask();
     reserve_in_windows();
     save();
     throw_in_a_visit();
+    replace_in_a_visit();
     puts("owners: the header for C++ checked");
     return 0;
 }

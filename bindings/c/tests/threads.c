@@ -221,7 +221,8 @@ static char *chain_of_nodes(int levels) {
 
 static void *go_deep(void *context) {
     static char brackets[100000];
-    dvs_address_allocator *space;
+    dvs_address_allocator *space, *copied;
+    bool are_equal = false;
     char *text = chain_of_nodes(LEVELS), *too_deep = chain_of_nodes(LEVELS + 1);
     uint64_t count;
     size_t length;
@@ -244,6 +245,9 @@ static void *go_deep(void *context) {
     free(text);
     CHECK(dvs_range_count(space, &count) == DVS_OK && count == LEVELS);
     dvs_text_destroy(saved_space(space, &length));
+    CHECK(dvs_address_allocator_copy(space, &copied) == DVS_OK);
+    CHECK(dvs_address_allocator_equal(space, copied, &are_equal) == DVS_OK && are_equal);
+    dvs_address_allocator_destroy(copied);
     dvs_address_allocator_destroy(space);
     return NULL;
 }

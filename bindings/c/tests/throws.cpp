@@ -1,9 +1,10 @@
-/* Checks that a visitor that does not return ends the process with abort(), after a line that gives
- * the reason. */
+/* Checks that a visitor that does not return, or destroys its owner, ends the process with abort(),
+ * after a line that gives the reason. */
 #include "check.h"
 
+#include <divsharun.hpp>
+
 #include <csignal>
-#include <cstring>
 #include <pthread.h>
 #include <sys/wait.h>
 #include <unistd.h>
@@ -19,6 +20,14 @@ static int exit_thread(void *, dvs_range) {
 static int cancel_thread(void *, dvs_range) {
     pthread_cancel(pthread_self());
     pthread_testcancel();
+    return 0;
+}
+
+static int destroy_owner(void *, dvs_range range) {
+    dvs::address_allocator *space = new dvs::address_allocator;
+
+    CHECK(!space->make_with_held(0, 10, {range}));
+    CHECK(!space->for_each([space](dvs_range) { return delete space, true; }));
     return 0;
 }
 
@@ -47,7 +56,7 @@ static void visit_in_child(dvs_range_visitor *visitor, FILE *said) {
     _exit(2);
 }
 
-static void check_aborts(dvs_range_visitor *visitor) {
+static void check_aborts(dvs_range_visitor *visitor, const char *reason) {
     FILE *said = tmpfile();
     char line[100] = "";
     pid_t child = fork();
@@ -60,12 +69,13 @@ static void check_aborts(dvs_range_visitor *visitor) {
     CHECK(WIFSIGNALED(ended) && WTERMSIG(ended) == SIGABRT);
     rewind(said);
     CHECK(fgets(line, sizeof line, said) != nullptr && fclose(said) == 0);
-    CHECK(std::strcmp(line, "divsharun: the process ends because a visitor did not return\n") == 0);
+    CHECK(line == std::string("divsharun: the process ends because ") + reason + "\n");
 }
 
 int main() {
-    check_aborts(throw_one);
-    check_aborts(exit_thread);
-    check_aborts(cancel_thread);
+    check_aborts(throw_one, "a visitor did not return");
+    check_aborts(exit_thread, "a visitor did not return");
+    check_aborts(cancel_thread, "a visitor did not return");
+    check_aborts(destroy_owner, "a visitor destroyed an owner");
     return 0;
 }

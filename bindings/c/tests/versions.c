@@ -7,7 +7,7 @@
 dvs_status old_dvs_address_allocator_new(uint64_t base, uint64_t size,
                                          dvs_address_allocator **allocator);
 dvs_status old_dvs_range_count(const dvs_address_allocator *allocator, uint64_t *count);
-void old_dvs_address_allocator_destroy(dvs_address_allocator *allocator);
+dvs_status old_dvs_address_allocator_destroy(dvs_address_allocator *allocator);
 
 int main(void) {
     dvs_address_allocator *space, *old;

@@ -1,0 +1,431 @@
+/* Checks requests with a window: tables, and random ones against a search of all addresses. */
+#include "outcome.h"
+
+SAVED(saved_space, dvs_address_allocator)
+SAVED(saved_devices, dvs_device_manager)
+
+/* Returns whether two saved texts are the same, and frees them. */
+static bool are_same_texts(char *one, char *other) {
+    bool are_same = strcmp(one, other) == 0;
+
+    dvs_text_destroy(one);
+    dvs_text_destroy(other);
+    return are_same;
+}
+
+/* ---- Tables ---- */
+
+/* The id of the device that a test reserves. */
+enum { NEXT_ID = 2 };
+
+/* A request with a window, and its outcome. */
+struct row {
+    uint32_t policy;
+    uint64_t size, alignment, start;
+    dvs_range window;
+    struct outcome outcome;
+};
+
+/* A range that is not available. The test finds the requested range and the one in the way. */
+#define BLOCKED(cause) IN_THE_WAY(0, 0, cause, 0, 0)
+
+/* In the space from 0x1000 to 0x1fff, with the ranges of `held` allocated. */
+static const dvs_range held[] = {{0x1400, 0x14ff}, {0x1800, 0x18ff}};
+
+static const struct row in_gaps[] = {
+    /* A gap. */
+    {DVS_FIRST, 0x100, 0x100, 0, {0x1500, 0x17ff}, GETS(0x1500, 0x15ff)},
+    {DVS_LAST, 0x100, 0x100, 0, {0x1500, 0x17ff}, GETS(0x1700, 0x17ff)},
+    {DVS_EXACT, 0x100, 0x100, 0x1500, {0x1500, 0x17ff}, GETS(0x1500, 0x15ff)},
+    {DVS_EXACT, 0x100, 0x100, 0x1700, {0x1500, 0x17ff}, GETS(0x1700, 0x17ff)},
+    /* A part of a gap. */
+    {DVS_FIRST, 0x10, 1, 0, {0x1510, 0x17ef}, GETS(0x1510, 0x151f)},
+    {DVS_FIRST, 0x10, 0x100, 0, {0x1510, 0x17ef}, GETS(0x1600, 0x160f)},
+    {DVS_LAST, 0x10, 1, 0, {0x1510, 0x17ef}, GETS(0x17e0, 0x17ef)},
+    {DVS_LAST, 0x10, 0x100, 0, {0x1510, 0x17ef}, GETS(0x1700, 0x170f)},
+    {DVS_EXACT, 0x10, 1, 0x1510, {0x1510, 0x17ef}, GETS(0x1510, 0x151f)},
+    {DVS_EXACT, 0x10, 1, 0x17e0, {0x1510, 0x17ef}, GETS(0x17e0, 0x17ef)},
+    {DVS_EXACT, 0x10, 1, 0x150f, {0x1510, 0x17ef}, BLOCKED(OUTSIDE_WINDOW)},
+    {DVS_EXACT, 0x10, 1, 0x17e1, {0x1510, 0x17ef}, BLOCKED(OUTSIDE_WINDOW)},
+    /* All addresses of the window, and one more. */
+    {DVS_FIRST, 0x2e0, 1, 0, {0x1510, 0x17ef}, GETS(0x1510, 0x17ef)},
+    {DVS_LAST, 0x2e0, 1, 0, {0x1510, 0x17ef}, GETS(0x1510, 0x17ef)},
+    {DVS_EXACT, 0x2e0, 1, 0x1510, {0x1510, 0x17ef}, GETS(0x1510, 0x17ef)},
+    {DVS_FIRST, 0x2e1, 1, 0, {0x1510, 0x17ef}, NO_PLACE},
+    {DVS_LAST, 0x2e1, 1, 0, {0x1510, 0x17ef}, NO_PLACE},
+    {DVS_EXACT, 0x2e1, 1, 0x1510, {0x1510, 0x17ef}, BLOCKED(OUTSIDE_WINDOW)},
+    /* Three gaps. */
+    {DVS_FIRST, 0x100, 1, 0, {0x1300, 0x19ff}, GETS(0x1300, 0x13ff)},
+    {DVS_FIRST, 0x101, 1, 0, {0x1300, 0x19ff}, GETS(0x1500, 0x1600)},
+    {DVS_LAST, 0x100, 1, 0, {0x1300, 0x19ff}, GETS(0x1900, 0x19ff)},
+    {DVS_LAST, 0x101, 1, 0, {0x1300, 0x19ff}, GETS(0x16ff, 0x17ff)},
+    {DVS_FIRST, 0x301, 1, 0, {0x1300, 0x19ff}, NO_PLACE},
+    {DVS_LAST, 0x301, 1, 0, {0x1300, 0x19ff}, NO_PLACE},
+    /* One address, which is free or allocated. */
+    {DVS_FIRST, 1, 1, 0, {0x1555, 0x1555}, GETS(0x1555, 0x1555)},
+    {DVS_LAST, 1, 1, 0, {0x1555, 0x1555}, GETS(0x1555, 0x1555)},
+    {DVS_EXACT, 1, 1, 0x1555, {0x1555, 0x1555}, GETS(0x1555, 0x1555)},
+    {DVS_FIRST, 1, 2, 0, {0x1555, 0x1555}, NO_PLACE},
+    {DVS_LAST, 2, 1, 0, {0x1555, 0x1555}, NO_PLACE},
+    {DVS_EXACT, 1, 1, 0x1554, {0x1555, 0x1555}, BLOCKED(OUTSIDE_WINDOW)},
+    {DVS_EXACT, 1, 1, 0x1556, {0x1555, 0x1555}, BLOCKED(OUTSIDE_WINDOW)},
+    {DVS_FIRST, 1, 1, 0, {0x1400, 0x1400}, NO_PLACE},
+    {DVS_LAST, 1, 1, 0, {0x14ff, 0x14ff}, NO_PLACE},
+};
+
+static const struct row at_ends[] = {
+    /* No address of the space. */
+    {DVS_FIRST, 1, 1, 0, {0, 0xfff}, NO_PLACE},
+    {DVS_LAST, 1, 1, 0, {0x2000, TOP - 1}, NO_PLACE},
+    {DVS_EXACT, 1, 1, 0x1000, {0, 0xfff}, BLOCKED(OUTSIDE_WINDOW)},
+    {DVS_EXACT, 1, 1, 0xf00, {0, 0xfff}, BLOCKED(OUTSIDE_SPACE)},
+    {DVS_EXACT, 1, 1, 0x2000, {0x2000, TOP}, BLOCKED(OUTSIDE_SPACE)},
+    {DVS_FIRST, 1, 1, 0, {0, 0}, NO_PLACE},
+    {DVS_LAST, 1, 1, 0, {TOP, TOP}, NO_PLACE},
+    /* The space or a part of it, and addresses outside it. */
+    {DVS_FIRST, 0x10, 1, 0, {0, 0x2fff}, GETS(0x1000, 0x100f)},
+    {DVS_LAST, 0x10, 1, 0, {0, 0x2fff}, GETS(0x1ff0, 0x1fff)},
+    {DVS_EXACT, 0x10, 1, 0x1ff0, {1, TOP}, GETS(0x1ff0, 0x1fff)},
+    {DVS_EXACT, 0x11, 1, 0x1ff0, {1, TOP}, BLOCKED(OUTSIDE_SPACE)},
+    {DVS_FIRST, 0x10, 1, 0, {0x1f00, TOP}, GETS(0x1f00, 0x1f0f)},
+    {DVS_LAST, 0x10, 1, 0, {0, 0x100f}, GETS(0x1000, 0x100f)},
+    {DVS_LAST, 0x11, 1, 0, {0, 0x100f}, NO_PLACE},
+    /* All addresses: no limit. */
+    {DVS_FIRST, 0x10, 1, 0, {0, TOP}, GETS(0x1000, 0x100f)},
+    {DVS_LAST, 0x10, 1, 0, {0, TOP}, GETS(0x1ff0, 0x1fff)},
+    {DVS_EXACT, 0x10, 1, 0x1500, {0, TOP}, GETS(0x1500, 0x150f)},
+    {DVS_EXACT, 0x100, 1, 0x1400, {0, TOP}, TELLS(DVS_INVALID_STATE_TRANSITION, 0x1400, 0x14ff)},
+    {DVS_FIRST, 0x701, 1, 0, {0, TOP}, NO_PLACE},
+};
+
+/* Windows that are not ranges, allocated ranges, and requests with two errors. */
+static const struct row refused[] = {
+    {DVS_FIRST, 1, 1, 0, {9, 8}, TELLS(DVS_INVALID_RANGE, 9, 8)},
+    {DVS_LAST, 1, 1, 0, {TOP, 0}, TELLS(DVS_INVALID_RANGE, TOP, 0)},
+    {DVS_EXACT, 1, 1, 0x1500, {0x1501, 0x1500}, TELLS(DVS_INVALID_RANGE, 0x1501, 0x1500)},
+    {DVS_EXACT,
+     0x100,
+     1,
+     0x1400,
+     {0x1400, 0x14fe},
+     TELLS(DVS_INVALID_STATE_TRANSITION, 0x1400, 0x14ff)},
+    {DVS_EXACT,
+     0x100,
+     1,
+     0x1400,
+     {0x1400, 0x1400},
+     TELLS(DVS_INVALID_STATE_TRANSITION, 0x1400, 0x14ff)},
+    {DVS_EXACT, 0x100, 1, 0x1400, {0x1401, 0x14ff}, BLOCKED(OUTSIDE_WINDOW)},
+    {DVS_EXACT, 0x80, 1, 0x1400, {0x1400, 0x14fe}, BLOCKED(ALLOCATED)},
+    {DVS_EXACT + 1, 0, 3, 0, {9, 8}, FAILS(DVS_INVALID_POLICY)},
+    {UINT32_MAX, 1, 1, 0, {0x1500, 0x17ff}, FAILS(DVS_INVALID_POLICY)},
+    {DVS_EXACT, 0, 3, 1, {9, 8}, TELLS(DVS_INVALID_RANGE, 9, 8)},
+    {DVS_EXACT, 0, 3, 1, {0, 0xfff}, FAILS(DVS_INVALID_SIZE)},
+    {DVS_EXACT, 1, 3, 1, {0, 0xfff}, FAILS(DVS_INVALID_ALIGNMENT)},
+    {DVS_EXACT, 1, 4, 0x1502, {0, 0xfff}, FAILS(DVS_UNALIGNED_ADDRESS)},
+    {DVS_EXACT, 2, 1, TOP, {0, 0xfff}, FAILS(DVS_OVERFLOW)},
+    {DVS_EXACT, TOP, 1, 0x1500, {0x1600, 0x17ff}, BLOCKED(OUTSIDE_WINDOW)},
+    {DVS_EXACT, TOP, 1, 0x1500, {0x1500, 0x1501}, FAILS(DVS_OVERFLOW)},
+    {DVS_EXACT, TOP, 1, 0x1400, {0x1400, 0x1401}, FAILS(DVS_OVERFLOW)},
+};
+
+/* In the space from 0 to 0xff. */
+static const struct row at_zero[] = {
+    {DVS_FIRST, 1, 1, 0, {0, 0}, GETS(0, 0)},
+    {DVS_LAST, 1, 1, 0, {0, 0}, GETS(0, 0)},
+    {DVS_EXACT, 1, 1, 0, {0, 0}, GETS(0, 0)},
+    {DVS_EXACT, 2, 1, 0, {0, 0}, BLOCKED(OUTSIDE_WINDOW)},
+    {DVS_EXACT, 1, 1, 0, {1, TOP}, BLOCKED(OUTSIDE_WINDOW)},
+    {DVS_FIRST, 1, 1, 0, {1, TOP}, GETS(1, 1)},
+    {DVS_FIRST, 0x100, 0x100, 0, {0, 0xff}, GETS(0, 0xff)},
+    {DVS_LAST, 0x100, 0x100, 0, {0, 0xfe}, NO_PLACE},
+    {DVS_LAST, 0x10, 0x10, 0, {0, 0xfe}, GETS(0xe0, 0xef)},
+};
+
+/* In the space of the 256 addresses up to UINT64_MAX. */
+static const struct row at_top[] = {
+    {DVS_FIRST, 1, 1, 0, {TOP, TOP}, FAILS(DVS_OVERFLOW)},
+    {DVS_FIRST, 0x80, 1, 0, {TOP - 0x7f, TOP}, FAILS(DVS_OVERFLOW)},
+    {DVS_FIRST, 0x81, 1, 0, {TOP - 0x7f, TOP}, NO_PLACE},
+    {DVS_FIRST, 0x10, 1, 0, {TOP - 0x7f, TOP}, GETS(TOP - 0x7f, TOP - 0x70)},
+    {DVS_LAST, 0x10, 1, 0, {TOP - 0x7f, TOP}, FAILS(DVS_OVERFLOW)},
+    {DVS_LAST, 0x10, 1, 0, {TOP - 0x7f, TOP - 1}, GETS(TOP - 0x10, TOP - 1)},
+    {DVS_LAST, 0x10, 0x10, 0, {TOP - 0x7f, TOP - 1}, GETS(TOP - 0x1f, TOP - 0x10)},
+    {DVS_LAST, 1, 1, 0, {0, TOP}, FAILS(DVS_OVERFLOW)},
+    {DVS_LAST, 1, 1, 0, {0, TOP - 1}, GETS(TOP - 1, TOP - 1)},
+    {DVS_EXACT, 0x10, 1, TOP - 0xf, {TOP - 0x7f, TOP}, FAILS(DVS_OVERFLOW)},
+    {DVS_EXACT, 0x11, 1, TOP - 0xf, {TOP - 0x7f, TOP}, FAILS(DVS_OVERFLOW)},
+    {DVS_EXACT, 0x10, 1, TOP - 0xf, {TOP - 0x7f, TOP - 1}, BLOCKED(OUTSIDE_WINDOW)},
+    {DVS_EXACT, 0x10, 1, TOP - 0x10, {TOP - 0x7f, TOP - 1}, GETS(TOP - 0x10, TOP - 1)},
+    {DVS_EXACT, 1, 1, TOP, {TOP, TOP}, FAILS(DVS_OVERFLOW)},
+};
+
+/* Requests without a window. */
+static const struct row in_the_way[] = {
+    {DVS_EXACT, 1, 1, 0xfff, {0, TOP}, BLOCKED(OUTSIDE_SPACE)},
+    {DVS_EXACT, 0x10, 1, 0xff8, {0, TOP}, BLOCKED(OUTSIDE_SPACE)},
+    {DVS_EXACT, 2, 1, 0x1fff, {0, TOP}, BLOCKED(OUTSIDE_SPACE)},
+    {DVS_EXACT, 0x1000, 1, 0x1400, {0, TOP}, BLOCKED(OUTSIDE_SPACE)},
+    {DVS_EXACT, TOP, 1, 0x2000, {0, TOP}, BLOCKED(OUTSIDE_SPACE)},
+    {DVS_EXACT, TOP, 1, 0, {0, TOP}, BLOCKED(OUTSIDE_SPACE)},
+    {DVS_EXACT, 0x1000, 1, 0x1000, {0, TOP}, BLOCKED(ALLOCATED)},
+    {DVS_EXACT, 2, 1, 0x13ff, {0, TOP}, BLOCKED(ALLOCATED)},
+    {DVS_EXACT, 2, 1, 0x14ff, {0, TOP}, BLOCKED(ALLOCATED)},
+    {DVS_EXACT, 0x400, 1, 0x1500, {0, TOP}, BLOCKED(ALLOCATED)},
+};
+
+/* In a manager whose id UINT32_MAX is allocated. An error of the id precedes that of the range. */
+static const struct row without_ids[] = {
+    {DVS_EXACT + 1, 0, 3, 1, {9, 8}, FAILS(DVS_INVALID_POLICY)},
+    {DVS_EXACT, 0, 3, 1, {9, 8}, TELLS(DVS_INVALID_RANGE, 9, 8)},
+    {DVS_EXACT, 0, 3, 1, {0, 0xfff}, FAILS(DVS_INVALID_SIZE)},
+    {DVS_EXACT, 1, 3, 1, {0, 0xfff}, FAILS(DVS_INVALID_ALIGNMENT)},
+    {DVS_EXACT, 1, 4, 0x1502, {0, 0xfff}, FAILS(DVS_UNALIGNED_ADDRESS)},
+    {DVS_EXACT, 0x100, 1, 0x1400, {0x1400, 0x14ff}, FAILS(DVS_OVERFLOW)},
+    {DVS_FIRST, 1, 1, 0, {0, 0xfff}, FAILS(DVS_OVERFLOW)},
+    {DVS_LAST, 1, 1, 0, {0x1500, 0x17ff}, FAILS(DVS_OVERFLOW)},
+};
+
+/* In a manager without a free id. No range is in the way. */
+static const struct row without_id[] = {
+    {DVS_EXACT, 0x10, 1, 0x1400, {0, TOP}, NO_PLACE},
+    {DVS_EXACT, 0x10, 1, 0x1500, {0, 0xfff}, NO_PLACE},
+};
+
+/* Returns the outcome of a row, with the requested range and the one that the cause names. */
+static struct outcome outcome_of(const struct row *row, dvs_range space) {
+    struct outcome all = row->outcome;
+    size_t i = 2;
+
+    if (all.cause == DVS_CAUSE_NONE)
+        return all;
+    if (row->start <= TOP - (row->size - 1))
+        all.range = range_of(row->start, row->start + (row->size - 1));
+    while (all.cause == DVS_CAUSE_ALLOCATED && i-- > 0)
+        if (all.range.start <= held[i].end && held[i].start <= all.range.end)
+            all.other = held[i];
+    if (all.cause == DVS_CAUSE_OUTSIDE_SPACE)
+        all.other = space;
+    if (all.cause == DVS_CAUSE_OUTSIDE_WINDOW)
+        all.other = row->window;
+    return all;
+}
+
+/* A call with a request, on a space or a manager. It frees what it has allocated. */
+typedef dvs_status request_call(void *object, const dvs_request *request);
+
+static dvs_status allocate_one(void *object, const dvs_request *request) {
+    dvs_address_allocator *space = (dvs_address_allocator *)object;
+    dvs_range *range = &results.device.range;
+    dvs_status status = dvs_range_allocate(space, request, range, &refusal);
+
+    CHECK(status != DVS_OK || dvs_range_free(space, *range, NULL) == DVS_OK);
+    return status;
+}
+
+static dvs_status allocate_list(void *object, const dvs_request *request) {
+    dvs_address_allocator *space = (dvs_address_allocator *)object;
+    dvs_range *range = &results.device.range;
+    size_t failed = 9;
+    dvs_status status =
+        dvs_address_allocator_allocate_all(space, request, 1, range, &failed, &refusal);
+
+    CHECK(failed == (status == DVS_OK ? 1 : 0));
+    CHECK(status != DVS_OK || dvs_range_free(space, *range, NULL) == DVS_OK);
+    return status;
+}
+
+static dvs_status reserve_one(void *object, const dvs_request *request) {
+    dvs_device_manager *manager = (dvs_device_manager *)object;
+    dvs_status status = dvs_device_reserve(manager, request, &results.device, &refusal);
+
+    if (status == DVS_OK) {
+        CHECK(results.device.id == NEXT_ID);
+        CHECK(dvs_device_release(manager, NEXT_ID, NULL) == DVS_OK);
+        results.device.id = NO_ID;
+    }
+    return status;
+}
+
+/* Checks a call for a row. A window of all addresses is also NULL. */
+static void check_call(const struct row *row, dvs_range space, request_call *call, void *object) {
+    const struct outcome outcome = outcome_of(row, space);
+    dvs_request request = {row->size, row->alignment, row->start, row->policy, &row->window};
+    int i;
+
+    for (i = 0; i <= is_range(row->window, 0, TOP); i++) {
+        prepare();
+        CHECK(has_outcome(&outcome, call(object, &request)));
+        request.window = NULL;
+    }
+}
+
+/* Returns a manager with a device for each of the first `count` ranges of `held`. */
+static dvs_device_manager *manager_with(dvs_range space, uint32_t first, uint32_t last,
+                                        uint32_t count) {
+    dvs_device_manager *manager;
+    dvs_device device;
+    uint32_t i;
+
+    CHECK(dvs_device_manager_new(first, last, space.start, space.end - space.start + 1, &manager,
+                                 NULL) == DVS_OK);
+    for (i = 0; i < count; i++)
+        CHECK(dvs_device_reserve_exact(manager, held[i].end - held[i].start + 1, 1, held[i].start,
+                                       &device, NULL) == DVS_OK);
+    return manager;
+}
+
+/* Checks rows in a space in which the first `held_count` ranges of `held` are allocated. An error
+ * must change nothing. */
+static void check_rows(dvs_range all, uint32_t held_count, const struct row *rows, size_t count) {
+    dvs_device_manager *manager = manager_with(all, NEXT_ID - held_count, NEXT_ID, held_count);
+    dvs_address_allocator *space;
+    size_t length, i;
+
+    CHECK(dvs_address_allocator_with_held(all.start, all.end - all.start + 1, held, held_count,
+                                          &space, NULL, NULL) == DVS_OK);
+    for (i = 0; i < count; i++) {
+        char *ranges = saved_space(space, &length), *devices = saved_devices(manager, &length);
+        bool is_ok = rows[i].outcome.status == DVS_OK;
+
+        check_call(&rows[i], all, allocate_one, space);
+        check_call(&rows[i], all, allocate_list, space);
+        check_call(&rows[i], all, reserve_one, manager);
+        CHECK(are_same_texts(ranges, saved_space(space, &length)) || is_ok);
+        CHECK(are_same_texts(devices, saved_devices(manager, &length)) || is_ok);
+    }
+    dvs_address_allocator_destroy(space);
+    dvs_device_manager_destroy(manager);
+}
+
+/* Checks rows with a manager that has the id `id` only, for the first range of `held`. */
+static void check_without_ids(uint32_t id, const struct row *rows, size_t count) {
+    const dvs_range all = range_of(0x1000, 0x1fff);
+    dvs_device_manager *manager = manager_with(all, id, id, 1);
+    size_t i;
+
+    for (i = 0; i < count; i++)
+        check_call(&rows[i], all, reserve_one, manager);
+    prepare();
+    CHECK(dvs_device_reserve_first(manager, 0, 3, &results.device, NULL) ==
+          (id == UINT32_MAX ? DVS_OVERFLOW : DVS_RESOURCE_NOT_AVAILABLE));
+    dvs_device_manager_destroy(manager);
+}
+
+static void request_in_windows(void) {
+    const dvs_range page = range_of(0x1000, 0x1fff);
+
+    check_rows(page, 2, ROWS(in_gaps));
+    check_rows(page, 2, ROWS(at_ends));
+    check_rows(page, 2, ROWS(refused));
+    check_rows(page, 2, ROWS(in_the_way));
+    check_rows(range_of(0, 0xff), 0, ROWS(at_zero));
+    check_rows(range_of(TOP - 0xff, TOP), 0, ROWS(at_top));
+    check_without_ids(UINT32_MAX, ROWS(without_ids));
+    check_without_ids(7, ROWS(without_id));
+}
+
+/* ---- Random requests ---- */
+
+/* The space has the 64 addresses starting at BASE. */
+enum { BASE = 0x1000, STEPS = 20000 };
+
+/* A bit for each allocated address, and the size of the range that starts at each address, or 0. */
+static uint64_t bits, sizes[64];
+
+static uint64_t drawn(uint64_t below) {
+    static uint64_t seed = 1;
+
+    seed = seed * 6364136223846793005u + 1442695040888963407u;
+    return (seed >> 33) % below;
+}
+
+static uint64_t bits_of(uint64_t start, uint64_t size) {
+    return (((uint64_t)1 << size) - 1) << start;
+}
+
+/* Returns the outcome of a request that has no place, for the range that it names. */
+static struct outcome blocked(const dvs_request *request, dvs_range window) {
+    struct outcome found = NO_PLACE;
+    uint64_t at = 0;
+
+    found.range = range_of(request->start, request->start + request->size - 1);
+    if (sizes[request->start - BASE] == request->size && window.start <= request->start &&
+        request->start <= window.end) {
+        found.status = DVS_INVALID_STATE_TRANSITION;
+    } else if (found.range.start < window.start || window.end < found.range.end) {
+        found.cause = DVS_CAUSE_OUTSIDE_WINDOW;
+        found.other = window;
+    } else if (found.range.end > BASE + 63) {
+        found.cause = DVS_CAUSE_OUTSIDE_SPACE;
+        found.other = range_of(BASE, BASE + 63);
+    } else {
+        while (sizes[at] == 0 || BASE + at + sizes[at] <= found.range.start)
+            at++;
+        found.cause = DVS_CAUSE_ALLOCATED;
+        found.other = range_of(BASE + at, BASE + at + sizes[at] - 1);
+    }
+    return found;
+}
+
+static struct outcome searched(const dvs_request *request, dvs_range window) {
+    struct outcome found = NO_PLACE;
+    uint64_t start;
+
+    for (start = 0; start + request->size <= 64; start++) {
+        const struct outcome place = GETS(BASE + start, BASE + start + request->size - 1);
+
+        if (start % request->alignment == 0 && (bits & bits_of(start, request->size)) == 0 &&
+            window.start <= place.range.start && place.range.end <= window.end &&
+            (request->policy != DVS_EXACT || place.range.start == request->start) &&
+            (found.status != DVS_OK || request->policy == DVS_LAST))
+            found = place;
+    }
+    return found.status != DVS_OK && request->policy == DVS_EXACT ? blocked(request, window)
+                                                                  : found;
+}
+
+static void request_at_random(void) {
+    dvs_address_allocator *space;
+    dvs_range window;
+    dvs_request request = {0, 0, 0, 0, &window};
+    uint64_t start, counts[STATUSES] = {0};
+    int i;
+
+    CHECK(dvs_address_allocator_new(BASE, 64, &space) == DVS_OK);
+    for (i = 0; i < STEPS; i++) {
+        struct outcome outcome;
+
+        window.start = BASE - 8 + drawn(80);
+        window.end = window.start + drawn(40);
+        request.size = 1 + drawn(8);
+        request.alignment = (uint64_t)1 << drawn(3);
+        request.start = BASE + (drawn(64) & ~(request.alignment - 1));
+        request.policy = (uint32_t)drawn(3);
+        outcome = searched(&request, window);
+        counts[outcome.status]++;
+        prepare();
+        CHECK(has_outcome(&outcome,
+                          dvs_range_allocate(space, &request, &results.device.range, &refusal)));
+        if (outcome.status == DVS_OK) {
+            bits |= bits_of(outcome.range.start - BASE, request.size);
+            sizes[outcome.range.start - BASE] = request.size;
+        }
+        start = drawn(64);
+        if (sizes[start] == 0)
+            continue;
+        CHECK(dvs_range_free(space, range_of(BASE + start, BASE + start + sizes[start] - 1),
+                             NULL) == DVS_OK);
+        bits &= ~bits_of(start, sizes[start]);
+        sizes[start] = 0;
+    }
+    CHECK(counts[DVS_OK] > STEPS / 8 && counts[DVS_INVALID_STATE_TRANSITION] > 0);
+    dvs_address_allocator_destroy(space);
+}
+
+int main(void) {
+    request_in_windows();
+    request_at_random();
+    puts("windows: requests in tables and at random checked");
+    return 0;
+}
