@@ -80,7 +80,7 @@
  * The version of this header. The numbers of statuses, the members of
  * structures and the behavior of calls stay the same within one
  * DVS_VERSION_MAJOR. It is also the number in the name of the shared library. A
- * new DVS_VERSION_MINOR can add statuses and calls. DVS_VERSION_NUMBER is
+ * new DVS_VERSION_MINOR can add statuses, causes and calls. DVS_VERSION_NUMBER is
  * 10000 * major + 100 * minor + patch.
  */
 #define DVS_VERSION_MAJOR 3
