@@ -90,6 +90,9 @@ pub(crate) fn cloned(
 /// Returns whether exactly these ranges are allocated.
 pub(crate) fn holds_exactly(space: &AddressAllocator, ranges: &[(u64, u64)]) -> bool {
     let mut held = space.held_ranges();
+    if held.len() != ranges.len() {
+        return false;
+    }
     for range in ranges {
         match held.next() {
             Some(next) if (next.start(), next.end()) == *range => {}
@@ -102,6 +105,9 @@ pub(crate) fn holds_exactly(space: &AddressAllocator, ranges: &[(u64, u64)]) -> 
 /// Returns whether exactly these ranges are the gaps.
 pub(crate) fn gaps_exactly(space: &AddressAllocator, ranges: &[(u64, u64)]) -> bool {
     let mut gaps = space.gaps();
+    if gaps.len() != ranges.len() {
+        return false;
+    }
     for range in ranges {
         match gaps.next() {
             Some(next) if (next.start(), next.end()) == *range => {}
@@ -209,7 +215,7 @@ pub(crate) fn expect_space(
     of: &str,
 ) {
     let is_equal = match &answer {
-        Ok(space) => space == want,
+        Ok(space) => space == want && space.gap_count() == want.gap_count(),
         Err(_) => false,
     };
     assert!(rt; is_equal, "{of}");
