@@ -24,8 +24,8 @@ abbrev pub IncreaseWithin : ℕ → ℕ → List ℕ → Type 0
 IncreaseWithin lowest bound [] = Unit {0}
 IncreaseWithin lowest bound (n ∷ ns) = (lowest ≤ n) × (n < bound) × IncreaseWithin (n + 1) bound ns
 
--- The fields of the walk are valid: the freed ids are in increasing order, in both lists are the same ones of the ids that
--- were not visited, and the number of ids that are left is right.
+-- The fields of the walk are valid. Both lists of freed ids increase, and have the same ones of the ids that were not
+-- visited. The number of ids that are left is right.
 pub record AreIdsLeft (next bound : ℕ) (above below : List ℕ) (left : ℕ) : Type 0 where
   pub ids : bound ≤ 2 ^ 32
   pub from_next : IncreaseWithin next (2 ^ 32) above

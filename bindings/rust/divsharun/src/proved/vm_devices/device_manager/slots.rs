@@ -144,7 +144,7 @@ impl<'a> Iterator for Devices<'a> {
         None
     }
 
-    /// Returns the number of devices that are left, twice.
+    /// Returns the number of devices that are left, as both bounds.
     fn size_hint(&self) -> (usize, Option<usize>) {
         (self.left, Some(self.left))
     }
