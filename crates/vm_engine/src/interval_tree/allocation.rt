@@ -92,7 +92,7 @@ fn needs_split(place: &Place) -> bool
     place.key.start() < place.range.start() || place.range.end() < place.key.end()
 }
 
-/// Counts the parts of a free block in place of the block.
+/// Replaces the free block of a split by its parts in the number of gaps.
 fn count_rest(gaps: &mut u64, rest: &Rest)
     requires some { 0 < one_if_some rest.now.before + one_if_some rest.now.after }
     requires fits { gaps.old < MAX }

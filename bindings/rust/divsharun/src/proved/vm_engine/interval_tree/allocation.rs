@@ -66,7 +66,7 @@ fn needs_split(place: &Place) -> bool {
     place.key.start() < place.range.start() || place.range.end() < place.key.end()
 }
 
-/// Counts the parts of a free block in place of the block.
+/// Replaces the free block of a split by its parts in the number of gaps.
 fn count_rest(gaps: &mut u64, rest: &Rest) {
     if rest.before.is_some() && rest.after.is_some() {
         *gaps += 1;
