@@ -115,7 +115,7 @@ def names_of(tokens):
 
 
 def compare(source, plain, crate):
-    """Prints the first difference of a file. Returns whether there is none."""
+    """Prints the first difference of a file. Returns `true` if there is none."""
     text = source.read_text(encoding="utf-8") if source.exists() else ""
     is_of_values = "\nuse serde_json::" in text
     for old, new in CHANGED:

@@ -257,7 +257,7 @@ pub extern "C" fn dvs_clear_count(
     allocator: Option<&dvs_address_allocator>,
     count: Out<u64>,
 ) -> dvs_status {
-    let asked = with_ref(allocator, count, |allocator| Ok(allocator.clear_count()));
+    let asked = with_ref(allocator, count, |allocator| Ok(allocator.free_len()));
     status_of(asked, None)
 }
 

@@ -86,7 +86,7 @@ pub fn cloned(rt: &(impl Abort + AllocGlobal), space: &AddressAllocator) -> Addr
     }
 }
 
-/// Returns whether exactly these ranges are allocated.
+/// Returns `true` if exactly these ranges are allocated.
 pub fn holds_exactly(space: &AddressAllocator, ranges: &[(u64, u64)]) -> bool {
     let mut held = space.held_ranges();
     if held.len() != ranges.len() {
@@ -101,7 +101,7 @@ pub fn holds_exactly(space: &AddressAllocator, ranges: &[(u64, u64)]) -> bool {
     held.next().is_none()
 }
 
-/// Returns whether exactly these ranges are the gaps.
+/// Returns `true` if exactly these ranges are the gaps.
 pub fn gaps_exactly(space: &AddressAllocator, ranges: &[(u64, u64)]) -> bool {
     let mut gaps = space.gaps();
     if gaps.len() != ranges.len() {

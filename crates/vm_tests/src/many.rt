@@ -140,7 +140,7 @@ fn addresses_looked_up(rt: HostRuntime) {
         expect_eq(&rt, &(gap.start(), gap.end()), &(start, start), &gap);
         start = start.saturating_add(2);
     }
-    let numbers = (start, space.clear_count(), space.gap_count());
+    let numbers = (start, space.free_len(), space.gap_count());
     expect_eq(
         &rt,
         &numbers,

@@ -132,7 +132,7 @@ fn held_ranges_and_gaps(rt: HostRuntime) {
             Outside(address) => expect_eq(&rt, &at(&space, address), &(None, None), &number),
             Gaps(gaps, longest, clear) => {
                 expect_true(&rt, gaps_exactly(&space, gaps), &number);
-                let numbers = (space.longest_gap(), space.clear_count(), space.gap_count());
+                let numbers = (space.longest_gap(), space.free_len(), space.gap_count());
                 let want = (longest, clear, gaps.len() as u64);
                 expect_eq(&rt, &numbers, &want, &number);
             }

@@ -69,7 +69,7 @@ impl IntervalTree {
             );
             self.held_count += 1;
             self.gap_count -= 1;
-            self.clear_count -= place.range.len();
+            self.free_len -= place.range.len();
             return Ok(place.range);
         }
         if self.height() >= SPLIT_HEIGHT_LIMIT {
@@ -79,7 +79,7 @@ impl IntervalTree {
         let mut split = Split { place, rest };
         self.held_count += 1;
         count_rest(&mut self.gap_count, &split.rest);
-        self.clear_count -= place.range.len();
+        self.free_len -= place.range.len();
         split_gap(&mut self.root, &mut split, edge, count);
         Ok(place.range)
     }

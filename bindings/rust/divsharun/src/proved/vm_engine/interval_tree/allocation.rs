@@ -45,7 +45,7 @@ impl IntervalTree {
             );
             self.held_count += 1;
             self.gap_count -= 1;
-            self.clear_count -= place.range.len();
+            self.free_len -= place.range.len();
             return Ok(place.range);
         }
         if self.height() >= SPLIT_HEIGHT_LIMIT {
@@ -55,7 +55,7 @@ impl IntervalTree {
         let mut split = Split { place, rest };
         self.held_count += 1;
         count_rest(&mut self.gap_count, &split.rest);
-        self.clear_count -= place.range.len();
+        self.free_len -= place.range.len();
         split_gap(&mut self.root, &mut split, edge, count);
         Ok(place.range)
     }
