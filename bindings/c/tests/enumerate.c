@@ -133,6 +133,7 @@ static void look_up_ranges(void) {
         CHECK(dvs_gap_at(space, in_none[i], &range) == DVS_RESOURCE_NOT_AVAILABLE);
     CHECK(is_range(range, 0x3800, 0x3fff));
     CHECK(dvs_longest_gap(space, &number) == DVS_OK && number == 0x1000);
+    CHECK(dvs_gap_count(space, &number) == DVS_OK && number == 3);
     CHECK(dvs_clear_count(space, &number) == DVS_OK && number == 0x2800);
     dvs_address_allocator_destroy(space);
 }
@@ -153,6 +154,7 @@ static void visit_gaps(void) {
         CHECK(dvs_range_allocate_first(space, number, 1, &range, NULL) == DVS_OK);
     seen = all_of();
     CHECK(dvs_gap_visit(space, see_range, &seen) == DVS_OK && seen.count == 0);
+    CHECK(dvs_gap_count(space, &number) == DVS_OK && number == 0);
     CHECK(dvs_clear_count(space, &number) == DVS_OK && number == 0);
     dvs_address_allocator_destroy(space);
 }
@@ -409,6 +411,7 @@ static void give_null(void) {
     CHECK(dvs_address_allocator_allocate_all(space, &request, 1, NULL, NULL, NULL) == DVS_NULL);
     CHECK(dvs_range_at(NULL, 0, &range) == DVS_NULL && dvs_range_at(space, 0, NULL) == DVS_NULL);
     CHECK(dvs_longest_gap(NULL, &number) == DVS_NULL && dvs_longest_gap(space, NULL) == DVS_NULL);
+    CHECK(dvs_gap_count(NULL, &number) == DVS_NULL && dvs_gap_count(space, NULL) == DVS_NULL);
     CHECK(dvs_clear_count(NULL, &number) == DVS_NULL && dvs_clear_count(space, NULL) == DVS_NULL);
     CHECK(dvs_gap_at(NULL, 0, &range) == DVS_NULL && dvs_gap_at(space, 0, NULL) == DVS_NULL);
     range = range_of(5, 4);
