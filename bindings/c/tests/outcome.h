@@ -19,6 +19,8 @@ static bool seen[STATUSES];
 /* The results and the details of a call. A result that is a number is the start of the range. */
 static struct {
     dvs_device device;
+    dvs_range ranges[2];
+    uint32_t several[2];
     dvs_address_allocator *space;
     dvs_id_allocator *ids;
     dvs_device_manager *manager;
