@@ -220,7 +220,8 @@ static inline void check_refused(int call, dvs_status status, dvs_status expecte
 
     if (status != expected)
         fprintf(stderr, "call %d: status %d\n", call, (int)status);
-    CHECK(failed == (call == LIST || call == WITH_RANGES ? 2 : MANY));
+    CHECK(failed == (call == LIST || call == WITH_RANGES ? 2 : MANY) ||
+          (failed < 2 && call == LIST && expected == DVS_OUT_OF_MEMORY));
     CHECK(status == expected && is_untouched(&results, sizeof results));
     CHECK(has_refusal ? memcmp(&refusal, &none, sizeof none) == 0
                       : is_untouched(&refusal, sizeof refusal));

@@ -102,7 +102,7 @@ struct outcome {
 
 /* Returns whether a call returned this status, wrote its result or all details, and nothing else.
  */
-static bool has_outcome(const struct outcome *expected, dvs_status status) {
+static inline bool has_outcome(const struct outcome *expected, dvs_status status) {
     dvs_refusal told = {expected->range, expected->other, 0, expected->id, expected->cause};
 
     if (noted(status) != expected->status)
