@@ -182,12 +182,16 @@ static const struct step on_ids[] = {
     {ID, {0}, GETS_ID(7)},
     {ID, {0}, ENDS(DVS_RESOURCE_NOT_AVAILABLE)},
     {PEEK, {0}, ENDS(DVS_RESOURCE_NOT_AVAILABLE)},
+    {ID_IN, {8, 6}, TELLS(DVS_INVALID_RANGE, 8, 6)},
 };
 
 static const struct step on_last_id[] = {
     {ID, {0}, GETS_ID(UINT32_MAX)},
     {ID, {0}, ENDS(DVS_OVERFLOW)},
+    {ID_IN, {0, UINT32_MAX}, NO_PLACE},
 };
+
+static const struct step on_all_ids[] = {{FREE_COUNT, {0}, GETS_NUMBER((uint64_t)1 << 32)}};
 
 /* On the ids from 5 to 23. */
 static const struct step of_given_ids[] = {
@@ -256,6 +260,8 @@ static void call_with_numbers(void) {
     run_on_ids(
         UINT32_MAX, UINT32_MAX, ROWS(on_last_id),
         "{\"range_base\":4294967295,\"next_id\":null,\"range_end\":4294967295,\"freed_ids\":[]}");
+    run_on_ids(0, UINT32_MAX, ROWS(on_all_ids),
+               "{\"range_base\":0,\"next_id\":0,\"range_end\":4294967295,\"freed_ids\":[]}");
     run_on_ids(5, 23, ROWS(of_given_ids),
                "{\"range_base\":5,\"next_id\":10,\"range_end\":23,\"freed_ids\":[5]}");
     CHECK(dvs_device_manager_new(1, 3, 0x1000, 0x1000, &manager, NULL) == DVS_OK);
@@ -547,6 +553,7 @@ static const struct {
     {IDS_WITHIN, "", DVS_NOT_JSON, 0, NULL, "a value"},
     {IDS_WITHIN, "[", DVS_NOT_JSON, 1, NULL, "a value"},
     {IDS_WITHIN, "{\"next_id\":01}", DVS_NOT_JSON, 12, NULL, "a comma"},
+    {IDS_WITHIN, "{\"next_id\":1e}", DVS_NOT_JSON, 13, NULL, "a digit"},
     {IDS_WITHIN, "{\"next_id\":\"\\ud800\"}", DVS_NOT_JSON, 13, NULL, "an escape"},
     {IDS_WITHIN, "{\"base\":1e999}", DVS_NOT_JSON, 8, NULL, "greater than any double"},
     {IDS_WITHIN, "{\"base\" 5}", DVS_NOT_JSON, 8, NULL, "a colon"},
@@ -621,6 +628,11 @@ static void read_texts(void) {
     given.limits.depth--;
     refuse(IDS_WITHIN, NULL, DVS_LIMIT_EXCEEDED);
     check_fault(10, NULL, "nested");
+    /* The limit of length comes first. */
+    give_text("[\xff", 2, 1);
+    given.limits.length = 1;
+    refuse(IDS_WITHIN, NULL, DVS_LIMIT_EXCEEDED);
+    check_fault(1, NULL, "long");
 }
 
 /* Reads what it saves, and no part of it. The library must not read past a text, so it refuses

@@ -279,6 +279,7 @@ static void call_without_memory(int call, int group, const uint64_t *numbers, dv
     set_up(false);
     give(group);
     given.other = copies[group];
+    given.has_result = status != DVS_NULL;
     until_refused = 1;
     got = attempt(call, objects[group], numbers);
     CHECK(until_refused == 1);
@@ -287,7 +288,8 @@ static void call_without_memory(int call, int group, const uint64_t *numbers, dv
     tear_down();
 }
 
-/* Also makes the queries, except those that copy and save, and the visits. */
+/* Also makes the queries, except those that copy and save, and the visits. All calls come without a
+ * place for the result, too. */
 static void do_without_memory(void) {
     size_t i;
     int call;
@@ -295,9 +297,11 @@ static void do_without_memory(void) {
     for (i = 0; i < sizeof without_memory / sizeof without_memory[0]; i++)
         call_without_memory(without_memory[i].call, without_memory[i].group,
                             without_memory[i].numbers, without_memory[i].status);
-    for (call = FIRST; call < CALLS; call++) {
+    for (call = 0; call < CALLS; call++) {
         const struct group *group = &groups[group_of(call)];
 
+        if (call < group->done || group->queries <= call)
+            call_without_memory(call, group_of(call), zeros, DVS_NULL);
         if (group->queries <= call && call != group->visits - 2 && call != group->visits - 1)
             call_without_memory(call, group_of(call), zeros, DVS_OK);
     }
