@@ -284,9 +284,12 @@ class address_allocator : public owner<dvs_address_allocator, dvs_address_alloca
     DVS_MUST_CHECK error allocate_all(const std::vector<dvs_request> &requests,
                                       std::vector<dvs_range> &ranges, std::size_t *failed = nullptr,
                                       dvs_refusal *refusal = nullptr) {
-        ranges.resize(requests.size());
-        return code(dvs_address_allocator_allocate_all(get(), requests.data(), requests.size(),
-                                                       ranges.data(), failed, refusal));
+        std::vector<dvs_range> allocated(requests.size());
+        error failure = code(dvs_address_allocator_allocate_all(
+            get(), requests.data(), requests.size(), allocated.data(), failed, refusal));
+        if (!failure)
+            ranges = std::move(allocated);
+        return failure;
     }
     DVS_MUST_CHECK error allocate_all(const std::vector<request> &requests,
                                       std::vector<dvs_range> &ranges, std::size_t *failed = nullptr,
