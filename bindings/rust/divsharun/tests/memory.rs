@@ -16,7 +16,7 @@ use std::os::unix::process::ExitStatusExt;
 use std::process::Command;
 use AllocPolicy::{ExactMatch, FirstMatch, LastMatch};
 
-/// The variable with the number of the call that ends the process.
+/// The variable with the numbers of the call that ends the process, and of its allocation that fails.
 const ENDING: &str = "DIVSHARUN_TEST_OF_MEMORY";
 
 /// The signal of a process that `abort` ended.
@@ -102,7 +102,7 @@ const TRIED: [(u64, TriedCall); 29] = [
 
 /// Calls that end the process, each with the number of its allocations on [`two_held`]. A set or a
 /// map allocates two blocks for a few ids or devices.
-const ENDED: [(u64, EndedCall); 18] = [
+const ENDED: [(u64, EndedCall); 20] = [
     (1, |_| assert!(AddressAllocator::new(0, 64).is_ok())),
     (5, |space| drop(space.clone())),
     (1 + 5, |_| {
@@ -144,13 +144,23 @@ const ENDED: [(u64, EndedCall); 18] = [
         let request = in_the_middle(1, FirstMatch);
         reserve_and_release(|devices| devices.reserve_constraint(request).is_ok())
     }),
+    (1 + 1 + 3 + 2 + 3, |_| {
+        let mut devices = DeviceManager::new(0, 0, 0, 64).expect("a manager");
+        assert!(devices.reserve(1, 1, FirstMatch).is_ok());
+        drop(devices.clone());
+    }),
+    (2 + 2, |space| {
+        let layout = space.layout().named([(both()[0], "disk")]);
+        drop(layout.clone());
+    }),
 ];
 
 fn main() {
-    if let Ok(number) = env::var(ENDING) {
-        let (_, call) = ENDED[number.parse::<usize>().expect("a number")];
+    if let Ok(text) = env::var(ENDING) {
+        let (row, number) = text.split_once(' ').expect("two numbers");
+        let (_, call) = ENDED[row.parse::<usize>().expect("a number")];
         let mut space = two_held();
-        refusing(1, || call(&mut space));
+        refusing(number.parse().expect("a number"), || call(&mut space));
         return;
     }
     count_requests();
@@ -343,10 +353,16 @@ fn no_request_is_made() {
 
 fn processes_are_ended() {
     let program = env::current_exe().expect("the program has a path");
-    for row in 0..ENDED.len() {
-        let mut child = Command::new(&program);
-        let ended = child.env(ENDING, row.to_string()).output();
-        let ended = ended.expect("the program starts");
-        assert_eq!(ended.status.signal(), Some(ABORTED), "row {row}: {ended:?}");
+    for (row, (requests, _)) in ENDED.iter().enumerate() {
+        for number in 1..=*requests {
+            let call = format!("{row} {number}");
+            let ended = Command::new(&program).env(ENDING, &call).output();
+            let ended = ended.expect("the program starts");
+            assert_eq!(
+                ended.status.signal(),
+                Some(ABORTED),
+                "row {call}: {ended:?}"
+            );
+        }
     }
 }
