@@ -7,6 +7,7 @@ There is one edit for each rule of the eraser that protects a proved property. E
 the given reason. The exit status is 1 if one is not, or if its text is not found."""
 import os
 import pathlib
+import shutil
 import sys
 import tempfile
 
@@ -69,7 +70,7 @@ EDITS = [
 EDITS += [(f"{name} {word}", RANGE, old, new.replace("WORD", word), reason.replace("WORD", word)) for name, words, old, new, reason in [
     ("the text", "1.5 x@y $x ~x", BODY, f"        WORD;\n{BODY}", "text that begins with"),
     ("a clause with", "' ` -- // /* {-}", CLAUSE, "ensures { result ≡ f WORD }", "in a clause"),
-    ("a definition of", "Box BTreeMap BTreeSet Err Iterator None Ok Option Ord Ordering Some Value Vec u128 u16 u32 u64 u8 u8x16 usize",
+    ("a definition of", "Box BTreeMap BTreeSet Err Iterator None Ok Option Ord Ordering Some Value Vec u128 u32 u64 u8 u8x16 usize",
      IMPL, f"struct WORD {{ inner: u64 }}\n{IMPL}", "a definition of 'WORD'"),
     ("the word", """async await become box char decreases dyn extern f32 f64 gen i8 i16 i32 i64 i128 invariant isize
      macro_rules prove prove_eq trait try union unsafe where yield""", BODY, f"        WORD;\n{BODY}", "'WORD' in code"),
@@ -82,12 +83,18 @@ EDITS += [(f"{name} {word}", RANGE, old, new.replace("WORD", word), reason.repla
      BODY, f"        WORD;\n{BODY}", "is in no table"),
     ("a cast to", "RangeInclusive _", BODY, "        1 + self.end as WORD", "'as WORD'"),
     ("a derive of", "Add AsRef Deref Display From Serialize", "#[derive(Clone, Copy, Debug,", "#[derive(WORD,", "a derive of 'WORD'"),
-    ("an impl of", "AsRef Clone Default Deref DerefMut Hash Not", "impl PartialOrd for", "impl WORD for", "an impl of 'WORD'"),
+    ("an impl of", "AsRef Clone Default Deref DerefMut Hash Not Read Write", "impl PartialOrd for", "impl WORD for", "an impl of 'WORD'"),
     ("an attribute", 'cfg(any()) cfg(not(test)) cfg_attr(test,inline) deprecated must_use path="x" repr(C) test track_caller', IMPL,
      f"#[WORD]\n{IMPL}", "an attribute '"),
     ("in code, an item", "const enum fn impl mod pub static struct type use", BODY, f"        WORD;\n{BODY}", "an item 'WORD' in code"),
     ("an item of the form", "async extern macro_rules trait union unsafe", IMPL, f"WORD X {{}}\n{IMPL}", "an item 'WORD'"),
 ] for word in words.split()]
+
+EDITS_OF_TESTS = [
+    ("a test with a number", RANGE, IMPL, f"#[test] fn f(x: u64) {{}}\n{IMPL}", "other parameters than 'rt'"),
+    ("a test without runtime", RANGE, IMPL, f"fn f() {{ x.expect(y, z) }}\n{IMPL}", "'expect' without 'rt'"),
+    ("a library's name changed", RANGE, IMPORT, "use std::cmp::Ordering as Order;", "an import under another name"),
+]
 
 
 def error_of(work):
@@ -99,11 +106,35 @@ def error_of(work):
     return "it is accepted"
 
 
-def outcome(project, scratch, edit):
-    """Returns the error of the eraser for an edit. All edits are in a crate that needs no other crate."""
+def outcome(project, scratch, edit, needed="program: vm_ranges\n"):
+    """Returns the error of the eraser for an edit of a crate that a program needs, or that only tests need."""
     mutants.apply(mutants.Mutant(edit[0], [edit[1:4]], {}), project, scratch)
-    pathlib.Path(scratch, "crates.txt").write_text("vm_ranges: serde_json thiserror\nprogram: vm_ranges\n", encoding="utf-8")
-    return error_of(lambda: erase.Project(scratch))
+    pathlib.Path(scratch, "crates.txt").write_text(f"vm_ranges: serde_json thiserror\n{needed}", encoding="utf-8")
+    return error_of(lambda: erase.Project(scratch, not needed))
+
+
+class Looked(set):
+    """A table that knows which of its names were not looked up."""
+
+    def __init__(self, names):
+        super().__init__(names)
+        self.left = set(names)
+
+    def __contains__(self, name):
+        self.left.discard(name)
+        return super().__contains__(name)
+
+
+def unused(project):
+    """Returns the names in tables of the eraser that no source uses, so that no table has more than it must."""
+    tables = {name: Looked(getattr(erase, name)) for name in
+              "METHODS ASSOCIATED MACROS DERIVES TRAITS TRAITS_OF_TESTS ATTRIBUTES KEYWORDS NAMES NUMBERS PRELUDE".split()}
+    for folders in (erase.FOLDERS, erase.FOLDERS_OF_TESTS):
+        tables |= {f"{folder} {id(folders)}": Looked(folders[folder][1]) for folder in folders}
+        folders.update({folder: (folders[folder][0], tables[f"{folder} {id(folders)}"]) for folder in folders})
+    vars(erase).update(tables)
+    erase.Project(project, True)
+    return sorted(set().union(*(table.left for table in tables.values())))
 
 
 def overlap():
@@ -117,8 +148,14 @@ def main():
     if len(sys.argv) != 2:
         sys.exit(__doc__)
     with tempfile.TemporaryDirectory() as folder:
-        found = [(edit[0], outcome(sys.argv[1], os.path.join(folder, "project"), edit), edit[4]) for edit in EDITS]
+        small, scratch = os.path.join(folder, "small"), os.path.join(folder, "project")
+        # All edits are in a crate that needs no other crate.
+        shutil.copytree(os.path.join(sys.argv[1], "crates", "vm_ranges"), os.path.join(small, "crates", "vm_ranges"))
+        shutil.copy(os.path.join(sys.argv[1], "crates.txt"), small)
+        found = [(edit[0], outcome(small, scratch, edit), edit[4]) for edit in EDITS]
+        found += [(edit[0], outcome(small, scratch, edit, ""), edit[4]) for edit in EDITS_OF_TESTS]
     found.append(("two cuts", overlap(), "that overlap"))
+    found.append(("the tables", f"unused: {unused(sys.argv[1])}", "unused: []"))
     wrong = [result for result in found if result[2] not in result[1]]
     for result in wrong:
         print("{}: {}, instead of: {}".format(*result))
