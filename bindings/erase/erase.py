@@ -69,6 +69,7 @@ TAKEN = (PRELUDE | NAMES | NUMBERS | TRAITS | {path.split("::")[0] for path in A
 TRAITS_OF_TESTS = {"Read", "Write"}
 ATTRIBUTES = {"allow", "cold", "default", "error", "inline"}
 KEYWORDS = set("_ as bool break continue else false for if in let match mut pub return str true while Self".split())
+PATHS = {"crate", "self", "super"}
 REFUSED_WORDS = set("""async await become box char decreases dyn extern f32 f64 gen ghost i8 i16 i32 i64
     i128 invariant isize macro_rules prove prove_eq trait try union unsafe where yield""".split())
 CLAUSES = {"ensures", "requires"}
@@ -349,8 +350,7 @@ class File(Tokens):
                 self.cut(behind, behind + 2)
                 behind += 2
                 continue
-            if token.kind == "mark" and token.text not in (",", ":", "+"):
-                self.fail("parameters of this form", token.start)
+            self.refuse_if(token.kind == "mark" and token.text not in (",", ":", "+"), "parameters of this form", behind)
             if before in (":", "+"):
                 self.uses.append((token.start, "a type", token.text))
             elif token.kind == "word" and token.text not in ("_", "const"):
@@ -393,8 +393,7 @@ class File(Tokens):
         head = self.tokens[first].text
         if self.of_tests:
             return
-        if head not in self.crate.stands_on | self.crate.names | {"crate", "self", "super"}:
-            self.fail(f"an import from {head!r}", self.start_of(first))
+        self.refuse_if(head not in self.crate.stands_on | self.crate.names | PATHS, f"an import from {head!r}", first)
         self.define(index, set())
         self.imported[self.tokens[index].text] = head
 
@@ -505,8 +504,8 @@ class File(Tokens):
             self.crate.guarded.add(name)
             self.refuse_if(not self.at(index + 1, "}"), "a member of Model that is no ghost", index + 1)
             return index + 2, False
-        if trait and trait not in TRAITS and not (self.of_tests and trait in TRAITS_OF_TESTS):
-            self.fail(f"an impl of {trait!r}", self.start_of(item.keyword))
+        is_allowed = not trait or trait in TRAITS or self.of_tests and trait in TRAITS_OF_TESTS
+        self.refuse_if(not is_allowed, f"an impl of {trait!r}", item.keyword)
         first, kept = self.first_kept, self.kept
         self.first_kept = first or self.start_of(item.start)
         behind = self.items(index + 1, trait or "impl") + 1
@@ -522,8 +521,8 @@ class File(Tokens):
         while index < behind:
             token = self.tokens[index]
             if token.text == "#":
-                if "pub" not in allowed or self.tokens[index + 2].text not in ATTRIBUTES:
-                    self.fail("an attribute in code", token.start)  # it can be before fields and variants
+                is_allowed = "pub" in allowed and self.tokens[index + 2].text in ATTRIBUTES  # of fields and variants
+                self.refuse_if(not is_allowed, "an attribute in code", index)
                 index = self.matching(index + 1)
             elif token.kind != "word":
                 index += 1
@@ -564,13 +563,13 @@ class File(Tokens):
         if head in PRELUDE:
             self.from_prelude.add(head)
         if self.at(last + 1, "!") and self.tokens[last + 2].text in OPENING:
-            if name not in MACROS or name == "json" and self.imported.get(name) != "serde_json":
-                self.fail(f"a macro {name!r}", start)
+            is_other = name == "json" and self.imported.get(name) != "serde_json"
+            self.refuse_if(name not in MACROS or is_other, f"a macro {name!r}", first)
         elif self.at(first - 1, "."):
             self.uses += [(start, "a method", name)] if called else []
         elif self.at(first - 1, "as") and name not in NUMBERS:
             self.fail(f"'as {name}'", start)
-        elif head not in ("crate", "self", "super") and name not in KEYWORDS and name not in NUMBERS:
+        elif head not in PATHS and name not in KEYWORDS and name not in NUMBERS:
             kind = "a path" if last > first else "a function" if called else "a type"
             self.uses += [(start, kind, name)] if kind != "a type" or name[0].isupper() else []
 

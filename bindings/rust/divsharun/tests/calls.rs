@@ -19,7 +19,10 @@ const BASE: u64 = 1000;
 /// Moves a range, if the addresses there are free, or checks that it stays.
 fn move_range(space: &mut AddressAllocator, model: &mut Model, number: usize, to: u64) {
     let held = model.held[number];
+    let mut tried = space.clone();
     let answer = space.move_range(&held, to);
+    assert_eq!(refused(tried.try_move_range(&held, to)), answer);
+    assert_eq!(tried, *space);
     let request = Constraint::new(held.len(), 1, AllocPolicy::ExactMatch(to)).unwrap();
     if to == held.start() {
         assert_eq!(answer, Ok(held));
@@ -81,6 +84,7 @@ fn answers_are_those_of_a_plain_model() {
     let lengths = || gaps.iter().map(RangeInclusive::len);
     assert_eq!(space.longest_gap(), lengths().max().unwrap_or(0));
     assert_eq!(space.free_len(), lengths().sum());
+    assert_eq!(space.gap_count(), gaps.len() as u64);
     let created = AddressAllocator::with_held(BASE, WIDTH, &held);
     assert_eq!(created, Ok(space));
 }
