@@ -44,7 +44,7 @@ class Runner:
         return next(message["executable"] for message in messages if message.get("executable"))
 
     def passes(self, program, test, how):
-        """Returns whether a test passes, if it is run in a certain way."""
+        """Returns `true` if a test passes, if it is run in a certain way."""
         if how == "refused":
             return self.passes_when_refused(program, test)
         ways = {"counted": {"COUNT": self.count_allocation, "LD_PRELOAD": self.library}}
@@ -54,7 +54,7 @@ class Runner:
         return done.returncode == 0
 
     def passes_when_refused(self, program, test):
-        """Returns whether a test passes with each allocation failing in turn, up to a run without a failed
+        """Returns `true` if a test passes with each allocation failing in turn, up to a run without a failed
         allocation. Only a failed test counts, because Rust's test harness ends the process if one of its
         own allocations fails."""
         told = os.path.join(self.scratch, "refused")

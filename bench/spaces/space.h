@@ -19,7 +19,7 @@ bool allocate_exact(uint64_t size, uint64_t alignment, uint64_t *start);
 bool allocate_within(uint64_t first, uint64_t last, uint64_t size, uint64_t alignment, bool is_highest,
 		     uint64_t *start);
 
-/* Returns whether exactly this range was allocated. */
+/* Returns `true` if exactly this range was allocated. */
 bool free_range(uint64_t first, uint64_t last);
 
 #endif

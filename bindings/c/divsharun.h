@@ -511,6 +511,10 @@ dvs_status dvs_gap_at(const dvs_address_allocator *allocator, uint64_t address, 
 DVS_WARN_UNUSED
 dvs_status dvs_longest_gap(const dvs_address_allocator *allocator, uint64_t *length);
 
+/* Writes the number of gaps to `count`, in constant time. Errors: DVS_NULL. */
+DVS_WARN_UNUSED
+dvs_status dvs_gap_count(const dvs_address_allocator *allocator, uint64_t *count);
+
 /* Writes the number of free addresses to `count`, in constant time. Errors: DVS_NULL. */
 DVS_WARN_UNUSED
 dvs_status dvs_clear_count(const dvs_address_allocator *allocator, uint64_t *count);

@@ -321,6 +321,9 @@ class address_allocator : public owner<dvs_address_allocator, dvs_address_alloca
     DVS_MUST_CHECK error held_count(uint64_t &count) const {
         return code(dvs_range_count(get(), &count));
     }
+    DVS_MUST_CHECK error gap_count(uint64_t &count) const {
+        return code(dvs_gap_count(get(), &count));
+    }
     DVS_MUST_CHECK error clear_count(uint64_t &count) const {
         return code(dvs_clear_count(get(), &count));
     }

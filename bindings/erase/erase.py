@@ -231,7 +231,7 @@ class File(Tokens):
         self.refuse_if(self.tokens[end].kind != "end", "a brace that closes nothing", end)
 
     def at(self, index, *texts):
-        """Returns whether these tokens are at an index."""
+        """Returns `true` if these tokens are at an index."""
         return [token.text for token in self.tokens[index:index + len(texts)]] == list(texts)
 
     def start_of(self, index):
@@ -683,7 +683,7 @@ class Crate:
             file.check()
 
     def read_module(self, parent, name, of_tests):
-        """Reads the file of a module. Returns whether anything of it is kept."""
+        """Reads the file of a module. Returns `true` if anything of it is kept."""
         path = os.path.join(parent.children, name + ".rt")
         if not os.path.exists(path):
             raise Refused(f"{parent.path}: no file for the module {name!r}")

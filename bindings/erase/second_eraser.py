@@ -30,7 +30,7 @@ CHANGED = [
 # Texts that the first eraser adds: the attribute of code that divsharun does not reach, and what the derive of
 # `Error` stands for.
 ADDED = re.compile(
-    r"#\[allow\(dead_code\)\] (?=pub\(in [\w:]+\) fn count_(?:clear|held)\(|pub fn align_(?:down|up)\(|Overlap\(|pub enum ValueError\b)"
+    r"#\[allow\(dead_code\)\] (?=pub\(in [\w:]+\) fn count_tree\(|pub fn align_(?:down|up)\(|Overlap\(|pub enum ValueError\b)"
     r"|impl core::fmt::Display for \w+ \{\s+fn fmt\(&self, f: &mut core::fmt::Formatter<'_>\) -> core::fmt::Result \{\s+"
     r"match self \{\s+(?:\w+::\w+(?:\(field_0(?:, field_1)?\))? => write!\(f, \".*\"\),\s+)+\}\s+\}\s+\}\s+"
     r"impl core::error::Error for \w+ \{\}")
@@ -115,7 +115,7 @@ def names_of(tokens):
 
 
 def compare(source, plain, crate):
-    """Prints the first difference of a file. Returns whether there is none."""
+    """Prints the first difference of a file. Returns `true` if there is none."""
     text = source.read_text(encoding="utf-8") if source.exists() else ""
     is_of_values = "\nuse serde_json::" in text
     for old, new in CHANGED:

@@ -129,7 +129,7 @@ impl<'a> Reader<'a> {
         Ok(first)
     }
 
-    /// Reads an opening bracket. Returns whether an item follows, and not the closing bracket.
+    /// Reads an opening bracket. Returns `true` if an item follows, and not the closing bracket.
     fn open(&mut self, bracket: u8, close: u8, expected: &'static CStr) -> Read<bool> {
         if self.value()? != Some(bracket) {
             return Err(self.not_a_state(expected));
@@ -141,7 +141,7 @@ impl<'a> Reader<'a> {
         Ok(!is_empty)
     }
 
-    /// Reads a comma or the closing bracket. Returns whether it is a comma.
+    /// Reads a comma or the closing bracket. Returns `true` if it is a comma.
     fn next(&mut self, close: u8) -> Read<bool> {
         if self.skip(b',') {
             return Ok(true);

@@ -253,11 +253,20 @@ pub extern "C" fn dvs_longest_gap(
 }
 
 #[unsafe(no_mangle)]
+pub extern "C" fn dvs_gap_count(
+    allocator: Option<&dvs_address_allocator>,
+    count: Out<u64>,
+) -> dvs_status {
+    let asked = with_ref(allocator, count, |allocator| Ok(allocator.gap_count()));
+    status_of(asked, None)
+}
+
+#[unsafe(no_mangle)]
 pub extern "C" fn dvs_clear_count(
     allocator: Option<&dvs_address_allocator>,
     count: Out<u64>,
 ) -> dvs_status {
-    let asked = with_ref(allocator, count, |allocator| Ok(allocator.clear_count()));
+    let asked = with_ref(allocator, count, |allocator| Ok(allocator.free_len()));
     status_of(asked, None)
 }
 

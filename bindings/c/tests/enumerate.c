@@ -135,6 +135,7 @@ static void look_up_ranges(void) {
         CHECK(dvs_gap_at(space, in_none[i], &range) == DVS_RESOURCE_NOT_AVAILABLE);
     CHECK(is_range(range, 0x3800, 0x3fff));
     CHECK(dvs_longest_gap(space, &number) == DVS_OK && number == 0x1000);
+    CHECK(dvs_gap_count(space, &number) == DVS_OK && number == 3);
     CHECK(dvs_clear_count(space, &number) == DVS_OK && number == 0x2800);
     dvs_address_allocator_destroy(space);
 }
@@ -155,6 +156,7 @@ static void visit_gaps(void) {
         CHECK(dvs_range_allocate_first(space, number, 1, &range, NULL) == DVS_OK);
     seen = all_of();
     CHECK(dvs_gap_visit(space, see_range, &seen) == DVS_OK && seen.count == 0);
+    CHECK(dvs_gap_count(space, &number) == DVS_OK && number == 0);
     CHECK(dvs_clear_count(space, &number) == DVS_OK && number == 0);
     dvs_address_allocator_destroy(space);
 }

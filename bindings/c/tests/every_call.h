@@ -15,7 +15,7 @@ enum {
     READ_IDS, READ_MANAGER, SPACE_WITHIN, REPAIR_WITHIN, IDS_WITHIN, MANAGER_WITHIN,
 
     FIRST, LAST, EXACT, MOVE, REQUEST, LIST, FREE, DESTROY_SPACE,
-    SPACE, IS_HELD, COUNT, CLEAR_COUNT, LONGEST_GAP, RANGE_AT, GAP_AT, EQUAL_SPACE, COPY_SPACE, SAVE_SPACE,
+    SPACE, IS_HELD, COUNT, GAP_COUNT, CLEAR_COUNT, LONGEST_GAP, RANGE_AT, GAP_AT, EQUAL_SPACE, COPY_SPACE, SAVE_SPACE,
     VISIT, VISIT_GAPS, VISIT_IN, GAPS_IN, VISIT_FROM, VISIT_BACK, GAPS_FROM, GAPS_BACK,
 
     ID, ID_IN, IDS, ID_EXACT, FREE_ID, DESTROY_IDS,
@@ -129,6 +129,7 @@ static dvs_status make_call(int call, void *object, const uint64_t *n) {
         CASE(SPACE, dvs_address_allocator_space(space, to));
         CASE(IS_HELD, dvs_range_is_held(space, range, to_flag, &refusal));
         CASE(COUNT, dvs_range_count(space, to_number));
+        CASE(GAP_COUNT, dvs_gap_count(space, to_number));
         CASE(CLEAR_COUNT, dvs_clear_count(space, to_number));
         CASE(LONGEST_GAP, dvs_longest_gap(space, to_number));
         CASE(RANGE_AT, dvs_range_at(space, n[0], to));

@@ -144,6 +144,7 @@ static void save() {
     CHECK(copy.read("{}") == dvs::code(DVS_NOT_A_STATE) && copy.ranges().size() == 2);
     uint64_t count = 0;
     CHECK(!copy.held_count(count) && count == 2 && !copy.clear_count(count) && count == 13);
+    CHECK(!copy.gap_count(count) && count == 3);
     dvs_text_fault fault;
     dvs_text_limits limits = {text.size() - 1, 0};
     CHECK(copy.read("{}", &fault) && fault.offset == 2 &&

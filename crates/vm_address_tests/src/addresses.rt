@@ -468,7 +468,7 @@ fn fibonacci(n: u64) -> u64 {
     low
 }
 
-/// Returns whether the tree is as low as it must be with `held` allocated ranges.
+/// Returns `true` if the tree is as low as it must be with `held` allocated ranges.
 fn is_low(space: &AddressAllocator, held: u64) -> bool {
     fibonacci(space.height().saturating_add(2)) <= held.saturating_mul(2).saturating_add(2)
 }

@@ -33,7 +33,7 @@ pub use Rattle.vm_allocator.proofs.Ids.IdCounts.{ids_listed}
 -- The values of allocators and of ids nest few levels, and a text is parsed to the value that was written.
 pub use Rattle.vm_allocator.proofs.Reading.NestedValues.{addresses_nest, ids_nest, text_gives_again, text_has_value, allocator_through_text, ids_through_text}
 pub use Rattle.vm_ranges.proofs.ReadTexts.{parsed_again}
--- The held ids are listed in increasing order, and equal states are the same.
+-- The held ids are listed in ascending order, and equal states are the same.
 pub use Rattle.vm_allocator.proofs.Ids.HeldIds.{listed_held, in_held_ids}
 pub use Rattle.vm_allocator.proofs.Ids.ComparedIds.{id_state_cmp-Equal}
 -- Maps with numbers as keys.

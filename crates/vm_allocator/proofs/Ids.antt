@@ -11,8 +11,8 @@ pub mod IdResults
 pub mod EveryIdCall
 pub mod AlongIdHistories
 pub mod IdEnds
-pub mod IncreasingNumbers
-pub mod IncreasingBounds
+pub mod AscendingNumbers
+pub mod AscendingBounds
 pub mod ReadIds
 pub mod ReadIdStates
 pub mod AddedIds

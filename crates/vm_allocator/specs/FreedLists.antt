@@ -13,10 +13,10 @@ use Rattle.vm_allocator.specs.Ids.{MAX_ID, IdState, IsNext, bound_of, ids_of}
 pub record AreFreedOf (lo hi : ℕ) (next : Option ℕ) (freed : List ℕ) : Type 0 where
   pub range : lo ≤ hi
   pub next_id : IsNext lo hi next
-  pub increasing : IsStrictlySortedBy nat_cmp freed
+  pub ascending : IsStrictlySortedBy nat_cmp freed
   pub freed_ids : (i : ℕ) → Contains freed i → (lo ≤ i) × (i < bound_of next hi)
 
--- The result of `push`: the id is added at the end, unless the ids are not in strictly increasing order then. An error
+-- The result of `push`: the id is added at the end, unless the ids are not in strictly ascending order then. An error
 -- changes nothing.
 abbrev pub PushesId : List ℕ → ℕ → Result (Unit {0}) SavedError → List ℕ → Type 0
 PushesId old id (Ok _) new = (new ≡ old ++ id ∷ []) × IsStrictlySortedBy nat_cmp new

@@ -7,7 +7,7 @@ use Rattle.vm_ranges.specs.declared.error.Error.{Error}
 use Rattle.vm_ranges.specs.declared.error.Error.TheVariants.{Overflow, OutOfRange, ResourceNotAvailable, InvalidRange, OutOfMemory}
 use Rattle.vm_allocator.specs.Ids.{MAX_ID, IdState, IsOfRange, IsHeld, IsNotHeld, new_ids, holding_id}
 
--- The ids of the range that are not held, in increasing order.
+-- The ids of the range that are not held, in ascending order.
 abbrev pub free_ids : IdState → List ℕ
 free_ids state = filter (λ i. not (set.contains state.held i)) (range_with_len state.lo (state.hi + 1 - state.lo))
 

@@ -46,11 +46,11 @@ IsHeld state i = IsTrue (set.contains state.held i)
 abbrev pub held_count : IdState → ℕ
 held_count state = set.len state.held
 
--- The held ids, in increasing order.
+-- The held ids, in ascending order.
 abbrev pub held_ids : IdState → List ℕ
 held_ids state = filter (λ i. set.contains state.held i) (range_with_len state.lo (state.bound - state.lo))
 
--- The ids that were allocated at some time and are not held, in increasing order.
+-- The ids that were allocated at some time and are not held, in ascending order.
 abbrev pub freed_ids : IdState → List ℕ
 freed_ids state = filter (λ i. not (set.contains state.held i)) (range_with_len state.lo (state.bound - state.lo))
 

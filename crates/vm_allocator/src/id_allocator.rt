@@ -206,7 +206,7 @@ impl IdAllocator {
         }
     }
 
-    /// Returns whether the id is allocated. Returns `false` for an id outside the range.
+    /// Returns `true` if the id is allocated. Returns `false` for an id outside the range.
     #[tactic(auto, using(crate::proofs::Ids::IdFields::holdings))]
     pub fn is_allocated(&self, id: u32) -> bool
         ensures value { IsTrue result ↔ IsHeld self.now id }
@@ -260,7 +260,7 @@ impl IdAllocator {
         }
     }
 
-    /// Returns whether the id is in the range.
+    /// Returns `true` if the id is in the range.
     #[tactic(auto, using(crate::proofs::Ids::IdFields::states), unfolding(crate::specs::Ids::ids_of))]
     fn id_in_range(&self, id: u32) -> bool
         ensures value { IsTrue result ↔ IsOfRange self.now id }
@@ -269,7 +269,7 @@ impl IdAllocator {
         self.range_base <= id && id <= self.range_end
     }
 
-    /// Returns whether the id was allocated at some time.
+    /// Returns `true` if the id was allocated at some time.
     #[tactic(auto, using(crate::proofs::Ids::IdFields::states), unfolding(crate::specs::Ids::ids_of))]
     fn was_allocated(&self, id: u32) -> bool
         ensures value { IsTrue result ↔ WasEverAllocated self.now id }

@@ -19,7 +19,7 @@ use Rattle.vm_devices.proofs.Entries.{all_counted, has_range, range_had}
 listed_ids : (state : DeviceState) → IsDeviceState state → map_list (λ (device : DeviceSlot). device.id) (device_list state) ≡ held_ids state.ids
 listed_ids state i =
     map-map (λ (device : DeviceSlot). device.id) device_of (map.entries state.devices)
-    ∙ same_rising (map.keys state.devices) (held_ids state.ids) (keys_rise state.devices) (listed_held.increasing state.ids) (λ q.
+    ∙ same_rising (map.keys state.devices) (held_ids state.ids) (keys_rise state.devices) (listed_held.ascending state.ids) (λ q.
     same_test _ _
     (λ t. in_held_ids state.ids i.ids q ∙ (i.pairs.ids q).1 (map.contains_key-keys state.devices q ∙ t))
     (λ t. sym (map.contains_key-keys state.devices q) ∙ (i.pairs.ids q).0 (sym (in_held_ids state.ids i.ids q) ∙ t)))

@@ -7,7 +7,7 @@ pub mod EveryDeviceCall
 pub mod DeviceCalls
 pub mod Callers
 pub mod Entries
-pub mod IncreasingIds
+pub mod AscendingIds
 pub mod SavedManagers
 pub mod WrittenManagers
 pub mod NestedManagers

@@ -17,12 +17,12 @@ use Rattle.vm_allocator.specs.Ids.{IdState, IsHeld, held_count}
 use Rattle.vm_allocator.proofs.Callers.{entries_of_sorted}
 use Rattle.vm_devices.specs.declared.device_slot.DeviceSlot.{DeviceSlot}
 use Rattle.vm_devices.specs.Checks.{StartsAt, IsNew}
-use Rattle.vm_devices.specs.Listed.{entries_of, HaveIncreasingIds, listed_state, AreDevicesOf}
+use Rattle.vm_devices.specs.Listed.{entries_of, HaveAscendingIds, listed_state, AreDevicesOf}
 use Rattle.vm_devices.specs.Queries.{entry_of}
 use Rattle.vm_devices.specs.SavedChecks.{CanBeInserted}
 use Rattle.vm_devices.proofs.Entries.{AreHeld, pairs_all, all_held, all_counted, entry_got, got_entry}
 use Rattle.vm_devices.proofs.DeviceStarts.{one_start}
-use Rattle.vm_devices.proofs.IncreasingIds.{ids_of, front_increases, id_at, ids_long}
+use Rattle.vm_devices.proofs.AscendingIds.{ids_of, front_increases, id_at, ids_long}
 use Rattle.vm_devices.proofs.Tables.{absent, get_with}
 
 -- A device that is held can be inserted if and only if no id is found at its start.
@@ -37,7 +37,7 @@ start_tested ids space table d false (Some j) e i r h = λ can. can.start_is_new
 abbrev table_of : List DeviceSlot → map.FinMap nat_cmp Range
 table_of ds = map.from_entries (entries_of ds)
 
-module _ (ds : List DeviceSlot) (s : HaveIncreasingIds ds) where
+module _ (ds : List DeviceSlot) (s : HaveAscendingIds ds) where
   entries_are : map.entries (table_of ds) ≡ entries_of ds
   entries_are = entries_of_sorted (entries_of ds) s
 
@@ -74,7 +74,7 @@ module _ (ids : IdState) (space : AddressState) (ds : List DeviceSlot) where
     };
   }
 
-module _ (ids : IdState) (space : AddressState) (ds : List DeviceSlot) (s : HaveIncreasingIds ds) where
+module _ (ids : IdState) (space : AddressState) (ds : List DeviceSlot) (s : HaveAscendingIds ds) where
   -- A manager of these parts has all devices.
   module _ (v : IsAddressState space) where
     pub other_ids_held : ¬ (held_count ids ≡ length ds) → ¬ AreDevicesOf ids space ds
@@ -85,7 +85,7 @@ module _ (ids : IdState) (space : AddressState) (ds : List DeviceSlot) (s : Have
 
   -- The next device.
   module _ (i : ℕ) (table : map.FinMap nat_cmp Range) (p : ArePairedSoFar ids space ds i table) (d : DeviceSlot) (l : i < length ds) (e : d ≡ get_or ds i d) where
-    front : HaveIncreasingIds (take i ds)
+    front : HaveAscendingIds (take i ds)
     front = front_increases (take i ds) (drop i ds) (rw take-append-drop s)
 
     -- A device of the table is in the list, with a lower id.
@@ -145,7 +145,7 @@ module _ (ids : IdState) (space : AddressState) (ds : List DeviceSlot) (s : Have
   all_in_pairs i table p l v m n =
       let same : table ≡ table_of ds = p.table_is ∙ ap (λ (fs : List DeviceSlot). table_of fs) (take_all i ds l) in (
         record {
-          increasing = s;
+          ascending = s;
           pairs = pairs_all (listed_state ids space ds) v (subst (AreHeld ids space) same p.held) (record { ids_counted = table_long ds s ∙ sym m; ranges_counted = table_long ds s ∙ sym n });
         },
         same,

@@ -24,7 +24,7 @@ use Rattle.vm_devices.specs.Listed.{entries_of, PushesDevice, listed_state, Make
 use Rattle.vm_devices.specs.Queries.{entry_of, device_of, device_list}
 use Rattle.vm_devices.specs.Saved.{EncodesDevice, ReadsInParts, EncodesList, EncodesManager}
 use Rattle.vm_devices.specs.SavedChecks.{decoded_device, EncodesDevices, decoded_manager, ManagerParts}
-use Rattle.vm_devices.proofs.IncreasingIds.{Sorted, front_entries}
+use Rattle.vm_devices.proofs.AscendingIds.{Sorted, front_entries}
 use Rattle.std.specs.Ordering.{nat_cmp}
 use Rattle.std.specs.FinMap as map
 use Rattle.vm_ranges.specs.declared.saved.SavedError.TheVariants as saved_errors
@@ -110,13 +110,13 @@ module _ (vs : List Value) (i : ℕ) (v : Value) (l : i < length vs) (e : v ≡ 
         (take_more vs i v l ∙ ap (λ (x : Value). take i vs ++ x ∷ []) (sym e)) (device-states (view v) (entry_of d) f) s.encoded
 
     pub one_read : (new : List DeviceSlot) → PushesDevice devices d (Ok tt) new → AreReadSoFar vs (i + 1) new
-    one_read new p = record { encoded = rw p.0 one_more; increasing = p.1 }
+    one_read new p = record { encoded = rw p.0 one_more; ascending = p.1 }
 
     pub push_refused : (error : SavedError) (new : List DeviceSlot) → PushesDevice devices d (Err error) new → ReadsInParts (EncodesDevices (items_view vs)) (Err (value_error error))
     push_refused (Violated c) new p = λ t.
         let front = front_encoded vs (i + 1) (entries_of t.0) t.1.encoded in
         let same : front.0 ≡ entries_of (devices ++ d ∷ []) = one_list (items_view (take (i + 1) vs)) front.0 (entries_of (devices ++ d ∷ [])) front.2 one_more in
-        p.2 (subst Sorted same (front_entries front.0 front.1 (subst Sorted front.3 t.1.increasing)))
+        p.2 (subst Sorted same (front_entries front.0 front.1 (subst Sorted front.3 t.1.ascending)))
     push_refused OutOfMemory new p = tt
 
 -- ---- The fields
@@ -144,7 +144,7 @@ fields_of d state s =
         ids = ids.2;
         space = space.2;
         devices = map_list device_of s.listed;
-        slots = record { encoded = subst (EncodesItems EncodesDevice list.0) same list.2; increasing = subst Sorted same s.increasing };
+        slots = record { encoded = subst (EncodesItems EncodesDevice list.0) same list.2; ascending = subst Sorted same s.ascending };
         listed = ap (devices_of state.ids state.space) (s.devices ∙ ap (λ (es : List (ℕ × Range)). map.from_entries es) same);
         pairs = s.pairs;
       },
@@ -175,7 +175,7 @@ module _ (d : Data) (p : ℕ × Data × Data × Items) (found : decoded_manager 
         listed = entries_of f.devices;
         slots = field_is (codes "slots") d list.0 (λ w. EncodesList w (entries_of f.devices)) list.1
             (list_encoded EncodesDevice list.0 p.3 (entries_of f.devices) list.2 f.slots.encoded);
-        increasing = f.slots.increasing;
+        ascending = f.slots.ascending;
         devices = ap (λ (v : DeviceState). v.devices) f.listed;
         pairs = f.pairs;
       }
@@ -209,7 +209,7 @@ module _ (p : ℕ × Data × Data × Items) where
     parts_read state made = rw made.2 (record { version = made.0; ids = i; space = a; devices = devices; slots = l; listed = refl; pairs = made.1.pairs })
 
     pub parts_refused : (e : SavedError) → MakesOfDevices p.0 ids space devices (Err e) → ReadsInParts (EncodesFields p) (Err (value_error e))
-    parts_refused (Violated c) (inl refused) = λ h. refused.1.1 (record { increasing = l.increasing; pairs = subst ArePaired (its_parts h.0 h.1) h.1.pairs })
+    parts_refused (Violated c) (inl refused) = λ h. refused.1.1 (record { ascending = l.ascending; pairs = subst ArePaired (its_parts h.0 h.1) h.1.pairs })
     parts_refused (Violated c) (inr refused) = λ h. refused.0 h.1.version
     parts_refused saved_errors.OutOfMemory made = tt
 
@@ -243,7 +243,7 @@ manager_written {d} {ids} {space} {slots} {i} {a} table p is held ss state = rec
   mmio_allocator = field_is (codes "mmio_allocator") d space (λ v. EncodesAddresses v (state_of a)) p.space_is (record { allocator = a; encoded = held; is = refl });
   listed = map.entries table;
   slots = field_is (codes "slots") d slots (λ v. EncodesList v (map.entries table)) p.slots_is (rw (entries_again (map.entries table)) at ss);
-  increasing = keys_rise table;
+  ascending = keys_rise table;
   devices = sym (whole_map table);
   pairs = state.pairs;
 }

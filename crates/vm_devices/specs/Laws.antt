@@ -21,7 +21,7 @@ use Rattle.vm_ranges.specs.declared.saved.ValueError.TheVariants as unread
 use Rattle.vm_ranges.specs.declared.constraint.AllocPolicy.TheVariants.{ExactMatch}
 use Rattle.vm_devices.specs.declared.device_slot.DeviceSlot.{DeviceSlot}
 use Rattle.vm_devices.specs.Devices.{DeviceState, IsDevice, IsDeviceState, MakesManager, Reserves, Releases}
-use Rattle.vm_devices.specs.Listed.{HaveIncreasingIds, PushesDevice, listed_state, AreDevicesOf, MakesOfDevices}
+use Rattle.vm_devices.specs.Listed.{HaveAscendingIds, PushesDevice, listed_state, AreDevicesOf, MakesOfDevices}
 use Rattle.vm_devices.specs.Queries.{device_list, device_count, DeviceAt}
 use Rattle.vm_devices.specs.Saved.{EncodesManager, ReadsInParts}
 use Rattle.vm_devices.specs.Histories.{DeviceCall, DeviceAsked, device_asked_by, RunsOutOfMemory, IsDeviceHistoryFrom, AreDevicesReached, WasReserved, WasThereFirst}
@@ -122,7 +122,7 @@ pub record DevicesAreListed : Type 0 where
 -- The parts of a manager are read as this manager: its ids, its space and the devices that `devices` returns. `push`
 -- accepts each of these devices, and `from_devices` returns the manager, unless memory runs out.
 pub record WrittenManagersAreRead : Type 0 where
-  pub increasing : (state : DeviceState) → IsDeviceState state → HaveIncreasingIds (device_list state)
+  pub ascending : (state : DeviceState) → IsDeviceState state → HaveAscendingIds (device_list state)
   pub accepted : (state : DeviceState) → IsDeviceState state → AreDevicesOf state.ids state.space (device_list state)
   pub same : (state : DeviceState) → IsDeviceState state → listed_state state.ids state.space (device_list state) ≡ state
   pub pushed : (state : DeviceState) (front rest : List DeviceSlot) (device : DeviceSlot)

@@ -19,24 +19,24 @@ use Rattle.vm_devices.specs.Queries.{entry_of}
 abbrev pub entries_of : List DeviceSlot → List (ℕ × Range)
 entries_of devices = map_list entry_of devices
 
--- The ids of the devices are strictly increasing.
-abbrev pub HaveIncreasingIds : List DeviceSlot → Type 0
-HaveIncreasingIds devices = IsStrictlySortedBy nat_cmp (keys_of (entries_of devices))
+-- The ids of the devices are strictly ascending.
+abbrev pub HaveAscendingIds : List DeviceSlot → Type 0
+HaveAscendingIds devices = IsStrictlySortedBy nat_cmp (keys_of (entries_of devices))
 
 -- The result of `push`: the device is the last of the list, or Violated(Order) if its id is not above the ids before it.
 -- OutOfMemory is possible only for an id above them. An error changes nothing.
 abbrev pub PushesDevice : List DeviceSlot → DeviceSlot → Result (Unit {0}) SavedError → List DeviceSlot → Type 0
-PushesDevice old device (Ok _) new = (new ≡ old ++ device ∷ []) × HaveIncreasingIds new
-PushesDevice old device (Err (Violated c)) new = (c ≡ Order) × (new ≡ old) × ¬ HaveIncreasingIds (old ++ device ∷ [])
-PushesDevice old device (Err OutOfMemory) new = (new ≡ old) × HaveIncreasingIds (old ++ device ∷ [])
+PushesDevice old device (Ok _) new = (new ≡ old ++ device ∷ []) × HaveAscendingIds new
+PushesDevice old device (Err (Violated c)) new = (c ≡ Order) × (new ≡ old) × ¬ HaveAscendingIds (old ++ device ∷ [])
+PushesDevice old device (Err OutOfMemory) new = (new ≡ old) × HaveAscendingIds (old ++ device ∷ [])
 
 -- The state with these ids, this space and these devices.
 abbrev pub listed_state : IdState → AddressState → List DeviceSlot → DeviceState
 listed_state ids space devices = devices_of ids space (map.from_entries (entries_of devices))
 
--- The ids of the devices are strictly increasing, and the devices pair the held ids with the held ranges.
+-- The ids of the devices are strictly ascending, and the devices pair the held ids with the held ranges.
 pub record AreDevicesOf (ids : IdState) (space : AddressState) (devices : List DeviceSlot) : Type 0 where
-  pub increasing : HaveIncreasingIds devices
+  pub ascending : HaveAscendingIds devices
   pub pairs : ArePaired (listed_state ids space devices)
 
 -- The result of `from_devices`: the state with these parts, Violated(Version) if the version is not 1, or

@@ -21,7 +21,7 @@ device_of entry = record { id = entry.0; range = entry.1 }
 abbrev pub entry_of : DeviceSlot → ℕ × Range
 entry_of device = (device.id, device.range)
 
--- The devices, by increasing ids.
+-- The devices, by ascending ids.
 abbrev pub device_list : DeviceState → List DeviceSlot
 device_list state = map_list device_of (map.entries state.devices)
 

@@ -29,7 +29,7 @@ abbrev pub EncodesList : Data → List (ℕ × Range) → Type 0
 EncodesList d es = EncodesListOf EncodesDevice d es
 
 -- The value is an object with exactly a version, the two allocators and the devices. The version is 1. The ids of the
--- devices are strictly increasing, and the devices pair the held ids with the held ranges.
+-- devices are strictly ascending, and the devices pair the held ids with the held ranges.
 pub record EncodesManager (d : Data) (state : DeviceState) : Type 0 where
   pub four_fields : field_count d ≡ Some 4
   pub version : number_in (codes "version") d ≡ Some 1
@@ -37,7 +37,7 @@ pub record EncodesManager (d : Data) (state : DeviceState) : Type 0 where
   pub mmio_allocator : FieldIs (codes "mmio_allocator") d (λ v. EncodesAddresses v state.space)
   pub listed : List (ℕ × Range)
   pub slots : FieldIs (codes "slots") d (λ v. EncodesList v listed)
-  pub increasing : IsStrictlySortedBy nat_cmp (keys_of listed)
+  pub ascending : IsStrictlySortedBy nat_cmp (keys_of listed)
   pub devices : state.devices ≡ map.from_entries listed
   pub pairs : ArePaired state
 

@@ -18,7 +18,7 @@ use Rattle.vm_engine.specs.Address.{AddressState}
 use Rattle.vm_allocator.specs.Ids.{IdState, IsHeld}
 use Rattle.vm_devices.specs.declared.device_slot.DeviceSlot.{DeviceSlot}
 use Rattle.vm_devices.specs.Checks.{StartsAt}
-use Rattle.vm_devices.specs.Listed.{entries_of, HaveIncreasingIds, AreDevicesOf}
+use Rattle.vm_devices.specs.Listed.{entries_of, HaveAscendingIds, AreDevicesOf}
 use Rattle.vm_devices.specs.Saved.{EncodesDevice}
 
 -- The device that a value encodes.
@@ -29,10 +29,10 @@ decoded_device d =
     (u32_in (codes "id") d)
     else None
 
--- The items encode these devices, in this order, and their ids are strictly increasing.
+-- The items encode these devices, in this order, and their ids are strictly ascending.
 pub record EncodesDevices (ds : Items) (devices : List DeviceSlot) : Type 0 where
   pub encoded : EncodesItems EncodesDevice ds (entries_of devices)
-  pub increasing : HaveIncreasingIds devices
+  pub ascending : HaveAscendingIds devices
 
 -- The values of a manager's fields, if there are no other fields.
 abbrev pub decoded_manager : Data → Option (ℕ × Data × Data × Items)

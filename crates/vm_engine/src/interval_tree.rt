@@ -52,7 +52,7 @@ pub struct IntervalTree {
     pub(crate) gap_count: u64,
     pub(crate) root: Child,
     /// The number of free addresses.
-    pub(crate) clear_count: u64,
+    pub(crate) free_len: u64,
 }
 
 impl Model for IntervalTree {
@@ -69,7 +69,7 @@ impl Model for IntervalTree {
 
     ghost use Rattle.vm_engine.specs.Engine.CountedTrees.{IsCountedTree};
 
-    ghost invariant = { λ a. IsCountedTree (side a.root) a.held_count a.gap_count a.clear_count };
+    ghost invariant = { λ a. IsCountedTree (side a.root) a.held_count a.gap_count a.free_len };
 }
 
 impl IntervalTree {
@@ -90,7 +90,7 @@ impl IntervalTree {
             root: Some(node),
             held_count: 0,
             gap_count: 1,
-            clear_count: key.len(),
+            free_len: key.len(),
         })
     }
 
@@ -106,7 +106,7 @@ impl IntervalTree {
             root: Some(copy(self.root(), alloc)?),
             held_count: self.held_count,
             gap_count: self.gap_count,
-            clear_count: self.clear_count,
+            free_len: self.free_len,
         })
     }
 

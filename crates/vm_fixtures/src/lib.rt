@@ -86,9 +86,12 @@ pub fn cloned(rt: &(impl Abort + AllocGlobal), space: &AddressAllocator) -> Addr
     }
 }
 
-/// Returns whether exactly these ranges are allocated.
+/// Returns `true` if exactly these ranges are allocated.
 pub fn holds_exactly(space: &AddressAllocator, ranges: &[(u64, u64)]) -> bool {
     let mut held = space.held_ranges();
+    if held.len() != ranges.len() {
+        return false;
+    }
     for range in ranges {
         match held.next() {
             Some(next) if (next.start(), next.end()) == *range => {}
@@ -98,9 +101,12 @@ pub fn holds_exactly(space: &AddressAllocator, ranges: &[(u64, u64)]) -> bool {
     held.next().is_none()
 }
 
-/// Returns whether exactly these ranges are the gaps.
+/// Returns `true` if exactly these ranges are the gaps.
 pub fn gaps_exactly(space: &AddressAllocator, ranges: &[(u64, u64)]) -> bool {
     let mut gaps = space.gaps();
+    if gaps.len() != ranges.len() {
+        return false;
+    }
     for range in ranges {
         match gaps.next() {
             Some(next) if (next.start(), next.end()) == *range => {}
@@ -200,7 +206,7 @@ pub fn expect_space(
     of: &str,
 ) {
     let is_equal = match &answer {
-        Ok(space) => space == want,
+        Ok(space) => space == want && space.gap_count() == want.gap_count(),
         Err(_) => false,
     };
     assert!(rt; is_equal, "{of}");

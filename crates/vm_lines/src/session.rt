@@ -109,7 +109,7 @@ impl Session {
         self.filled = end;
     }
 
-    /// Returns whether a line has begun.
+    /// Returns `true` if a line has begun.
     pub(crate) fn has_begun(&self) -> bool
         ensures { result ≡ has_begun self.now.line }
     {

@@ -144,7 +144,7 @@ impl Sink {
         }
     }
 
-    /// Returns whether memory ran out for a line.
+    /// Returns `true` if memory ran out for a line.
     fn met_refusal(&self) -> bool {
         for line in self.text.as_slice().split(|byte| *byte == b'\n') {
             if line == b"error memory".as_slice() {

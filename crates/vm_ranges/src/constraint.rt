@@ -26,7 +26,7 @@ pub enum AllocPolicy {
     ExactMatch(u64),
 }
 
-/// Returns whether the start of `ExactMatch` is a multiple of the alignment. Returns `true` for the
+/// Returns `true` if the start of `ExactMatch` is a multiple of the alignment. Returns `true` for the
 /// other policies.
 #[tactic(auto, unfolding(crate::specs::Request::IsStartAligned), using(crate::proofs::Power::low_bits, crate::proofs::Power::alignment_pos))]
 const fn is_start_aligned(align: u64, policy: AllocPolicy) -> bool

@@ -93,7 +93,7 @@ impl RangeInclusive {
         1 + (self.end - self.start)
     }
 
-    /// Returns whether an address is in both ranges.
+    /// Returns `true` if an address is in both ranges.
     #[tactic(auto, using(crate::proofs::RangeCalls::overlappings))]
     pub const fn overlaps(&self, other: &RangeInclusive) -> bool
         ensures { IsTrue result ↔ Overlaps self.now other.now }
@@ -101,7 +101,7 @@ impl RangeInclusive {
         other.start <= self.end && self.start <= other.end
     }
 
-    /// Returns whether every address of `other` is in this range.
+    /// Returns `true` if every address of `other` is in this range.
     #[tactic(auto, using(crate::proofs::RangeCalls::coverings))]
     pub const fn contains(&self, other: &RangeInclusive) -> bool
         ensures { IsTrue result ↔ Covers self.now other.now }

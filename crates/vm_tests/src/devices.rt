@@ -150,7 +150,7 @@ impl Parts {
         Parts { value, space }
     }
 
-    /// Returns whether a field is the same in both saved values.
+    /// Returns `true` if a field is the same in both saved values.
     fn share(&self, other: &Parts, field: &str) -> bool {
         self.value.get(field) == other.value.get(field)
     }

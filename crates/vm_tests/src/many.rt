@@ -140,8 +140,13 @@ fn addresses_looked_up(rt: HostRuntime) {
         expect_eq(&rt, &(gap.start(), gap.end()), &(start, start), &gap);
         start = start.saturating_add(2);
     }
-    let numbers = (start, space.clear_count());
-    expect_eq(&rt, &numbers, &(2 * MANY + 1, MANY), &"each odd address");
+    let numbers = (start, space.free_len(), space.gap_count());
+    expect_eq(
+        &rt,
+        &numbers,
+        &(2 * MANY + 1, MANY, MANY),
+        &"each odd address",
+    );
 }
 
 /// Makes `MANY` requests for the first free address in one call, in a space of a number of addresses.

@@ -284,7 +284,7 @@ fn texts_of_value_errors(rt: HostRuntime) {
 fn errors_increase(rt: HostRuntime) {
     let (low, middle) = (range(&rt, 1, 2), range(&rt, 1, 3));
     let high = range(&rt, 2, 2);
-    let increasing = [
+    let ascending = [
         Error::Overflow,
         Error::OutOfRange(0),
         Error::OutOfRange(1),
@@ -309,8 +309,8 @@ fn errors_increase(rt: HostRuntime) {
         Error::InvalidSize(1),
         Error::OutOfMemory,
     ];
-    for (i, first) in increasing.iter().enumerate() {
-        for (j, second) in increasing.iter().enumerate() {
+    for (i, first) in ascending.iter().enumerate() {
+        for (j, second) in ascending.iter().enumerate() {
             let answers = (first.cmp(second), first == second);
             expect_eq(&rt, &answers, &(i.cmp(&j), i == j), &(i, j));
         }

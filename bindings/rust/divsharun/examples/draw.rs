@@ -157,7 +157,7 @@ impl Drawing<'_> {
         (self.space.end() - self.space.base()) as f64 + 1.0
     }
 
-    /// Returns whether the multiples of an alignment can be told apart.
+    /// Returns `true` if the multiples of an alignment can be told apart.
     fn has_ticks(&self, alignment: u64) -> bool {
         (self.space.end() - self.space.base()) / alignment <= MOST_TICKS
     }
@@ -248,7 +248,7 @@ fn write_keys(f: &mut fmt::Formatter<'_>, keys: &[(&str, &str)]) -> fmt::Result 
     Ok(())
 }
 
-/// Returns whether a gap is long enough for a request but misaligned.
+/// Returns `true` if a gap is long enough for a request but misaligned.
 fn is_misaligned(gap: &RangeInclusive, request: &Placed) -> bool {
     let place = gap.start().checked_next_multiple_of(request.alignment);
     let last = place.and_then(|start| start.checked_add(request.size - 1));

@@ -711,7 +711,7 @@ impl AddressAllocator {
         HeldRangesIn(self.0.held_ranges_in(&range.0))
     }
 
-    /// Returns whether exactly this range is allocated. A part of an allocated range is not.
+    /// Returns `true` if exactly this range is allocated. A part of an allocated range is not.
     ///
     /// It walks one path of the tree and does not allocate.
     ///
@@ -883,7 +883,7 @@ impl AddressAllocator {
     /// ```
     #[must_use]
     pub fn free_len(&self) -> u64 {
-        self.0.clear_count()
+        self.0.free_len()
     }
 
     /// Returns the number of allocated ranges.

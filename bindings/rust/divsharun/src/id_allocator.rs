@@ -351,7 +351,7 @@ impl IdAllocator {
         or_abort(self.0.peek_id())
     }
 
-    /// Returns whether the id is allocated. An id outside the range is not.
+    /// Returns `true` if the id is allocated. An id outside the range is not.
     ///
     /// # Example
     ///

@@ -127,7 +127,7 @@ impl RangeInclusive {
         self.0.len()
     }
 
-    /// Returns whether both ranges share an address.
+    /// Returns `true` if both ranges share an address.
     ///
     /// # Example
     ///
@@ -144,7 +144,7 @@ impl RangeInclusive {
         self.0.overlaps(&other.0)
     }
 
-    /// Returns whether every address of `other` is in the range.
+    /// Returns `true` if every address of `other` is in the range.
     ///
     /// # Example
     ///
@@ -162,7 +162,7 @@ impl RangeInclusive {
         self.0.contains(&other.0)
     }
 
-    /// Returns whether the address is in the range.
+    /// Returns `true` if the address is in the range.
     ///
     /// # Example
     ///

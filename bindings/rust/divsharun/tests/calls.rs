@@ -63,6 +63,10 @@ fn answers_are_those_of_a_plain_model() {
         assert_eq!(answer, model.allocate(request));
         model.held.extend(answer.ok());
         assert_eq!(space.held_count(), model.held.len() as u64);
+        assert_eq!(
+            space.gap_count(),
+            space.gaps().fold(0, |count, _| count + 1)
+        );
     }
     let mut held = model.held;
     held.sort();
@@ -259,22 +263,25 @@ fn held_ranges_can_be_asked_for() {
 /// The space has the maximum number of addresses.
 #[test]
 fn counts_follow_each_change() {
-    let counts = |space: &AddressAllocator| (space.held_count(), space.free_len());
+    let counts = |space: &AddressAllocator| {
+        let gaps = space.gap_count();
+        (space.held_count(), space.free_len(), gaps)
+    };
     let mut space = AddressAllocator::new(0, u64::MAX).unwrap();
-    assert_eq!(counts(&space), (0, u64::MAX));
+    assert_eq!(counts(&space), (0, u64::MAX, 1));
     let size = u64::MAX - 1;
     let range = space.allocate(size, 1, AllocPolicy::FirstMatch).unwrap();
-    assert_eq!(counts(&space), (1, 1));
+    assert_eq!(counts(&space), (1, 1, 1));
     let refused = space.allocate(2, 1, AllocPolicy::LastMatch);
     assert_eq!(refused, Err(Error::ResourceNotAvailable));
-    assert_eq!(counts(&space), (1, 1));
+    assert_eq!(counts(&space), (1, 1, 1));
     let clone = space.clone();
     assert_eq!(space.free(&range), Ok(()));
-    assert_eq!(counts(&space), (0, u64::MAX));
+    assert_eq!(counts(&space), (0, u64::MAX, 1));
     assert_eq!(space.free(&range), Err(Error::ResourceNotAvailable));
-    assert_eq!(counts(&space), (0, u64::MAX));
+    assert_eq!(counts(&space), (0, u64::MAX, 1));
     let created = AddressAllocator::try_with_held(0, u64::MAX, &[range]).unwrap();
-    assert_eq!((counts(&clone), counts(&created)), ((1, 1), (1, 1)));
+    assert_eq!((counts(&clone), counts(&created)), ((1, 1, 1), (1, 1, 1)));
 }
 
 #[test]

@@ -340,7 +340,7 @@ fn managers_are_saved_with_their_devices() {
     }
 }
 
-/// Returns whether a manager is read whose space of `[16, 19]` has this root. Its device has the
+/// Returns `true` if a manager is read whose space of `[16, 19]` has this root. Its device has the
 /// range `[17, 17]`.
 fn is_read_with(root: &str) -> bool {
     let ids = r#"{"range_base":0,"next_id":1,"range_end":1,"freed_ids":[]}"#;

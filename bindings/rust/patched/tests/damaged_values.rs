@@ -103,7 +103,7 @@ fn other(value: &Value, draw: &mut Draw) -> Value {
     }
 }
 
-/// Writes a value with the fields of each object in random order. Returns whether it wrote a field
+/// Writes a value with the fields of each object in random order. Returns `true` if it wrote a field
 /// twice, which no value has.
 fn write_shuffled(value: &Value, draw: &mut Draw, text: &mut String) -> bool {
     let (mut parts, brackets): (Vec<(String, &Value)>, _) = match value {

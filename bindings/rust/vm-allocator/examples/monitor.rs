@@ -222,7 +222,7 @@ fn plug_by_two_threads(shared: &Shared) -> Result<Vec<PciDevice>> {
     Ok(devices)
 }
 
-/// Returns whether the devices share no address and no interrupt.
+/// Returns `true` if the devices share no address and no interrupt.
 fn are_apart(devices: &[PciDevice]) -> bool {
     let mut bars: Vec<_> = devices.iter().flat_map(|device| &device.bars).collect();
     bars.sort();

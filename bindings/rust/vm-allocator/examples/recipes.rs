@@ -67,7 +67,7 @@ fn blocks_of_vectors() -> Result<()> {
     Ok(())
 }
 
-/// A snapshot is restored. What this crate saved is read by the strict reader.
+/// A snapshot is restored. The strict reader reads what this crate saved.
 #[cfg(feature = "serde")]
 fn snapshot(space: &AddressAllocator) {
     let text = serde_json::to_string(space).expect("it is written");

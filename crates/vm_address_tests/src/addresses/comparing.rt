@@ -34,7 +34,7 @@ const ALL_BUT_TWO: [Call; 15] = [
     Free(4, 4),
 ];
 
-/// Returns whether two allocators compare like this in both directions.
+/// Returns `true` if two allocators compare like this in both directions.
 fn compare_so(first: &AddressAllocator, second: &AddressAllocator, want: Ordering) -> bool {
     first.cmp(second) == want
         && second.cmp(first) == want.reverse()
@@ -79,7 +79,7 @@ fn equal_ones_answer_alike(rt: HostRuntime) {
     expect_two_held(&rt, &ALL_BUT_TWO);
 }
 
-/// Returns whether two allocators are the same, node for node.
+/// Returns `true` if two allocators are the same, node for node.
 fn are_same(
     rt: &(impl Abort + AllocGlobal),
     one: &AddressAllocator,

@@ -3,7 +3,7 @@ use super::*;
 use Items::{Gaps, Ranges};
 use Row::{Ask, In};
 use std::fmt::Debug;
-use vm_allocator::HeldRanges;
+use vm_allocator::{GapsIn, HeldRangesIn};
 use vm_fixtures::range;
 
 /// A call with its expected result, or a check between calls.
@@ -90,8 +90,8 @@ const ROWS: [Row; 41] = [
 /// The allocated ranges or the gaps that have an address in a range.
 #[derive(Drop)]
 enum Items<'a> {
-    Ranges(HeldRanges<'a>),
-    Gaps(vm_allocator::Gaps<'a>),
+    Ranges(HeldRangesIn<'a>),
+    Gaps(GapsIn<'a>),
 }
 
 impl<'a> Items<'a> {

@@ -132,9 +132,34 @@ fn held_ranges_and_gaps(rt: HostRuntime) {
             Outside(address) => expect_eq(&rt, &at(&space, address), &(None, None), &number),
             Gaps(gaps, longest, clear) => {
                 expect_true(&rt, gaps_exactly(&space, gaps), &number);
-                let numbers = (space.longest_gap(), space.clear_count());
-                expect_eq(&rt, &numbers, &(longest, clear), &number);
+                let numbers = (space.longest_gap(), space.free_len(), space.gap_count());
+                let want = (longest, clear, gaps.len() as u64);
+                expect_eq(&rt, &numbers, &want, &number);
             }
         }
+    }
+}
+
+/// Takes three allocated ranges and three gaps from both ends in turn, and one item more.
+#[test]
+fn lengths_from_both_ends(rt: HostRuntime) {
+    let mut space = made(&rt, 0, 16);
+    for start in [1, 5, 15] {
+        replay(
+            &rt,
+            &mut space,
+            &[(Exact(1, 1, start), Range(start, start))],
+        );
+    }
+    let (mut held, mut gaps) = (space.held_ranges(), space.gaps());
+    expect_eq(&rt, &(held.len(), gaps.len()), &(3, 3), &"none taken");
+    for (number, left) in [2usize, 1, 0, 0].into_iter().enumerate() {
+        let taken = if number % 2 == 0 {
+            (held.next(), gaps.next_back())
+        } else {
+            (held.next_back(), gaps.next())
+        };
+        let lengths = (held.len(), gaps.size_hint());
+        expect_eq(&rt, &lengths, &(left, (left, Some(left))), &taken);
     }
 }

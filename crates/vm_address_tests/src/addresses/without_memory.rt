@@ -66,8 +66,8 @@ fn look_up(rt: &impl Abort, space: &AddressAllocator, other: &AddressAllocator) 
     );
     let are_clear = gaps_exactly(space, &[(0, 1), (4, 5), (8, 9), (12, 15)]);
     expect_true(rt, are_clear, &"the other four are gaps");
-    let numbers = (space.longest_gap(), space.clear_count());
-    expect_eq(rt, &numbers, &(4, 10), &"the longest gap and all gaps");
+    let numbers = (space.longest_gap(), space.free_len(), space.gap_count());
+    expect_eq(rt, &numbers, &(4, 10, 4), &"the longest gap and all gaps");
 }
 
 /// Fills the space of three allocated ranges, and frees all.

@@ -1,4 +1,4 @@
--- Ids in increasing order to which one id is added at the end.
+-- Ids in ascending order to which one id is added at the end.
 use Rattle.std.proofs.Common.{◌≡◌, ℕ, ◌<◌, ◌≤◌, Some, None, Err, List, [], ◌∷◌, ◌++◌, refl, sym, ap, ◌∙◌, subst, arith, nat_cmp, Less, Greater}
 use Rattle.std.proofs.lemmas.Option.{same_Some}
 use Rattle.std.specs.BTreeSet.{insert_key}
@@ -12,7 +12,7 @@ use Rattle.vm_allocator.specs.declared.saved.read_ids.Ends.{Ends}
 use Rattle.vm_allocator.specs.FreedLists.{PushesId}
 use Rattle.vm_allocator.specs.Checks.FreedChecks.{last_of, AreEndsOf}
 
--- The last of ids in increasing order is not below the first.
+-- The last of ids in ascending order is not below the first.
 pub above_first : (first : ℕ) (ids : List ℕ) → IsStrictlySortedBy nat_cmp (first ∷ ids) → first ≤ last_of first ids
 unfolding IsStrictlySortedBy
 above_first first [] s = omega arith

@@ -24,7 +24,7 @@ use Rattle.vm_allocator.proofs.Ids.IdSets.{in_row, from_row}
 use Rattle.vm_allocator.proofs.Ids.IdFields.{is_state}
 use Rattle.vm_allocator.proofs.Ids.IdCounts.{tells_apart, ids_listed}
 use Rattle.vm_allocator.proofs.Ids.RisingIds.{same_rising}
-use Rattle.vm_allocator.proofs.Ids.IncreasingBounds.{sorted, rise}
+use Rattle.vm_allocator.proofs.Ids.AscendingBounds.{sorted, rise}
 use Rattle.vm_allocator.proofs.Ids.HeldIds.{passed_rise}
 use Rattle.vm_allocator.proofs.Ids.ExactIds.{absent}
 

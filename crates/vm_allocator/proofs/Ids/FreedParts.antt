@@ -76,7 +76,7 @@ pub freed_violated : (lo hi : ℕ) (next : Option ℕ) (freed : List ℕ) → lo
 freed_violated lo hi next freed h e n = (rw (le-ltb hi lo h, e) refl, λ p. n p.freed_ids)
 
 pub parts_from : (lo hi : ℕ) (next : Option ℕ) (freed : List ℕ) → lo ≤ hi → IsNext lo hi next → IsStrictlySortedBy nat_cmp freed → AreWithin lo (bound_of next hi) freed → AreFreedOf lo hi next freed
-parts_from lo hi next freed l n s w = record { range = l; next_id = n; increasing = s; freed_ids = w }
+parts_from lo hi next freed l n s w = record { range = l; next_id = n; ascending = s; freed_ids = w }
 
 pub ruleset parts = (range_violated, next_violated, freed_violated, parts_from)
 

@@ -18,10 +18,10 @@ use Rattle.std.specs.BTreeSet.{BTreeSet, contains, IsOrdered}
 use Rattle.std.specs.FinSet as set
 use Rattle.vm_ranges.proofs.NumberSets.{tied_here, tied_is, apart_not_tied, same_test}
 use Rattle.vm_allocator.specs.Ids.{IdState, IsHeld, held_ids, held_count, IsIdState, bound_of, held_of, ids_of, AreIds}
-use Rattle.vm_allocator.specs.Checks.IdQueries.{freed_from, freed_to, ids_left, IncreaseWithin, AreIdsLeft}
+use Rattle.vm_allocator.specs.Checks.IdQueries.{freed_from, freed_to, ids_left, AscendWithin, AreIdsLeft}
 use Rattle.vm_allocator.specs.Laws.IdLaws.{HeldIdsAreListed}
 use Rattle.vm_allocator.proofs.Ids.IdSets.{in_row, held_from, from_held, bound_above, bound_fits}
-use Rattle.vm_allocator.proofs.Ids.IncreasingBounds.{sorted, rise}
+use Rattle.vm_allocator.proofs.Ids.AscendingBounds.{sorted, rise}
 use Rattle.vm_allocator.proofs.Ids.IdCounts.{tells_apart, ids_listed}
 
 abbrev same : ℕ → ℕ → Bool
@@ -43,12 +43,12 @@ row_end a (suc n) =
     let last : a + 1 + n ≡ a + suc n = omega arith in
     ap (λ (is : List ℕ). a ∷ is) (row_end (a + 1) n ∙ ap (λ (i : ℕ). range_with_len (a + 1) n ++ i ∷ []) last)
 
--- ---- Numbers in increasing order
-wider : (a b c d : ℕ) (is : List ℕ) → a ≤ b → c ≤ d → IncreaseWithin b c is → IncreaseWithin a d is
+-- ---- Numbers in ascending order
+wider : (a b c d : ℕ) (is : List ℕ) → a ≤ b → c ≤ d → AscendWithin b c is → AscendWithin a d is
 wider a b c d [] l u r = tt
 wider a b c d (i ∷ is) l u r = (omega (arith, r.0), omega (arith, r.1), wider (i + 1) (i + 1) c d is (omega arith) u r.2)
 
-none_outside : (q low bound : ℕ) (is : List ℕ) → (q < low) ⊎ (bound ≤ q) → IncreaseWithin low bound is → list_any (same q) is ≡ false
+none_outside : (q low bound : ℕ) (is : List ℕ) → (q < low) ⊎ (bound ≤ q) → AscendWithin low bound is → list_any (same q) is ≡ false
 none_outside q low bound [] o r = refl
 none_outside q low bound (i ∷ is) o r =
     let d : q ≢ i = ⊎_elim (λ (l : q < low). λ e. omega (arith, r.0)) (λ (l : bound ≤ q). λ e. omega (arith, r.1)) o in
@@ -56,20 +56,20 @@ none_outside q low bound (i ∷ is) o r =
     rw (apart_not_tied q i d, rest) refl
 
 -- The first number is not the lowest possible one, or the last not the highest.
-first_above : (a b i : ℕ) (is : List ℕ) → i ≢ a → IncreaseWithin a b (i ∷ is) → IncreaseWithin (a + 1) b (i ∷ is)
+first_above : (a b i : ℕ) (is : List ℕ) → i ≢ a → AscendWithin a b (i ∷ is) → AscendWithin (a + 1) b (i ∷ is)
 first_above a b i is d r = (omega (arith, r.0, d), r.1, r.2)
 
-last_below : (a b i : ℕ) (is : List ℕ) → i ≢ b - 1 → IncreaseWithin a b (is ++ i ∷ []) → IncreaseWithin a (b - 1) (is ++ i ∷ [])
+last_below : (a b i : ℕ) (is : List ℕ) → i ≢ b - 1 → AscendWithin a b (is ++ i ∷ []) → AscendWithin a (b - 1) (is ++ i ∷ [])
 last_below a b i [] d r = (r.0, omega (arith, r.1, d), tt)
 last_below a b i (j ∷ is) d r =
     let rest = last_below (j + 1) b i is d r.2 in
     (r.0, omega (arith, before_last (j + 1) (b - 1) i is rest), rest)
   where
-    before_last : (a b i : ℕ) (is : List ℕ) → IncreaseWithin a b (is ++ i ∷ []) → a < b
+    before_last : (a b i : ℕ) (is : List ℕ) → AscendWithin a b (is ++ i ∷ []) → a < b
     before_last a b i [] r = omega (arith, r.0, r.1)
     before_last a b i (j ∷ is) r = omega (arith, r.0, r.1)
 
-without_last : (a b i : ℕ) (is : List ℕ) → IncreaseWithin a b (is ++ i ∷ []) → IncreaseWithin a i is × (a ≤ i)
+without_last : (a b i : ℕ) (is : List ℕ) → AscendWithin a b (is ++ i ∷ []) → AscendWithin a i is × (a ≤ i)
 without_last a b i [] r = (tt, r.0)
 without_last a b i (j ∷ is) r =
     let s = without_last (j + 1) b i is r.2 in ((r.0, omega (arith, s.1), s.0), omega (arith, r.0, s.1))
@@ -103,11 +103,11 @@ last_freed_passed last freed copied below rest taken t c s =
     ap (freed_to below) (that_id last freed t)
     ∙ ap (λ (is : List ℕ). is ++ last ∷ []) (sym (ap (freed_to rest) c ∙ last_taken below rest taken s))
 
-pub next_freed_above : (next b : ℕ) (freed : Option ℕ) (above : List ℕ) → true ≡ not (option_eq eqb freed (Some next)) → IncreaseWithin next b (freed_from freed above) → IncreaseWithin (next + 1) b (freed_from freed above)
+pub next_freed_above : (next b : ℕ) (freed : Option ℕ) (above : List ℕ) → true ≡ not (option_eq eqb freed (Some next)) → AscendWithin next b (freed_from freed above) → AscendWithin (next + 1) b (freed_from freed above)
 next_freed_above next b None above t r = tt
 next_freed_above next b (Some i) above t r = first_above next b i above (λ e. other_id next (Some i) t (ap Some e)) r
 
-pub last_freed_below : (a bound : ℕ) (freed : Option ℕ) (below : List ℕ) → true ≡ not (option_eq eqb freed (Some (bound - 1))) → IncreaseWithin a bound (freed_to below freed) → IncreaseWithin a (bound - 1) (freed_to below freed)
+pub last_freed_below : (a bound : ℕ) (freed : Option ℕ) (below : List ℕ) → true ≡ not (option_eq eqb freed (Some (bound - 1))) → AscendWithin a bound (freed_to below freed) → AscendWithin a (bound - 1) (freed_to below freed)
 last_freed_below a bound None below t r = tt
 last_freed_below a bound (Some i) below t r = last_below a bound i below (λ e. other_id (bound - 1) (Some i) t (ap Some e)) r
 
@@ -147,7 +147,7 @@ module _ (next bound : ℕ) (l : next < bound) where
   -- The walk from below passes a freed id, or visits a held one.
   pub passes_first : (above rest below : List ℕ) (left : ℕ) → above ≡ next ∷ rest → AreIdsLeft next bound above below left → AreIdsLeft (next + 1) bound rest below left × (ids_left next bound above ≡ ids_left (next + 1) bound rest)
   passes_first above rest below left e v =
-      let r = subst (IncreaseWithin next (2 ^ 32)) e v.from_next in
+      let r = subst (AscendWithin next (2 ^ 32)) e v.from_next in
       let same_left = ap (ids_left next bound) e ∙ front_freed rest in (
         record {
           ids = v.ids;
@@ -159,7 +159,7 @@ module _ (next bound : ℕ) (l : next < bound) where
         same_left,
       )
 
-  pub visits_first : (above below : List ℕ) (left : ℕ) → IncreaseWithin (next + 1) (2 ^ 32) above → AreIdsLeft next bound above below left → AreIdsLeft (next + 1) bound above below (left - 1) × (1 ≤ left) × (ids_left next bound above ≡ next ∷ ids_left (next + 1) bound above)
+  pub visits_first : (above below : List ℕ) (left : ℕ) → AscendWithin (next + 1) (2 ^ 32) above → AreIdsLeft next bound above below left → AreIdsLeft (next + 1) bound above below (left - 1) × (1 ≤ left) × (ids_left next bound above ≡ next ∷ ids_left (next + 1) bound above)
   visits_first above below left r v =
       let held : kept above next ≡ true = ap not (none_outside next (next + 1) (2 ^ 32) above (inl (omega arith)) r) in
       let visited = from_front above true held in
@@ -178,7 +178,7 @@ module _ (next bound : ℕ) (l : next < bound) where
   -- The walk from above does the same. The lists of freed ids agree on the ids that were not visited.
   pub passes_last : (above below rest : List ℕ) (left : ℕ) → below ≡ rest ++ (bound - 1) ∷ [] → AreIdsLeft next bound above below left → AreIdsLeft next (bound - 1) above rest left × (ids_left next bound above ≡ ids_left next (bound - 1) above)
   passes_last above below rest left e v =
-      let r = without_last 0 bound (bound - 1) rest (subst (IncreaseWithin 0 bound) e v.to_bound) in
+      let r = without_last 0 bound (bound - 1) rest (subst (AscendWithin 0 bound) e v.to_bound) in
       let any_below : (i : ℕ) → list_any (same i) below ≡ (list_any (same i) rest || (same i (bound - 1) || false)) = λ i. ap (list_any (same i)) e ∙ list_any-append (same i) rest ((bound - 1) ∷ []) in
       let freed : kept above (bound - 1) ≡ false = ap not (v.same (bound - 1) (omega arith) (omega arith) ∙ any_below (bound - 1) ∙ or_right _ _ (or_left _ _ (tied_here (bound - 1)))) in
       let same_left = from_back above false freed ∙ append-nil _ in (
@@ -192,7 +192,7 @@ module _ (next bound : ℕ) (l : next < bound) where
         same_left,
       )
 
-  pub visits_last : (above below : List ℕ) (left : ℕ) → IncreaseWithin 0 (bound - 1) below → AreIdsLeft next bound above below left → AreIdsLeft next (bound - 1) above below (left - 1) × (1 ≤ left) × (ids_left next bound above ≡ ids_left next (bound - 1) above ++ (bound - 1) ∷ [])
+  pub visits_last : (above below : List ℕ) (left : ℕ) → AscendWithin 0 (bound - 1) below → AreIdsLeft next bound above below left → AreIdsLeft next (bound - 1) above below (left - 1) × (1 ≤ left) × (ids_left next bound above ≡ ids_left next (bound - 1) above ++ (bound - 1) ∷ [])
   visits_last above below left r v =
       let held : kept above (bound - 1) ≡ true = ap not (v.same (bound - 1) (omega arith) (omega arith) ∙ none_outside (bound - 1) 0 (bound - 1) below (inr (omega arith)) r) in
       let visited = from_back above true held in
@@ -227,11 +227,11 @@ walk_lists state lo hi next freed e a =
     walk_from lo (bound_of next hi) freed (bound_above lo hi next a.range a.next_id) ∙ ap (λ (s : IdState). held_ids s) e
 
 -- ---- The list of held ids
-row_rises : (n a bound : ℕ) → a + n ≡ bound → IncreaseWithin a bound (range_with_len a n)
+row_rises : (n a bound : ℕ) → a + n ≡ bound → AscendWithin a bound (range_with_len a n)
 row_rises zero a bound e = tt
 row_rises (suc n) a bound e = (omega arith, omega arith, row_rises n (a + 1) bound (omega arith))
 
--- The numbers of a range that pass a test are in increasing order.
+-- The numbers of a range that pass a test are in ascending order.
 pub passed_rise : (p : ℕ → Bool) (a n : ℕ) → IsStrictlySortedBy nat_cmp (filter p (range_with_len a n))
 passed_rise p a n =
     IsStrictlySortedBy-filter nat_cmp p (range_with_len a n) (sorted a (a + n) (range_with_len a n) (row_rises n a (a + n) refl))
@@ -263,7 +263,7 @@ held_ids_counted state s =
     (ids_listed state (held_ids state) apart held).1 (λ i h. (held_id_listed state i s).1 h)
 
 pub listed_held : HeldIdsAreListed
-listed_held = record { listed = held_id_listed; increasing = held_ids_rise; counted = held_ids_counted }
+listed_held = record { listed = held_id_listed; ascending = held_ids_rise; counted = held_ids_counted }
 
 pub ruleset listings = (listed_held)
 
@@ -271,13 +271,13 @@ pub ruleset listings = (listed_held)
 pub walk_starts : (state : IdState) (lo hi : ℕ) (next : Option ℕ) (freed : BTreeSet ℕ) (above below : List ℕ) → ids_of lo hi next freed ≡ state → AreIds lo hi next freed → IsOrdered nat_cmp freed →
     All (λ i. IsTrue (contains nat_cmp freed i)) freed.keys → IsIdState state → above ≡ freed.keys → below ≡ freed.keys → AreIdsLeft lo (bound_of next hi) above below (held_count state)
 walk_starts state lo hi next freed above below b a o all s e f =
-    let r : IncreaseWithin lo (bound_of next hi) freed.keys =
+    let r : AscendWithin lo (bound_of next hi) freed.keys =
     rise lo (bound_of next hi) freed.keys o (All-weaker _ _ (λ i h. a.freed_ids i h) freed.keys all) in
     let fits = bound_fits lo hi next a.next_id in
     record {
       ids = omega (arith, fits, a.ids);
-      from_next = subst (IncreaseWithin lo (2 ^ 32)) (sym e) (wider lo lo (bound_of next hi) (2 ^ 32) freed.keys (omega arith) (omega (arith, fits, a.ids)) r);
-      to_bound = subst (IncreaseWithin 0 (bound_of next hi)) (sym f) (wider 0 lo (bound_of next hi) (bound_of next hi) freed.keys (omega arith) (omega arith) r);
+      from_next = subst (AscendWithin lo (2 ^ 32)) (sym e) (wider lo lo (bound_of next hi) (2 ^ 32) freed.keys (omega arith) (omega (arith, fits, a.ids)) r);
+      to_bound = subst (AscendWithin 0 (bound_of next hi)) (sym f) (wider 0 lo (bound_of next hi) (bound_of next hi) freed.keys (omega arith) (omega arith) r);
       same = λ i l u. ap (list_any (same i)) (e ∙ sym f);
       counted = sym (ap (λ (is : List ℕ). length (ids_left lo (bound_of next hi) is)) e ∙ ap length (walk_lists state lo hi next freed b a) ∙ held_ids_counted state s);
     }

@@ -15,10 +15,10 @@ use Rattle.vm_allocator.specs.IdRequests.{free_ids, holding_ids, HoldsId, Alloca
 use Rattle.vm_allocator.specs.Laws.IdRequestLaws.{AllocatesInTurn, AllocatesExactlyInTurn, FreesInTurn, free_ids_below, SeveralAreAsSingle, ExactIsAsSingle, WindowsOfIds, HeldIdsAreAsExact, IdRequestsAreDetermined, IdRequestsPreserveStates}
 use Rattle.vm_ranges.specs.declared.error.Error.{Error}
 use Rattle.vm_ranges.specs.declared.error.Error.TheVariants.{Overflow, ResourceNotAvailable, OutOfMemory}
-use Rattle.vm_allocator.specs.Checks.IdQueries.{IncreaseWithin}
+use Rattle.vm_allocator.specs.Checks.IdQueries.{AscendWithin}
 use Rattle.vm_allocator.proofs.Callers.{id_is_lowest, id_state}
 use Rattle.vm_allocator.proofs.Ids.IdCounts.{tells_apart}
-use Rattle.vm_allocator.proofs.Ids.IncreasingBounds.{rise}
+use Rattle.vm_allocator.proofs.Ids.AscendingBounds.{rise}
 use Rattle.vm_allocator.proofs.Ids.IdResults.{id_states_are_preserved}
 use Rattle.vm_allocator.proofs.Ids.EveryIdCall.{lowest_or_all, decided_held}
 use Rattle.vm_allocator.proofs.Ids.ExactIds.{absent, holding_in_range, exact_state, exact_was_free}
@@ -138,7 +138,7 @@ pub several_are_as_single : SeveralAreAsSingle
 several_are_as_single = record { taken = several_taken; single = several_single; refused = several_refused }
 
 -- ---- A given id
-member_above : (lo bound q : ℕ) (xs : List ℕ) → IncreaseWithin lo bound xs → list_any (same q) xs ≡ true → (lo ≤ q) × (q < bound)
+member_above : (lo bound q : ℕ) (xs : List ℕ) → AscendWithin lo bound xs → list_any (same q) xs ≡ true → (lo ≤ q) × (q < bound)
 member_above lo bound q [] r t = absurd (both_ways false refl t)
 member_above lo bound q (x ∷ xs) r t =
     ⊎_elim
@@ -146,17 +146,17 @@ member_above lo bound q (x ∷ xs) r t =
     (λ (h : list_any (same q) xs ≡ true). let m = member_above (x + 1) bound q xs r.2 h in (omega (arith, m.0, r.0), m.1))
     (or_cases _ _ t)
 
-none_less : (lo bound id : ℕ) (xs : List ℕ) → IncreaseWithin lo bound xs → id ≤ lo → filter (λ i. ltb i id) xs ≡ []
+none_less : (lo bound id : ℕ) (xs : List ℕ) → AscendWithin lo bound xs → id ≤ lo → filter (λ i. ltb i id) xs ≡ []
 none_less lo bound id [] r l = refl
 none_less lo bound id (x ∷ xs) r l = rw (le-ltb x id (omega (arith, r.0, l))) (none_less (x + 1) bound id xs r.2 (omega (arith, r.0, l)))
 
--- A list in increasing order, split at one of its numbers.
+-- A list in ascending order, split at one of its numbers.
 pub record SplitAt (lo id : ℕ) (xs : List ℕ) : Type 0 where
   pub above : List ℕ
   pub parts : xs ≡ filter (λ i. ltb i id) xs ++ id ∷ above
-  pub below : IncreaseWithin lo id (filter (λ i. ltb i id) xs)
+  pub below : AscendWithin lo id (filter (λ i. ltb i id) xs)
 
-split_at : (lo bound id : ℕ) (xs : List ℕ) → IncreaseWithin lo bound xs → list_any (same id) xs ≡ true → SplitAt lo id xs
+split_at : (lo bound id : ℕ) (xs : List ℕ) → AscendWithin lo bound xs → list_any (same id) xs ≡ true → SplitAt lo id xs
 split_at lo bound id [] r t = absurd (both_ways false refl t)
 split_at lo bound id (x ∷ xs) r t =
     ⊎_elim
@@ -170,7 +170,7 @@ split_at lo bound id (x ∷ xs) r t =
     record { above = xs; parts = rw (le-ltb x id l, none) (ap (λ (k : ℕ). k ∷ xs) (sym e)); below = rw (le-ltb x id l, none) tt })
     (cases_lt x id)
 
-free_within : (state : IdState) → state.lo ≤ state.hi → IncreaseWithin state.lo (state.hi + 1) (free_ids state)
+free_within : (state : IdState) → state.lo ≤ state.hi → AscendWithin state.lo (state.hi + 1) (free_ids state)
 free_within state l =
     let xs = free_ids state in
     let each : All (λ n. (state.lo ≤ n) × (n < state.hi + 1)) xs = λ k d m.
@@ -188,7 +188,7 @@ unfolding FreesId
 frees_held s i v h =
     let was = v.held i h in inr ((was.0, omega (arith, was.1, v.bound.1)), inr (was, inr (h, inl (refl, refl))))
 
-freed_in_turn : (is : List ℕ) (lo bound : ℕ) (s : IdState) → IncreaseWithin lo bound is → IsIdState s → ((i : ℕ) → list_any (same i) is ≡ true → IsHeld s i) → FreesInTurn s is (releasing_ids is s)
+freed_in_turn : (is : List ℕ) (lo bound : ℕ) (s : IdState) → AscendWithin lo bound is → IsIdState s → ((i : ℕ) → list_any (same i) is ≡ true → IsHeld s i) → FreesInTurn s is (releasing_ids is s)
 freed_in_turn [] lo bound s r v h = refl
 freed_in_turn (i ∷ is) lo bound s r v h =
     let frees = frees_held s i v (h i (or_left _ _ (tied_here i))) in (
@@ -230,7 +230,7 @@ frees_keep : (is : List ℕ) (s : IdState) → ((releasing_ids is s).lo ≡ s.lo
 frees_keep [] s = (refl, refl, refl)
 frees_keep (i ∷ is) s = frees_keep is (releasing_id i s)
 
-bound_below : (is : List ℕ) (lo id : ℕ) (s : IdState) → IncreaseWithin lo id is → (s.bound ≤ (holding_ids is s).bound) × ((holding_ids is s).bound ≤ max s.bound id)
+bound_below : (is : List ℕ) (lo id : ℕ) (s : IdState) → AscendWithin lo id is → (s.bound ≤ (holding_ids is s).bound) × ((holding_ids is s).bound ≤ max s.bound id)
 bound_below [] lo id s r = (omega arith, omega arith)
 bound_below (i ∷ is) lo id s r =
     let rest = bound_below is (i + 1) id (holding_id i s) r.2 in (omega (arith, rest.0), omega (arith, rest.1, r.1))
@@ -239,7 +239,7 @@ state_is : (a b : IdState) → a.lo ≡ b.lo → a.hi ≡ b.hi → a.bound ≡ b
 state_is a b l h e s = λ i. record { lo = l i; hi = h i; bound = e i; held = s i }
 
 -- Allocating the ids up to one and freeing those below it leaves this one allocated.
-up_to_one : (old : IdState) (lo id : ℕ) (is : List ℕ) → IncreaseWithin lo id is → ((q : ℕ) → list_any (same q) is ≡ true → ¬ IsHeld old q) → releasing_ids is (holding_id id (holding_ids is old)) ≡ holding_id id old
+up_to_one : (old : IdState) (lo id : ℕ) (is : List ℕ) → AscendWithin lo id is → ((q : ℕ) → list_any (same q) is ≡ true → ¬ IsHeld old q) → releasing_ids is (holding_id id (holding_ids is old)) ≡ holding_id id old
 up_to_one old lo id is r free =
     let mid = holding_id id (holding_ids is old) in
     let keep = frees_keep is mid in

@@ -19,7 +19,7 @@ use Rattle.vm_allocator.specs.Values.IdValues.{IdFields, HasIdFields, AreIdField
 use Rattle.vm_ranges.specs.declared.saved.SavedError.{SavedError}
 use Rattle.vm_ranges.specs.declared.saved.SavedError.TheVariants.{Violated, OutOfMemory}
 use Rattle.vm_allocator.specs.FreedLists.{AreFreedOf, MakesOfIds}
-use Rattle.vm_allocator.specs.Checks.IdChecks.{IdParts, increasing, ids_in, decoded_ids}
+use Rattle.vm_allocator.specs.Checks.IdChecks.{IdParts, ascending, ids_in, decoded_ids}
 use Rattle.vm_allocator.proofs.Ids.IdSets.{holds_from, from_holds}
 use Rattle.vm_allocator.proofs.Ids.IdFields.{is_state}
 use Rattle.vm_allocator.proofs.Ids.ReadIds.{Found, fields_of, widened, bound_fits_ids, checks, passes, one_fields}
@@ -65,7 +65,7 @@ valid lo hi next freed i s = record {
   range = i.range;
   ids = i.ids;
   next_id = i.next_id;
-  increasing = s;
+  ascending = s;
   ever_allocated = λ k d l. i.freed_ids _ (among freed _ (k, l, same freed.keys k d l));
 } where
   same : (ns : List ℕ) (k d : ℕ) → k < length ns → slice_index_or ns k (slice_index_or ns k d) ≡ slice_index_or ns k d
@@ -89,7 +89,7 @@ one_state f a b p q =
 pub none_encoded : (d : Data) → decoded_ids d ≡ None → ((state : IdState) × EncodesIds d state) → ⊥
 none_encoded d e p = true≢false (sym (passes d p.1.fields p.1.written p.1.valid) ∙ ap is_some e)
 
-built_states : (d : Data) (p : Found) (freed : BTreeSet ℕ) → decoded_ids d ≡ Some p → increasing p.0 (bound_of p.1 p.2) p.3 ≡ Some freed.keys → EncodesIds d (ids_of p.0 p.2 p.1 freed)
+built_states : (d : Data) (p : Found) (freed : BTreeSet ℕ) → decoded_ids d ≡ Some p → ascending p.0 (bound_of p.1 p.2) p.3 ≡ Some freed.keys → EncodesIds d (ids_of p.0 p.2 p.1 freed)
 built_states d p freed e r =
     let c = checks d p e in
     let same : c.freed ≡ freed.keys = same_Some c.freed freed.keys (sym c.increases ∙ r) in record {
@@ -125,7 +125,7 @@ state_read d p freed (Err (Violated v)) e i m =
     absurd (m.1 (subst (λ (ids : List ℕ). AreFreedOf p.0 p.2 p.1 ids) same (record {
       range = c.valid.range;
       next_id = c.valid.next_id;
-      increasing = c.valid.increasing;
+      ascending = c.valid.ascending;
       freed_ids = λ i k. All-contains (λ n. (p.0 ≤ n) × (n < bound_of p.1 p.2)) c.freed i c.valid.ever_allocated k;
     })))
 state_read d p freed (Err OutOfMemory) e i m = absurd m

@@ -21,11 +21,11 @@ use Rattle.vm_allocator.specs.Ids.{MAX_ID, bound_of, IsNext}
 use Rattle.vm_allocator.specs.Values.IdValues.{IdFields, EncodesNext, EncodesNumber, EncodesList, HasIdFields, AreIdFields}
 use Rattle.vm_allocator.specs.FreedLists.{AreFreedOf, is_next}
 use Rattle.vm_allocator.specs.Checks.FreedChecks.{ends_of, AreEndsOf, ChecksParts}
-use Rattle.vm_allocator.specs.Checks.IdChecks.{increasing, ids_in, decoded_next, decoded_ids}
+use Rattle.vm_allocator.specs.Checks.IdChecks.{ascending, ids_in, decoded_next, decoded_ids}
 use Rattle.vm_ranges.proofs.Nulls.{null_of}
-use Rattle.vm_allocator.specs.Checks.IdQueries.{IncreaseWithin}
-use Rattle.vm_allocator.proofs.Ids.IncreasingNumbers.{some_of, one_list}
-use Rattle.vm_allocator.proofs.Ids.IncreasingBounds.{increasing-states, states-increasing, sorted, within, rise}
+use Rattle.vm_allocator.specs.Checks.IdQueries.{AscendWithin}
+use Rattle.vm_allocator.proofs.Ids.AscendingNumbers.{some_of, one_list}
+use Rattle.vm_allocator.proofs.Ids.AscendingBounds.{ascending-states, states-ascending, sorted, within, rise}
 
 -- The next id.
 
@@ -88,7 +88,7 @@ Found = ℕ × Option ℕ × ℕ × Items
 -- The value has valid fields of an id allocator, and its freed ids are in order.
 pub record IsChecked (d : Data) (p : Found) : Type 0 where
   pub freed : List ℕ
-  pub increases : increasing p.0 (bound_of p.1 p.2) p.3 ≡ Some freed
+  pub increases : ascending p.0 (bound_of p.1 p.2) p.3 ≡ Some freed
   pub written : HasIdFields d (fields_of p.0 p.1 p.2 freed)
   pub valid : AreIdFields (fields_of p.0 p.1 p.2 freed)
 
@@ -99,13 +99,13 @@ checks d p h =
     let hi = and_then_some _ (u32_in (codes "range_end") d) p lo.2 in
     let next = and_then_some _ (option_and_then decoded_next (get (codes "next_id") d)) p hi.2 in
     let list = and_then_some _ (option_and_then as_array (get (codes "freed_ids") d)) p next.2 in
-    let test = if_some (leb lo.0 hi.0 && (is_next next.0 lo.0 hi.0 && is_some (increasing lo.0 (bound_of next.0 hi.0) list.0))) _ p list.2 in
-    let t = and_parts (leb lo.0 hi.0) (is_next next.0 lo.0 hi.0 && is_some (increasing lo.0 (bound_of next.0 hi.0) list.0)) test.0 in
-    let u = and_parts (is_next next.0 lo.0 hi.0) (is_some (increasing lo.0 (bound_of next.0 hi.0) list.0)) t.1 in
+    let test = if_some (leb lo.0 hi.0 && (is_next next.0 lo.0 hi.0 && is_some (ascending lo.0 (bound_of next.0 hi.0) list.0))) _ p list.2 in
+    let t = and_parts (leb lo.0 hi.0) (is_next next.0 lo.0 hi.0 && is_some (ascending lo.0 (bound_of next.0 hi.0) list.0)) test.0 in
+    let u = and_parts (is_next next.0 lo.0 hi.0) (is_some (ascending lo.0 (bound_of next.0 hi.0) list.0)) t.1 in
     let next_at = and_then_some decoded_next (get (codes "next_id") d) next.0 next.1 in
     let list_at = and_then_some as_array (get (codes "freed_ids") d) list.0 list.1 in
-    let ns = some_of (increasing lo.0 (bound_of next.0 hi.0) list.0) u.1 in
-    let r = increasing-states lo.0 (bound_of next.0 hi.0) list.0 ns.0 ns.1 in
+    let ns = some_of (ascending lo.0 (bound_of next.0 hi.0) list.0) u.1 in
+    let r = ascending-states lo.0 (bound_of next.0 hi.0) list.0 ns.0 ns.1 in
     let b = u32_in-some (codes "range_base") d lo.0 lo.1 in
     let e = u32_in-some (codes "range_end") d hi.0 hi.1 in
     let n = next-some next_at.0 next.0 next_at.2 in
@@ -120,7 +120,7 @@ checks d p h =
         range_end = e.0;
         freed_ids = field_is (codes "freed_ids") d list_at.0 (λ v. EncodesList v ns.0) list_at.1 (list_encoded EncodesNumber list_at.0 list.0 ns.0 list_at.2 r.0);
       };
-      valid = record { range = leb-true lo.0 hi.0 t.0; ids = e.1; next_id = next_fits next.0 lo.0 hi.0 u.0 n.1; increasing = sorted lo.0 (bound_of next.0 hi.0) ns.0 r.1; ever_allocated = within lo.0 (bound_of next.0 hi.0) ns.0 r.1 };
+      valid = record { range = leb-true lo.0 hi.0 t.0; ids = e.1; next_id = next_fits next.0 lo.0 hi.0 u.0 n.1; ascending = sorted lo.0 (bound_of next.0 hi.0) ns.0 r.1; ever_allocated = within lo.0 (bound_of next.0 hi.0) ns.0 r.1 };
     } in
     subst (IsChecked d) (same_Some q p test.1) found
 
@@ -143,7 +143,7 @@ passes d f w s =
       list.1,
       le-leb f.range_base f.range_end range,
       next_fits-true f.next_id f.range_base f.range_end s.next_id,
-      states-increasing f.freed_ids f.range_base (bound_of f.next_id f.range_end) list.0 list.2 (rise f.range_base (bound_of f.next_id f.range_end) f.freed_ids s.increasing s.ever_allocated),
+      states-ascending f.freed_ids f.range_base (bound_of f.next_id f.range_end) list.0 list.2 (rise f.range_base (bound_of f.next_id f.range_end) f.freed_ids s.ascending s.ever_allocated),
     ) refl
 
 -- The fields are found, one by one.
@@ -158,7 +158,7 @@ pub record HasParts (d : Data) (p : Found) : Type 0 where
 
 -- The test of the parts.
 abbrev are_parts : Found → Bool
-are_parts p = leb p.0 p.2 && (is_next p.1 p.0 p.2 && is_some (increasing p.0 (bound_of p.1 p.2) p.3))
+are_parts p = leb p.0 p.2 && (is_next p.1 p.0 p.2 && is_some (ascending p.0 (bound_of p.1 p.2) p.3))
 
 decided : (d : Data) (p : Found) → HasParts d p → decoded_ids d ≡ cond (are_parts p) (Some p) None
 decided d p h = rw (h.four, h.base, h.end, h.next, h.freed) refl
@@ -171,13 +171,13 @@ record IsTested (p : Found) : Type 0 where
   pub range : p.0 ≤ p.2
   pub next : is_next p.1 p.0 p.2 ≡ true
   pub freed : List ℕ
-  pub increases : increasing p.0 (bound_of p.1 p.2) p.3 ≡ Some freed
+  pub increases : ascending p.0 (bound_of p.1 p.2) p.3 ≡ Some freed
 
 tested : (p : Found) → are_parts p ≡ true → IsTested p
 tested p e =
-    let t = and_parts (leb p.0 p.2) (is_next p.1 p.0 p.2 && is_some (increasing p.0 (bound_of p.1 p.2) p.3)) e in
-    let u = and_parts (is_next p.1 p.0 p.2) (is_some (increasing p.0 (bound_of p.1 p.2) p.3)) t.1 in
-    let ns = some_of (increasing p.0 (bound_of p.1 p.2) p.3) u.1 in
+    let t = and_parts (leb p.0 p.2) (is_next p.1 p.0 p.2 && is_some (ascending p.0 (bound_of p.1 p.2) p.3)) e in
+    let u = and_parts (is_next p.1 p.0 p.2) (is_some (ascending p.0 (bound_of p.1 p.2) p.3)) t.1 in
+    let ns = some_of (ascending p.0 (bound_of p.1 p.2) p.3) u.1 in
     record { range = leb-true p.0 p.2 t.0; next = u.0; freed = ns.0; increases = ns.1 }
 
 -- The numbers fit into 32 bits.
@@ -197,17 +197,17 @@ bound_is_id : (d : Data) (p : Found) → HasParts d p → bound_of p.1 p.2 ≤ M
 bound_is_id d p h = fits p.1 p.2 (is_id_of d p h) (u32_in-some (codes "range_end") d p.2 h.end).1
 
 -- Numbers in order between narrower bounds are ids in order.
-wider : (lo low bound : ℕ) (ns : List ℕ) → low ≤ lo → bound ≤ MAX_ID + 1 → IncreaseWithin lo bound ns → IncreaseWithin low (MAX_ID + 1) ns
+wider : (lo low bound : ℕ) (ns : List ℕ) → low ≤ lo → bound ≤ MAX_ID + 1 → AscendWithin lo bound ns → AscendWithin low (MAX_ID + 1) ns
 wider lo low bound [] l b r = tt
 wider lo low bound (n ∷ ns) l b r =
     let f = r.0 in
     let u = r.1 in
     (omega (arith, f, l), omega (arith, u, b), wider (n + 1) (n + 1) bound ns (omega arith) b r.2)
 
-pub widened : (lo bound : ℕ) (ds : Items) (ns : List ℕ) → bound ≤ MAX_ID + 1 → increasing lo bound ds ≡ Some ns → ids_in ds ≡ Some ns
+pub widened : (lo bound : ℕ) (ds : Items) (ns : List ℕ) → bound ≤ MAX_ID + 1 → ascending lo bound ds ≡ Some ns → ids_in ds ≡ Some ns
 widened lo bound ds ns b e =
-    let s = increasing-states lo bound ds ns e in
-    states-increasing ns 0 (MAX_ID + 1) ds s.0 (wider lo 0 bound ns (omega arith) b s.1)
+    let s = ascending-states lo bound ds ns e in
+    states-ascending ns 0 (MAX_ID + 1) ds s.0 (wider lo 0 bound ns (omega arith) b s.1)
 
 none_in_order : (d : Data) (p : Found) → HasParts d p → ids_in p.3 ≡ None → decoded_ids d ≡ None
 none_in_order d p h e =
@@ -218,12 +218,12 @@ none_in_order d p h e =
 
 parts_found : (d : Data) (p : Found) (freed : List ℕ) → HasParts d p → ids_in p.3 ≡ Some freed → AreFreedOf p.0 p.2 p.1 freed → decoded_ids d ≡ Some p
 parts_found d p freed h e a =
-    let s = increasing-states 0 (MAX_ID + 1) p.3 freed e in
+    let s = ascending-states 0 (MAX_ID + 1) p.3 freed e in
     let w : All (λ i. (p.0 ≤ i) × (i < bound_of p.1 p.2)) freed = λ k x l. a.freed_ids _ (All-contains_itself freed k x l) in
     decided d p h ∙ rw (
       le-leb p.0 p.2 a.range,
       next_fits-true p.1 p.0 p.2 a.next_id,
-      states-increasing freed p.0 (bound_of p.1 p.2) p.3 s.0 (rise p.0 (bound_of p.1 p.2) freed a.increasing w),
+      states-ascending freed p.0 (bound_of p.1 p.2) p.3 s.0 (rise p.0 (bound_of p.1 p.2) freed a.ascending w),
     ) refl
 
 no_parts : (d : Data) (p : Found) (freed : List ℕ) → HasParts d p → ids_in p.3 ≡ Some freed → ¬ AreFreedOf p.0 p.2 p.1 freed → decoded_ids d ≡ None
@@ -232,11 +232,11 @@ no_parts d p freed h e n =
     let is = tested p t in
     let w = widened p.0 (bound_of p.1 p.2) p.3 is.freed (bound_is_id d p h) is.increases in
     let same : is.freed ≡ freed = same_Some is.freed freed (sym w ∙ e) in
-    let r = (increasing-states p.0 (bound_of p.1 p.2) p.3 is.freed is.increases).1 in
+    let r = (ascending-states p.0 (bound_of p.1 p.2) p.3 is.freed is.increases).1 in
     n (subst (λ (ids : List ℕ). AreFreedOf p.0 p.2 p.1 ids) same (record {
       range = is.range;
       next_id = next_fits p.1 p.0 p.2 is.next (is_id_of d p h);
-      increasing = sorted p.0 (bound_of p.1 p.2) is.freed r;
+      ascending = sorted p.0 (bound_of p.1 p.2) is.freed r;
       freed_ids = λ i c. All-contains (λ k. (p.0 ≤ k) × (k < bound_of p.1 p.2)) is.freed i (within p.0 (bound_of p.1 p.2) is.freed r) c;
     })))
 
@@ -260,7 +260,7 @@ kept ends ds e = some (ids_in ds) refl e where
   some (Some ids) i e = record {
     ids = ids;
     listed = i;
-    are_ends = (sorted 0 (MAX_ID + 1) ids (increasing-states 0 (MAX_ID + 1) ds ids i).1, sym (same_Some (ends_of ids) ends e));
+    are_ends = (sorted 0 (MAX_ID + 1) ids (ascending-states 0 (MAX_ID + 1) ds ids i).1, sym (same_Some (ends_of ids) ends e));
   }
 
 pub parts_refused : (d : Data) (p : Found) (ends : Option Ends) (answer : Result (Unit {0}) SavedError) → HasParts d p → option_map ends_of (ids_in p.3) ≡ Some ends →

@@ -1,4 +1,4 @@
--- Lists in strictly increasing order, and the entries of maps.
+-- Lists in strictly ascending order, and the entries of maps.
 use Rattle.std.proofs.Common.{◌≡◌, ℕ, Bool, true, false, cond, ◌&&◌, ◌||◌, T, List, [], ◌∷◌, refl, sym, ap, ◌∙◌, subst, Some, None, Less}
 use Rattle.std.specs.declared.cmp.Ordering.{Ordering}
 use Rattle.std.specs.declared.cmp.Ordering.TheVariants.{Equal, Greater}
@@ -10,7 +10,7 @@ use Rattle.std.specs.Cmp.{nat_cmp_total}
 use Rattle.std.specs.FinMap.Entries.{below_all, is_sorted, find, same_entries}
 use Rattle.std.specs.FinMap as map
 
--- ---- The two forms of strictly increasing keys
+-- ---- The two forms of strictly ascending keys
 both : (a b : Bool) → T a → T b → T (a && b)
 both true b p q = q
 both false b p q = p
@@ -43,7 +43,7 @@ module _ {X : Type 0} where
   sorted_keys [] s = tt
   sorted_keys (e ∷ es) s = let p = parts _ _ s in (keys_above e.0 es p.0, sorted_keys es p.1)
 
-  -- The keys of a map are strictly increasing.
+  -- The keys of a map are strictly ascending.
   pub keys_rise : (m : map.FinMap nat_cmp X) → IsStrictlySortedBy nat_cmp (map.keys m)
   keys_rise m = sorted_keys (map.entries m) (map.entries_sorted m)
 
@@ -75,7 +75,7 @@ found_mark q (k ∷ ks) =
 sorted_marks : (ks : List ℕ) → IsStrictlySortedBy nat_cmp ks → T (is_sorted nat_cmp (marked ks))
 sorted_marks ks s = sorted_entries (marked ks) (subst (IsStrictlySortedBy nat_cmp) (sym (unmarked ks)) s)
 
--- Two lists in strictly increasing order with the same members are equal.
+-- Two lists in strictly ascending order with the same members are equal.
 pub same_rising : (xs ys : List ℕ) → IsStrictlySortedBy nat_cmp xs → IsStrictlySortedBy nat_cmp ys → ((q : ℕ) → list_any (eq_by_cmp nat_cmp q) xs ≡ list_any (eq_by_cmp nat_cmp q) ys) → xs ≡ ys
 same_rising xs ys s t h =
     let alike : marked xs ≡ marked ys =

@@ -59,7 +59,7 @@ parts_accepted : (state : IdState) → IsIdState state → AreFreedOf state.lo s
 parts_accepted state s = record {
   range = s.range;
   next_id = next_valid state s;
-  increasing = passed_rise (λ i. not (set.contains state.held i)) state.lo (state.bound - state.lo);
+  ascending = passed_rise (λ i. not (set.contains state.held i)) state.lo (state.bound - state.lo);
   freed_ids = λ i c. subst (λ (b : ℕ). (state.lo ≤ i) × (i < b)) (sym (bound_is state s)) (freed_within state s i c);
 }
 

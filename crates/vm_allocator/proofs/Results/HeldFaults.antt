@@ -9,7 +9,7 @@ use Rattle.vm_ranges.specs.Request.{IsRequest, IsStartAligned, request_for}
 use Rattle.vm_engine.specs.Address.{AddressState, AreInOrder}
 use Rattle.vm_engine.specs.Answer.{ByStart, ByExactPolicy, Grants, Allocates}
 use Rattle.vm_engine.specs.Held.{range_fault, or_else, first_fault}
-use Rattle.vm_allocator.specs.Laws.SeveralLaws.{AreIncreasing, FailsAt, FaultIsThatOfExactMatch}
+use Rattle.vm_allocator.specs.Laws.SeveralLaws.{AreAscending, FailsAt, FaultIsThatOfExactMatch}
 use Rattle.vm_ranges.specs.declared.error.Error.{Error}
 use Rattle.vm_ranges.specs.declared.error.Error.TheVariants.{Overflow, ResourceNotAvailable}
 use Rattle.vm_ranges.specs.declared.constraint.AllocPolicy.TheVariants.{ExactMatch}
@@ -106,7 +106,7 @@ record FirstFault (lo hi : ℕ) (held : List Range) (e : Error) : Type 0 where
   behind : next_after lo before ≤ range.start
   fault : range_fault (next_after lo before) hi range ≡ Some e
 
-first_one : (lo hi : ℕ) (held : List Range) (e : Error) → hi ≤ MAX → All (λ r. IsRange r.start r.end) held → AreIncreasing lo held → first_fault lo hi held ≡ Some e → FirstFault lo hi held e
+first_one : (lo hi : ℕ) (held : List Range) (e : Error) → hi ≤ MAX → All (λ r. IsRange r.start r.end) held → AreAscending lo held → first_fault lo hi held ≡ Some e → FirstFault lo hi held e
 first_one lo hi [] e top a i f = absurd (cc f)
 first_one lo hi (r ∷ rs) e top a i f =
     let range = All-head (λ r. IsRange r.start r.end) r rs a in
@@ -140,11 +140,11 @@ exact_grants old r answer new h =
 
 -- ---- The first range that cannot be held
 -- The list starts in the space.
-later_fault : (space : Range) (held : List Range) (e : Error) → IsRange space.start space.end → All (λ r. IsRange r.start r.end) held → AreIncreasing space.start held → first_fault space.start space.end held ≡ Some e → FailsAt space held e
-later_fault space held e range each increasing fault =
+later_fault : (space : Range) (held : List Range) (e : Error) → IsRange space.start space.end → All (λ r. IsRange r.start r.end) held → AreAscending space.start held → first_fault space.start space.end held ≡ Some e → FailsAt space held e
+later_fault space held e range each ascending fault =
     let lo = space.start in
     let hi = space.end in
-    let k = first_one lo hi held e range.1 each increasing fault in
+    let k = first_one lo hi held e range.1 each ascending fault in
     let old : AddressState = record { space = space; held = k.before } in
     record {
       before = k.before;
@@ -180,9 +180,9 @@ first_fault_below space r rs e range l fault =
     }
 
 pub fault_is_that_of_exact_match : FaultIsThatOfExactMatch
-fault_is_that_of_exact_match space [] e range each increasing fault = absurd (cc fault)
-fault_is_that_of_exact_match space (r ∷ rs) e range each increasing fault =
+fault_is_that_of_exact_match space [] e range each ascending fault = absurd (cc fault)
+fault_is_that_of_exact_match space (r ∷ rs) e range each ascending fault =
     ⊎_elim
     (λ (l : r.start < space.start). first_fault_below space r rs e range l fault)
-    (λ (l : space.start ≤ r.start). later_fault space (r ∷ rs) e range each (l, increasing.1) fault)
+    (λ (l : space.start ≤ r.start). later_fault space (r ∷ rs) e range each (l, ascending.1) fault)
     (cases_lt r.start space.start)

@@ -18,11 +18,11 @@ abbrev pub ends_of : List ℕ → Option Ends
 ends_of [] = None
 ends_of (id ∷ ids) = Some (record { first = id; last = last_of id ids })
 
--- The ids are in strictly increasing order, and these are their ends.
+-- The ids are in strictly ascending order, and these are their ends.
 abbrev pub AreEndsOf : Option Ends → List ℕ → Type 0
 AreEndsOf ends ids = IsStrictlySortedBy nat_cmp ids × (ends ≡ ends_of ids)
 
--- The result of adding an id at the end: the new ends, or None if the ids are not in strictly increasing order then.
+-- The result of adding an id at the end: the new ends, or None if the ids are not in strictly ascending order then.
 abbrev pub AddsAtEnd : List ℕ → ℕ → Option Ends → Type 0
 AddsAtEnd ids id None = ¬ IsStrictlySortedBy nat_cmp (ids ++ id ∷ [])
 AddsAtEnd ids id (Some ends) = AreEndsOf (Some ends) (ids ++ id ∷ [])

@@ -8,17 +8,17 @@ use Rattle.vm_ranges.specs.Numbers.{whole_number, number_in, u32_from, u32_in}
 use Rattle.vm_allocator.specs.Ids.{MAX_ID, bound_of}
 use Rattle.vm_allocator.specs.FreedLists.{is_next}
 
--- The numbers of the items, if they are whole, in strictly increasing order, at least `lowest` and below `bound`.
-abbrev pub increasing : ℕ → ℕ → Items → Option (List ℕ)
-increasing lowest bound no_items = Some []
-increasing lowest bound (item d ds) =
+-- The numbers of the items, if they are whole, in strictly ascending order, at least `lowest` and below `bound`.
+abbrev pub ascending : ℕ → ℕ → Items → Option (List ℕ)
+ascending lowest bound no_items = Some []
+ascending lowest bound (item d ds) =
     option_and_then (λ n.
-    if nat_le lowest n && nat_lt n bound then option_map (λ ns. n ∷ ns) (increasing (n + 1) bound ds) else None)
+    if nat_le lowest n && nat_lt n bound then option_map (λ ns. n ∷ ns) (ascending (n + 1) bound ds) else None)
     (whole_number d)
 
--- The numbers of the items, if they are ids in strictly increasing order.
+-- The numbers of the items, if they are ids in strictly ascending order.
 abbrev pub ids_in : Items → Option (List ℕ)
-ids_in ds = increasing 0 (MAX_ID + 1) ds
+ids_in ds = ascending 0 (MAX_ID + 1) ds
 
 -- The next id that a value encodes: `Some None` for null, and `None` if the value is not valid.
 abbrev pub decoded_next : Data → Option (Option ℕ)
@@ -30,7 +30,7 @@ abbrev pub decoded_ids : Data → Option (ℕ × Option ℕ × ℕ × Items)
 decoded_ids d =
     if is_count 4 (field_count d) then
     option_and_then (λ lo. option_and_then (λ hi. option_and_then (λ next. option_and_then (λ freed.
-    if nat_le lo hi && (is_next next lo hi && is_some (increasing lo (bound_of next hi) freed))
+    if nat_le lo hi && (is_next next lo hi && is_some (ascending lo (bound_of next hi) freed))
     then Some (lo, next, hi, freed) else None)
     (option_and_then as_array (get (codes "freed_ids") d)))
     (option_and_then decoded_next (get (codes "next_id") d)))

@@ -19,17 +19,17 @@ unfoldable pub ids_left : ℕ → ℕ → List ℕ → List ℕ
 ids_left next bound freed =
     filter (λ i. not (list_any (eq_by_cmp nat_cmp i) freed)) (range_with_len next (bound - next))
 
--- The numbers are in strictly increasing order, at least `lowest` and below `bound`.
-abbrev pub IncreaseWithin : ℕ → ℕ → List ℕ → Type 0
-IncreaseWithin lowest bound [] = Unit {0}
-IncreaseWithin lowest bound (n ∷ ns) = (lowest ≤ n) × (n < bound) × IncreaseWithin (n + 1) bound ns
+-- The numbers are in strictly ascending order, at least `lowest` and below `bound`.
+abbrev pub AscendWithin : ℕ → ℕ → List ℕ → Type 0
+AscendWithin lowest bound [] = Unit {0}
+AscendWithin lowest bound (n ∷ ns) = (lowest ≤ n) × (n < bound) × AscendWithin (n + 1) bound ns
 
--- The fields of the walk are valid: the freed ids are in increasing order, in both lists are the same ones of the ids that
--- were not visited, and the number of ids that are left is right.
+-- The fields of the walk are valid. Both lists of freed ids increase, and have the same ones of the ids that were not
+-- visited. The number of ids that are left is right.
 pub record AreIdsLeft (next bound : ℕ) (above below : List ℕ) (left : ℕ) : Type 0 where
   pub ids : bound ≤ 2 ^ 32
-  pub from_next : IncreaseWithin next (2 ^ 32) above
-  pub to_bound : IncreaseWithin 0 bound below
+  pub from_next : AscendWithin next (2 ^ 32) above
+  pub to_bound : AscendWithin 0 bound below
   pub same : (i : ℕ) → next ≤ i → i < bound → list_any (eq_by_cmp nat_cmp i) above ≡ list_any (eq_by_cmp nat_cmp i) below
   pub counted : left ≡ length (ids_left next bound above)
 

@@ -66,8 +66,8 @@ IdCountFindsAll =
     (state : IdState) (list : List ℕ) → AllPairs (λ i j. i ≢ j) list → All (IsHeld state) list →
     (length list ≡ held_count state) ↔ ((i : ℕ) → IsHeld state i → Contains list i)
 
--- The list of the held ids contains exactly the held ids, in strictly increasing order. Its length is their number.
+-- The list of the held ids contains exactly the held ids, in strictly ascending order. Its length is their number.
 pub record HeldIdsAreListed : Type 0 where
   pub listed : (state : IdState) (id : ℕ) → IsIdState state → Contains (held_ids state) id ↔ IsHeld state id
-  pub increasing : (state : IdState) → IsStrictlySortedBy nat_cmp (held_ids state)
+  pub ascending : (state : IdState) → IsStrictlySortedBy nat_cmp (held_ids state)
   pub counted : (state : IdState) → IsIdState state → length (held_ids state) ≡ held_count state

@@ -23,7 +23,7 @@ abbrev pub FreesInTurn : IdState → List ℕ → IdState → Type 0
 FreesInTurn old [] new = new ≡ old
 FreesInTurn old (i ∷ is) new = (mid : IdState) × FreesId old i (Ok i) mid × FreesInTurn mid is new
 
--- The free ids below the id, in increasing order.
+-- The free ids below the id, in ascending order.
 abbrev pub free_ids_below : ℕ → IdState → List ℕ
 free_ids_below id state = filter (λ i. nat_lt i id) (free_ids state)
 

@@ -21,11 +21,11 @@ HeldIsEqual =
     Makes base size (Ok first) → AllocatesEach first (exact_requests held) held new →
     MakesWithHeld base size held (Ok made) → AreEqual made new
 
--- The ranges are increasing from lo: the first one starts at lo or above, and each other one after the end of the range
+-- The ranges are ascending from lo: the first one starts at lo or above, and each other one after the end of the range
 -- before it.
-abbrev pub AreIncreasing : ℕ → List Range → Type 0
-AreIncreasing lo [] = Unit {0}
-AreIncreasing lo (r ∷ rs) = (lo ≤ r.start) × AreIncreasing (r.end + 1) rs
+abbrev pub AreAscending : ℕ → List Range → Type 0
+AreAscending lo [] = Unit {0}
+AreAscending lo (r ∷ rs) = (lo ≤ r.start) × AreAscending (r.end + 1) rs
 
 -- ExactMatch has the error e for one of the ranges, in the state in which exactly the ranges before it are held.
 pub record FailsAt (space : Range) (held : List Range) (e : Error) : Type 0 where
@@ -38,12 +38,12 @@ pub record FailsAt (space : Range) (held : List Range) (e : Error) : Type 0 wher
       Allocates (record { space = space; held = before })
       (request_for (address_count range) 1 (ExactMatch range.start)) answer new → answer ≡ Err e
 
--- The error of an increasing list of ranges is the one that ExactMatch has for the first range that cannot be held. The
+-- The error of an ascending list of ranges is the one that ExactMatch has for the first range that cannot be held. The
 -- list can start below the space.
 abbrev pub FaultIsThatOfExactMatch : Type 0
 FaultIsThatOfExactMatch =
     (space : Range) (held : List Range) (e : Error) → IsRange space.start space.end →
-    All (λ r. IsRange r.start r.end) held → AreIncreasing 0 held →
+    All (λ r. IsRange r.start r.end) held → AreAscending 0 held →
     first_fault space.start space.end held ≡ Some e → FailsAt space held e
 
 -- A list of one request is allocated as by `allocate`, and has its error.

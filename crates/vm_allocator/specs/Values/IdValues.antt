@@ -37,13 +37,13 @@ pub record HasIdFields (d : Data) (fields : IdFields) : Type 0 where
   pub range_end : number_in (codes "range_end") d ≡ Some fields.range_end
   pub freed_ids : FieldIs (codes "freed_ids") d (λ v. EncodesList v fields.freed_ids)
 
--- The fields are valid: the range is not empty, the next id is valid, and the freed ids are strictly increasing and
+-- The fields are valid: the range is not empty, the next id is valid, and the freed ids are strictly ascending and
 -- were allocated at some time.
 pub record AreIdFields (fields : IdFields) : Type 0 where
   pub range : fields.range_base ≤ fields.range_end
   pub ids : fields.range_end ≤ MAX_ID
   pub next_id : IsNext fields.range_base fields.range_end fields.next_id
-  pub increasing : IsStrictlySortedBy nat_cmp fields.freed_ids
+  pub ascending : IsStrictlySortedBy nat_cmp fields.freed_ids
   pub ever_allocated :
       All (λ i. (fields.range_base ≤ i) × (i < bound_of fields.next_id fields.range_end)) fields.freed_ids
 

@@ -19,7 +19,7 @@ impl PartialEq for AddressAllocator {
 
     ghost laws = { Prim.search (comparing, state_cmp-total, rules) };
 
-    /// Returns whether both allocators have the same space and the same allocated ranges.
+    /// Returns `true` if both allocators have the same space and the same allocated ranges.
     ///
     /// It stops at the first difference and does not allocate.
     #[tactic(auto, using(vm_engine::proofs::Comparing::StateOrders::allocators_compared))]

@@ -63,9 +63,9 @@ impl AddressAllocator {
     /// Returns the number of free addresses.
     ///
     /// It takes constant time and does not allocate.
-    pub fn clear_count(&self) -> u64
+    pub fn free_len(&self) -> u64
         ensures { result ≡ count_of (gaps_of (state_of self.now)) }
     {
-        self.interval_tree.clear_count()
+        self.interval_tree.free_len()
     }
 }

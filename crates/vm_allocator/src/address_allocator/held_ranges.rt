@@ -31,7 +31,7 @@ impl AddressAllocator {
         self.interval_tree.held_ranges_in(range)
     }
 
-    /// Returns whether exactly this range is allocated.
+    /// Returns `true` if exactly this range is allocated.
     ///
     /// Returns `false` for a part of an allocated range and for a free range. It descends one path
     /// of the tree and does not allocate.

@@ -15,7 +15,7 @@ impl PartialEq for IdAllocator {
 
     ghost laws = { Prim.search (comparing, id_state_cmp-total, rules) };
 
-    /// Returns whether both allocators have the same range, the same allocated ids and the same ids
+    /// Returns `true` if both allocators have the same range, the same allocated ids and the same ids
     /// that were allocated at some time.
     ///
     /// It stops at the first difference and does not allocate memory.
@@ -32,7 +32,7 @@ impl Eq for IdAllocator {
 }
 
 impl IdAllocator {
-    /// Returns whether both allocators have the same range and the same ids that were allocated at
+    /// Returns `true` if both allocators have the same range and the same ids that were allocated at
     /// some time.
     #[tactic(auto, using(crate::proofs::Ids::ComparedIds::same_next), unfolding(crate::specs::Ids::ids_of))]
     fn has_bounds_of(&self, other: &IdAllocator) -> bool
@@ -44,7 +44,7 @@ impl IdAllocator {
     }
 }
 
-/// Returns whether both sets have the same ids.
+/// Returns `true` if both sets have the same ids.
 #[tactic(auto, using(crate::proofs::Ids::ComparedIds::equal_lists))]
 fn same_set(a: &BTreeSet<u32>, b: &BTreeSet<u32>) -> bool
     ensures same { IsTrue result ↔ (a.now.keys ≡ b.now.keys) }

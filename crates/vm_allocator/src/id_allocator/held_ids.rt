@@ -1,7 +1,7 @@
 //! The allocated ids, as an iterator from both ends.
 //!
-//! It walks over the ids that were allocated at some time, and beside them over the freed ids: with
-//! one iterator for each end.
+//! It walks over the ids that were allocated at some time, and beside them over the freed ids. Each
+//! end has its own iterator over the freed ids, so the ends share nothing but the bounds.
 ghost use Rattle.std.specs.Prelude.{◌≡◌, length};
 ghost use Rattle.std.specs.Iterator.{YieldsFirst, YieldsLast, item_count};
 ghost use Rattle.vm_allocator.specs.Ids.{held_ids};

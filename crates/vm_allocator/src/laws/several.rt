@@ -10,7 +10,7 @@ ghost use Rattle.vm_allocator.specs.Laws.SeveralLaws.{
 
 /// States that ranges which are allocated from the start are allocated as if one after the other.
 ///
-/// The allocator is equal to the one that allocated them. If the ranges are increasing, the first one
+/// The allocator is equal to the one that allocated them. If the ranges are ascending, the first one
 /// that cannot be allocated has the error that it would have there.
 fn held_is_allocated()
     ensures state { HeldAsAllocated }

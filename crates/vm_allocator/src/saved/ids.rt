@@ -65,10 +65,10 @@ fn encode_next(next: Option<u32>) -> Value
     }
 }
 
-/// Encodes the freed ids as a list, in increasing order.
+/// Encodes the freed ids as a list, in ascending order.
 fn encode_ids(alloc: Global, ids: &BTreeSet<u32>) -> std::result::Result<Value, AllocError>
     ensures answer { IfOk result (λ list. EncodesList (view list) ids.now.keys) }
-    ensures increasing { IsStrictlySortedBy nat_cmp ids.now.keys }
+    ensures ascending { IsStrictlySortedBy nat_cmp ids.now.keys }
 {
     let mut list = Vec::new(alloc);
     for id in ids.iter() {
@@ -141,7 +141,7 @@ fn next_in(value: &Value, name: &str) -> Option<Option<u32>>
 }
 
 /// Returns the first and the last of the items. Returns `None` if they are not 32-bit numbers in
-/// strictly increasing order.
+/// strictly ascending order.
 fn ends_in(list: &[Value]) -> Option<Option<Ends>>
     ensures { result ≡ option_map ends_of (ids_in (items_view list.now)) }
 {
@@ -153,7 +153,7 @@ fn ends_in(list: &[Value]) -> Option<Option<Ends>>
     Some(ends)
 }
 
-/// Collects the items, which are 32-bit numbers in strictly increasing order.
+/// Collects the items, which are 32-bit numbers in strictly ascending order.
 fn collect_ids(alloc: Global, list: &[Value]) -> std::result::Result<ReadIds, SavedError>
     requires { IsSome (ids_in (items_view list.now)) }
     ensures { MatchResult result (λ ids. ids_in (items_view list.now) ≡ Some ids)

@@ -14,7 +14,7 @@ use std::collections::BTreeSet;
 use std::marker::Model;
 use vm_ranges::{Condition, SavedError};
 
-/// The freed ids of a saved id allocator that were read so far, in increasing order.
+/// The freed ids of a saved id allocator that were read so far, in ascending order.
 ///
 /// Its model is the list of these ids.
 #[derive(Debug, Drop)]
@@ -24,7 +24,7 @@ pub struct ReadIds {
     ends: Option<Ends>,
 }
 
-/// The first and the last of several ids in increasing order.
+/// The first and the last of several ids in ascending order.
 #[derive(Clone, Copy, Debug)]
 pub(super) struct Ends {
     first: u32,
@@ -145,7 +145,7 @@ pub(super) fn check_parts(
     Ok(())
 }
 
-/// Returns whether `next` can be the next id of the range from `base` to `end`.
+/// Returns `true` if `next` can be the next id of the range from `base` to `end`.
 fn is_next(next: Option<u32>, base: u32, end: u32) -> bool
     ensures value { result ≡ is_next next base end }
     ensures valid { IsTrue result ↔ IsNext base end next }
@@ -156,7 +156,7 @@ fn is_next(next: Option<u32>, base: u32, end: u32) -> bool
     }
 }
 
-/// Returns whether all ids between these ends are at least `lowest` and below `bound`.
+/// Returns `true` if all ids between these ends are at least `lowest` and below `bound`.
 #[tactic(auto, using(crate::proofs::Ids::FreedParts::bounds))]
 fn are_within(ends: Option<Ends>, lowest: u64, bound: u64) -> bool
     ensures { (ids : List ℕ) → AreEndsOf ends ids

@@ -15,7 +15,7 @@ impl PartialEq for DeviceManager {
 
     ghost laws = { Prim.search (comparing, device_state_cmp-total, rules) };
 
-    /// Returns whether both managers have equal allocators and the same devices.
+    /// Returns `true` if both managers have equal allocators and the same devices.
     ///
     /// It stops at the first difference and does not allocate.
     fn eq(&self, other: &DeviceManager) -> bool
@@ -31,7 +31,7 @@ impl Eq for DeviceManager {
 }
 
 impl DeviceManager {
-    /// Returns whether both managers have equal allocators.
+    /// Returns `true` if both managers have equal allocators.
     #[tactic(auto, using(crate::proofs::WrittenManagers::spaces))]
     fn has_allocators_of(&self, other: &DeviceManager) -> bool
         ensures same { IsTrue result ↔ HaveSameAllocators self.now other.now }
@@ -41,7 +41,7 @@ impl DeviceManager {
     }
 }
 
-/// Returns whether both iterators return the same devices.
+/// Returns `true` if both iterators return the same devices.
 fn same_devices(mut a: Devices<'_>, mut b: Devices<'_>) -> bool
     ensures { IsTrue result ↔ (a.entry ≡ b.entry) }
 {

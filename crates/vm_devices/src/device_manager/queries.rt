@@ -10,7 +10,7 @@ use crate::device_slot::DeviceSlot;
 use vm_allocator::{AddressAllocator, IdAllocator};
 
 impl DeviceManager {
-    /// Returns an iterator over the devices, by increasing ids.
+    /// Returns an iterator over the devices, by ascending ids.
     ///
     /// It does not allocate.
     pub fn devices(&self) -> Devices<'_>

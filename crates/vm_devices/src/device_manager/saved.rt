@@ -19,7 +19,7 @@ use vm_ranges::{has_fields, list_in, number_in};
 
 impl DeviceManager {
     /// Encodes the manager as a value: its version, its ids, its space and its devices, by
-    /// increasing ids.
+    /// ascending ids.
     ///
     /// # Errors
     ///
@@ -43,7 +43,7 @@ impl DeviceManager {
     /// - `NotAState` if one of these is true:
     ///   - The fields or the version are not those of a manager.
     ///   - A part of the value is not valid.
-    ///   - The ids of the devices are not in increasing order.
+    ///   - The ids of the devices are not in ascending order.
     ///   - The id or the range of a device is not allocated.
     ///   - An allocated id or range has no device.
     ///   - Two devices have the same range.

@@ -96,7 +96,7 @@ impl Slots {
         })
     }
 
-    /// Returns an iterator over the devices, by increasing ids. `count` is their number.
+    /// Returns an iterator over the devices, by ascending ids. `count` is their number.
     #[tactic(auto, using(crate::proofs::Slots::listings))]
     pub(super) fn iter(&self, count: u64) -> Devices<'_>
         requires { count ≡ map.len self.now }
@@ -168,7 +168,7 @@ fn extend_to(slots: &mut Vec<Option<RangeInclusive>>, index: usize) -> Result<()
     Ok(())
 }
 
-/// An iterator over the devices, by increasing ids, or backwards. It does not allocate.
+/// An iterator over the devices, by ascending ids, or backwards. It does not allocate.
 ///
 /// It visits each id between the lowest and the highest that had a device. Its model is the list of
 /// the devices that it has not returned yet.
@@ -216,7 +216,7 @@ impl<'a> Iterator for Devices<'a> {
         None
     }
 
-    /// Returns the number of devices that are left, twice.
+    /// Returns the number of devices that are left, as both bounds.
     fn size_hint(&self) -> (usize, Option<usize>) {
         (self.left, Some(self.left))
     }

@@ -77,7 +77,7 @@ module _ (space : Range) (held : List Range) (range : IsRange space.start space.
         tree = built_tree;
         held_count = ap length (sym held_are);
         gap_count = omega (arith, count, all_blocks (blocks s), ap length held_are, ap length blocks_are);
-        clear_count = omega (arith, f, all, ap count_of held_are, range.0);
+        free_len = omega (arith, f, all, ap count_of held_are, range.0);
       }
 
   pub built_state : tree_state s ≡ state

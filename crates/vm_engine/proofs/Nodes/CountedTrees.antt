@@ -142,7 +142,7 @@ gap_counted s held gaps clear place h i =
 pub place_fits : (s : Shape) (held gaps clear : ℕ) (place : Place) → IsCountedTree s held gaps clear → IsChosenPlace (blocks s) place → address_count place.range ≤ clear
 place_fits s held gaps clear place h i =
     let all = ap (λ (v : List Block). count_of (free_of v)) i.cut in
-    omega (arith, h.clear_count, all, clear_middle i.before i.after (free_block place.key) refl, i.within.from, i.within.some, i.within.upto)
+    omega (arith, h.free_len, all, clear_middle i.before i.after (free_block place.key) refl, i.within.from, i.within.some, i.within.upto)
 
 module _ (s n : Shape) (held gaps clear : ℕ) (place : Place) (h : IsCountedTree s held gaps clear) (i : IsChosenPlace (blocks s) place) (c : Splits (blocks s) place.key place.range (blocks n)) (l : height_of n ≤ 49) where
   taken_tree : IsSpaceTree n
@@ -168,7 +168,7 @@ module _ (s n : Shape) (held gaps clear : ℕ) (place : Place) (h : IsCountedTre
     tree = taken_tree;
     held_count = omega (arith, h.held_count, more.held);
     gap_count = omega (arith, f, h.gap_count, more.held, more_blocks, all_blocks (blocks s), all_blocks (blocks n));
-    clear_count = omega (arith, e, h.clear_count, more.clear);
+    free_len = omega (arith, e, h.free_len, more.clear);
   }
 
 -- ---- The counts after a range is freed
@@ -224,12 +224,12 @@ module _ (s m : Shape) (held gaps clear : ℕ) (k : Range) (n : Neighbours) (h :
   freed_held = omega (arith, h.held_count, less.held)
 
   pub freed_fits : clear + address_count k ≤ MAX
-  freed_fits = omega (arith, clear_in_tree m freed_tree, h.clear_count, less.clear)
+  freed_fits = omega (arith, clear_in_tree m freed_tree, h.free_len, less.clear)
 
   pub freed_counted : (left count : ℕ) → left + one_if_some n.before + one_if_some n.after ≡ gaps → count ≡ address_count k → IsCountedTree m (held - 1) (left + 1) (clear + count)
   freed_counted left count b g = record {
     tree = freed_tree;
     held_count = omega (arith, h.held_count, less.held);
     gap_count = omega (arith, b, h.gap_count, less.held, fewer_blocks, all_blocks (blocks s), all_blocks (blocks m));
-    clear_count = omega (arith, g, h.clear_count, less.clear);
+    free_len = omega (arith, g, h.free_len, less.clear);
   }

@@ -10,7 +10,7 @@ pub record IsCountedTree (s : Shape) (held gaps clear : ℕ) : Type 0 where
   pub tree : IsSpaceTree s
   pub held_count : held ≡ length (held_of (blocks s))
   pub gap_count : gaps ≡ length (free_of (blocks s))
-  pub clear_count : clear ≡ count_of (free_of (blocks s))
+  pub free_len : clear ≡ count_of (free_of (blocks s))
 
 -- One if there is a value, otherwise zero.
 abbrev pub one_if_some : {A : Type 0} → Option A → ℕ

@@ -43,7 +43,7 @@ impl IntervalTree {
         join_free(&mut self.root, &mut self.gap_count, key, &beside, count);
         self.held_count -= 1;
         self.gap_count += 1;
-        self.clear_count += key.len();
+        self.free_len += key.len();
         Ok(())
     }
 }

@@ -180,9 +180,9 @@ impl IntervalTree {
 
     /// Returns the number of free addresses. It takes constant time and does not allocate.
     #[tactic(auto, using(crate::proofs::Walking::GapsInTrees::gaps_in_trees))]
-    pub fn clear_count(&self) -> u64
+    pub fn free_len(&self) -> u64
         ensures { result ≡ count_of (gaps_of (tree_state self.now)) }
     {
-        self.clear_count
+        self.free_len
     }
 }

@@ -9,7 +9,7 @@ ghost use Rattle.vm_engine.specs.Laws.SavedLaws.{
 };
 
 /// States what is read and what is written:
-/// - A saved tree of ranges has a span exactly if these are true: its keys are in increasing order and
+/// - A saved tree of ranges has a span exactly if these are true: its keys are in ascending order and
 ///   share no address, no allocated key ends at `u64::MAX`, and nodes are nested at most 50 deep.
 /// - `root` returns, node for node, one saved tree.
 /// - What is written of a tree is a saved tree of its space, node for node, with its state. So the

@@ -13,7 +13,7 @@ use serde_json::Value;
 /// It returns `None` in these cases:
 /// - The value does not encode a tree.
 /// - Nodes are nested deeper than `depth`.
-/// - The keys are not in increasing order, or share an address.
+/// - The keys are not in ascending order, or share an address.
 /// - An allocated key ends at `u64::MAX`.
 #[tactic(auto, unfolding(crate::specs::Checks::ValueSpans::checked_nodes))]
 pub(super) fn check_nodes(value: &Value, depth: u64) -> Option<Option<Span>>

@@ -32,7 +32,7 @@ impl IntervalTree {
     /// - `NotAState` if one of these is true:
     ///   - The fields are not those of nodes.
     ///   - Nodes are nested more than 50 deep.
-    ///   - The keys are not in increasing order, overlap, or are not in the space.
+    ///   - The keys are not in ascending order, overlap, or are not in the space.
     ///   - An allocated key ends at `u64::MAX`.
     ///   - More than 6,293,134,512 keys are allocated.
     /// - `OutOfMemory` if an allocation fails.

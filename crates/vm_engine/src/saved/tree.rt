@@ -60,7 +60,7 @@ impl IntervalTree {
             root,
             held_count: counts.held,
             gap_count: counts.gaps,
-            clear_count: counts.clear,
+            free_len: counts.clear,
         })
     }
 }

@@ -10,7 +10,7 @@ use crate::block::Block;
 use std::alloc::{AllocError, Global};
 use vm_ranges::{NodeState, RangeInclusive};
 
-/// The blocks of a space in increasing order.
+/// The blocks of a space in ascending order.
 #[derive(Drop)]
 pub struct WrittenBlocks {
     list: Vec<Block>,

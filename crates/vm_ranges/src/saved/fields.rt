@@ -8,7 +8,7 @@ ghost use Rattle.vm_ranges.specs.Fields.{field_count, is_count};
 
 use serde_json::Value;
 
-/// Returns whether the value is an object with exactly `count` fields.
+/// Returns `true` if the value is an object with exactly `count` fields.
 #[tactic(auto, using(crate::proofs::FieldSteps::counts))]
 pub fn has_fields(value: &Value, count: usize) -> bool
     ensures { result ≡ is_count count (field_count (view value.now)) }

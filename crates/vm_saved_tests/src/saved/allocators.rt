@@ -88,7 +88,7 @@ fn blocks_that_are_none_of_a_space(rt: HostRuntime) {
         r#"{"address_space":{"start":1,"end":18446744073709551615},"interval_tree":{"root":{
             "key":{"start":1,"end":18446744073709551615},"node_state":"Allocated",
             "left":null,"right":null,"height":1}}}"#,
-        // A tree that is not balanced, and a tree whose keys are not in increasing order.
+        // A tree that is not balanced, and a tree whose keys are not in ascending order.
         r#"{"address_space":{"start":0,"end":2},"interval_tree":{"root":{
             "key":{"start":0,"end":0},"node_state":"Allocated","left":null,"right":{
             "key":{"start":1,"end":1},"node_state":"Allocated","left":null,"right":{

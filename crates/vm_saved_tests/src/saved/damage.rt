@@ -62,7 +62,7 @@ enum Asked {
 }
 
 impl Asked {
-    /// Returns whether the value of the joined parts encodes an object.
+    /// Returns `true` if the value of the joined parts encodes an object.
     fn accepts(self, rt: &(impl Abort + AllocGlobal), parts: &[&str]) -> bool {
         let text = match joined(rt.alloc(), parts) {
             Ok(text) => text,
@@ -79,7 +79,7 @@ impl Asked {
     }
 }
 
-/// Returns whether the value is valid without the field.
+/// Returns `true` if the value is valid without the field.
 fn accepts_without(rt: &(impl Abort + AllocGlobal), asked: Asked, field: Field<'_>) -> bool {
     if let Some(after) = field.after.strip_prefix(',') {
         return asked.accepts(rt, &[field.before, after]);
@@ -89,7 +89,7 @@ fn accepts_without(rt: &(impl Abort + AllocGlobal), asked: Asked, field: Field<'
     asked.accepts(rt, &[before, field.after])
 }
 
-/// Returns whether the value is valid with the field doubled under another name.
+/// Returns `true` if the value is valid with the field doubled under another name.
 fn accepts_doubled(rt: &(impl Abort + AllocGlobal), asked: Asked, field: Field<'_>) -> bool {
     let Field {
         before,
@@ -101,7 +101,7 @@ fn accepts_doubled(rt: &(impl Abort + AllocGlobal), asked: Asked, field: Field<'
     asked.accepts(rt, &parts)
 }
 
-/// Returns whether the value is valid with this value of the field.
+/// Returns `true` if the value is valid with this value of the field.
 fn accepts_with(
     rt: &(impl Abort + AllocGlobal),
     asked: Asked,

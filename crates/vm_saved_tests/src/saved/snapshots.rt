@@ -44,7 +44,7 @@ const END_AT_LAST_BUT_ONE: &str = r#"{"address_space":{"start":1,"end":184467440
 "node_state":"Free","left":{"key":{"start":1,"end":18446744073709551613},"node_state":"Free","left":null,
 "right":null,"height":1},"right":null,"height":2}}}"#;
 
-/// Sixty ranges, allocated in increasing order.
+/// Sixty ranges, allocated in ascending order.
 const SIXTY_SLOTS: &str =
     r#"{"address_space":{"start":1048576,"end":2097151},"interval_tree":{"root":{"key":{"start":1556512,
 "end":1556527},"node_state":"Allocated","left":{"key":{"start":1294416,"end":1294431},

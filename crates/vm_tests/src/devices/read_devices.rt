@@ -10,7 +10,7 @@ fn parts(device: DeviceSlot) -> (u32, u64, u64) {
     (device.id, device.range.start(), device.range.end())
 }
 
-/// Returns whether exactly these are the devices, from both ends, and with their number.
+/// Returns `true` if exactly these are the devices, from both ends, and with their number.
 fn are_devices(devices: &DeviceManager, want: &[(u32, u64, u64)]) -> bool {
     let (mut up, mut down) = (devices.devices(), devices.devices());
     if up.len() != want.len() || devices.device_count() != want.len() as u64 {

@@ -1,7 +1,7 @@
 //! Tests of the lists of the allocated and the freed ids, of the next id, and of equality.
 use super::*;
 
-/// Returns whether exactly these ids are allocated, from both ends, and with their number.
+/// Returns `true` if exactly these ids are allocated, from both ends, and with their number.
 fn holds_exactly(ids: &IdAllocator, want: &[u32]) -> bool {
     let (mut up, mut down) = (ids.held_ids(), ids.held_ids());
     if up.count_left() != want.len() as u64 {

@@ -79,7 +79,7 @@ fn spaces() {
         let numbers = (space.held_count(), space.held_ranges().count() as u64);
         assert_eq!(numbers, (HELD, HELD));
         assert_eq!(space.gaps().count() as u64, HELD);
-        assert!(space.longest_gap() < space.clear_count());
+        assert!(space.longest_gap() < space.free_len());
     });
     // Several ranges in one call: their list, and one node for each part of a gap that remains.
     let splits: Vec<_> = (1..HELD).map(|gap| request(1, 16 * gap - 6)).collect();

@@ -97,7 +97,7 @@ fn changes() {
     }
 }
 
-/// A walk on two spaces, of which the second has no range at [`first`]. Returns whether its result is right.
+/// A walk on two spaces, of which the second has no range at [`first`]. Returns `true` if its result is right.
 type Walk = fn(&AddressAllocator, &AddressAllocator) -> bool;
 
 /// The first allocated range.
@@ -112,7 +112,7 @@ fn both() -> RangeInclusive {
 
 /// A walk descends once for each end of a tree, and once in each of two trees. Numbers of the whole
 /// tree are stored in its root.
-const WALKS: [(&str, u64, Walk); 20] = [
+const WALKS: [(&str, u64, Walk); 22] = [
     ("==", 2, |a, b| a != b),
     ("<", 2, |a, b| a < b),
     ("cmp", 2, |a, b| a.cmp(b).is_lt()),
@@ -142,7 +142,8 @@ const WALKS: [(&str, u64, Walk); 20] = [
     ("ends", 0, |a, _| a.base() < a.end()),
     ("lengths", 0, |a, _| a.longest_gap() == 15 && a.height() > 0),
     ("held", 0, |a, b| a.held_count() == b.held_count() + 1),
-    ("clear", 0, |a, b| a.clear_count() < b.clear_count()),
+    ("gaps", 0, |a, b| a.gap_count() == b.gap_count()),
+    ("clear", 0, |a, b| a.free_len() < b.free_len()),
 ];
 
 #[test]

@@ -147,7 +147,7 @@ fn free(
     }
 }
 
-/// Returns whether a gap of one address is next to a range.
+/// Returns `true` if a gap of one address is next to a range.
 fn has_small_neighbour(space: &AddressAllocator, range: RangeInclusive) -> bool {
     let is_small_gap = |address: Option<u64>| {
         let block = address.and_then(|address| block_of(space, address));

@@ -1,5 +1,5 @@
-//! What a monitor has without an allocator: an ordered map of ranges, with a walk over all gaps for each
-//! request, and an ordered set of freed ids.
+//! A monitor without an allocator has an ordered map of ranges, with a walk over all gaps for each request,
+//! and an ordered set of freed ids.
 
 use crate::workload::{Answer, Library, Place};
 use std::collections::{BTreeMap, BTreeSet};

@@ -351,7 +351,7 @@ impl<T: Ord + Copy> BTreeSet<T> {
         self.0.chunks.last()?.last().map(|(value, ())| value)
     }
 
-    /// Returns whether the set has the value.
+    /// Returns `true` if the set has the value.
     #[must_use]
     pub fn contains(&self, value: &T) -> bool {
         self.0.find(value).is_some()

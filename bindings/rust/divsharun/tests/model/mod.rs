@@ -18,7 +18,7 @@ impl Model {
         Model { base, held }
     }
 
-    /// Returns whether an address is inside the space and not allocated.
+    /// Returns `true` if an address is inside the space and not allocated.
     fn is_free(&self, address: u128) -> bool {
         let base = u128::from(self.base);
         let is_in = |held: &RangeInclusive| {
@@ -27,7 +27,7 @@ impl Model {
         (base..base + u128::from(WIDTH)).contains(&address) && !self.held.iter().any(is_in)
     }
 
-    /// Returns whether each address of a range is free and in the window of the request.
+    /// Returns `true` if each address of a range is free and in the window of the request.
     pub fn fits(&self, start: u64, request: Constraint) -> bool {
         let first = u128::from(start);
         (first..first + u128::from(request.size()))

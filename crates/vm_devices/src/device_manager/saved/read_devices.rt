@@ -5,7 +5,7 @@ ghost use Rattle.vm_engine.specs.Address.{IsAddressState};
 ghost use Rattle.vm_allocator.specs.Allocator.{state_of};
 ghost use Rattle.vm_allocator.specs.Ids.{IsIdState};
 ghost use Rattle.vm_devices.specs.Devices.{IsDeviceState};
-ghost use Rattle.vm_devices.specs.Listed.{HaveIncreasingIds, PushesDevice, MakesOfDevices};
+ghost use Rattle.vm_devices.specs.Listed.{HaveAscendingIds, PushesDevice, MakesOfDevices};
 ghost use Rattle.vm_devices.specs.SavedChecks.{CanBeInserted, PairsDevices};
 
 use crate::device_manager::DeviceManager;
@@ -30,18 +30,18 @@ pub struct ReadDevices {
 impl Model for ReadDevices {
     ghost use Rattle.std.specs.Prelude.{List};
     ghost use Rattle.vm_devices.specs.declared.device_slot.DeviceSlot.{DeviceSlot};
-    ghost use Rattle.vm_devices.specs.Listed.{HaveIncreasingIds};
+    ghost use Rattle.vm_devices.specs.Listed.{HaveAscendingIds};
 
     ghost Value = { List DeviceSlot };
 
     ghost view = { λ d. d.devices.items };
 
-    ghost invariant = { λ d. HaveIncreasingIds d.devices.items };
+    ghost invariant = { λ d. HaveAscendingIds d.devices.items };
 }
 
 impl ReadDevices {
     /// Creates a list without devices. It does not allocate.
-    #[tactic(auto, using(crate::proofs::IncreasingIds::none_rises))]
+    #[tactic(auto, using(crate::proofs::AscendingIds::none_rises))]
     pub fn new(alloc: Global) -> Self
         ensures { result ≡ [] }
     {
@@ -69,10 +69,10 @@ impl ReadDevices {
         Ok(())
     }
 
-    /// Returns whether the id of the device is above the ids of the devices before it.
-    #[tactic(auto, using(crate::proofs::IncreasingIds::pushes))]
+    /// Returns `true` if the id of the device is above the ids of the devices before it.
+    #[tactic(auto, using(crate::proofs::AscendingIds::pushes))]
     fn can_be_next(&self, device: &DeviceSlot) -> bool
-        ensures { IsTestOf result (HaveIncreasingIds (self.now ++ device.now ∷ [])) }
+        ensures { IsTestOf result (HaveAscendingIds (self.now ++ device.now ∷ [])) }
     {
         match self.devices.last() {
             Some(last) => last.id < device.id,
@@ -127,7 +127,7 @@ fn pair_devices(
     space: &AddressAllocator,
     devices: &[DeviceSlot],
 ) -> Result<DeviceTable, SavedError>
-    requires { HaveIncreasingIds devices.now }
+    requires { HaveAscendingIds devices.now }
     ensures answer { PairsDevices ids.now (state_of space.now) devices.now result }
     ensures valid { IsIdState ids.now × IsAddressState (state_of space.now) }
 {
@@ -148,7 +148,7 @@ fn pair_devices(
     Ok(table)
 }
 
-/// Returns whether the id and the range of the device are allocated, and no device of the table has
+/// Returns `true` if the id and the range of the device are allocated, and no device of the table has
 /// the same start.
 fn can_be_inserted(
     ids: &IdAllocator,

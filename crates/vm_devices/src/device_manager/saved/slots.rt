@@ -42,7 +42,7 @@ fn slot_object(alloc: Global, id: u32, range: Value) -> std::result::Result<Valu
 }
 
 /// Reads the devices of a list. Returns `NotAState` if an item is not a device, or if the ids are
-/// not in strictly increasing order.
+/// not in strictly ascending order.
 pub(super) fn read_slots(
     alloc: Global,
     list: &[Value],

@@ -165,7 +165,7 @@ impl<'a> WalkBothEnds<'a> {
         }
     }
 
-    /// Returns whether no block is left.
+    /// Returns `true` if no block is left.
     #[tactic(auto, using(crate::proofs::Walking::BothEnds::emptiness))]
     fn is_empty(&self) -> bool
         ensures { IsTrue result ↔ (self.now ≡ []) }

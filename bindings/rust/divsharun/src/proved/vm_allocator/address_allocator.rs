@@ -51,7 +51,7 @@ impl AddressAllocator {
     }
 
     /// Creates an allocator of the `size` addresses that start at `base`, with these ranges allocated.
-    /// They must be in increasing order.
+    /// They must be in ascending order.
     ///
     /// Its tree has the minimum height for its nodes. It takes time linear in the number of ranges.
     ///

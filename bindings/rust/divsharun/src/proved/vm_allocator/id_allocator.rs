@@ -140,7 +140,7 @@ impl IdAllocator {
         }
     }
 
-    /// Returns whether the id is allocated. Returns `false` for an id outside the range.
+    /// Returns `true` if the id is allocated. Returns `false` for an id outside the range.
     pub fn is_allocated(&self, id: u32) -> bool {
         self.was_allocated(id) && !self.freed_ids.contains(&id)
     }
@@ -177,12 +177,12 @@ impl IdAllocator {
         }
     }
 
-    /// Returns whether the id is in the range.
+    /// Returns `true` if the id is in the range.
     fn id_in_range(&self, id: u32) -> bool {
         self.range_base <= id && id <= self.range_end
     }
 
-    /// Returns whether the id was allocated at some time.
+    /// Returns `true` if the id was allocated at some time.
     fn was_allocated(&self, id: u32) -> bool {
         match self.next_id {
             Some(next_id) => self.range_base <= id && id < next_id,

@@ -44,7 +44,7 @@ pub struct IntervalTree {
     pub(in crate::proved::vm_engine) gap_count: u64,
     pub(in crate::proved::vm_engine) root: Child,
     /// The number of free addresses.
-    pub(in crate::proved::vm_engine) clear_count: u64,
+    pub(in crate::proved::vm_engine) free_len: u64,
 }
 
 impl IntervalTree {
@@ -61,7 +61,7 @@ impl IntervalTree {
             root: Some(node),
             held_count: 0,
             gap_count: 1,
-            clear_count: key.len(),
+            free_len: key.len(),
         })
     }
 
@@ -75,7 +75,7 @@ impl IntervalTree {
             root: Some(copy(self.root(), alloc)?),
             held_count: self.held_count,
             gap_count: self.gap_count,
-            clear_count: self.clear_count,
+            free_len: self.free_len,
         })
     }
 

@@ -53,7 +53,7 @@ fn chunk_value(text: &[u8]) -> (u64, usize) {
     }
 }
 
-/// Returns whether all bytes are digits. It checks every byte, so that they can be compared
+/// Returns `true` if all bytes are digits. It checks every byte, so that they can be compared
 /// together.
 #[inline(always)]
 fn are_digits(prefix: &[u8; CHUNK]) -> bool {

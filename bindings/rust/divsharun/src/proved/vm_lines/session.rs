@@ -71,7 +71,7 @@ impl Session {
         self.filled = end;
     }
 
-    /// Returns whether a line has begun.
+    /// Returns `true` if a line has begun.
     pub(in crate::proved::vm_lines) fn has_begun(&self) -> bool {
         self.is_too_long || self.filled > 0
     }

@@ -64,12 +64,12 @@ impl RangeInclusive {
         1 + (self.end - self.start)
     }
 
-    /// Returns whether an address is in both ranges.
+    /// Returns `true` if an address is in both ranges.
     pub const fn overlaps(&self, other: &RangeInclusive) -> bool {
         other.start <= self.end && self.start <= other.end
     }
 
-    /// Returns whether every address of `other` is in this range.
+    /// Returns `true` if every address of `other` is in this range.
     pub const fn contains(&self, other: &RangeInclusive) -> bool {
         other.start >= self.start && other.end <= self.end
     }

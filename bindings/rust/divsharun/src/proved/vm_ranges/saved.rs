@@ -44,7 +44,7 @@ impl<T> From<AllocFailed<T>> for ValueError {
 pub enum Condition {
     /// Nodes are nested at most 50 deep.
     Nesting,
-    /// Keys are in increasing order and share no address, no allocated key ends at `u64::MAX`, and
+    /// Keys are in ascending order and share no address, no allocated key ends at `u64::MAX`, and
     /// nodes are nested at most 50 deep.
     Keys,
     /// All keys are in the space, and at most 6,293,134,512 keys are allocated.
@@ -52,7 +52,7 @@ pub enum Condition {
     /// The tree is balanced, its heights are correct, its keys cover the space, and no two free ones
     /// are neighbours.
     Tree,
-    /// The ids of a list are in strictly increasing order.
+    /// The ids of a list are in strictly ascending order.
     Order,
     /// `range_base` is not past `range_end`.
     IdRange,

@@ -4,7 +4,7 @@ use Rattle.vm_ranges.specs.Numbers.{whole_number}
 use Rattle.vm_ranges.proofs.NumberSteps.{u32-some}
 use Rattle.vm_allocator.specs.Checks.IdChecks.{ids_in}
 use Rattle.vm_allocator.proofs.Ids.AddedIds.{no_ends}
-use Rattle.vm_allocator.proofs.Ids.IncreasingNumbers.{none_gathered, one_gathered, low_id}
+use Rattle.vm_allocator.proofs.Ids.AscendingNumbers.{none_gathered, one_gathered, low_id}
 use Rattle.vm_allocator.proofs.saved.ids.ends_in.Goals as goal
 
 pub loop-item-init : goal.loop-item-init

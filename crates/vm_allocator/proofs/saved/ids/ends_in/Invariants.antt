@@ -1,6 +1,6 @@
 use Rattle.std.proofs.Common.{ℕ, List}
 use Rattle.vm_allocator.specs.Checks.FreedChecks.{AreEndsOf}
-use Rattle.vm_allocator.proofs.Ids.IncreasingNumbers.{Gathers}
+use Rattle.vm_allocator.proofs.Ids.AscendingNumbers.{Gathers}
 use Rattle.vm_allocator.proofs.saved.ids.ends_in.Given as goal
 
 -- The ends are those of the ids so far.

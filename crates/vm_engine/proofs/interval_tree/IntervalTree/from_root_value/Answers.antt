@@ -25,7 +25,7 @@ count_tree-counts-requires-clause-few c =
 pub invariant_of-result : goal.invariant_of-result
 invariant_of-result c =
     let tree = built_tree (view c.args.value.now) c.args.space.now (side c.in_ok-root.root) c.if-not-has_tree_of.ensures.space (sym c.if-not-has_tree_of.ensures.value) c.in_ok-root.ensures in
-    record { tree = tree; held_count = c.count_tree-counts.ensures.held; gap_count = c.count_tree-counts.ensures.gaps; clear_count = c.count_tree-counts.ensures.clear }
+    record { tree = tree; held_count = c.count_tree-counts.ensures.held; gap_count = c.count_tree-counts.ensures.gaps; free_len = c.count_tree-counts.ensures.clear }
 
 pub returns : goal.returns
 returns c = built_states (view c.args.value.now) c.args.space.now (side c.in_ok-root.root) c.if-not-has_tree_of.ensures.space (sym c.if-not-has_tree_of.ensures.value) c.in_ok-root.ensures

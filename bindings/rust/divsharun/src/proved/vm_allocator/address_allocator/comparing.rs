@@ -9,7 +9,7 @@ use super::AddressAllocator;
 use core::cmp::Ordering;
 
 impl PartialEq for AddressAllocator {
-    /// Returns whether both allocators have the same space and the same allocated ranges.
+    /// Returns `true` if both allocators have the same space and the same allocated ranges.
     ///
     /// It stops at the first difference and does not allocate.
     fn eq(&self, other: &AddressAllocator) -> bool {

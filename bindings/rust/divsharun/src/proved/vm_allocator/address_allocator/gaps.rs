@@ -52,7 +52,7 @@ impl AddressAllocator {
     /// Returns the number of free addresses.
     ///
     /// It takes constant time and does not allocate.
-    pub fn clear_count(&self) -> u64 {
-        self.interval_tree.clear_count()
+    pub fn free_len(&self) -> u64 {
+        self.interval_tree.free_len()
     }
 }

@@ -6,7 +6,7 @@ use super::IdAllocator;
 use crate::rattle::BTreeSet;
 
 impl PartialEq for IdAllocator {
-    /// Returns whether both allocators have the same range, the same allocated ids and the same ids
+    /// Returns `true` if both allocators have the same range, the same allocated ids and the same ids
     /// that were allocated at some time.
     ///
     /// It stops at the first difference and does not allocate memory.
@@ -19,7 +19,7 @@ impl Eq for IdAllocator {
 }
 
 impl IdAllocator {
-    /// Returns whether both allocators have the same range and the same ids that were allocated at
+    /// Returns `true` if both allocators have the same range and the same ids that were allocated at
     /// some time.
     fn has_bounds_of(&self, other: &IdAllocator) -> bool {
         self.range_base == other.range_base
@@ -28,7 +28,7 @@ impl IdAllocator {
     }
 }
 
-/// Returns whether both sets have the same ids.
+/// Returns `true` if both sets have the same ids.
 fn same_set(a: &BTreeSet<u32>, b: &BTreeSet<u32>) -> bool {
     // Sets of different lengths differ, and no walk over them is needed.
     let same_length = a.len() == b.len();

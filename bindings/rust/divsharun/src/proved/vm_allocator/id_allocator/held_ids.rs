@@ -2,8 +2,8 @@
 
 //! The allocated ids, as an iterator from both ends.
 //!
-//! It walks over the ids that were allocated at some time, and beside them over the freed ids: with
-//! one iterator for each end.
+//! It walks over the ids that were allocated at some time, and beside them over the freed ids. Each
+//! end has its own iterator over the freed ids, so the ends share nothing but the bounds.
 
 use super::{IdAllocator, bound_of};
 use crate::rattle::btree_set::Iter;

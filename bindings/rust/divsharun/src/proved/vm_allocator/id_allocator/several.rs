@@ -16,7 +16,7 @@ impl IdAllocator {
         ids - self.held_count()
     }
 
-    /// Allocates the `count` lowest free ids, and returns them in increasing order.
+    /// Allocates the `count` lowest free ids, and returns them in ascending order.
     ///
     /// They are the ids that `count` calls of [`allocate_id`](Self::allocate_id) would allocate. Memory is
     /// allocated only for the list.

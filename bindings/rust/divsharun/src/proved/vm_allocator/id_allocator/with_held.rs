@@ -8,7 +8,7 @@ use crate::proved::vm_ranges::{Error, Result};
 
 impl IdAllocator {
     /// Creates an allocator for the ids from `range_base` to `range_end`, both included, in which these
-    /// ids are allocated. They are given in increasing order.
+    /// ids are allocated. They are given in ascending order.
     ///
     /// It is equal to a new allocator after [`allocate_exact`](Self::allocate_exact) of each id. The ids
     /// can be untrusted input. All of them are checked before memory is allocated. Time and memory are

@@ -6,7 +6,7 @@ use super::DeviceManager;
 use super::slots::Devices;
 
 impl PartialEq for DeviceManager {
-    /// Returns whether both managers have equal allocators and the same devices.
+    /// Returns `true` if both managers have equal allocators and the same devices.
     ///
     /// It stops at the first difference and does not allocate.
     fn eq(&self, other: &DeviceManager) -> bool {
@@ -18,13 +18,13 @@ impl Eq for DeviceManager {
 }
 
 impl DeviceManager {
-    /// Returns whether both managers have equal allocators.
+    /// Returns `true` if both managers have equal allocators.
     fn has_allocators_of(&self, other: &DeviceManager) -> bool {
         self.id_allocator == other.id_allocator && self.mmio_allocator == other.mmio_allocator
     }
 }
 
-/// Returns whether both iterators return the same devices.
+/// Returns `true` if both iterators return the same devices.
 fn same_devices(mut a: Devices<'_>, mut b: Devices<'_>) -> bool {
     while let Some(x) = a.next() {
         let Some(y) = b.next() else {

@@ -40,7 +40,7 @@ impl DeviceTable {
         self.slots.get(id)
     }
 
-    /// Returns an iterator over the devices, by increasing ids. `count` is their number.
+    /// Returns an iterator over the devices, by ascending ids. `count` is their number.
     pub(super) fn iter(&self, count: u64) -> Devices<'_> {
         self.slots.iter(count)
     }

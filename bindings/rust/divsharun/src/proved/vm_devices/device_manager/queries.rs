@@ -9,7 +9,7 @@ use crate::proved::vm_devices::device_slot::DeviceSlot;
 use crate::proved::vm_allocator::{AddressAllocator, IdAllocator};
 
 impl DeviceManager {
-    /// Returns an iterator over the devices, by increasing ids.
+    /// Returns an iterator over the devices, by ascending ids.
     ///
     /// It does not allocate.
     pub fn devices(&self) -> Devices<'_> {

@@ -45,7 +45,7 @@ impl IntervalTree {
             );
             self.held_count += 1;
             self.gap_count -= 1;
-            self.clear_count -= place.range.len();
+            self.free_len -= place.range.len();
             return Ok(place.range);
         }
         if self.height() >= SPLIT_HEIGHT_LIMIT {
@@ -55,7 +55,7 @@ impl IntervalTree {
         let mut split = Split { place, rest };
         self.held_count += 1;
         count_rest(&mut self.gap_count, &split.rest);
-        self.clear_count -= place.range.len();
+        self.free_len -= place.range.len();
         split_gap(&mut self.root, &mut split, edge, count);
         Ok(place.range)
     }
@@ -66,7 +66,7 @@ fn needs_split(place: &Place) -> bool {
     place.key.start() < place.range.start() || place.range.end() < place.key.end()
 }
 
-/// Counts the parts of a free block in place of the block.
+/// Replaces the free block of a split by its parts in the number of gaps.
 fn count_rest(gaps: &mut u64, rest: &Rest) {
     if rest.before.is_some() && rest.after.is_some() {
         *gaps += 1;

@@ -16,7 +16,7 @@ use crate::proved::vm_ranges::{Error, ListError, RangeInclusive, Result};
 const TOO_MANY_BLOCKS: u64 = 1 << 49;
 
 impl IntervalTree {
-    /// Creates the tree of the space `key` with these ranges allocated. They must be in increasing
+    /// Creates the tree of the space `key` with these ranges allocated. They must be in ascending
     /// order. The tree has the minimum height for its nodes.
     ///
     /// `AddressAllocator::with_held` documents the errors.
@@ -39,7 +39,7 @@ impl IntervalTree {
             root,
             held_count: held.len() as u64,
             gap_count: count - held.len() as u64,
-            clear_count: count_left(&key, held),
+            free_len: count_left(&key, held),
         })
     }
 }

@@ -126,7 +126,7 @@ impl IntervalTree {
     }
 
     /// Returns the number of free addresses. It takes constant time and does not allocate.
-    pub fn clear_count(&self) -> u64 {
-        self.clear_count
+    pub fn free_len(&self) -> u64 {
+        self.free_len
     }
 }

@@ -13,7 +13,7 @@ use crate::proved::vm_ranges::{Condition, NodeState, RangeInclusive, SavedError}
 
 /// The nodes of a saved tree that were read so far.
 pub struct ReadNodes {
-    // The allocated keys of all nodes that ended. Those of a node are in increasing order.
+    // The allocated keys of all nodes that ended. Those of a node are in ascending order.
     held: Vec<RangeInclusive>,
     // The number of nodes that began and did not end.
     depth: u64,
@@ -52,7 +52,7 @@ impl ReadNodes {
     ///
     /// In this order:
     /// - `Violated(Keys)` if one of these is true:
-    ///   - The keys are not in increasing order, or share an address.
+    ///   - The keys are not in ascending order, or share an address.
     ///   - The key is allocated and ends at `u64::MAX`.
     ///   - Nodes are nested more than 50 deep.
     /// - `OutOfMemory` if an allocation fails.

@@ -16,7 +16,7 @@ const MAX_HELD: u64 = 6_293_134_512;
 
 /// A subtree of a saved tree that was read, without its nodes.
 ///
-/// Its keys are in increasing order and share no address, no allocated key ends at `u64::MAX`, and
+/// Its keys are in ascending order and share no address, no allocated key ends at `u64::MAX`, and
 /// its nodes are nested at most 50 deep.
 #[derive(Clone, Copy, Debug)]
 pub struct Span {
@@ -38,7 +38,7 @@ pub struct Span {
 }
 
 /// Returns the span of a node. Returns `None` in these cases:
-/// - The keys are not in increasing order, or share an address.
+/// - The keys are not in ascending order, or share an address.
 /// - The key is allocated and ends at `u64::MAX`.
 /// - Nodes are nested more than 50 deep.
 pub(super) fn span_over(

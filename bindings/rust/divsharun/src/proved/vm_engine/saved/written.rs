@@ -10,7 +10,7 @@ use crate::proved::vm_engine::block::Block;
 use crate::rattle::{AllocError, Global};
 use crate::proved::vm_ranges::{NodeState, RangeInclusive};
 
-/// The blocks of a space in increasing order.
+/// The blocks of a space in ascending order.
 pub struct WrittenBlocks {
     list: Vec<Block>,
 }

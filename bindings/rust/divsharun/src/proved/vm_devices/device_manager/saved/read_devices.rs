@@ -46,7 +46,7 @@ impl ReadDevices {
         Ok(())
     }
 
-    /// Returns whether the id of the device is above the ids of the devices before it.
+    /// Returns `true` if the id of the device is above the ids of the devices before it.
     fn can_be_next(&self, device: &DeviceSlot) -> bool {
         match self.devices.last() {
             Some(last) => last.id < device.id,
@@ -115,7 +115,7 @@ fn pair_devices(
     Ok(table)
 }
 
-/// Returns whether the id and the range of the device are allocated, and no device of the table has
+/// Returns `true` if the id and the range of the device are allocated, and no device of the table has
 /// the same start.
 fn can_be_inserted(
     ids: &IdAllocator,

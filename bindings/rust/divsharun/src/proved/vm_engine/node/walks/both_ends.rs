@@ -107,7 +107,7 @@ impl<'a> WalkBothEnds<'a> {
         }
     }
 
-    /// Returns whether no block is left.
+    /// Returns `true` if no block is left.
     fn is_empty(&self) -> bool {
         match (self.lower.peek(), self.bound) {
             (Some(block), Some(bound)) => block.key.start() >= bound,

@@ -1,4 +1,4 @@
--- Lists of devices whose ids are strictly increasing: the devices before another one, and one more at the end.
+-- Lists of devices whose ids are strictly ascending: the devices before another one, and one more at the end.
 use Rattle.std.proofs.Common.{◌≡◌, ℕ, ◌+◌, ◌-◌, ◌<◌, ◌≤◌, List, [], ◌∷◌, ◌++◌, length, get_or, ap, ◌∙◌, subst, arith, Some, None}
 use Rattle.std.proofs.lemmas.Grind.{common_steps}
 use Rattle.std.proofs.lemmas.List.{get_or-map, length-map, map-append}
@@ -10,11 +10,11 @@ use Rattle.std.specs.Map.{keys_of}
 use Rattle.std.specs.Ordering.{nat_cmp}
 use Rattle.vm_ranges.specs.Range.{Range}
 use Rattle.vm_devices.specs.declared.device_slot.DeviceSlot.{DeviceSlot}
-use Rattle.vm_devices.specs.Listed.{entries_of, HaveIncreasingIds}
+use Rattle.vm_devices.specs.Listed.{entries_of, HaveAscendingIds}
 use Rattle.vm_devices.specs.Queries.{entry_of}
 
 -- ---- Numbers
--- The numbers are strictly increasing.
+-- The numbers are strictly ascending.
 abbrev pub Rise : List ℕ → Type 0
 Rise ns = IsStrictlySortedBy nat_cmp ns
 
@@ -48,33 +48,33 @@ id_at ds k d l =
     ∙ ap (λ (e : ℕ × Range). e.0) (get_or-map entry_of ds k d (entry_of d) l)
 
 -- ---- A part of the list
--- The ids of the entries are strictly increasing.
+-- The ids of the entries are strictly ascending.
 abbrev pub Sorted : List (ℕ × Range) → Type 0
 Sorted es = Rise (keys_of es)
 
 pub front_entries : (es fs : List (ℕ × Range)) → Sorted (es ++ fs) → Sorted es
 front_entries es fs s = front_rises (keys_of es) (keys_of fs) (subst Rise (map-append (λ (e : ℕ × Range). e.0) es fs) s)
 
-pub front_increases : (ds es : List DeviceSlot) → HaveIncreasingIds (ds ++ es) → HaveIncreasingIds ds
+pub front_increases : (ds es : List DeviceSlot) → HaveAscendingIds (ds ++ es) → HaveAscendingIds ds
 front_increases ds es s = front_entries (entries_of ds) (entries_of es) (subst Sorted (map-append entry_of ds es) s)
 
 -- ---- One more device
 module _ (ds : List DeviceSlot) (d : DeviceSlot) where
-  pushed : HaveIncreasingIds ds → (0 < length ds → (get_or ds (length ds - 1) d).id < d.id) → HaveIncreasingIds (ds ++ d ∷ [])
+  pushed : HaveAscendingIds ds → (0 < length ds → (get_or ds (length ds - 1) d).id < d.id) → HaveAscendingIds (ds ++ d ∷ [])
   pushed s h =
       rw (ids_more ds (d ∷ []))
       (rises_last (ids_of ds) d.id s (λ p.
       let long = ids_long ds in
       rw long (omega (arith, id_at ds (length ds - 1) d (omega arith), h (omega arith)))))
 
-  pub first_pushed : slice_get ds (length ds - 1) ≡ None → HaveIncreasingIds ds → HaveIncreasingIds (ds ++ d ∷ [])
+  pub first_pushed : slice_get ds (length ds - 1) ≡ None → HaveAscendingIds ds → HaveAscendingIds (ds ++ d ∷ [])
   first_pushed e s = pushed s (λ p. let some = slice_get-get_or ds (length ds - 1) d (omega arith) in absurd (cc (e, some)))
 
   module _ (last : DeviceSlot) (e : slice_get ds (length ds - 1) ≡ Some last) where
-    pub more_pushed : HaveIncreasingIds ds → last.id < d.id → HaveIncreasingIds (ds ++ d ∷ [])
+    pub more_pushed : HaveAscendingIds ds → last.id < d.id → HaveAscendingIds (ds ++ d ∷ [])
     more_pushed s l = pushed s (λ p. rw (get_or_from_slice_get ds (length ds - 1) last d e) l)
 
-    pub not_pushed : d.id ≤ last.id → ¬ HaveIncreasingIds (ds ++ d ∷ [])
+    pub not_pushed : d.id ≤ last.id → ¬ HaveAscendingIds (ds ++ d ∷ [])
     not_pushed l s =
         let some = slice_get_within ds (length ds - 1) last e in
         let long = ids_long ds in
