@@ -32,8 +32,7 @@ EDITS = [
     ("a carriage return in a comment", RANGE, IMPL, f"// How many.\rfn f() {{}}\n{IMPL}", "a carriage return"),
     ("an import under another name", RANGE, IMPORT, "use std::cmp::Reverse as Ordering;", "an import under another name"),
     ("an import from elsewhere", RANGE, IMPORT, f"{IMPORT}\nuse core::cmp::max;", "an import from 'core'"),
-    ("an import in two braces", RANGE, "use crate::error::{Error, Result};", "use crate::{error::Error, state::NodeState};",
-     "of which not all is used"),
+    ("two braces", RANGE, "use crate::error::{Error, Result};", "use crate::{error::Error, state::NodeState};", "of which not all is used"),
     *[(item, RANGE, IMPL, f"{item}\n{IMPL}", reason) for item, reason in [
         *[(item, "a definition of 'None'") for item in (
             "const None: u64 = 1;", "type None = u64;", "enum Y { None }", "fn None(x: u64) {}", "struct Y<None> { x: None }",
@@ -57,10 +56,8 @@ EDITS = [
     ("an import of all names", RANGE, IMPORT, f"{IMPORT}\nuse super::*;", "a definition of '*'"),
     ("a call of a law", RANGE, BODY, f"        law();\n{BODY}\n    }}\n}}\nfn law() {{}}\nimpl RangeInclusive {{\n    fn f() {{",
      "a function 'law'"),
-    ("a requires of what anyone may call", CONSTRAINT, "const fn is_start_aligned(", "pub const fn is_start_aligned(",
-     "a 'requires' of 'is_start_aligned'"),
-    ("a public field of a type with an invariant", RANGE, "    start: u64,\n    end", "    pub start: u64,\n    end",
-     "a public field of 'RangeInclusive'"),
+    ("a public requires", CONSTRAINT, "const fn is_start_aligned(", "pub const fn is_start_aligned(", "a 'requires' of 'is_start_aligned'"),
+    ("a public field", RANGE, "    start: u64,\n    end", "    pub start: u64,\n    end", "a public field of 'RangeInclusive'"),
 ]
 
 # Edits with each of some words instead of WORD.

@@ -16,14 +16,12 @@ impl Abort for HostRuntime {}
 
 /// A type that returns the allocator.
 pub trait AllocGlobal {
-    fn alloc(&self) -> Global;
-}
-
-impl AllocGlobal for HostRuntime {
     fn alloc(&self) -> Global {
         Global
     }
 }
+
+impl AllocGlobal for HostRuntime {}
 
 /// A type that returns the variables of the environment. Tests in plain Rust have none.
 pub trait Env {
