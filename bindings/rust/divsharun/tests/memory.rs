@@ -9,7 +9,7 @@ use divsharun::{
     AddressAllocator, AllocPolicy, Constraint, DeviceManager, Error, IdAllocator, ListError,
     RangeInclusive, TryError,
 };
-use refusing::{blocks, refusing};
+use refusing::{blocks, peak_of, refusing};
 use std::env;
 use std::fmt::Debug;
 use std::os::unix::process::ExitStatusExt;
@@ -167,6 +167,7 @@ fn main() {
     refuse_each_request();
     objects_stay_the_same();
     no_request_is_made();
+    lists_have_no_spare_bytes();
     processes_are_ended();
     println!("each allocation is counted, and failed in turn");
 }
@@ -349,6 +350,33 @@ fn no_request_is_made() {
         assert_eq!(wrong, Err(Error::ResourceNotAvailable));
     });
     assert_eq!(requests, 0);
+}
+
+/// Checks the bytes of calls with lists, and of a small manager.
+fn lists_have_no_spare_bytes() {
+    const COUNT: usize = 1000;
+    let size = COUNT as u64;
+    let (_, node) = peak_of(|| AddressAllocator::new(0, 64));
+    let held = (0..size).map(|number| RangeInclusive::new(2 * number, 2 * number));
+    let held: Vec<_> = held.map(|range| range.expect("a range")).collect();
+    let (_, bytes) = peak_of(|| AddressAllocator::with_held(0, 2 * size, &held));
+    assert_eq!(
+        bytes,
+        COUNT * size_of::<RangeInclusive>() + 2 * COUNT * node
+    );
+    let mut space = AddressAllocator::new(0, size).expect("a space");
+    let requests = [request(1, FirstMatch); COUNT];
+    let (ranges, bytes) = peak_of(|| space.allocate_all(&requests));
+    assert_eq!(ranges.map(|ranges| ranges.capacity()), Ok(COUNT));
+    let items = 2 * size_of::<RangeInclusive>() + size_of::<Constraint>();
+    assert_eq!(bytes, COUNT * items + (COUNT - 1) * node);
+    let mut ids = IdAllocator::new(0, 2000).expect("ids");
+    let (_, bytes) = peak_of(|| ids.allocate_ids(COUNT));
+    assert_eq!(bytes, COUNT * size_of::<u32>());
+    // A set and a map have chunks of 1 KiB, and a list has capacity for four devices.
+    let (_, bytes) =
+        peak_of(|| reserve_and_release(|devices| devices.reserve(1, 1, FirstMatch).is_ok()));
+    assert!(bytes < 2 * 1024 + 600, "{bytes} bytes");
 }
 
 fn processes_are_ended() {

@@ -831,6 +831,12 @@ fn a_saved_view_is_written_without_an_allocation() {
     let views = (manager.try_saved().unwrap(), space.try_saved().unwrap());
     assert_eq!(json(&views.0), json(&manager));
     assert_eq!(json(&views.1), json(&space));
+    assert_eq!(format!("{:?}", views.1), format!("Saved({space:?})"));
+    // The list of blocks grows by an eighth. A block has 24 bytes.
+    let large = windows(3000);
+    let blocks = (large.held_count() + large.gap_count()) as usize;
+    let ((view, bytes), requests) = refusing(0, || peak_of(|| large.try_saved()));
+    assert!(view.is_ok() && bytes <= 24 * (blocks + blocks / 8 + 4) && requests < 60);
     let mut bytes = Vec::with_capacity(10_000);
     let (written, requests) = refusing(0, || {
         packed::to_bytes_in(&views.0, &mut bytes).and(packed::to_bytes_in(&views.1, &mut bytes))
