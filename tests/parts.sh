@@ -36,9 +36,7 @@ quietly() { # command ..: shows the end of its output if it fails
     "$@" > "$log" 2>&1 || { tail -n 60 "$log"; return 1; }
 }
 
-in_folder() { # folder, command ..
-    (cd "$1" && shift && "$@")
-}
+in_folder() { (cd "$1" && shift && "$@"); } # folder, command ..
 
 rules() { # command ..: runs it for each check of texts, up to the first that fails
     local rule

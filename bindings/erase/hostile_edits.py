@@ -107,15 +107,14 @@ def outcome(project, scratch, edit, needed="program: vm_ranges\n"):
     return error_of(lambda: erase.Project(scratch, not needed))
 
 
-class Looked(set):
-    """A table that knows which of its names were not looked up."""
+met = set()
 
-    def __init__(self, names):
-        super().__init__(names)
-        self.left = set(names)
+
+class Looked(set):
+    """A table that notes each name that is looked up."""
 
     def __contains__(self, name):
-        self.left.discard(name)
+        met.add((id(self), name))
         return super().__contains__(name)
 
 
@@ -123,12 +122,12 @@ def unused(project):
     """Returns the names in tables of the eraser that no source uses, so that no table has more than it must."""
     tables = {name: Looked(getattr(erase, name)) for name in
               "METHODS ASSOCIATED MACROS DERIVES TRAITS TRAITS_OF_TESTS ATTRIBUTES KEYWORDS NAMES NUMBERS PRELUDE".split()}
-    for folders in (erase.FOLDERS, erase.FOLDERS_OF_TESTS):
-        tables |= {f"{folder} {id(folders)}": Looked(folders[folder][1]) for folder in folders}
-        folders.update({folder: (folders[folder][0], tables[f"{folder} {id(folders)}"]) for folder in folders})
     vars(erase).update(tables)
+    for folders in (erase.FOLDERS, erase.FOLDERS_OF_TESTS):
+        folders.update({folder: (new, Looked(names)) for folder, (new, names) in folders.items()})
     erase.Project(project, True)
-    return sorted(set().union(*(table.left for table in tables.values())))
+    every = [*tables.values(), *(names for _, names in [*erase.FOLDERS.values(), *erase.FOLDERS_OF_TESTS.values()])]
+    return sorted(name for table in every for name in table if (id(table), name) not in met)
 
 
 def overlap():

@@ -889,3 +889,42 @@ fn objects_are_equal_by_what_they_hold() {
     assert_eq!(first.device_at(0x1020), Some(listed[1]));
     assert_eq!(first.device_at(0x1010), None);
 }
+
+/// Checks that each call of an object makes the proved call of its name, and no other work.
+#[test]
+fn calls_are_those_of_the_proved_code() {
+    let files = [
+        include_str!("../src/address_allocator.rs"),
+        include_str!("../src/id_allocator.rs"),
+        include_str!("../src/device_manager.rs"),
+    ];
+    let mut count = 0;
+    for text in files.iter().flat_map(|text| text.split("\n    pub ")) {
+        let Some((head, rest)) = text.split_once('(') else {
+            continue;
+        };
+        let Some(name) = head.trim_start_matches("const ").strip_prefix("fn ") else {
+            continue;
+        };
+        let body: String = rest
+            .split("\n    }\n")
+            .next()
+            .unwrap()
+            .split_whitespace()
+            .collect();
+        let plain = name.trim_start_matches("try_");
+        let [proved, same] = [plain, name].map(|name| format!("self.0.{name}("));
+        let made = format!("::{plain}(Global");
+        let tried = format!(
+            "elf{}try_{name}(",
+            if body.contains("Self::") { "::" } else { "." }
+        );
+        let is_one = [&proved, &same, &made, &tried]
+            .iter()
+            .any(|call| body.contains(*call));
+        let is_other = ["iter", "layout"].contains(&name);
+        assert!(is_one || is_other, "{name}: {body}");
+        count += 1;
+    }
+    assert!(count > 50, "{count} calls");
+}

@@ -80,10 +80,7 @@ fn additional_boxes(space: &mut AddressAllocator, middle: u64, change: Change) -
 fn expect_same(name: &dyn Debug, of_a_level: u64, boxes: impl Fn(u32) -> u64) {
     let [low, high] =
         [LOW, HIGH].map(|height| boxes(height) as i64 - (of_a_level * u64::from(height)) as i64);
-    assert!(
-        high <= low,
-        "{name:?}: {high} more boxes, and {low} in a low tree"
-    );
+    assert!(high <= low, "{name:?}: {high} more boxes, not {low}");
 }
 
 #[test]

@@ -43,10 +43,7 @@ fn expect_linear<T, U>(name: &str, make: impl Fn(u64) -> T, work: impl Fn(&T) ->
         (time_of(&large), 3 * linear)
     });
     let is_linear = rounds.any(|(time, most)| time <= most);
-    assert!(
-        is_linear,
-        "{name} takes more than three times linear growth"
-    );
+    assert!(is_linear, "{name} takes more than linear time");
 }
 
 #[test]
