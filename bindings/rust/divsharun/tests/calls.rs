@@ -13,6 +13,7 @@ use draw::Draw;
 use items::{expect_in_order, expect_items};
 use model::{refused, Model, WIDTH};
 use std::collections::{BTreeSet, HashSet};
+use std::fmt::Debug;
 
 const BASE: u64 = 1000;
 
@@ -736,6 +737,64 @@ fn requests_are_written_in_one_line_and_hashed() {
         assert_eq!(request.to_string(), text);
         assert!(seen.insert(request) && !seen.insert(request));
     }
+}
+
+/// Checks that values are equal to themselves and to no other of these values.
+fn expect_distinct<T: PartialEq + Debug>(values: &[T]) {
+    for (number, value) in values.iter().enumerate() {
+        for (other, of) in values.iter().enumerate() {
+            assert_eq!(value == of, number == other, "{value:?} and {of:?}");
+        }
+    }
+}
+
+/// Checks that each field decides whether values are equal.
+#[test]
+fn different_values_are_not_equal() {
+    let [range, other] = [5, 6].map(|end| RangeInclusive::new(4, end).unwrap());
+    let policies = [
+        AllocPolicy::FirstMatch,
+        AllocPolicy::LastMatch,
+        AllocPolicy::ExactMatch(0),
+        AllocPolicy::ExactMatch(4),
+    ];
+    expect_distinct(&policies);
+    let mut requests = policies
+        .map(|policy| Constraint::new(4, 4, policy).unwrap())
+        .to_vec();
+    requests.extend(
+        [(3, 4), (4, 2)]
+            .map(|(size, align)| Constraint::new(size, align, AllocPolicy::FirstMatch).unwrap()),
+    );
+    requests.extend([range, other].map(|window| requests[0].within(window)));
+    expect_distinct(&requests);
+    expect_distinct(
+        &[(1, range), (2, range), (1, other)].map(|(id, range)| DeviceSlot { id, range }),
+    );
+    let mut errors = Vec::from([1, 2].map(Error::InvalidSize));
+    errors.extend([1, 2].map(Error::OutOfRange));
+    errors.extend([1, 2].map(Error::AlreadyReleased));
+    errors.extend([1, 2].map(Error::NeverAllocated));
+    errors.extend([(1, 2), (1, 3), (2, 2)].map(|(start, end)| Error::InvalidRange(start, end)));
+    errors.extend(
+        [(range, range), (range, other), (other, range)].map(|(a, b)| Error::Overlap(a, b)),
+    );
+    errors
+        .extend([range, other].map(|range| Error::InvalidStateTransition(range, NodeState::Free)));
+    errors.push(Error::InvalidStateTransition(range, NodeState::Allocated));
+    expect_distinct(&errors);
+    let tried = errors.iter().map(|error| TryError::Refused(*error));
+    expect_distinct(&tried.chain([TryError::OutOfMemory]).collect::<Vec<_>>());
+    let indices = [None, Some(0), Some(1)];
+    expect_distinct(&indices.map(|index| ListError {
+        index,
+        error: errors[0],
+    }));
+    let lists = errors.iter().map(|error| ListError {
+        index: None,
+        error: *error,
+    });
+    expect_distinct(&lists.collect::<Vec<_>>());
 }
 
 #[test]
