@@ -21,13 +21,13 @@ CLAUSE, BODY = "ensures { result ≡ address_count self.now }", "        1 + (se
 IMPL, IMPORT = "impl RangeInclusive {", "use std::cmp::Ordering;"
 # A description of the edit, its file, the old text, the new text, and a part of the reason.
 EDITS = [
-    ("a string that closes a clause", RANGE, CLAUSE, 'ensures { result ≡ f "}" }', "in a clause"),
     ("a statement between clauses", RANGE, CLAUSE, f"{CLAUSE}\n        let x = 1;", "clauses without a body"),
     ("a function behind a ghost", RANGE, IMPL, f"ghost cmp = {{ f }}\nfn g() {{}}\n{IMPL}", "a ghost of this form"),
-    ("a block comment in code", RANGE, BODY, f"{BODY} /* + 1 */", "text that begins with '/*"),
     ("a clause in a body", RANGE, BODY, f"        requires {{ f }}\n{BODY}", "a clause outside of a signature"),
     ("a clause with two names", RANGE, CLAUSE, "ensures one two { f }", "a clause of this form"),
     ("a clause without end", "vm_ranges/src/lib.rt", "mod state;", "mod state;\nfn f() ensures { f", "a clause without end"),
+    ("a ghost behind brackets", RANGE, BODY, f"        self.x[0] ghost use X;\n{BODY}", "'ghost' in code"),
+    ("a ghost with half a list", RANGE, IMPL, f"ghost use X.{{y;\n{IMPL}", "a ghost of this form"),
     ("a ghost in code", RANGE, BODY, f"        1 + ghost x = {{ f }};\n{BODY}", "'ghost' in code"),
     ("a carriage return in a comment", RANGE, IMPL, f"// How many.\rfn f() {{}}\n{IMPL}", "a carriage return"),
     ("an import under another name", RANGE, IMPORT, "use std::cmp::Reverse as Ordering;", "an import under another name"),
@@ -36,7 +36,7 @@ EDITS = [
     *[(item, RANGE, IMPL, f"{item}\n{IMPL}", reason) for item, reason in [
         *[(item, "a definition of 'None'") for item in (
             "const None: u64 = 1;", "type None = u64;", "enum Y { None }", "fn None(x: u64) {}", "struct Y<None> { x: None }",
-            "use super::None;", "mod None;")],
+            "use super::None;", "mod None;", "pub fn None() {}", "impl Eq for X { fn None() {} }")],
         ("fn f(x: u64 requires { f }) { 1 }", "a clause outside of a signature"), ("impl Eq for String {}", "a type 'String'"),
         ("impl Eq for X { fn f() requires { f } { 1 } }", "a 'requires' of 'f'"), ("struct X(u64);", "a type without braces"),
         ("struct X { pub a: u64, ghost b: { f }, }", "a public field of 'X'"), ("struct X { x: (u64 }", "a bracket without end"),
@@ -45,7 +45,7 @@ EDITS = [
         ("//! Text.", "documentation of the file behind an item"), ("struct X { f: fn(u64) }", "an item 'fn' in code"),
         ("mod absent;", "no file for the module 'absent'"), ("struct X<T: Send> { x: T }", "a type 'Send'"),
         ("const X: u64 = 1", "an item without end"), ("mod inside {}", "a module of this form"),
-        ("fn f {}", "a function of this form"), ("}", "a brace that closes nothing")]],
+        ("fn f {}", "a function of this form"), ("use super::X as Y;", "an import under another name"), ("}", "a brace that closes nothing")]],
     ("a path with type arguments", RANGE, BODY, "        1 + u64::from::<u64>(self.end)", "'u64' in code"),
     ("a derive's name in code", RANGE, BODY, f"        thiserror::Error;\n{BODY}", "'thiserror' in code"),
     ("a text with arguments", RANGE, IMPL, f'#[derive(Error)] enum X {{ #[error("", 1)] A }}\n{IMPL}', "a text of this form"),
@@ -62,13 +62,13 @@ EDITS = [
 
 # Edits with each of some words instead of WORD.
 EDITS += [(f"{name} {word}", RANGE, old, new.replace("WORD", word), reason.replace("WORD", word)) for name, words, old, new, reason in [
-    ("the text", "1.5 x@y $x ~x", BODY, f"        WORD;\n{BODY}", "text that begins with"),
-    ("a clause with", "' ` -- // /* {-}", CLAUSE, "ensures { result ≡ f WORD }", "in a clause"),
+    ("the text", "1.5 1i64 x@y $x ~x /*+1*/", BODY, f"        WORD;\n{BODY}", "text that begins with"),
+    ("a clause with", "' \" ` -- // /* {-}", CLAUSE, "ensures { result ≡ f WORD }", "in a clause"),
     ("a definition of", "Box BTreeMap BTreeSet Err Iterator None Ok Option Ord Ordering Some Value Vec u128 u32 u64 u8 u8x16 usize",
      IMPL, f"struct WORD {{ inner: u64 }}\n{IMPL}", "a definition of 'WORD'"),
     ("the word", """async await become box char decreases dyn extern f32 f64 gen i8 i16 i32 i64 i128 invariant isize
      macro_rules prove prove_eq trait try union unsafe where yield""", BODY, f"        WORD;\n{BODY}", "'WORD' in code"),
-    ("the macro", "assert cfg dbg env format include json panic vec", BODY, f"        WORD!(1);\n{BODY}", "a macro 'WORD'"),
+    ("the macro", "assert!(1) cfg![1] dbg!{1} env!(1) format!(1) include!(1) json!(1) panic!{} vec![1]", BODY, f"        WORD;\n{BODY}", "a macro '"),
     ("the method", "as_mut drain expect map pow rev swap unwrap_or wrapping_sub", BODY, "        self.end.WORD(1)", "a method 'WORD'"),
     ("the function", "drop max panic swap transmute", BODY, "        1 + WORD(self.end)", "a function 'WORD'"),
     ("the type", "Cell Rc String Wrapping", BODY, f"        let x: WORD = self.end;\n{BODY}", "a type 'WORD'"),
@@ -86,6 +86,7 @@ EDITS += [(f"{name} {word}", RANGE, old, new.replace("WORD", word), reason.repla
 
 EDITS_OF_TESTS = [
     ("a test with a number", RANGE, IMPL, f"#[test] fn f(x: u64) {{}}\n{IMPL}", "other parameters than 'rt'"),
+    ("a test of nothing", RANGE, IMPL, f"#[test] fn None() {{}}\n{IMPL}", "a definition of 'None'"),
     ("a test without runtime", RANGE, IMPL, f"fn f() {{ x.expect(y, z) }}\n{IMPL}", "'expect' without 'rt'"),
     ("a library's name changed", RANGE, IMPORT, "use std::cmp::Ordering as Order;", "an import under another name"),
 ]

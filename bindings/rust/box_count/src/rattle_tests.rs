@@ -183,7 +183,8 @@ fn memory_of_sets() {
                 assert!(set.insert(value as u32).is_ok());
             }
         };
-        let (_, bytes) = peak_of(fill);
+        let ((_, bytes), requests) = refusing(0, || peak_of(fill));
+        assert!(requests as i64 <= blocks() - before + 16);
         let most_bytes = most * set.len();
         assert!(bytes <= most_bytes, "{bytes} bytes instead of {most_bytes}");
         for value in (1..2 * VALUES as u32).step_by(101) {

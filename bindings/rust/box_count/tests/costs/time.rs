@@ -62,7 +62,8 @@ fn ids_and_devices() {
     expect_linear("several ids", ids, |ids| {
         let (mut ids, half) = (ids.try_clone(Global).unwrap(), ids.held_count() / 2);
         let window = |id| ids.allocate_in(id, id + 1).is_ok();
-        assert!((FIRST_ID..).step_by(2).take(half as usize).all(window));
+        let mut from_above = (0..half as u32).rev().map(|at| FIRST_ID + 2 * at);
+        assert!(from_above.all(window));
         ids.allocate_ids(Global, half as usize).unwrap()
     });
     expect_linear("devices read and written", manager, |manager| {
