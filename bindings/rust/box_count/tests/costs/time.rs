@@ -60,10 +60,9 @@ fn ids_and_devices() {
         IdAllocator::with_held(Global, FIRST_ID, LAST_ID, &held).unwrap()
     });
     expect_linear("several ids", ids, |ids| {
-        let (mut ids, half) = (ids.try_clone(Global).unwrap(), ids.held_count() / 2);
+        let (mut ids, half) = (ids.try_clone(Global).unwrap(), ids.held_count() as u32 / 2);
         let window = |id| ids.allocate_in(id, id + 1).is_ok();
-        let mut from_above = (0..half as u32).rev().map(|at| FIRST_ID + 2 * at);
-        assert!(from_above.all(window));
+        assert!((0..half).rev().map(|at| FIRST_ID + 2 * at).all(window));
         ids.allocate_ids(Global, half as usize).unwrap()
     });
     expect_linear("devices read and written", manager, |manager| {
