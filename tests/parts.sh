@@ -4,10 +4,7 @@
 # that only matters if a part fails goes to the folder $scratch.
 scratch=$(mktemp -d) || exit 1
 trap 'rm -rf "$scratch"' EXIT
-log=$scratch/log
-times=$scratch/times
-passed_parts=0
-failed_parts=()
+log=$scratch/log times=$scratch/times passed_parts=0 failed_parts=()
 
 # Sets the parts that a check runs. Unknown options print its head.
 choose_parts() { # the check's options: none, --of-sources or --of-built
@@ -36,15 +33,10 @@ part() { # name, command ..
 }
 
 quietly() { # command ..: shows the end of its output if it fails
-    "$@" > "$log" 2>&1 || {
-        tail -n 60 "$log"
-        return 1
-    }
+    "$@" > "$log" 2>&1 || { tail -n 60 "$log"; return 1; }
 }
 
-in_folder() { # folder, command ..
-    (cd "$1" && shift && "$@")
-}
+in_folder() { (cd "$1" && shift && "$@"); } # folder, command ..
 
 rules() { # command ..: runs it for each check of texts, up to the first that fails
     local rule

@@ -17,28 +17,23 @@
 #include <stdlib.h>
 #include <unistd.h>
 
-static unsigned long requests;
-static int last_was_met;
+static unsigned long requests, counted;
 static long given, balanced;
-static int is_balancing;
-static unsigned long counted;
-static int was_refused;
+static int last_was_met, is_balancing, was_refused;
 
-static int is_the_one(void) {
-    const char *number = getenv("REFUSE");
-    return number && ++requests == strtoul(number, NULL, 10);
+static int is_number(const char *variable, unsigned long number) {
+    const char *text = getenv(variable);
+    return text && strtoul(text, NULL, 10) == number;
 }
 
 static int is_after_the_last(size_t size) {
-    const char *last = getenv("REFUSE_AFTER");
-    if (!last || last_was_met) return last_was_met;
-    last_was_met = size == strtoul(last, NULL, 10);
+    if (last_was_met) return 1;
+    last_was_met = is_number("REFUSE_AFTER", size);
     return 0;
 }
 
 static void balance(size_t size) {
-    const char *request = getenv("BALANCE");
-    if (!request || size != strtoul(request, NULL, 10)) return;
+    if (!is_number("BALANCE", size)) return;
     if (is_balancing && given != balanced) abort();
     balanced = given;
     is_balancing = !is_balancing;
@@ -59,7 +54,7 @@ static void count(size_t size) {
 static int is_refused(size_t size) {
     balance(size);
     count(size);
-    if (!is_the_one() && !is_after_the_last(size)) return 0;
+    if (!is_number("REFUSE", ++requests) && !is_after_the_last(size)) return 0;
     was_refused = 1;
     const char *told = getenv("REFUSED");
     if (told) {

@@ -40,18 +40,17 @@ FOLDERS_OF_TESTS = {
     "std::io": ("std::io", {"ErrorKind", "Read", "Write"}),
     "std::process": ("crate::testing", {"Abort"}),
     "std::str": ("core::str", {"from_utf8"}),
-    "std::test": ("crate::testing", {"Fail"}),
 }
 LIBRARIES = {folder.split("::")[0] for folder in FOLDERS}
 # Names of Rattle's prelude that Rust's prelude does not have or defines differently. `rattle` has them.
 PRELUDE = {"Box", "Vec"}
 # Names of both preludes, and further names of libraries.
-NAMES = {"Err", "Iterator", "None", "Ok", "Option", "Result", "Some"}
-NUMBERS = {"u8", "u16", "u32", "u64", "u128", "usize"}
+NAMES = {"Err", "None", "Ok", "Option", "Result", "Some"}
+NUMBERS = {"u8", "u32", "u64", "u128", "usize"}
 ASSOCIATED = {
     "BTreeMap::new", "BTreeSet::new", "Box::into_inner", "Box::new", "Ord::cmp",
     "Ordering::Equal", "Ordering::Greater", "Ordering::Less", "Value::Null", "Value::as_u64", "Value::from",
-    "Value::try_from_str", "Vec::new", "Vec::with_capacity", "u128::from", "u32::MAX", "u32::from", "u32::try_from", "u64::MAX",
+    "Value::try_from_str", "Vec::new", "Vec::with_capacity", "u128::from", "u32::MAX", "u32::try_from", "u64::MAX",
     "u64::from", "u8x16::from_slice", "u8x16::splat",
 }
 # Methods of types of other crates. Each was compared with the method of Rust.
@@ -64,13 +63,13 @@ METHODS = {
 }
 MACROS = {"json", "unreachable"}
 DERIVES = {"Clone", "Copy", "Debug", "Default", "Drop", "Eq", "Error", "Hash", "Ord", "PartialEq", "PartialOrd"}
-# Names that no item of a crate may have, because the tables mean the items of the libraries.
-TAKEN = (PRELUDE | NAMES | NUMBERS | {path.split("::")[0] for path in ASSOCIATED}) - {"Result"}
 TRAITS = {"DoubleEndedIterator", "Eq", "ExactSizeIterator", "From", "Iterator", "Ord", "PartialEq", "PartialOrd"}
+# Names that no item of a crate may have, because the tables mean the items of the libraries.
+TAKEN = (PRELUDE | NAMES | NUMBERS | TRAITS | {path.split("::")[0] for path in ASSOCIATED}) - {"Result"}
 TRAITS_OF_TESTS = {"Read", "Write"}
-ATTRIBUTES = {"allow", "cold", "default", "derive", "error", "inline"}
-KEYWORDS = set("""_ as bool break const continue crate else enum false fn for if impl in let loop match mod
-    move mut pub ref return self static str struct super true type use while Self""".split()) | NUMBERS
+ATTRIBUTES = {"allow", "cold", "default", "error", "inline"}
+KEYWORDS = set("_ as bool break continue else false for if in let match mut pub return str true while Self".split())
+PATHS = {"crate", "self", "super"}
 REFUSED_WORDS = set("""async await become box char decreases dyn extern f32 f64 gen ghost i8 i16 i32 i64
     i128 invariant isize macro_rules prove prove_eq trait try union unsafe where yield""".split())
 CLAUSES = {"ensures", "requires"}
@@ -112,7 +111,7 @@ TOKEN = re.compile(r"""(?P<blank>\s+|//(?![/!])[^\n]*|////[^\n]*)
     |b?'(?:[^'\\\n]|\\[nrt0\\"']|\\x[0-9a-fA-F]{2}|\\u\{[0-9a-fA-F]+\})')
  |(?P<lifetime>'[a-z_]\w*)
  |(?P<word>[A-Za-z_]\w*)
- |(?P<number>(?:0x[0-9a-fA-F_]+|0b[01_]+|[0-9][0-9_]*)(?:u8|u16|u32|u64|u128|usize)?(?!\w|\.[0-9]))
+ |(?P<number>(?:0x[0-9a-fA-F_]+|0b[01_]+|[0-9][0-9_]*)(?:u8|u32|u64|u128|usize)?(?!\w|\.[0-9]))
  |(?P<mark>::|->|=>|==|!=|<=|>=|&&|\|\||\.\.=|\.\.|[-+*/%&|^]=|<<|>>|[{}()\[\]<>,;:.=+\-*/%&|^!?\#])""",
                    re.VERBOSE | re.ASCII)
 CLAUSE_HEAD = re.compile(r"\s+(?:[a-z_]\w*\s*)?(?=\{)")
@@ -325,8 +324,8 @@ class File(Tokens):
             self.refuse_if(not words or words[0] not in ATTRIBUTES, f"an attribute {''.join(words[:1])!r}", index)
 
     def derive(self, item, names, index, behind):
-        for name in sorted(set(names) - DERIVES):
-            self.fail(f"a derive of {name!r}", self.start_of(index))
+        for name in names:
+            self.refuse_if(name not in DERIVES, f"a derive of {name!r}", index)
         item.is_error = "Error" in names
         rest = [name for name in names if name not in ("Drop", "Error")]
         if rest != names:
@@ -351,8 +350,7 @@ class File(Tokens):
                 self.cut(behind, behind + 2)
                 behind += 2
                 continue
-            if token.kind == "mark" and token.text not in (",", ":", "+"):
-                self.fail("parameters of this form", token.start)
+            self.refuse_if(token.kind == "mark" and token.text not in (",", ":", "+"), "parameters of this form", behind)
             if before in (":", "+"):
                 self.uses.append((token.start, "a type", token.text))
             elif token.kind == "word" and token.text not in ("_", "const"):
@@ -395,8 +393,7 @@ class File(Tokens):
         head = self.tokens[first].text
         if self.of_tests:
             return
-        if head not in self.crate.stands_on | self.crate.names | {"crate", "self", "super"}:
-            self.fail(f"an import from {head!r}", self.start_of(first))
+        self.refuse_if(head not in self.crate.stands_on | self.crate.names | PATHS, f"an import from {head!r}", first)
         self.define(index, set())
         self.imported[self.tokens[index].text] = head
 
@@ -507,8 +504,8 @@ class File(Tokens):
             self.crate.guarded.add(name)
             self.refuse_if(not self.at(index + 1, "}"), "a member of Model that is no ghost", index + 1)
             return index + 2, False
-        if trait and trait not in TRAITS and not (self.of_tests and trait in TRAITS_OF_TESTS):
-            self.fail(f"an impl of {trait!r}", self.start_of(item.keyword))
+        is_allowed = not trait or trait in TRAITS or self.of_tests and trait in TRAITS_OF_TESTS
+        self.refuse_if(not is_allowed, f"an impl of {trait!r}", item.keyword)
         first, kept = self.first_kept, self.kept
         self.first_kept = first or self.start_of(item.start)
         behind = self.items(index + 1, trait or "impl") + 1
@@ -524,8 +521,8 @@ class File(Tokens):
         while index < behind:
             token = self.tokens[index]
             if token.text == "#":
-                if "pub" not in allowed or self.tokens[index + 2].text not in ATTRIBUTES:
-                    self.fail("an attribute in code", token.start)  # it can be before fields and variants
+                is_allowed = "pub" in allowed and self.tokens[index + 2].text in ATTRIBUTES  # of fields and variants
+                self.refuse_if(not is_allowed, "an attribute in code", index)
                 index = self.matching(index + 1)
             elif token.kind != "word":
                 index += 1
@@ -566,13 +563,13 @@ class File(Tokens):
         if head in PRELUDE:
             self.from_prelude.add(head)
         if self.at(last + 1, "!") and self.tokens[last + 2].text in OPENING:
-            if name not in MACROS or name == "json" and self.imported.get(name) != "serde_json":
-                self.fail(f"a macro {name!r}", start)
+            is_other = name == "json" and self.imported.get(name) != "serde_json"
+            self.refuse_if(name not in MACROS or is_other, f"a macro {name!r}", first)
         elif self.at(first - 1, "."):
             self.uses += [(start, "a method", name)] if called else []
         elif self.at(first - 1, "as") and name not in NUMBERS:
             self.fail(f"'as {name}'", start)
-        elif head not in ("crate", "self", "super") and name not in KEYWORDS:
+        elif head not in PATHS and name not in KEYWORDS and name not in NUMBERS:
             kind = "a path" if last > first else "a function" if called else "a type"
             self.uses += [(start, kind, name)] if kind != "a type" or name[0].isupper() else []
 
@@ -596,7 +593,7 @@ class File(Tokens):
             return name in ASSOCIATED or self.imported.get(head) in crate.stands_on
         if kind == "a function":
             return name in NAMES or name in crate.functions or self.imported.get(head) in crate.stands_on
-        return name in NAMES | PRELUDE | NUMBERS or name in self.imported or self.of_tests and name in TRAITS
+        return any(name in table for table in (NAMES, PRELUDE, NUMBERS, self.imported, TRAITS if self.of_tests else ()))
 
     # ---- Output ----
 

@@ -56,8 +56,10 @@ fn vectors() {
     assert!(inserted.iter().rev().copied().eq(0..1000));
     let (clone, _) = until_allowed(|| inserted.clone(), |_| {});
     assert_eq!((clone.capacity(), clone == inserted), (1000, true));
-    let (empty, _) = until_allowed(|| Vec::<u64>::with_capacity(Global, 7), |_| {});
+    let (mut empty, _) = until_allowed(|| Vec::<u64>::with_capacity(Global, 7), |_| {});
     assert_eq!((empty.capacity(), empty.len()), (7, 0));
+    until_allowed(|| empty.reserve_exact(9), |_| {});
+    assert_eq!((empty.capacity(), empty.len()), (9, 0));
 }
 
 /// Keys in random, in ascending, in descending and in alternating order.
@@ -181,7 +183,8 @@ fn memory_of_sets() {
                 assert!(set.insert(value as u32).is_ok());
             }
         };
-        let (_, bytes) = peak_of(fill);
+        let ((_, bytes), requests) = refusing(0, || peak_of(fill));
+        assert!(requests as i64 <= blocks() - before + 16);
         let most_bytes = most * set.len();
         assert!(bytes <= most_bytes, "{bytes} bytes instead of {most_bytes}");
         for value in (1..2 * VALUES as u32).step_by(101) {

@@ -9,21 +9,6 @@ pub use crate::{__assert as assert, __assert_eq as assert_eq};
 /// The argument of a test: the allocator and the environment.
 pub struct HostRuntime;
 
-/// The error of a test. It converts from any error.
-pub struct Fail(alloc::string::String);
-
-impl<E: core::error::Error> From<E> for Fail {
-    fn from(error: E) -> Fail {
-        Fail(alloc::format!("{error}"))
-    }
-}
-
-impl fmt::Debug for Fail {
-    fn fmt(&self, f: &mut fmt::Formatter<'_>) -> fmt::Result {
-        f.write_str(&self.0)
-    }
-}
-
 /// A type whose failed assertion ends the test.
 pub trait Abort {}
 
@@ -31,14 +16,12 @@ impl Abort for HostRuntime {}
 
 /// A type that returns the allocator.
 pub trait AllocGlobal {
-    fn alloc(&self) -> Global;
-}
-
-impl AllocGlobal for HostRuntime {
     fn alloc(&self) -> Global {
         Global
     }
 }
+
+impl AllocGlobal for HostRuntime {}
 
 /// A type that returns the variables of the environment. Tests in plain Rust have none.
 pub trait Env {

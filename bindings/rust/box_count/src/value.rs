@@ -13,26 +13,40 @@ const MOST_NESTED: u32 = 128;
 pub enum Value {
     Null,
     Bool(bool),
-    Number(Number),
+    /// A whole number of 64 bits.
+    Whole(u64),
+    /// Any other number.
+    Other(f64),
     String(String),
     Array(Vec<Value>),
     /// The fields of an object, in ascending order of names.
     Object(Fields),
 }
 
-/// A number of a value.
-#[derive(Clone, Copy, Debug, PartialEq)]
-pub enum Number {
-    /// A whole number of 64 bits.
-    Whole(u64),
-    Other(f64),
-}
-
 /// The fields of an object, each with its name. Duplicate names are kept, so that a count of the
 /// fields shows them.
 pub type Fields = alloc::vec::Vec<(String, Value)>;
 
+/// Defines calls that return the inner value of one kind.
+macro_rules! inner {
+    ($($name:ident: $kind:ident -> $inner:ty;)*) => {$(
+        pub fn $name(&self) -> Option<&$inner> {
+            match self {
+                Value::$kind(inner) => Some(inner),
+                _ => None,
+            }
+        }
+    )*};
+}
+
 impl Value {
+    inner! {
+        as_whole: Whole -> u64;
+        as_str: String -> str;
+        as_array: Array -> Vec<Value>;
+        as_object: Object -> Fields;
+    }
+
     pub fn try_from_str(_alloc: Global, text: &str) -> Result<Value, AllocError> {
         Ok(Value::String(text.into()))
     }
@@ -53,31 +67,7 @@ impl Value {
     }
 
     pub fn as_u64(&self) -> Option<u64> {
-        match self {
-            Value::Number(Number::Whole(number)) => Some(*number),
-            _ => None,
-        }
-    }
-
-    pub fn as_str(&self) -> Option<&str> {
-        match self {
-            Value::String(text) => Some(text),
-            _ => None,
-        }
-    }
-
-    pub fn as_array(&self) -> Option<&Vec<Value>> {
-        match self {
-            Value::Array(items) => Some(items),
-            _ => None,
-        }
-    }
-
-    pub fn as_object(&self) -> Option<&Fields> {
-        match self {
-            Value::Object(fields) => Some(fields),
-            _ => None,
-        }
+        self.as_whole().copied()
     }
 
     pub fn get(&self, name: &str) -> Option<&Value> {
@@ -114,7 +104,7 @@ impl Value {
 
 impl From<u64> for Value {
     fn from(number: u64) -> Value {
-        Value::Number(Number::Whole(number))
+        Value::Whole(number)
     }
 }
 
@@ -144,21 +134,21 @@ impl fmt::Display for Value {
         match self {
             Value::Null => f.write_str("null"),
             Value::Bool(truth) => write!(f, "{truth}"),
-            Value::Number(Number::Whole(number)) => write!(f, "{number}"),
-            Value::Number(Number::Other(number)) => write!(f, "{number:?}"),
+            Value::Whole(number) => write!(f, "{number}"),
+            Value::Other(number) => write!(f, "{number:?}"),
             Value::String(text) => write!(f, "{text:?}"),
-            Value::Array(items) => {
-                let items: alloc::vec::Vec<_> = items.iter().map(Value::to_string).collect();
-                write!(f, "[{}]", items.join(","))
-            }
+            Value::Array(items) => write!(f, "[{}]", joined(items.iter().map(Value::to_string))),
             Value::Object(fields) => {
                 let fields = fields.iter();
                 let fields = fields.map(|(name, value)| alloc::format!("{name:?}:{value}"));
-                let fields: alloc::vec::Vec<_> = fields.collect();
-                write!(f, "{{{}}}", fields.join(","))
+                write!(f, "{{{}}}", joined(fields))
             }
         }
     }
+}
+
+fn joined(parts: impl Iterator<Item = String>) -> String {
+    parts.collect::<alloc::vec::Vec<_>>().join(",")
 }
 
 /// The text is not JSON, or is nested too deep.
@@ -182,7 +172,7 @@ fn parse(rest: &mut &str, levels: u32) -> Result<Value, NotJson> {
         Some(b'n') => skip(rest, "null").map(|()| Value::Null),
         Some(b't') => skip(rest, "true").map(|()| Value::Bool(true)),
         Some(b'f') => skip(rest, "false").map(|()| Value::Bool(false)),
-        _ => parse_number(rest).map(Value::Number),
+        _ => parse_number(rest),
     }
 }
 
@@ -216,13 +206,13 @@ fn parse_text(rest: &mut &str) -> Result<String, NotJson> {
     Ok(text.into())
 }
 
-fn parse_number(rest: &mut &str) -> Result<Number, NotJson> {
+fn parse_number(rest: &mut &str) -> Result<Value, NotJson> {
     let behind = rest.trim_start_matches(|letter| "+-.0123456789Ee".contains(letter));
     let number = &rest[..rest.len() - behind.len()];
     *rest = behind;
     match (number.parse(), number.parse()) {
-        (Ok(whole), _) => Ok(Number::Whole(whole)),
-        (_, Ok(other)) => Ok(Number::Other(other)),
+        (Ok(whole), _) => Ok(Value::Whole(whole)),
+        (_, Ok(other)) => Ok(Value::Other(other)),
         _ => Err(NotJson),
     }
 }

@@ -1113,3 +1113,32 @@ impl<'a> IntoIterator for &'a AddressAllocator {
         self.held_ranges()
     }
 }
+
+#[cfg(test)]
+mod tests {
+    use super::*;
+
+    /// Checks that counted calls return the count of the proved call.
+    #[test]
+    fn counts_are_those_of_the_proved_calls() {
+        let mut space = AddressAllocator::new(0, 0x1000).unwrap();
+        let mut proved = proved::AddressAllocator::new(Global, 0, 0x1000).unwrap();
+        for (number, size) in [1, 7, 16, 3].into_iter().cycle().take(400).enumerate() {
+            let at = 16 * (number as u64 * 37 % 256);
+            let policies = [AllocPolicy::FirstMatch, AllocPolicy::ExactMatch(at)];
+            let request = Constraint::new(size, 16, policies[number % 2]).unwrap();
+            let (answer, count) = match number % 3 {
+                0 => space.allocate_counted(size, 16, request.policy()),
+                _ => space.allocate_constraint_counted(request),
+            };
+            let (same, want) = proved.allocate_constraint_counted(Global, request.0);
+            assert_eq!((answer, count), (or_abort(same).map(RangeInclusive), want));
+            let freed = answer.unwrap_or(RangeInclusive::new(at, at + 6).unwrap());
+            if number % 5 < 2 {
+                let (same, want) = proved.free_counted(&freed.0);
+                assert_eq!(space.free_counted(&freed), (or_abort(same), want));
+            }
+        }
+        assert!(space.height() > 5);
+    }
+}

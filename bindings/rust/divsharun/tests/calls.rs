@@ -10,16 +10,20 @@ use divsharun::{
     ListError, NodeState, RangeInclusive, TryError,
 };
 use draw::Draw;
-use items::expect_items;
-use model::{Model, WIDTH};
+use items::{expect_in_order, expect_items};
+use model::{refused, Model, WIDTH};
 use std::collections::{BTreeSet, HashSet};
+use std::fmt::Debug;
 
 const BASE: u64 = 1000;
 
 /// Moves a range, if the addresses there are free, or checks that it stays.
 fn move_range(space: &mut AddressAllocator, model: &mut Model, number: usize, to: u64) {
     let held = model.held[number];
+    let mut tried = space.clone();
     let answer = space.move_range(&held, to);
+    assert_eq!(refused(tried.try_move_range(&held, to)), answer);
+    assert_eq!(tried, *space);
     let request = Constraint::new(held.len(), 1, AllocPolicy::ExactMatch(to)).unwrap();
     if to == held.start() {
         assert_eq!(answer, Ok(held));
@@ -76,6 +80,8 @@ fn answers_are_those_of_a_plain_model() {
             |items| Some(items.len()),
             &mut draw,
         );
+        let items = (&space).into_iter();
+        expect_items(items, &held, |items| Some(items.len()), &mut draw);
         expect_items(space.iter(), &held, |items| Some(items.len()), &mut draw);
         expect_items(space.gaps(), &gaps, |items| Some(items.len()), &mut draw);
     }
@@ -83,6 +89,7 @@ fn answers_are_those_of_a_plain_model() {
     let lengths = || gaps.iter().map(RangeInclusive::len);
     assert_eq!(space.longest_gap(), lengths().max().unwrap_or(0));
     assert_eq!(space.free_len(), lengths().sum());
+    assert_eq!(space.gap_count(), gaps.len() as u64);
     let created = AddressAllocator::with_held(BASE, WIDTH, &held);
     assert_eq!(created, Ok(space));
 }
@@ -311,38 +318,86 @@ fn spaces_begin_and_end_anywhere() {
     }
 }
 
-/// Compares random calls with a set of allocated ids and the next id.
+/// Compares random calls in both forms with a set of allocated ids and the next id.
 #[test]
 fn ids_are_those_of_a_plain_model() {
+    use Error::{AlreadyReleased, InvalidRange, NeverAllocated, OutOfRange, ResourceNotAvailable};
+
     let mut draw = Draw(3);
     for first in [0, 5, u32::MAX - 30] {
         let last = first + 30;
-        let mut ids = IdAllocator::new(first, last).unwrap();
+        let none = [ResourceNotAvailable, Error::Overflow][usize::from(last == u32::MAX)];
+        let [mut ids, mut tried] = [(); 2].map(|()| IdAllocator::new(first, last).unwrap());
         let (mut held, mut next) = (BTreeSet::new(), u64::from(first));
         for _ in 0..2000 {
-            let is_new = |id: &u32| !held.contains(id);
-            let none =
-                [Error::ResourceNotAvailable, Error::Overflow][usize::from(last == u32::MAX)];
-            let lowest = (first..=last).find(is_new).ok_or(none);
-            assert_eq!(ids.peek_id(), lowest);
-            let id = first.wrapping_add(draw.below(33) as u32).wrapping_sub(1);
-            assert_eq!(ids.is_allocated(id), held.contains(&id));
-            if draw.below(2) == 0 {
-                assert_eq!(ids.allocate_id(), lowest);
-                held.extend(lowest);
-                next = next.max(lowest.map_or(0, |id| u64::from(id) + 1));
-                continue;
-            }
-            let want = match id {
-                _ if !(first..=last).contains(&id) => Err(Error::OutOfRange(id)),
-                _ if u64::from(id) >= next => Err(Error::NeverAllocated(id)),
-                _ if !held.remove(&id) => Err(Error::AlreadyReleased(id)),
-                _ => Ok(id),
+            let free = |low: u32, high: u32| -> Vec<u32> {
+                let inside = low.max(first)..=high.min(last);
+                inside.filter(|id| !held.contains(id)).collect()
             };
-            assert_eq!(ids.free_id(id), want);
-            assert_eq!(ids.held_count(), held.len() as u64);
+            let lowest = |low, high| free(low, high).first().copied();
+            assert_eq!(ids.peek_id(), lowest(first, last).ok_or(none));
+            let mut near = || first.wrapping_add(draw.below(33) as u32).wrapping_sub(1);
+            let (id, end) = (near(), near());
+            assert_eq!(ids.is_allocated(id), held.contains(&id));
+            let (answers, want) = match draw.below(8) {
+                0 => (
+                    [ids.allocate_id(), tried.allocate_id()],
+                    lowest(first, last).ok_or(none),
+                ),
+                1 => (
+                    [
+                        ids.allocate_exact(id),
+                        refused(tried.try_allocate_exact(id)),
+                    ],
+                    match (first..=last).contains(&id) {
+                        true => lowest(id, id).ok_or(ResourceNotAvailable),
+                        false => Err(OutOfRange(id)),
+                    },
+                ),
+                2 => (
+                    [
+                        ids.allocate_in(id, end),
+                        refused(tried.try_allocate_in(id, end)),
+                    ],
+                    match id <= end {
+                        true => lowest(id, end).ok_or(ResourceNotAvailable),
+                        false => Err(InvalidRange(id.into(), end.into())),
+                    },
+                ),
+                3 => {
+                    let count = draw.below(4) as usize;
+                    let list = free(first, last);
+                    let list = list.get(..count).map(<[u32]>::to_vec).ok_or(none);
+                    assert_eq!(ids.allocate_ids(count), list);
+                    assert_eq!(refused(tried.try_allocate_ids(count)), list);
+                    held.extend(list.into_iter().flatten());
+                    next = next.max(held.last().map_or(0, |id| u64::from(*id) + 1));
+                    continue;
+                }
+                _ => {
+                    let want = match id {
+                        _ if !(first..=last).contains(&id) => Err(OutOfRange(id)),
+                        _ if u64::from(id) >= next => Err(NeverAllocated(id)),
+                        _ if !held.remove(&id) => Err(AlreadyReleased(id)),
+                        _ => Ok(id),
+                    };
+                    let answers = [ids.free_id(id), refused(tried.try_free_id(id))];
+                    assert_eq!(answers, [want; 2]);
+                    continue;
+                }
+            };
+            assert_eq!(answers, [want; 2]);
+            held.extend(want);
+            next = next.max(want.map_or(0, |id| u64::from(id) + 1));
+            assert_eq!((ids.held_count(), &ids), (held.len() as u64, &tried));
             let list: Vec<_> = held.iter().copied().collect();
             expect_items(ids.held_ids(), &list, |items| Some(items.len()), &mut draw);
+            for same in [
+                IdAllocator::with_held(first, last, &list),
+                refused(IdAllocator::try_with_held(first, last, &list)),
+            ] {
+                assert!(same.unwrap().held_ids().eq(list.iter().copied()));
+            }
         }
         assert_eq!((ids.range_base(), ids.range_end()), (first, last));
     }
@@ -385,11 +440,29 @@ fn devices_are_listed_by_their_ids() {
     let mut list: Vec<DeviceSlot> = Vec::new();
     for _ in 0..500 {
         let id = u32::MAX - draw.below(10) as u32;
-        if draw.below(2) == 0 {
-            list.extend(devices.reserve(1 + draw.below(6), 1, AllocPolicy::LastMatch));
-        } else if devices.release(id).is_ok() {
-            list.retain(|device| device.id != id);
+        let (size, policy) = (1 + draw.below(6), AllocPolicy::LastMatch);
+        let request = Constraint::new(size, 1, policy).unwrap();
+        match draw.below(8) {
+            0 => list.extend(devices.reserve(size, 1, policy)),
+            1 => list.extend(devices.try_reserve(size, 1, policy)),
+            2 => list.extend(devices.reserve_constraint(request)),
+            3 => list.extend(devices.try_reserve_constraint(request)),
+            form => {
+                let count = list.len();
+                list.retain(|device| device.id != id);
+                let is_held = list.len() < count;
+                let released = match form {
+                    4 | 5 => devices.release(id),
+                    _ => refused(devices.try_release(id)),
+                };
+                assert_eq!(
+                    released,
+                    is_held.then_some(()).ok_or(Error::NeverAllocated(id))
+                );
+            }
         }
+        let device = list.iter().find(|device| device.id == id);
+        assert_eq!(devices.slot(id), device.map(|device| device.range));
         list.sort_by_key(|device| device.id);
         expect_items(
             devices.devices(),
@@ -418,9 +491,13 @@ fn a_layout_has_every_address_once() {
         next = block.range.end().checked_add(1);
     }
     assert_eq!(next, None);
+    let list: Vec<_> = layout.blocks().collect();
     let mut blocks = layout.blocks();
-    blocks.next();
-    assert_eq!((blocks.clone().count(), layout.blocks().count()), (3, 4));
+    for number in 0..=list.len() {
+        expect_in_order(blocks.clone(), &list[number..]);
+        assert_eq!(blocks.next(), list.get(number).copied());
+    }
+    assert_eq!((list.len(), blocks.next()), (4, None));
 }
 
 /// Checks the names and values of fields. An allocator shows its allocated ranges and not its tree.
@@ -515,9 +592,16 @@ fn a_layout_is_written_as_the_kernel_does() {
             .blocks()
             .filter(|block| block.state == NodeState::Free);
         others.extend(gaps.map(|gap| (gap.range, "none")));
-        // Only exactly an allocated range has a name. A second list adds names.
-        let layout = space.layout().named(names).named(others);
-        assert_eq!(layout.to_string(), text);
+        // Only exactly an allocated range has a name. A second list adds names. The last name of a range
+        // is shown.
+        let before = names.iter().map(|(range, _)| (*range, "before"));
+        let twice: Vec<_> = before.chain(names.iter().copied()).collect();
+        for layout in [
+            space.layout().named(names.clone()).named(others.clone()),
+            space.layout().named(others).named(twice).clone(),
+        ] {
+            assert_eq!(layout.to_string(), text);
+        }
     }
 }
 
@@ -653,6 +737,64 @@ fn requests_are_written_in_one_line_and_hashed() {
         assert_eq!(request.to_string(), text);
         assert!(seen.insert(request) && !seen.insert(request));
     }
+}
+
+/// Checks that values are equal to themselves and to no other of these values.
+fn expect_distinct<T: PartialEq + Debug>(values: &[T]) {
+    for (number, value) in values.iter().enumerate() {
+        for (other, of) in values.iter().enumerate() {
+            assert_eq!(value == of, number == other, "{value:?} and {of:?}");
+        }
+    }
+}
+
+/// Checks that each field decides whether values are equal.
+#[test]
+fn different_values_are_not_equal() {
+    let [range, other] = [5, 6].map(|end| RangeInclusive::new(4, end).unwrap());
+    let policies = [
+        AllocPolicy::FirstMatch,
+        AllocPolicy::LastMatch,
+        AllocPolicy::ExactMatch(0),
+        AllocPolicy::ExactMatch(4),
+    ];
+    expect_distinct(&policies);
+    let mut requests = policies
+        .map(|policy| Constraint::new(4, 4, policy).unwrap())
+        .to_vec();
+    requests.extend(
+        [(3, 4), (4, 2)]
+            .map(|(size, align)| Constraint::new(size, align, AllocPolicy::FirstMatch).unwrap()),
+    );
+    requests.extend([range, other].map(|window| requests[0].within(window)));
+    expect_distinct(&requests);
+    expect_distinct(
+        &[(1, range), (2, range), (1, other)].map(|(id, range)| DeviceSlot { id, range }),
+    );
+    let mut errors = Vec::from([1, 2].map(Error::InvalidSize));
+    errors.extend([1, 2].map(Error::OutOfRange));
+    errors.extend([1, 2].map(Error::AlreadyReleased));
+    errors.extend([1, 2].map(Error::NeverAllocated));
+    errors.extend([(1, 2), (1, 3), (2, 2)].map(|(start, end)| Error::InvalidRange(start, end)));
+    errors.extend(
+        [(range, range), (range, other), (other, range)].map(|(a, b)| Error::Overlap(a, b)),
+    );
+    errors
+        .extend([range, other].map(|range| Error::InvalidStateTransition(range, NodeState::Free)));
+    errors.push(Error::InvalidStateTransition(range, NodeState::Allocated));
+    expect_distinct(&errors);
+    let tried = errors.iter().map(|error| TryError::Refused(*error));
+    expect_distinct(&tried.chain([TryError::OutOfMemory]).collect::<Vec<_>>());
+    let indices = [None, Some(0), Some(1)];
+    expect_distinct(&indices.map(|index| ListError {
+        index,
+        error: errors[0],
+    }));
+    let lists = errors.iter().map(|error| ListError {
+        index: None,
+        error: *error,
+    });
+    expect_distinct(&lists.collect::<Vec<_>>());
 }
 
 #[test]
@@ -805,4 +947,43 @@ fn objects_are_equal_by_what_they_hold() {
     );
     assert_eq!(first.device_at(0x1020), Some(listed[1]));
     assert_eq!(first.device_at(0x1010), None);
+}
+
+/// Checks that each call of an object makes the proved call of its name, and no other work.
+#[test]
+fn calls_are_those_of_the_proved_code() {
+    let files = [
+        include_str!("../src/address_allocator.rs"),
+        include_str!("../src/id_allocator.rs"),
+        include_str!("../src/device_manager.rs"),
+    ];
+    let mut count = 0;
+    for text in files.iter().flat_map(|text| text.split("\n    pub ")) {
+        let Some((head, rest)) = text.split_once('(') else {
+            continue;
+        };
+        let Some(name) = head.trim_start_matches("const ").strip_prefix("fn ") else {
+            continue;
+        };
+        let body: String = rest
+            .split("\n    }\n")
+            .next()
+            .unwrap()
+            .split_whitespace()
+            .collect();
+        let plain = name.trim_start_matches("try_");
+        let [proved, same] = [plain, name].map(|name| format!("self.0.{name}("));
+        let made = format!("::{plain}(Global");
+        let tried = format!(
+            "elf{}try_{name}(",
+            if body.contains("Self::") { "::" } else { "." }
+        );
+        let is_one = [&proved, &same, &made, &tried]
+            .iter()
+            .any(|call| body.contains(*call));
+        let is_other = ["iter", "layout"].contains(&name);
+        assert!(is_one || is_other, "{name}: {body}");
+        count += 1;
+    }
+    assert!(count > 50, "{count} calls");
 }

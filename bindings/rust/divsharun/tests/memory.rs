@@ -9,14 +9,14 @@ use divsharun::{
     AddressAllocator, AllocPolicy, Constraint, DeviceManager, Error, IdAllocator, ListError,
     RangeInclusive, TryError,
 };
-use refusing::{blocks, refusing};
+use refusing::{blocks, peak_of, refusing};
 use std::env;
 use std::fmt::Debug;
 use std::os::unix::process::ExitStatusExt;
 use std::process::Command;
 use AllocPolicy::{ExactMatch, FirstMatch, LastMatch};
 
-/// The variable with the number of the call that ends the process.
+/// The variable with the numbers of the call that ends the process, and of its allocation that fails.
 const ENDING: &str = "DIVSHARUN_TEST_OF_MEMORY";
 
 /// The signal of a process that `abort` ended.
@@ -102,7 +102,7 @@ const TRIED: [(u64, TriedCall); 29] = [
 
 /// Calls that end the process, each with the number of its allocations on [`two_held`]. A set or a
 /// map allocates two blocks for a few ids or devices.
-const ENDED: [(u64, EndedCall); 18] = [
+const ENDED: [(u64, EndedCall); 20] = [
     (1, |_| assert!(AddressAllocator::new(0, 64).is_ok())),
     (5, |space| drop(space.clone())),
     (1 + 5, |_| {
@@ -144,19 +144,30 @@ const ENDED: [(u64, EndedCall); 18] = [
         let request = in_the_middle(1, FirstMatch);
         reserve_and_release(|devices| devices.reserve_constraint(request).is_ok())
     }),
+    (1 + 1 + 3 + 2 + 3, |_| {
+        let mut devices = DeviceManager::new(0, 0, 0, 64).expect("a manager");
+        assert!(devices.reserve(1, 1, FirstMatch).is_ok());
+        drop(devices.clone());
+    }),
+    (2 + 2, |space| {
+        let layout = space.layout().named([(both()[0], "disk")]);
+        drop(layout.clone());
+    }),
 ];
 
 fn main() {
-    if let Ok(number) = env::var(ENDING) {
-        let (_, call) = ENDED[number.parse::<usize>().expect("a number")];
+    if let Ok(text) = env::var(ENDING) {
+        let (row, number) = text.split_once(' ').expect("two numbers");
+        let (_, call) = ENDED[row.parse::<usize>().expect("a number")];
         let mut space = two_held();
-        refusing(1, || call(&mut space));
+        refusing(number.parse().expect("a number"), || call(&mut space));
         return;
     }
     count_requests();
     refuse_each_request();
     objects_stay_the_same();
     no_request_is_made();
+    lists_have_no_spare_bytes();
     processes_are_ended();
     println!("each allocation is counted, and failed in turn");
 }
@@ -341,12 +352,45 @@ fn no_request_is_made() {
     assert_eq!(requests, 0);
 }
 
+/// Checks the bytes of calls with lists, and of a small manager.
+fn lists_have_no_spare_bytes() {
+    const COUNT: usize = 1000;
+    let size = COUNT as u64;
+    let (_, node) = peak_of(|| AddressAllocator::new(0, 64));
+    let held = (0..size).map(|number| RangeInclusive::new(2 * number, 2 * number));
+    let held: Vec<_> = held.map(|range| range.expect("a range")).collect();
+    let (_, bytes) = peak_of(|| AddressAllocator::with_held(0, 2 * size, &held));
+    assert_eq!(
+        bytes,
+        COUNT * size_of::<RangeInclusive>() + 2 * COUNT * node
+    );
+    let mut space = AddressAllocator::new(0, size).expect("a space");
+    let requests = [request(1, FirstMatch); COUNT];
+    let (ranges, bytes) = peak_of(|| space.allocate_all(&requests));
+    assert_eq!(ranges.map(|ranges| ranges.capacity()), Ok(COUNT));
+    let items = 2 * size_of::<RangeInclusive>() + size_of::<Constraint>();
+    assert_eq!(bytes, COUNT * items + (COUNT - 1) * node);
+    let mut ids = IdAllocator::new(0, 2000).expect("ids");
+    let (_, bytes) = peak_of(|| ids.allocate_ids(COUNT));
+    assert_eq!(bytes, COUNT * size_of::<u32>());
+    // A set and a map have chunks of 1 KiB, and a list has capacity for four devices.
+    let (_, bytes) =
+        peak_of(|| reserve_and_release(|devices| devices.reserve(1, 1, FirstMatch).is_ok()));
+    assert!(bytes < 2 * 1024 + 600, "{bytes} bytes");
+}
+
 fn processes_are_ended() {
     let program = env::current_exe().expect("the program has a path");
-    for row in 0..ENDED.len() {
-        let mut child = Command::new(&program);
-        let ended = child.env(ENDING, row.to_string()).output();
-        let ended = ended.expect("the program starts");
-        assert_eq!(ended.status.signal(), Some(ABORTED), "row {row}: {ended:?}");
+    for (row, (requests, _)) in ENDED.iter().enumerate() {
+        for number in 1..=*requests {
+            let call = format!("{row} {number}");
+            let ended = Command::new(&program).env(ENDING, &call).output();
+            let ended = ended.expect("the program starts");
+            assert_eq!(
+                ended.status.signal(),
+                Some(ABORTED),
+                "row {call}: {ended:?}"
+            );
+        }
     }
 }

@@ -12,6 +12,7 @@ use refusing::{peak_of, refusing};
 use serde::de::value::{Error, MapDeserializer};
 use serde::de::{DeserializeOwned, IntoDeserializer};
 use serde::{Deserialize, Serialize};
+use serde_json::Value;
 use std::cell::Cell;
 
 const FRESH: &str = concat!(
@@ -75,6 +76,35 @@ fn node(key: (u64, u64), state: &str, right: &str) -> String {
 #[test]
 fn json_has_the_fields_in_order() {
     assert_eq!(json(&AddressAllocator::new(16, 4).unwrap()), FRESH);
+    // Of an even number of blocks, one more is before the root than after it.
+    let mut space = AddressAllocator::new(16, 4).unwrap();
+    for (start, root) in [
+        (
+            16,
+            fork(
+                &node((16, 16), "Allocated", "null"),
+                (17, 19),
+                "Free",
+                "null",
+                2,
+            ),
+        ),
+        (18, {
+            let low = fork(
+                &node((16, 16), "Allocated", "null"),
+                (17, 17),
+                "Free",
+                "null",
+                2,
+            );
+            let high = node((19, 19), "Free", "null");
+            fork(&low, (18, 18), "Allocated", &high, 3)
+        }),
+    ] {
+        let policy = AllocPolicy::ExactMatch(start);
+        space.allocate(1, 1, policy).unwrap();
+        assert_eq!(json(&space), space_over(&root));
+    }
     assert_eq!(json(&seven_ids()), IDS);
     assert_eq!(
         json(&RangeInclusive::new(2, 5).unwrap()),
@@ -326,7 +356,12 @@ fn trees_of_managers_have_the_shape_of_the_proved_code() {
     let low = node((16, 16), "Free", "null");
     let high = node((18, 19), "Free", "null");
     assert!(is_read_with(&fork(&low, (17, 17), "Allocated", &high, 2)));
-    // A wrong height.
+    // A wrong height, of a child and of the root.
+    for height in [0, 2, u64::MAX] {
+        let low = fork("null", (16, 16), "Free", "null", height);
+        let root = fork(&low, (17, 17), "Allocated", &high, 2);
+        assert!(!is_read_with(&root), "{height}");
+    }
     for height in [0, 1, 3, u64::MAX] {
         let root = fork(&low, (17, 17), "Allocated", &high, height);
         assert!(!is_read_with(&root), "{height}");
@@ -429,57 +464,193 @@ fn other_fields_are_refused() {
     ));
 }
 
-/// Checks that reading a text returns an error that contains these words.
-fn has_error<T: DeserializeOwned>(text: &str, words: &str) {
+/// A tree whose root is a number.
+struct WrongTree;
+
+impl<'a> IntoDeserializer<'a, Error> for WrongTree {
+    type Deserializer = MapDeserializer<'a, std::array::IntoIter<(&'static str, u64), 1>, Error>;
+
+    fn into_deserializer(self) -> Self::Deserializer {
+        MapDeserializer::new([("root", 5)].into_iter())
+    }
+}
+
+/// Returns the text of the error of reading a text, without the place that JSON adds.
+fn error_of<T: DeserializeOwned>(text: &str) -> String {
     let error = serde_json::from_str::<T>(text).map(|_| ()).unwrap_err();
-    assert!(error.to_string().contains(words), "{error}");
+    let error = error.to_string();
+    error.split(" at line ").next().unwrap().to_string()
 }
 
 #[test]
 fn errors_name_what_is_wrong() {
-    let changes = [
+    const KEYS: &str =
+        "the keys do not ascend or share an address, or an allocated key ends at u64::MAX";
+    const INSIDE: &str =
+        "a key is outside the space, or more than 6,293,134,512 keys are allocated";
+
+    let fields = "expected one of `key`, `node_state`, `left`, `right`, `height`";
+    let colour = format!("unknown field `colour`, {fields}");
+    for (old, new, error) in [
+        (r#""height":1"#, r#""height":1,"colour":2"#, &colour[..]),
         (
-            r#""height":1"#,
-            r#""height":1,"colour":2"#,
-            "unknown field `colour`",
-        ),
-        (r#""Free""#, r#""Clear""#, "unknown variant `Clear`"),
-        (r#","height":1"#, "", "missing field `height`"),
-        (
-            r#""left":null"#,
-            r#""left":null,"left":null"#,
-            "duplicate field `left`",
+            r#""Free""#,
+            r#""Clear""#,
+            "unknown variant `Clear`, expected `Free` or `Allocated`",
         ),
         (
             r#""end":19},"node_state""#,
             r#""end":20},"node_state""#,
-            "outside the space",
+            INSIDE,
         ),
-        (r#""end":19"#, r#""end":15"#, "16-15 is not valid"),
-    ];
-    for (old, new, words) in changes {
-        has_error::<AddressAllocator>(&FRESH.replace(old, new), words);
+        (
+            r#""end":19"#,
+            r#""end":15"#,
+            "The range specified: 16-15 is not valid.",
+        ),
+        (
+            r#""left":null"#,
+            r#""left":5"#,
+            "invalid type: integer `5`, expected struct InnerNode with 5 elements",
+        ),
+    ] {
+        assert_eq!(
+            error_of::<AddressAllocator>(&FRESH.replace(old, new)),
+            error
+        );
     }
     let second = node((18, 19), "Free", "null");
-    has_error::<AddressAllocator>(
-        &space_over(&node((16, 18), "Free", &second)),
-        "do not ascend",
-    );
     let last = node((16, u64::MAX), "Allocated", "null");
-    has_error::<AddressAllocator>(&space_over(&last), "ends at u64::MAX");
-    has_error::<AddressAllocator>(&chain(51), "more than 50 deep");
-    has_error::<IdAllocator>(&IDS.replace("12", "25"), "next_id");
-    has_error::<IdAllocator>(&IDS.replace("23", "4"), "range_end");
-    has_error::<IdAllocator>(&IDS.replace("[6,9]", "[6,12]"), "a freed id");
-    has_error::<IdAllocator>(&IDS.replace("[6,9]", "[9,6]"), "do not ascend");
-    let devices = json(&manager());
-    let version = devices.replace(r#""version":1"#, r#""version":2"#);
-    has_error::<DeviceManager>(&version, "version");
-    has_error::<DeviceManager>(
-        &devices.replace(r#""slots":[{"id":0"#, r#""slots":[{"id":1"#),
-        "devices",
+    let whole = fork(
+        &node((0, 5), "Free", "null"),
+        (6, u64::MAX),
+        "Free",
+        "null",
+        2,
     );
-    has_error::<DeviceManager>(&devices.replace(r#""height":2"#, r#""height":3"#), "height");
+    for (text, error) in [
+        (space_over(&node((16, 18), "Free", &second)), KEYS),
+        (space_over(&last), KEYS),
+        (space_over(&whole), INSIDE),
+        (chain(51), "nodes are nested more than 50 deep"),
+    ] {
+        assert_eq!(error_of::<AddressAllocator>(&text), error);
+    }
+    for (old, new, error) in [
+        (
+            "12",
+            "25",
+            "next_id is neither in the range nor right after it",
+        ),
+        ("23", "4", "range_base is past range_end"),
+        (
+            "[6,9]",
+            "[6,12]",
+            "a freed id is outside the range or not below next_id",
+        ),
+        ("[6,9]", "[9,6]", "the ids of a list do not ascend"),
+        ("[6,9]", "null", "invalid type: null, expected a list"),
+    ] {
+        assert_eq!(error_of::<IdAllocator>(&IDS.replace(old, new)), error);
+    }
+    let devices = json(&manager());
+    for (old, new, error) in [
+        (r#""version":1"#, r#""version":2"#, "the version is not 1"),
+        (
+            r#""slots":[{"id":0"#,
+            r#""slots":[{"id":1"#,
+            "the devices do not pair the allocated ids with the allocated ranges",
+        ),
+        (
+            r#""height":2"#,
+            r#""height":3"#,
+            "the tree is unbalanced, a height is wrong, or it has a gap or free neighbours",
+        ),
+    ] {
+        assert_eq!(error_of::<DeviceManager>(&devices.replace(old, new)), error);
+    }
+    let space = MapDeserializer::new([("interval_tree", WrongTree)].into_iter());
+    let error = AddressAllocator::deserialize(space).unwrap_err();
+    let text = "invalid type: integer `5`, expected a node or none";
+    assert_eq!(error.to_string(), text);
+}
+
+/// Returns texts of a value, each with one field of an object missing, twice, or in addition, or with a list
+/// of some fields for a node, and the start of the error.
+fn with_wrong_fields(value: &Value) -> Vec<(String, String)> {
+    let (parts, brackets): (Vec<(String, &Value)>, _) = match value {
+        Value::Object(fields) => {
+            let fields = fields.iter();
+            let named = fields.map(|(name, part)| (format!("{name:?}:"), part));
+            (named.collect(), ["{", "}"])
+        }
+        Value::Array(items) => {
+            let items = items.iter().map(|item| (String::new(), item));
+            (items.collect(), ["[", "]"])
+        }
+        _ => return Vec::new(),
+    };
+    let texts: Vec<String> = parts
+        .iter()
+        .map(|(name, part)| format!("{name}{part}"))
+        .collect();
+    let whole = |texts: &[String]| brackets.join(&texts.join(","));
+    let mut found = Vec::new();
+    for (at, (name, part)) in parts.iter().enumerate() {
+        for (text, error) in with_wrong_fields(part) {
+            let mut texts = texts.clone();
+            texts[at] = format!("{name}{text}");
+            found.push((whole(&texts), error));
+        }
+        if value.is_object() {
+            let field = name.replace('"', "`").replace(':', "");
+            let mut others = texts.clone();
+            others.remove(at);
+            found.push((whole(&others), format!("missing field {field}")));
+            let twice = [&texts[..], &texts[at..=at]].concat();
+            found.push((whole(&twice), format!("duplicate field {field}")));
+            let more = [&texts[..], &[r#""colour":1"#.to_string()]].concat();
+            found.push((whole(&more), "unknown field `colour`".to_string()));
+        }
+    }
+    if let Some(key) = value.get("key") {
+        let fields = [
+            key.to_string(),
+            r#""Free""#.into(),
+            "null".into(),
+            "null".into(),
+        ];
+        for count in 0..=fields.len() {
+            let list = format!("[{}]", fields[..count].join(","));
+            let error =
+                format!("invalid length {count}, expected struct InnerNode with 5 elements");
+            found.push((list, error));
+        }
+    }
+    found
+}
+
+#[test]
+fn each_field_is_there_once() {
+    let text = json(&manager());
+    let wrong = with_wrong_fields(&serde_json::from_str(&text).unwrap());
+    assert!(wrong.len() > 100);
+    for (text, want) in wrong {
+        let error = error_of::<DeviceManager>(&text);
+        assert!(error.starts_with(&want), "{error}, and not {want}: {text}");
+    }
+}
+
+/// Reads a space from a format that first keeps the parts of a value.
+#[test]
+fn values_are_read_after_they_are_kept() {
+    #[derive(Deserialize)]
+    #[serde(untagged)]
+    enum Kept {
+        Space(AddressAllocator),
+    }
+    let Kept::Space(space) = serde_json::from_str(&json(&windows(10))).unwrap();
+    assert_eq!(space, windows(10));
 }
 
 /// Returns a chain of nodes, each the right child of the one before.
@@ -660,6 +831,12 @@ fn a_saved_view_is_written_without_an_allocation() {
     let views = (manager.try_saved().unwrap(), space.try_saved().unwrap());
     assert_eq!(json(&views.0), json(&manager));
     assert_eq!(json(&views.1), json(&space));
+    assert_eq!(format!("{:?}", views.1), format!("Saved({space:?})"));
+    // The list of blocks grows by an eighth. A block has 24 bytes.
+    let large = windows(3000);
+    let blocks = (large.held_count() + large.gap_count()) as usize;
+    let ((view, bytes), requests) = refusing(0, || peak_of(|| large.try_saved()));
+    assert!(view.is_ok() && bytes <= 24 * (blocks + blocks / 8 + 4) && requests < 60);
     let mut bytes = Vec::with_capacity(10_000);
     let (written, requests) = refusing(0, || {
         packed::to_bytes_in(&views.0, &mut bytes).and(packed::to_bytes_in(&views.1, &mut bytes))

@@ -9,7 +9,7 @@ use divsharun::{
     NodeState, RangeInclusive, Result, TryError,
 };
 use draw::Draw;
-use model::{Model, WIDTH};
+use model::{refused, Model, WIDTH};
 use AllocPolicy::{ExactMatch, FirstMatch, LastMatch};
 use Error::{InvalidStateTransition, Overflow, ResourceNotAvailable};
 
@@ -22,14 +22,6 @@ const fn range(start: u64, end: u64) -> RangeInclusive {
         Ok(range) => range,
         Err(_) => panic!(),
     }
-}
-
-/// Returns the error of a `try_` call, which does not run out of memory.
-fn refused<T>(answer: std::result::Result<T, impl Into<TryError>>) -> Result<T> {
-    answer.map_err(|error| match error.into() {
-        TryError::Refused(error) => error,
-        other => panic!("{other:?}"),
-    })
 }
 
 /// Returns the result of a counted call, which counts the nodes that it enters.

@@ -7,7 +7,7 @@
 use box_count::proved::vm_allocator as proved;
 use box_count::proved::vm_devices as proved_devices;
 use box_count::rattle::Global;
-use box_count::value::{self, Fields, Number};
+use box_count::value::{self, Fields};
 use divsharun::{AddressAllocator, AllocPolicy, DeviceManager, IdAllocator};
 use serde::de::DeserializeOwned;
 use serde::Serialize;
@@ -41,10 +41,10 @@ fn to_proved_value(value: &Value) -> value::Value {
     match value {
         Value::Null => value::Value::Null,
         Value::Bool(truth) => value::Value::Bool(*truth),
-        Value::Number(number) => value::Value::Number(match number.as_u64() {
-            Some(whole) => Number::Whole(whole),
-            None => Number::Other(number.as_f64().unwrap_or_default()),
-        }),
+        Value::Number(number) => match number.as_u64() {
+            Some(whole) => value::Value::Whole(whole),
+            None => value::Value::Other(number.as_f64().unwrap_or_default()),
+        },
         Value::String(text) => value::Value::String(text.clone()),
         Value::Array(items) => {
             let items: Vec<value::Value> = items.iter().map(to_proved_value).collect();

@@ -100,9 +100,8 @@ fn sets_of_ids() {
     let (freed, inserted) = set(freed_ids(HELD));
     let cloned = allocations(|| freed.clone());
     let mut again = expect("clone", cloned, || all.try_clone(Global)).unwrap();
-    expect("queries", 0, || {
-        assert!(all == again && all.held_count() == HELD)
-    });
+    let is_same = || all == again && all.held_count() == HELD;
+    assert!(expect("queries", 0, is_same));
     let held: Vec<u32> = all.held_ids().collect();
     let create = || IdAllocator::with_held(Global, FIRST_ID, LAST_ID, &held);
     expect("ids given", set(freed_ids(HELD - 1)).1, create).unwrap();

@@ -43,10 +43,7 @@ fn expect_linear<T, U>(name: &str, make: impl Fn(u64) -> T, work: impl Fn(&T) ->
         (time_of(&large), 3 * linear)
     });
     let is_linear = rounds.any(|(time, most)| time <= most);
-    assert!(
-        is_linear,
-        "{name} takes more than three times linear growth"
-    );
+    assert!(is_linear, "{name} takes more than linear time");
 }
 
 #[test]
@@ -63,9 +60,9 @@ fn ids_and_devices() {
         IdAllocator::with_held(Global, FIRST_ID, LAST_ID, &held).unwrap()
     });
     expect_linear("several ids", ids, |ids| {
-        let (mut ids, half) = (ids.try_clone(Global).unwrap(), ids.held_count() / 2);
+        let (mut ids, half) = (ids.try_clone(Global).unwrap(), ids.held_count() as u32 / 2);
         let window = |id| ids.allocate_in(id, id + 1).is_ok();
-        assert!((FIRST_ID..).step_by(2).take(half as usize).all(window));
+        assert!((0..half).rev().map(|at| FIRST_ID + 2 * at).all(window));
         ids.allocate_ids(Global, half as usize).unwrap()
     });
     expect_linear("devices read and written", manager, |manager| {

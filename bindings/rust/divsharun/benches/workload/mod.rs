@@ -217,7 +217,8 @@ impl Devices {
         }
     }
 
-    /// Returns the number of devices.
+    /// Returns the number of devices. Only the comparison with other crates needs it.
+    #[allow(dead_code)]
     pub fn count(&self) -> usize {
         self.ranges.len()
     }

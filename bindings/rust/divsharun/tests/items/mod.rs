@@ -4,9 +4,27 @@ use crate::draw::Draw;
 use std::fmt::Debug;
 use std::iter::FusedIterator;
 
+/// Compares the calls of an iterator that take its items from one end.
+pub fn expect_in_order<I>(items: I, list: &[I::Item])
+where
+    I: FusedIterator<Item: Copy + PartialEq + Debug> + Clone,
+{
+    let (low, high) = items.size_hint();
+    assert!(low <= list.len() && list.len() <= high.unwrap_or(list.len()));
+    assert!(items.clone().eq(list.iter().copied()));
+    assert_eq!(items.clone().count(), list.len());
+    assert_eq!(items.clone().last(), list.last().copied());
+    let mut each = Vec::new();
+    items.clone().for_each(|item| each.push(item));
+    assert_eq!(each, list);
+    let middle = list.len() / 2;
+    assert_eq!(items.clone().nth(middle), list.get(middle).copied());
+    assert!(items.skip(middle).eq(list[middle..].iter().copied()));
+}
+
 /// Takes items from both ends, one or several at a time, until an iterator and a list have none left.
 /// `length` returns its exact length, or `None` if it has none. It is compared after each call, and so
-/// are the size hint and a clone.
+/// are the size hint and the items of a clone.
 pub fn expect_items<I>(
     mut items: I,
     list: &[I::Item],
@@ -18,12 +36,13 @@ pub fn expect_items<I>(
     let mut want = list.iter().copied();
     loop {
         let left = want.len();
-        let (low, high) = items.size_hint();
-        assert!(low <= left && left <= high.unwrap_or(left));
         if let Some(exact) = length(&items) {
-            assert_eq!((exact, low, high), (left, left, Some(left)));
+            assert_eq!((exact, items.size_hint()), (left, (left, Some(left))));
         }
-        assert!(items.clone().eq(want.clone()));
+        let ahead: Vec<_> = want.clone().collect();
+        expect_in_order(items.clone(), &ahead);
+        let back: Vec<_> = want.clone().rev().collect();
+        expect_in_order(items.clone().rev(), &back);
         if left == 0 {
             break;
         }

@@ -1,6 +1,6 @@
 //! A plain model of a small space, which looks at each address.
 use divsharun::AllocPolicy::{ExactMatch, FirstMatch, LastMatch};
-use divsharun::{Constraint, Error, NodeState, RangeInclusive, Result};
+use divsharun::{Constraint, Error, NodeState, RangeInclusive, Result, TryError};
 
 /// The number of addresses of a space.
 pub const WIDTH: u64 = 64;
@@ -76,5 +76,13 @@ impl Model {
 fn is_in_window(address: u128, request: Constraint) -> bool {
     request.window().is_none_or(|window| {
         u128::from(window.start()) <= address && address <= u128::from(window.end())
+    })
+}
+
+/// Returns the error of a `try_` call, which does not run out of memory.
+pub fn refused<T>(answer: std::result::Result<T, impl Into<TryError>>) -> Result<T> {
+    answer.map_err(|error| match error.into() {
+        TryError::Refused(error) => error,
+        other => panic!("{other:?}"),
     })
 }
