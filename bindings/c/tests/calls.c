@@ -33,7 +33,7 @@ static void run(void *object, const struct step *steps, size_t count) {
 
         prepare();
         status = make_call(steps[i].call, object, steps[i].numbers);
-        if (status == DVS_OK && (steps[i].call == IS_HELD || steps[i].call == IS_ID_HELD))
+        if (status == DVS_OK && (steps[i].call == IS_ALLOCATED || steps[i].call == IS_ID_HELD))
             results.device.range.start = results.flag;
         if (!has_outcome(&steps[i].outcome, status))
             fprintf(stderr, "row %d: status %d\n", (int)i, (int)status);
@@ -111,12 +111,12 @@ static const struct step on_space[] = {
     {FIRST, {0x100, 0x100}, GETS(0x1000, 0x10ff)},
     {LAST, {0x10, 0x100}, GETS(0x1f00, 0x1f0f)},
     {EXACT, {0x10, 1, 0x1801}, GETS(0x1801, 0x1810)},
-    {IS_HELD, {0x1000, 0x10ff}, GETS_NUMBER(true)},
+    {IS_ALLOCATED, {0x1000, 0x10ff}, GETS_NUMBER(true)},
     {EXACT, {0x100, 0x100, 0x1000}, TELLS(DVS_INVALID_STATE_TRANSITION, 0x1000, 0x10ff)},
     {FREE, {0x1000, 0x10fe}, NO_PLACE},
     {FREE, {2, 1}, TELLS(DVS_INVALID_RANGE, 2, 1)},
-    {IS_HELD, {0, TOP}, TELLS(DVS_INVALID_RANGE, 0, TOP)},
-    {IS_HELD, {0x1000, 0x10fe}, GETS_NUMBER(false)},
+    {IS_ALLOCATED, {0, TOP}, TELLS(DVS_INVALID_RANGE, 0, TOP)},
+    {IS_ALLOCATED, {0x1000, 0x10fe}, GETS_NUMBER(false)},
     {COUNT, {0}, GETS_NUMBER(3)},
     {FREE, {0x1801, 0x1810}, SUCCEEDS},
     {FREE, {0x1000, 0x10ff}, SUCCEEDS},
@@ -155,11 +155,11 @@ static const struct step of_large_ranges[] = {
     {EXACT,
      {0x200000000, 1, 0x7654321400000000},
      TELLS(DVS_INVALID_STATE_TRANSITION, 0x7654321400000000, 0x76543215ffffffff)},
-    {IS_HELD, {0x7654321400000000, 0x76543215ffffffff}, GETS_NUMBER(true)},
+    {IS_ALLOCATED, {0x7654321400000000, 0x76543215ffffffff}, GETS_NUMBER(true)},
     {FREE, {0x7654328800000000, 0x7654328900000000}, SUCCEEDS},
     {FREE, {0x7654330800000000, 0x7654330a00000000}, SUCCEEDS},
     {FREE, {0x7654321400000000, 0x76543215ffffffff}, SUCCEEDS},
-    {IS_HELD, {0x7654321400000000, 0x76543215ffffffff}, GETS_NUMBER(false)},
+    {IS_ALLOCATED, {0x7654321400000000, 0x76543215ffffffff}, GETS_NUMBER(false)},
 };
 
 static const struct step on_last_space[] = {{SPACE, {0}, GETS(1, TOP)}};

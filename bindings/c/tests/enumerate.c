@@ -160,7 +160,7 @@ static void look_up_ranges(void) {
     CHECK(is_range(range, 0x3800, 0x3fff));
     CHECK(dvs_longest_gap(space, &number) == DVS_OK && number == 0x1000);
     CHECK(dvs_gap_count(space, &number) == DVS_OK && number == 3);
-    CHECK(dvs_clear_count(space, &number) == DVS_OK && number == 0x2800);
+    CHECK(dvs_free_length(space, &number) == DVS_OK && number == 0x2800);
     dvs_address_allocator_destroy(space);
 }
 
@@ -181,7 +181,7 @@ static void visit_gaps(void) {
     seen = all_of();
     CHECK(dvs_gap_visit(space, see_range, &seen) == DVS_OK && seen.count == 0);
     CHECK(dvs_gap_count(space, &number) == DVS_OK && number == 0);
-    CHECK(dvs_clear_count(space, &number) == DVS_OK && number == 0);
+    CHECK(dvs_free_length(space, &number) == DVS_OK && number == 0);
     dvs_address_allocator_destroy(space);
 }
 
@@ -329,7 +329,7 @@ static void allocate_all(void) {
     CHECK(is_range(ranges[2], 0x2100, 0x21ff));
     CHECK(dvs_address_allocator_allocate_all(space, NULL, 0, NULL, NULL, NULL) == DVS_OK);
     CHECK(dvs_range_count(space, &count) == DVS_OK && count == 5);
-    CHECK(dvs_clear_count(space, &count) == DVS_OK && count == 0x2800 - 0x910);
+    CHECK(dvs_free_length(space, &count) == DVS_OK && count == 0x2800 - 0x910);
     dvs_address_allocator_destroy(space);
 }
 
@@ -346,7 +346,7 @@ static void refuse_bars(dvs_address_allocator *space, const dvs_request *bars, d
     CHECK(failed == 1 && is_range(ranges[0], 1, 2));
     CHECK(is_range(refusal.range, told.start, told.end));
     CHECK(dvs_range_count(space, &count) == DVS_OK && count == 2);
-    CHECK(dvs_clear_count(space, &count) == DVS_OK && count == 0x2800);
+    CHECK(dvs_free_length(space, &count) == DVS_OK && count == 0x2800);
 }
 
 /* Allocates two BARs, each in a separate window. */

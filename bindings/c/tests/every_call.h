@@ -15,14 +15,14 @@ enum {
     READ_IDS, READ_MANAGER, SPACE_WITHIN, REPAIR_WITHIN, IDS_WITHIN, MANAGER_WITHIN,
 
     FIRST, LAST, EXACT, MOVE, REQUEST, LIST, FREE, DESTROY_SPACE,
-    SPACE, IS_HELD, COUNT, GAP_COUNT, CLEAR_COUNT, LONGEST_GAP, RANGE_AT, GAP_AT, EQUAL_SPACE, COPY_SPACE, SAVE_SPACE,
+    SPACE, IS_ALLOCATED, COUNT, GAP_COUNT, FREE_LENGTH, LONGEST_GAP, RANGE_AT, GAP_AT, EQUAL_SPACE, COPY_SPACE, SAVE_SPACE,
     VISIT, VISIT_GAPS, VISIT_IN, GAPS_IN, VISIT_FROM, VISIT_BACK, GAPS_FROM, GAPS_BACK,
 
     ID, ID_IN, IDS, ID_EXACT, FREE_ID, DESTROY_IDS,
     PEEK, IS_ID_HELD, ID_COUNT, FREE_COUNT, ID_ENDS, EQUAL_IDS, COPY_IDS, SAVE_IDS, VISIT_IDS,
 
     RESERVE_FIRST, RESERVE_LAST, RESERVE_EXACT, RESERVE, RELEASE, DESTROY_MANAGER,
-    DEVICE_RANGE, DEVICE_AT, DEVICE_COUNT, DEVICE_SPACE, DEVICE_IDS, EQUAL_MANAGERS, COPY_MANAGER, SAVE_MANAGER, VISIT_DEVICES,
+    DEVICE_SLOT, DEVICE_AT, DEVICE_COUNT, DEVICE_SPACE, DEVICE_IDS, EQUAL_MANAGERS, COPY_MANAGER, SAVE_MANAGER, VISIT_DEVICES,
     CALLS
 };
 /* clang-format on */
@@ -35,7 +35,7 @@ static const struct group {
 } groups[] = {
     {FIRST, FREE, SPACE, VISIT, ID},
     {ID, ID_EXACT, PEEK, VISIT_IDS, RESERVE_FIRST},
-    {RESERVE_FIRST, RELEASE, DEVICE_RANGE, VISIT_DEVICES, CALLS},
+    {RESERVE_FIRST, RELEASE, DEVICE_SLOT, VISIT_DEVICES, CALLS},
 };
 
 /* Ranges, requests and ids that are invalid. The second id is also below the first. An array has
@@ -151,10 +151,10 @@ static dvs_status make_call(int call, void *object, const uint64_t *n) {
         CASE(FREE, dvs_range_free(space, range, REFUSAL));
         CASE(DESTROY_SPACE, dvs_address_allocator_destroy(space));
         CASE(SPACE, dvs_address_allocator_space(seen_space, to));
-        CASE(IS_HELD, dvs_range_is_held(seen_space, range, to_flag, REFUSAL));
+        CASE(IS_ALLOCATED, dvs_range_is_allocated(seen_space, range, to_flag, REFUSAL));
         CASE(COUNT, dvs_range_count(seen_space, to_number));
         CASE(GAP_COUNT, dvs_gap_count(seen_space, to_number));
-        CASE(CLEAR_COUNT, dvs_clear_count(seen_space, to_number));
+        CASE(FREE_LENGTH, dvs_free_length(seen_space, to_number));
         CASE(LONGEST_GAP, dvs_longest_gap(seen_space, to_number));
         CASE(RANGE_AT, dvs_range_at(seen_space, n[0], to));
         CASE(GAP_AT, dvs_gap_at(seen_space, n[0], to));
@@ -176,7 +176,7 @@ static dvs_status make_call(int call, void *object, const uint64_t *n) {
         CASE(FREE_ID, dvs_id_free(ids, first, REFUSAL));
         CASE(DESTROY_IDS, dvs_id_allocator_destroy(ids));
         CASE(PEEK, dvs_id_peek(seen_ids, to_id));
-        CASE(IS_ID_HELD, dvs_id_is_held(seen_ids, first, to_flag));
+        CASE(IS_ID_HELD, dvs_id_is_allocated(seen_ids, first, to_flag));
         CASE(ID_COUNT, dvs_id_count(seen_ids, to_number));
         CASE(FREE_COUNT, dvs_id_free_count(seen_ids, to_number));
         CASE(ID_ENDS, dvs_id_allocator_range(seen_ids, to_id, to_last));
@@ -191,7 +191,7 @@ static dvs_status make_call(int call, void *object, const uint64_t *n) {
         CASE(RESERVE, dvs_device_reserve(manager, given.request, to_device, REFUSAL));
         CASE(RELEASE, dvs_device_release(manager, first, REFUSAL));
         CASE(DESTROY_MANAGER, dvs_device_manager_destroy(manager));
-        CASE(DEVICE_RANGE, dvs_device_range(seen_manager, first, to, REFUSAL));
+        CASE(DEVICE_SLOT, dvs_device_slot(seen_manager, first, to, REFUSAL));
         CASE(DEVICE_AT, dvs_device_at(seen_manager, n[0], to_device));
         CASE(DEVICE_COUNT, dvs_device_count(seen_manager, to_number));
         CASE(DEVICE_SPACE, dvs_device_manager_space(seen_manager, to));

@@ -143,7 +143,7 @@ static void save() {
     CHECK(!copy.read(text) && copy.ranges().size() == 2);
     CHECK(copy.read("{}") == dvs::code(DVS_NOT_A_STATE) && copy.ranges().size() == 2);
     uint64_t count = 0;
-    CHECK(!copy.held_count(count) && count == 2 && !copy.clear_count(count) && count == 13);
+    CHECK(!copy.held_count(count) && count == 2 && !copy.free_length(count) && count == 13);
     CHECK(!copy.gap_count(count) && count == 3);
     dvs_text_fault fault;
     dvs_text_limits limits = {text.size() - 1, 0};
@@ -209,22 +209,23 @@ static void ask() {
     std::string text;
     uint64_t count = 0;
     uint32_t first = 0, last = 0, id = 0;
-    bool is_held = false;
+    bool is_allocated = false;
 
     CHECK(!space.make_with_held(0, 16, {range_of(1, 2)}) && !space.save(text));
     CHECK(!space.read_repaired(text) && !space.space(range) && is_range(range, 0, 15));
-    CHECK(!space.is_held({1, 2}, is_held) && is_held && !space.is_held({1, 1}, is_held) &&
-          !is_held);
-    CHECK(space.is_held({2, 1}, is_held) == DVS_INVALID_RANGE);
+    CHECK(!space.is_allocated({1, 2}, is_allocated) && is_allocated &&
+          !space.is_allocated({1, 1}, is_allocated) && !is_allocated);
+    CHECK(space.is_allocated({2, 1}, is_allocated) == DVS_INVALID_RANGE);
     CHECK(!ids.make_with_held(5, 9, {5}) && !ids.range(first, last) && first == 5 && last == 9);
     CHECK(!ids.peek(id) && id == 6 && !ids.held_count(count) && count == 1);
-    CHECK(!ids.is_held(5, is_held) && is_held && !ids.is_held(6, is_held) && !is_held);
+    CHECK(!ids.is_allocated(5, is_allocated) && is_allocated &&
+          !ids.is_allocated(6, is_allocated) && !is_allocated);
     CHECK(!devices.make(5, 9, 16, 16) && !devices.reserve_last(4, 4, device));
     CHECK(device.id == 5 && is_range(device.range, 28, 31));
     CHECK(!devices.reserve_exact(4, 4, 16, device) && device.id == 6);
     CHECK(devices.reserve_exact(4, 4, 16, device) == DVS_INVALID_STATE_TRANSITION);
-    CHECK(!devices.range(6, range) && is_range(range, 16, 19));
-    CHECK(devices.range(7, range) == DVS_NEVER_ALLOCATED);
+    CHECK(!devices.slot(6, range) && is_range(range, 16, 19));
+    CHECK(devices.slot(7, range) == DVS_NEVER_ALLOCATED);
     CHECK(!devices.ids(first, last) && first == 5 && last == 9);
     CHECK(!devices.space(range) && is_range(range, 16, 31));
     CHECK(!devices.device_count(count) && count == 2);
@@ -295,16 +296,16 @@ static void ask_empty(const dvs::address_allocator &space, const dvs::id_allocat
     dvs_device device;
     uint64_t count;
     uint32_t id;
-    bool is_held;
+    bool is_allocated;
     auto see = [](dvs_range) { return true; };
     const dvs::error all[] = {space.save(text),
                               space.space(range),
-                              space.is_held(range, is_held),
+                              space.is_allocated(range, is_allocated),
                               space.at(0, range),
                               space.gap_at(0, range),
                               space.longest_gap(count),
                               space.held_count(count),
-                              space.clear_count(count),
+                              space.free_length(count),
                               space.ranges_in(range, ranges),
                               space.for_each(see),
                               space.gaps_in(range, ranges),
@@ -315,7 +316,7 @@ static void ask_empty(const dvs::address_allocator &space, const dvs::id_allocat
                               ids.save(text),
                               ids.range(id, id),
                               ids.peek(id),
-                              ids.is_held(0, is_held),
+                              ids.is_allocated(0, is_allocated),
                               ids.held_count(count),
                               ids.free_count(count),
                               devices.save(text),

@@ -113,15 +113,15 @@ def space_of(value, is_strict=True):
     if tree is None:
         return None
     following, before = space[0], True
-    for start, end, is_held in tree[0]:
-        if start < following or end > space[1] or is_held and end == MAX:
+    for start, end, is_allocated in tree[0]:
+        if start < following or end > space[1] or is_allocated and end == MAX:
             return None
-        if is_strict and (start != following or not (is_held or before)):
+        if is_strict and (start != following or not (is_allocated or before)):
             return None
-        following, before = end + 1, is_held
+        following, before = end + 1, is_allocated
     if is_strict and following != space[1] + 1:
         return None
-    return space, [(start, end) for start, end, is_held in tree[0] if is_held]
+    return space, [(start, end) for start, end, is_allocated in tree[0] if is_allocated]
 
 
 def ids_of(value):
@@ -196,9 +196,9 @@ class Texts:
             return None, 0
         middle = len(blocks) // 2
         (left, low), (right, high) = self.tree(blocks[:middle]), self.tree(blocks[middle + 1:])
-        start, end, is_held = blocks[middle]
+        start, end, is_allocated = blocks[middle]
         height = 1 + max(low, high)
-        return {"key": self.range(start, end), "node_state": "Allocated" if is_held else "Free", "left": left, "right": right,
+        return {"key": self.range(start, end), "node_state": "Allocated" if is_allocated else "Free", "left": left, "right": right,
                 "height": height}, height
 
     def space(self, blocks):
@@ -216,7 +216,7 @@ class Texts:
         held = self.choices.randrange(6)
         blocks, ids = self.blocks(held), self.ids(held)
         numbers = [number for number in range(ids["range_base"], ids["next_id"]) if number not in ids["freed_ids"]]
-        ranges = [self.range(start, end) for start, end, is_held in blocks if is_held]
+        ranges = [self.range(start, end) for start, end, is_allocated in blocks if is_allocated]
         self.choices.shuffle(ranges)
         slots = [{"id": number, "mmio_range": one} for number, one in zip(numbers, ranges)]
         return {"version": 1, "id_allocator": ids, "mmio_allocator": self.space(blocks), "slots": slots}
