@@ -220,12 +220,12 @@ static const struct step on_devices[] = {
     /* No id is free. */
     {RESERVE_FIRST, {1, 1}, NO_PLACE},
     {RESERVE_EXACT, {0x100, 1, 0x1ef0}, NO_PLACE},
-    {DEVICE_RANGE, {2}, GETS(0x1f00, 0x1fff)},
+    {DEVICE_SLOT, {2}, GETS(0x1f00, 0x1fff)},
     {DEVICE_AT, {0x1fff}, GETS_DEVICE(2, 0x1f00, 0x1fff)},
     {DEVICE_AT, {0x1802}, ENDS(DVS_RESOURCE_NOT_AVAILABLE)},
     {RELEASE, {2}, SUCCEEDS},
     {RELEASE, {2}, TELLS_ID(DVS_NEVER_ALLOCATED, 2)},
-    {DEVICE_RANGE, {2}, TELLS_ID(DVS_NEVER_ALLOCATED, 2)},
+    {DEVICE_SLOT, {2}, TELLS_ID(DVS_NEVER_ALLOCATED, 2)},
 };
 
 static const struct step on_one_device[] = {
@@ -329,7 +329,7 @@ static void reserve_many_devices(uint32_t first) {
         const uint64_t start = base + MANY - 1 - i;
         const struct step steps[] = {
             {RESERVE_LAST, {1, 1}, GETS_DEVICE(first + i, start, start)},
-            {DEVICE_RANGE, {first + i}, GETS(start, start)},
+            {DEVICE_SLOT, {first + i}, GETS(start, start)},
         };
 
         run(manager, ROWS(steps));
@@ -337,7 +337,7 @@ static void reserve_many_devices(uint32_t first) {
     for (i = first; i < first + MANY; i++) {
         const struct step steps[] = {
             {RELEASE, {i}, SUCCEEDS},
-            {DEVICE_RANGE, {i}, TELLS_ID(DVS_NEVER_ALLOCATED, i)},
+            {DEVICE_SLOT, {i}, TELLS_ID(DVS_NEVER_ALLOCATED, i)},
         };
 
         run(manager, ROWS(steps));

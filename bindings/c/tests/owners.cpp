@@ -322,7 +322,7 @@ static void ask_empty(const dvs::address_allocator &space, const dvs::id_allocat
                               devices.save(text),
                               devices.ids(id, id),
                               devices.space(range),
-                              devices.range(0, range),
+                              devices.slot(0, range),
                               devices.device_count(count),
                               devices.at(0, device)};
 
