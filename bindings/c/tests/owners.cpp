@@ -190,7 +190,7 @@ static void compare_errors() {
     dvs::address_allocator space;
     dvs::error failure = space.make(UINT64_MAX, 2);
 
-    CHECK(failure == DVS_OVERFLOW && failure != DVS_UNDERFLOW &&
+    CHECK(failure == DVS_OVERFLOW && failure != DVS_UNDERFLOW && !(failure != DVS_OVERFLOW) &&
           failure == dvs::code(DVS_OVERFLOW));
     CHECK(failure && failure != std::errc::not_enough_memory);
     CHECK(dvs::code(DVS_OUT_OF_MEMORY) == std::errc::not_enough_memory);
@@ -290,7 +290,7 @@ static void tell_details() {
 /* Makes each query on empty owners. */
 static void ask_empty(const dvs::address_allocator &space, const dvs::id_allocator &ids,
                       const dvs::device_manager &devices) {
-    std::string text;
+    std::string text = "kept";
     std::vector<dvs_range> ranges;
     dvs_range range = {0, 0};
     dvs_device device;
@@ -329,7 +329,7 @@ static void ask_empty(const dvs::address_allocator &space, const dvs::id_allocat
     for (const dvs::error &one : all)
         CHECK(one == DVS_NULL);
     CHECK(space.ranges().empty() && space.gaps().empty() && ids.ids().empty());
-    CHECK(devices.devices().empty() && space == space && !(ids != ids) && !devices);
+    CHECK(devices.devices().empty() && space == space && !(ids != ids) && text == "kept");
 }
 
 static void throw_in_a_visit() {
