@@ -51,7 +51,7 @@
  * text, and its part after the first fault allocates nothing.
  *
  * Cost. Let k be the number of allocated ranges. Allocating, moving and freeing
- * a range takes time of the order of log k, and so do dvs_range_is_held(),
+ * a range takes time of the order of log k, and so do dvs_range_is_allocated(),
  * dvs_range_at() and dvs_gap_at(). An alignment can make the search for a range
  * visit more gaps. A visit within a range or from an address takes time of the order
  * of log k, plus the number of allocated ranges and gaps up to where it ends.
@@ -473,13 +473,13 @@ dvs_status dvs_range_move(dvs_address_allocator *allocator, dvs_range range, uin
                           dvs_range *moved, dvs_refusal *refusal);
 
 /*
- * Writes to `is_held` whether exactly this range is allocated.
+ * Writes to `is_allocated` whether exactly this range is allocated.
  *
  * Errors: DVS_INVALID_RANGE if `range` is not a valid range.
  */
 DVS_WARN_UNUSED
-dvs_status dvs_range_is_held(const dvs_address_allocator *allocator, dvs_range range, bool *is_held,
-                             dvs_refusal *refusal);
+dvs_status dvs_range_is_allocated(const dvs_address_allocator *allocator, dvs_range range,
+                                  bool *is_allocated, dvs_refusal *refusal);
 
 /* Writes the number of allocated ranges to `count`, in constant time. Errors: DVS_NULL. */
 DVS_WARN_UNUSED
@@ -515,9 +515,9 @@ dvs_status dvs_longest_gap(const dvs_address_allocator *allocator, uint64_t *len
 DVS_WARN_UNUSED
 dvs_status dvs_gap_count(const dvs_address_allocator *allocator, uint64_t *count);
 
-/* Writes the number of free addresses to `count`, in constant time. Errors: DVS_NULL. */
+/* Writes the number of free addresses to `length`, in constant time. Errors: DVS_NULL. */
 DVS_WARN_UNUSED
-dvs_status dvs_clear_count(const dvs_address_allocator *allocator, uint64_t *count);
+dvs_status dvs_free_length(const dvs_address_allocator *allocator, uint64_t *length);
 
 /*
  * The function that a visit calls for each range, with its `context`. It returns
@@ -768,11 +768,11 @@ dvs_status dvs_id_peek(const dvs_id_allocator *allocator, uint32_t *id);
 dvs_status dvs_id_free(dvs_id_allocator *allocator, uint32_t id, dvs_refusal *refusal);
 
 /*
- * Writes to `is_held` whether the id is allocated. An id outside the range is
+ * Writes to `is_allocated` whether the id is allocated. An id outside the range is
  * not. Errors: DVS_NULL.
  */
 DVS_WARN_UNUSED
-dvs_status dvs_id_is_held(const dvs_id_allocator *allocator, uint32_t id, bool *is_held);
+dvs_status dvs_id_is_allocated(const dvs_id_allocator *allocator, uint32_t id, bool *is_allocated);
 
 /* Writes the number of allocated ids to `count`. Errors: DVS_NULL. */
 DVS_WARN_UNUSED
@@ -900,8 +900,8 @@ dvs_status dvs_device_release(dvs_device_manager *manager, uint32_t id, dvs_refu
  * Errors: DVS_NEVER_ALLOCATED, with the id, if no device has it.
  */
 DVS_WARN_UNUSED
-dvs_status dvs_device_range(const dvs_device_manager *manager, uint32_t id, dvs_range *range,
-                            dvs_refusal *refusal);
+dvs_status dvs_device_slot(const dvs_device_manager *manager, uint32_t id, dvs_range *range,
+                           dvs_refusal *refusal);
 
 /*
  * Writes the device whose range contains the address to `device`.

@@ -284,9 +284,12 @@ class address_allocator : public owner<dvs_address_allocator, dvs_address_alloca
     DVS_MUST_CHECK error allocate_all(const std::vector<dvs_request> &requests,
                                       std::vector<dvs_range> &ranges, std::size_t *failed = nullptr,
                                       dvs_refusal *refusal = nullptr) {
-        ranges.resize(requests.size());
-        return code(dvs_address_allocator_allocate_all(get(), requests.data(), requests.size(),
-                                                       ranges.data(), failed, refusal));
+        std::vector<dvs_range> allocated(requests.size());
+        error failure = code(dvs_address_allocator_allocate_all(
+            get(), requests.data(), requests.size(), allocated.data(), failed, refusal));
+        if (!failure)
+            ranges = std::move(allocated);
+        return failure;
     }
     DVS_MUST_CHECK error allocate_all(const std::vector<request> &requests,
                                       std::vector<dvs_range> &ranges, std::size_t *failed = nullptr,
@@ -306,8 +309,8 @@ class address_allocator : public owner<dvs_address_allocator, dvs_address_alloca
     DVS_MUST_CHECK error space(dvs_range &space) const {
         return code(dvs_address_allocator_space(get(), &space));
     }
-    DVS_MUST_CHECK error is_held(dvs_range range, bool &is_held) const {
-        return code(dvs_range_is_held(get(), range, &is_held, nullptr));
+    DVS_MUST_CHECK error is_allocated(dvs_range range, bool &is_allocated) const {
+        return code(dvs_range_is_allocated(get(), range, &is_allocated, nullptr));
     }
     DVS_MUST_CHECK error at(uint64_t address, dvs_range &range) const {
         return code(dvs_range_at(get(), address, &range));
@@ -324,8 +327,8 @@ class address_allocator : public owner<dvs_address_allocator, dvs_address_alloca
     DVS_MUST_CHECK error gap_count(uint64_t &count) const {
         return code(dvs_gap_count(get(), &count));
     }
-    DVS_MUST_CHECK error clear_count(uint64_t &count) const {
-        return code(dvs_clear_count(get(), &count));
+    DVS_MUST_CHECK error free_length(uint64_t &length) const {
+        return code(dvs_free_length(get(), &length));
     }
     std::vector<dvs_range> ranges() const { return list_by<dvs_range>(dvs_range_visit); }
     std::vector<dvs_range> gaps() const { return list_by<dvs_range>(dvs_gap_visit); }
@@ -421,8 +424,8 @@ class id_allocator : public owner<dvs_id_allocator, dvs_id_allocator_destroy, dv
         return code(dvs_ids_allocate(get(), ids.data(), ids.size()));
     }
     DVS_MUST_CHECK error free(uint32_t id) { return code(dvs_id_free(get(), id, nullptr)); }
-    DVS_MUST_CHECK error is_held(uint32_t id, bool &is_held) const {
-        return code(dvs_id_is_held(get(), id, &is_held));
+    DVS_MUST_CHECK error is_allocated(uint32_t id, bool &is_allocated) const {
+        return code(dvs_id_is_allocated(get(), id, &is_allocated));
     }
     DVS_MUST_CHECK error held_count(uint64_t &count) const {
         return code(dvs_id_count(get(), &count));
@@ -477,8 +480,8 @@ class device_manager : public owner<dvs_device_manager, dvs_device_manager_destr
     DVS_MUST_CHECK error space(dvs_range &space) const {
         return code(dvs_device_manager_space(get(), &space));
     }
-    DVS_MUST_CHECK error range(uint32_t id, dvs_range &range) const {
-        return code(dvs_device_range(get(), id, &range, nullptr));
+    DVS_MUST_CHECK error slot(uint32_t id, dvs_range &range) const {
+        return code(dvs_device_slot(get(), id, &range, nullptr));
     }
     DVS_MUST_CHECK error device_count(uint64_t &count) const {
         return code(dvs_device_count(get(), &count));

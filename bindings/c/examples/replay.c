@@ -171,7 +171,7 @@ static void free_id(struct session *session, const uint64_t *number) {
 
 static void has_id(struct session *session, const uint64_t *number) {
     bool has;
-    dvs_status status = dvs_id_is_held(session->ids, (uint32_t)number[0], &has);
+    dvs_status status = dvs_id_is_allocated(session->ids, (uint32_t)number[0], &has);
 
     puts(status == DVS_OK && has ? "yes" : "no");
 }

@@ -154,7 +154,7 @@ pub extern "C" fn dvs_device_release(
 
 /// Returns `DVS_NEVER_ALLOCATED` for an id without a device, like `dvs_device_release`.
 #[unsafe(no_mangle)]
-pub extern "C" fn dvs_device_range(
+pub extern "C" fn dvs_device_slot(
     manager: Option<&dvs_device_manager>,
     id: u32,
     range: Out<dvs_range>,

@@ -145,12 +145,12 @@ pub extern "C" fn dvs_id_free(
 }
 
 #[unsafe(no_mangle)]
-pub extern "C" fn dvs_id_is_held(
+pub extern "C" fn dvs_id_is_allocated(
     allocator: Option<&dvs_id_allocator>,
     id: u32,
-    is_held: Out<bool>,
+    is_allocated: Out<bool>,
 ) -> dvs_status {
-    let asked = with_ref(allocator, is_held, |allocator| {
+    let asked = with_ref(allocator, is_allocated, |allocator| {
         Ok(allocator.is_allocated(id))
     });
     status_of(asked, None)

@@ -196,13 +196,13 @@ fn move_range(
 }
 
 #[unsafe(no_mangle)]
-pub extern "C" fn dvs_range_is_held(
+pub extern "C" fn dvs_range_is_allocated(
     allocator: Option<&dvs_address_allocator>,
     range: dvs_range,
-    is_held: Out<bool>,
+    is_allocated: Out<bool>,
     refusal: Out<dvs_refusal>,
 ) -> dvs_status {
-    let asked = with_ref(allocator, is_held, |allocator| {
+    let asked = with_ref(allocator, is_allocated, |allocator| {
         Ok(allocator.holds(&range.try_into()?))
     });
     status_of(asked, refusal)
@@ -262,11 +262,11 @@ pub extern "C" fn dvs_gap_count(
 }
 
 #[unsafe(no_mangle)]
-pub extern "C" fn dvs_clear_count(
+pub extern "C" fn dvs_free_length(
     allocator: Option<&dvs_address_allocator>,
-    count: Out<u64>,
+    length: Out<u64>,
 ) -> dvs_status {
-    let asked = with_ref(allocator, count, |allocator| Ok(allocator.free_len()));
+    let asked = with_ref(allocator, length, |allocator| Ok(allocator.free_len()));
     status_of(asked, None)
 }
 

@@ -5,47 +5,9 @@
  */
 #include "every_call.h"
 
-/* Numbers that are invalid in each call. */
-static const uint64_t bad[4] = {3, 0, 1, 0};
+#include <limits.h>
 
-/* Checks that a call with bad numbers returns an error. It must write no result, and all details or
- * none. */
-static void refuse(int call, void *object, dvs_status expected) {
-    static const dvs_refusal none = {{0, 0}, {0, 0}, 0, 0, 0};
-    const bool has_fault = SPACE_WITHIN <= call && call <= MANAGER_WITHIN;
-    dvs_status status;
-
-    prepare();
-    failed = MANY;
-    status = make_call(call, object, bad);
-    CHECK(failed == (call == LIST || call == WITH_RANGES ? 1 : MANY));
-    if (status != expected)
-        fprintf(stderr, "call %d: status %d\n", call, (int)status);
-    CHECK(noted(status) == expected && is_untouched(&results, sizeof results));
-    CHECK(is_untouched(&refusal, sizeof refusal) || memcmp(&refusal, &none, sizeof none) == 0);
-    CHECK(is_untouched(&fault.offset, sizeof fault.offset) == !has_fault);
-    CHECK(is_untouched(&fault.reason, sizeof fault.reason) == !has_fault);
-    CHECK(is_untouched(&fault.field, sizeof fault.field) == !has_fault);
-}
-
-/* ---- The calls that each group has ---- */
-
-static void destroy(int group, void *object) {
-    CHECK(make_call(groups[group].queries - 1, object, bad) == DVS_OK);
-}
-
-/* Returns the object that a call has created. */
-static void *created(int group) {
-    return group == 0   ? (void *)results.space
-           : group == 1 ? (void *)results.ids
-                        : (void *)results.manager;
-}
-
-static void *copied(int group, void *object) {
-    prepare();
-    CHECK(make_call(groups[group].visits - 2, object, bad) == DVS_OK);
-    return created(group);
-}
+/* ---- Calls with numbers ---- */
 
 /* Checks the saved text of an object. */
 static void is_saved_as(int group, void *object, const char *text) {
@@ -54,22 +16,6 @@ static void is_saved_as(int group, void *object, const char *text) {
     CHECK(strcmp(results.text, text) == 0 && strlen(text) == results.length);
     dvs_text_destroy(results.text);
 }
-
-/* Checks whether two objects are equal. Each equals itself. */
-static void compare(int group, void *one, void *other, bool are_equal) {
-    void *pairs[4][2] = {{one, other}, {other, one}, {one, one}, {other, other}};
-    int i;
-
-    for (i = 0; i < 4; i++) {
-        given = usual;
-        given.other = pairs[i][1];
-        prepare();
-        CHECK(make_call(groups[group].visits - 3, pairs[i][0], bad) == DVS_OK);
-        CHECK(results.flag == (are_equal || i >= 2));
-    }
-}
-
-/* ---- Calls with numbers ---- */
 
 struct step {
     int call;
@@ -87,7 +33,7 @@ static void run(void *object, const struct step *steps, size_t count) {
 
         prepare();
         status = make_call(steps[i].call, object, steps[i].numbers);
-        if (status == DVS_OK && (steps[i].call == IS_HELD || steps[i].call == IS_ID_HELD))
+        if (status == DVS_OK && (steps[i].call == IS_ALLOCATED || steps[i].call == IS_ID_HELD))
             results.device.range.start = results.flag;
         if (!has_outcome(&steps[i].outcome, status))
             fprintf(stderr, "row %d: status %d\n", (int)i, (int)status);
@@ -133,18 +79,31 @@ static const struct step on_none[] = {
     {NEW_MANAGER, {1, 2, TOP, 2}, FAILS(DVS_OVERFLOW)},
     {WITH_IDS, {23, 5}, TELLS(DVS_INVALID_RANGE, 23, 5)},
     {WITH_IDS, {10, 12}, TELLS_ID(DVS_OUT_OF_RANGE, 9)},
-    {WITH_IDS, {5, 12}, NO_PLACE},
+    {WITH_IDS, {5, 12}, TELLS_ID(DVS_OUT_OF_RANGE, 3)},
+    {WITH_IDS, {3, 12}, NO_PLACE},
+    {WITH_RANGES, {0, 0}, TELLS(DVS_INVALID_RANGE, 2, 1)},
     {DESTROY_SPACE, {0}, SUCCEEDS},
     {DESTROY_IDS, {0}, SUCCEEDS},
     {DESTROY_MANAGER, {0}, SUCCEEDS},
 };
 
+/* Several errors at once, of which the first is returned, in the order of the header. In the space
+ * from 0x1000 to 0x1fff, and on devices. */
+static const struct step of_errors[] = {
+    {FIRST, {0, 3}, FAILS(DVS_INVALID_SIZE)},
+    {FIRST, {TOP, 3}, FAILS(DVS_INVALID_ALIGNMENT)},
+    {LAST, {0, 3}, FAILS(DVS_INVALID_SIZE)},
+    {LAST, {TOP, 3}, FAILS(DVS_INVALID_ALIGNMENT)},
+    {EXACT, {0, 3, TOP}, FAILS(DVS_INVALID_SIZE)},
+    {EXACT, {2, 3, TOP}, FAILS(DVS_INVALID_ALIGNMENT)},
+    {EXACT, {2, 2, TOP}, FAILS(DVS_UNALIGNED_ADDRESS)},
+    {EXACT, {2, 1, TOP}, FAILS(DVS_OVERFLOW)},
+    {EXACT, {TOP, 1, 0xfff}, IN_THE_WAY(0, 0, OUTSIDE_SPACE, 0x1000, 0x1fff)},
+    {EXACT, {TOP, 1, 0x1000}, FAILS(DVS_OVERFLOW)},
+};
+
 /* In the space from 0x1000 to 0x1fff. */
 static const struct step on_space[] = {
-    {FIRST, {0, 3}, FAILS(DVS_INVALID_SIZE)},
-    {LAST, {1, 3}, FAILS(DVS_INVALID_ALIGNMENT)},
-    {EXACT, {1, 4, 0x1002}, FAILS(DVS_UNALIGNED_ADDRESS)},
-    {EXACT, {1, 1, TOP}, FAILS(DVS_OVERFLOW)},
     {EXACT, {1, 1, 0xfff}, IN_THE_WAY(0xfff, 0xfff, OUTSIDE_SPACE, 0x1000, 0x1fff)},
     {REQUEST, {0}, FAILS(DVS_INVALID_POLICY)},
     {LIST, {0}, FAILS(DVS_INVALID_POLICY)},
@@ -152,12 +111,12 @@ static const struct step on_space[] = {
     {FIRST, {0x100, 0x100}, GETS(0x1000, 0x10ff)},
     {LAST, {0x10, 0x100}, GETS(0x1f00, 0x1f0f)},
     {EXACT, {0x10, 1, 0x1801}, GETS(0x1801, 0x1810)},
-    {IS_HELD, {0x1000, 0x10ff}, GETS_NUMBER(true)},
+    {IS_ALLOCATED, {0x1000, 0x10ff}, GETS_NUMBER(true)},
     {EXACT, {0x100, 0x100, 0x1000}, TELLS(DVS_INVALID_STATE_TRANSITION, 0x1000, 0x10ff)},
     {FREE, {0x1000, 0x10fe}, NO_PLACE},
     {FREE, {2, 1}, TELLS(DVS_INVALID_RANGE, 2, 1)},
-    {IS_HELD, {0, TOP}, TELLS(DVS_INVALID_RANGE, 0, TOP)},
-    {IS_HELD, {0x1000, 0x10fe}, GETS_NUMBER(false)},
+    {IS_ALLOCATED, {0, TOP}, TELLS(DVS_INVALID_RANGE, 0, TOP)},
+    {IS_ALLOCATED, {0x1000, 0x10fe}, GETS_NUMBER(false)},
     {COUNT, {0}, GETS_NUMBER(3)},
     {FREE, {0x1801, 0x1810}, SUCCEEDS},
     {FREE, {0x1000, 0x10ff}, SUCCEEDS},
@@ -196,11 +155,11 @@ static const struct step of_large_ranges[] = {
     {EXACT,
      {0x200000000, 1, 0x7654321400000000},
      TELLS(DVS_INVALID_STATE_TRANSITION, 0x7654321400000000, 0x76543215ffffffff)},
-    {IS_HELD, {0x7654321400000000, 0x76543215ffffffff}, GETS_NUMBER(true)},
+    {IS_ALLOCATED, {0x7654321400000000, 0x76543215ffffffff}, GETS_NUMBER(true)},
     {FREE, {0x7654328800000000, 0x7654328900000000}, SUCCEEDS},
     {FREE, {0x7654330800000000, 0x7654330a00000000}, SUCCEEDS},
     {FREE, {0x7654321400000000, 0x76543215ffffffff}, SUCCEEDS},
-    {IS_HELD, {0x7654321400000000, 0x76543215ffffffff}, GETS_NUMBER(false)},
+    {IS_ALLOCATED, {0x7654321400000000, 0x76543215ffffffff}, GETS_NUMBER(false)},
 };
 
 static const struct step on_last_space[] = {{SPACE, {0}, GETS(1, TOP)}};
@@ -223,12 +182,16 @@ static const struct step on_ids[] = {
     {ID, {0}, GETS_ID(7)},
     {ID, {0}, ENDS(DVS_RESOURCE_NOT_AVAILABLE)},
     {PEEK, {0}, ENDS(DVS_RESOURCE_NOT_AVAILABLE)},
+    {ID_IN, {8, 6}, TELLS(DVS_INVALID_RANGE, 8, 6)},
 };
 
 static const struct step on_last_id[] = {
     {ID, {0}, GETS_ID(UINT32_MAX)},
     {ID, {0}, ENDS(DVS_OVERFLOW)},
+    {ID_IN, {0, UINT32_MAX}, NO_PLACE},
 };
+
+static const struct step on_all_ids[] = {{FREE_COUNT, {0}, GETS_NUMBER((uint64_t)1 << 32)}};
 
 /* On the ids from 5 to 23. */
 static const struct step of_given_ids[] = {
@@ -248,7 +211,6 @@ static const struct step of_given_ids[] = {
 
 /* For the ids from 1 to 3, and the space from 0x1000 to 0x1fff. */
 static const struct step on_devices[] = {
-    {RESERVE_LAST, {0, 1}, FAILS(DVS_INVALID_SIZE)},
     {RESERVE, {0}, FAILS(DVS_INVALID_POLICY)},
     {RESERVE_FIRST, {0x100, 0x100}, GETS_DEVICE(1, 0x1000, 0x10ff)},
     {RESERVE_LAST, {0x100, 0x100}, GETS_DEVICE(2, 0x1f00, 0x1fff)},
@@ -257,18 +219,38 @@ static const struct step on_devices[] = {
     {RESERVE_EXACT, {1, 1, 0x1801}, GETS_DEVICE(3, 0x1801, 0x1801)},
     /* No id is free. */
     {RESERVE_FIRST, {1, 1}, NO_PLACE},
-    {RESERVE_EXACT, {0x100, 3, 0x1ef0}, NO_PLACE},
     {RESERVE_EXACT, {0x100, 1, 0x1ef0}, NO_PLACE},
     {DEVICE_RANGE, {2}, GETS(0x1f00, 0x1fff)},
+    {DEVICE_AT, {0x1fff}, GETS_DEVICE(2, 0x1f00, 0x1fff)},
+    {DEVICE_AT, {0x1802}, ENDS(DVS_RESOURCE_NOT_AVAILABLE)},
     {RELEASE, {2}, SUCCEEDS},
     {RELEASE, {2}, TELLS_ID(DVS_NEVER_ALLOCATED, 2)},
     {DEVICE_RANGE, {2}, TELLS_ID(DVS_NEVER_ALLOCATED, 2)},
 };
 
+static const struct step on_one_device[] = {
+    {RESERVE_FIRST, {1, 1}, GETS_DEVICE(1, 0x1000, 0x1000)}};
+
+/* An error of the id precedes those of the range. */
+static void return_first_errors(dvs_device_manager *manager, bool has_id) {
+    size_t i;
+
+    for (i = 0; i < sizeof of_errors / sizeof of_errors[0]; i++) {
+        const struct outcome no_id = NO_PLACE;
+        struct step step = of_errors[i];
+
+        step.call += RESERVE_FIRST - FIRST;
+        if (!has_id)
+            step.outcome = no_id;
+        run(manager, &step, 1);
+    }
+}
+
 static void call_with_numbers(void) {
     dvs_device_manager *manager;
 
     run(NULL, ROWS(on_none));
+    run_on_space(0x1000, 0x1000, ROWS(of_errors));
     run_on_space(0x1000, 0x1000, ROWS(on_space));
     run_on_space(0x1000, 0x1000, ROWS(of_moves));
     run_on_space(0x7654321000001000, (uint64_t)1 << 40, ROWS(of_large_ranges));
@@ -278,10 +260,17 @@ static void call_with_numbers(void) {
     run_on_ids(
         UINT32_MAX, UINT32_MAX, ROWS(on_last_id),
         "{\"range_base\":4294967295,\"next_id\":null,\"range_end\":4294967295,\"freed_ids\":[]}");
+    run_on_ids(0, UINT32_MAX, ROWS(on_all_ids),
+               "{\"range_base\":0,\"next_id\":0,\"range_end\":4294967295,\"freed_ids\":[]}");
     run_on_ids(5, 23, ROWS(of_given_ids),
                "{\"range_base\":5,\"next_id\":10,\"range_end\":23,\"freed_ids\":[5]}");
     CHECK(dvs_device_manager_new(1, 3, 0x1000, 0x1000, &manager, NULL) == DVS_OK);
+    return_first_errors(manager, true);
     run(manager, ROWS(on_devices));
+    destroy(2, manager);
+    CHECK(dvs_device_manager_new(1, 1, 0x1000, 0x1000, &manager, NULL) == DVS_OK);
+    run(manager, ROWS(on_one_device));
+    return_first_errors(manager, false);
     destroy(2, manager);
 }
 
@@ -358,22 +347,24 @@ static void reserve_many_devices(uint32_t first) {
 
 /* ---- Null pointers, visits and copies ---- */
 
-/* An object of each group, with one range, id or device. */
+/* An object of each group, with two ranges, gaps, ids or devices. */
 static void *objects[3];
 
 static void make_objects(void) {
     dvs_device device;
+    int i;
 
     prepare();
     CHECK(dvs_address_allocator_new(0, 4, &results.space) == DVS_OK);
-    CHECK(dvs_range_allocate_first(results.space, 1, 1, &device.range, NULL) == DVS_OK);
-    CHECK(dvs_id_allocator_new(0, 3, &results.ids, NULL) == DVS_OK);
-    CHECK(dvs_id_allocate(results.ids, &device.id) == DVS_OK);
+    CHECK(dvs_id_allocator_new(0, 4, &results.ids, NULL) == DVS_OK);
     CHECK(dvs_device_manager_new(0, 3, 0, 4, &results.manager, NULL) == DVS_OK);
-    CHECK(dvs_device_reserve_first(results.manager, 1, 1, &device, NULL) == DVS_OK);
-    objects[0] = results.space;
-    objects[1] = results.ids;
-    objects[2] = results.manager;
+    for (i = 0; i < 2; i++) {
+        CHECK(dvs_range_allocate_first(results.space, 1, 2, &device.range, NULL) == DVS_OK);
+        CHECK(dvs_id_allocate(results.ids, &device.id) == DVS_OK);
+        CHECK(dvs_device_reserve_first(results.manager, 1, 1, &device, NULL) == DVS_OK);
+    }
+    for (i = 0; i < 3; i++)
+        objects[i] = created(i);
 }
 
 /* Changes and destroys the objects. */
@@ -389,17 +380,14 @@ static void use_objects(void) {
         run(objects[group], ROWS(steps[group]));
 }
 
-static int group_of(int call) {
-    return (call >= ID) + (call >= RESERVE_FIRST);
-}
-
 /* Gives null for the object, for each result, and for the other pointers. */
 static void give_null(void) {
     static const int with_pointers[] = {WITH_RANGES, WITH_IDS,       READ_SPACE,   REPAIR_SPACE,
                                         READ_IDS,    READ_MANAGER,   SPACE_WITHIN, REPAIR_WITHIN,
                                         IDS_WITHIN,  MANAGER_WITHIN, REQUEST,      LIST,
                                         RESERVE,     EQUAL_SPACE,    EQUAL_IDS,    EQUAL_MANAGERS};
-    static const struct arguments none = {true, true, NULL, NULL, NULL, NULL, NULL, 0, {0, 0}};
+    static const struct arguments none = {true, true, NULL, NULL,   NULL,
+                                          NULL, NULL, 5,    {4, 1}, NULL};
     size_t i;
     int call;
 
@@ -433,46 +421,50 @@ static void give_null(void) {
 /* The group whose object is visited, and the number of visits. */
 static int visited, visits;
 
-/* Checks that a visitor can compare, save and copy the object, but not change or destroy it. */
-static int keep_object(void) {
+/* Checks that a visitor can query, compare, save and copy the object, but not change or destroy it.
+ */
+static int keep_object(void *context) {
+    static const uint64_t zeros[4] = {0, 0, 0, 0};
+    const struct group *group = &groups[visited];
     void *object = objects[visited], *copy;
     int call;
 
     visits++;
-    for (call = groups[visited].changes; call < groups[visited].queries; call++) {
+    for (call = group->changes; call < group->queries; call++) {
         given = usual;
         refuse(call, object, DVS_BUSY);
+        given.has_result = false;
+        if (call < group->done)
+            refuse(call, object, DVS_NULL);
     }
+    given = usual;
+    for (call = group->queries; call < group->visits - 3; call++)
+        CHECK(attempt(call, object, zeros) ==
+              (call == GAP_AT ? DVS_RESOURCE_NOT_AVAILABLE : DVS_OK));
     copy = copied(visited, object);
     compare(visited, object, copy, true);
     destroy(visited, copy);
-    prepare();
-    CHECK(make_call(groups[visited].visits - 1, object, bad) == DVS_OK);
+    CHECK(attempt(group->visits - 1, object, zeros) == DVS_OK);
     dvs_text_destroy(results.text);
-    return 1;
+    return *(const int *)context;
 }
 
-static int see_range(void *context, dvs_range range) {
-    return (void)context, (void)range, keep_object();
-}
-
-static int see_id(void *context, uint32_t id) {
-    return (void)context, (void)id, keep_object();
-}
-
-static int see_device(void *context, dvs_device device) {
-    return (void)context, (void)device, keep_object();
-}
-
+/* Any number but 0 ends a visit. */
 static void change_in_visits(void) {
+    static const uint64_t all[4] = {0, TOP - 1, 0, 0};
+    static int ends[] = {0, 1, -1, 256, 65536, INT_MAX, INT_MIN};
     int call, calls = 0;
+    size_t i;
 
     make_objects();
     for (visited = 0; visited < 3; visited++)
-        for (call = groups[visited].visits; call < groups[visited].end; call++, calls++) {
-            given = usual;
-            CHECK(make_call(call, objects[visited], bad) == DVS_OK && visits == calls + 1);
-        }
+        for (call = groups[visited].visits; call < groups[visited].end; call++)
+            for (i = 0; i < sizeof ends / sizeof ends[0]; i++) {
+                given = usual;
+                given.context = &ends[i];
+                calls += ends[i] == 0 ? 2 : 1;
+                CHECK(attempt(call, objects[visited], all) == DVS_OK && visits == calls);
+            }
     use_objects();
 }
 
@@ -484,13 +476,15 @@ static const struct {
 } changes[] = {
     {0, 1, {FREE, {0, 0}, SUCCEEDS}, false},
     {0, 0, {FREE, {0, 0}, SUCCEEDS}, true},
-    {1, 1, {ID_EXACT, {2}, SUCCEEDS}, false},
-    {1, 0, {ID_EXACT, {2}, SUCCEEDS}, true},
-    {1, 1, {ID, {0}, GETS_ID(1)}, false},
-    {1, 1, {FREE_ID, {1}, SUCCEEDS}, true},
+    {0, 1, {FREE, {2, 2}, SUCCEEDS}, false},
+    {0, 0, {FREE, {2, 2}, SUCCEEDS}, true},
     {1, 1, {ID_EXACT, {3}, SUCCEEDS}, false},
+    {1, 0, {ID_EXACT, {3}, SUCCEEDS}, true},
+    {1, 1, {ID, {0}, GETS_ID(2)}, false},
+    {1, 1, {FREE_ID, {2}, SUCCEEDS}, true},
+    {1, 1, {ID_EXACT, {4}, SUCCEEDS}, false},
     /* The id is freed in one, and was never allocated in the other. */
-    {1, 1, {FREE_ID, {3}, SUCCEEDS}, false},
+    {1, 1, {FREE_ID, {4}, SUCCEEDS}, false},
     {2, 1, {RELEASE, {0}, SUCCEEDS}, false},
     {2, 1, {RESERVE_LAST, {1, 1}, GETS_DEVICE(0, 3, 3)}, false},
     {2, 1, {RELEASE, {0}, SUCCEEDS}, false},
@@ -525,23 +519,27 @@ static void copy_objects(void) {
 
 /* ---- Texts ---- */
 
-static const char SPACE_TEXT[] =
-    "{\"address_space\":{\"start\":16,\"end\":19},\"interval_tree\":{\"root\":"
-    "{\"key\":{\"start\":16,\"end\":19},\"node_state\":\"Free\",\"left\":null,\"right\":null,"
-    "\"height\":1}}}";
-static const char EMPTY[] =
-    "{\"address_space\":{\"end\":19,\"start\":16},\"interval_tree\":{\"root\":null}}";
-static const char IDS_TEXT[] =
-    "{\"range_base\":5,\"next_id\":7,\"range_end\":23,\"freed_ids\":[5]}";
+#define SPACE_TEXT                                                                                 \
+    "{\"address_space\":{\"start\":16,\"end\":19},\"interval_tree\":{\"root\":"                    \
+    "{\"key\":{\"start\":16,\"end\":19},\"node_state\":\"Free\",\"left\":null,\"right\":null,"     \
+    "\"height\":1}}}"
+#define EMPTY "{\"address_space\":{\"end\":19,\"start\":16},\"interval_tree\":{\"root\":null}}"
+#define IDS_TEXT "{\"range_base\":5,\"next_id\":7,\"range_end\":23,\"freed_ids\":[5]}"
+#define MANAGER_TEXT                                                                               \
+    "{\"version\":1,\"id_allocator\":{\"range_base\":5,\"next_id\":5,\"range_end\":23,\"freed_"    \
+    "ids\":[]},"                                                                                   \
+    "\"mmio_allocator\":" SPACE_TEXT ",\"slots\":[]}"
 
-/* Texts that are read, and saved texts of the objects. */
+/* Texts that are read, saved texts of the objects, and how deep a value of the text is nested. */
 static const struct {
     int call, group;
     const char *text, *saved;
+    uint32_t depth;
 } readings[] = {
-    {READ_SPACE, 0, SPACE_TEXT, SPACE_TEXT}, {SPACE_WITHIN, 0, SPACE_TEXT, SPACE_TEXT},
-    {REPAIR_SPACE, 0, EMPTY, SPACE_TEXT},    {REPAIR_WITHIN, 0, EMPTY, SPACE_TEXT},
-    {READ_IDS, 1, IDS_TEXT, IDS_TEXT},       {IDS_WITHIN, 1, IDS_TEXT, IDS_TEXT},
+    {SPACE_WITHIN, 0, SPACE_TEXT, SPACE_TEXT, 5},
+    {REPAIR_WITHIN, 0, EMPTY, SPACE_TEXT, 3},
+    {IDS_WITHIN, 1, IDS_TEXT, IDS_TEXT, 3},
+    {MANAGER_WITHIN, 2, MANAGER_TEXT, MANAGER_TEXT, 6},
 };
 
 /* Texts that are not read, each with its status and its fault. */
@@ -555,6 +553,7 @@ static const struct {
     {IDS_WITHIN, "", DVS_NOT_JSON, 0, NULL, "a value"},
     {IDS_WITHIN, "[", DVS_NOT_JSON, 1, NULL, "a value"},
     {IDS_WITHIN, "{\"next_id\":01}", DVS_NOT_JSON, 12, NULL, "a comma"},
+    {IDS_WITHIN, "{\"next_id\":1e}", DVS_NOT_JSON, 13, NULL, "a digit"},
     {IDS_WITHIN, "{\"next_id\":\"\\ud800\"}", DVS_NOT_JSON, 13, NULL, "an escape"},
     {IDS_WITHIN, "{\"base\":1e999}", DVS_NOT_JSON, 8, NULL, "greater than any double"},
     {IDS_WITHIN, "{\"base\" 5}", DVS_NOT_JSON, 8, NULL, "a colon"},
@@ -573,6 +572,9 @@ static const struct {
      DVS_NOT_A_STATE, 57, NULL, "range_base is past range_end"},
     {IDS_WITHIN, SPACE_TEXT, DVS_NOT_A_STATE, 1, NULL, "unknown"},
     {MANAGER_WITHIN, SPACE_TEXT, DVS_NOT_A_STATE, 1, NULL, "unknown"},
+    {MANAGER_WITHIN, "{\"\\u006dmio_allocatorx\":0}", DVS_NOT_A_STATE, 1, NULL, "unknown"},
+    {MANAGER_WITHIN, "{\"mmio_allocator\":{\"address_space\":{\"start\":-0}}}", DVS_NOT_A_STATE, 44,
+     "start", "a whole number"},
     {SPACE_WITHIN, "{\"address_space\":{\"start\":1,\"end\":0}}", DVS_NOT_A_STATE, 36,
      "address_space", "range"},
     {SPACE_WITHIN, EMPTY, DVS_NOT_A_STATE, 69, NULL, "it has a gap"},
@@ -596,17 +598,23 @@ static void read_texts(void) {
     size_t i;
 
     for (i = 0; i < sizeof readings / sizeof readings[0]; i++) {
-        void *object;
+        int call = readings[i].call, to_plain = READ_SPACE - SPACE_WITHIN;
 
-        /* A value of the space is nested five deep: the object, the tree, the root, the key and a
-         * number. */
-        give_text(readings[i].text, strlen(readings[i].text), 5);
-        prepare();
-        CHECK(make_call(readings[i].call, NULL, bad) == DVS_OK &&
-              is_untouched(&fault, sizeof fault));
-        object = created(readings[i].group);
-        is_saved_as(readings[i].group, object, readings[i].saved);
-        destroy(readings[i].group, object);
+        for (; call >= 0; call = call >= SPACE_WITHIN ? call + to_plain : -1) {
+            void *object;
+
+            give_text(readings[i].text, strlen(readings[i].text), readings[i].depth);
+            CHECK(attempt(call, NULL, bad) == DVS_OK && is_untouched(&fault, sizeof fault));
+            object = created(readings[i].group);
+            is_saved_as(readings[i].group, object, readings[i].saved);
+            destroy(readings[i].group, object);
+        }
+        given.limits.depth--;
+        refuse(readings[i].call, NULL, DVS_LIMIT_EXCEEDED);
+        CHECK(fault.field == NULL && strstr(fault.reason, "nested") != NULL);
+        given.limits.length--;
+        refuse(readings[i].call, NULL, DVS_LIMIT_EXCEEDED);
+        check_fault(given.limits.length, NULL, "long");
     }
     for (i = 0; i < sizeof faults / sizeof faults[0]; i++) {
         give_text(faults[i].text, strlen(faults[i].text), 0);
@@ -614,12 +622,17 @@ static void read_texts(void) {
         check_fault(faults[i].offset, faults[i].field, faults[i].reason);
         refuse(faults[i].call - SPACE_WITHIN + READ_SPACE, NULL, faults[i].status);
     }
-    give_text(SPACE_TEXT, strlen(SPACE_TEXT), 4);
-    refuse(SPACE_WITHIN, NULL, DVS_LIMIT_EXCEEDED);
-    check_fault(79, NULL, "nested");
-    given.limits.length--;
-    refuse(SPACE_WITHIN, NULL, DVS_LIMIT_EXCEEDED);
-    check_fault(strlen(SPACE_TEXT) - 1, NULL, "long");
+    /* The limit of nesting holds behind a fault. */
+    give_text("{\"base\":[[1]]}", 14, 4);
+    refuse(IDS_WITHIN, NULL, DVS_NOT_A_STATE);
+    given.limits.depth--;
+    refuse(IDS_WITHIN, NULL, DVS_LIMIT_EXCEEDED);
+    check_fault(10, NULL, "nested");
+    /* The limit of length comes first. */
+    give_text("[\xff", 2, 1);
+    given.limits.length = 1;
+    refuse(IDS_WITHIN, NULL, DVS_LIMIT_EXCEEDED);
+    check_fault(1, NULL, "long");
 }
 
 /* Reads what it saves, and no part of it. The library must not read past a text, so it refuses

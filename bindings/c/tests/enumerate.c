@@ -1,8 +1,6 @@
 /* Checks the calls that list, look up and count, and the calls with arrays. */
 #include "check.h"
 
-#include <limits.h>
-
 enum { MOST = 8 };
 
 /* The arguments of the visitor's calls. */
@@ -93,11 +91,14 @@ static void refuse_ranges(void) {
         {0, 16, UINT64_MAX, UINT64_MAX, DVS_OVERFLOW, 1},
         {0, 16, 15, 16, DVS_RESOURCE_NOT_AVAILABLE, 1},
         {1, UINT64_MAX, 7, UINT64_MAX, DVS_OVERFLOW, 1},
+        {1, UINT64_MAX, 3, UINT64_MAX, DVS_RESOURCE_NOT_AVAILABLE, 1},
+        {0, 16, 15, UINT64_MAX, DVS_RESOURCE_NOT_AVAILABLE, 1},
     };
+    char none;
     size_t i;
 
     for (i = 0; i < sizeof rows / sizeof rows[0]; i++) {
-        dvs_address_allocator *space = NULL;
+        dvs_address_allocator *const before = (dvs_address_allocator *)&none, *space = before;
         dvs_refusal refusal;
         dvs_range held[2];
         bool is_invalid = rows[i].status == DVS_INVALID_RANGE;
@@ -107,9 +108,32 @@ static void refuse_ranges(void) {
         held[1] = range_of(rows[i].start, rows[i].end);
         CHECK(dvs_address_allocator_with_held(rows[i].base, rows[i].size, held, 2, &space, &failed,
                                               &refusal) == rows[i].status);
-        CHECK(space == NULL && failed == rows[i].failed);
+        CHECK(space == before && failed == rows[i].failed);
         CHECK(is_range(refusal.range, is_invalid ? 5 : 0, is_invalid ? 4 : 0));
     }
+}
+
+/* Counts that no array has. */
+static void refuse_counts(void) {
+    static const uint32_t ids[] = {9, 9};
+    static const dvs_request request = {0, 0, 0, 9, NULL};
+    const size_t counts[] = {SIZE_MAX, SIZE_MAX / 2 + 1, SIZE_MAX / 4 + 3};
+    dvs_range held = {5, 4};
+    dvs_address_allocator *space = two_held(), *made;
+    dvs_id_allocator *made_ids;
+    size_t i, failed = MOST;
+
+    for (i = 0; i < sizeof counts / sizeof counts[0]; i++) {
+        CHECK(dvs_address_allocator_with_held(0, 9, &held, counts[i], &made, &failed, NULL) ==
+              DVS_OUT_OF_MEMORY);
+        CHECK(failed == counts[i]);
+        CHECK(dvs_id_allocator_with_held(0, 9, ids, counts[i], &made_ids, NULL) ==
+              DVS_OUT_OF_MEMORY);
+        CHECK(dvs_address_allocator_allocate_all(space, &request, counts[i], &held, &failed,
+                                                 NULL) == DVS_OUT_OF_MEMORY);
+        CHECK(failed == counts[i]);
+    }
+    dvs_address_allocator_destroy(space);
 }
 
 /* ---- Look-ups ---- */
@@ -136,7 +160,7 @@ static void look_up_ranges(void) {
     CHECK(is_range(range, 0x3800, 0x3fff));
     CHECK(dvs_longest_gap(space, &number) == DVS_OK && number == 0x1000);
     CHECK(dvs_gap_count(space, &number) == DVS_OK && number == 3);
-    CHECK(dvs_clear_count(space, &number) == DVS_OK && number == 0x2800);
+    CHECK(dvs_free_length(space, &number) == DVS_OK && number == 0x2800);
     dvs_address_allocator_destroy(space);
 }
 
@@ -157,54 +181,21 @@ static void visit_gaps(void) {
     seen = all_of();
     CHECK(dvs_gap_visit(space, see_range, &seen) == DVS_OK && seen.count == 0);
     CHECK(dvs_gap_count(space, &number) == DVS_OK && number == 0);
-    CHECK(dvs_clear_count(space, &number) == DVS_OK && number == 0);
+    CHECK(dvs_free_length(space, &number) == DVS_OK && number == 0);
     dvs_address_allocator_destroy(space);
 }
 
-static void visit_within(void) {
-    static const struct row {
-        uint64_t start, end;
-        size_t ranges, gaps;
-        uint64_t first_range, first_gap;
-    } rows[] = {
-        {0, 0, 0, 1, 0, 0},
-        {0, UINT64_MAX - 1, 2, 3, 0x1000, 0},
-        {1, UINT64_MAX, 2, 3, 0x1000, 0},
-        {0xfff, 0x1000, 1, 1, 0x1000, 0},
-        {0x1800, 0x1900, 1, 0, 0x1000, 0},
-        {0x1fff, 0x3000, 2, 1, 0x1000, 0x2000},
-        {0x2000, 0x2fff, 0, 1, 0, 0x2000},
-        {0x37ff, 0x37ff, 1, 0, 0x3000, 0},
-        {0x3800, UINT64_MAX, 0, 1, 0, 0x3800},
-        {0x4000, UINT64_MAX, 0, 0, 0, 0},
-    };
+static void refuse_parts(void) {
     dvs_address_allocator *space = two_held();
     dvs_refusal refusal;
-    struct seen seen;
-    size_t i;
+    struct seen seen = all_of();
 
-    for (i = 0; i < sizeof rows / sizeof rows[0]; i++) {
-        dvs_range within = range_of(rows[i].start, rows[i].end);
-
-        seen = all_of();
-        CHECK(dvs_range_visit_in(space, within, see_range, &seen, &refusal) == DVS_OK);
-        CHECK(seen.count == rows[i].ranges);
-        CHECK(seen.count == 0 || seen.ranges[0].start == rows[i].first_range);
-        seen = all_of();
-        CHECK(dvs_gap_visit_in(space, within, see_range, &seen, NULL) == DVS_OK);
-        CHECK(seen.count == rows[i].gaps);
-        CHECK(seen.count == 0 || seen.ranges[0].start == rows[i].first_gap);
-    }
-    seen = all_of();
-    seen.stop_at = 1;
-    CHECK(dvs_range_visit_in(space, range_of(0, 0x4000), see_range, &seen, NULL) == DVS_OK);
-    CHECK(seen.count == 1 && is_range(seen.ranges[0], 0x1000, 0x1fff));
     CHECK(dvs_range_visit_in(space, range_of(5, 4), see_range, &seen, &refusal) ==
           DVS_INVALID_RANGE);
-    CHECK(is_range(refusal.range, 5, 4) && seen.count == 1);
+    CHECK(is_range(refusal.range, 5, 4) && seen.count == 0);
     CHECK(dvs_gap_visit_in(space, range_of(0, UINT64_MAX), see_range, &seen, &refusal) ==
           DVS_INVALID_RANGE);
-    CHECK(is_range(refusal.range, 0, UINT64_MAX) && seen.count == 1);
+    CHECK(is_range(refusal.range, 0, UINT64_MAX) && seen.count == 0);
     CHECK(dvs_range_free(space, range_of(0x1000, 0x1fff), NULL) == DVS_OK);
     dvs_address_allocator_destroy(space);
 }
@@ -213,11 +204,29 @@ typedef dvs_status visit_all(const dvs_address_allocator *space, dvs_range_visit
                              void *context);
 typedef dvs_status visit_at(const dvs_address_allocator *space, uint64_t address,
                             dvs_range_visitor *visitor, void *context);
+typedef dvs_status visit_part(const dvs_address_allocator *space, dvs_range within,
+                              dvs_range_visitor *visitor, void *context, dvs_refusal *refusal);
+
+/* Compares a visit within a range with a visit of all ranges or gaps. */
+static void visit_within(const dvs_address_allocator *space, dvs_range within, visit_all *all,
+                         visit_part *part) {
+    struct seen every = all_of(), some = all_of();
+    size_t i, count = 0;
+
+    CHECK(all(space, see_range, &every) == DVS_OK);
+    CHECK(part(space, within, see_range, &some, NULL) == DVS_OK);
+    for (i = 0; i < every.count; i++)
+        if (every.ranges[i].start <= within.end && within.start <= every.ranges[i].end) {
+            CHECK(is_range(some.ranges[count], every.ranges[i].start, every.ranges[i].end));
+            count++;
+        }
+    CHECK(some.count == count);
+}
 
 /* Compares the visits from an address, up and down, with a visit of all ranges or gaps. */
 static void visit_from(const dvs_address_allocator *space, uint64_t address, visit_all *all,
                        visit_at *up, visit_at *down) {
-    struct seen every = all_of(), above = all_of(), below = all_of(), next = all_of();
+    struct seen every = all_of(), above = all_of(), below = all_of();
     size_t i, ups = 0, downs = 0;
 
     CHECK(all(space, see_range, &every) == DVS_OK);
@@ -232,18 +241,17 @@ static void visit_from(const dvs_address_allocator *space, uint64_t address, vis
             CHECK(is_range(below.ranges[downs++], high.start, high.end));
     }
     CHECK(above.count == ups && below.count == downs);
-    next.stop_at = 1;
-    CHECK(up(space, address, see_range, &next) == DVS_OK && next.count == (ups > 0));
 }
 
-/* Visits from the ends of each range, from the addresses next to them, and from the ends of all. */
+/* Visits from and between the ends of each range, the addresses next to them, and the ends of all.
+ */
 static void visit_from_addresses(void) {
     static const dvs_range held[] = {{2, 4}, {5, 9}, {20, UINT64_MAX - 9}};
     static const uint64_t bases[] = {0, 2, 1},
                           lasts[] = {UINT64_MAX - 1, UINT64_MAX, UINT64_MAX - 9};
     uint64_t addresses[] = {0, 1, 2, 3, 4, 5, 9, 10, 19, 20, 21, 0, 0, 0, 0, 0};
     dvs_address_allocator *space;
-    size_t i, j;
+    size_t i, j, k;
 
     for (j = 0; j < 5; j++)
         addresses[11 + j] = UINT64_MAX - (j < 3 ? j : 5 + j);
@@ -254,12 +262,20 @@ static void visit_from_addresses(void) {
             visit_from(space, addresses[j], dvs_range_visit, dvs_range_visit_from,
                        dvs_range_visit_back);
             visit_from(space, addresses[j], dvs_gap_visit, dvs_gap_visit_from, dvs_gap_visit_back);
+            for (k = 0; k < sizeof addresses / sizeof addresses[0]; k++) {
+                dvs_range within = range_of(addresses[j], addresses[k]);
+
+                if (within.start > within.end || is_range(within, 0, UINT64_MAX))
+                    continue;
+                visit_within(space, within, dvs_range_visit, dvs_range_visit_in);
+                visit_within(space, within, dvs_gap_visit, dvs_gap_visit_in);
+            }
         }
         dvs_address_allocator_destroy(space);
     }
 }
 
-/* ---- The order and the end of a visit ---- */
+/* ---- Visits in visits ---- */
 
 /* Nests more visits than a byte can count. The allocator stays busy until all of them end. */
 enum { MANY = 300 };
@@ -278,18 +294,7 @@ static int visit_deeper(void *context, dvs_range range) {
     return 1;
 }
 
-/* Counts the calls of the visitor, and returns the number that it must return. */
-static int end_visit(void *context, dvs_range range) {
-    int *numbers = (int *)context;
-
-    (void)range;
-    numbers[1]++;
-    return numbers[0];
-}
-
-/* Any number but 0 ends a visit. */
-static void end_visits(void) {
-    static const int ends[] = {0, 1, -1, 256, 65536, INT_MAX, INT_MIN};
+static void nest_visits(void) {
     struct deep deep = {NULL, 0};
     struct seen seen = all_of();
     size_t i;
@@ -301,13 +306,6 @@ static void end_visits(void) {
     CHECK(dvs_range_visit(deep.space, see_range, &seen) == DVS_OK && seen.count == MOST);
     for (i = 0; i < MOST; i++)
         CHECK(is_range(seen.ranges[i], 2 * i, 2 * i));
-    for (i = 0; i < sizeof ends / sizeof ends[0]; i++) {
-        int numbers[2] = {0, 0};
-
-        numbers[0] = ends[i];
-        CHECK(dvs_range_visit(deep.space, end_visit, numbers) == DVS_OK);
-        CHECK(numbers[1] == (ends[i] == 0 ? MOST : 1));
-    }
     CHECK(dvs_range_visit(deep.space, visit_deeper, &deep) == DVS_OK && deep.visits == MANY);
     CHECK(dvs_range_free(deep.space, seen.ranges[0], NULL) == DVS_OK);
     dvs_address_allocator_destroy(deep.space);
@@ -331,7 +329,7 @@ static void allocate_all(void) {
     CHECK(is_range(ranges[2], 0x2100, 0x21ff));
     CHECK(dvs_address_allocator_allocate_all(space, NULL, 0, NULL, NULL, NULL) == DVS_OK);
     CHECK(dvs_range_count(space, &count) == DVS_OK && count == 5);
-    CHECK(dvs_clear_count(space, &count) == DVS_OK && count == 0x2800 - 0x910);
+    CHECK(dvs_free_length(space, &count) == DVS_OK && count == 0x2800 - 0x910);
     dvs_address_allocator_destroy(space);
 }
 
@@ -348,7 +346,7 @@ static void refuse_bars(dvs_address_allocator *space, const dvs_request *bars, d
     CHECK(failed == 1 && is_range(ranges[0], 1, 2));
     CHECK(is_range(refusal.range, told.start, told.end));
     CHECK(dvs_range_count(space, &count) == DVS_OK && count == 2);
-    CHECK(dvs_clear_count(space, &count) == DVS_OK && count == 0x2800);
+    CHECK(dvs_free_length(space, &count) == DVS_OK && count == 0x2800);
 }
 
 /* Allocates two BARs, each in a separate window. */
@@ -481,6 +479,7 @@ static void allocate_several_ids(void) {
     CHECK(dvs_ids_allocate(ids, several, 2) == DVS_OVERFLOW && several[0] == 5);
     CHECK(dvs_ids_allocate(ids, several, 1) == DVS_OK && several[0] == UINT32_MAX);
     CHECK(dvs_ids_allocate(ids, several, SIZE_MAX) == DVS_OVERFLOW && several[1] == 7);
+    CHECK(dvs_ids_allocate(ids, several, SIZE_MAX / 2 + 1) == DVS_OVERFLOW);
     dvs_id_allocator_destroy(ids);
 }
 
@@ -514,11 +513,12 @@ static void look_up_devices(void) {
 int main(void) {
     make_with_ranges();
     refuse_ranges();
+    refuse_counts();
     look_up_ranges();
     visit_gaps();
-    visit_within();
+    refuse_parts();
     visit_from_addresses();
-    end_visits();
+    nest_visits();
     allocate_all();
     allocate_in_windows();
     allocate_none();

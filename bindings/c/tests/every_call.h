@@ -15,14 +15,14 @@ enum {
     READ_IDS, READ_MANAGER, SPACE_WITHIN, REPAIR_WITHIN, IDS_WITHIN, MANAGER_WITHIN,
 
     FIRST, LAST, EXACT, MOVE, REQUEST, LIST, FREE, DESTROY_SPACE,
-    SPACE, IS_HELD, COUNT, GAP_COUNT, CLEAR_COUNT, LONGEST_GAP, RANGE_AT, GAP_AT, EQUAL_SPACE, COPY_SPACE, SAVE_SPACE,
+    SPACE, IS_ALLOCATED, COUNT, GAP_COUNT, FREE_LENGTH, LONGEST_GAP, RANGE_AT, GAP_AT, EQUAL_SPACE, COPY_SPACE, SAVE_SPACE,
     VISIT, VISIT_GAPS, VISIT_IN, GAPS_IN, VISIT_FROM, VISIT_BACK, GAPS_FROM, GAPS_BACK,
 
     ID, ID_IN, IDS, ID_EXACT, FREE_ID, DESTROY_IDS,
     PEEK, IS_ID_HELD, ID_COUNT, FREE_COUNT, ID_ENDS, EQUAL_IDS, COPY_IDS, SAVE_IDS, VISIT_IDS,
 
     RESERVE_FIRST, RESERVE_LAST, RESERVE_EXACT, RESERVE, RELEASE, DESTROY_MANAGER,
-    DEVICE_RANGE, DEVICE_AT, DEVICE_COUNT, DEVICE_SPACE, DEVICE_IDS, EQUAL_MANAGERS, COPY_MANAGER, SAVE_MANAGER, VISIT_DEVICES,
+    DEVICE_SLOT, DEVICE_AT, DEVICE_COUNT, DEVICE_SPACE, DEVICE_IDS, EQUAL_MANAGERS, COPY_MANAGER, SAVE_MANAGER, VISIT_DEVICES,
     CALLS
 };
 /* clang-format on */
@@ -35,13 +35,15 @@ static const struct group {
 } groups[] = {
     {FIRST, FREE, SPACE, VISIT, ID},
     {ID, ID_EXACT, PEEK, VISIT_IDS, RESERVE_FIRST},
-    {RESERVE_FIRST, RELEASE, DEVICE_RANGE, VISIT_DEVICES, CALLS},
+    {RESERVE_FIRST, RELEASE, DEVICE_SLOT, VISIT_DEVICES, CALLS},
 };
 
-/* A request and ids that are invalid. */
-static const dvs_range backwards = {2, 1};
-static const dvs_request worst = {0, 0, 1, DVS_EXACT + 1, &backwards};
-static const uint32_t equal_ids[] = {9, 9};
+/* Ranges, requests and ids that are invalid. The second id is also below the first. An array has
+ * two members. */
+static const dvs_range backwards[] = {{2, 1}, {2, 1}};
+static const dvs_request worst[] = {{0, 0, 1, DVS_EXACT + 1, backwards},
+                                    {0, 0, 1, DVS_EXACT + 1, backwards}};
+static const uint32_t falling_ids[] = {9, 3};
 
 /* The arguments that are not numbers. */
 struct arguments {
@@ -56,17 +58,35 @@ struct arguments {
     size_t length;
     /* Null if the depth is 0. */
     dvs_text_limits limits;
+    /* Of a visit. */
+    void *context;
 };
 
-static const struct arguments usual = {true, true, &worst, &backwards, equal_ids,
-                                       NULL, "",   0,      {0, 0}};
+static const struct arguments usual = {true, true, worst, backwards, falling_ids,
+                                       NULL, "",   0,     {0, 0},    NULL};
 static struct arguments given;
 
-static int see_range(void *context, dvs_range range);
-static int see_id(void *context, uint32_t id);
-static int see_device(void *context, dvs_device device);
+/* What every visitor does. */
+static int keep_object(void *context);
+
+static int see_range(void *context, dvs_range range) {
+    return (void)range, keep_object(context);
+}
+
+static int see_id(void *context, uint32_t id) {
+    return (void)id, keep_object(context);
+}
+
+static int see_device(void *context, dvs_device device) {
+    return (void)device, keep_object(context);
+}
+
+/* Whether the last call has a pointer to a refusal, and to a fault. */
+static bool has_refusal, has_fault;
 
 #define TO(result) (given.has_result ? &(result) : NULL)
+#define REFUSAL (has_refusal = true, &refusal)
+#define FAULT (has_fault = true, &fault)
 #define CASE(name, call)                                                                           \
     case name:                                                                                     \
         return call
@@ -77,19 +97,22 @@ static size_t failed;
 /* Makes a call with these numbers, in the order of its parameters. */
 static dvs_status make_call(int call, void *object, const uint64_t *n) {
     dvs_address_allocator *space = (dvs_address_allocator *)object;
-    dvs_address_allocator *other_space = (dvs_address_allocator *)given.other;
+    const dvs_address_allocator *seen_space = space,
+                                *other_space = (const dvs_address_allocator *)given.other;
     dvs_address_allocator **to_space = TO(results.space);
     dvs_id_allocator *ids = (dvs_id_allocator *)object;
-    dvs_id_allocator *other_ids = (dvs_id_allocator *)given.other, **to_ids = TO(results.ids);
+    dvs_id_allocator **to_ids = TO(results.ids);
+    const dvs_id_allocator *seen_ids = ids, *other_ids = (const dvs_id_allocator *)given.other;
     dvs_device_manager *manager = (dvs_device_manager *)object, **to_manager = TO(results.manager);
-    dvs_device_manager *other_manager = (dvs_device_manager *)given.other;
-    const dvs_range range = range_of(n[0], n[1]), all = range_of(0, TOP - 1);
+    const dvs_device_manager *seen_manager = manager,
+                             *other_manager = (const dvs_device_manager *)given.other;
+    const dvs_range range = range_of(n[0], n[1]);
     const uint32_t first = (uint32_t)n[0], last = (uint32_t)n[1];
     const dvs_text_limits *limits = given.limits.depth == 0 ? NULL : &given.limits;
     const char *text = given.text;
     const size_t length = given.length;
     dvs_device *to_device = TO(results.device);
-    dvs_range *to = TO(results.device.range);
+    dvs_range *to = TO(results.device.range), *to_all = TO(*results.ranges);
     uint64_t *to_number = TO(results.device.range.start);
     uint32_t *to_id = TO(results.device.id), *to_last = given.has_second ? &results.last : NULL;
     bool *to_flag = TO(results.flag);
@@ -97,89 +120,163 @@ static dvs_status make_call(int call, void *object, const uint64_t *n) {
     size_t *to_length = given.has_second ? &results.length : NULL;
     dvs_range_visitor *visitor = TO(*see_range);
 
+    has_refusal = has_fault = false;
     switch (call) {
         CASE(FROM_LENGTH, dvs_range_from_start_length(n[0], n[1], to));
         CASE(OFFSET_OF, dvs_range_offset_of(range, n[2], to_number));
         CASE(NEW_SPACE, dvs_address_allocator_new(n[0], n[1], to_space));
-        CASE(NEW_IDS, dvs_id_allocator_new(first, last, to_ids, &refusal));
-        CASE(NEW_MANAGER, dvs_device_manager_new(first, last, n[2], n[3], to_manager, &refusal));
-        CASE(WITH_RANGES, dvs_address_allocator_with_held(n[0], n[1], given.held_ranges, 1,
-                                                          to_space, &failed, &refusal));
-        CASE(WITH_IDS, dvs_id_allocator_with_held(first, last, given.held, 2, to_ids, &refusal));
+        CASE(NEW_IDS, dvs_id_allocator_new(first, last, to_ids, REFUSAL));
+        CASE(NEW_MANAGER, dvs_device_manager_new(first, last, n[2], n[3], to_manager, REFUSAL));
+        CASE(WITH_RANGES, dvs_address_allocator_with_held(n[0], n[1], given.held_ranges, 2,
+                                                          to_space, &failed, REFUSAL));
+        CASE(WITH_IDS, dvs_id_allocator_with_held(first, last, given.held, 2, to_ids, REFUSAL));
         CASE(READ_SPACE, dvs_address_allocator_read(text, length, to_space));
         CASE(REPAIR_SPACE, dvs_address_allocator_read_repaired(text, length, to_space));
         CASE(READ_IDS, dvs_id_allocator_read(text, length, to_ids));
         CASE(READ_MANAGER, dvs_device_manager_read(text, length, to_manager));
         CASE(SPACE_WITHIN,
-             dvs_address_allocator_read_within(text, length, limits, to_space, &fault));
+             dvs_address_allocator_read_within(text, length, limits, to_space, FAULT));
         CASE(REPAIR_WITHIN,
-             dvs_address_allocator_read_repaired_within(text, length, limits, to_space, &fault));
-        CASE(IDS_WITHIN, dvs_id_allocator_read_within(text, length, limits, to_ids, &fault));
+             dvs_address_allocator_read_repaired_within(text, length, limits, to_space, FAULT));
+        CASE(IDS_WITHIN, dvs_id_allocator_read_within(text, length, limits, to_ids, FAULT));
         CASE(MANAGER_WITHIN,
-             dvs_device_manager_read_within(text, length, limits, to_manager, &fault));
-        CASE(FIRST, dvs_range_allocate_first(space, n[0], n[1], to, &refusal));
-        CASE(LAST, dvs_range_allocate_last(space, n[0], n[1], to, &refusal));
-        CASE(EXACT, dvs_range_allocate_exact(space, n[0], n[1], n[2], to, &refusal));
-        CASE(MOVE, dvs_range_move(space, range, n[2], to, &refusal));
-        CASE(REQUEST, dvs_range_allocate(space, given.request, to, &refusal));
+             dvs_device_manager_read_within(text, length, limits, to_manager, FAULT));
+        CASE(FIRST, dvs_range_allocate_first(space, n[0], n[1], to, REFUSAL));
+        CASE(LAST, dvs_range_allocate_last(space, n[0], n[1], to, REFUSAL));
+        CASE(EXACT, dvs_range_allocate_exact(space, n[0], n[1], n[2], to, REFUSAL));
+        CASE(MOVE, dvs_range_move(space, range, n[2], to, REFUSAL));
+        CASE(REQUEST, dvs_range_allocate(space, given.request, to, REFUSAL));
         CASE(LIST,
-             dvs_address_allocator_allocate_all(space, given.request, 1, to, &failed, &refusal));
-        CASE(FREE, dvs_range_free(space, range, &refusal));
+             dvs_address_allocator_allocate_all(space, given.request, 2, to_all, &failed, REFUSAL));
+        CASE(FREE, dvs_range_free(space, range, REFUSAL));
         CASE(DESTROY_SPACE, dvs_address_allocator_destroy(space));
-        CASE(SPACE, dvs_address_allocator_space(space, to));
-        CASE(IS_HELD, dvs_range_is_held(space, range, to_flag, &refusal));
-        CASE(COUNT, dvs_range_count(space, to_number));
-        CASE(GAP_COUNT, dvs_gap_count(space, to_number));
-        CASE(CLEAR_COUNT, dvs_clear_count(space, to_number));
-        CASE(LONGEST_GAP, dvs_longest_gap(space, to_number));
-        CASE(RANGE_AT, dvs_range_at(space, n[0], to));
-        CASE(GAP_AT, dvs_gap_at(space, n[0], to));
-        CASE(EQUAL_SPACE, dvs_address_allocator_equal(space, other_space, to_flag));
-        CASE(COPY_SPACE, dvs_address_allocator_copy(space, to_space));
-        CASE(SAVE_SPACE, dvs_address_allocator_save(space, to_text, to_length));
-        CASE(VISIT, dvs_range_visit(space, visitor, NULL));
-        CASE(VISIT_GAPS, dvs_gap_visit(space, visitor, NULL));
-        CASE(VISIT_IN, dvs_range_visit_in(space, all, visitor, NULL, &refusal));
-        CASE(GAPS_IN, dvs_gap_visit_in(space, all, visitor, NULL, &refusal));
-        CASE(VISIT_FROM, dvs_range_visit_from(space, 0, visitor, NULL));
-        CASE(VISIT_BACK, dvs_range_visit_back(space, TOP, visitor, NULL));
-        CASE(GAPS_FROM, dvs_gap_visit_from(space, 0, visitor, NULL));
-        CASE(GAPS_BACK, dvs_gap_visit_back(space, TOP, visitor, NULL));
+        CASE(SPACE, dvs_address_allocator_space(seen_space, to));
+        CASE(IS_ALLOCATED, dvs_range_is_allocated(seen_space, range, to_flag, REFUSAL));
+        CASE(COUNT, dvs_range_count(seen_space, to_number));
+        CASE(GAP_COUNT, dvs_gap_count(seen_space, to_number));
+        CASE(FREE_LENGTH, dvs_free_length(seen_space, to_number));
+        CASE(LONGEST_GAP, dvs_longest_gap(seen_space, to_number));
+        CASE(RANGE_AT, dvs_range_at(seen_space, n[0], to));
+        CASE(GAP_AT, dvs_gap_at(seen_space, n[0], to));
+        CASE(EQUAL_SPACE, dvs_address_allocator_equal(seen_space, other_space, to_flag));
+        CASE(COPY_SPACE, dvs_address_allocator_copy(seen_space, to_space));
+        CASE(SAVE_SPACE, dvs_address_allocator_save(seen_space, to_text, to_length));
+        CASE(VISIT, dvs_range_visit(seen_space, visitor, given.context));
+        CASE(VISIT_GAPS, dvs_gap_visit(seen_space, visitor, given.context));
+        CASE(VISIT_IN, dvs_range_visit_in(seen_space, range, visitor, given.context, REFUSAL));
+        CASE(GAPS_IN, dvs_gap_visit_in(seen_space, range, visitor, given.context, REFUSAL));
+        CASE(VISIT_FROM, dvs_range_visit_from(seen_space, 0, visitor, given.context));
+        CASE(VISIT_BACK, dvs_range_visit_back(seen_space, TOP, visitor, given.context));
+        CASE(GAPS_FROM, dvs_gap_visit_from(seen_space, 0, visitor, given.context));
+        CASE(GAPS_BACK, dvs_gap_visit_back(seen_space, TOP, visitor, given.context));
         CASE(ID, dvs_id_allocate(ids, to_id));
-        CASE(ID_IN, dvs_id_allocate_in(ids, first, last, to_id, &refusal));
-        CASE(IDS, dvs_ids_allocate(ids, to_id, 1));
-        CASE(ID_EXACT, dvs_id_allocate_exact(ids, first, &refusal));
-        CASE(FREE_ID, dvs_id_free(ids, first, &refusal));
+        CASE(ID_IN, dvs_id_allocate_in(ids, first, last, to_id, REFUSAL));
+        CASE(IDS, dvs_ids_allocate(ids, TO(*results.several), 2));
+        CASE(ID_EXACT, dvs_id_allocate_exact(ids, first, REFUSAL));
+        CASE(FREE_ID, dvs_id_free(ids, first, REFUSAL));
         CASE(DESTROY_IDS, dvs_id_allocator_destroy(ids));
-        CASE(PEEK, dvs_id_peek(ids, to_id));
-        CASE(IS_ID_HELD, dvs_id_is_held(ids, first, to_flag));
-        CASE(ID_COUNT, dvs_id_count(ids, to_number));
-        CASE(FREE_COUNT, dvs_id_free_count(ids, to_number));
-        CASE(ID_ENDS, dvs_id_allocator_range(ids, to_id, to_last));
-        CASE(EQUAL_IDS, dvs_id_allocator_equal(ids, other_ids, to_flag));
-        CASE(COPY_IDS, dvs_id_allocator_copy(ids, to_ids));
-        CASE(SAVE_IDS, dvs_id_allocator_save(ids, to_text, to_length));
-        CASE(VISIT_IDS, dvs_id_visit(ids, TO(*see_id), NULL));
-        CASE(RESERVE_FIRST, dvs_device_reserve_first(manager, n[0], n[1], to_device, &refusal));
-        CASE(RESERVE_LAST, dvs_device_reserve_last(manager, n[0], n[1], to_device, &refusal));
+        CASE(PEEK, dvs_id_peek(seen_ids, to_id));
+        CASE(IS_ID_HELD, dvs_id_is_allocated(seen_ids, first, to_flag));
+        CASE(ID_COUNT, dvs_id_count(seen_ids, to_number));
+        CASE(FREE_COUNT, dvs_id_free_count(seen_ids, to_number));
+        CASE(ID_ENDS, dvs_id_allocator_range(seen_ids, to_id, to_last));
+        CASE(EQUAL_IDS, dvs_id_allocator_equal(seen_ids, other_ids, to_flag));
+        CASE(COPY_IDS, dvs_id_allocator_copy(seen_ids, to_ids));
+        CASE(SAVE_IDS, dvs_id_allocator_save(seen_ids, to_text, to_length));
+        CASE(VISIT_IDS, dvs_id_visit(seen_ids, TO(*see_id), given.context));
+        CASE(RESERVE_FIRST, dvs_device_reserve_first(manager, n[0], n[1], to_device, REFUSAL));
+        CASE(RESERVE_LAST, dvs_device_reserve_last(manager, n[0], n[1], to_device, REFUSAL));
         CASE(RESERVE_EXACT,
-             dvs_device_reserve_exact(manager, n[0], n[1], n[2], to_device, &refusal));
-        CASE(RESERVE, dvs_device_reserve(manager, given.request, to_device, &refusal));
-        CASE(RELEASE, dvs_device_release(manager, first, &refusal));
+             dvs_device_reserve_exact(manager, n[0], n[1], n[2], to_device, REFUSAL));
+        CASE(RESERVE, dvs_device_reserve(manager, given.request, to_device, REFUSAL));
+        CASE(RELEASE, dvs_device_release(manager, first, REFUSAL));
         CASE(DESTROY_MANAGER, dvs_device_manager_destroy(manager));
-        CASE(DEVICE_RANGE, dvs_device_range(manager, first, to, &refusal));
-        CASE(DEVICE_AT, dvs_device_at(manager, n[0], to_device));
-        CASE(DEVICE_COUNT, dvs_device_count(manager, to_number));
-        CASE(DEVICE_SPACE, dvs_device_manager_space(manager, to));
-        CASE(DEVICE_IDS, dvs_device_manager_ids(manager, to_id, to_last));
-        CASE(EQUAL_MANAGERS, dvs_device_manager_equal(manager, other_manager, to_flag));
-        CASE(COPY_MANAGER, dvs_device_manager_copy(manager, to_manager));
-        CASE(SAVE_MANAGER, dvs_device_manager_save(manager, to_text, to_length));
-        CASE(VISIT_DEVICES, dvs_device_visit(manager, TO(*see_device), NULL));
+        CASE(DEVICE_SLOT, dvs_device_slot(seen_manager, first, to, REFUSAL));
+        CASE(DEVICE_AT, dvs_device_at(seen_manager, n[0], to_device));
+        CASE(DEVICE_COUNT, dvs_device_count(seen_manager, to_number));
+        CASE(DEVICE_SPACE, dvs_device_manager_space(seen_manager, to));
+        CASE(DEVICE_IDS, dvs_device_manager_ids(seen_manager, to_id, to_last));
+        CASE(EQUAL_MANAGERS, dvs_device_manager_equal(seen_manager, other_manager, to_flag));
+        CASE(COPY_MANAGER, dvs_device_manager_copy(seen_manager, to_manager));
+        CASE(SAVE_MANAGER, dvs_device_manager_save(seen_manager, to_text, to_length));
+        CASE(VISIT_DEVICES, dvs_device_visit(seen_manager, TO(*see_device), given.context));
     default:
         CHECK(!"a call");
         return DVS_OK;
     }
+}
+
+/* Numbers that are invalid in each call. */
+static const uint64_t bad[4] = {3, 0, 1, 0};
+
+/* Makes a call whose results and details are prepared. */
+static inline dvs_status attempt(int call, void *object, const uint64_t *n) {
+    prepare();
+    failed = MANY;
+    return noted(make_call(call, object, n));
+}
+
+/* Checks that the last call returned an error without numbers. It must write no result, and all
+ * details. */
+static inline void check_refused(int call, dvs_status status, dvs_status expected) {
+    static const dvs_refusal none = {{0, 0}, {0, 0}, 0, 0, 0};
+    const bool has_reason = expected != DVS_NULL && expected != DVS_OUT_OF_MEMORY;
+
+    if (status != expected)
+        fprintf(stderr, "call %d: status %d\n", call, (int)status);
+    CHECK(failed == (call == LIST || call == WITH_RANGES ? 2 : MANY) ||
+          (failed < 2 && call == LIST && expected == DVS_OUT_OF_MEMORY));
+    CHECK(status == expected && is_untouched(&results, sizeof results));
+    CHECK(has_refusal ? memcmp(&refusal, &none, sizeof none) == 0
+                      : is_untouched(&refusal, sizeof refusal));
+    CHECK(has_fault != is_untouched(&fault.offset, sizeof fault.offset));
+    CHECK(has_fault != is_untouched(&fault.reason, sizeof fault.reason));
+    CHECK(has_fault != is_untouched(&fault.field, sizeof fault.field));
+    CHECK(!has_fault || has_reason ||
+          (fault.offset == 0 && fault.field == NULL &&
+           strcmp(fault.reason, dvs_status_text(status)) == 0));
+}
+
+/* Checks that a call with bad numbers returns an error without numbers. */
+static inline void refuse(int call, void *object, dvs_status expected) {
+    check_refused(call, attempt(call, object, bad), expected);
+}
+
+/* ---- The calls that each group has ---- */
+
+static inline void destroy(int group, void *object) {
+    CHECK(make_call(groups[group].queries - 1, object, bad) == DVS_OK);
+}
+
+/* Returns the object that a call has created. */
+static inline void *created(int group) {
+    return group == 0   ? (void *)results.space
+           : group == 1 ? (void *)results.ids
+                        : (void *)results.manager;
+}
+
+static inline void *copied(int group, void *object) {
+    prepare();
+    CHECK(make_call(groups[group].visits - 2, object, bad) == DVS_OK);
+    return created(group);
+}
+
+/* Checks whether two objects are equal. Each equals itself. */
+static inline void compare(int group, void *one, void *other, bool are_equal) {
+    void *pairs[4][2] = {{one, other}, {other, one}, {one, one}, {other, other}};
+    int i;
+
+    for (i = 0; i < 4; i++) {
+        given = usual;
+        given.other = pairs[i][1];
+        prepare();
+        CHECK(make_call(groups[group].visits - 3, pairs[i][0], bad) == DVS_OK);
+        CHECK(results.flag == (are_equal || i >= 2));
+    }
+}
+
+static inline int group_of(int call) {
+    return (call >= ID) + (call >= RESERVE_FIRST);
 }
 
 #endif

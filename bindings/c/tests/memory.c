@@ -6,7 +6,7 @@
  * The linker option --wrap directs all allocations to this file.
  */
 #define _POSIX_C_SOURCE 200809L
-#include "check.h"
+#include "every_call.h"
 
 #include <errno.h>
 #include <malloc.h>
@@ -80,445 +80,231 @@ void __wrap_free(void *old) {
     __real_free(old);
 }
 
-/* The objects of the calls, and their saved texts. */
-static dvs_address_allocator *space;
-static dvs_id_allocator *ids;
-static dvs_device_manager *manager;
-static char *space_text, *ids_text, *manager_text;
-static size_t space_length, ids_length, manager_length;
-
 SAVED(saved_space, dvs_address_allocator)
-SAVED(saved_ids, dvs_id_allocator)
-SAVED(saved_devices, dvs_device_manager)
 
-static void set_up(void) {
+/* An object of each group, its copy, and its saved text. */
+static void *objects[3], *copies[3];
+static char *texts[3];
+static size_t lengths[3];
+
+static const uint64_t zeros[4] = {0, 0, 0, 0};
+
+static int keep_object(void *context) {
+    return (void)context, 0;
+}
+
+/* Allocates numbers with each number of digits, and some free addresses and ids between them. */
+static void fill(void) {
+    uint64_t power = 10;
     dvs_device device;
-    dvs_range range;
     uint32_t id;
     int i;
 
-    CHECK(dvs_address_allocator_new(0, 1000, &space) == DVS_OK);
-    for (i = 0; i < 8; i++)
-        CHECK(dvs_range_allocate_first(space, 3, 8, &range, NULL) == DVS_OK);
-    CHECK(dvs_id_allocator_new(0, 299, &ids, NULL) == DVS_OK);
+    for (i = 1; i < 20; i++, power *= 10)
+        CHECK(dvs_range_allocate_exact(results.space, 2, 1, power - 1, &device.range, NULL) ==
+              DVS_OK);
     for (i = 0; i < 300; i++)
-        CHECK(dvs_id_allocate(ids, &id) == DVS_OK);
+        CHECK(dvs_id_allocate(results.ids, &id) == DVS_OK);
     /* The freed ids are in chunks of 256. The next one needs memory. */
     for (id = 1; id <= 256; id++)
-        CHECK(dvs_id_free(ids, id, NULL) == DVS_OK);
-    CHECK(dvs_device_manager_new(0, 9, 0, 100, &manager, NULL) == DVS_OK);
-    CHECK(dvs_device_reserve_first(manager, 1, 1, &device, NULL) == DVS_OK && device.id == 0);
+        CHECK(dvs_id_free(results.ids, id, NULL) == DVS_OK);
+    for (i = 0; i < 2; i++)
+        CHECK(dvs_device_reserve_first(results.manager, 1, 1, &device, NULL) == DVS_OK);
 }
 
+static void set_up(bool is_empty) {
+    int group;
+
+    given = usual;
+    prepare();
+    CHECK(dvs_address_allocator_new(0, UINT64_MAX, &results.space) == DVS_OK);
+    CHECK(dvs_id_allocator_new(0, UINT32_MAX, &results.ids, NULL) == DVS_OK);
+    CHECK(dvs_device_manager_new(0, UINT32_MAX, 0, 1000, &results.manager, NULL) == DVS_OK);
+    if (!is_empty)
+        fill();
+    for (group = 0; group < 3; group++)
+        objects[group] = created(group);
+    for (group = 0; group < 3; group++) {
+        copies[group] = copied(group, objects[group]);
+        CHECK(attempt(groups[group].visits - 1, objects[group], zeros) == DVS_OK);
+        texts[group] = results.text;
+        lengths[group] = results.length;
+    }
+}
+
+/* Also destroys what the last call has created. */
 static void tear_down(void) {
-    dvs_address_allocator_destroy(space);
-    dvs_id_allocator_destroy(ids);
-    dvs_device_manager_destroy(manager);
+    int group;
+
+    if (!is_untouched(&results.space, sizeof results.space))
+        destroy(0, results.space);
+    if (!is_untouched(&results.ids, sizeof results.ids))
+        destroy(1, results.ids);
+    if (!is_untouched(&results.manager, sizeof results.manager))
+        destroy(2, results.manager);
+    if (!is_untouched(&results.text, sizeof results.text))
+        dvs_text_destroy(results.text);
+    for (group = 0; group < 3; group++) {
+        destroy(group, objects[group]);
+        destroy(group, copies[group]);
+        dvs_text_destroy(texts[group]);
+    }
 }
 
-static void keep_texts(void) {
-    space_text = saved_space(space, &space_length);
-    ids_text = saved_ids(ids, &ids_length);
-    manager_text = saved_devices(manager, &manager_length);
-}
-
-static void drop_texts(void) {
-    dvs_text_destroy(space_text);
-    dvs_text_destroy(ids_text);
-    dvs_text_destroy(manager_text);
-}
-
-static void check_same(char *text, const char *before) {
-    CHECK(strcmp(text, before) == 0);
-    dvs_text_destroy(text);
-}
-
-/*
- * Checks the text of the manager. If a device cannot be reserved, the tree can
- * have another shape afterwards, so its text is not compared.
- */
-static void check_same_manager(char *text) {
-    const char *tree = strstr(text, "\"interval_tree\"");
-    const char *slots = strstr(text, "\"slots\"");
-    const char *slots_before = strstr(manager_text, "\"slots\"");
-
-    CHECK(tree != NULL && slots != NULL && slots_before != NULL);
-    CHECK(strncmp(text, manager_text, (size_t)(tree - text)) == 0);
-    CHECK(strcmp(slots, slots_before) == 0);
-    dvs_text_destroy(text);
-}
-
-static void check_unchanged(void) {
-    size_t length;
-
-    check_same(saved_space(space, &length), space_text);
-    check_same(saved_ids(ids, &length), ids_text);
-    check_same_manager(saved_devices(manager, &length));
-}
-
-/* ---- The calls. Each undoes what it did. ---- */
-
-static dvs_status destroyed_space(dvs_status status, dvs_address_allocator *made) {
-    if (status == DVS_OK)
-        dvs_address_allocator_destroy(made);
-    return status;
-}
-
-static dvs_status destroyed_ids(dvs_status status, dvs_id_allocator *made) {
-    if (status == DVS_OK)
-        dvs_id_allocator_destroy(made);
-    return status;
-}
-
-static dvs_status destroyed_text(dvs_status status, char *text) {
-    if (status == DVS_OK)
-        dvs_text_destroy(text);
-    return status;
-}
-
-static dvs_status freed(dvs_status status, dvs_range range) {
-    if (status == DVS_OK)
-        CHECK(dvs_range_free(space, range, NULL) == DVS_OK);
-    return status;
-}
-
-static dvs_status new_space(void) {
-    dvs_address_allocator *made = NULL;
-    dvs_status status = dvs_address_allocator_new(1, 2, &made);
-
-    return destroyed_space(status, made);
-}
-
-static dvs_status new_ids(void) {
-    dvs_id_allocator *made;
-    dvs_status status = dvs_id_allocator_new(1, 2, &made, NULL);
-
-    if (status == DVS_OK)
-        dvs_id_allocator_destroy(made);
-    return status;
-}
-
-static dvs_status new_manager(void) {
-    dvs_device_manager *made;
-    dvs_status status = dvs_device_manager_new(1, 2, 3, 4, &made, NULL);
-
-    if (status == DVS_OK)
-        dvs_device_manager_destroy(made);
-    return status;
-}
-
-static dvs_status allocate_first(void) {
-    dvs_range range = {0, 0};
-    dvs_status status = dvs_range_allocate_first(space, 3, 16, &range, NULL);
-
-    return freed(status, range);
-}
-
-static dvs_status allocate_last(void) {
-    dvs_range range = {0, 0};
-    dvs_status status = dvs_range_allocate_last(space, 3, 8, &range, NULL);
-
-    return freed(status, range);
-}
-
-/* Allocates a range with free addresses on both sides. */
-static dvs_status allocate_exact(void) {
-    dvs_range range = {0, 0};
-    dvs_status status = dvs_range_allocate_exact(space, 3, 1, 500, &range, NULL);
-
-    return freed(status, range);
-}
-
-/* Allocates a range with free addresses on both sides, in a window. */
-static dvs_status allocate_in_window(void) {
-    dvs_range window = {490, 510}, range = {0, 0};
-    dvs_request request = {3, 1, 0, DVS_LAST, &window};
-    dvs_status status = dvs_range_allocate(space, &request, &range, NULL);
-
-    return freed(status, range);
-}
-
-/* Moves a range between free addresses, and then back without a refusal. */
-static dvs_status move_range(void) {
-    dvs_range moved = {0, 0};
-    dvs_status status = dvs_range_move(space, range_of(0, 2), 500, &moved, NULL);
-    unsigned long left = until_refused;
-
-    until_refused = 0;
-    if (status == DVS_OK)
-        CHECK(dvs_range_move(space, moved, 0, &moved, NULL) == DVS_OK);
-    until_refused = left;
-    return status;
-}
-
-/* Copies all objects that the calls use. The copies equal them. */
-static dvs_status copy_space(void) {
-    dvs_address_allocator *made = NULL;
-    dvs_status status = dvs_address_allocator_copy(space, &made);
-    bool are_equal = false;
-
-    CHECK(status != DVS_OK ||
-          (dvs_address_allocator_equal(space, made, &are_equal) == DVS_OK && are_equal));
-    return destroyed_space(status, made);
-}
-
-static dvs_status copy_ids(void) {
-    dvs_id_allocator *made = NULL;
-    dvs_status status = dvs_id_allocator_copy(ids, &made);
-    bool are_equal = false;
-
-    CHECK(status != DVS_OK ||
-          (dvs_id_allocator_equal(ids, made, &are_equal) == DVS_OK && are_equal));
-    return destroyed_ids(status, made);
-}
-
-static dvs_status copy_manager(void) {
-    dvs_device_manager *made = NULL;
-    dvs_status status = dvs_device_manager_copy(manager, &made);
-    bool are_equal = false;
-
-    CHECK(status != DVS_OK ||
-          (dvs_device_manager_equal(manager, made, &are_equal) == DVS_OK && are_equal));
-    dvs_device_manager_destroy(made);
-    return status;
-}
-
-static dvs_status save_space(void) {
-    char *text = NULL;
-    size_t length;
-    dvs_status status = dvs_address_allocator_save(space, &text, &length);
-
-    return destroyed_text(status, text);
-}
-
-static dvs_status save_ids(void) {
-    char *text = NULL;
-    size_t length;
-    dvs_status status = dvs_id_allocator_save(ids, &text, &length);
-
-    return destroyed_text(status, text);
-}
-
-static dvs_status save_manager(void) {
-    char *text = NULL;
-    size_t length;
-    dvs_status status = dvs_device_manager_save(manager, &text, &length);
-
-    return destroyed_text(status, text);
-}
-
-static dvs_status read_space(void) {
-    dvs_address_allocator *made = NULL;
-    dvs_status status = dvs_address_allocator_read(space_text, space_length, &made);
-
-    return destroyed_space(status, made);
-}
-
-static dvs_status read_space_repaired(void) {
-    dvs_address_allocator *made = NULL;
-    dvs_status status = dvs_address_allocator_read_repaired(space_text, space_length, &made);
-
-    return destroyed_space(status, made);
-}
-
-static dvs_status make_with_held(void) {
-    dvs_range held[2];
-    dvs_address_allocator *made = NULL;
-    dvs_status status;
-
-    held[0] = range_of(4, 7);
-    held[1] = range_of(9, 9);
-    status = dvs_address_allocator_with_held(0, 16, held, 2, &made, NULL, NULL);
-    return destroyed_space(status, made);
-}
-
-static dvs_status allocate_all(void) {
-    dvs_request requests[2] = {{3, 16, 0, DVS_FIRST, NULL}, {3, 1, 500, DVS_EXACT, NULL}};
-    dvs_range ranges[2] = {{0, 0}, {0, 0}};
-    dvs_status status = dvs_address_allocator_allocate_all(space, requests, 2, ranges, NULL, NULL);
-
-    return freed(freed(status, ranges[0]), ranges[1]);
-}
-
-/* Allocates two of the freed ids, and frees them without a refusal. */
-static dvs_status allocate_ids(void) {
-    uint32_t several[2];
-    dvs_status status = dvs_ids_allocate(ids, several, 2);
-    unsigned long left = until_refused;
-    int i;
-
-    until_refused = 0;
-    for (i = 0; i < 2 && status == DVS_OK; i++)
-        CHECK(dvs_id_free(ids, several[i], NULL) == DVS_OK);
-    until_refused = left;
-    return status;
-}
-
-static dvs_status free_id(void) {
-    dvs_status status = dvs_id_free(ids, 0, NULL);
-    uint32_t id;
-
-    if (status == DVS_OK)
-        CHECK(dvs_id_allocate(ids, &id) == DVS_OK && id == 0);
-    return status;
-}
-
-static dvs_status make_ids_with_held(void) {
-    const uint32_t held[2] = {4, 9};
-    dvs_id_allocator *made = NULL;
-    dvs_status status = dvs_id_allocator_with_held(0, 9, held, 2, &made, NULL);
-
-    return destroyed_ids(status, made);
-}
-
-/* Allocates an id above others of a new allocator. If memory runs out, no id is allocated. */
-static dvs_status allocate_id_above(void) {
-    dvs_id_allocator *made = NULL;
-    dvs_status status = dvs_id_allocator_new(0, 9, &made, NULL);
-    uint32_t id;
-
-    if (status != DVS_OK)
-        return status;
-    status = dvs_id_allocate_in(made, 5, 7, &id, NULL);
-    if (status == DVS_OK)
-        return destroyed_ids(dvs_id_allocate_exact(made, 3, NULL), made);
-    CHECK(dvs_id_free(made, 0, NULL) == DVS_NEVER_ALLOCATED);
-    dvs_id_allocator_destroy(made);
-    return status;
-}
-
-static dvs_status read_ids(void) {
-    dvs_id_allocator *made;
-    dvs_status status = dvs_id_allocator_read(ids_text, ids_length, &made);
-
-    if (status == DVS_OK)
-        dvs_id_allocator_destroy(made);
-    return status;
-}
-
-/* Releases a device without a failed allocation. */
-static dvs_status released(dvs_status status, uint32_t id) {
-    unsigned long number = until_refused;
-
-    until_refused = 0;
-    if (status == DVS_OK)
-        CHECK(dvs_device_release(manager, id, NULL) == DVS_OK);
-    until_refused = number;
-    return status;
-}
-
-static dvs_status reserve_first(void) {
-    dvs_device device = {{0, 0}, 0};
-    dvs_status status = dvs_device_reserve_first(manager, 4, 8, &device, NULL);
-
-    return released(status, device.id);
-}
-
-static dvs_status reserve_last(void) {
-    dvs_device device = {{0, 0}, 0};
-    dvs_status status = dvs_device_reserve_last(manager, 4, 8, &device, NULL);
-
-    return released(status, device.id);
-}
-
-static dvs_status reserve_exact(void) {
-    dvs_device device = {{0, 0}, 0};
-    dvs_status status = dvs_device_reserve_exact(manager, 4, 1, 50, &device, NULL);
-
-    return released(status, device.id);
-}
-
-/* Reserves a range with free addresses on both sides, in a window. */
-static dvs_status reserve_in_window(void) {
-    dvs_range window = {40, 60};
-    dvs_request request = {4, 8, 0, DVS_FIRST, &window};
-    dvs_device device = {{0, 0}, 0};
-    dvs_status status = dvs_device_reserve(manager, &request, &device, NULL);
-
-    return released(status, device.id);
-}
-
-/* Releases the device 0, and reserves it again without a failed allocation. */
-static dvs_status release_device(void) {
-    dvs_status status = dvs_device_release(manager, 0, NULL);
-    unsigned long number = until_refused;
-    dvs_device device;
-
-    until_refused = 0;
-    if (status == DVS_OK)
-        CHECK(dvs_device_reserve_first(manager, 1, 1, &device, NULL) == DVS_OK && device.id == 0);
-    until_refused = number;
-    return status;
-}
-
-static dvs_status read_manager(void) {
-    dvs_device_manager *made;
-    dvs_status status = dvs_device_manager_read(manager_text, manager_length, &made);
-
-    if (status == DVS_OK)
-        dvs_device_manager_destroy(made);
-    return status;
-}
-
-static const struct call {
+struct row {
     const char *name;
-    dvs_status (*call)(void);
+    int call, group;
+    uint64_t numbers[4];
     /* The minimum number of its allocations. */
     unsigned long requests;
-} calls[] = {
-    {"new space", new_space, 2},
-    {"new ids", new_ids, 1},
-    {"new manager", new_manager, 2},
-    {"first", allocate_first, 2},
-    {"last", allocate_last, 2},
-    {"exact", allocate_exact, 2},
-    {"in a window", allocate_in_window, 2},
-    {"move", move_range, 2},
-    {"copy a space", copy_space, 17},
-    {"copy ids", copy_ids, 2},
-    {"copy a manager", copy_manager, 4},
-    {"save a space", save_space, 3},
-    {"save ids", save_ids, 1},
-    {"save a manager", save_manager, 2},
-    {"read a space", read_space, 15},
-    {"repair a space", read_space_repaired, 15},
-    {"with ranges", make_with_held, 7},
-    {"several requests", allocate_all, 6},
-    {"several ids", allocate_ids, 1},
-    {"free an id", free_id, 1},
-    {"with ids", make_ids_with_held, 3},
-    {"an id above others", allocate_id_above, 3},
-    {"read ids", read_ids, 3},
-    {"release a device", release_device, 2},
-    {"reserve first", reserve_first, 1},
-    {"reserve last", reserve_last, 1},
-    {"reserve exactly", reserve_exact, 1},
-    {"reserve in a window", reserve_in_window, 2},
-    {"read a manager", read_manager, 10},
 };
 
-/* Fails each allocation of a call in turn, until a run has no failed allocation. */
-static void refuse_in_turn(const struct call *call) {
-    unsigned long number;
+static const struct row rows[] = {
+    {"new space", NEW_SPACE, 0, {1, 2}, 2},
+    {"new ids", NEW_IDS, 1, {1, 2}, 1},
+    {"new manager", NEW_MANAGER, 2, {1, 2, 3, 4}, 2},
+    {"first", FIRST, 0, {3, 16}, 1},
+    {"last", LAST, 0, {3, 8}, 2},
+    {"exact", EXACT, 0, {3, 1, 500}, 2},
+    {"in a window", REQUEST, 0, {0}, 2},
+    {"move", MOVE, 0, {9, 10, 500}, 2},
+    {"copy a space", COPY_SPACE, 0, {0}, 39},
+    {"copy ids", COPY_IDS, 1, {0}, 2},
+    {"copy a manager", COPY_MANAGER, 2, {0}, 4},
+    {"save a space", SAVE_SPACE, 0, {0}, 3},
+    {"save ids", SAVE_IDS, 1, {0}, 1},
+    {"save a manager", SAVE_MANAGER, 2, {0}, 2},
+    {"read a space", SPACE_WITHIN, 0, {0}, 39},
+    {"repair a space", REPAIR_WITHIN, 0, {0}, 39},
+    {"with ranges", WITH_RANGES, 0, {0, 16}, 7},
+    {"several requests", LIST, 0, {0}, 6},
+    {"several ids", IDS, 1, {0}, 1},
+    {"free an id", FREE_ID, 1, {0}, 1},
+    {"with ids", WITH_IDS, 1, {0, 9}, 3},
+    {"an id above others", ID_EXACT, 1, {999}, 8},
+    {"an id in a range", ID_IN, 1, {999, 1000}, 8},
+    {"read ids", IDS_WITHIN, 1, {0}, 3},
+    {"release a device", RELEASE, 2, {0}, 2},
+    {"reserve first", RESERVE_FIRST, 2, {4, 8}, 2},
+    {"reserve last", RESERVE_LAST, 2, {4, 8}, 2},
+    {"reserve exactly", RESERVE_EXACT, 2, {4, 1, 50}, 2},
+    {"reserve in a window", RESERVE, 2, {0}, 2},
+    {"read a manager", MANAGER_WITHIN, 2, {0}, 9},
+};
 
-    keep_texts();
-    for (number = 1;; number++) {
-        long before = blocks;
-        dvs_status status;
+/* Sets the arguments that are not numbers. */
+static void give(int group) {
+    static const dvs_range window = {490, 510}, held[] = {{4, 7}, {9, 9}};
+    static const dvs_request requests[] = {{3, 1, 0, DVS_LAST, &window},
+                                           {3, 1, 500, DVS_EXACT, NULL}};
+    static const uint32_t held_ids[] = {4, 9};
 
-        until_refused = number;
-        status = call->call();
-        if (until_refused > 0)
-            break;
-        CHECK(status == DVS_OUT_OF_MEMORY);
-        CHECK(blocks == before);
-        check_unchanged();
-    }
+    given = usual;
+    given.request = requests;
+    given.held_ranges = held;
+    given.held = held_ids;
+    given.text = texts[group];
+    given.length = lengths[group];
+}
+
+/* Makes a call of which this allocation fails. Returns whether it has fewer allocations. */
+static bool refuse_one(const struct row *row, bool is_empty, unsigned long number) {
+    bool is_done;
+    dvs_status status;
+    long before;
+
+    set_up(is_empty);
+    give(row->group);
+    before = blocks;
+    until_refused = number;
+    status = attempt(row->call, objects[row->group], row->numbers);
+    is_done = until_refused > 0;
     until_refused = 0;
-    drop_texts();
-    if (number <= call->requests)
-        fprintf(stderr, "%s: %lu allocations\n", call->name, number - 1);
-    CHECK(number > call->requests);
+    if (!is_done) {
+        /* The lists of ids and of devices keep memory for later. */
+        CHECK(blocks == before || row->call >= ID);
+        check_refused(row->call, status, DVS_OUT_OF_MEMORY);
+        compare(row->group, objects[row->group], copies[row->group], true);
+    }
+    CHECK(status == DVS_OK || !is_done || is_empty);
+    tear_down();
+    return is_done;
+}
+
+/* Fails each allocation of a call in turn, until a run has no failed allocation. */
+static void refuse_in_turn(const struct row *row) {
+    unsigned long number = 1;
+
+    while (!refuse_one(row, true, number))
+        number++;
+    for (number = 1; !refuse_one(row, false, number);)
+        number++;
+    if (number <= row->requests)
+        fprintf(stderr, "%s: %lu allocations\n", row->name, number - 1);
+    CHECK(number > row->requests);
+}
+
+/* Calls that do not allocate, because of an error or in all cases, and their statuses. */
+static const struct {
+    int call, group;
+    uint64_t numbers[4];
+    dvs_status status;
+} without_memory[] = {
+    {NEW_SPACE, 0, {0, 0}, DVS_UNDERFLOW},
+    {NEW_SPACE, 0, {2, TOP}, DVS_OVERFLOW},
+    {NEW_IDS, 1, {2, 1}, DVS_INVALID_RANGE},
+    {NEW_MANAGER, 2, {2, 1, 0, 0}, DVS_INVALID_RANGE},
+    {NEW_MANAGER, 2, {1, 2, 2, TOP}, DVS_OVERFLOW},
+    {WITH_IDS, 1, {9, 5}, DVS_INVALID_RANGE},
+    {WITH_IDS, 1, {5, 9}, DVS_OUT_OF_RANGE},
+    {FIRST, 0, {TOP, 1}, DVS_RESOURCE_NOT_AVAILABLE},
+    {EXACT, 0, {2, 1, 9}, DVS_INVALID_STATE_TRANSITION},
+    {MOVE, 0, {9, 10, 99}, DVS_INVALID_STATE_TRANSITION},
+    {MOVE, 0, {9, 10, 10}, DVS_RESOURCE_NOT_AVAILABLE},
+    {MOVE, 0, {9, 10, 9}, DVS_OK},
+    {FREE, 0, {9, 10}, DVS_OK},
+    {ID, 1, {0}, DVS_OK},
+    {ID_EXACT, 1, {0}, DVS_RESOURCE_NOT_AVAILABLE},
+    {ID_EXACT, 1, {300}, DVS_OK},
+    {ID_IN, 1, {0, 0}, DVS_RESOURCE_NOT_AVAILABLE},
+    {FREE_ID, 1, {300}, DVS_NEVER_ALLOCATED},
+    {FREE_ID, 1, {1}, DVS_ALREADY_RELEASED},
+    {RESERVE_FIRST, 2, {TOP, 1}, DVS_RESOURCE_NOT_AVAILABLE},
+    {RELEASE, 2, {2}, DVS_NEVER_ALLOCATED},
+};
+
+static void call_without_memory(int call, int group, const uint64_t *numbers, dvs_status status) {
+    dvs_status got;
+
+    set_up(false);
+    give(group);
+    given.other = copies[group];
+    given.has_result = status != DVS_NULL;
+    until_refused = 1;
+    got = attempt(call, objects[group], numbers);
+    CHECK(until_refused == 1);
+    until_refused = 0;
+    CHECK(got == status || (status == DVS_OK && got == DVS_RESOURCE_NOT_AVAILABLE));
+    tear_down();
+}
+
+/* Also makes the queries, except those that copy and save, and the visits. All calls come without a
+ * place for the result, too. */
+static void do_without_memory(void) {
+    size_t i;
+    int call;
+
+    for (i = 0; i < sizeof without_memory / sizeof without_memory[0]; i++)
+        call_without_memory(without_memory[i].call, without_memory[i].group,
+                            without_memory[i].numbers, without_memory[i].status);
+    for (call = 0; call < CALLS; call++) {
+        const struct group *group = &groups[group_of(call)];
+
+        if (call < group->done || group->queries <= call)
+            call_without_memory(call, group_of(call), zeros, DVS_NULL);
+        if (group->queries <= call && call != group->visits - 2 && call != group->visits - 1)
+            call_without_memory(call, group_of(call), zeros, DVS_OK);
+    }
 }
 
 /* ---- The memory for texts ---- */
@@ -591,10 +377,9 @@ int main(void) {
     long before = blocks;
     size_t i;
 
-    set_up();
-    for (i = 0; i < sizeof calls / sizeof calls[0]; i++)
-        refuse_in_turn(&calls[i]);
-    tear_down();
+    for (i = 0; i < sizeof rows / sizeof rows[0]; i++)
+        refuse_in_turn(&rows[i]);
+    do_without_memory();
     measure_texts();
     refuse_without_memory();
     CHECK(blocks == before);

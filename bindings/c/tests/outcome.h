@@ -19,6 +19,8 @@ static bool seen[STATUSES];
 /* The results and the details of a call. A result that is a number is the start of the range. */
 static struct {
     dvs_device device;
+    dvs_range ranges[2];
+    uint32_t several[2];
     dvs_address_allocator *space;
     dvs_id_allocator *ids;
     dvs_device_manager *manager;
@@ -100,7 +102,7 @@ struct outcome {
 
 /* Returns whether a call returned this status, wrote its result or all details, and nothing else.
  */
-static bool has_outcome(const struct outcome *expected, dvs_status status) {
+static inline bool has_outcome(const struct outcome *expected, dvs_status status) {
     dvs_refusal told = {expected->range, expected->other, 0, expected->id, expected->cause};
 
     if (noted(status) != expected->status)

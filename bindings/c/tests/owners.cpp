@@ -143,7 +143,7 @@ static void save() {
     CHECK(!copy.read(text) && copy.ranges().size() == 2);
     CHECK(copy.read("{}") == dvs::code(DVS_NOT_A_STATE) && copy.ranges().size() == 2);
     uint64_t count = 0;
-    CHECK(!copy.held_count(count) && count == 2 && !copy.clear_count(count) && count == 13);
+    CHECK(!copy.held_count(count) && count == 2 && !copy.free_length(count) && count == 13);
     CHECK(!copy.gap_count(count) && count == 3);
     dvs_text_fault fault;
     dvs_text_limits limits = {text.size() - 1, 0};
@@ -175,6 +175,7 @@ static void copy() {
     CHECK(!space.make_with_held(0, 16, {range_of(1, 2), range_of(4, 4)}) && space != other);
     CHECK(!other.make_copy(space) && space == other && !other.free({4, 4}) && space != other);
     CHECK(!space.make_copy(space) && space.ranges().size() == 2);
+    CHECK(space.make_copy(dvs::address_allocator()) == DVS_NULL && space.ranges().size() == 2);
     CHECK(!ids.make(5, 9) && !other_ids.make_copy(ids) && ids == other_ids);
     CHECK(!ids.allocate_exact(7) && ids != other_ids);
     CHECK(!devices.make(5, 9, 0, 16) && !other_devices.make_copy(devices));
@@ -208,25 +209,127 @@ static void ask() {
     std::string text;
     uint64_t count = 0;
     uint32_t first = 0, last = 0, id = 0;
-    bool is_held = false;
+    bool is_allocated = false;
 
     CHECK(!space.make_with_held(0, 16, {range_of(1, 2)}) && !space.save(text));
     CHECK(!space.read_repaired(text) && !space.space(range) && is_range(range, 0, 15));
-    CHECK(!space.is_held({1, 2}, is_held) && is_held && !space.is_held({1, 1}, is_held) &&
-          !is_held);
-    CHECK(space.is_held({2, 1}, is_held) == DVS_INVALID_RANGE);
+    CHECK(!space.is_allocated({1, 2}, is_allocated) && is_allocated &&
+          !space.is_allocated({1, 1}, is_allocated) && !is_allocated);
+    CHECK(space.is_allocated({2, 1}, is_allocated) == DVS_INVALID_RANGE);
     CHECK(!ids.make_with_held(5, 9, {5}) && !ids.range(first, last) && first == 5 && last == 9);
     CHECK(!ids.peek(id) && id == 6 && !ids.held_count(count) && count == 1);
-    CHECK(!ids.is_held(5, is_held) && is_held && !ids.is_held(6, is_held) && !is_held);
+    CHECK(!ids.is_allocated(5, is_allocated) && is_allocated &&
+          !ids.is_allocated(6, is_allocated) && !is_allocated);
     CHECK(!devices.make(5, 9, 16, 16) && !devices.reserve_last(4, 4, device));
     CHECK(device.id == 5 && is_range(device.range, 28, 31));
     CHECK(!devices.reserve_exact(4, 4, 16, device) && device.id == 6);
     CHECK(devices.reserve_exact(4, 4, 16, device) == DVS_INVALID_STATE_TRANSITION);
-    CHECK(!devices.range(6, range) && is_range(range, 16, 19));
-    CHECK(devices.range(7, range) == DVS_NEVER_ALLOCATED);
+    CHECK(!devices.slot(6, range) && is_range(range, 16, 19));
+    CHECK(devices.slot(7, range) == DVS_NEVER_ALLOCATED);
     CHECK(!devices.ids(first, last) && first == 5 && last == 9);
     CHECK(!devices.space(range) && is_range(range, 16, 31));
     CHECK(!devices.device_count(count) && count == 2);
+}
+
+/* Checks that a method passes on the whole text, the limits and the fault. */
+template <typename Owner>
+static void check_reader(dvs::error (Owner::*read)(const std::string &, dvs_text_fault *,
+                                                   const dvs_text_limits *)) {
+    const dvs_text_limits limits[] = {{2, 0}, {0, 1}};
+    dvs_text_fault fault = {9, "", ""};
+    Owner owner;
+
+    CHECK((owner.*read)(std::string("{}\0", 3), &fault, nullptr) == DVS_NOT_JSON);
+    CHECK(fault.offset == 2 && fault.field == nullptr);
+    CHECK((owner.*read)("{} ", &fault, &limits[0]) == DVS_LIMIT_EXCEEDED && fault.offset == 2);
+    CHECK((owner.*read)("[[]]", &fault, &limits[1]) == DVS_LIMIT_EXCEEDED && fault.offset == 1);
+}
+
+static bool tells(const dvs_refusal &refusal, uint64_t start, uint64_t end, uint32_t id = 0) {
+    return is_range(refusal.range, start, end) && refusal.id == id;
+}
+
+/* Checks that methods pass on the alignment, and the details of an error. */
+static void tell_details() {
+    using dvs::request;
+    dvs::address_allocator space;
+    dvs::id_allocator ids;
+    dvs::device_manager devices;
+    dvs_range range;
+    dvs_device device;
+    dvs_refusal refusal;
+    std::vector<dvs_range> ranges;
+    const std::vector<dvs_request> twice(2, {1, 1, 99, DVS_EXACT, nullptr});
+
+    CHECK(space.make_with_held(0, 9, {{2, 1}}, nullptr, &refusal) && tells(refusal, 2, 1));
+    CHECK(ids.make_with_held(5, 9, {4}, &refusal) == DVS_OUT_OF_RANGE && tells(refusal, 0, 0, 4));
+    CHECK(!space.make(1, 0x1000) && !devices.make(5, 9, 1, 0x1000));
+    CHECK(!space.allocate_first(16, 64, range) && is_range(range, 64, 79));
+    CHECK(!space.allocate_last(16, 64, range) && is_range(range, 0xfc0, 0xfcf));
+    CHECK(space.allocate_exact(16, 64, 65, range) == DVS_UNALIGNED_ADDRESS);
+    CHECK(space.allocate_exact(16, 64, 64, range, &refusal) && tells(refusal, 64, 79));
+    CHECK(!space.allocate(request::first(16, 64), range) && is_range(range, 128, 143));
+    CHECK(!space.allocate(request::last(16, 64), range) && is_range(range, 0xf80, 0xf8f));
+    CHECK(space.allocate(request::exact(16, 64, 65), range) == DVS_UNALIGNED_ADDRESS);
+    CHECK(space.allocate({8, 1, 130, DVS_EXACT, nullptr}, range, &refusal) &&
+          tells(refusal, 130, 137));
+    CHECK(space.allocate_all(twice, ranges, nullptr, &refusal) && ranges.empty());
+    CHECK(tells(refusal, 99, 99));
+    CHECK(!devices.reserve_first(16, 64, device) && is_range(device.range, 64, 79));
+    CHECK(!devices.reserve_last(16, 64, device) && is_range(device.range, 0xfc0, 0xfcf));
+    CHECK(devices.reserve_exact(16, 64, 65, device) == DVS_UNALIGNED_ADDRESS);
+    CHECK(devices.reserve_exact(16, 64, 64, device, &refusal) && tells(refusal, 64, 79));
+    CHECK(devices.reserve({8, 1, 70, DVS_EXACT, nullptr}, device, &refusal) &&
+          tells(refusal, 70, 77));
+    check_reader(&dvs::address_allocator::read);
+    check_reader(&dvs::address_allocator::read_repaired);
+    check_reader(&dvs::id_allocator::read);
+    check_reader(&dvs::device_manager::read);
+}
+
+/* Makes each query on empty owners. */
+static void ask_empty(const dvs::address_allocator &space, const dvs::id_allocator &ids,
+                      const dvs::device_manager &devices) {
+    std::string text;
+    std::vector<dvs_range> ranges;
+    dvs_range range = {0, 0};
+    dvs_device device;
+    uint64_t count;
+    uint32_t id;
+    bool is_allocated;
+    auto see = [](dvs_range) { return true; };
+    const dvs::error all[] = {space.save(text),
+                              space.space(range),
+                              space.is_allocated(range, is_allocated),
+                              space.at(0, range),
+                              space.gap_at(0, range),
+                              space.longest_gap(count),
+                              space.held_count(count),
+                              space.free_length(count),
+                              space.ranges_in(range, ranges),
+                              space.for_each(see),
+                              space.gaps_in(range, ranges),
+                              space.for_each_from(0, see),
+                              space.for_each_back(0, see),
+                              space.for_each_gap_from(0, see),
+                              space.for_each_gap_back(0, see),
+                              ids.save(text),
+                              ids.range(id, id),
+                              ids.peek(id),
+                              ids.is_allocated(0, is_allocated),
+                              ids.held_count(count),
+                              ids.free_count(count),
+                              devices.save(text),
+                              devices.ids(id, id),
+                              devices.space(range),
+                              devices.range(0, range),
+                              devices.device_count(count),
+                              devices.at(0, device)};
+
+    for (const dvs::error &one : all)
+        CHECK(one == DVS_NULL);
+    CHECK(space.ranges().empty() && space.gaps().empty() && ids.ids().empty());
+    CHECK(devices.devices().empty() && space == space && !(ids != ids) && !devices);
 }
 
 static void throw_in_a_visit() {
@@ -281,6 +384,8 @@ int main() {
     ask();
     reserve_in_windows();
     save();
+    tell_details();
+    ask_empty({}, {}, {});
     throw_in_a_visit();
     replace_in_a_visit();
     puts("owners: the header for C++ checked");

@@ -24,9 +24,13 @@ MALFORMED = [b"", b" ", b"{", b"}", b"[1,]", b"[,1]", b"{\"a\":1,}", b"{\"a\"}",
              b"1.", b".5", b"1.e5", b"1e", b"1e+", b"--1", b"-", b"0x1", b"nul", b"nulls", b"True", b"\"\t\"", b"\"\\x\"", b"\"\\u12\"",
              b"\"\\u12g4\"", b"\"\\ud800\"", b"\"\\ud800\\u0041\"", b"\"\\udc00\"", b"\"", b"\"\\", b"[1] 2", b"/**/1", b"\xc3",
              b"\xed\xa0\x80", b"1e309", b"9" * 400, b"NaN", b"[" * 129 + b"]" * 129, b"[" * 100000, b"{\"a\":" * 100000,
-             b"\xef\xbb\xbf1", b"1\x00", b"\x0b1", b"[1\xc2\xa0]"]
+             b"\xef\xbb\xbf1", b"1\x00", b"\x0b1", b"[1\xc2\xa0]", b"{}\xc2\xa0", b"\xe2\x80\xa8{}"]
 WELL_FORMED = [b"0", b"-0", b"1.5e-3", b"null", b" true ", b"\"\\ud83d\\ude00\\/\\b\\f\\n\\r\\t\"", b"[" * 128 + b"]" * 128, b"{}", b"[]",
                b"{\"a\":1,\"a\":2}", b"\r\n[\t1 , 2 ]\n", b"\"\xe2\x82\xac\"", b"1E+2", b"18446744073709551616", b"0.0"]
+# Each byte between tokens, at both ends, in a string and in an escape, and each end of the surrogates.
+EACH_BYTE = [place.replace(b"?", bytes([byte])) for byte in range(256) for place in (b"[1?,2]", b"?0", b"{}?", b'"?"', b'"\\?"')]
+SURROGATES = [f'"\\u{one}\\u{other}"'.encode() for one in ("d7ff", "d800", "dbff", "dc00", "dfff", "e000")
+              for other in ("dbff", "dc00", "dfff", "e000")]
 
 
 class NoNumber(Exception):
@@ -109,15 +113,15 @@ def space_of(value, is_strict=True):
     if tree is None:
         return None
     following, before = space[0], True
-    for start, end, is_held in tree[0]:
-        if start < following or end > space[1] or is_held and end == MAX:
+    for start, end, is_allocated in tree[0]:
+        if start < following or end > space[1] or is_allocated and end == MAX:
             return None
-        if is_strict and (start != following or not (is_held or before)):
+        if is_strict and (start != following or not (is_allocated or before)):
             return None
-        following, before = end + 1, is_held
+        following, before = end + 1, is_allocated
     if is_strict and following != space[1] + 1:
         return None
-    return space, [(start, end) for start, end, is_held in tree[0] if is_held]
+    return space, [(start, end) for start, end, is_allocated in tree[0] if is_allocated]
 
 
 def ids_of(value):
@@ -192,9 +196,9 @@ class Texts:
             return None, 0
         middle = len(blocks) // 2
         (left, low), (right, high) = self.tree(blocks[:middle]), self.tree(blocks[middle + 1:])
-        start, end, is_held = blocks[middle]
+        start, end, is_allocated = blocks[middle]
         height = 1 + max(low, high)
-        return {"key": self.range(start, end), "node_state": "Allocated" if is_held else "Free", "left": left, "right": right,
+        return {"key": self.range(start, end), "node_state": "Allocated" if is_allocated else "Free", "left": left, "right": right,
                 "height": height}, height
 
     def space(self, blocks):
@@ -212,7 +216,7 @@ class Texts:
         held = self.choices.randrange(6)
         blocks, ids = self.blocks(held), self.ids(held)
         numbers = [number for number in range(ids["range_base"], ids["next_id"]) if number not in ids["freed_ids"]]
-        ranges = [self.range(start, end) for start, end, is_held in blocks if is_held]
+        ranges = [self.range(start, end) for start, end, is_allocated in blocks if is_allocated]
         self.choices.shuffle(ranges)
         slots = [{"id": number, "mmio_range": one} for number, one in zip(numbers, ranges)]
         return {"version": 1, "id_allocator": ids, "mmio_allocator": self.space(blocks), "slots": slots}
@@ -268,14 +272,16 @@ class Texts:
         return self.damaged(text)
 
     def with_other_number(self, text):
-        """Replaces one number of a text. The text is still JSON."""
+        """Replaces one number of a text, mostly by another value in JSON."""
         digits = [place for place, byte in enumerate(text) if chr(byte).isdigit() and not chr(text[place - 1]).isalnum()]
         first = self.choices.choice(digits)
         second = first
         while second < len(text) and chr(text[second]).isdigit():
             second += 1
         number = int(text[first:second])
-        other = self.choices.choice([str(number + 1), str(max(number - 1, 0)), "0", "null", "-1", f"{number}.0", str(MAX + 1), "[]", "{}"])
+        others = [number + 1, max(number - 1, 0), 0, number + MAX + 1, number + LAST_ID + 1, "null", "[]", "{}", f"-{number}", f"{number}.0",
+                  f"{number}e0", f"{number}E+0", f"{number}e-0", f"0{number}", f"+{number}", f"{number}.", f"{number}e", f'"{number}"']
+        other = str(self.choices.choice(others))
         return text[:first] + other.encode() + text[second:]
 
 
@@ -302,7 +308,7 @@ def main():
     options = parser.parse_args()
     print(f"seed {options.seed}")
     texts = Texts(random.Random(options.seed))
-    asked = [(reader, text) for reader in "srid" for text in MALFORMED + WELL_FORMED]
+    asked = [(reader, text) for reader in "srid" for text in MALFORMED + WELL_FORMED + EACH_BYTE + SURROGATES]
     for _ in range(options.texts):
         reader = texts.choices.choice("srid")
         asked.append((reader, texts.text(reader)))

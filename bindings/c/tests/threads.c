@@ -136,12 +136,13 @@ static void *look(void *context) {
 
     for (i = 0; i < ROUNDS; i++) {
         uint64_t count, sum = 0;
-        bool is_held = false;
+        bool is_allocated = false;
         size_t length;
 
         CHECK(dvs_range_count(space, &count) == DVS_OK && count == HELD);
         CHECK(dvs_range_visit(space, count_range, &sum) == DVS_OK && sum == 3 * HELD);
-        CHECK(dvs_range_is_held(space, range_of(0, 2), &is_held, NULL) == DVS_OK && is_held);
+        CHECK(dvs_range_is_allocated(space, range_of(0, 2), &is_allocated, NULL) == DVS_OK &&
+              is_allocated);
         dvs_text_destroy(saved_space(space, &length));
     }
     return NULL;
