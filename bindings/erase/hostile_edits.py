@@ -108,14 +108,13 @@ def outcome(project, scratch, edit, needed="program: vm_ranges\n"):
     return error_of(lambda: erase.Project(scratch, not needed))
 
 
-met = set()
-
-
 class Looked(set):
     """A table that notes each name that is looked up."""
 
+    met = set()
+
     def __contains__(self, name):
-        met.add((id(self), name))
+        self.met.add((id(self), name))
         return super().__contains__(name)
 
 
@@ -128,7 +127,7 @@ def unused(project):
         folders.update({folder: (new, Looked(names)) for folder, (new, names) in folders.items()})
     erase.Project(project, True)
     every = [*tables.values(), *(names for _, names in [*erase.FOLDERS.values(), *erase.FOLDERS_OF_TESTS.values()])]
-    return sorted(name for table in every for name in table if (id(table), name) not in met)
+    return sorted(name for table in every for name in table if (id(table), name) not in Looked.met)
 
 
 def overlap():

@@ -61,8 +61,9 @@ fn ids_and_devices() {
     });
     expect_linear("several ids", ids, |ids| {
         let (mut ids, half) = (ids.try_clone(Global).unwrap(), ids.held_count() as u32 / 2);
-        let window = |id| ids.allocate_in(id, id + 1).is_ok();
-        assert!((0..half).rev().map(|at| FIRST_ID + 2 * at).all(window));
+        let near =
+            |a| ids.peek_id().is_ok() && ids.held_count() > 0 && ids.allocate_in(a, a + 1).is_ok();
+        assert!((0..half).rev().map(|at| FIRST_ID + 2 * at).all(near));
         ids.allocate_ids(Global, half as usize).unwrap()
     });
     expect_linear("devices read and written", manager, |manager| {
