@@ -41,9 +41,9 @@
  * not make a call on an object, because the signal can interrupt another call.
  * A thread must not be cancelled asynchronously in a call.
  *
- * Memory. If memory runs out, a call frees what it has made and returns
- * DVS_OUT_OF_MEMORY. No call ends the process then. This is the last error, except
- * in a call that reads a text or takes an array.
+ * Memory. If memory runs out, a call returns DVS_OUT_OF_MEMORY. It frees what it has
+ * made, or keeps it for later calls on the object. No call ends the process then.
+ * This is the last error, except in a call that reads a text or takes an array.
  *
  * Freeing a range, dvs_id_allocate() and queries do not allocate memory. Saving
  * and reading allocate less than 100 bytes for each allocated range, freed id
