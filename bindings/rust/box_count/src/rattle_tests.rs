@@ -185,6 +185,8 @@ fn memory_of_sets() {
         };
         let ((_, bytes), requests) = refusing(0, || peak_of(fill));
         assert!(requests as i64 <= blocks() - before + 16);
+        let copied = peak_of(|| set.clone().map(drop)).1 as i64;
+        assert_eq!(copied, (blocks() - before - 2) * (1024 + 24 + 4) - 4);
         let most_bytes = most * set.len();
         assert!(bytes <= most_bytes, "{bytes} bytes instead of {most_bytes}");
         for value in (1..2 * VALUES as u32).step_by(101) {
@@ -195,7 +197,6 @@ fn memory_of_sets() {
         for value in (0..2 * VALUES as u32).filter(|value| value % 128 > 0) {
             set.remove(&value);
         }
-        let chunks = blocks() - before - 2;
-        assert!(chunks <= set.len() as i64 / 64 * 2, "{chunks} chunks");
+        assert!(blocks() - before - 2 <= set.len() as i64 / 64 * 2);
     }
 }
