@@ -28,7 +28,7 @@ class Runner:
         self.project, self.scratch = project, scratch
         self.workspace = mutants.copy_workspace(project, os.path.join(scratch, "bindings"))
         self.library = mutants.refusing_library(project, scratch)
-        fixtures = pathlib.Path(project, "crates", "vm_fixtures", "src", "lib.rt").read_text(encoding="utf-8")
+        fixtures = pathlib.Path(project, "crates", "vm_tests", "src", "fixtures.rt").read_text(encoding="utf-8")
         self.count_allocation = re.search(r"COUNT_ALLOCATION: usize = ([\d_]+);", fixtures)[1].replace("_", "")
 
     def program(self, mutant):

@@ -1,7 +1,7 @@
 //! Tests of rounding to multiples.
+use crate::fixtures::expect_eq;
 use vm_allocator::Error;
 use vm_allocator::allocation_engine::{align_down, align_up};
-use vm_fixtures::expect_eq;
 
 const MAX: u64 = u64::MAX;
 

@@ -1,4 +1,5 @@
 //! Tests of managers of devices.
+use crate::fixtures::{expect_eq, expect_true};
 use Call::{Exact, First, FirstIn, Last, LastIn, LookUp, Release};
 use Expected::{Device, Gone, Held, NeverAllocated, NoSize, NotAvailable, Overflow, Unaligned};
 use serde_json::Value;
@@ -7,7 +8,6 @@ use std::process::Abort;
 use vm_allocator::allocation_engine::NodeState::Allocated;
 use vm_allocator::{AddressAllocator, AllocPolicy, Constraint, Error, RangeInclusive, Result};
 use vm_devices::DeviceManager;
-use vm_fixtures::{expect_eq, expect_true};
 
 mod read_devices;
 mod reserving;
@@ -146,7 +146,7 @@ impl Parts {
     fn of(rt: &(impl Abort + AllocGlobal), devices: &DeviceManager) -> Parts {
         let value = saved_devices(rt, devices);
         let part = value.get("mmio_allocator").expect(rt, "a manager has it");
-        let space = vm_fixtures::read(rt, part).expect(rt, "it is an allocator");
+        let space = crate::fixtures::read(rt, part).expect(rt, "it is an allocator");
         Parts { value, space }
     }
 

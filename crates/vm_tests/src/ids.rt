@@ -1,9 +1,11 @@
 //! Tests of id allocators.
+use crate::fixtures::{
+    balance, expect_eq, expect_true, fail_from_here, parsed, read_ids, saved_ids,
+};
 use Call::{Allocate, Count, Fields, Free, Holds, Peek, TakeAll};
 use Expected::{AlreadyReleased, Id, NeverAllocated, NotAvailable, OutOfRange, Overflow};
 use std::process::Abort;
 use vm_allocator::{Error, IdAllocator, Result};
-use vm_fixtures::{balance, expect_eq, expect_true, fail_from_here, parsed, read_ids, saved_ids};
 
 mod counts;
 mod from_ids;

@@ -3,6 +3,10 @@
 //! Each test is fast if its calls are as fast as they should be. It reaches the time limit of a
 //! test if a call takes quadratic time, or descends a deep value completely. tests/refused_memory
 //! skips these tests, and runs the deep ones on a small stack.
+use crate::fixtures::{
+    Reader, chain, cloned, expect_eq, expect_refused, expect_space, hold, items, list_for, made,
+    parsed, put, range, read, read_ids, read_repaired, saved, saved_ids,
+};
 use serde_json::Value;
 use std::cmp::Ordering;
 use std::process::Abort;
@@ -10,10 +14,6 @@ use vm_allocator::{
     AddressAllocator, AllocPolicy, Constraint, Error, IdAllocator, ListError, ReadIds,
 };
 use vm_devices::{DeviceManager, ReadDevices};
-use vm_fixtures::{
-    Reader, chain, cloned, expect_eq, expect_refused, expect_space, hold, items, list_for, made,
-    parsed, put, range, read, read_ids, read_repaired, saved, saved_ids,
-};
 
 /// The number of allocated ranges, ids or devices.
 const MANY: u64 = 100_000;

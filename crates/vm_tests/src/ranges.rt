@@ -1,4 +1,5 @@
 //! Tests of ranges, constraints, and errors with their texts.
+use crate::fixtures::{expect_eq, range};
 use std::cmp::Ordering;
 use std::fmt::Display;
 use std::process::Abort;
@@ -7,7 +8,6 @@ use vm_allocator::{
     AllocPolicy, Constraint, DEFAULT_CONSTRAINT_ALIGN, Error, RangeInclusive, ValueError,
 };
 use vm_devices::DeviceSlot;
-use vm_fixtures::{expect_eq, range};
 
 const MAX: u64 = u64::MAX;
 

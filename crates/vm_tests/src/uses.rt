@@ -8,6 +8,7 @@ ghost use Rattle.vm_allocator.specs.Range.{address_count};
 ghost use Rattle.vm_allocator.specs.Allocator.{state_of};
 ghost use Rattle.vm_allocator.specs.Ids.{IsHeld};
 
+use crate::fixtures::{expect_true, made, range};
 use crate::plugging::replugged;
 use crate::windows::{restored, windows};
 use serde_json::Value;
@@ -18,7 +19,6 @@ use vm_allocator::{
     ValueError,
 };
 use vm_devices::DeviceManager;
-use vm_fixtures::{expect_true, made, range};
 
 /// Allocates a bar, which must start at a multiple of its size.
 #[tactic(auto, using(vm_allocator::proofs::Callers::callers))]

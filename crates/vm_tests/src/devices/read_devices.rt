@@ -1,9 +1,9 @@
 //! Tests of the list of devices, of the device at an address, of equality, of copies, and of devices
 //! that are read one by one.
 use super::*;
+use crate::fixtures::{fail_from_here, holds_exactly};
 use vm_allocator::{Condition, SavedError};
 use vm_devices::{DeviceSlot, ReadDevices};
-use vm_fixtures::{fail_from_here, holds_exactly};
 
 /// Returns the id of a device, and the ends of its range.
 fn parts(device: DeviceSlot) -> (u32, u64, u64) {

@@ -1,7 +1,7 @@
 //! Tests of managers that are written and read, and of untrusted input.
 use super::*;
+use crate::fixtures::{balance, parsed};
 use vm_allocator::ValueError;
-use vm_fixtures::{balance, parsed};
 
 mod hostile;
 

@@ -1,6 +1,6 @@
 //! Calls that do not allocate. They run while every allocation fails.
 use super::*;
-use vm_fixtures::fail_from_here;
+use crate::fixtures::fail_from_here;
 
 /// Makes calls that do not allocate, and checks their results.
 fn replay_refused(

@@ -1,10 +1,10 @@
 //! Tests of allocators that are created of their range, their next id and their freed ids.
 use super::*;
+use crate::fixtures::{count_allocations, expect_allocations};
 use std::alloc::Global;
 use vm_allocator::Condition::{FreedIds, IdRange, NextId, Order};
 use vm_allocator::SavedError::{OutOfMemory, Violated};
 use vm_allocator::{Condition, ReadIds, SavedError};
-use vm_fixtures::{count_allocations, expect_allocations};
 
 /// Adds an id. If memory runs out, it repeats the call.
 fn push(ids: &mut ReadIds, id: u32) -> std::result::Result<(), SavedError> {

@@ -1,7 +1,7 @@
 //! Tests of the calls that allocate a given id, an id of a window, or several ids.
 use super::*;
+use crate::fixtures::{count_allocations, expect_allocations};
 use Request::{Exact, Left, Plain, Window};
-use vm_fixtures::{count_allocations, expect_allocations};
 
 /// A request with its expected result.
 #[derive(Clone, Copy)]

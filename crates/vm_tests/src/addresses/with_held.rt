@@ -1,10 +1,10 @@
 //! Tests of allocators that are created with allocated ranges.
 use super::*;
-use vm_allocator::ListError;
-use vm_fixtures::{
+use crate::fixtures::{
     balance, count_allocations, expect_allocations, fail_from_here, hold, holds_exactly, list_for,
     range,
 };
+use vm_allocator::ListError;
 
 /// A space by its base and its size, two ranges, and the error of creating it with these allocated: the
 /// index of the range that cannot be allocated, or `None` if the space is invalid, and the error.

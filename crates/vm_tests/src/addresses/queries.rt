@@ -1,7 +1,7 @@
 //! Tests of the queries of one address, of the gaps and of the number of free addresses.
 use super::*;
+use crate::fixtures::gaps_exactly;
 use Row::{Ask, GapAt, Gaps, HeldAt, Outside};
-use vm_fixtures::gaps_exactly;
 
 /// A call with its expected result, or a check between calls.
 #[derive(Clone, Copy)]

@@ -1,7 +1,5 @@
 //! Functions that the tests share. A second try of a call is for a run in which one allocation
 //! fails.
-#![tactic(auto)]
-
 use serde_json::Value;
 use std::alloc::Global;
 use std::fmt::Debug;
@@ -25,45 +23,45 @@ const COUNT_ALLOCATION: usize = 1_000_100;
 const FAILED_ONCE: &str = "memory is refused once";
 
 /// Ends the test if a result is not the expected one. The message contains `of`.
-pub fn expect_eq<T: PartialEq + Debug>(rt: &impl Abort, got: &T, want: &T, of: &impl Debug) {
+pub(crate) fn expect_eq<T: PartialEq + Debug>(rt: &impl Abort, got: &T, want: &T, of: &impl Debug) {
     assert!(rt; got == want, "{of:?}: {got:?} where {want:?} is due");
 }
 
 /// Ends the test if `is_true` is false. The message contains `of`.
-pub fn expect_true(rt: &impl Abort, is_true: bool, of: &impl Debug) {
+pub(crate) fn expect_true(rt: &impl Abort, is_true: bool, of: &impl Debug) {
     assert!(rt; is_true, "{of:?} is not so");
 }
 
 /// Returns the range from one address to another.
-pub fn range(rt: &impl Abort, start: u64, end: u64) -> RangeInclusive {
+pub(crate) fn range(rt: &impl Abort, start: u64, end: u64) -> RangeInclusive {
     RangeInclusive::new(start, end).expect(rt, "it is a range")
 }
 
 /// Allocates, whether that fails or not. tests/refused_memory makes every later allocation fail.
-pub fn fail_from_here(alloc: Global) {
+pub(crate) fn fail_from_here(alloc: Global) {
     let _ = Vec::<u8>::with_capacity(alloc, LAST_ALLOCATION);
 }
 
 /// Allocates, whether that fails or not. tests/refused_memory checks that all memory that is
 /// allocated from one call of this to the next is freed.
-pub fn balance(alloc: Global) {
+pub(crate) fn balance(alloc: Global) {
     let _ = Vec::<u8>::with_capacity(alloc, BALANCE_ALLOCATION);
 }
 
 /// Allocates, whether that fails or not. tests/refused_memory counts the allocations after this.
-pub fn count_allocations(alloc: Global) {
+pub(crate) fn count_allocations(alloc: Global) {
     let _ = Vec::<u8>::with_capacity(alloc, COUNT_ALLOCATION);
 }
 
 /// Allocates, whether that fails or not. tests/refused_memory checks the number of counted
 /// allocations, if none failed.
-pub fn expect_allocations(alloc: Global, number: usize) {
+pub(crate) fn expect_allocations(alloc: Global, number: usize) {
     let size = COUNT_ALLOCATION.saturating_add(number).saturating_add(1);
     let _ = Vec::<u8>::with_capacity(alloc, size);
 }
 
 /// Creates an empty list with memory for a number of items.
-pub fn list_for<T>(rt: &(impl Abort + AllocGlobal), number: usize) -> Vec<T> {
+pub(crate) fn list_for<T>(rt: &(impl Abort + AllocGlobal), number: usize) -> Vec<T> {
     match Vec::with_capacity(rt.alloc(), number) {
         Ok(list) => list,
         Err(_) => Vec::with_capacity(rt.alloc(), number).expect(rt, FAILED_ONCE),
@@ -71,7 +69,7 @@ pub fn list_for<T>(rt: &(impl Abort + AllocGlobal), number: usize) -> Vec<T> {
 }
 
 /// Creates the allocator of a space.
-pub fn made(rt: &(impl Abort + AllocGlobal), base: u64, size: u64) -> AddressAllocator {
+pub(crate) fn made(rt: &(impl Abort + AllocGlobal), base: u64, size: u64) -> AddressAllocator {
     match AddressAllocator::new(rt.alloc(), base, size) {
         Ok(space) => space,
         Err(_) => AddressAllocator::new(rt.alloc(), base, size).expect(rt, FAILED_ONCE),
@@ -79,7 +77,10 @@ pub fn made(rt: &(impl Abort + AllocGlobal), base: u64, size: u64) -> AddressAll
 }
 
 /// Clones an allocator.
-pub fn cloned(rt: &(impl Abort + AllocGlobal), space: &AddressAllocator) -> AddressAllocator {
+pub(crate) fn cloned(
+    rt: &(impl Abort + AllocGlobal),
+    space: &AddressAllocator,
+) -> AddressAllocator {
     match space.try_clone(rt.alloc()) {
         Ok(clone) => clone,
         Err(_) => space.try_clone(rt.alloc()).expect(rt, FAILED_ONCE),
@@ -87,7 +88,7 @@ pub fn cloned(rt: &(impl Abort + AllocGlobal), space: &AddressAllocator) -> Addr
 }
 
 /// Returns `true` if exactly these ranges are allocated.
-pub fn holds_exactly(space: &AddressAllocator, ranges: &[(u64, u64)]) -> bool {
+pub(crate) fn holds_exactly(space: &AddressAllocator, ranges: &[(u64, u64)]) -> bool {
     let mut held = space.held_ranges();
     if held.len() != ranges.len() {
         return false;
@@ -102,7 +103,7 @@ pub fn holds_exactly(space: &AddressAllocator, ranges: &[(u64, u64)]) -> bool {
 }
 
 /// Returns `true` if exactly these ranges are the gaps.
-pub fn gaps_exactly(space: &AddressAllocator, ranges: &[(u64, u64)]) -> bool {
+pub(crate) fn gaps_exactly(space: &AddressAllocator, ranges: &[(u64, u64)]) -> bool {
     let mut gaps = space.gaps();
     if gaps.len() != ranges.len() {
         return false;
@@ -117,7 +118,7 @@ pub fn gaps_exactly(space: &AddressAllocator, ranges: &[(u64, u64)]) -> bool {
 }
 
 /// Parses the value of a text.
-pub fn parsed(rt: &(impl Abort + AllocGlobal), text: &str) -> Value {
+pub(crate) fn parsed(rt: &(impl Abort + AllocGlobal), text: &str) -> Value {
     match Value::from_str(rt.alloc(), text) {
         Ok(value) => value,
         Err(_) => Value::from_str(rt.alloc(), text).expect(rt, FAILED_ONCE),
@@ -125,12 +126,12 @@ pub fn parsed(rt: &(impl Abort + AllocGlobal), text: &str) -> Value {
 }
 
 /// Returns the items of a list.
-pub fn items<'a>(rt: &impl Abort, list: &'a Value) -> &'a [Value] {
+pub(crate) fn items<'a>(rt: &impl Abort, list: &'a Value) -> &'a [Value] {
     list.as_array().expect(rt, "it is a list").as_slice()
 }
 
 /// Returns the text of a value.
-pub fn text_of(rt: &(impl Abort + AllocGlobal), value: &Value) -> String {
+pub(crate) fn text_of(rt: &(impl Abort + AllocGlobal), value: &Value) -> String {
     match value.to_string(rt.alloc()) {
         Ok(text) => text,
         Err(_) => value.to_string(rt.alloc()).expect(rt, FAILED_ONCE),
@@ -138,7 +139,7 @@ pub fn text_of(rt: &(impl Abort + AllocGlobal), value: &Value) -> String {
 }
 
 /// Returns the saved value of an allocator, with its tree node for node.
-pub fn saved(rt: &(impl Abort + AllocGlobal), space: &AddressAllocator) -> Value {
+pub(crate) fn saved(rt: &(impl Abort + AllocGlobal), space: &AddressAllocator) -> Value {
     match space.to_value(rt.alloc()) {
         Ok(value) => value,
         Err(_) => space.to_value(rt.alloc()).expect(rt, FAILED_ONCE),
@@ -146,7 +147,12 @@ pub fn saved(rt: &(impl Abort + AllocGlobal), space: &AddressAllocator) -> Value
 }
 
 /// Allocates a range that is free.
-pub fn hold(rt: &(impl Abort + AllocGlobal), space: &mut AddressAllocator, start: u64, size: u64) {
+pub(crate) fn hold(
+    rt: &(impl Abort + AllocGlobal),
+    space: &mut AddressAllocator,
+    start: u64,
+    size: u64,
+) {
     let policy = AllocPolicy::ExactMatch(start);
     if space.allocate(rt.alloc(), size, 1, policy).is_err() {
         let again = space.allocate(rt.alloc(), size, 1, policy);
@@ -155,13 +161,13 @@ pub fn hold(rt: &(impl Abort + AllocGlobal), space: &mut AddressAllocator, start
 }
 
 /// Returns the number of blocks in the tree of an allocator.
-pub fn block_count(rt: &(impl Abort + AllocGlobal), space: &AddressAllocator) -> usize {
+pub(crate) fn block_count(rt: &(impl Abort + AllocGlobal), space: &AddressAllocator) -> usize {
     let text = text_of(rt, &saved(rt, space));
     text.as_str().match_indices("node_state").count()
 }
 
 /// Returns the saved value of an id allocator.
-pub fn saved_ids(rt: &(impl Abort + AllocGlobal), ids: &IdAllocator) -> Value {
+pub(crate) fn saved_ids(rt: &(impl Abort + AllocGlobal), ids: &IdAllocator) -> Value {
     match ids.to_value(rt.alloc()) {
         Ok(value) => value,
         Err(_) => ids.to_value(rt.alloc()).expect(rt, FAILED_ONCE),
@@ -169,7 +175,7 @@ pub fn saved_ids(rt: &(impl Abort + AllocGlobal), ids: &IdAllocator) -> Value {
 }
 
 /// Reads the allocator of a value.
-pub fn read(
+pub(crate) fn read(
     rt: &(impl Abort + AllocGlobal),
     value: &Value,
 ) -> Result<AddressAllocator, ValueError> {
@@ -180,7 +186,7 @@ pub fn read(
 }
 
 /// Reads the allocator of a value with repairs.
-pub fn read_repaired(
+pub(crate) fn read_repaired(
     rt: &(impl Abort + AllocGlobal),
     value: &Value,
 ) -> Result<AddressAllocator, ValueError> {
@@ -191,7 +197,10 @@ pub fn read_repaired(
 }
 
 /// Reads the id allocator of a value.
-pub fn read_ids(rt: &(impl Abort + AllocGlobal), value: &Value) -> Result<IdAllocator, ValueError> {
+pub(crate) fn read_ids(
+    rt: &(impl Abort + AllocGlobal),
+    value: &Value,
+) -> Result<IdAllocator, ValueError> {
     match IdAllocator::from_value(rt.alloc(), value) {
         Err(ValueError::OutOfMemory) => IdAllocator::from_value(rt.alloc(), value),
         answer => answer,
@@ -199,7 +208,7 @@ pub fn read_ids(rt: &(impl Abort + AllocGlobal), value: &Value) -> Result<IdAllo
 }
 
 /// Checks that the result is an allocator that is equal to this one.
-pub fn expect_space(
+pub(crate) fn expect_space(
     rt: &impl Abort,
     answer: Result<AddressAllocator, ValueError>,
     want: &AddressAllocator,
@@ -214,7 +223,7 @@ pub fn expect_space(
 
 /// A reader of values.
 #[derive(Clone, Copy, Debug)]
-pub enum Reader {
+pub(crate) enum Reader {
     Range,
     State,
     Space,
@@ -238,7 +247,7 @@ impl Reader {
 }
 
 /// Checks that this reader rejects the value. The message contains `of`.
-pub fn expect_refused(
+pub(crate) fn expect_refused(
     rt: &(impl Abort + AllocGlobal),
     reader: Reader,
     value: &Value,
@@ -252,20 +261,20 @@ pub fn expect_refused(
 }
 
 /// Checks that this reader rejects each value of the list.
-pub fn reject_each(rt: &(impl Abort + AllocGlobal), reader: Reader, list: &Value) {
+pub(crate) fn reject_each(rt: &(impl Abort + AllocGlobal), reader: Reader, list: &Value) {
     for (number, value) in items(rt, list).iter().enumerate() {
         expect_refused(rt, reader, value, &number);
     }
 }
 
 /// Replaces the part at a path of a value.
-pub fn put(rt: &impl Abort, value: &mut Value, place: &str, part: Value) {
+pub(crate) fn put(rt: &impl Abort, value: &mut Value, place: &str, part: Value) {
     *value.pointer_mut(place).expect(rt, "it has the place") = part;
 }
 
 /// Returns nested copies of a node. Each has one address as its key and the copy before it at
 /// `side`. The keys increase from 0, or decrease from `first`, the key of the innermost node.
-pub fn chain(
+pub(crate) fn chain(
     rt: &(impl Abort + AllocGlobal),
     node: &str,
     keys: u64,

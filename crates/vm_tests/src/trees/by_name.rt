@@ -1,9 +1,9 @@
 //! Tests that the Rust crate has for the nodes of its tree, by the same names. They make calls of an
 //! allocator: a key that is inserted is an allocated range.
+use crate::fixtures::{expect_eq, expect_true, hold, holds_exactly, made, range};
 use std::process::Abort;
 use vm_allocator::allocation_engine::NodeState;
 use vm_allocator::{AddressAllocator, AllocPolicy, Error, RangeInclusive, Result};
-use vm_fixtures::{expect_eq, expect_true, hold, holds_exactly, made, range};
 
 /// The first and the last address of a range.
 type Ends = (u64, u64);

@@ -1,7 +1,7 @@
 //! Tests of equality, order and clones, and of the allocated ranges.
 use super::*;
+use crate::fixtures::{balance, holds_exactly, saved};
 use std::cmp::Ordering;
-use vm_fixtures::{balance, holds_exactly, saved};
 
 /// Returns the allocator after the calls.
 fn reached(rt: &(impl Abort + AllocGlobal), calls: &[Call]) -> AddressAllocator {

@@ -1,10 +1,10 @@
 //! Tests of the allocated ranges and the gaps that have an address in common with a range.
 use super::*;
+use crate::fixtures::range;
 use Items::{Gaps, Ranges};
 use Row::{Ask, In};
 use std::fmt::Debug;
 use vm_allocator::{GapsIn, HeldRangesIn};
-use vm_fixtures::range;
 
 /// A call with its expected result, or a check between calls.
 #[derive(Clone, Copy)]

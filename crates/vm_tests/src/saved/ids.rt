@@ -1,6 +1,6 @@
 //! Tests of id allocators.
 use super::*;
-use vm_fixtures::{count_allocations, expect_allocations, expect_refused, items};
+use crate::fixtures::{count_allocations, expect_allocations, expect_refused, items};
 
 #[test]
 fn read_ones(rt: HostRuntime) {

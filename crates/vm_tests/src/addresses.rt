@@ -1,4 +1,5 @@
 //! Tests of address allocators.
+use crate::fixtures::{block_count, cloned, expect_eq, expect_true, made};
 use AllocPolicy::{ExactMatch, FirstMatch, LastMatch};
 use Call::{Exact, ExactIn, First, FirstIn, Free, Last, LastIn, Move, Space};
 use Expected::{Held, NoAlignment, NoSize, NotAvailable, Overflow, Range, Unaligned, Underflow};
@@ -7,7 +8,6 @@ use std::alloc::Global;
 use std::process::Abort;
 use vm_allocator::allocation_engine::NodeState::Allocated;
 use vm_allocator::{AddressAllocator, AllocPolicy, Constraint, Error, RangeInclusive, Result};
-use vm_fixtures::{block_count, cloned, expect_eq, expect_true, made};
 
 mod aligned;
 mod comparing;

@@ -1,8 +1,8 @@
 //! Calls that do not allocate. tests/refused_memory makes every allocation after `fail_from_here`
 //! fail.
 use super::*;
+use crate::fixtures::{fail_from_here, gaps_exactly, holds_exactly, range};
 use std::cmp::Ordering;
-use vm_fixtures::{fail_from_here, gaps_exactly, holds_exactly, range};
 
 /// Makes the calls in turn without memory, and checks their results.
 fn replay(

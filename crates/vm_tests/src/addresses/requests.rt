@@ -3,7 +3,7 @@
 //! A new allocator allocates once. A split allocates once for each part of its gap that stays free.
 //! All other calls do not allocate.
 use super::*;
-use vm_fixtures::{count_allocations, expect_allocations};
+use crate::fixtures::{count_allocations, expect_allocations};
 
 /// Calls with their results and their numbers of allocations.
 const ROWS: [(Call, Expected, usize); 24] = [

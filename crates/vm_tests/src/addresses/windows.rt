@@ -3,7 +3,7 @@
 //! A range must be the lowest or the highest in its window, at both ends of the window, of a gap and
 //! of all addresses. A window must not hide that a range is allocated.
 use super::*;
-use vm_fixtures::hold;
+use crate::fixtures::hold;
 
 /// A call and its result in the space [0, 63], in which [16, 23] and [40, 47] are allocated.
 type Row = (Call, Expected);

@@ -1,7 +1,7 @@
 //! A long run on 64 addresses. Every second request has a window. Each result is compared with a plain
 //! search, address by address.
 use super::*;
-use vm_fixtures::range;
+use crate::fixtures::range;
 use vm_model as plain;
 use vm_model::{ADDRESSES, Addresses, CALLS, Draws};
 

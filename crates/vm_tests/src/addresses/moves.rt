@@ -3,7 +3,7 @@
 //! A move must not lose the range, and must not leave it allocated twice. An error must be the first one
 //! that applies, and must leave the range where it was.
 use super::*;
-use vm_fixtures::{gaps_exactly, holds_exactly};
+use crate::fixtures::{gaps_exactly, holds_exactly};
 
 #[test]
 fn moved_ranges(rt: HostRuntime) {

@@ -1,7 +1,9 @@
 //! Tests of several allocations in one call.
 use super::*;
+use crate::fixtures::{
+    balance, count_allocations, expect_allocations, hold, holds_exactly, list_for,
+};
 use vm_allocator::{Constraint, ListError};
-use vm_fixtures::{balance, count_allocations, expect_allocations, hold, holds_exactly, list_for};
 
 /// A space by its base and its size, requests with their results one by one, and the number of
 /// allocations of one call for all of them.

@@ -1,10 +1,10 @@
 //! Tests of trees.
+use crate::fixtures::{count_allocations, expect_allocations, expect_eq, expect_true, range};
 use AllocPolicy::{ExactMatch, FirstMatch, LastMatch};
 use std::alloc::Global;
 use std::process::Abort;
 use vm_allocator::allocation_engine::IntervalTree;
 use vm_allocator::{AllocPolicy, Constraint, Error};
-use vm_fixtures::{count_allocations, expect_allocations, expect_eq, expect_true, range};
 
 mod by_name;
 

@@ -1,14 +1,14 @@
 //! Tests of values that are written and read.
+use crate::fixtures::{
+    Reader, balance, block_count, chain, expect_eq, expect_space, fail_from_here, hold,
+    holds_exactly, list_for, made, parsed, put, range, read_ids, read_repaired, reject_each, saved,
+    saved_ids, text_of,
+};
 use serde_json::Value;
 use std::fmt::Debug;
 use std::process::Abort;
 use vm_allocator::allocation_engine::NodeState;
 use vm_allocator::{AddressAllocator, IdAllocator, RangeInclusive, ValueError};
-use vm_fixtures::{
-    Reader, balance, block_count, chain, expect_eq, expect_space, fail_from_here, hold,
-    holds_exactly, list_for, made, parsed, put, range, read_ids, read_repaired, reject_each, saved,
-    saved_ids, text_of,
-};
 
 mod allocators;
 mod damage;
@@ -25,7 +25,7 @@ fn read(
     rt: &(impl Abort + AllocGlobal),
     value: &Value,
 ) -> std::result::Result<AddressAllocator, ValueError> {
-    let answer = vm_fixtures::read(rt, value);
+    let answer = crate::fixtures::read(rt, value);
     if let Ok(space) = &answer {
         expect_space(rt, read_repaired(rt, value), space, "repaired");
     }

@@ -1,7 +1,7 @@
 //! Tests of the allocated ranges and of their number.
 use super::*;
+use crate::fixtures::range;
 use Row::{Ask, Count, Holds};
-use vm_fixtures::range;
 
 /// A call with its expected result, or a check between calls.
 #[derive(Clone, Copy)]
