@@ -92,7 +92,7 @@ fn pages<L: Library>(count: u64) -> L::Space {
     space
 }
 
-/// Prints the costs of both libraries in both formats.
+/// Prints the costs of divsharun in both formats, and those of `vm-allocator` divided by them.
 pub fn measure() {
     println!("| format, ranges | save | restore | peak of both |\n|---|---|---|---|");
     for count in [1_000, 100_000] {
@@ -109,13 +109,13 @@ fn measure_format<F: Format>(count: u64) {
         port.measure::<F, <Port as Library>::Space>(&port_space);
     }
     let time = |port: Duration, rust: Duration| {
-        let ratio = port.as_secs_f64() / rust.as_secs_f64();
+        let ratio = rust.as_secs_f64() / port.as_secs_f64();
         let milliseconds = port.as_secs_f64() * 1e3;
-        format!("{milliseconds:.2} ms ({ratio:.2} of vm-allocator's)")
+        format!("{milliseconds:.2} ms ({ratio:.2})")
     };
     let (out, into) = (time(port.out, rust.out), time(port.into, rust.into));
     let bytes = port.bytes as f64 / 1e6;
-    let ratio = port.bytes as f64 / rust.bytes as f64;
+    let ratio = rust.bytes as f64 / port.bytes as f64;
     println!(
         "| {}, {count} | {out} | {into} | {bytes:.1} MB ({ratio:.2}) |",
         F::NAME
