@@ -122,9 +122,10 @@ typedef struct {
 #define SLAB_PANIC 0
 #define gfpflags_allow_blocking(flags) true
 
-/* All objects of a cache have the size of their alignment. */
+/* A cache keeps its free objects in a list. They have the size of their alignment. */
 struct kmem_cache {
 	size_t size;
+	void *free;
 };
 
 static inline struct kmem_cache *kmem_cache_create(const char *name, size_t size, size_t alignment, int flags,
@@ -136,9 +137,25 @@ static inline struct kmem_cache *kmem_cache_create(const char *name, size_t size
 	return &cache;
 }
 
+static inline void kmem_cache_free(struct kmem_cache *cache, void *object)
+{
+	*(void **)object = cache->free;
+	cache->free = object;
+}
+
 static inline void *kmem_cache_alloc(struct kmem_cache *cache, gfp_t flags)
 {
-	return aligned_alloc(cache->size, cache->size);
+	void *object = cache->free;
+
+	if (object == NULL) {
+		char *objects = aligned_alloc(cache->size, 16 * cache->size);
+
+		for (size_t i = 1; i < 16; i++)
+			kmem_cache_free(cache, objects + i * cache->size);
+		return objects;
+	}
+	cache->free = *(void **)object;
+	return object;
 }
 
 static inline int kmem_cache_alloc_bulk(struct kmem_cache *cache, gfp_t flags, size_t count, void **objects)
@@ -148,15 +165,10 @@ static inline int kmem_cache_alloc_bulk(struct kmem_cache *cache, gfp_t flags, s
 	return count;
 }
 
-static inline void kmem_cache_free(struct kmem_cache *cache, void *object)
-{
-	free(object);
-}
-
 static inline void kmem_cache_free_bulk(struct kmem_cache *cache, size_t count, void **objects)
 {
 	for (size_t i = 0; i < count; i++)
-		free(objects[i]);
+		kmem_cache_free(cache, objects[i]);
 }
 
 /* Entries of a tree. The two lowest bits tell a pointer from a value (1) and from an internal entry (2). */
