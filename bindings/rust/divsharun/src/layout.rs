@@ -2,7 +2,7 @@ use crate::error::out_of_memory;
 use crate::rattle::{BTreeMap, Global};
 use crate::{AddressAllocator, HeldRanges, NodeState, RangeInclusive, TryError};
 use core::fmt;
-use core::iter::{FusedIterator, Peekable};
+use core::iter::FusedIterator;
 
 /// A view of the space of an [`AddressAllocator`], created by [`layout`](AddressAllocator::layout).
 ///
@@ -104,10 +104,14 @@ impl<'a> Layout<'a> {
     /// ```
     #[must_use]
     pub fn blocks(&self) -> Blocks<'_> {
+        let held = self.allocator.held_ranges();
         Blocks {
-            next: Some(self.allocator.base()),
+            start: self.allocator.base(),
             end: self.allocator.end(),
-            held: self.allocator.held_ranges().peekable(),
+            left: held.len() + self.allocator.gaps().len(),
+            lowest: None,
+            held,
+            highest: None,
             names: &self.names,
         }
     }
@@ -179,7 +183,8 @@ impl fmt::Display for Block<'_> {
     }
 }
 
-/// An iterator over the blocks of a [`Layout`], in ascending order.
+/// An iterator over the blocks of a [`Layout`], in ascending order or from both ends. Its length is
+/// exact.
 ///
 /// # Example
 ///
@@ -195,28 +200,31 @@ impl fmt::Display for Block<'_> {
 /// ```
 #[derive(Clone, Debug)]
 pub struct Blocks<'a> {
-    // The start of the next block, or `None` after the last one.
-    next: Option<u64>,
+    // The ends of the blocks that are left, and the number of these.
+    start: u64,
     end: u64,
-    held: Peekable<HeldRanges<'a>>,
+    left: usize,
+    // The allocated ranges that are left: at most one that the walk has passed, those of the walk, and
+    // at most one that it has passed from behind.
+    lowest: Option<RangeInclusive>,
+    held: HeldRanges<'a>,
+    highest: Option<RangeInclusive>,
     names: &'a BTreeMap<RangeInclusive, &'a str>,
 }
 
 impl<'a> Blocks<'a> {
-    /// Returns the allocated range that starts at `start`, or the gap from there to the next one.
-    fn block_from(&mut self, start: u64) -> Option<Block<'a>> {
-        if let Some(range) = self.held.next_if(|range| range.start() == start) {
-            return Some(Block {
-                range,
-                state: NodeState::Allocated,
-                name: self.names.get(&range).copied(),
-            });
-        }
-        let end = self.held.peek().map_or(self.end, |range| range.start() - 1);
-        // A space never has all 2^64 addresses, so each of its blocks is a range.
-        let range = RangeInclusive::new(start, end).ok()?;
-        Some(Block {
+    fn allocated(&self, range: RangeInclusive) -> Block<'a> {
+        Block {
             range,
+            state: NodeState::Allocated,
+            name: self.names.get(&range).copied(),
+        }
+    }
+
+    /// Returns a gap. A space never has all 2^64 addresses, so each of its blocks is a range.
+    fn gap(start: u64, end: u64) -> Option<Block<'a>> {
+        Some(Block {
+            range: RangeInclusive::new(start, end).ok()?,
             state: NodeState::Free,
             name: None,
         })
@@ -227,11 +235,48 @@ impl<'a> Iterator for Blocks<'a> {
     type Item = Block<'a>;
 
     fn next(&mut self) -> Option<Block<'a>> {
-        let block = self.block_from(self.next?)?;
-        let last = block.range.end();
-        self.next = (last < self.end).then(|| last + 1);
+        self.left = self.left.checked_sub(1)?;
+        self.lowest = self
+            .lowest
+            .or_else(|| self.held.next())
+            .or_else(|| self.highest.take());
+        let block = match self.lowest {
+            Some(range) if range.start() == self.start => {
+                self.lowest = None;
+                self.allocated(range)
+            }
+            Some(range) => Self::gap(self.start, range.start() - 1)?,
+            None => Self::gap(self.start, self.end)?,
+        };
+        self.start = block.range.end().wrapping_add(1);
+        Some(block)
+    }
+
+    fn size_hint(&self) -> (usize, Option<usize>) {
+        (self.left, Some(self.left))
+    }
+}
+
+impl<'a> DoubleEndedIterator for Blocks<'a> {
+    fn next_back(&mut self) -> Option<Block<'a>> {
+        self.left = self.left.checked_sub(1)?;
+        self.highest = self
+            .highest
+            .or_else(|| self.held.next_back())
+            .or_else(|| self.lowest.take());
+        let block = match self.highest {
+            Some(range) if range.end() == self.end => {
+                self.highest = None;
+                self.allocated(range)
+            }
+            Some(range) => Self::gap(range.end() + 1, self.end)?,
+            None => Self::gap(self.start, self.end)?,
+        };
+        self.end = block.range.start().wrapping_sub(1);
         Some(block)
     }
 }
+
+impl ExactSizeIterator for Blocks<'_> {}
 
 impl FusedIterator for Blocks<'_> {}

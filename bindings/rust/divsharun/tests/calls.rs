@@ -6,8 +6,8 @@ mod items;
 mod model;
 
 use divsharun::{
-    AddressAllocator, AllocPolicy, Constraint, DeviceManager, DeviceSlot, Error, IdAllocator,
-    ListError, NodeState, RangeInclusive, TryError,
+    AddressAllocator, AllocPolicy, Block, Constraint, DeviceManager, DeviceSlot, Error,
+    IdAllocator, ListError, NodeState, RangeInclusive, TryError,
 };
 use draw::Draw;
 use items::{expect_in_order, expect_items};
@@ -16,6 +16,23 @@ use std::collections::{BTreeSet, HashSet};
 use std::fmt::Debug;
 
 const BASE: u64 = 1000;
+
+/// Returns the blocks with these allocated ranges and gaps, in order.
+fn blocks_of(held: &[RangeInclusive], gaps: &[RangeInclusive]) -> Vec<Block<'static>> {
+    let of = |ranges: &[RangeInclusive], state| -> Vec<Block<'static>> {
+        let name = None;
+        let block = |range: &RangeInclusive| Block {
+            range: *range,
+            state,
+            name,
+        };
+        ranges.iter().map(block).collect()
+    };
+    let mut blocks = of(held, NodeState::Allocated);
+    blocks.extend(of(gaps, NodeState::Free));
+    blocks.sort_by_key(|block| block.range);
+    blocks
+}
 
 /// Moves a range, if the addresses there are free, or checks that it stays.
 fn move_range(space: &mut AddressAllocator, model: &mut Model, number: usize, to: u64) {
@@ -73,6 +90,8 @@ fn answers_are_those_of_a_plain_model() {
     held.sort();
     assert!(space.held_ranges().eq(held.iter().copied()));
     let gaps: Vec<_> = space.gaps().collect();
+    let layout = space.layout();
+    let blocks = blocks_of(&held, &gaps);
     for _ in 0..100 {
         expect_items(
             space.held_ranges(),
@@ -84,6 +103,8 @@ fn answers_are_those_of_a_plain_model() {
         expect_items(items, &held, |items| Some(items.len()), &mut draw);
         expect_items(space.iter(), &held, |items| Some(items.len()), &mut draw);
         expect_items(space.gaps(), &gaps, |items| Some(items.len()), &mut draw);
+        let items = layout.blocks();
+        expect_items(items, &blocks, |items| Some(items.len()), &mut draw);
     }
     expect_queries(&space, &held, &gaps, &mut draw);
     let lengths = || gaps.iter().map(RangeInclusive::len);
