@@ -76,7 +76,7 @@ fn node(key: (u64, u64), state: &str, right: &str) -> String {
 #[test]
 fn json_has_the_fields_in_order() {
     assert_eq!(json(&AddressAllocator::new(16, 4).unwrap()), FRESH);
-    // Of an even number of blocks, one more is before the root than after it.
+    // If the number of blocks is even, one more is before the root than after it.
     let mut space = AddressAllocator::new(16, 4).unwrap();
     for (start, root) in [
         (
@@ -575,8 +575,8 @@ fn errors_name_what_is_wrong() {
     assert_eq!(error.to_string(), text);
 }
 
-/// Returns texts of a value, each with one field of an object missing, twice, or in addition, or with a list
-/// of some fields for a node, and the start of the error.
+/// Returns wrong texts of a value, each with the start of its error. One field of an object is missing, twice
+/// there or unknown, or a node is a list of some fields.
 fn with_wrong_fields(value: &Value) -> Vec<(String, String)> {
     let (parts, brackets): (Vec<(String, &Value)>, _) = match value {
         Value::Object(fields) => {
