@@ -3,10 +3,14 @@
  * divsharun: allocators of address ranges and ids for the devices of a virtual
  * machine: MMIO and PIO ranges, PCI BARs, interrupts and memory slots.
  *
+ *     // The I/O APIC, the local APICs with MSI, and the firmware of x86.
+ *     const dvs_range taken[] = {
+ *         {0xfec00000, 0xfec00fff}, {0xfee00000, 0xfeefffff}, {0xffc00000, 0xffffffff}};
  *     dvs_address_allocator *mmio;
  *     dvs_range bar;
  *
- *     if (dvs_address_allocator_new(0xd0000000, 0x2ec00000, &mmio) != DVS_OK)
+ *     if (dvs_address_allocator_with_held(0xd0000000, 0x30000000, taken, 3, &mmio, NULL,
+ *                                         NULL) != DVS_OK)
  *         return -1;
  *     if (dvs_range_allocate_first(mmio, 0x1000, 0x1000, &bar, NULL) == DVS_OK)
  *         dvs_range_free(mmio, bar, NULL);

@@ -120,6 +120,17 @@ class owner {
     }
     T *get() const noexcept { return object.get(); }
     explicit operator bool() const noexcept { return object != nullptr; }
+    /* Takes over an object that a call of C created, and destroys the old one. */
+    DVS_MUST_CHECK error adopt(T *made) noexcept {
+        dvs_status status = Destroy(get());
+        if (status == DVS_OK) {
+            static_cast<void>(object.release());
+            object.reset(made);
+        }
+        return code(status);
+    }
+    /* Returns the object, and leaves the owner empty. The caller must destroy the object. */
+    T *release() noexcept { return object.release(); }
     /* Replaces the object by a copy of another one. */
     DVS_MUST_CHECK error make_copy(const owner &other) {
         return create([&](T **out) { return Copy(other.get(), out); });

@@ -364,6 +364,7 @@ static void replace_in_a_visit() {
         CHECK(space.make(0, 0) == DVS_UNDERFLOW && space.make(0, 16) == DVS_BUSY);
         CHECK(space.make_with_held(0, 16, {}) == DVS_BUSY && space.read(text) == DVS_BUSY);
         CHECK(space.read_repaired(text) == DVS_BUSY && space.ranges().size() == 1);
+        CHECK(space.adopt(nullptr) == DVS_BUSY);
         space = std::move(other);
         CHECK(space.ranges().empty() && other.ranges().size() == 1);
         CHECK(other.free(range_of(1, 1)) == DVS_BUSY && !space.make(16, 16));
@@ -373,6 +374,8 @@ static void replace_in_a_visit() {
     dvs::address_allocator &itself = space;
     space = std::move(itself);
     CHECK(space && space.gaps().size() == 1);
+    dvs_address_allocator *object = space.release();
+    CHECK(!space && !other.adopt(object) && other.get() == object);
 }
 
 int main() {
