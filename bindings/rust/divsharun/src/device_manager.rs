@@ -320,7 +320,7 @@ impl DeviceManager {
     ///
     /// An error changes nothing. In this order:
     /// - `Refused(NeverAllocated(id))` if no device has this id.
-    /// - `OutOfMemory` if an allocation for the set of freed ids fails.
+    /// - `OutOfMemory` if memory for the set of freed ids runs out.
     ///
     /// # Example
     ///

@@ -330,7 +330,7 @@ fn refused(error: TryError) -> Error {
 
 /// Ends the process, as Rust's collections do.
 ///
-/// The proved code does not report the size of the failed allocation, so the size in the message
+/// The proved code does not report the size of the missing memory, so the size in the message
 /// has no meaning.
 pub(crate) fn out_of_memory() -> ! {
     alloc::alloc::handle_alloc_error(core::alloc::Layout::new::<AddressAllocator>())

@@ -83,8 +83,8 @@
 //! kinds can be called on the same object.
 //!
 //! With serde, it is an error of the format if memory runs out. A view that `try_saved` returns
-//! is saved without an allocation. The memory of a format is its own: serde_json ends the process if
-//! the allocation of its text fails.
+//! is saved without allocating memory. The memory of a format is its own: serde_json ends the process
+//! if memory for its text runs out.
 //!
 //! Freeing a range, [`IdAllocator::allocate_id`], comparisons and queries do not allocate.
 //!

@@ -83,7 +83,7 @@ impl Serialize for DeviceManager {
     }
 }
 
-/// A view of an object, which is serialized as the object, and without an allocation.
+/// A view of an object, which is serialized as the object, and without allocating memory.
 ///
 /// [`AddressAllocator::try_saved`](crate::AddressAllocator::try_saved) and
 /// [`DeviceManager::try_saved`](crate::DeviceManager::try_saved) create it.
@@ -120,7 +120,7 @@ impl<'a, T> Saved<'a, T> {
 }
 
 impl crate::AddressAllocator {
-    /// Returns a view that is serialized as this allocator, and without an allocation.
+    /// Returns a view that is serialized as this allocator, and without allocating memory.
     ///
     /// The memory of a format is not part of this: `serde_json::to_string` allocates its text, and ends
     /// the process if memory for it runs out.
@@ -154,7 +154,7 @@ impl crate::AddressAllocator {
 }
 
 impl crate::DeviceManager {
-    /// Returns a view that is serialized as this manager, and without an allocation, as
+    /// Returns a view that is serialized as this manager, and without allocating memory, as
     /// [`AddressAllocator::try_saved`](crate::AddressAllocator::try_saved) does.
     ///
     /// # Errors
