@@ -182,7 +182,7 @@ typedef struct dvs_refusal {
 } dvs_refusal;
 
 /*
- * The causes. The first one that applies is told, in this order: outside the window,
+ * The causes. The first one that applies is written, in this order: outside the window,
  * outside the space, allocated, an earlier request.
  */
 enum {

@@ -1,4 +1,4 @@
-/* What a call returns and writes. Before each call all results and details have the same byte. */
+/* The outcome of a call. Before each call all results and details have the same byte. */
 #ifndef OUTCOME_H
 #define OUTCOME_H
 
