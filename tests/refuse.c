@@ -1,6 +1,6 @@
 /*
- * A preloaded library that fails allocations of a program.
- *
+ * Makes allocations of a program fail, so that tests see what a call does then.
+ * LD_PRELOAD loads it before the C library.
  * - REFUSE=N fails allocation number N, counted from 1.
  * - REFUSE_AFTER=SIZE fails each allocation after the first one of SIZE bytes.
  * - REFUSED=FILE: each failed allocation adds one byte to FILE.

@@ -120,7 +120,7 @@ fn reserve(
 fn refused_device(manager: &DeviceManager, request: Option<Constraint>, error: Error) -> CallError {
     match request {
         Some(request) if manager.ids().peek_id().is_ok() => {
-            refused(manager.addresses(), &request, error)
+            refused(manager.addresses(), request, error)
         }
         _ => error.into(),
     }

@@ -141,7 +141,7 @@ pub unsafe extern "C" fn dvs_address_allocator_allocate_all(
         let allocated = object.allocate_all(Global, &requests).map_err(|failure| {
             let index = failure.index;
             let error = match index.and_then(|index| requests.get(index)) {
-                Some(request) => refused(object, request, failure.error),
+                Some(&request) => refused(object, request, failure.error),
                 None => failure.error.into(),
             };
             ArrayError { index, error }

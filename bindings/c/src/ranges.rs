@@ -141,7 +141,7 @@ fn allocate_request(
     let allocated = allocator.allocate_constraint(Global, request);
     allocated
         .map(Into::into)
-        .map_err(|error| refused(allocator, &request, error))
+        .map_err(|error| refused(allocator, request, error))
 }
 
 #[unsafe(no_mangle)]
@@ -190,7 +190,7 @@ fn move_range(
     moved
         .map(Into::into)
         .map_err(|error| match allocator.holds(range) {
-            true => refused(allocator, &request, error),
+            true => refused(allocator, request, error),
             false => error.into(),
         })
 }

@@ -2,7 +2,7 @@
 
 use crate::handle::{non_null, Handle};
 use crate::proved::vm_allocator::{
-    AddressAllocator, AllocPolicy, Constraint, Error, RangeInclusive, Result as Answer,
+    AddressAllocator, AllocPolicy, Conflict, Constraint, Error, RangeInclusive, Result as Answer,
 };
 use crate::{dvs_range, CallError, Out};
 
@@ -82,28 +82,22 @@ pub(crate) fn with_request<T, A>(
 /// the error has the cause.
 #[cold]
 #[inline(never)]
-pub(crate) fn refused(space: &AddressAllocator, request: &Constraint, error: Error) -> CallError {
+pub(crate) fn refused(space: &AddressAllocator, request: Constraint, error: Error) -> CallError {
     let (Error::ResourceNotAvailable, AllocPolicy::ExactMatch(start)) = (&error, request.policy())
     else {
         return error.into();
     };
-    let range = RangeInclusive::from_start_len(start, request.size()).ok();
-    let is_outside = |part: &RangeInclusive| !range.is_some_and(|range| part.contains(&range));
-    let window = request.window().filter(is_outside);
-    let whole = RangeInclusive::new(space.base(), space.end()).ok();
-    let whole = whole.filter(is_outside);
-    let held = range.and_then(|range| space.held_ranges_in(&range).next());
-    let (cause, other) = match (window, whole, held) {
-        (Some(_), _, _) => (DVS_CAUSE_OUTSIDE_WINDOW, window),
-        (_, Some(_), _) => (DVS_CAUSE_OUTSIDE_SPACE, whole),
-        (_, _, Some(_)) => (DVS_CAUSE_ALLOCATED, held),
+    let range = RangeInclusive::from_start_len(start, request.size());
+    let (cause, other) = match space.conflict(request) {
+        Some(Conflict::OutsideWindow(window)) => (DVS_CAUSE_OUTSIDE_WINDOW, window.into()),
+        Some(Conflict::OutsideSpace(space)) => (DVS_CAUSE_OUTSIDE_SPACE, space.into()),
+        Some(Conflict::Allocated(held)) => (DVS_CAUSE_ALLOCATED, held.into()),
         // `allocate_all` has freed the ranges of the requests before this one.
-        (None, None, None) => (DVS_CAUSE_EARLIER_REQUEST, None),
+        None => (DVS_CAUSE_EARLIER_REQUEST, dvs_range::default()),
     };
-    let ends = |range: Option<RangeInclusive>| range.map_or(dvs_range::default(), Into::into);
     CallError::InTheWay {
-        range: ends(range),
+        range: range.map_or(dvs_range::default(), Into::into),
         cause,
-        other: ends(other),
+        other,
     }
 }

@@ -7,6 +7,7 @@ pub mod HeldIds
 pub mod FreedLists
 pub mod ComparedIds
 pub mod FreedIds
+pub mod IdRows
 pub mod IdResults
 pub mod EveryIdCall
 pub mod AlongIdHistories

@@ -8,3 +8,4 @@ pub mod HeldOnes
 pub mod HeldFaults
 pub mod LongestGap
 pub mod WindowResults
+pub mod Conflicts

@@ -9,7 +9,7 @@ use Rattle.vm_ranges.specs.declared.saved.SavedError.{SavedError}
 use Rattle.vm_ranges.specs.declared.saved.SavedError.TheVariants.{Violated, OutOfMemory}
 use Rattle.vm_allocator.specs.Ids.{MAX_ID, IdState, IsNext, bound_of, ids_of}
 
--- The range is not empty, the next id is valid, and the freed ids increase strictly and were allocated at some time.
+-- The range is not empty, the next id is valid, and the freed ids ascend strictly and were allocated at some time.
 pub record AreFreedOf (lo hi : ℕ) (next : Option ℕ) (freed : List ℕ) : Type 0 where
   pub range : lo ≤ hi
   pub next_id : IsNext lo hi next

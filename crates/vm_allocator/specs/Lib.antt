@@ -5,6 +5,7 @@ pub mod IdOrder
 pub mod FreedLists
 pub mod Several
 pub mod Moves
+pub mod Conflicts
 pub mod Histories
 pub mod Laws
 pub mod Values

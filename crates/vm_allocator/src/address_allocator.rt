@@ -27,10 +27,13 @@ use vm_engine::IntervalTree;
 use vm_ranges::{AllocPolicy, Constraint, Error, ListError, RangeInclusive, Result};
 
 mod comparing;
+mod conflicts;
 mod gaps;
 mod held_ranges;
 mod moving;
 mod several;
+
+pub use conflicts::Conflict;
 
 /// Allocates ranges of addresses from one space.
 ///

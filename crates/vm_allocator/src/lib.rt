@@ -10,7 +10,7 @@ mod id_allocator;
 mod laws;
 mod saved;
 
-pub use address_allocator::AddressAllocator;
+pub use address_allocator::{AddressAllocator, Conflict};
 pub use id_allocator::{FreedIds, HeldIds, IdAllocator};
 pub use saved::ReadIds;
 pub use vm_engine::{

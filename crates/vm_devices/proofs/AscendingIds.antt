@@ -55,8 +55,8 @@ Sorted es = Rise (keys_of es)
 pub front_entries : (es fs : List (ℕ × Range)) → Sorted (es ++ fs) → Sorted es
 front_entries es fs s = front_rises (keys_of es) (keys_of fs) (subst Rise (map-append (λ (e : ℕ × Range). e.0) es fs) s)
 
-pub front_increases : (ds es : List DeviceSlot) → HaveAscendingIds (ds ++ es) → HaveAscendingIds ds
-front_increases ds es s = front_entries (entries_of ds) (entries_of es) (subst Sorted (map-append entry_of ds es) s)
+pub front_ascends : (ds es : List DeviceSlot) → HaveAscendingIds (ds ++ es) → HaveAscendingIds ds
+front_ascends ds es s = front_entries (entries_of ds) (entries_of es) (subst Sorted (map-append entry_of ds es) s)
 
 -- ---- One more device
 module _ (ds : List DeviceSlot) (d : DeviceSlot) where

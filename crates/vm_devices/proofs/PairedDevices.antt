@@ -22,7 +22,7 @@ use Rattle.vm_devices.specs.Queries.{entry_of}
 use Rattle.vm_devices.specs.SavedChecks.{CanBeInserted}
 use Rattle.vm_devices.proofs.Entries.{AreHeld, pairs_all, all_held, all_counted, entry_got, got_entry}
 use Rattle.vm_devices.proofs.DeviceStarts.{one_start}
-use Rattle.vm_devices.proofs.AscendingIds.{ids_of, front_increases, id_at, ids_long}
+use Rattle.vm_devices.proofs.AscendingIds.{ids_of, front_ascends, id_at, ids_long}
 use Rattle.vm_devices.proofs.Tables.{absent, get_with}
 
 -- A device that is held can be inserted if and only if no id is found at its start.
@@ -86,7 +86,7 @@ module _ (ids : IdState) (space : AddressState) (ds : List DeviceSlot) (s : Have
   -- The next device.
   module _ (i : ℕ) (table : map.FinMap nat_cmp Range) (p : ArePairedSoFar ids space ds i table) (d : DeviceSlot) (l : i < length ds) (e : d ≡ get_or ds i d) where
     front : HaveAscendingIds (take i ds)
-    front = front_increases (take i ds) (drop i ds) (rw take-append-drop s)
+    front = front_ascends (take i ds) (drop i ds) (rw take-append-drop s)
 
     -- A device of the table is in the list, with a lower id.
     before : (id : ℕ) (r : Range) → map.get table id ≡ Some r → (map.get (table_of ds) id ≡ Some r) × (id < d.id)

@@ -11,7 +11,7 @@ use Rattle.vm_devices.specs.Laws.{WrittenManagersAreRead, EqualManagersHaveEqual
 use Rattle.vm_devices.specs.Listed.{HaveAscendingIds, PushesDevice, listed_state, AreDevicesOf, MakesOfDevices}
 use Rattle.vm_devices.specs.Queries.{device_list, entry_cmp, device_state_cmp, device_state_cmp-total}
 use Rattle.vm_devices.proofs.Entries.{entries_again, whole_map}
-use Rattle.vm_devices.proofs.AscendingIds.{Sorted, front_increases}
+use Rattle.vm_devices.proofs.AscendingIds.{Sorted, front_ascends}
 use Rattle.std.proofs.lemmas.Bool.Decides.{same_from_decides}
 use Rattle.std.proofs.lemmas.Cmp.{tied_itself}
 use Rattle.std.specs.declared.cmp.Ordering.TheVariants.{Equal}
@@ -22,8 +22,8 @@ use Rattle.vm_ranges.proofs.RangeOrders.{both_equal, range_cmp-exact}
 use Rattle.vm_engine.proofs.Comparing.StateOrders.{one_state, equal_states, state_cmp-Equal}
 use Rattle.vm_devices.specs.Checks.{HaveSameAllocators}
 
-list_increases : (state : DeviceState) → HaveAscendingIds (device_list state)
-list_increases state = subst Sorted (sym (entries_again (map.entries state.devices))) (keys_rise state.devices)
+list_ascends : (state : DeviceState) → HaveAscendingIds (device_list state)
+list_ascends state = subst Sorted (sym (entries_again (map.entries state.devices))) (keys_rise state.devices)
 
 same_state : (state : DeviceState) → listed_state state.ids state.space (device_list state) ≡ state
 same_state state =
@@ -31,13 +31,13 @@ same_state state =
     ∙ ap (devices_of state.ids state.space) (whole_map state.devices)
 
 its_devices : (state : DeviceState) → IsDeviceState state → AreDevicesOf state.ids state.space (device_list state)
-its_devices state i = record { ascending = list_increases state; pairs = rw (same_state state) i.pairs }
+its_devices state i = record { ascending = list_ascends state; pairs = rw (same_state state) i.pairs }
 
 its_pushes : (state : DeviceState) (front rest : List DeviceSlot) (device : DeviceSlot) (answer : Result (Unit {0}) SavedError) (new : List DeviceSlot) → IsDeviceState state →
     device_list state ≡ front ++ device ∷ rest → PushesDevice front device answer new → (answer ≡ Ok tt) ⊎ (answer ≡ Err OutOfMemory)
 its_pushes state front rest device (Ok u) new i e p = inl refl
 its_pushes state front rest device (Err (Violated c)) new i e p =
-    absurd (p.2 (front_increases (front ++ device ∷ []) rest (subst HaveAscendingIds (e ∙ sym (append_assoc front (device ∷ []) rest)) (list_increases state))))
+    absurd (p.2 (front_ascends (front ++ device ∷ []) rest (subst HaveAscendingIds (e ∙ sym (append_assoc front (device ∷ []) rest)) (list_ascends state))))
 its_pushes state front rest device (Err OutOfMemory) new i e p = inr refl
 
 its_answer : (state : DeviceState) (answer : Result DeviceState SavedError) → IsDeviceState state → MakesOfDevices 1 state.ids state.space (device_list state) answer →
@@ -49,7 +49,7 @@ its_answer state (Err OutOfMemory) i made = inr refl
 
 pub parts_read : WrittenManagersAreRead
 parts_read = record {
-  ascending = λ state i. list_increases state;
+  ascending = λ state i. list_ascends state;
   accepted = its_devices;
   same = λ state i. same_state state;
   pushed = its_pushes;

@@ -1,7 +1,10 @@
 //! Tests of `vm_lines` through its public call.
 //!
-//! tests/refused_memory runs each test several times, and makes its first, second, third allocation
-//! fail.
+//! They guard against lines that the language does not have but the program accepts, and against results
+//! that are lost if a read, a write or an allocation fails.
+//!
+//! tests/refused_memory runs each test several times. In the first run the first allocation fails, in
+//! the second run the second, and so on.
 #![tactic(auto)]
 
 #[cfg(test)]

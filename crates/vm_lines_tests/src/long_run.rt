@@ -1,4 +1,5 @@
-//! A long run on 64 addresses, with lines that are created when they are read.
+//! Guards against a wrong result after many lines: a long run on 64 addresses, with lines that are
+//! created when they are read.
 //!
 //! Each reply is compared, while it is written, with a plain search over the addresses. If memory
 //! runs out for a line, the search continues without it.

@@ -1,4 +1,7 @@
 //! Tests of `run`: rows of the language, and readers and writers that fail.
+//!
+//! They guard against lines that are split at the end of a read, and against replies that are written
+//! twice or not at all.
 ghost use Rattle.std.specs.Prelude.{◌≤◌, length};
 
 mod device_rows;

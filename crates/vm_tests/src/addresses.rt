@@ -1,4 +1,7 @@
 //! Tests of address allocators.
+//!
+//! They guard against definitions with another meaning than the documentation of `allocate` and
+//! `free`: which range is chosen, and which of several errors is returned.
 use crate::fixtures::{block_count, cloned, expect_eq, expect_true, made};
 use AllocPolicy::{ExactMatch, FirstMatch, LastMatch};
 use Call::{Exact, ExactIn, First, FirstIn, Free, Last, LastIn, Move, Space};
@@ -11,6 +14,7 @@ use vm_allocator::{AddressAllocator, AllocPolicy, Constraint, Error, RangeInclus
 
 mod aligned;
 mod comparing;
+mod conflicts;
 mod differences;
 mod ends;
 mod held;

@@ -1,4 +1,4 @@
-//! Tests of rounding to multiples.
+//! Guards against a rounding that wraps, or that rounds a multiple to another one.
 use crate::fixtures::expect_eq;
 use vm_allocator::Error;
 use vm_allocator::allocation_engine::{align_down, align_up};

@@ -1,4 +1,6 @@
 //! Tests of managers of devices.
+//!
+//! They guard against a device with an id or a range, but not both.
 use crate::fixtures::{expect_eq, expect_true};
 use Call::{Exact, First, FirstIn, Last, LastIn, LookUp, Release};
 use Expected::{Device, Gone, Held, NeverAllocated, NoSize, NotAvailable, Overflow, Unaligned};

@@ -1,5 +1,5 @@
-//! Functions that the tests share. A second try of a call is for a run in which one allocation
-//! fails.
+//! Functions that the tests share. They make a call again if it ran out of memory, because in some runs
+//! one allocation fails.
 use serde_json::Value;
 use std::alloc::Global;
 use std::fmt::Debug;

@@ -1,4 +1,7 @@
 //! Tests of id allocators.
+//!
+//! They guard against an id that is allocated twice, is not the lowest free one, or is lost when it is
+//! freed.
 use crate::fixtures::{
     balance, expect_eq, expect_true, fail_from_here, parsed, read_ids, saved_ids,
 };

@@ -1,4 +1,4 @@
-//! Tests with long or deep values.
+//! Guards against calls that take quadratic time, and against recursion as deep as a value.
 //!
 //! Each test is fast if its calls are as fast as they should be. It reaches the time limit of a
 //! test if a call takes quadratic time, or descends a deep value completely. tests/refused_memory

@@ -1,4 +1,5 @@
-//! The example of CALLING.md of vm_devices, word for word below this line.
+//! The example of CALLING.md of vm_devices, word for word below this line. It guards against a page
+//! that is not proved.
 ghost use Rattle.std.specs.Prelude.{◌≡◌, IfOk};
 
 use std::alloc::Global;

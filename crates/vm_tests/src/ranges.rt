@@ -1,4 +1,7 @@
 //! Tests of ranges, constraints, and errors with their texts.
+//!
+//! They guard against texts that differ from those of the Rust crate, and against ends that are off by
+//! one.
 use crate::fixtures::{expect_eq, range};
 use std::cmp::Ordering;
 use std::fmt::Display;

@@ -1,4 +1,7 @@
 //! Tests of values that are written and read.
+//!
+//! They guard against a value that is accepted although it is invalid, is rejected although it is
+//! valid, or is read as another object.
 use crate::fixtures::{
     Reader, balance, block_count, chain, expect_eq, expect_space, fail_from_here, hold,
     holds_exactly, list_for, made, parsed, put, range, read_ids, read_repaired, reject_each, saved,

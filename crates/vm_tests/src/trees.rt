@@ -1,4 +1,6 @@
 //! Tests of trees.
+//!
+//! They guard against allocations that are not needed, and against sums that wrap.
 use crate::fixtures::{count_allocations, expect_allocations, expect_eq, expect_true, range};
 use AllocPolicy::{ExactMatch, FirstMatch, LastMatch};
 use std::alloc::Global;

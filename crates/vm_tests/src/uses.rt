@@ -1,4 +1,4 @@
-//! Short examples of calls.
+//! Short examples of calls. They guard against clauses from which a caller cannot prove what it needs.
 ghost use Rattle.std.specs.Prelude.{◌≡◌, ◌%◌, ◌≤◌, ◌⊎◌, IfOk, IfErr};
 ghost use Rattle.serde_json.specs.Data.{depth};
 ghost use Rattle.serde_json.specs.Read.{max_depth};

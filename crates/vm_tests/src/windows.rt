@@ -1,4 +1,5 @@
-//! The README's example, word for word below this line.
+//! The example of CALLING.md of vm_allocator, word for word below this line. It guards against a page
+//! that is not proved.
 ghost use Rattle.std.specs.Prelude.{◌≡◌, IfOk};
 ghost use Rattle.vm_allocator.specs.Range.{Overlaps};
 

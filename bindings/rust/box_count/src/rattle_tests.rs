@@ -1,5 +1,5 @@
-//! Compares `rattle` with Rust's library. If an allocation fails, a call returns an error and its
-//! argument, changes nothing, and frees every block.
+//! Guards against sets, maps and lists with other results than Rust's library. If an allocation fails, a
+//! call must change nothing, and lose neither its argument nor a block.
 
 #[path = "../../divsharun/tests/refusing/mod.rs"]
 mod refusing;

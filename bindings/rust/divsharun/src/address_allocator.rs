@@ -3,7 +3,7 @@ use crate::error::{
 };
 use crate::proved::vm_allocator as proved;
 use crate::rattle::Global;
-use crate::{AllocPolicy, Constraint, Layout, ListError, RangeInclusive, Result, TryError};
+use crate::{AllocPolicy, Conflict, Constraint, Layout, ListError, RangeInclusive, Result, TryError};
 use alloc::vec::Vec;
 use core::fmt;
 use core::iter::FusedIterator;
@@ -325,6 +325,33 @@ impl AddressAllocator {
         request: Constraint,
     ) -> core::result::Result<RangeInclusive, TryError> {
         or_try_error(self.0.allocate_constraint(Global, request.0)).map(RangeInclusive)
+    }
+
+    /// Returns the reason why the range of an `ExactMatch` request is not free. Returns `None` if the
+    /// range is free, and for the other policies.
+    ///
+    /// The first of these reasons is returned:
+    /// - [`OutsideWindow`](Conflict::OutsideWindow) if the range is not in the window of the request.
+    /// - [`OutsideSpace`](Conflict::OutsideSpace) if it is not in the space.
+    /// - [`Allocated`](Conflict::Allocated) if an allocated range has an address in common with it.
+    ///
+    /// # Example
+    ///
+    /// ```rust
+    /// use divsharun::{AddressAllocator, AllocPolicy, Conflict, Constraint};
+    ///
+    /// let mut ports = AddressAllocator::new(0, 0x1_0000)?;
+    /// let serial = ports.allocate(8, 8, AllocPolicy::ExactMatch(0x3f8))?;
+    ///
+    /// let video = Constraint::new(0x30, 0x10, AllocPolicy::ExactMatch(0x3d0))?;
+    /// assert_eq!(ports.conflict(video), Some(Conflict::Allocated(serial)));
+    ///
+    /// ports.free(&serial)?;
+    /// assert_eq!(ports.conflict(video), None);
+    /// # Ok::<(), divsharun::Error>(())
+    /// ```
+    pub fn conflict(&self, request: Constraint) -> Option<Conflict> {
+        self.0.conflict(request.0).map(Conflict::of)
     }
 
     /// Moves an allocated range to another start, and returns the range there. A guest does this when

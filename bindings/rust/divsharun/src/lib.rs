@@ -52,7 +52,7 @@
 //! - of an [`AddressAllocator`]: [`with_held`](AddressAllocator::with_held),
 //!   [`allocate_all`](AddressAllocator::allocate_all),
 //!   [`allocate_constraint`](AddressAllocator::allocate_constraint),
-//!   [`move_range`](AddressAllocator::move_range),
+//!   [`conflict`](AddressAllocator::conflict), [`move_range`](AddressAllocator::move_range),
 //!   [`held_ranges`](AddressAllocator::held_ranges), [`iter`](AddressAllocator::iter),
 //!   [`held_ranges_in`](AddressAllocator::held_ranges_in), [`holds`](AddressAllocator::holds),
 //!   [`held_at`](AddressAllocator::held_at), [`held_count`](AddressAllocator::held_count),
@@ -206,6 +206,7 @@ extern crate alloc;
 extern crate std;
 
 mod address_allocator;
+mod conflict;
 mod constraint;
 mod device_manager;
 mod error;
@@ -226,6 +227,7 @@ mod saved;
 mod texts;
 
 pub use address_allocator::{AddressAllocator, Gaps, GapsIn, HeldRanges, HeldRangesIn};
+pub use conflict::Conflict;
 pub use constraint::{AllocPolicy, Constraint, DEFAULT_CONSTRAINT_ALIGN};
 pub use device_manager::{DeviceManager, DeviceSlot, Devices};
 pub use error::{Error, ListError, Result, TryError};
@@ -256,6 +258,7 @@ const _: () = {
     is_shared_and_sent::<NodeState>();
     is_shared_and_sent::<Constraint>();
     is_shared_and_sent::<AllocPolicy>();
+    is_shared_and_sent::<Conflict>();
     is_shared_and_sent::<Error>();
     is_shared_and_sent::<TryError>();
     is_shared_and_sent::<ListError<TryError>>();

@@ -1,5 +1,7 @@
-//! Compares calls with a plain model of a small space, and checks the calls that `vm-allocator`
-//! does not have and the texts that the library writes.
+//! Guards against a wrapper that passes on a wrong argument, or converts a result wrongly.
+//!
+//! Calls are compared with a plain model of a small space. Those that `vm-allocator` does not have, and
+//! the texts that the library writes, are compared with tables.
 
 mod draw;
 mod items;

@@ -1,4 +1,5 @@
-//! The allocations of each call.
+//! Guards against a call that loses an object, or ends the process without need, if memory runs out,
+//! and against needless allocations.
 //!
 //! If memory runs out, a `try_` call returns `OutOfMemory` and changes nothing, and any other
 //! call ends the process. The program starts itself again to observe that.

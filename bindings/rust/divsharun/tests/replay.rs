@@ -1,4 +1,5 @@
-//! The replay language, and the exit status of its program.
+//! Guards against a replay program that differs from the proved one: its results, and its exit status
+//! if a read or a write fails.
 
 use divsharun::replay::{run, ReplayError};
 use std::fs::File;

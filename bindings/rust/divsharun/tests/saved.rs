@@ -1,5 +1,7 @@
-//! The feature `serde`: the format of saved objects, in JSON and in a format without names, and the
-//! values that are accepted or rejected.
+//! Guards against saved objects that another version or `vm-allocator` cannot read, and against values
+//! that are accepted although they are invalid.
+//!
+//! It checks the feature `serde` in JSON and in a format without names.
 
 mod packed;
 mod refusing;

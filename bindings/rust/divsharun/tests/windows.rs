@@ -1,5 +1,7 @@
-//! Checks requests in each form of a call, with a window or without: with a table, and with a plain
-//! model of a small space.
+//! Guards against a form of a call that loses the window, the policy or the alignment of its request.
+//!
+//! Requests in each form, with a window or without, are compared with a table, and with a plain model of
+//! a small space.
 
 mod draw;
 mod model;

@@ -1,4 +1,5 @@
-//! Two crates with one `vm-allocator`, and the tests of its API with the feature `serde`.
+//! Guards against a dependency that still gets the original `vm-allocator`, although a `[patch]` replaces
+//! it: two crates share one allocator.
 
 #[test]
 fn a_dependency_uses_the_same_allocator() {

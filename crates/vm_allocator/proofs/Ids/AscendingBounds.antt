@@ -33,6 +33,11 @@ states-ascending [] lowest bound (item d ds) s r = absurd s
 states-ascending (n ∷ ns) lowest bound no_items s r = absurd s
 states-ascending (n ∷ ns) lowest bound (item d ds) s r = rw (s.0, le-leb lowest n r.0, lt-ltb n bound r.1, states-ascending ns (n + 1) bound ds s.1 r.2) refl
 
+-- The numbers are between wider bounds too.
+pub wider : (a b c d : ℕ) (is : List ℕ) → a ≤ b → c ≤ d → AscendWithin b c is → AscendWithin a d is
+wider a b c d [] l u r = tt
+wider a b c d (i ∷ is) l u r = (omega (arith, r.0), omega (arith, r.1), wider (i + 1) (i + 1) c d is (omega arith) u r.2)
+
 -- The same with the definitions of the standard library.
 
 abbrev IsWithin : ℕ → ℕ → ℕ → Type 0
@@ -58,10 +63,10 @@ from_above : (n lo bound : ℕ) (ns : List ℕ) → AllByRecursion (λ m. nat_cm
 from_above n lo bound [] a b = tt
 from_above n lo bound (m ∷ ms) a b = let l = less_is n m a.0 in ((omega arith, b.0.1), from_above n lo bound ms a.1 b.1)
 
-increase_row : (lo bound : ℕ) (ns : List ℕ) → IsStrictlySortedBy nat_cmp ns → AllByRecursion (IsWithin lo bound) ns → AscendWithin lo bound ns
+ascend_row : (lo bound : ℕ) (ns : List ℕ) → IsStrictlySortedBy nat_cmp ns → AllByRecursion (IsWithin lo bound) ns → AscendWithin lo bound ns
 unfolding IsStrictlySortedBy
-increase_row lo bound [] s a = tt
-increase_row lo bound (n ∷ ns) s a = (a.0.0, a.0.1, increase_row (n + 1) bound ns s.1 (from_above n lo bound ns s.0 a.1))
+ascend_row lo bound [] s a = tt
+ascend_row lo bound (n ∷ ns) s a = (a.0.0, a.0.1, ascend_row (n + 1) bound ns s.1 (from_above n lo bound ns s.0 a.1))
 
 pub rise : (lo bound : ℕ) (ns : List ℕ) → IsStrictlySortedBy nat_cmp ns → All (λ n. (lo ≤ n) × (n < bound)) ns → AscendWithin lo bound ns
-rise lo bound ns s a = increase_row lo bound ns s (recursion_from_All (IsWithin lo bound) ns a)
+rise lo bound ns s a = ascend_row lo bound ns s (recursion_from_All (IsWithin lo bound) ns a)

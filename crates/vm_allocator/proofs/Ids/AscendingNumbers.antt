@@ -20,9 +20,9 @@ use Rattle.vm_allocator.proofs.Ids.AddedIds.{last_is, above_last, sorted_more}
 too_low : (lowest bound i n : ℕ) (vs : List Value) (v : Value) → i < length vs → v ≡ get_or vs i v → whole_number (view v) ≡ Some n → n < lowest → ascending lowest bound (items_view (drop i vs)) ≡ None
 too_low lowest bound i n vs v h e w p = rw (items_from vs i v h e, w, lt-leb lowest n p) refl
 
-next_increases : (lowest bound i n : ℕ) (vs : List Value) (v : Value) → i < length vs → v ≡ get_or vs i v → whole_number (view v) ≡ Some n → lowest ≤ n → n < bound →
+next_ascends : (lowest bound i n : ℕ) (vs : List Value) (v : Value) → i < length vs → v ≡ get_or vs i v → whole_number (view v) ≡ Some n → lowest ≤ n → n < bound →
     ascending lowest bound (items_view (drop i vs)) ≡ option_map (λ ns. n ∷ ns) (ascending (n + 1) bound (items_view (drop (i + 1) vs)))
-next_increases lowest bound i n vs v h e w p q = rw (items_from vs i v h e, w, le-leb lowest n p, lt-ltb n bound q) refl
+next_ascends lowest bound i n vs v h e w p q = rw (items_from vs i v h e, w, le-leb lowest n p, lt-ltb n bound q) refl
 
 is_some-map : {A B : Type 0} (f : A → B) (o : Option A) → is_some (option_map f o) ≡ is_some o
 is_some-map f None = refl
@@ -68,10 +68,10 @@ follows : (id : ℕ) (ids : List ℕ) → IsStrictlySortedBy nat_cmp (ids ++ id 
 follows id [] s = omega arith
 follows id (i ∷ ids) s = let h = above_last i id ids s in omega (arith, h)
 
-pub increase : (id : ℕ) (ids : List ℕ) → IsStrictlySortedBy nat_cmp ids → next_after ids ≤ id → IsStrictlySortedBy nat_cmp (ids ++ id ∷ [])
+pub with_higher : (id : ℕ) (ids : List ℕ) → IsStrictlySortedBy nat_cmp ids → next_after ids ≤ id → IsStrictlySortedBy nat_cmp (ids ++ id ∷ [])
 unfolding IsStrictlySortedBy
-increase id [] s h = (tt, tt)
-increase id (i ∷ ids) s h = sorted_more i id ids s (omega (arith, h))
+with_higher id [] s h = (tt, tt)
+with_higher id (i ∷ ids) s h = sorted_more i id ids s (omega (arith, h))
 
 front_and_rest : (ks : List ℕ) (n : ℕ) (o : Option (List ℕ)) → option_map (λ ns. ks ++ ns) (option_map (λ ns. n ∷ ns) o) ≡ option_map (λ ns. (ks ++ n ∷ []) ++ ns) o
 front_and_rest ks n None = refl
@@ -80,7 +80,7 @@ front_and_rest ks n (Some ns) = ap Some (sym (append_assoc ks (n ∷ []) ns))
 pub one_gathered : (i n : ℕ) (vs : List Value) (v : Value) (ids : List ℕ) → i < length vs → v ≡ get_or vs i v → whole_number (view v) ≡ Some n → n ≤ MAX_ID →
     IsStrictlySortedBy nat_cmp (ids ++ n ∷ []) → Gathers i vs ids → Gathers (i + 1) vs (ids ++ n ∷ [])
 one_gathered i n vs v ids h e w m s g =
-    g ∙ ap (option_map (λ (ns : List ℕ). ids ++ ns)) (next_increases (next_after ids) (MAX_ID + 1) i n vs v h e w (follows n ids s) (omega (arith, m)))
+    g ∙ ap (option_map (λ (ns : List ℕ). ids ++ ns)) (next_ascends (next_after ids) (MAX_ID + 1) i n vs v h e w (follows n ids s) (omega (arith, m)))
     ∙ front_and_rest ids n _
     ∙ ap (λ (l : ℕ). option_map (λ (ns : List ℕ). (ids ++ n ∷ []) ++ ns) (ascending l (MAX_ID + 1) (items_view (drop (i + 1) vs)))) (sym (after_last n ids))
 
@@ -89,7 +89,7 @@ pub low_id : (i n : ℕ) (vs : List Value) (v : Value) (ids : List ℕ) → i < 
 low_id i n vs v ids h e w s not_sorted g =
     ⊎_elim
     (λ (l : n < next_after ids). g ∙ ap (option_map (λ (ns : List ℕ). ids ++ ns)) (too_low (next_after ids) (MAX_ID + 1) i n vs v h e w l))
-    (λ (l : next_after ids ≤ n). absurd (not_sorted (increase n ids s l)))
+    (λ (l : next_after ids ≤ n). absurd (not_sorted (with_higher n ids s l)))
     (cases_lt n (next_after ids))
 
 -- If all items are ids in order, the next one follows those before it.
@@ -98,7 +98,7 @@ pub next_follows : (i : ℕ) (vs : List Value) (v : Value) (ids : List ℕ) → 
 next_follows i vs v ids h e some s g =
     let rest : IsSome (ascending (next_after ids) (MAX_ID + 1) (items_view (drop i vs))) = sym (ap is_some g ∙ is_some-map (λ (ns : List ℕ). ids ++ ns) _) ∙ some in
     let a = next_number (next_after ids) (MAX_ID + 1) i vs v h e rest in
-    (a.0, a.1, omega (arith, a.3), increase a.0 ids s a.2)
+    (a.0, a.1, omega (arith, a.3), with_higher a.0 ids s a.2)
 
 pub one_list : (ds : Items) (xs ys : List ℕ) → EncodesItems EncodesNumber ds xs → EncodesItems EncodesNumber ds ys → xs ≡ ys
 one_list no_items [] [] p q = refl

@@ -25,7 +25,7 @@ use Rattle.vm_allocator.proofs.Ids.IdFields.{is_state}
 use Rattle.vm_allocator.proofs.Ids.IdCounts.{tells_apart, ids_listed}
 use Rattle.vm_allocator.proofs.Ids.RisingIds.{same_rising}
 use Rattle.vm_allocator.proofs.Ids.AscendingBounds.{sorted, rise}
-use Rattle.vm_allocator.proofs.Ids.HeldIds.{passed_rise}
+use Rattle.vm_allocator.proofs.Ids.IdRows.{passed_rise}
 use Rattle.vm_allocator.proofs.Ids.ExactIds.{absent}
 
 abbrev same : ℕ → ℕ → Bool

@@ -11,7 +11,8 @@ use Rattle.vm_ranges.proofs.NumberSets.{tied_is, same_test}
 use Rattle.vm_allocator.specs.Ids.{IdState, freed_ids, bound_of, held_of, ids_of, AreIds}
 use Rattle.vm_allocator.proofs.Ids.IdSets.{in_row, from_row}
 use Rattle.vm_allocator.proofs.Ids.RisingIds.{same_rising}
-use Rattle.vm_allocator.proofs.Ids.HeldIds.{held_not_freed, passed_rise}
+use Rattle.vm_allocator.proofs.Ids.HeldIds.{held_not_freed}
+use Rattle.vm_allocator.proofs.Ids.IdRows.{passed_rise}
 
 -- An id of the range that was allocated at some time is freed if and only if it is not held.
 freed_not_held : (lo bound i : ℕ) (freed : BTreeSet ℕ) → lo ≤ i → i < bound → not (set.contains (held_of lo bound freed) i) ≡ contains nat_cmp freed i

@@ -5,7 +5,6 @@ use Rattle.std.proofs.lemmas.Bool.{both_ways, and_parts, and_from, or_left, or_r
 use Rattle.std.proofs.lemmas.List.{append-nil, length_push}
 use Rattle.std.proofs.lemmas.List.Elements.{All-weaker, Contains-get_or, filter-append}
 use Rattle.std.proofs.lemmas.List.Folds.{list_any-append}
-use Rattle.std.proofs.lemmas.List.Kept.{IsStrictlySortedBy-filter}
 use Rattle.std.proofs.lemmas.Map.Keys.{below_from_sorted}
 use Rattle.std.proofs.lemmas.Map.Made.{is_member-Decides}
 use Rattle.std.proofs.lemmas.Map.Views.{any-filter_same}
@@ -21,7 +20,8 @@ use Rattle.vm_allocator.specs.Ids.{IdState, IsHeld, held_ids, held_count, IsIdSt
 use Rattle.vm_allocator.specs.Checks.IdQueries.{freed_from, freed_to, ids_left, AscendWithin, AreIdsLeft}
 use Rattle.vm_allocator.specs.Laws.IdLaws.{HeldIdsAreListed}
 use Rattle.vm_allocator.proofs.Ids.IdSets.{in_row, held_from, from_held, bound_above, bound_fits}
-use Rattle.vm_allocator.proofs.Ids.AscendingBounds.{sorted, rise}
+use Rattle.vm_allocator.proofs.Ids.AscendingBounds.{rise, wider}
+use Rattle.vm_allocator.proofs.Ids.IdRows.{same_kept, row_end, passed_rise}
 use Rattle.vm_allocator.proofs.Ids.IdCounts.{tells_apart, ids_listed}
 
 abbrev same : ℕ → ℕ → Bool
@@ -30,24 +30,7 @@ same = eq_by_cmp nat_cmp
 abbrev kept : List ℕ → ℕ → Bool
 kept freed i = not (list_any (same i) freed)
 
--- ---- Rows of ids
--- Two tests that agree on a row keep the same ids of it.
-same_kept : (p q : ℕ → Bool) (a n : ℕ) → ((i : ℕ) → a ≤ i → i < a + n → p i ≡ q i) → filter p (range_with_len a n) ≡ filter q (range_with_len a n)
-same_kept p q a zero h = refl
-same_kept p q a (suc n) h =
-    rw (h a (omega arith) (omega arith), same_kept p q (a + 1) n (λ i l u. h i (omega arith) (omega arith))) refl
-
-row_end : (a n : ℕ) → range_with_len a (suc n) ≡ range_with_len a n ++ (a + n) ∷ []
-row_end a zero = let last : a ≡ a + 0 = omega arith in ap (λ (i : ℕ). i ∷ []) last
-row_end a (suc n) =
-    let last : a + 1 + n ≡ a + suc n = omega arith in
-    ap (λ (is : List ℕ). a ∷ is) (row_end (a + 1) n ∙ ap (λ (i : ℕ). range_with_len (a + 1) n ++ i ∷ []) last)
-
 -- ---- Numbers in ascending order
-wider : (a b c d : ℕ) (is : List ℕ) → a ≤ b → c ≤ d → AscendWithin b c is → AscendWithin a d is
-wider a b c d [] l u r = tt
-wider a b c d (i ∷ is) l u r = (omega (arith, r.0), omega (arith, r.1), wider (i + 1) (i + 1) c d is (omega arith) u r.2)
-
 none_outside : (q low bound : ℕ) (is : List ℕ) → (q < low) ⊎ (bound ≤ q) → AscendWithin low bound is → list_any (same q) is ≡ false
 none_outside q low bound [] o r = refl
 none_outside q low bound (i ∷ is) o r =
@@ -227,15 +210,6 @@ walk_lists state lo hi next freed e a =
     walk_from lo (bound_of next hi) freed (bound_above lo hi next a.range a.next_id) ∙ ap (λ (s : IdState). held_ids s) e
 
 -- ---- The list of held ids
-row_rises : (n a bound : ℕ) → a + n ≡ bound → AscendWithin a bound (range_with_len a n)
-row_rises zero a bound e = tt
-row_rises (suc n) a bound e = (omega arith, omega arith, row_rises n (a + 1) bound (omega arith))
-
--- The numbers of a range that pass a test are in ascending order.
-pub passed_rise : (p : ℕ → Bool) (a n : ℕ) → IsStrictlySortedBy nat_cmp (filter p (range_with_len a n))
-passed_rise p a n =
-    IsStrictlySortedBy-filter nat_cmp p (range_with_len a n) (sorted a (a + n) (range_with_len a n) (row_rises n a (a + n) refl))
-
 -- The list has exactly the held ids.
 pub in_held_ids : (state : IdState) → IsIdState state → (q : ℕ) → list_any (same q) (held_ids state) ≡ set.contains state.held q
 in_held_ids state s q =

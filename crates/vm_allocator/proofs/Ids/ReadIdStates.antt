@@ -92,7 +92,7 @@ none_encoded d e p = true≢false (sym (passes d p.1.fields p.1.written p.1.vali
 built_states : (d : Data) (p : Found) (freed : BTreeSet ℕ) → decoded_ids d ≡ Some p → ascending p.0 (bound_of p.1 p.2) p.3 ≡ Some freed.keys → EncodesIds d (ids_of p.0 p.2 p.1 freed)
 built_states d p freed e r =
     let c = checks d p e in
-    let same : c.freed ≡ freed.keys = same_Some c.freed freed.keys (sym c.increases ∙ r) in record {
+    let same : c.freed ≡ freed.keys = same_Some c.freed freed.keys (sym c.ascends ∙ r) in record {
       fields = fields_of p.0 p.1 p.2 freed.keys;
       written = subst (λ (ns : List ℕ). HasIdFields d (fields_of p.0 p.1 p.2 ns)) same c.written;
       valid = subst (λ (ns : List ℕ). AreIdFields (fields_of p.0 p.1 p.2 ns)) same c.valid;
@@ -103,11 +103,11 @@ pub some_encoded : (d : Data) (p : Found) → decoded_ids d ≡ Some p → (stat
 some_encoded d p e =
     let c = checks d p e in
     let freed : BTreeSet ℕ = record { keys = c.freed } in
-    (ids_of p.0 p.2 p.1 freed, built_states d p freed e c.increases)
+    (ids_of p.0 p.2 p.1 freed, built_states d p freed e c.ascends)
 
 -- The freed ids of a value that is decoded are ids in order.
 in_order : (d : Data) (p : Found) (e : decoded_ids d ≡ Some p) → ids_in p.3 ≡ Some (checks d p e).freed
-in_order d p e = let c = checks d p e in widened p.0 (bound_of p.1 p.2) p.3 c.freed (bound_fits_ids p.0 p.2 p.1 c.valid.ids c.valid.next_id) c.increases
+in_order d p e = let c = checks d p e in widened p.0 (bound_of p.1 p.2) p.3 c.freed (bound_fits_ids p.0 p.2 p.1 c.valid.ids c.valid.next_id) c.ascends
 
 pub ids_listed_in : (d : Data) (p : Found) → decoded_ids d ≡ Some p → IsSome (ids_in p.3)
 ids_listed_in d p e = ap is_some (in_order d p e)
@@ -118,7 +118,7 @@ state_read d p freed (Ok state) e i m =
     let c = checks d p e in
     let same : c.freed ≡ freed = same_Some c.freed freed (sym (in_order d p e) ∙ i) in
     let set : BTreeSet ℕ = record { keys = freed } in
-    (state, refl, subst (EncodesIds d) (sym m.1) (built_states d p set e (c.increases ∙ ap Some same)))
+    (state, refl, subst (EncodesIds d) (sym m.1) (built_states d p set e (c.ascends ∙ ap Some same)))
 state_read d p freed (Err (Violated v)) e i m =
     let c = checks d p e in
     let same : c.freed ≡ freed = same_Some c.freed freed (sym (in_order d p e) ∙ i) in

@@ -88,7 +88,7 @@ Found = ℕ × Option ℕ × ℕ × Items
 -- The value has valid fields of an id allocator, and its freed ids are in order.
 pub record IsChecked (d : Data) (p : Found) : Type 0 where
   pub freed : List ℕ
-  pub increases : ascending p.0 (bound_of p.1 p.2) p.3 ≡ Some freed
+  pub ascends : ascending p.0 (bound_of p.1 p.2) p.3 ≡ Some freed
   pub written : HasIdFields d (fields_of p.0 p.1 p.2 freed)
   pub valid : AreIdFields (fields_of p.0 p.1 p.2 freed)
 
@@ -112,7 +112,7 @@ checks d p h =
     let q : Found = (lo.0, next.0, hi.0, list.0) in
     let found : IsChecked d q = record {
       freed = ns.0;
-      increases = ns.1;
+      ascends = ns.1;
       written = record {
         four_fields = count-true 4 (field_count d) four.0;
         range_base = b.0;
@@ -171,14 +171,14 @@ record IsTested (p : Found) : Type 0 where
   pub range : p.0 ≤ p.2
   pub next : is_next p.1 p.0 p.2 ≡ true
   pub freed : List ℕ
-  pub increases : ascending p.0 (bound_of p.1 p.2) p.3 ≡ Some freed
+  pub ascends : ascending p.0 (bound_of p.1 p.2) p.3 ≡ Some freed
 
 tested : (p : Found) → are_parts p ≡ true → IsTested p
 tested p e =
     let t = and_parts (leb p.0 p.2) (is_next p.1 p.0 p.2 && is_some (ascending p.0 (bound_of p.1 p.2) p.3)) e in
     let u = and_parts (is_next p.1 p.0 p.2) (is_some (ascending p.0 (bound_of p.1 p.2) p.3)) t.1 in
     let ns = some_of (ascending p.0 (bound_of p.1 p.2) p.3) u.1 in
-    record { range = leb-true p.0 p.2 t.0; next = u.0; freed = ns.0; increases = ns.1 }
+    record { range = leb-true p.0 p.2 t.0; next = u.0; freed = ns.0; ascends = ns.1 }
 
 -- The numbers fit into 32 bits.
 is_id_of : (d : Data) (p : Found) → HasParts d p → IsIdIf p.1
@@ -196,24 +196,16 @@ bound_fits_ids lo hi next m n = fits next hi (next_is_id next lo hi n) m
 bound_is_id : (d : Data) (p : Found) → HasParts d p → bound_of p.1 p.2 ≤ MAX_ID + 1
 bound_is_id d p h = fits p.1 p.2 (is_id_of d p h) (u32_in-some (codes "range_end") d p.2 h.end).1
 
--- Numbers in order between narrower bounds are ids in order.
-wider : (lo low bound : ℕ) (ns : List ℕ) → low ≤ lo → bound ≤ MAX_ID + 1 → AscendWithin lo bound ns → AscendWithin low (MAX_ID + 1) ns
-wider lo low bound [] l b r = tt
-wider lo low bound (n ∷ ns) l b r =
-    let f = r.0 in
-    let u = r.1 in
-    (omega (arith, f, l), omega (arith, u, b), wider (n + 1) (n + 1) bound ns (omega arith) b r.2)
-
 pub widened : (lo bound : ℕ) (ds : Items) (ns : List ℕ) → bound ≤ MAX_ID + 1 → ascending lo bound ds ≡ Some ns → ids_in ds ≡ Some ns
 widened lo bound ds ns b e =
     let s = ascending-states lo bound ds ns e in
-    states-ascending ns 0 (MAX_ID + 1) ds s.0 (wider lo 0 bound ns (omega arith) b s.1)
+    states-ascending ns 0 (MAX_ID + 1) ds s.0 (wider 0 lo bound (MAX_ID + 1) ns (omega arith) b s.1)
 
 none_in_order : (d : Data) (p : Found) → HasParts d p → ids_in p.3 ≡ None → decoded_ids d ≡ None
 none_in_order d p h e =
     decided d p h ∙ refused (are_parts p) p (λ t.
     let is = tested p t in
-    let w = widened p.0 (bound_of p.1 p.2) p.3 is.freed (bound_is_id d p h) is.increases in
+    let w = widened p.0 (bound_of p.1 p.2) p.3 is.freed (bound_is_id d p h) is.ascends in
     cc)
 
 parts_found : (d : Data) (p : Found) (freed : List ℕ) → HasParts d p → ids_in p.3 ≡ Some freed → AreFreedOf p.0 p.2 p.1 freed → decoded_ids d ≡ Some p
@@ -230,9 +222,9 @@ no_parts : (d : Data) (p : Found) (freed : List ℕ) → HasParts d p → ids_in
 no_parts d p freed h e n =
     decided d p h ∙ refused (are_parts p) p (λ t.
     let is = tested p t in
-    let w = widened p.0 (bound_of p.1 p.2) p.3 is.freed (bound_is_id d p h) is.increases in
+    let w = widened p.0 (bound_of p.1 p.2) p.3 is.freed (bound_is_id d p h) is.ascends in
     let same : is.freed ≡ freed = same_Some is.freed freed (sym w ∙ e) in
-    let r = (ascending-states p.0 (bound_of p.1 p.2) p.3 is.freed is.increases).1 in
+    let r = (ascending-states p.0 (bound_of p.1 p.2) p.3 is.freed is.ascends).1 in
     n (subst (λ (ids : List ℕ). AreFreedOf p.0 p.2 p.1 ids) same (record {
       range = is.range;
       next_id = next_fits p.1 p.0 p.2 is.next (is_id_of d p h);

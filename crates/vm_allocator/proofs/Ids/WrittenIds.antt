@@ -14,7 +14,7 @@ use Rattle.vm_allocator.specs.Ids.{MAX_ID, IdState, IsIdState, IsNext, bound_of,
 use Rattle.vm_allocator.specs.FreedLists.{AreFreedOf, PushesId, MakesOfIds}
 use Rattle.vm_allocator.specs.Laws.ValueLaws.{WrittenIdsAreRead, PartsDecideIds}
 use Rattle.vm_allocator.proofs.Ids.IdSets.{in_row, from_row, held_from, from_held}
-use Rattle.vm_allocator.proofs.Ids.HeldIds.{passed_rise}
+use Rattle.vm_allocator.proofs.Ids.IdRows.{passed_rise}
 
 -- The next id.
 

@@ -62,7 +62,7 @@ takes_given : (old new : AddressState) (r p : Range) → AllocatesAt old r (Ok p
 unfolding AllocatesAt
 takes_given old new r p h = ⊎_elim (λ l. cc (l.0)) (λ k. ⊎_elim (λ o. absurd (cc o)) (λ o. absurd (cc (o.1))) k.2) h
 
-covered : (w : Range) (n s : ℕ) → 0 < n → Covers w (span s n) → LiesIn w n s
+pub covered : (w : Range) (n s : ℕ) → 0 < n → Covers w (span s n) → LiesIn w n s
 unfolding Covers
 covered w n s z c =
     let first = c s (omega arith, omega arith) in

@@ -24,7 +24,7 @@ abbrev pub AscendWithin : ℕ → ℕ → List ℕ → Type 0
 AscendWithin lowest bound [] = Unit {0}
 AscendWithin lowest bound (n ∷ ns) = (lowest ≤ n) × (n < bound) × AscendWithin (n + 1) bound ns
 
--- The fields of the walk are valid. Both lists of freed ids increase, and have the same ones of the ids that were not
+-- The fields of the walk are valid. Both lists of freed ids ascend, and have the same ones of the ids that were not
 -- visited. The number of ids that are left is right.
 pub record AreIdsLeft (next bound : ℕ) (above below : List ℕ) (left : ℕ) : Type 0 where
   pub ids : bound ≤ 2 ^ 32

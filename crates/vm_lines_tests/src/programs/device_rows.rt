@@ -1,4 +1,5 @@
-//! Lines on devices, each with its reply.
+//! Lines on devices, each with its reply. They guard against replies to another line, and against
+//! errors in another order.
 use super::rows::Rows;
 
 /// A device has an id and a range together, and both are freed together.

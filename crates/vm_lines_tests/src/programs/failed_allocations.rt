@@ -1,6 +1,6 @@
-//! Programs in which one allocation fails.
+//! Guards against a program that ends, or forgets what it allocated, if memory runs out in a line.
 //!
-//! They read from a slice and write into an array, so only the calls of their lines allocate.
+//! The programs read from a slice and write into an array, so only the calls of their lines allocate.
 //! tests/refused_memory makes each allocation fail in turn.
 use super::*;
 use std::env::Env;

@@ -1,4 +1,5 @@
-//! Prefixes of inputs, one for each of their bytes.
+//! Guards against the beginning of a line that is read as a line: prefixes of inputs, one for each of
+//! their bytes.
 use super::*;
 
 /// The prefixes of a line that are still lines of the language: the number of lines before it, the

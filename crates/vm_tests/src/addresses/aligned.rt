@@ -1,5 +1,5 @@
-//! The number of nodes that requests with large alignments enter, in spaces with many gaps without
-//! a multiple.
+//! Guards against a search that enters each gap that is long enough, although few gaps have a multiple
+//! of the alignment. It checks the number of nodes that requests with large alignments enter.
 use super::*;
 
 /// Ranges of the same length at equal distances.

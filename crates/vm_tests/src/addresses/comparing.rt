@@ -1,4 +1,7 @@
-//! Tests of equality, order and clones, and of the allocated ranges.
+//! Tests of equality, order and clones.
+//!
+//! They guard against results that depend on the calls that led to a state, and against a clone that
+//! is incomplete if memory runs out.
 use super::*;
 use crate::fixtures::{balance, holds_exactly, saved};
 use std::cmp::Ordering;

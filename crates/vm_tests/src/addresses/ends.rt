@@ -1,4 +1,4 @@
-//! Tests of spaces at both ends of all addresses.
+//! Guards against sums that wrap, in spaces at both ends of all addresses.
 use super::*;
 
 #[test]

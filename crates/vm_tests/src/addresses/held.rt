@@ -1,4 +1,6 @@
 //! Tests of the allocated ranges and of their number.
+//!
+//! They guard against a part of an allocated range, or two ranges together, that count as allocated.
 use super::*;
 use crate::fixtures::range;
 use Row::{Ask, Count, Holds};

@@ -1,5 +1,5 @@
-//! A long run on 64 addresses. Every second request has a window. Each result is compared with a plain
-//! search, address by address.
+//! Guards against a wrong result after many calls: a long run on 64 addresses, in which every second
+//! request has a window. Each result is compared with a plain search, address by address.
 use super::*;
 use crate::fixtures::range;
 use vm_model as plain;

@@ -1,4 +1,6 @@
 //! Tests of the allocated ranges and the gaps that have an address in common with a range.
+//!
+//! They guard against an item that is left out, or is one too many, at either end of the range.
 use super::*;
 use crate::fixtures::range;
 use Items::{Gaps, Ranges};

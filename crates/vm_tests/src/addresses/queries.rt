@@ -1,4 +1,6 @@
 //! Tests of the queries of one address, of the gaps and of the number of free addresses.
+//!
+//! They guard against gaps that touch, and against lists that end too early from either end.
 use super::*;
 use crate::fixtures::gaps_exactly;
 use Row::{Ask, GapAt, Gaps, HeldAt, Outside};

@@ -1,4 +1,5 @@
-//! The number of allocations of each call, which tests/refused_memory counts.
+//! Guards against a call that allocates more memory than it needs. tests/refused_memory counts the
+//! allocations.
 //!
 //! A new allocator allocates once. A split allocates once for each part of its gap that stays free.
 //! All other calls do not allocate.

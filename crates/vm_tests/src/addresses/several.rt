@@ -1,4 +1,7 @@
 //! Tests of several allocations in one call.
+//!
+//! They guard against requests that see each other's ranges too late, and against ranges that stay
+//! allocated after an error, also if memory runs out.
 use super::*;
 use crate::fixtures::{
     balance, count_allocations, expect_allocations, hold, holds_exactly, list_for,

@@ -1,5 +1,5 @@
-//! Splits that allocate one node and two nodes, by each policy. Each of their allocations fails in
-//! turn.
+//! Guards against a split that changes the tree and then runs out of memory. Splits allocate one node
+//! and two nodes, by each policy.
 use super::*;
 
 #[test]

@@ -1,4 +1,6 @@
 //! Tests of allocators that are created with allocated ranges.
+//!
+//! They guard against an allocator that differs from one that allocated the ranges one by one.
 use super::*;
 use crate::fixtures::{
     balance, count_allocations, expect_allocations, fail_from_here, hold, holds_exactly, list_for,

@@ -1,5 +1,5 @@
-//! Calls that do not allocate. tests/refused_memory makes every allocation after `fail_from_here`
-//! fail.
+//! Guards against a call that allocates, although its documentation promises the opposite.
+//! tests/refused_memory makes every allocation after `fail_from_here` fail.
 use super::*;
 use crate::fixtures::{fail_from_here, gaps_exactly, holds_exactly, range};
 use std::cmp::Ordering;

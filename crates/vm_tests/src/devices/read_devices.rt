@@ -1,5 +1,7 @@
 //! Tests of the list of devices, of the device at an address, of equality, of copies, and of devices
 //! that are read one by one.
+//!
+//! They guard against a device that is left out, and against one without a held id or a held range.
 use super::*;
 use crate::fixtures::{fail_from_here, holds_exactly};
 use vm_allocator::{Condition, SavedError};

@@ -1,4 +1,6 @@
 //! Tests of devices that are reserved and released.
+//!
+//! They guard against an id or a range that stays allocated after an error or a release.
 use super::*;
 
 /// Makes the calls in turn on a new manager of these ids and these addresses.

@@ -1,4 +1,7 @@
-//! Tests of managers that are written and read, and of untrusted input.
+//! Tests of managers that are written and read.
+//!
+//! They guard against a manager that is read from a text of another one, and against one that is
+//! incomplete if memory runs out.
 use super::*;
 use crate::fixtures::{balance, parsed};
 use vm_allocator::ValueError;

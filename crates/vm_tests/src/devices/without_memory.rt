@@ -1,4 +1,4 @@
-//! Calls that do not allocate. They run while every allocation fails.
+//! Guards against a query that allocates. The calls run while every allocation fails.
 use super::*;
 use crate::fixtures::fail_from_here;
 

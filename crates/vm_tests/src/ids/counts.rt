@@ -1,4 +1,5 @@
-//! Tests of the number of allocated ids.
+//! Guards against a number of allocated ids that an error, or an id that is allocated again, changes
+//! wrongly.
 use super::*;
 
 /// The counts of a range in the middle.

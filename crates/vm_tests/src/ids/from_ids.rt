@@ -1,4 +1,6 @@
 //! Tests of allocators that are created of their range, their next id and their freed ids.
+//!
+//! They guard against an allocator that no calls lead to.
 use super::*;
 use crate::fixtures::{count_allocations, expect_allocations};
 use std::alloc::Global;

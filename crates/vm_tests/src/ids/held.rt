@@ -1,4 +1,6 @@
 //! Tests of the lists of the allocated and the freed ids, of the next id, and of equality.
+//!
+//! They guard against a walk that returns a freed id, or misses an id between both of its ends.
 use super::*;
 
 /// Returns `true` if exactly these ids are allocated, from both ends, and with their number.

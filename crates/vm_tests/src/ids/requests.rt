@@ -1,4 +1,6 @@
 //! Tests of the calls that allocate a given id, an id of a window, or several ids.
+//!
+//! They guard against skipped ids that are lost, and against ids that stay allocated after an error.
 use super::*;
 use crate::fixtures::{count_allocations, expect_allocations};
 use Request::{Exact, Left, Plain, Window};

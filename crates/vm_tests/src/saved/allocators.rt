@@ -1,4 +1,7 @@
-//! Tests of address allocators, their ranges and states.
+//! Tests of address allocators, their ranges and states, as values.
+//!
+//! They guard against a tree that is no tree of its space, and against an object that is incomplete if
+//! memory runs out.
 use super::*;
 
 /// The space [16, 19] without allocated ranges.

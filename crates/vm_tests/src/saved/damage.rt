@@ -1,4 +1,4 @@
-//! Tests of values with one damaged field: missing, doubled under another name, or replaced.
+//! Guards against a damaged field that is accepted: missing, doubled under another name, or replaced.
 use super::allocators::{ALL_HELD, FRESH, ONE_HELD};
 use super::*;
 use std::alloc::{AllocError, Global};

@@ -1,4 +1,5 @@
-//! Tests of untrusted input.
+//! Guards against untrusted texts that are accepted or exhaust the stack: numbers that are not whole,
+//! duplicate fields, and deep values.
 use super::*;
 use std::alloc::AllocError;
 

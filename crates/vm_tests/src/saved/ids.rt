@@ -1,4 +1,6 @@
-//! Tests of id allocators.
+//! Tests of id allocators as values.
+//!
+//! They guard against freed ids that are not in the range, not in order, or were never allocated.
 use super::*;
 use crate::fixtures::{count_allocations, expect_allocations, expect_refused, items};
 

@@ -1,4 +1,7 @@
 //! Tests of address allocators that are read with repairs.
+//!
+//! They guard against a range that is lost or changed, and against a repair of what no bug of the Rust
+//! crate led to.
 use super::allocators::{FRESH, ONE_HELD};
 use super::*;
 

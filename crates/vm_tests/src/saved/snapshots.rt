@@ -1,5 +1,5 @@
-//! Tests of values that the Rust crate vm-allocator 0.1.4 wrote with its feature `serde`, including
-//! the effects of its bugs. They are texts, because a test cannot read a file.
+//! Guards against values of the Rust crate vm-allocator 0.1.4 that are not read. Its feature `serde`
+//! wrote them, including the effects of its bugs. They are texts, because a test cannot read a file.
 use super::repaired::assert_repaired;
 use super::*;
 

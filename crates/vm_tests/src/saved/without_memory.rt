@@ -1,5 +1,5 @@
-//! Calls that do not allocate. tests/refused_memory makes every allocation after `fail_from_here`
-//! fail.
+//! Guards against a check of a value that allocates. tests/refused_memory makes every allocation after
+//! `fail_from_here` fail.
 use super::*;
 
 /// A value that each reader accepts, and lists of values that one reader rejects.

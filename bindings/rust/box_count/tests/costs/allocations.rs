@@ -1,4 +1,4 @@
-//! The number of allocations of calls on large objects, and of lines of the replay language.
+//! Guards against needless allocations of calls on large objects, and of lines of the replay language.
 //!
 //! A tree has one block for each node. Sets, maps and lists count as the same operations on such an
 //! object do.

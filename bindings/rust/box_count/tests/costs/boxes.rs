@@ -1,4 +1,4 @@
-//! Compares the number of nodes that a call returns with the number of boxes that it follows.
+//! Guards against a walk that is not counted: compares the nodes that a call counts with its boxes.
 //!
 //! Each step from a node to a child goes through a box that counts itself, so no walk can avoid the
 //! count. A counted call follows at most a multiple of its count, which contracts limit, and a plain

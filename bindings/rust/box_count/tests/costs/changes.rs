@@ -1,5 +1,5 @@
-//! A change updates only the nodes near its block. So the number of boxes that it follows in addition
-//! to the nodes that it enters does not grow with the tree. The same is true for a walk that stops early.
+//! Guards against a change that updates nodes far from its block, and a walk that goes on after it could
+//! stop: the boxes that it follows in addition to the nodes that it enters do not grow with the tree.
 use crate::objects::{boxes, range};
 use box_count::proved::vm_allocator::AllocPolicy::ExactMatch;
 use box_count::proved::vm_allocator::{AddressAllocator, RangeInclusive};

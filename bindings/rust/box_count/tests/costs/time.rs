@@ -1,5 +1,5 @@
-//! No call with ids, devices or lines takes quadratic time, because sets, maps and lists of `rattle`
-//! are not those of Rattle. The tests `vm_tests::many` limit the time of calls with ranges.
+//! Guards against calls with ids, devices or lines that take quadratic time. The sets, maps and lists of
+//! `rattle` are not those of Rattle. The tests `vm_tests::many` limit the time of calls with ranges.
 //!
 //! An object of eight times the size takes at most three times the time of linear growth.
 use crate::objects::{damaged, ids, manager, FIRST_ID, LAST_ID};

@@ -1,4 +1,5 @@
-//! Compares an iterator with a list of its items.
+//! Compares an iterator with a list of its items, so that no item is lost or repeated if both ends,
+//! `nth`, `fold` and `len` are used in turn.
 
 use crate::draw::Draw;
 use std::fmt::Debug;

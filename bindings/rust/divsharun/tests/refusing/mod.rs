@@ -1,5 +1,5 @@
 //! A global allocator that counts the allocations of a thread and their bytes, and can fail one of
-//! them.
+//! them. So a test can make memory run out in the middle of a call.
 #![allow(dead_code)]
 
 use std::alloc::{GlobalAlloc, Layout, System};

@@ -1,4 +1,4 @@
-//! Untrusted input that does not encode a manager: a valid text with one part replaced.
+//! Guards against a manager that is read from an invalid text: a valid text with one part replaced.
 //!
 //! Each test first checks that the text without the change is read and has the part. So no row is
 //! rejected for another reason.
