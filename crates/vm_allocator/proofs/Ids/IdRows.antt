@@ -28,4 +28,3 @@ row_rises (suc n) a bound e = (omega arith, omega arith, row_rises n (a + 1) bou
 pub passed_rise : (p : ℕ → Bool) (a n : ℕ) → IsStrictlySortedBy nat_cmp (filter p (range_with_len a n))
 passed_rise p a n =
     IsStrictlySortedBy-filter nat_cmp p (range_with_len a n) (sorted a (a + n) (range_with_len a n) (row_rises n a (a + n) refl))
-

@@ -25,7 +25,7 @@ use Rattle.vm_allocator.specs.Checks.IdChecks.{ascending, ids_in, decoded_next, 
 use Rattle.vm_ranges.proofs.Nulls.{null_of}
 use Rattle.vm_allocator.specs.Checks.IdQueries.{AscendWithin}
 use Rattle.vm_allocator.proofs.Ids.AscendingNumbers.{some_of, one_list}
-use Rattle.vm_allocator.proofs.Ids.AscendingBounds.{ascending-states, states-ascending, sorted, within, rise}
+use Rattle.vm_allocator.proofs.Ids.AscendingBounds.{ascending-states, states-ascending, sorted, wider, within, rise}
 
 -- The next id.
 

@@ -72,8 +72,8 @@ conflict_decides state request answer valid r h = by_policy state request.size r
 
 -- ---- The body
 -- A range that would end past MAX is in no range.
-pub ends_past : (w : Range) (s n : ℕ) → w.end ≤ MAX → MAX < s + n - 1 → ¬ Covers w (span s n)
+pub ends_past : (w : Range) (s n : ℕ) → 0 < n → w.end ≤ MAX → MAX < s + n - 1 → ¬ Covers w (span s n)
 unfolding Covers
-ends_past w s n l m c = omega (arith, l, m, (c (s + n - 1) (omega (arith, m), omega arith)).1)
+ends_past w s n z l m c = omega (arith, l, m, (c (s + n - 1) (omega (arith, m), omega arith)).1)
 
 pub ruleset conflicts = (conflict_decides, ends_past)

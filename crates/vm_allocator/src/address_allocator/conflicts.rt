@@ -27,16 +27,16 @@ impl AddressAllocator {
     /// - `Allocated` if an allocated range has an address in common with it.
     ///
     /// It descends one path of the tree for each end of the range and does not allocate.
-    #[tactic(auto, using(crate::proofs::Results::Conflicts::conflicts, crate::proofs::Trees::trees))]
+    #[tactic(auto, unfolding(crate::specs::Conflicts::IsConflict, crate::specs::Conflicts::IsConflictOf), using(crate::proofs::Results::Conflicts::conflicts, crate::proofs::Trees::trees))]
     pub fn conflict(&self, request: Constraint) -> Option<Conflict>
         ensures value { IsConflict (state_of self.now) request result }
         ensures decides { ConflictDecides (state_of self.now) request result }
         ensures state { IsAddressState (state_of self.now) }
     {
+        let space = self.address_space;
         let AllocPolicy::ExactMatch(start) = request.policy() else {
             return None;
         };
-        let space = self.address_space;
         let Ok(range) = RangeInclusive::from_start_len(start, request.size()) else {
             // The range would end past `u64::MAX`, which no window and no space does.
             return match request.window() {
@@ -47,7 +47,7 @@ impl AddressAllocator {
         match request.window() {
             Some(window) if !window.contains(&range) => Some(Conflict::OutsideWindow(window)),
             _ if !space.contains(&range) => Some(Conflict::OutsideSpace(space)),
-            _ => self.held_ranges_in(&range).next().map(Conflict::Allocated),
+            _ => Some(Conflict::Allocated(self.held_ranges_in(&range).next()?)),
         }
     }
 }

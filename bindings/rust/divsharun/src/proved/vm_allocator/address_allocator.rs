@@ -15,10 +15,13 @@ use crate::proved::vm_engine::IntervalTree;
 use crate::proved::vm_ranges::{AllocPolicy, Constraint, Error, ListError, RangeInclusive, Result};
 
 mod comparing;
+mod conflicts;
 mod gaps;
 mod held_ranges;
 mod moving;
 mod several;
+
+pub use conflicts::Conflict;
 
 /// Allocates ranges of addresses from one space.
 ///

@@ -10,7 +10,7 @@ pub mod allocation_engine;
 mod id_allocator;
 mod saved;
 
-pub use address_allocator::AddressAllocator;
+pub use address_allocator::{AddressAllocator, Conflict};
 pub use id_allocator::{FreedIds, HeldIds, IdAllocator};
 pub use saved::ReadIds;
 pub use crate::proved::vm_engine::{

@@ -1,0 +1,47 @@
+// Written by bindings/erase from crates/vm_allocator/src/address_allocator/conflicts.rt: do not edit.
+
+//! The reason why the range of a request is not free.
+
+use super::AddressAllocator;
+use crate::proved::vm_ranges::{AllocPolicy, Constraint, RangeInclusive};
+
+/// The reason why the range of an `ExactMatch` request is not free.
+#[derive(Clone, Copy, Debug, PartialEq, Eq)]
+pub enum Conflict {
+    /// The range is not in the window of the request. This is the window.
+    OutsideWindow(RangeInclusive),
+    /// The range is not in the space. This is the space.
+    OutsideSpace(RangeInclusive),
+    /// This allocated range has an address in common with the range. It is the lowest of them.
+    Allocated(RangeInclusive),
+}
+
+impl AddressAllocator {
+    /// Returns the reason why the range of an `ExactMatch` request is not free. Returns `None` if the
+    /// range is free, and for the other policies.
+    ///
+    /// The first reason of these:
+    /// - `OutsideWindow` if the range is not in the window of the request.
+    /// - `OutsideSpace` if it is not in the space.
+    /// - `Allocated` if an allocated range has an address in common with it.
+    ///
+    /// It descends one path of the tree for each end of the range and does not allocate.
+    pub fn conflict(&self, request: Constraint) -> Option<Conflict> {
+        let space = self.address_space;
+        let AllocPolicy::ExactMatch(start) = request.policy() else {
+            return None;
+        };
+        let Ok(range) = RangeInclusive::from_start_len(start, request.size()) else {
+            // The range would end past `u64::MAX`, which no window and no space does.
+            return match request.window() {
+                Some(window) => Some(Conflict::OutsideWindow(window)),
+                None => Some(Conflict::OutsideSpace(space)),
+            };
+        };
+        match request.window() {
+            Some(window) if !window.contains(&range) => Some(Conflict::OutsideWindow(window)),
+            _ if !space.contains(&range) => Some(Conflict::OutsideSpace(space)),
+            _ => Some(Conflict::Allocated(self.held_ranges_in(&range).next()?)),
+        }
+    }
+}
