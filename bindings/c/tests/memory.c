@@ -244,7 +244,8 @@ static void refuse_in_turn(const struct row *row) {
     CHECK(number > row->requests);
 }
 
-/* Calls that do not allocate, because of an error or in all cases, and their statuses. */
+/* Calls that do not allocate, because of an error, because a range fills its gap, or in all cases,
+ * and their statuses. A request has its members as numbers. */
 static const struct {
     int call, group;
     uint64_t numbers[4];
@@ -259,7 +260,13 @@ static const struct {
     {WITH_IDS, 1, {5, 9}, DVS_OUT_OF_RANGE},
     {FIRST, 0, {TOP, 1}, DVS_RESOURCE_NOT_AVAILABLE},
     {LAST, 0, {TOP, 1}, DVS_RESOURCE_NOT_AVAILABLE},
+    {FIRST, 0, {9, 1}, DVS_OK},
     {EXACT, 0, {2, 1, 9}, DVS_INVALID_STATE_TRANSITION},
+    {EXACT, 0, {88, 1, 11}, DVS_OK},
+    {REQUEST, 0, {9, 1, 0, DVS_FIRST}, DVS_OK},
+    {REQUEST, 0, {88, 1, 11, DVS_EXACT}, DVS_OK},
+    {REQUEST, 0, {TOP, 1, 0, DVS_LAST}, DVS_RESOURCE_NOT_AVAILABLE},
+    {LIST, 0, {1, 3}, DVS_INVALID_ALIGNMENT},
     {MOVE, 0, {9, 10, 99}, DVS_INVALID_STATE_TRANSITION},
     {MOVE, 0, {9, 10, 10}, DVS_RESOURCE_NOT_AVAILABLE},
     {MOVE, 0, {9, 10, 9}, DVS_OK},
@@ -273,21 +280,30 @@ static const struct {
     {RESERVE_FIRST, 2, {TOP, 1}, DVS_RESOURCE_NOT_AVAILABLE},
     {RESERVE_LAST, 2, {TOP, 1}, DVS_RESOURCE_NOT_AVAILABLE},
     {RESERVE_EXACT, 2, {1, 1, TOP}, DVS_OVERFLOW},
+    {RESERVE_FIRST, 2, {998, 1}, DVS_OK},
+    {RESERVE_LAST, 2, {998, 1}, DVS_OK},
+    {RESERVE_EXACT, 2, {998, 1, 2}, DVS_OK},
+    {RESERVE, 2, {998, 1, 2, DVS_EXACT}, DVS_OK},
+    {RESERVE, 2, {TOP, 1, 0, DVS_LAST}, DVS_RESOURCE_NOT_AVAILABLE},
     {RELEASE, 2, {2}, DVS_NEVER_ALLOCATED},
 };
 
 static void call_without_memory(int call, int group, const uint64_t *numbers, dvs_status status) {
+    const dvs_request one = {numbers[0], numbers[1], numbers[2], (uint32_t)numbers[3], NULL};
+    const dvs_request requests[] = {one, one};
     dvs_status got;
 
     set_up(false);
     give(group);
+    given.request = requests;
     given.other = copies[group];
     given.has_result = status != DVS_NULL;
     until_refused = 1;
     got = attempt(call, objects[group], numbers);
     CHECK(until_refused == 1);
     until_refused = 0;
-    CHECK(got == status || (status == DVS_OK && got == DVS_RESOURCE_NOT_AVAILABLE));
+    CHECK(got == status ||
+          (numbers == zeros && status == DVS_OK && got == DVS_RESOURCE_NOT_AVAILABLE));
     tear_down();
 }
 
