@@ -1,8 +1,8 @@
 /* SPDX-License-Identifier: Apache-2.0 OR BSD-3-Clause */
 /*
  * The calls of divsharun.h for C++11: owners that destroy their object, requests
- * that own their window, statuses as std::error_code, and lists as vectors or by
- * a function for each item.
+ * that own their window, statuses as std::error_code, and lists as vectors, by a
+ * function for each item or in a range-based for.
  *
  * A method has the rules of its call. It returns the code of the status, which
  * converts to false for DVS_OK, and the compiler warns if the code is ignored.
@@ -14,9 +14,11 @@
 
 #include "divsharun.h"
 
+#include <cstddef>
 #include <cstdio>
 #include <cstdlib>
 #include <exception>
+#include <iterator>
 #include <memory>
 #include <string>
 #include <system_error>
@@ -246,6 +248,56 @@ class request {
     }
 };
 
+/*
+ * An input iterator over the allocated ranges or the gaps, in ascending order:
+ *
+ *     for (dvs_range range : space.each_range())
+ *
+ * A step makes one call, in logarithmic time. It does not allocate memory, and cannot
+ * throw. The allocator must exist during the loop, and the loop can change it: the
+ * next item is the first one that has an address above the last item. for_each() is
+ * faster if the allocator does not change.
+ */
+template <dvs_status (*Visit)(const dvs_address_allocator *, uint64_t, dvs_range_visitor *, void *)>
+class each {
+    const dvs_address_allocator *visited = nullptr;
+    /* At the end, its start is past its end. */
+    dvs_range item = {1, 0};
+
+    static int keep(void *context, dvs_range found) noexcept {
+        *static_cast<dvs_range *>(context) = found;
+        return 1;
+    }
+
+  public:
+    using iterator_category = std::input_iterator_tag;
+    using value_type = dvs_range;
+    using difference_type = std::ptrdiff_t;
+    using pointer = const dvs_range *;
+    using reference = const dvs_range &;
+
+    each() noexcept = default;
+    each(const dvs_address_allocator *allocator, uint64_t address) noexcept : visited(allocator) {
+        Visit(visited, address, keep, &item);
+    }
+    each begin() const noexcept { return *this; }
+    each end() const noexcept { return {}; }
+    reference operator*() const noexcept { return item; }
+    pointer operator->() const noexcept { return &item; }
+    each &operator++() noexcept {
+        return *this = item.end < UINT64_MAX ? each(visited, item.end + 1) : each();
+    }
+    each operator++(int) noexcept {
+        each before = *this;
+        ++*this;
+        return before;
+    }
+    friend bool operator==(const each &one, const each &other) noexcept {
+        return one.item.start == other.item.start && one.item.end == other.item.end;
+    }
+    friend bool operator!=(const each &one, const each &other) noexcept { return !(one == other); }
+};
+
 class address_allocator : public owner<dvs_address_allocator, dvs_address_allocator_destroy,
                                        dvs_address_allocator_copy, dvs_address_allocator_equal> {
     using object = dvs_address_allocator;
@@ -348,6 +400,13 @@ class address_allocator : public owner<dvs_address_allocator, dvs_address_alloca
     }
     DVS_MUST_CHECK error gaps_in(dvs_range within, std::vector<dvs_range> &gaps) const {
         return list_in(dvs_gap_visit_in, within, gaps);
+    }
+    /* The ranges or the gaps from an address upwards, for a range-based for. */
+    each<dvs_range_visit_from> each_range(uint64_t address = 0) const noexcept {
+        return {get(), address};
+    }
+    each<dvs_gap_visit_from> each_gap(uint64_t address = 0) const noexcept {
+        return {get(), address};
     }
     template <typename Action> DVS_MUST_CHECK error for_each(Action action) const {
         return visit_by<dvs_range>(dvs_range_visit, std::move(action));

@@ -186,6 +186,34 @@ static void copy() {
     CHECK(is_range(seen[2], 5, 15) && is_range(seen[3], 0, 0));
 }
 
+/* Checks the items of loops, also of a loop that changes the allocator. */
+static void loop() {
+    dvs::address_allocator space, top;
+    std::vector<dvs_range> seen;
+    const dvs_range expected[] = {{0, 0}, {1, 2}, {5, 5},  {1, 2},
+                                  {5, 5}, {3, 4}, {6, 15}, {UINT64_MAX - 1, UINT64_MAX}};
+
+    CHECK(!space.make_with_held(0, 16, {range_of(0, 0), range_of(1, 2), range_of(5, 5)}));
+    CHECK(!top.make(UINT64_MAX - 1, 2) && top.each_range().begin() == top.each_range().end());
+    for (dvs_range range : space.each_range())
+        seen.push_back(range);
+    for (dvs_range range : space.each_range(2))
+        seen.push_back(range);
+    for (dvs_range gap : space.each_gap(4))
+        seen.push_back(gap);
+    for (dvs_range gap : top.each_gap())
+        seen.push_back(gap);
+    CHECK(seen.size() == 8 && memcmp(seen.data(), expected, sizeof expected) == 0);
+    auto gaps = space.each_gap();
+    auto gap = gaps.begin(), first = gap++;
+    CHECK(first == gaps.begin() && first != gap && first->start == 3 && gap->start == 6);
+    CHECK(++gap == gaps.end() && std::distance(gaps.begin(), gaps.end()) == 2);
+    static_assert(noexcept(++gap), "a step cannot throw");
+    for (dvs_range range : space.each_range(1))
+        CHECK(!space.free(range));
+    CHECK(space.ranges().size() == 1 && space.gaps().size() == 1);
+}
+
 static void compare_errors() {
     dvs::address_allocator space;
     dvs::error failure = space.make(UINT64_MAX, 2);
@@ -329,6 +357,7 @@ static void ask_empty(const dvs::address_allocator &space, const dvs::id_allocat
     for (const dvs::error &one : all)
         CHECK(one == DVS_NULL);
     CHECK(space.ranges().empty() && space.gaps().empty() && ids.ids().empty());
+    CHECK(space.each_gap().begin() == space.each_gap().end());
     CHECK(devices.devices().empty() && space == space && !(ids != ids) && text == "kept");
 }
 
@@ -383,6 +412,7 @@ int main() {
     allocate_in_windows();
     allocate_all_in_windows();
     copy();
+    loop();
     compare_errors();
     ask();
     reserve_in_windows();
