@@ -1,4 +1,7 @@
-/* A program with another Rust library, beside.rs, which must still catch its own panic. */
+/*
+ * Guards against a library that clashes with another Rust library in one program:
+ * beside.rs must still catch its own panic.
+ */
 #include "check.h"
 
 bool catches_its_panic(void);

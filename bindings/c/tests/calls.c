@@ -1,7 +1,8 @@
 /*
- * Checks every call and every status that it returns, except DVS_OUT_OF_MEMORY and
- * what windows.c, enumerate.c and random_texts.py check. Most calls are the rows of
- * tables. An error must leave the results and the object unchanged.
+ * Guards against a call with another status or result than in divsharun.h, and against
+ * an error that writes to a result or changes the object. Most calls are the rows of
+ * tables. DVS_OUT_OF_MEMORY is in memory.c, and windows.c, enumerate.c and
+ * random_texts.py check the other calls.
  */
 #include "every_call.h"
 

@@ -1,4 +1,4 @@
-/* Helpers of the tests. */
+/* Functions and macros that the tests share. */
 #ifndef CHECK_H
 #define CHECK_H
 

@@ -1,4 +1,7 @@
-/* Checks the calls that list, look up and count, and the calls with arrays. */
+/*
+ * Guards against an item that is left out or repeated, by the calls that list, look up
+ * and count, and by the calls with arrays.
+ */
 #include "check.h"
 
 enum { MOST = 8 };

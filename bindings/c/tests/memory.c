@@ -1,6 +1,7 @@
 /*
- * Fails each allocation of each call in turn. The call must return
- * DVS_OUT_OF_MEMORY, free what it has allocated, and change nothing. It also
+ * Guards against a call that ends the process, loses memory or changes its object when
+ * memory runs out. Each allocation of each call fails in turn. The call must return
+ * DVS_OUT_OF_MEMORY, free what it has allocated, and change nothing. The test also
  * measures the memory that texts allocate.
  *
  * The linker option --wrap directs all allocations to this file.

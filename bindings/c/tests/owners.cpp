@@ -1,4 +1,7 @@
-/* Checks divsharun.hpp: owners, codes of errors, lists, and exceptions in a visit. */
+/*
+ * Guards against owners of divsharun.hpp that leak, destroy an object twice or in a
+ * visit, and against lists and codes of errors that differ from those of the calls.
+ */
 #include "check.h"
 
 #include <divsharun.hpp>

@@ -1,5 +1,6 @@
 #!/usr/bin/env python3
-"""Checks the readers of the C library on random texts.
+"""Guards against a reader of the C library that accepts an invalid text, rejects a valid one, or reads
+another object, on random texts.
 
     random_texts.py [--texts N] [--seed N] PROGRAM ..
 

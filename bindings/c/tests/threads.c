@@ -1,7 +1,7 @@
 /*
- * Uses objects from several threads: each thread its own, an object passed from
- * thread to thread, and one that all threads query and visit at the same time.
- * It also makes the deepest calls on a small stack.
+ * Guards against state that calls share. Each thread uses its own object, an object is
+ * passed from thread to thread, and all threads query and visit one at the same time.
+ * The test also makes the deepest calls on a small stack.
  */
 #define _POSIX_C_SOURCE 200809L
 #include "check.h"

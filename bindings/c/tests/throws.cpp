@@ -1,5 +1,7 @@
-/* Checks that a visitor that does not return, or destroys its owner, ends the process with abort(),
- * after a line that gives the reason. */
+/*
+ * Guards against a visitor that does not return, or destroys its owner, without notice:
+ * the process must end with abort(), after a line that gives the reason.
+ */
 #include "check.h"
 
 #include <divsharun.hpp>

@@ -1,6 +1,6 @@
 /*
- * A program with two versions of the library. The names of the second one begin
- * with old_.
+ * Guards against two versions of the library that clash in one program. The names of
+ * the second one begin with old_.
  */
 #include "check.h"
 

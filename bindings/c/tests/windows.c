@@ -1,4 +1,7 @@
-/* Checks requests with a window: tables, and random ones against a search of all addresses. */
+/*
+ * Guards against a request whose window is lost or converted wrongly, by tables, and by
+ * random requests that are compared with a search of all addresses.
+ */
 #include "outcome.h"
 
 SAVED(saved_space, dvs_address_allocator)

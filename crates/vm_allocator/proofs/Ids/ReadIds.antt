@@ -1,5 +1,5 @@
 -- The check of a value finds exactly the id allocators that values encode.
-use Rattle.std.proofs.Common.{◌≡◌, ℕ, ◌+◌, ◌<◌, ◌≤◌, Bool, true, false, cond, ◌&&◌, leb, List, [], ◌∷◌, Option, Some, None, is_some, option_map, option_and_then, Result, Ok, Err, MatchOption, codes, refl, sym, ap, ◌∙◌, subst, arith}
+use Rattle.std.proofs.Common.{◌≡◌, ℕ, ◌+◌, ◌<◌, ◌≤◌, Bool, true, false, cond, ◌&&◌, leb, List, Option, Some, None, is_some, option_map, option_and_then, Result, Ok, Err, MatchOption, codes, refl, sym, ap, ◌∙◌, subst, arith}
 use Rattle.std.proofs.lemmas.Bool.{le-leb, leb-true, eq-eqb, eqb-true, and_parts}
 use Rattle.std.proofs.lemmas.Option.{same_Some}
 use Rattle.std.proofs.lemmas.List.Elements.{All-contains, All-contains_itself}
@@ -23,7 +23,6 @@ use Rattle.vm_allocator.specs.FreedLists.{AreFreedOf, is_next}
 use Rattle.vm_allocator.specs.Checks.FreedChecks.{ends_of, AreEndsOf, ChecksParts}
 use Rattle.vm_allocator.specs.Checks.IdChecks.{ascending, ids_in, decoded_next, decoded_ids}
 use Rattle.vm_ranges.proofs.Nulls.{null_of}
-use Rattle.vm_allocator.specs.Checks.IdQueries.{AscendWithin}
 use Rattle.vm_allocator.proofs.Ids.AscendingNumbers.{some_of, one_list}
 use Rattle.vm_allocator.proofs.Ids.AscendingBounds.{ascending-states, states-ascending, sorted, wider, within, rise}
 

@@ -1,5 +1,5 @@
 -- The conflict of a request.
-use Rattle.std.proofs.Common.{◌≡◌, ◌↔◌, ℕ, ◌+◌, ◌-◌, ◌%◌, ◌<◌, ◌≤◌, List, [], ◌∷◌, Option, Some, None, refl, sym, ap, ◌∙◌, arith, inl, inr, ⊎_elim, subst}
+use Rattle.std.proofs.Common.{◌≡◌, ◌↔◌, ℕ, ◌+◌, ◌-◌, ◌%◌, ◌<◌, ◌≤◌, List, [], ◌∷◌, Option, Some, None, refl, sym, ap, ◌∙◌, arith, inl, inr, subst}
 use Rattle.vm_ranges.specs.Cases.{Unless}
 use Rattle.vm_ranges.specs.Range.{Range, MAX, Covers, span, address_count}
 use Rattle.vm_ranges.specs.Request.{Request, IsStartAligned, IsRequest}
@@ -11,9 +11,9 @@ use Rattle.vm_engine.specs.Windows.{within}
 use Rattle.vm_engine.proofs.Choosing.WindowPlaces.{LiesIn, lies_in, place_lying}
 use Rattle.vm_engine.proofs.Results.Meeting.{clear_if_none_meets}
 use Rattle.vm_engine.proofs.Results.Once.{place_anywhere}
-use Rattle.vm_allocator.specs.Conflicts.{with_first, UnlessInWindow, IsConflictOf, IsConflict, ConflictDecides}
+use Rattle.vm_allocator.specs.Conflicts.{with_first, IsConflictOf, IsConflict, ConflictDecides}
 use Rattle.vm_allocator.specs.declared.address_allocator.conflicts.Conflict.{Conflict}
-use Rattle.vm_allocator.specs.declared.address_allocator.conflicts.Conflict.TheVariants.{OutsideWindow, OutsideSpace, Allocated}
+use Rattle.vm_allocator.specs.declared.address_allocator.conflicts.Conflict.TheVariants.{OutsideSpace}
 use Rattle.vm_allocator.proofs.Results.WindowResults.{covered}
 
 -- ---- The first of the ranges
