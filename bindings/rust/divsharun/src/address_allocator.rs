@@ -3,7 +3,9 @@ use crate::error::{
 };
 use crate::proved::vm_allocator as proved;
 use crate::rattle::Global;
-use crate::{AllocPolicy, Conflict, Constraint, Layout, ListError, RangeInclusive, Result, TryError};
+use crate::{
+    AllocPolicy, Conflict, Constraint, Layout, ListError, RangeInclusive, Result, TryError,
+};
 use alloc::vec::Vec;
 use core::fmt;
 use core::iter::FusedIterator;
@@ -330,7 +332,7 @@ impl AddressAllocator {
     /// Returns the reason why the range of an `ExactMatch` request is not free. Returns `None` if the
     /// range is free, and for the other policies.
     ///
-    /// The first of these reasons is returned:
+    /// It returns the first of these reasons:
     /// - [`OutsideWindow`](Conflict::OutsideWindow) if the range is not in the window of the request.
     /// - [`OutsideSpace`](Conflict::OutsideSpace) if it is not in the space.
     /// - [`Allocated`](Conflict::Allocated) if an allocated range has an address in common with it.

@@ -1,9 +1,27 @@
-use crate::RangeInclusive;
 use crate::proved::vm_allocator as proved;
+use crate::RangeInclusive;
 
 /// The reason why the range of an `ExactMatch` request is not free.
 ///
 /// [`AddressAllocator::conflict`](crate::AddressAllocator::conflict) returns it.
+///
+/// # Example
+///
+/// ```rust
+/// use divsharun::{AddressAllocator, AllocPolicy, Conflict, Constraint, RangeInclusive};
+///
+/// let mmio = AddressAllocator::new(0xd000_0000, 0x2ec0_0000)?;
+/// let bar = Constraint::new(0x4000, 0x4000, AllocPolicy::ExactMatch(0xfebf_c000))?;
+/// assert_eq!(mmio.conflict(bar), None);
+///
+/// let bridge = RangeInclusive::new(0xd000_0000, 0xdfff_ffff)?;
+/// assert_eq!(mmio.conflict(bar.within(bridge)), Some(Conflict::OutsideWindow(bridge)));
+///
+/// let io_apic = Constraint::new(0x1000, 0x1000, AllocPolicy::ExactMatch(0xfec0_0000))?;
+/// let space = RangeInclusive::new(mmio.base(), mmio.end())?;
+/// assert_eq!(mmio.conflict(io_apic), Some(Conflict::OutsideSpace(space)));
+/// # Ok::<(), divsharun::Error>(())
+/// ```
 #[derive(Clone, Copy, Debug, PartialEq, Eq, Hash)]
 pub enum Conflict {
     /// The range is not in the window of the request. This is the window.

@@ -3,7 +3,7 @@
 use std::sync::{Arc, Mutex};
 use std::thread;
 use vm_allocator::{
-    AddressAllocator, AllocPolicy, Constraint, IdAllocator, RangeInclusive, Result,
+    AddressAllocator, AllocPolicy, Conflict, Constraint, IdAllocator, RangeInclusive, Result,
 };
 
 const PAGE: u64 = 0x1000;
@@ -41,11 +41,14 @@ fn hot_plug(space: &mut AddressAllocator) -> Result<()> {
     Ok(())
 }
 
-/// The guest programs another start of a BAR.
+/// The guest programs another start of a BAR, which must be free.
 fn moved_bar(space: &mut AddressAllocator) -> Result<()> {
     let bar = space.allocate(PAGE, PAGE, AllocPolicy::FirstMatch)?;
     let moved = space.move_range(&bar, 0xe000_0000)?;
     assert!(space.holds(&moved) && !space.holds(&bar));
+
+    let again = Constraint::new(PAGE, PAGE, AllocPolicy::ExactMatch(moved.start()))?;
+    assert_eq!(space.conflict(again), Some(Conflict::Allocated(moved)));
     Ok(())
 }
 

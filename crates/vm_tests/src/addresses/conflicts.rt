@@ -16,14 +16,12 @@ enum Reason {
     Taken(u64, u64),
 }
 
-impl From<Option<Conflict>> for Reason {
-    fn from(conflict: Option<Conflict>) -> Self {
-        match conflict {
-            None => Nothing,
-            Some(Conflict::OutsideWindow(range)) => OfWindow(range.start(), range.end()),
-            Some(Conflict::OutsideSpace(range)) => OfSpace(range.start(), range.end()),
-            Some(Conflict::Allocated(range)) => Taken(range.start(), range.end()),
-        }
+fn reason_of(conflict: Option<Conflict>) -> Reason {
+    match conflict {
+        None => Nothing,
+        Some(Conflict::OutsideWindow(range)) => OfWindow(range.start(), range.end()),
+        Some(Conflict::OutsideSpace(range)) => OfSpace(range.start(), range.end()),
+        Some(Conflict::Allocated(range)) => Taken(range.start(), range.end()),
     }
 }
 
@@ -69,7 +67,7 @@ const AT_MAX: [(Call, Reason); 3] = [
 fn expect_reasons(rt: &impl Abort, space: &AddressAllocator, rows: &[(Call, Reason)]) {
     for (call, want) in rows {
         let request = call.request().expect(rt, "it is a request");
-        expect_eq(rt, &Reason::from(space.conflict(request)), want, call);
+        expect_eq(rt, &reason_of(space.conflict(request)), want, call);
     }
 }
 

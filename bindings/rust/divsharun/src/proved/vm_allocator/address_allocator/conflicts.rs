@@ -20,7 +20,7 @@ impl AddressAllocator {
     /// Returns the reason why the range of an `ExactMatch` request is not free. Returns `None` if the
     /// range is free, and for the other policies.
     ///
-    /// The first reason of these:
+    /// It returns the first of these reasons:
     /// - `OutsideWindow` if the range is not in the window of the request.
     /// - `OutsideSpace` if it is not in the space.
     /// - `Allocated` if an allocated range has an address in common with it.
