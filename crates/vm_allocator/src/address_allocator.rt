@@ -135,14 +135,12 @@ impl AddressAllocator {
     }
 
     /// Allocates `size` free addresses that start at a multiple of `alignment`, and returns their
-    /// range.
-    ///
-    /// `FirstMatch` chooses the lowest such range and `LastMatch` the highest. `ExactMatch(start)`
-    /// chooses the range that starts at `start`.
+    /// range: the lowest for `FirstMatch`, the highest for `LastMatch`, and the range that starts at
+    /// `start` for `ExactMatch(start)`.
     ///
     /// A gap is a run of free addresses with no free address next to it. A range that fills its gap
-    /// is allocated without memory, and always succeeds if it ends below `u64::MAX`. A range that
-    /// leaves a part of its gap free splits the gap, which allocates one or two nodes.
+    /// needs no memory, and always succeeds if it ends below `u64::MAX`. Any other range splits its
+    /// gap, which allocates one or two nodes.
     ///
     /// # Errors
     ///
@@ -158,8 +156,7 @@ impl AddressAllocator {
     /// - `ResourceNotAvailable` if there is no such range.
     /// - `Overflow` if the chosen range ends at `u64::MAX`, even if another range is free.
     /// - Only if the range splits its gap:
-    ///   - `Overflow` if the height of the tree is 48 or more. This takes more than 6 * 10^9
-    ///     allocated ranges.
+    ///   - `Overflow` if the height of the tree is 48 or more, with more than 6 * 10^9 ranges.
     ///   - `OutOfMemory` if the allocation of a node fails.
     #[tactic(auto, using(crate::proofs::Callers::allocations, vm_engine::proofs::Results::Requests::allocating, vm_engine::proofs::Results::Filling::succeeding, crate::proofs::Trees::trees))]
     pub fn allocate(

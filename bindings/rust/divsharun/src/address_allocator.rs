@@ -176,10 +176,8 @@ impl AddressAllocator {
     }
 
     /// Allocates `size` free addresses that start at a multiple of `alignment`, and returns their
-    /// range.
-    ///
-    /// `FirstMatch` chooses the lowest such range and `LastMatch` the highest. `ExactMatch(start)`
-    /// chooses the range at `start`.
+    /// range: the lowest for `FirstMatch`, the highest for `LastMatch`, and the range at `start` for
+    /// `ExactMatch(start)`.
     ///
     /// # Errors
     ///
