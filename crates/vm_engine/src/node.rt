@@ -26,8 +26,7 @@ pub(crate) mod walks;
 pub(crate) mod widen;
 pub(crate) mod windows;
 
-use self::balance::fork;
-use self::summary::{Summary, summary_of_leaf};
+use self::summary::{Summary, summary_of_leaf, summary_over};
 use crate::block::Block;
 use std::alloc::{AllocError, Global};
 use std::marker::Model;
@@ -100,8 +99,14 @@ impl InnerNode {
         requires height_fits { max (height_of (side left)) (height_of (side right)) + 1 < 2 ^ 32 }
         ensures { IfOk result (λ node. node.value ≡ Fork (side left) block (side right)) }
     {
-        let middle = Box::new(alloc, InnerNode::new(block))?;
-        Ok(fork(left, middle, right))
+        let summary = summary_over(&left, &right, &block);
+        let node = InnerNode {
+            block,
+            left,
+            right,
+            summary,
+        };
+        Ok(Box::new(alloc, node)?)
     }
 
     /// Returns the key of this node.

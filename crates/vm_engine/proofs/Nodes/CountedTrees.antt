@@ -132,6 +132,10 @@ held_fits s held gaps clear h = omega (arith, few_held s h.tree.height, h.held_c
 pub gaps_fit : (s : Shape) (held gaps clear : ℕ) → IsCountedTree s held gaps clear → gaps < MAX
 gaps_fit s held gaps clear h = omega (arith, few_free s h.tree.height, h.gap_count)
 
+-- The number of all blocks.
+pub blocks_fit : (s : Shape) (held gaps clear : ℕ) → IsCountedTree s held gaps clear → held + gaps < MAX
+blocks_fit s held gaps clear h = omega (arith, few_held s h.tree.height, few_free s h.tree.height, h.held_count, h.gap_count)
+
 -- A range is allocated in one of the gaps.
 pub gap_counted : (s : Shape) (held gaps clear : ℕ) (place : Place) → IsCountedTree s held gaps clear → IsChosenPlace (blocks s) place → 0 < gaps
 gap_counted s held gaps clear place h i =

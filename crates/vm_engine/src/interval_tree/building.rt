@@ -17,7 +17,7 @@ use super::IntervalTree;
 use crate::block::Block;
 use crate::node::{Child, InnerNode};
 use crate::ordering::valid_range;
-use std::alloc::Global;
+use std::alloc::{AllocError, Global};
 use vm_ranges::{Error, ListError, NodeState, RangeInclusive, Result};
 
 /// A tree of this many blocks or more is too high.
@@ -156,15 +156,18 @@ impl BlockCursor<'_> {
 
 /// Builds a tree of the next `count` blocks. It has the minimum height for its nodes.
 ///
-/// It returns `OutOfMemory` if the allocation of a node fails. The nodes built so far are freed.
-fn build(alloc: Global, count: u64, cursor: &mut BlockCursor<'_>) -> Result<Child>
+/// It returns an error if the allocation of a node fails. The nodes built so far are freed.
+fn build(
+    alloc: Global,
+    count: u64,
+    cursor: &mut BlockCursor<'_>,
+) -> std::result::Result<Child, AllocError>
     requires cursor { IsBlockCursor cursor.old }
     requires enough { count ≤ length (remaining_blocks cursor.old) }
     requires few { count < TOO_MANY_BLOCKS }
     ensures built { IfOk result (λ tree.
         IsBuilt count (remaining_blocks cursor.old) (side tree) (remaining_blocks cursor.new)) }
     ensures cursor { IfOk result (λ tree. IsBlockCursor cursor.new) }
-    ensures error { IfErr result (λ error. error ≡ Error.OutOfMemory) }
 {
     if count == 0 {
         return Ok(None);

@@ -132,6 +132,7 @@ fn arrange(
 }
 
 /// Moves `count` keys, of which the first has the index `first`, to the end of a list.
+#[cold]
 fn rotate(list: &mut Vec<RangeInclusive>, first: usize, count: usize)
     requires within { first + count ≤ vec_len list.old }
     ensures items { list.new.items ≡ take first list.old.items

@@ -1,12 +1,13 @@
 //! The saved tree that is written for a tree: a balanced tree of its blocks.
 //!
 //! The blocks decide its shape, so trees with the same blocks are written in the same way.
-ghost use Rattle.std.specs.Prelude.{◌≡◌, ◌∷◌, [], ◌++◌, IfOk, OnOk};
+ghost use Rattle.std.specs.Prelude.{◌≡◌, IfOk};
 ghost use Rattle.vm_engine.specs.Tree.Shape.{blocks};
 ghost use Rattle.vm_engine.specs.Values.WrittenTrees.{WritesNode};
 
 use crate::IntervalTree;
 use crate::block::Block;
+use crate::node::walks::Walk;
 use std::alloc::{AllocError, Global};
 use vm_ranges::{NodeState, RangeInclusive};
 
@@ -17,14 +18,15 @@ pub struct WrittenBlocks {
 }
 
 impl WrittenBlocks {
-    /// Returns the blocks of a tree, or an error if an allocation fails.
+    /// Returns the blocks of a tree, or an error if the allocation of the list fails.
+    #[tactic(auto, using(crate::proofs::Nodes::CountedTrees::blocks_fit))]
     pub fn new(alloc: Global, tree: &IntervalTree) -> std::result::Result<Self, AllocError>
         ensures { IfOk result (λ written. written.list.items ≡ blocks tree.now) }
     {
-        let mut list = Vec::new(alloc);
-        let mut rest = tree.blocks();
+        let mut list = Vec::with_capacity(alloc, (tree.held_count + tree.gap_count) as usize)?;
+        let mut rest = Walk::new(&tree.root);
         while let Some(block) = rest.next() {
-            push(&mut list, block)?;
+            list.push(block)?;
         }
         Ok(WrittenBlocks { list })
     }
@@ -35,17 +37,6 @@ impl WrittenBlocks {
     {
         WrittenTree { blocks: &self.list }
     }
-}
-
-/// Appends a block to a list. The list grows by an eighth, so it has little unused capacity.
-fn push(list: &mut Vec<Block>, block: Block) -> std::result::Result<(), AllocError>
-    ensures { OnOk result (list.new.items ≡ list.old.items ++ block ∷ []) }
-{
-    if list.len() == list.capacity() {
-        list.reserve_exact(list.len() / 8 + 4)?;
-    }
-    list.push(block)?;
-    Ok(())
 }
 
 /// The saved tree of some blocks.

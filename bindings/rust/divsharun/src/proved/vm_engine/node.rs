@@ -24,8 +24,7 @@ pub(in crate::proved::vm_engine) mod walks;
 pub(in crate::proved::vm_engine) mod widen;
 pub(in crate::proved::vm_engine) mod windows;
 
-use self::balance::fork;
-use self::summary::{Summary, summary_of_leaf};
+use self::summary::{Summary, summary_of_leaf, summary_over};
 use crate::proved::vm_engine::block::Block;
 use crate::rattle::{AllocError, Global};
 use crate::proved::vm_ranges::{NodeState, RangeInclusive};
@@ -70,8 +69,14 @@ impl InnerNode {
         block: Block,
         right: Child,
     ) -> Result<Box<InnerNode>, AllocError> {
-        let middle = Box::new(alloc, InnerNode::new(block))?;
-        Ok(fork(left, middle, right))
+        let summary = summary_over(&left, &right, &block);
+        let node = InnerNode {
+            block,
+            left,
+            right,
+            summary,
+        };
+        Ok(Box::new(alloc, node)?)
     }
 
     /// Returns the key of this node.

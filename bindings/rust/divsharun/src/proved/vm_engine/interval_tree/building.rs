@@ -9,7 +9,7 @@ use super::IntervalTree;
 use crate::proved::vm_engine::block::Block;
 use crate::proved::vm_engine::node::{Child, InnerNode};
 use crate::proved::vm_engine::ordering::valid_range;
-use crate::rattle::Global;
+use crate::rattle::{AllocError, Global};
 use crate::proved::vm_ranges::{Error, ListError, RangeInclusive, Result};
 
 /// A tree of this many blocks or more is too high.
@@ -125,8 +125,12 @@ impl BlockCursor<'_> {
 
 /// Builds a tree of the next `count` blocks. It has the minimum height for its nodes.
 ///
-/// It returns `OutOfMemory` if the allocation of a node fails. The nodes built so far are freed.
-fn build(alloc: Global, count: u64, cursor: &mut BlockCursor<'_>) -> Result<Child> {
+/// It returns an error if the allocation of a node fails. The nodes built so far are freed.
+fn build(
+    alloc: Global,
+    count: u64,
+    cursor: &mut BlockCursor<'_>,
+) -> core::result::Result<Child, AllocError> {
     if count == 0 {
         return Ok(None);
     }

@@ -101,6 +101,7 @@ fn arrange(
 }
 
 /// Moves `count` keys, of which the first has the index `first`, to the end of a list.
+#[cold]
 fn rotate(list: &mut Vec<RangeInclusive>, first: usize, count: usize) {
     list[first..].rotate_left(count);
 }

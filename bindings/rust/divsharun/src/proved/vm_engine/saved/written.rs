@@ -7,6 +7,7 @@
 use crate::rattle::Vec;
 use crate::proved::vm_engine::IntervalTree;
 use crate::proved::vm_engine::block::Block;
+use crate::proved::vm_engine::node::walks::Walk;
 use crate::rattle::{AllocError, Global};
 use crate::proved::vm_ranges::{NodeState, RangeInclusive};
 
@@ -16,12 +17,12 @@ pub struct WrittenBlocks {
 }
 
 impl WrittenBlocks {
-    /// Returns the blocks of a tree, or an error if an allocation fails.
+    /// Returns the blocks of a tree, or an error if the allocation of the list fails.
     pub fn new(alloc: Global, tree: &IntervalTree) -> core::result::Result<Self, AllocError> {
-        let mut list = Vec::new(alloc);
-        let mut rest = tree.blocks();
+        let mut list = Vec::with_capacity(alloc, (tree.held_count + tree.gap_count) as usize)?;
+        let mut rest = Walk::new(&tree.root);
         while let Some(block) = rest.next() {
-            push(&mut list, block)?;
+            list.push(block)?;
         }
         Ok(WrittenBlocks { list })
     }
@@ -30,15 +31,6 @@ impl WrittenBlocks {
     pub fn tree(&self) -> WrittenTree<'_> {
         WrittenTree { blocks: &self.list }
     }
-}
-
-/// Appends a block to a list. The list grows by an eighth, so it has little unused capacity.
-fn push(list: &mut Vec<Block>, block: Block) -> core::result::Result<(), AllocError> {
-    if list.len() == list.capacity() {
-        list.reserve_exact(list.len() / 8 + 4)?;
-    }
-    list.push(block)?;
-    Ok(())
 }
 
 /// The saved tree of some blocks.
