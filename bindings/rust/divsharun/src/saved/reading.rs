@@ -12,6 +12,7 @@ use serde::de::{DeserializeSeed, Error, MapAccess, SeqAccess, Visitor};
 use serde::{Deserialize, Deserializer};
 
 /// Returns the error of a format.
+#[cold]
 fn invalid<E: Error>(error: SavedError) -> E {
     E::custom(text_of(error))
 }
@@ -45,8 +46,12 @@ struct Tree {
 }
 
 fn root<'de, D: Deserializer<'de>>(from: D) -> Result<(ReadNodes, Option<Span>), D::Error> {
-    let mut nodes = ReadNodes::new(Global);
-    let root = Subtree(&mut nodes).deserialize(from)?;
+    let (mut nodes, mut root) = (ReadNodes::new(Global), None);
+    let tree = Subtree {
+        nodes: &mut nodes,
+        link: &mut root,
+    };
+    tree.deserialize(from)?;
     Ok((nodes, root))
 }
 
@@ -107,36 +112,49 @@ impl crate::AddressAllocator {
     }
 }
 
-/// Reads a node with its children, or none.
-struct Subtree<'a>(&'a mut ReadNodes);
+/// Reads a node with its children, or none. It writes the span to a link, because each result of a
+/// format would copy it. The link is `None` before.
+struct Subtree<'a> {
+    nodes: &'a mut ReadNodes,
+    link: &'a mut Option<Span>,
+}
+
+impl Subtree<'_> {
+    /// Returns a reader of a child of this node.
+    fn child<'b>(&'b mut self, link: &'b mut Option<Span>) -> Subtree<'b> {
+        Subtree {
+            nodes: self.nodes,
+            link,
+        }
+    }
+}
 
 impl<'de> DeserializeSeed<'de> for Subtree<'_> {
-    type Value = Option<Span>;
+    type Value = ();
 
-    fn deserialize<D: Deserializer<'de>>(self, from: D) -> Result<Option<Span>, D::Error> {
+    fn deserialize<D: Deserializer<'de>>(self, from: D) -> Result<(), D::Error> {
         from.deserialize_option(self)
     }
 }
 
 impl<'de> Visitor<'de> for Subtree<'_> {
-    type Value = Option<Span>;
+    type Value = ();
 
     fn expecting(&self, f: &mut fmt::Formatter<'_>) -> fmt::Result {
         f.write_str("a node or none")
     }
 
-    fn visit_none<E>(self) -> Result<Option<Span>, E> {
-        Ok(None)
+    fn visit_none<E>(self) -> Result<(), E> {
+        Ok(())
     }
 
-    fn visit_unit<E>(self) -> Result<Option<Span>, E> {
-        Ok(None)
+    fn visit_unit<E>(self) -> Result<(), E> {
+        Ok(())
     }
 
-    fn visit_some<D: Deserializer<'de>>(self, from: D) -> Result<Option<Span>, D::Error> {
-        self.0.begin().map_err(invalid)?;
-        from.deserialize_struct("InnerNode", FIELDS, InnerNode(self.0))
-            .map(Some)
+    fn visit_some<D: Deserializer<'de>>(self, from: D) -> Result<(), D::Error> {
+        self.nodes.begin().map_err(invalid)?;
+        from.deserialize_struct("InnerNode", FIELDS, InnerNode(self))
     }
 }
 
@@ -164,54 +182,63 @@ struct Fields {
 }
 
 /// Reads a node. A derive could not pass the other nodes on to its children.
-struct InnerNode<'a>(&'a mut ReadNodes);
+struct InnerNode<'a>(Subtree<'a>);
 
 impl InnerNode<'_> {
-    /// Ends the node. `missing` returns the error of a missing field.
-    fn end<E: Error>(self, fields: Fields, missing: impl Fn(Field) -> E) -> Result<Span, E> {
-        let key = fields.key.ok_or_else(|| missing(Field::Key))?;
-        let state = fields.state.ok_or_else(|| missing(Field::NodeState))?;
-        let left = fields.left.ok_or_else(|| missing(Field::Left))?;
-        let right = fields.right.ok_or_else(|| missing(Field::Right))?;
-        let height = fields.height.ok_or_else(|| missing(Field::Height))?;
-        let span = self.0.end(left, key, state.proved(), right, height);
-        span.map_err(invalid)
+    /// Ends the node, and writes the span of its subtree to the link.
+    #[inline(always)]
+    fn end<E: Error>(
+        self,
+        left: Option<Span>,
+        key: RangeInclusive,
+        state: NodeState,
+        right: Option<Span>,
+        height: u64,
+    ) -> Result<(), E> {
+        let span = self.0.nodes.end(left, key, state.proved(), right, height);
+        *self.0.link = Some(span.map_err(invalid)?);
+        Ok(())
     }
 }
 
 impl<'de> Visitor<'de> for InnerNode<'_> {
-    type Value = Span;
+    type Value = ();
 
     fn expecting(&self, f: &mut fmt::Formatter<'_>) -> fmt::Result {
         f.write_str("struct InnerNode with 5 elements")
     }
 
-    fn visit_seq<A: SeqAccess<'de>>(self, mut from: A) -> Result<Span, A::Error> {
-        let fields = Fields {
-            key: from.next_element()?,
-            state: from.next_element()?,
-            left: from.next_element_seed(Subtree(self.0))?,
-            right: from.next_element_seed(Subtree(self.0))?,
-            height: from.next_element()?,
-        };
+    fn visit_seq<A: SeqAccess<'de>>(mut self, mut from: A) -> Result<(), A::Error> {
         let expected = &"struct InnerNode with 5 elements";
-        self.end(fields, |field| {
-            A::Error::invalid_length(field as usize, expected)
-        })
+        let missing = |field| A::Error::invalid_length(field as usize, expected);
+        let (mut left, mut right) = (None, None);
+        let key = from.next_element()?;
+        let key = key.ok_or_else(|| missing(Field::Key))?;
+        let state = from.next_element()?;
+        let state = state.ok_or_else(|| missing(Field::NodeState))?;
+        let read = from.next_element_seed(self.0.child(&mut left))?;
+        read.ok_or_else(|| missing(Field::Left))?;
+        let read = from.next_element_seed(self.0.child(&mut right))?;
+        read.ok_or_else(|| missing(Field::Right))?;
+        let height = from.next_element()?;
+        let height = height.ok_or_else(|| missing(Field::Height))?;
+        self.end(left, key, state, right, height)
     }
 
-    fn visit_map<A: MapAccess<'de>>(self, mut from: A) -> Result<Span, A::Error> {
+    fn visit_map<A: MapAccess<'de>>(mut self, mut from: A) -> Result<(), A::Error> {
         let mut fields = Fields::default();
         while let Some(field) = from.next_key()? {
             let is_duplicate = match field {
                 Field::Key => fields.key.replace(from.next_value()?).is_some(),
                 Field::NodeState => fields.state.replace(from.next_value()?).is_some(),
                 Field::Left => {
-                    let left = from.next_value_seed(Subtree(self.0))?;
+                    let mut left = None;
+                    from.next_value_seed(self.0.child(&mut left))?;
                     fields.left.replace(left).is_some()
                 }
                 Field::Right => {
-                    let right = from.next_value_seed(Subtree(self.0))?;
+                    let mut right = None;
+                    from.next_value_seed(self.0.child(&mut right))?;
                     fields.right.replace(right).is_some()
                 }
                 Field::Height => fields.height.replace(from.next_value()?).is_some(),
@@ -220,9 +247,13 @@ impl<'de> Visitor<'de> for InnerNode<'_> {
                 return Err(A::Error::duplicate_field(FIELDS[field as usize]));
             }
         }
-        self.end(fields, |field| {
-            A::Error::missing_field(FIELDS[field as usize])
-        })
+        let missing = |field| A::Error::missing_field(FIELDS[field as usize]);
+        let key = fields.key.ok_or_else(|| missing(Field::Key))?;
+        let state = fields.state.ok_or_else(|| missing(Field::NodeState))?;
+        let left = fields.left.ok_or_else(|| missing(Field::Left))?;
+        let right = fields.right.ok_or_else(|| missing(Field::Right))?;
+        let height = fields.height.ok_or_else(|| missing(Field::Height))?;
+        self.end(left, key, state, right, height)
     }
 }
 
