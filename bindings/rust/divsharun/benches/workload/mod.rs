@@ -358,7 +358,10 @@ struct Timing {
 impl Timing {
     /// Makes a call for each item. Keeps the time if this call is the measured one.
     fn of<T>(&mut self, is_asked: bool, items: &[T], mut call: impl FnMut(&T) -> Answer) {
-        self.answers.reserve(items.len());
+        // The memory of the results is written before, so that no page fault is measured.
+        let earlier = self.answers.len();
+        self.answers.resize(earlier + items.len(), Ok((0, 0)));
+        self.answers.truncate(earlier);
         let start = Instant::now();
         for item in items {
             self.answers.push(call(black_box(item)));
