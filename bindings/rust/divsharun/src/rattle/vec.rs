@@ -31,14 +31,10 @@ impl<T> Vec<T> {
     }
 
     /// Returns the number of values for which memory is allocated.
+    #[cfg(test)]
     #[must_use]
     pub fn capacity(&self) -> usize {
         self.0.capacity()
-    }
-
-    /// Allocates memory for exactly so many more values, or returns an error.
-    pub fn reserve_exact(&mut self, additional: usize) -> Result<(), AllocError> {
-        self.0.try_reserve_exact(additional).map_err(|_| AllocError)
     }
 
     /// Inserts a value before the value at `place`, or returns it if the allocation fails. The
