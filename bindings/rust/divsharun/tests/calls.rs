@@ -8,7 +8,7 @@ mod items;
 mod model;
 
 use divsharun::{
-    AddressAllocator, AllocPolicy, Block, Constraint, DeviceManager, DeviceSlot, Error,
+    AddressAllocator, AllocPolicy, Block, Conflict, Constraint, DeviceManager, DeviceSlot, Error,
     IdAllocator, ListError, NodeState, RangeInclusive, TryError,
 };
 use draw::Draw;
@@ -141,6 +141,16 @@ fn expect_queries(
             draw,
         );
         expect_items(space.gaps_in(&window), &meeting(gaps), |_| None, draw);
+        let conflict = |within: RangeInclusive| {
+            let exact = Constraint::new(window.len(), 1, AllocPolicy::ExactMatch(start)).unwrap();
+            space.conflict(exact.within(within))
+        };
+        let lowest = meeting(held).first().copied().map(Conflict::Allocated);
+        let whole = RangeInclusive::new(BASE, BASE + WIDTH - 1).unwrap();
+        let outside = Some(Conflict::OutsideSpace(whole)).filter(|_| !whole.contains(&window));
+        assert_eq!(conflict(window), outside.or(lowest));
+        let below = RangeInclusive::new(start - 1, end - 1).unwrap();
+        assert_eq!(conflict(below), Some(Conflict::OutsideWindow(below)));
         if start == end {
             assert_eq!(space.held_at(start), meeting(held).pop());
             assert_eq!(space.gap_at(start), meeting(gaps).pop());

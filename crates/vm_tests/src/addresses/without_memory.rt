@@ -3,6 +3,7 @@
 use super::*;
 use crate::fixtures::{fail_from_here, gaps_exactly, holds_exactly, range};
 use std::cmp::Ordering;
+use vm_allocator::Conflict;
 
 /// Makes the calls in turn without memory, and checks their results.
 fn replay(
@@ -64,6 +65,9 @@ fn look_up(rt: &impl Abort, space: &AddressAllocator, other: &AddressAllocator) 
         &want,
         &"the ranges and the gap between two addresses",
     );
+    let request = Exact(8, 1, 4).request().expect(rt, "it is a request");
+    let conflict = Some(Conflict::Allocated(range(rt, 6, 7)));
+    expect_eq(rt, &space.conflict(request), &conflict, &request);
     let are_clear = gaps_exactly(space, &[(0, 1), (4, 5), (8, 9), (12, 15)]);
     expect_true(rt, are_clear, &"the other four are gaps");
     let numbers = (space.longest_gap(), space.free_len(), space.gap_count());

@@ -2,7 +2,7 @@
 //! stop: the boxes that it follows in addition to the nodes that it enters do not grow with the tree.
 use crate::objects::{boxes, range};
 use box_count::proved::vm_allocator::AllocPolicy::ExactMatch;
-use box_count::proved::vm_allocator::{AddressAllocator, RangeInclusive};
+use box_count::proved::vm_allocator::{AddressAllocator, Conflict, Constraint, RangeInclusive};
 use box_count::rattle::Global;
 use std::fmt::Debug;
 
@@ -109,7 +109,7 @@ fn both() -> RangeInclusive {
 
 /// A walk descends once for each end of a tree, and once in each of two trees. Numbers of the whole
 /// tree are stored in its root.
-const WALKS: [(&str, u64, Walk); 21] = [
+const WALKS: [(&str, u64, Walk); 22] = [
     ("==", 2, |a, b| a != b),
     ("<", 2, |a, b| a < b),
     ("cmp", 2, |a, b| a.cmp(b).is_lt()),
@@ -127,6 +127,10 @@ const WALKS: [(&str, u64, Walk); 21] = [
     }),
     ("last range within", 2, |a, _| {
         a.held_ranges_in(&both()).next_back() == Some(range(48, 64))
+    }),
+    ("conflict", 2, |a, _| {
+        let request = Constraint::new(17, 1, ExactMatch(32)).unwrap();
+        a.conflict(request) == Some(Conflict::Allocated(first()))
     }),
     ("first gap within", 2, |a, _| {
         a.gaps_in(&both()).next() == Some(range(33, 47))
