@@ -172,7 +172,7 @@ static const struct row rows[] = {
     {"copy a space", COPY_SPACE, 0, {0}, 39},
     {"copy ids", COPY_IDS, 1, {0}, 2},
     {"copy a manager", COPY_MANAGER, 2, {0}, 4},
-    {"save a space", SAVE_SPACE, 0, {0}, 3},
+    {"save a space", SAVE_SPACE, 0, {0}, 2},
     {"save ids", SAVE_IDS, 1, {0}, 1},
     {"save a manager", SAVE_MANAGER, 2, {0}, 2},
     {"read a space", SPACE_WITHIN, 0, {0}, 39},
