@@ -204,12 +204,15 @@ class owner {
         return code(status);
     }
 
-    template <typename Item, typename Visit> std::vector<Item> list_by(Visit call) const {
-        std::vector<Item> items;
-        error seen =
-            visit_by<Item>(call, [&items](Item item) { return items.push_back(item), true; });
-        static_cast<void>(seen);
-        return items;
+    /* Replaces `items` by the items of a visit. An error leaves them unchanged. */
+    template <typename Item, typename Visit>
+    DVS_MUST_CHECK error list_by(Visit call, std::vector<Item> &items) const {
+        std::vector<Item> found;
+        error failed =
+            visit_by<Item>(call, [&found](Item item) { return found.push_back(item), true; });
+        if (!failed)
+            items = std::move(found);
+        return failed;
     }
 };
 
@@ -249,14 +252,16 @@ class request {
 };
 
 /*
- * An input iterator over the allocated ranges or the gaps, in ascending order:
+ * The allocated ranges or the gaps from an address upwards, for a range-based for:
  *
- *     for (dvs_range range : space.each_range())
+ *     dvs::each_range ranges;
+ *     if (!space.ranges_from(0, ranges))
+ *         for (dvs_range range : ranges)
  *
- * A step makes one call, in logarithmic time. It does not allocate memory, and cannot
- * throw. The allocator must exist during the loop, and the loop can change it: the
- * next item is the first one that has an address above the last item. for_each() is
- * faster if the allocator does not change.
+ * It is an input iterator. A step makes one call, in logarithmic time. It does not
+ * allocate memory, and cannot throw. The allocator must exist during the loop, and the
+ * loop can change it: the next item is the first one that has an address above the last
+ * item. for_each() is faster if the allocator does not change.
  */
 template <dvs_status (*Visit)(const dvs_address_allocator *, uint64_t, dvs_range_visitor *, void *)>
 class each {
@@ -276,16 +281,24 @@ class each {
     using pointer = const dvs_range *;
     using reference = const dvs_range &;
 
-    each() noexcept = default;
-    each(const dvs_address_allocator *allocator, uint64_t address) noexcept : visited(allocator) {
-        Visit(visited, address, keep, &item);
+    DVS_MUST_CHECK error start(const dvs_address_allocator *allocator, uint64_t address) noexcept {
+        each first;
+        first.visited = allocator;
+        error failed = code(Visit(allocator, address, keep, &first.item));
+        if (!failed)
+            *this = first;
+        return failed;
     }
     each begin() const noexcept { return *this; }
     each end() const noexcept { return {}; }
     reference operator*() const noexcept { return item; }
     pointer operator->() const noexcept { return &item; }
     each &operator++() noexcept {
-        return *this = item.end < UINT64_MAX ? each(visited, item.end + 1) : each();
+        uint64_t last = item.end;
+        item = each().item;
+        if (last < UINT64_MAX)
+            Visit(visited, last + 1, keep, &item);
+        return *this;
     }
     each operator++(int) noexcept {
         each before = *this;
@@ -297,6 +310,8 @@ class each {
     }
     friend bool operator!=(const each &one, const each &other) noexcept { return !(one == other); }
 };
+using each_range = each<dvs_range_visit_from>;
+using each_gap = each<dvs_gap_visit_from>;
 
 class address_allocator : public owner<dvs_address_allocator, dvs_address_allocator_destroy,
                                        dvs_address_allocator_copy, dvs_address_allocator_equal> {
@@ -393,20 +408,23 @@ class address_allocator : public owner<dvs_address_allocator, dvs_address_alloca
     DVS_MUST_CHECK error free_length(uint64_t &length) const {
         return code(dvs_free_length(get(), &length));
     }
-    std::vector<dvs_range> ranges() const { return list_by<dvs_range>(dvs_range_visit); }
-    std::vector<dvs_range> gaps() const { return list_by<dvs_range>(dvs_gap_visit); }
+    DVS_MUST_CHECK error ranges(std::vector<dvs_range> &ranges) const {
+        return list_by(dvs_range_visit, ranges);
+    }
+    DVS_MUST_CHECK error gaps(std::vector<dvs_range> &gaps) const {
+        return list_by(dvs_gap_visit, gaps);
+    }
     DVS_MUST_CHECK error ranges_in(dvs_range within, std::vector<dvs_range> &ranges) const {
         return list_in(dvs_range_visit_in, within, ranges);
     }
     DVS_MUST_CHECK error gaps_in(dvs_range within, std::vector<dvs_range> &gaps) const {
         return list_in(dvs_gap_visit_in, within, gaps);
     }
-    /* The ranges or the gaps from an address upwards, for a range-based for. */
-    each<dvs_range_visit_from> each_range(uint64_t address = 0) const noexcept {
-        return {get(), address};
+    DVS_MUST_CHECK error ranges_from(uint64_t address, each_range &ranges) const noexcept {
+        return ranges.start(get(), address);
     }
-    each<dvs_gap_visit_from> each_gap(uint64_t address = 0) const noexcept {
-        return {get(), address};
+    DVS_MUST_CHECK error gaps_from(uint64_t address, each_gap &gaps) const noexcept {
+        return gaps.start(get(), address);
     }
     template <typename Action> DVS_MUST_CHECK error for_each(Action action) const {
         return visit_by<dvs_range>(dvs_range_visit, std::move(action));
@@ -439,19 +457,12 @@ class address_allocator : public owner<dvs_address_allocator, dvs_address_alloca
             std::move(action));
     }
 
-    /* Replaces `ranges` by the result of a visit within a range. An error leaves it unchanged. */
     template <typename Visit>
     DVS_MUST_CHECK error list_in(Visit call, dvs_range within,
                                  std::vector<dvs_range> &ranges) const {
-        std::vector<dvs_range> found;
-        error failed = visit_by<dvs_range>(
-            [&](const object *from, dvs_range_visitor *visitor, void *context) {
-                return call(from, within, visitor, context, nullptr);
-            },
-            [&found](dvs_range range) { return found.push_back(range), true; });
-        if (!failed)
-            ranges = std::move(found);
-        return failed;
+        return list_by([&](const object *from, dvs_range_visitor *visitor,
+                           void *context) { return call(from, within, visitor, context, nullptr); },
+                       ranges);
     }
 };
 
@@ -503,7 +514,9 @@ class id_allocator : public owner<dvs_id_allocator, dvs_id_allocator_destroy, dv
     DVS_MUST_CHECK error free_count(uint64_t &count) const {
         return code(dvs_id_free_count(get(), &count));
     }
-    std::vector<uint32_t> ids() const { return list_by<uint32_t>(dvs_id_visit); }
+    DVS_MUST_CHECK error ids(std::vector<uint32_t> &ids) const {
+        return list_by(dvs_id_visit, ids);
+    }
 };
 
 class device_manager : public owner<dvs_device_manager, dvs_device_manager_destroy,
@@ -559,7 +572,9 @@ class device_manager : public owner<dvs_device_manager, dvs_device_manager_destr
     DVS_MUST_CHECK error at(uint64_t address, dvs_device &device) const {
         return code(dvs_device_at(get(), address, &device));
     }
-    std::vector<dvs_device> devices() const { return list_by<dvs_device>(dvs_device_visit); }
+    DVS_MUST_CHECK error devices(std::vector<dvs_device> &devices) const {
+        return list_by(dvs_device_visit, devices);
+    }
 };
 
 } // namespace dvs

@@ -8,6 +8,23 @@
 
 #include <stdexcept>
 
+/* Returns the items that a list has. */
+template <typename Owner, typename Item>
+static std::vector<Item> list(const Owner &owner,
+                              dvs::error (Owner::*listed)(std::vector<Item> &) const) {
+    std::vector<Item> items;
+    CHECK(!(owner.*listed)(items));
+    return items;
+}
+
+static std::vector<dvs_range> ranges_of(const dvs::address_allocator &space) {
+    return list(space, &dvs::address_allocator::ranges);
+}
+
+static std::vector<dvs_range> gaps_of(const dvs::address_allocator &space) {
+    return list(space, &dvs::address_allocator::gaps);
+}
+
 static void allocate() {
     dvs::address_allocator space;
     dvs_range range;
@@ -25,8 +42,8 @@ static void allocate() {
     CHECK(again == dvs::code(DVS_INVALID_STATE_TRANSITION));
     CHECK(again.message() == "The range is already allocated.");
     CHECK(std::string(again.category().name()) == "divsharun");
-    CHECK(space.ranges().size() == 3 && is_range(space.ranges()[1], 0x1200, 0x120f));
-    CHECK(space.gaps().size() == 2 && !space.longest_gap(length) && length == 0x1f00 - 0x1210);
+    CHECK(ranges_of(space).size() == 3 && is_range(ranges_of(space)[1], 0x1200, 0x120f));
+    CHECK(gaps_of(space).size() == 2 && !space.longest_gap(length) && length == 0x1f00 - 0x1210);
     std::vector<dvs_range> ranges;
     CHECK(!space.gap_at(0x1100, range) && is_range(range, 0x1100, 0x11ff));
     CHECK(space.gap_at(0x10ff, range) == dvs::code(DVS_RESOURCE_NOT_AVAILABLE));
@@ -109,7 +126,7 @@ static void allocate_all_in_windows() {
     CHECK(is_range(ranges[0], 30, 31) && is_range(ranges[1], 46, 47));
     bars.push_back(request::first(1, 1).within({2, 1}));
     CHECK(space.allocate_all(bars, ranges, &failed, &refusal) == dvs::code(DVS_INVALID_RANGE));
-    CHECK(failed == 2 && is_range(refusal.range, 2, 1) && space.ranges().size() == 4);
+    CHECK(failed == 2 && is_range(refusal.range, 2, 1) && ranges_of(space).size() == 4);
 }
 
 static void reserve_in_windows() {
@@ -127,7 +144,7 @@ static void reserve_in_windows() {
           dvs::code(DVS_INVALID_STATE_TRANSITION));
     CHECK(is_range(refusal.range, 16, 23));
     CHECK(!devices.reserve({8, 8, 0, DVS_FIRST, nullptr}, device) && device.id == 6);
-    CHECK(devices.devices().size() == 2 && is_range(device.range, 0, 7));
+    CHECK(list(devices, &dvs::device_manager::devices).size() == 2 && is_range(device.range, 0, 7));
 }
 
 static void save() {
@@ -143,8 +160,8 @@ static void save() {
               dvs::code(DVS_RESOURCE_NOT_AVAILABLE) &&
           failed == 1);
     CHECK(!space.make_with_held(0, 16, {range_of(1, 2), range_of(4, 4)}) && !space.save(text));
-    CHECK(!copy.read(text) && copy.ranges().size() == 2);
-    CHECK(copy.read("{}") == dvs::code(DVS_NOT_A_STATE) && copy.ranges().size() == 2);
+    CHECK(!copy.read(text) && ranges_of(copy).size() == 2);
+    CHECK(copy.read("{}") == dvs::code(DVS_NOT_A_STATE) && ranges_of(copy).size() == 2);
     uint64_t count = 0;
     CHECK(!copy.held_count(count) && count == 2 && !copy.free_length(count) && count == 13);
     CHECK(!copy.gap_count(count) && count == 3);
@@ -154,14 +171,16 @@ static void save() {
           fault.field == std::string("address_space"));
     CHECK(copy.read(text, &fault, &limits) == dvs::code(DVS_LIMIT_EXCEEDED));
     CHECK(!ids.make(5, 9) && !ids.allocate(id) && id == 5 && !ids.allocate(id) && !ids.free(5));
-    CHECK(!ids.save(text) && !ids.read(text) && ids.ids() == std::vector<uint32_t>{6});
+    CHECK(!ids.save(text) && !ids.read(text) &&
+          list(ids, &dvs::id_allocator::ids) == std::vector<uint32_t>{6});
     std::vector<uint32_t> several(2);
     CHECK(!ids.make_with_held(5, 9, {6}) && !ids.allocate_exact(8) && !ids.allocate_in(7, 9, id));
     CHECK(!ids.free_count(count) && count == 2);
     CHECK(id == 7 && !ids.allocate_all(several) && several == std::vector<uint32_t>({5, 9}));
     CHECK(ids.allocate_all(several) == dvs::code(DVS_RESOURCE_NOT_AVAILABLE));
     CHECK(!devices.make(1, 9, 0, 64) && !devices.reserve_first(8, 8, device) && device.id == 1);
-    CHECK(!devices.save(text) && !devices.read(text) && devices.devices().size() == 1);
+    CHECK(!devices.save(text) && !devices.read(text) &&
+          list(devices, &dvs::device_manager::devices).size() == 1);
     CHECK(!devices.at(7, device) && !devices.release(device.id) && devices.at(7, device));
     dvs::address_allocator moved = std::move(space);
     CHECK(moved && !space);
@@ -177,8 +196,8 @@ static void copy() {
     CHECK(space == other && other.make_copy(space) == DVS_NULL);
     CHECK(!space.make_with_held(0, 16, {range_of(1, 2), range_of(4, 4)}) && space != other);
     CHECK(!other.make_copy(space) && space == other && !other.free({4, 4}) && space != other);
-    CHECK(!space.make_copy(space) && space.ranges().size() == 2);
-    CHECK(space.make_copy(dvs::address_allocator()) == DVS_NULL && space.ranges().size() == 2);
+    CHECK(!space.make_copy(space) && ranges_of(space).size() == 2);
+    CHECK(space.make_copy(dvs::address_allocator()) == DVS_NULL && ranges_of(space).size() == 2);
     CHECK(!ids.make(5, 9) && !other_ids.make_copy(ids) && ids == other_ids);
     CHECK(!ids.allocate_exact(7) && ids != other_ids);
     CHECK(!devices.make(5, 9, 0, 16) && !other_devices.make_copy(devices));
@@ -192,29 +211,36 @@ static void copy() {
 /* Checks the items of loops, also of a loop that changes the allocator. */
 static void loop() {
     dvs::address_allocator space, top;
+    dvs::each_range ranges;
+    dvs::each_gap gaps;
     std::vector<dvs_range> seen;
     const dvs_range expected[] = {{0, 0}, {1, 2}, {5, 5},  {1, 2},
                                   {5, 5}, {3, 4}, {6, 15}, {UINT64_MAX - 1, UINT64_MAX}};
 
     CHECK(!space.make_with_held(0, 16, {range_of(0, 0), range_of(1, 2), range_of(5, 5)}));
-    CHECK(!top.make(UINT64_MAX - 1, 2) && top.each_range().begin() == top.each_range().end());
-    for (dvs_range range : space.each_range())
-        seen.push_back(range);
-    for (dvs_range range : space.each_range(2))
-        seen.push_back(range);
-    for (dvs_range gap : space.each_gap(4))
+    CHECK(!top.make(UINT64_MAX - 1, 2) && !top.ranges_from(0, ranges));
+    CHECK(ranges.begin() == ranges.end() && gaps.begin() == gaps.end());
+    for (uint64_t address : {0, 2}) {
+        CHECK(!space.ranges_from(address, ranges));
+        for (dvs_range range : ranges)
+            seen.push_back(range);
+    }
+    CHECK(!space.gaps_from(4, gaps));
+    for (dvs_range gap : gaps)
         seen.push_back(gap);
-    for (dvs_range gap : top.each_gap())
+    CHECK(!top.gaps_from(0, gaps));
+    for (dvs_range gap : gaps)
         seen.push_back(gap);
     CHECK(seen.size() == 8 && memcmp(seen.data(), expected, sizeof expected) == 0);
-    auto gaps = space.each_gap();
+    CHECK(!space.gaps_from(0, gaps));
     auto gap = gaps.begin(), first = gap++;
     CHECK(first == gaps.begin() && first != gap && first->start == 3 && gap->start == 6);
     CHECK(++gap == gaps.end() && std::distance(gaps.begin(), gaps.end()) == 2);
     static_assert(noexcept(++gap), "a step cannot throw");
-    for (dvs_range range : space.each_range(1))
+    CHECK(!space.ranges_from(1, ranges));
+    for (dvs_range range : ranges)
         CHECK(!space.free(range));
-    CHECK(space.ranges().size() == 1 && space.gaps().size() == 1);
+    CHECK(ranges_of(space).size() == 1 && gaps_of(space).size() == 1);
 }
 
 static void compare_errors() {
@@ -322,13 +348,20 @@ static void tell_details() {
 static void ask_empty(const dvs::address_allocator &space, const dvs::id_allocator &ids,
                       const dvs::device_manager &devices) {
     std::string text = "kept";
-    std::vector<dvs_range> ranges;
+    std::vector<dvs_range> ranges = {range_of(1, 2)};
+    std::vector<uint32_t> numbers = {3};
+    std::vector<dvs_device> slots = {{range_of(0, 0), 4}};
+    dvs::address_allocator kept;
+    dvs::each_range each_range;
+    dvs::each_gap each_gap;
     dvs_range range = {0, 0};
     dvs_device device;
     uint64_t count;
     uint32_t id;
     bool is_allocated;
     auto see = [](dvs_range) { return true; };
+    CHECK(!kept.make_with_held(5, 3, {range_of(5, 6)}));
+    CHECK(!kept.ranges_from(0, each_range) && !kept.gaps_from(0, each_gap));
     const dvs::error all[] = {space.save(text),
                               space.space(range),
                               space.is_allocated(range, is_allocated),
@@ -337,6 +370,10 @@ static void ask_empty(const dvs::address_allocator &space, const dvs::id_allocat
                               space.longest_gap(count),
                               space.held_count(count),
                               space.free_length(count),
+                              space.ranges(ranges),
+                              space.gaps(ranges),
+                              space.ranges_from(0, each_range),
+                              space.gaps_from(0, each_gap),
                               space.ranges_in(range, ranges),
                               space.for_each(see),
                               space.gaps_in(range, ranges),
@@ -350,18 +387,20 @@ static void ask_empty(const dvs::address_allocator &space, const dvs::id_allocat
                               ids.is_allocated(0, is_allocated),
                               ids.held_count(count),
                               ids.free_count(count),
+                              ids.ids(numbers),
                               devices.save(text),
                               devices.ids(id, id),
                               devices.space(range),
                               devices.slot(0, range),
                               devices.device_count(count),
+                              devices.devices(slots),
                               devices.at(0, device)};
 
     for (const dvs::error &one : all)
         CHECK(one == DVS_NULL);
-    CHECK(space.ranges().empty() && space.gaps().empty() && ids.ids().empty());
-    CHECK(space.each_gap().begin() == space.each_gap().end());
-    CHECK(devices.devices().empty() && space == space && !(ids != ids) && text == "kept");
+    CHECK(is_range(ranges[0], 1, 2) && numbers[0] == 3 && slots[0].id == 4);
+    CHECK(is_range(*each_range.begin(), 5, 6) && is_range(*each_gap.begin(), 7, 7));
+    CHECK(space == space && !(ids != ids) && text == "kept");
 }
 
 static void throw_in_a_visit() {
@@ -395,17 +434,17 @@ static void replace_in_a_visit() {
     CHECK(!space.for_each([&](dvs_range) {
         CHECK(space.make(0, 0) == DVS_UNDERFLOW && space.make(0, 16) == DVS_BUSY);
         CHECK(space.make_with_held(0, 16, {}) == DVS_BUSY && space.read(text) == DVS_BUSY);
-        CHECK(space.read_repaired(text) == DVS_BUSY && space.ranges().size() == 1);
+        CHECK(space.read_repaired(text) == DVS_BUSY && ranges_of(space).size() == 1);
         CHECK(space.adopt(nullptr) == DVS_BUSY);
         space = std::move(other);
-        CHECK(space.ranges().empty() && other.ranges().size() == 1);
+        CHECK(ranges_of(space).empty() && ranges_of(other).size() == 1);
         CHECK(other.free(range_of(1, 1)) == DVS_BUSY && !space.make(16, 16));
         return ++calls < 9;
     }));
     CHECK(calls == 1 && !other.free(range_of(1, 1)) && !other.make(0, 16));
     dvs::address_allocator &itself = space;
     space = std::move(itself);
-    CHECK(space && space.gaps().size() == 1);
+    CHECK(space && gaps_of(space).size() == 1);
     dvs_address_allocator *object = space.release();
     CHECK(!space && !other.adopt(object) && other.get() == object);
 }
