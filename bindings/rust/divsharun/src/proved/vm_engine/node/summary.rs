@@ -9,7 +9,7 @@
 //! An alignment is one of the 64 powers of two. A multiple of a power of two is also a multiple of
 //! each smaller one, so the number of alignments determines which alignments they are. Height and
 //! alignments have four bytes each: their comparisons take fewer instructions than those of single bytes,
-//! and a node has 72 bytes in either case.
+//! and a node has the same size in either case.
 
 use super::Child;
 use crate::proved::vm_engine::block::Block;
