@@ -4,8 +4,7 @@ use divsharun::{
 };
 
 fn main() -> Result<()> {
-    // The MMIO gap below 4 GiB, with the I/O APIC, the local APICs with MSI, and the firmware of x86
-    // allocated from the start.
+    // The MMIO gap of x86, in which the I/O APIC, the local APICs and the firmware are allocated.
     let taken = [
         RangeInclusive::from_start_len(0xfec0_0000, 0x1000)?,
         RangeInclusive::from_start_len(0xfee0_0000, 0x10_0000)?,

@@ -8,7 +8,7 @@ use Reason::{Nothing, OfSpace, OfWindow, Taken};
 use vm_allocator::Conflict;
 
 /// The expected reason, with the first and the last address of its range.
-#[derive(Clone, Copy, Debug, PartialEq, Eq)]
+#[derive(Clone, Copy)]
 enum Reason {
     Nothing,
     OfWindow(u64, u64),
@@ -16,12 +16,23 @@ enum Reason {
     Taken(u64, u64),
 }
 
-fn reason_of(conflict: Option<Conflict>) -> Reason {
-    match conflict {
-        None => Nothing,
-        Some(Conflict::OutsideWindow(range)) => OfWindow(range.start(), range.end()),
-        Some(Conflict::OutsideSpace(range)) => OfSpace(range.start(), range.end()),
-        Some(Conflict::Allocated(range)) => Taken(range.start(), range.end()),
+impl Reason {
+    fn conflict(self) -> Result<Option<Conflict>> {
+        match self {
+            Nothing => Ok(None),
+            OfWindow(start, end) => {
+                let window = RangeInclusive::new(start, end)?;
+                Ok(Some(Conflict::OutsideWindow(window)))
+            }
+            OfSpace(start, end) => {
+                let space = RangeInclusive::new(start, end)?;
+                Ok(Some(Conflict::OutsideSpace(space)))
+            }
+            Taken(start, end) => {
+                let range = RangeInclusive::new(start, end)?;
+                Ok(Some(Conflict::Allocated(range)))
+            }
+        }
     }
 }
 
@@ -67,7 +78,7 @@ const AT_MAX: [(Call, Reason); 3] = [
 fn expect_reasons(rt: &impl Abort, space: &AddressAllocator, rows: &[(Call, Reason)]) {
     for (call, want) in rows {
         let request = call.request().expect(rt, "it is a request");
-        expect_eq(rt, &reason_of(space.conflict(request)), want, call);
+        expect_eq(rt, &Ok(space.conflict(request)), &want.conflict(), call);
     }
 }
 
