@@ -281,6 +281,7 @@ class each {
     using pointer = const dvs_range *;
     using reference = const dvs_range &;
 
+    /* Begins at the first item that has an address at this one or above it. */
     DVS_MUST_CHECK error start(const dvs_address_allocator *allocator, uint64_t address) noexcept {
         each first;
         first.visited = allocator;
