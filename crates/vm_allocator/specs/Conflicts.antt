@@ -21,14 +21,14 @@ UnlessInWindow None r outside otherwise = otherwise
 UnlessInWindow (Some window) r outside otherwise = Unless (Covers window r) (outside window) otherwise
 
 -- The conflict of the range r. The first condition that is true decides:
--- - The window, if r is not in it.
 -- - The space, if r is not in it.
+-- - The window, if r is not in it.
 -- - The lowest held range that overlaps r, if there is one.
 -- - Otherwise there is no conflict.
 unfoldable pub IsConflictOf : AddressState → Option Range → Range → Option Conflict → Type 0
 IsConflictOf state window r answer =
-    UnlessInWindow window r (λ w. answer ≡ Some (OutsideWindow w)) (
     Unless (Covers state.space r) (answer ≡ Some (OutsideSpace state.space)) (
+    UnlessInWindow window r (λ w. answer ≡ Some (OutsideWindow w)) (
     answer ≡ with_first (meeting r state.held)))
 
 -- The conflict of a request with the policy ExactMatch. Requests with other policies have no conflict.

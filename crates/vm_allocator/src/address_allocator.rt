@@ -32,6 +32,7 @@ mod gaps;
 mod held_ranges;
 mod moving;
 mod several;
+mod with_free;
 
 pub use conflicts::Conflict;
 

@@ -1,11 +1,11 @@
 -- Requests, and the errors of invalid requests. A constraint is seen as its whole request. The places of a request
 -- depend only on its size and its alignment.
-use Rattle.std.specs.Prelude.{◌≡◌, ℕ, ◌%◌, ◌<◌, Option, None, Result, Ok, Err}
+use Rattle.std.specs.Prelude.{◌≡◌, ℕ, ◌%◌, ◌<◌, ◌&&◌, ◌==◌, if◌then◌else◌, Option, None, Some, Result, Ok, Err}
 use Rattle.vm_ranges.specs.Cases.{IfElse, Unless}
 use Rattle.vm_ranges.specs.Alignment.{IsAlignment}
-use Rattle.vm_ranges.specs.Range.{Range}
+use Rattle.vm_ranges.specs.Range.{Range, MAX}
 use Rattle.vm_ranges.specs.declared.error.Error.{Error}
-use Rattle.vm_ranges.specs.declared.error.Error.TheVariants.{InvalidSize, InvalidAlignment, UnalignedAddress}
+use Rattle.vm_ranges.specs.declared.error.Error.TheVariants.{InvalidSize, InvalidAlignment, UnalignedAddress, InvalidRange}
 use Rattle.vm_ranges.specs.declared.constraint.AllocPolicy.{AllocPolicy}
 use Rattle.vm_ranges.specs.declared.constraint.AllocPolicy.TheVariants.{FirstMatch, LastMatch, ExactMatch}
 
@@ -48,3 +48,15 @@ ByConstraint request refused otherwise =
 -- The result of creating the constraint of a request.
 unfoldable pub MakesConstraint : Request → Result Request Error → Type 0
 MakesConstraint request answer = ByConstraint request (λ e. answer ≡ Err e) (answer ≡ Ok request)
+
+-- The window from low to high, or None if it has all addresses.
+abbrev pub window_between : ℕ → ℕ → Option Range
+window_between low high =
+    if low == 0 && high == MAX then None else Some (record { start = low; end = high })
+
+-- The result of limiting a request to the addresses from low to high: InvalidRange if high is below low, otherwise the
+-- request with this window.
+abbrev pub MakesLimits : Request → ℕ → ℕ → Result Request Error → Type 0
+MakesLimits request low high answer =
+    IfElse (high < low) (answer ≡ Err (InvalidRange low high))
+    (answer ≡ Ok (record request { window = window_between low high }))

@@ -5,7 +5,7 @@
 ghost use Rattle.std.specs.Prelude.{◌≡◌, Some};
 ghost use Rattle.vm_ranges.specs.Alignment.{IsAlignment};
 ghost use Rattle.vm_ranges.specs.Cases.{IsTestOf};
-ghost use Rattle.vm_ranges.specs.Request.{request_for, MakesConstraint, IsStartAligned, IsRequest};
+ghost use Rattle.vm_ranges.specs.Request.{request_for, MakesConstraint, MakesLimits, IsStartAligned, IsRequest};
 
 use crate::error::{Error, Result};
 use crate::range::RangeInclusive;
@@ -104,6 +104,30 @@ impl Constraint {
         Constraint {
             window: Some(window),
             ..self
+        }
+    }
+
+    /// Returns this request with the window from `low` to `high`, both included. Its range must lie in
+    /// the window.
+    ///
+    /// `low` 0 is no lower limit, and `high` `u64::MAX` is no upper limit. With neither limit the
+    /// request has no window. These limits replace the window that the request had.
+    ///
+    /// # Errors
+    ///
+    /// - `InvalidRange(low, high)` if `high` is below `low`.
+    pub const fn within_limits(self, low: u64, high: u64) -> Result<Self>
+        ensures { MakesLimits self low high result }
+    {
+        if low == 0 && high == u64::MAX {
+            return Ok(Constraint {
+                window: None,
+                ..self
+            });
+        }
+        match RangeInclusive::new(low, high) {
+            Ok(window) => Ok(self.within(window)),
+            Err(error) => Err(error),
         }
     }
 

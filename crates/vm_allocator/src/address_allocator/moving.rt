@@ -1,29 +1,80 @@
-//! The move of an allocated range to another start.
-ghost use Rattle.std.specs.Prelude.{◌≡◌, ◌≢◌, Ok, Err, OnErr, IfOk};
+//! The move of an allocated range to the place of a request.
+ghost use Rattle.std.specs.Prelude.{◌≡◌, ◌%◌, ◌≢◌, Ok, Err, OnErr, IfOk, IfSome};
 ghost use Rattle.std.specs.List.{Contains};
-ghost use Rattle.vm_ranges.specs.Range.{address_count};
+ghost use Rattle.vm_ranges.specs.Cases.{IsTestOf};
+ghost use Rattle.vm_ranges.specs.Range.{Covers, address_count};
 ghost use Rattle.vm_engine.specs.Address.{IsAddressState};
 ghost use Rattle.vm_engine.specs.Tree.Shape.{height_of};
 ghost use Rattle.vm_engine.specs.Counts.Steps.{SplitsIfLow};
 ghost use Rattle.vm_allocator.specs.Allocator.{state_of};
-ghost use Rattle.vm_allocator.specs.Moves.{request_to, replacing, MovesRange};
+ghost use Rattle.vm_allocator.specs.Moves.{IsFor, request_to, replacing, MovesRange};
 
 use super::AddressAllocator;
 use std::alloc::Global;
-use vm_ranges::{AllocPolicy, Error, RangeInclusive, Result};
+use vm_ranges::{AllocPolicy, Constraint, Error, RangeInclusive, Result};
 
 impl AddressAllocator {
-    /// Moves an allocated range to another start, and returns the range there. A guest does this when it
-    /// programs a BAR.
+    /// Moves an allocated range to the place of a request, and returns the range there. A guest does
+    /// this when it programs a BAR, and a monitor when it makes a window longer or shorter.
     ///
-    /// It allocates as many addresses at `start` by `ExactMatch`, and then frees `key`. So the new range
-    /// cannot overlap `key`. A move to the start of `key` succeeds and changes nothing. The alignment
-    /// is 1, because the start is given.
+    /// It allocates a range for the request like [`allocate_constraint`](Self::allocate_constraint),
+    /// and then frees `key`. So the addresses of `key` do not count as free. A request for exactly
+    /// `key`, by `ExactMatch`, succeeds and changes nothing.
     ///
     /// # Errors
     ///
     /// An error changes nothing, and leaves the same tree. In this order:
-    /// - `ResourceNotAvailable` if exactly this range is not allocated.
+    /// - `ResourceNotAvailable` if exactly the range `key` is not allocated.
+    /// - The errors of [`allocate_constraint`](Self::allocate_constraint), in the same order.
+    #[tactic(auto, using(crate::proofs::Results::Moves::moves, crate::proofs::Trees::trees))]
+    pub fn move_constraint(
+        &mut self,
+        alloc: Global,
+        key: &RangeInclusive,
+        request: Constraint,
+    ) -> Result<RangeInclusive>
+        // The range is as long as asked, aligned and in the window, and is held instead. Nothing else
+        // changes.
+        ensures fits { IfOk result (λ range. (address_count range ≡ request.size) × (range.start % request.align ≡ 0)) }
+        ensures inside { IfOk result (λ range. IfSome request.window (λ window. Covers window range)) }
+        ensures moved { IfOk result (λ range.
+            state_of self.new ≡ replacing key.now range (state_of self.old)) }
+        ensures unchanged { OnErr result (self.new ≡ self.old) }
+
+        // A range that is not held cannot be moved. A request for the range itself changes nothing.
+        ensures refused { ¬ Contains (state_of self.old).held key.now → result ≡ Err Error.ResourceNotAvailable }
+        ensures stays { Contains (state_of self.old).held key.now → IsFor key.now request
+            → (result ≡ Ok key.now) × (self.new ≡ self.old) }
+
+        // Each result under its exact condition. The limit on the height is checked before memory is
+        // allocated.
+        ensures answer { MovesRange (state_of self.old) key.now request result (state_of self.new) }
+        ensures depth { Contains (state_of self.old).held key.now → ¬ IsFor key.now request
+            → SplitsIfLow (height_of self.old.tree) (state_of self.old) request result }
+    {
+        if !self.interval_tree.holds(key) {
+            return Err(Error::ResourceNotAvailable);
+        }
+        if is_for(key, &request) {
+            return Ok(*key);
+        }
+        let range = self.allocate_constraint(alloc, request)?;
+        // An allocated range is always freed.
+        let _ = self.free(key);
+        Ok(range)
+    }
+
+    /// Moves an allocated range to another start, and returns the range there.
+    ///
+    /// This is [`move_constraint`](Self::move_constraint) for as many addresses at `start`, at alignment
+    /// 1 and without a window. So it does not check the alignment and the window that the first request
+    /// for the range had, and the new range cannot overlap `key`. A move to the start of `key` succeeds
+    /// and changes nothing.
+    ///
+    /// # Errors
+    ///
+    /// An error changes nothing, and leaves the same tree. In this order:
+    /// - `ResourceNotAvailable` if exactly the range `key` is not allocated.
     /// - `Overflow` if `start` is `u64::MAX`.
     /// - `ResourceNotAvailable` if `start` is outside the space.
     /// - `Overflow` if the new range would end past `u64::MAX`.
@@ -33,7 +84,7 @@ impl AddressAllocator {
     /// - Only if the new range splits its gap:
     ///   - `Overflow` if the height of the tree is 48 or more.
     ///   - `OutOfMemory` if the allocation of a node fails.
-    #[tactic(auto, using(crate::proofs::Results::Moves::moves, crate::proofs::Trees::trees))]
+    #[tactic(auto, using(crate::proofs::Results::Moves::moves_to_starts, crate::proofs::Trees::trees))]
     pub fn move_range(
         &mut self,
         alloc: Global,
@@ -55,20 +106,26 @@ impl AddressAllocator {
         // The limit on the height is checked before memory is allocated.
         ensures depth { Contains (state_of self.old).held key.now → start ≢ key.now.start
             → SplitsIfLow (height_of self.old.tree) (state_of self.old) (request_to key.now start) result }
-        ensures state { IsAddressState (state_of self.new) }
 
         // Each result under its exact condition.
-        ensures answer { MovesRange (state_of self.old) key.now start result (state_of self.new) }
+        ensures answer { MovesRange (state_of self.old) key.now (request_to key.now start) result
+            (state_of self.new) }
     {
-        if !self.interval_tree.holds(key) {
-            return Err(Error::ResourceNotAvailable);
-        }
-        if start == key.start() {
-            return Ok(*key);
-        }
-        let range = self.allocate(alloc, key.len(), 1, AllocPolicy::ExactMatch(start))?;
-        // An allocated range is always freed.
-        let _ = self.free(key);
-        Ok(range)
+        let request = Constraint::new(key.len(), 1, AllocPolicy::ExactMatch(start))?;
+        self.move_constraint(alloc, key, request)
+    }
+}
+
+/// Returns `true` if a request is for exactly this range: at its start, as long, and with the range in
+/// its window.
+fn is_for(range: &RangeInclusive, request: &Constraint) -> bool
+    ensures { IsTestOf result (IsFor range.now request.now) }
+{
+    if request.policy() != AllocPolicy::ExactMatch(range.start()) || request.size() != range.len() {
+        return false;
+    }
+    match request.window() {
+        None => true,
+        Some(window) => window.contains(range),
     }
 }

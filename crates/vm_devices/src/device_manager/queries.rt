@@ -2,12 +2,13 @@
 //! allocators.
 ghost use Rattle.std.specs.Prelude.{◌≡◌};
 ghost use Rattle.vm_allocator.specs.Allocator.{state_of};
+ghost use Rattle.vm_allocator.specs.Conflicts.{IsConflict, ConflictDecides};
 ghost use Rattle.vm_devices.specs.Queries.{device_list, device_count, DeviceAt};
 
 use super::DeviceManager;
 use super::slots::Devices;
 use crate::device_slot::DeviceSlot;
-use vm_allocator::{AddressAllocator, IdAllocator};
+use vm_allocator::{AddressAllocator, Conflict, Constraint, IdAllocator};
 
 impl DeviceManager {
     /// Returns an iterator over the devices, by ascending ids.
@@ -38,6 +39,17 @@ impl DeviceManager {
         let range = self.mmio_allocator.held_at(address)?;
         let id = self.slots.id_at(range.start())?;
         Some(DeviceSlot { id, range })
+    }
+
+    /// Returns the reason why the range of an `ExactMatch` request is not free, like
+    /// `AddressAllocator::conflict`. The ids do not matter.
+    ///
+    /// It descends one path of the tree for each end of the range and does not allocate.
+    pub fn conflict(&self, request: Constraint) -> Option<Conflict>
+        ensures value { IsConflict self.now.space request result }
+        ensures decides { ConflictDecides self.now.space request result }
+    {
+        self.mmio_allocator.conflict(request)
     }
 
     /// Returns the allocator of the addresses, to look at.

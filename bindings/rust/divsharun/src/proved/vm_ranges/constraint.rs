@@ -83,6 +83,28 @@ impl Constraint {
         }
     }
 
+    /// Returns this request with the window from `low` to `high`, both included. Its range must lie in
+    /// the window.
+    ///
+    /// `low` 0 is no lower limit, and `high` `u64::MAX` is no upper limit. With neither limit the
+    /// request has no window. These limits replace the window that the request had.
+    ///
+    /// # Errors
+    ///
+    /// - `InvalidRange(low, high)` if `high` is below `low`.
+    pub const fn within_limits(self, low: u64, high: u64) -> Result<Self> {
+        if low == 0 && high == u64::MAX {
+            return Ok(Constraint {
+                window: None,
+                ..self
+            });
+        }
+        match RangeInclusive::new(low, high) {
+            Ok(window) => Ok(self.within(window)),
+            Err(error) => Err(error),
+        }
+    }
+
     /// Returns the alignment: the first address of the range is a multiple of it.
     pub const fn align(self) -> u64 {
         self.align

@@ -8,10 +8,10 @@ use crate::proved::vm_ranges::{AllocPolicy, Constraint, RangeInclusive};
 /// The reason why the range of an `ExactMatch` request is not free.
 #[derive(Clone, Copy, Debug, PartialEq, Eq)]
 pub enum Conflict {
-    /// The range is not in the window of the request. This is the window.
-    OutsideWindow(RangeInclusive),
     /// The range is not in the space. This is the space.
     OutsideSpace(RangeInclusive),
+    /// The range is in the space and not in the window of the request. This is the window.
+    OutsideWindow(RangeInclusive),
     /// This allocated range has an address in common with the range. It is the lowest of them.
     Allocated(RangeInclusive),
 }
@@ -21,8 +21,8 @@ impl AddressAllocator {
     /// range is free, and for the other policies.
     ///
     /// It returns the first of these reasons:
-    /// - `OutsideWindow` if the range is not in the window of the request.
-    /// - `OutsideSpace` if it is not in the space.
+    /// - `OutsideSpace` if the range is not in the space.
+    /// - `OutsideWindow` if it is not in the window of the request.
     /// - `Allocated` if an allocated range has an address in common with it.
     ///
     /// It descends one path of the tree for each end of the range and does not allocate.
@@ -32,15 +32,12 @@ impl AddressAllocator {
             return None;
         };
         let Ok(range) = RangeInclusive::from_start_len(start, request.size()) else {
-            // The range would end past `u64::MAX`, which no window and no space does.
-            return match request.window() {
-                Some(window) => Some(Conflict::OutsideWindow(window)),
-                None => Some(Conflict::OutsideSpace(space)),
-            };
+            // The range would end past `u64::MAX`, which no space does.
+            return Some(Conflict::OutsideSpace(space));
         };
         match request.window() {
-            Some(window) if !window.contains(&range) => Some(Conflict::OutsideWindow(window)),
             _ if !space.contains(&range) => Some(Conflict::OutsideSpace(space)),
+            Some(window) if !window.contains(&range) => Some(Conflict::OutsideWindow(window)),
             _ => Some(Conflict::Allocated(self.held_ranges_in(&range).next()?)),
         }
     }

@@ -1,23 +1,53 @@
 // Written by bindings/erase from crates/vm_allocator/src/address_allocator/moving.rt: do not edit.
 
-//! The move of an allocated range to another start.
+//! The move of an allocated range to the place of a request.
 
 use super::AddressAllocator;
 use crate::rattle::Global;
-use crate::proved::vm_ranges::{AllocPolicy, Error, RangeInclusive, Result};
+use crate::proved::vm_ranges::{AllocPolicy, Constraint, Error, RangeInclusive, Result};
 
 impl AddressAllocator {
-    /// Moves an allocated range to another start, and returns the range there. A guest does this when it
-    /// programs a BAR.
+    /// Moves an allocated range to the place of a request, and returns the range there. A guest does
+    /// this when it programs a BAR, and a monitor when it makes a window longer or shorter.
     ///
-    /// It allocates as many addresses at `start` by `ExactMatch`, and then frees `key`. So the new range
-    /// cannot overlap `key`. A move to the start of `key` succeeds and changes nothing. The alignment
-    /// is 1, because the start is given.
+    /// It allocates a range for the request like [`allocate_constraint`](Self::allocate_constraint),
+    /// and then frees `key`. So the addresses of `key` do not count as free. A request for exactly
+    /// `key`, by `ExactMatch`, succeeds and changes nothing.
     ///
     /// # Errors
     ///
     /// An error changes nothing, and leaves the same tree. In this order:
-    /// - `ResourceNotAvailable` if exactly this range is not allocated.
+    /// - `ResourceNotAvailable` if exactly the range `key` is not allocated.
+    /// - The errors of [`allocate_constraint`](Self::allocate_constraint), in the same order.
+    pub fn move_constraint(
+        &mut self,
+        alloc: Global,
+        key: &RangeInclusive,
+        request: Constraint,
+    ) -> Result<RangeInclusive> {
+        if !self.interval_tree.holds(key) {
+            return Err(Error::ResourceNotAvailable);
+        }
+        if is_for(key, &request) {
+            return Ok(*key);
+        }
+        let range = self.allocate_constraint(alloc, request)?;
+        // An allocated range is always freed.
+        let _ = self.free(key);
+        Ok(range)
+    }
+
+    /// Moves an allocated range to another start, and returns the range there.
+    ///
+    /// This is [`move_constraint`](Self::move_constraint) for as many addresses at `start`, at alignment
+    /// 1 and without a window. So it does not check the alignment and the window that the first request
+    /// for the range had, and the new range cannot overlap `key`. A move to the start of `key` succeeds
+    /// and changes nothing.
+    ///
+    /// # Errors
+    ///
+    /// An error changes nothing, and leaves the same tree. In this order:
+    /// - `ResourceNotAvailable` if exactly the range `key` is not allocated.
     /// - `Overflow` if `start` is `u64::MAX`.
     /// - `ResourceNotAvailable` if `start` is outside the space.
     /// - `Overflow` if the new range would end past `u64::MAX`.
@@ -33,15 +63,19 @@ impl AddressAllocator {
         key: &RangeInclusive,
         start: u64,
     ) -> Result<RangeInclusive> {
-        if !self.interval_tree.holds(key) {
-            return Err(Error::ResourceNotAvailable);
-        }
-        if start == key.start() {
-            return Ok(*key);
-        }
-        let range = self.allocate(alloc, key.len(), 1, AllocPolicy::ExactMatch(start))?;
-        // An allocated range is always freed.
-        let _ = self.free(key);
-        Ok(range)
+        let request = Constraint::new(key.len(), 1, AllocPolicy::ExactMatch(start))?;
+        self.move_constraint(alloc, key, request)
+    }
+}
+
+/// Returns `true` if a request is for exactly this range: at its start, as long, and with the range in
+/// its window.
+fn is_for(range: &RangeInclusive, request: &Constraint) -> bool {
+    if request.policy() != AllocPolicy::ExactMatch(range.start()) || request.size() != range.len() {
+        return false;
+    }
+    match request.window() {
+        None => true,
+        Some(window) => window.contains(range),
     }
 }

@@ -6,7 +6,7 @@
 use super::DeviceManager;
 use super::slots::Devices;
 use crate::proved::vm_devices::device_slot::DeviceSlot;
-use crate::proved::vm_allocator::{AddressAllocator, IdAllocator};
+use crate::proved::vm_allocator::{AddressAllocator, Conflict, Constraint, IdAllocator};
 
 impl DeviceManager {
     /// Returns an iterator over the devices, by ascending ids.
@@ -30,6 +30,14 @@ impl DeviceManager {
         let range = self.mmio_allocator.held_at(address)?;
         let id = self.slots.id_at(range.start())?;
         Some(DeviceSlot { id, range })
+    }
+
+    /// Returns the reason why the range of an `ExactMatch` request is not free, like
+    /// `AddressAllocator::conflict`. The ids do not matter.
+    ///
+    /// It descends one path of the tree for each end of the range and does not allocate.
+    pub fn conflict(&self, request: Constraint) -> Option<Conflict> {
+        self.mmio_allocator.conflict(request)
     }
 
     /// Returns the allocator of the addresses, to look at.

@@ -1,0 +1,108 @@
+//! Creates an allocator of the ranges that are free in it.
+ghost use Rattle.std.specs.Prelude.{◌≡◌, ◌↔◌, ℕ, IfOk, IfErr};
+ghost use Rattle.std.specs.List.{Any};
+ghost use Rattle.vm_ranges.specs.ListErrors.{by_error};
+ghost use Rattle.vm_ranges.specs.Range.{IsIn};
+ghost use Rattle.vm_engine.specs.Address.{IsAddressState, IsClear};
+ghost use Rattle.vm_engine.specs.Tree.Shape.{height_of, node_count, IsLowestHeight};
+ghost use Rattle.vm_allocator.specs.Allocator.{state_of, made_state};
+ghost use Rattle.vm_allocator.specs.Holes.{MakesWithFree, wrong_index, holes_after};
+
+use super::AddressAllocator;
+use std::alloc::{AllocError, Global};
+use vm_engine::IntervalTree;
+use vm_ranges::{Error, ListError, RangeInclusive};
+
+/// More holes than this number make the tree too high.
+const MAX_HOLES: u64 = (1 << 48) - 1;
+
+impl AddressAllocator {
+    /// Creates an allocator in which exactly these ranges are free. They must be in ascending order,
+    /// and share no address.
+    ///
+    /// The space is from the first address of the first range to the last address of the last one. The
+    /// holes between the ranges are allocated, one range for each hole, and can be freed. Two ranges
+    /// without a hole between them are one gap.
+    ///
+    /// Its tree has the minimum height for its nodes. It takes time linear in the number of ranges, and
+    /// allocates a list of the holes besides the nodes.
+    ///
+    /// # Errors
+    ///
+    /// In this order. Only the error of a range has an index.
+    /// - `Underflow` if there is no range.
+    /// - `ResourceNotAvailable` for the first range that does not start after the end of the range before
+    ///   it.
+    /// - `InvalidRange` if the space would have all 2^64 addresses.
+    /// - `Overflow` if there are 2^48 holes or more.
+    /// - `OutOfMemory` if an allocation fails.
+    pub fn with_free(
+        alloc: Global,
+        free: &[RangeInclusive],
+    ) -> std::result::Result<Self, ListError>
+        ensures answer { MakesWithFree free.now (made_state (by_error result)) }
+        ensures index { IfErr result (λ failure. failure.index ≡ wrong_index 0 0 free.now) }
+
+        // An address is clear if and only if it is in one of the ranges.
+        ensures clear { IfOk result (λ allocator. (x : ℕ) →
+            IsClear (state_of allocator) x ↔ Any (λ r. IsIn r x) free.now) }
+        ensures low { IfOk result (λ allocator.
+            IsLowestHeight (node_count allocator.tree) (height_of allocator.tree)) }
+        ensures state { IfOk result (λ allocator. IsAddressState (state_of allocator)) }
+    {
+        let Some((first, others)) = free.split_first() else {
+            return Err(Error::Underflow.into());
+        };
+        let (last, count) = check_free(first, others)?;
+        let address_space = RangeInclusive::new(first.start(), last.end())?;
+        if count > MAX_HOLES {
+            return Err(Error::Overflow.into());
+        }
+        let holes = holes_between(alloc, first, others)?;
+        let interval_tree = IntervalTree::with_held(alloc, address_space, &holes)?;
+        Ok(AddressAllocator {
+            address_space,
+            interval_tree,
+        })
+    }
+}
+
+/// Returns the last range and the number of holes, or the error of the first range that does not start
+/// after the end of the range before it.
+fn check_free(
+    first: &RangeInclusive,
+    others: &[RangeInclusive],
+) -> std::result::Result<(RangeInclusive, u64), ListError> {
+    let mut last = *first;
+    let mut holes = 0;
+    for (index, range) in others.iter().enumerate() {
+        if range.start() <= last.end() {
+            return Err(ListError {
+                index: Some(index + 1),
+                error: Error::ResourceNotAvailable,
+            });
+        }
+        if range.start() - last.end() > 1 {
+            holes += 1;
+        }
+        last = *range;
+    }
+    Ok((last, holes))
+}
+
+/// Returns the holes between ranges in ascending order.
+fn holes_between(
+    alloc: Global,
+    first: &RangeInclusive,
+    others: &[RangeInclusive],
+) -> std::result::Result<Vec<RangeInclusive>, AllocError> {
+    let mut holes = Vec::new(alloc);
+    let mut end = first.end();
+    for range in others {
+        if let Ok(hole) = RangeInclusive::new(end + 1, range.start() - 1) {
+            holes.push(hole)?;
+        }
+        end = range.end();
+    }
+    Ok(holes)
+}
