@@ -1,10 +1,14 @@
 -- Decidable facts of the state of an allocator.
-use Rattle.std.proofs.Common.{◌≡◌, ℕ, ◌%◌, List, [], ◌∷◌, inl, inr, ⊎_elim}
-use Rattle.std.proofs.lemmas.Bool.{cases_eq}
+use Rattle.std.proofs.Common.{◌≡◌, ℕ, ◌%◌, ◌<◌, ◌≤◌, List, [], ◌∷◌, ap, arith, inl, inr, ⊎_elim, Option, Some, None, IfSome}
+use Rattle.std.proofs.lemmas.Bool.{cases_eq, cases_lt}
 use Rattle.std.specs.List.{Contains}
-use Rattle.vm_ranges.specs.Range.{Range, IsIn}
+use Rattle.vm_ranges.specs.Range.{Range, IsIn, Covers, address_count}
+use Rattle.vm_ranges.specs.Request.{Request}
 use Rattle.vm_engine.specs.Address.{AddressState, IsClear, AreClear, IsPlace}
-use Rattle.vm_ranges.proofs.Decisions.{Decided, decided_both, decided_if, decided_row, decided_in, decided_same}
+use Rattle.vm_ranges.specs.declared.constraint.AllocPolicy.{AllocPolicy}
+use Rattle.vm_ranges.specs.declared.constraint.AllocPolicy.TheVariants.{FirstMatch, LastMatch, ExactMatch}
+use Rattle.vm_allocator.specs.Moves.{IsFor}
+use Rattle.vm_ranges.proofs.Decisions.{Decided, decided_both, decided_if, decided_up_to, decided_row, decided_in, decided_same}
 use Rattle.vm_engine.proofs.Blocks.PlainWords.{IsHeldAddress, IsHeld, contains_held, held_contains, all_miss, none_holds}
 
 decided_held_address : (hs : List Range) (x : ℕ) → Decided (IsHeldAddress hs x)
@@ -41,3 +45,28 @@ decided_among (x ∷ xs) r =
 
 pub decided_held : (hs : List Range) (r : Range) → Decided (Contains hs r)
 decided_held hs r = decided_if (IsHeld hs r) (Contains hs r) (contains_held hs r) (held_contains hs r) (decided_among hs r)
+
+-- Whether a request is for exactly a range.
+decided_policy : (policy : AllocPolicy) (t : ℕ) → Decided (policy ≡ ExactMatch t)
+decided_policy FirstMatch t = inr (λ e. absurd (cc e))
+decided_policy LastMatch t = inr (λ e. absurd (cc e))
+decided_policy (ExactMatch s) t = ⊎_elim (λ (e : s ≡ t). inl (ap (λ (v : ℕ). ExactMatch v) e)) (λ (n : s ≡ t → ⊥). inr (λ e. n (cc e))) (cases_eq s t)
+
+decided_cover : (window : Option Range) (r : Range) → Decided (IfSome window (λ w. Covers w r))
+unfolding Covers
+decided_cover None r = inl tt
+decided_cover (Some w) r =
+    ⊎_elim
+    (λ (empty : r.end < r.start). inl (λ x i. absurd (omega (arith, empty, i.0, i.1))))
+    (λ (some : r.start ≤ r.end).
+    decided_if ((w.start ≤ r.start) × (r.end ≤ w.end)) (Covers w r)
+    (λ h x i. (omega (arith, h.0, i.0), omega (arith, h.1, i.1)))
+    (λ c. ((c r.start (omega arith, some)).0, (c r.end (some, omega arith)).1))
+    (decided_both _ _ (decided_up_to w.start r.start) (decided_up_to r.end w.end)))
+    (cases_lt r.end r.start)
+
+pub decided_for : (r : Range) (request : Request) → Decided (IsFor r request)
+unfolding IsFor
+decided_for r request =
+    decided_both _ _ (decided_policy request.policy r.start)
+    (decided_both _ _ (cases_eq request.size (address_count r)) (decided_cover request.window r))

@@ -3,3 +3,4 @@ pub mod IdChecks
 pub mod IdQueries
 pub mod FreedBetween
 pub mod FreedChecks
+pub mod FreeChecks

@@ -6,6 +6,7 @@ pub mod FreedLists
 pub mod Several
 pub mod Moves
 pub mod Conflicts
+pub mod Holes
 pub mod Histories
 pub mod Laws
 pub mod Values

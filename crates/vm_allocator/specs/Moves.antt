@@ -1,14 +1,20 @@
--- The move of a held range to another start.
-use Rattle.std.specs.Prelude.{◌≡◌, ℕ, Result, Ok, Err, MatchResult}
+-- The move of a held range to the place of a request.
+use Rattle.std.specs.Prelude.{◌≡◌, ℕ, IfSome, Result, Ok, Err, MatchResult}
 use Rattle.std.specs.List.{Contains}
 use Rattle.vm_ranges.specs.Cases.{IfElse, Unless}
-use Rattle.vm_ranges.specs.Range.{Range, address_count}
+use Rattle.vm_ranges.specs.Range.{Range, Covers, address_count}
 use Rattle.vm_ranges.specs.Request.{Request, request_for}
 use Rattle.vm_engine.specs.Address.{AddressState, holding, releasing}
 use Rattle.vm_engine.specs.Answer.{Allocates}
 use Rattle.vm_ranges.specs.declared.error.Error.{Error}
 use Rattle.vm_ranges.specs.declared.error.Error.TheVariants.{ResourceNotAvailable}
 use Rattle.vm_ranges.specs.declared.constraint.AllocPolicy.TheVariants.{ExactMatch}
+
+-- The request is for exactly the range r: at its start, as long, and with r in its window.
+unfoldable pub IsFor : Range → Request → Type 0
+IsFor r request =
+    (request.policy ≡ ExactMatch r.start) × (request.size ≡ address_count r)
+    × IfSome request.window (λ window. Covers window r)
 
 -- The request for as many addresses as the range r has, starting at t.
 abbrev pub request_to : Range → ℕ → Request
@@ -18,14 +24,13 @@ request_to r t = request_for (address_count r) 1 (ExactMatch t)
 unfoldable pub replacing : Range → Range → AddressState → AddressState
 replacing r q state = holding q (releasing r state)
 
--- The result of `move_range` for the range r and the start t. An error changes nothing. The first condition that is true
--- decides:
+-- The result of `move_constraint` for the range r. An error changes nothing. The first condition that is true decides:
 -- - ResourceNotAvailable if r is not held.
--- - r, without a change, if it starts at t.
--- - Otherwise the result of the request for as many addresses at t. If it succeeds, r is freed after it.
-unfoldable pub MovesRange : AddressState → Range → ℕ → Result Range Error → AddressState → Type 0
-MovesRange old r t answer new =
+-- - r, without a change, if the request is for exactly r.
+-- - Otherwise the result of the request. If it succeeds, r is freed after it.
+unfoldable pub MovesRange : AddressState → Range → Request → Result Range Error → AddressState → Type 0
+MovesRange old r request answer new =
     Unless (Contains old.held r) ((answer ≡ Err ResourceNotAvailable) × (new ≡ old)) (
-    IfElse (t ≡ r.start) ((answer ≡ Ok r) × (new ≡ old)) (
-    (mid : AddressState) × Allocates old (request_to r t) answer mid ×
+    IfElse (IsFor r request) ((answer ≡ Ok r) × (new ≡ old)) (
+    (mid : AddressState) × Allocates old request answer mid ×
     MatchResult answer (λ _. new ≡ releasing r mid) (λ _. new ≡ old)))

@@ -39,10 +39,11 @@ pub record FailsAtIndex {X : Type 0} (step : X → Request → Result Range Erro
   pub each : EachBy step old before ranges state
   pub fails : step state request (Err error) state
 
--- The request that an error names fails with that error. The error names none only if memory runs out.
-abbrev pub FailsAsNamed : {X : Type 0} → (X → Request → Result Range Error → X → Type 0) → X → List Request → ListError → Type 0
-FailsAsNamed step old requests failure =
-    MatchOption failure.index (failure.error ≡ OutOfMemory) (λ index. FailsAtIndex step old requests index failure.error)
+-- The request that an error names fails with that error. An error that names none is OutOfMemory, and no request was tried:
+-- the allocator is as before.
+abbrev pub FailsAsNamed : {X : Type 0} → (X → Request → Result Range Error → X → Type 0) → X → List Request → ListError → X → Type 0
+FailsAsNamed step old requests failure new =
+    MatchOption failure.index ((failure.error ≡ OutOfMemory) × (new ≡ old)) (λ index. FailsAtIndex step old requests index failure.error)
 
 -- The ranges that requests get in their order, by the state of the allocator.
 abbrev pub AllocatesEach : AddressState → List Request → List Range → AddressState → Type 0

@@ -225,7 +225,9 @@ impl AddressAllocator {
 
         // A request that fills its gap needs no memory, so it succeeds.
         ensures filling { (start : ℕ) → FillsGap (state_of self.old) request start → IsOk result }
-        ensures state { IsAddressState (state_of self.new) }
+
+        // The limit on the height is checked before memory is allocated.
+        ensures depth { SplitsIfLow (height_of self.old.tree) (state_of self.old) request result }
 
         // Each result under its exact condition.
         ensures answer { Allocates (state_of self.old) request result (state_of self.new) }

@@ -8,3 +8,4 @@ pub mod ValueTrees
 pub mod Written
 pub mod SavedTreeLaws
 pub mod ValueLaws
+pub mod HeldKeys

@@ -3,3 +3,4 @@ pub mod NodeChecks
 pub mod KeyChecks
 pub mod Spans
 pub mod ValueSpans
+pub mod HeldKeys

@@ -6,7 +6,7 @@ use Rattle.vm_engine.specs.Address.{AddressState, IsPlace, IsAddressState}
 use Rattle.vm_ranges.specs.Request.{Request}
 use Rattle.vm_engine.specs.Answer.{Allocates, Frees}
 use Rattle.vm_allocator.specs.Several.{AllocatesEach, AllocatesAll}
-use Rattle.vm_allocator.specs.Moves.{request_to, MovesRange}
+use Rattle.vm_allocator.specs.Moves.{MovesRange}
 use Rattle.vm_allocator.specs.Histories.AddressHistories.{Call, Allocation, Several, Release, Move, Cloning, IsCallFrom, IsHistoryFrom, Begins, Reached, Gives, WasAllocated, WasHeldFirst}
 use Rattle.vm_allocator.specs.Laws.HistoryLaws.{HeldAreValid, HaveSameState, StateDecides, FreeUndoes}
 use Rattle.vm_ranges.specs.declared.error.Error.{Error}
@@ -37,7 +37,7 @@ call_state old new (Allocation request answer) h i = allocated_state old new req
 call_state old new (Several requests (Ok rs)) h i = each_valid requests rs old new i h
 call_state old new (Several requests (Err e)) h i = subst IsAddressState (sym h.0) i
 call_state old new (Release r answer) h i = freed_state old new r answer i h
-call_state old new (Move r t answer) h i = move_state old new r t answer i h
+call_state old new (Move r request answer) h i = move_state old new r request answer i h
 call_state old new (Cloning answer) h i = subst IsAddressState (sym (cloning_keeps old new answer h.0 h.1)) i
 
 pub history_state : (calls : List Call) (first last : AddressState) → IsHistoryFrom first calls last → IsAddressState first → IsAddressState last
@@ -134,11 +134,11 @@ call_gives old new (Several requests (Err e)) calls r s h = inl (subst (λ (v : 
 call_gives old new (Release q answer) calls r s h =
     let P : AddressState → Type 0 = λ v. IsHeld v.held r in
     ⊎_elim (λ l. inl (held_without q r old.held (subst P l.1.1 h))) (λ l. inl (subst P l.1.1 h)) s
-call_gives old new (Move q t answer) calls r s h =
+call_gives old new (Move q request answer) calls r s h =
     ⊎_elim
     (λ (k : IsHeld old.held r). inl k)
-    (λ (p : IsNewPlace old q t answer r). inr (given_here old p.mid (request_to q t) r (Move q t answer) calls (refl, p.given) p.allocated))
-    (move_gives old new q t answer r s h)
+    (λ (p : IsNewPlace old q request answer r). inr (given_here old p.mid request r (Move q request answer) calls (refl, p.given) p.allocated))
+    (move_gives old new q request answer r s h)
 call_gives old new (Cloning answer) calls r s h =
     let P : AddressState → Type 0 = λ v. IsHeld v.held r in
     inl (subst P (cloning_keeps old new answer s.0 s.1) h)
@@ -186,9 +186,9 @@ decided = record {
   allocation = λ first second new later request answer other h s t.
       let e = alike_state first second h in
       allocates_once first.state new later request answer other s (subst (λ (v : AddressState). Allocates v request other later) (sym e) t);
-  move = λ first second new later r start answer other h s t.
+  move = λ first second new later r request answer other h s t.
       let e = alike_state first second h in
-      moves_once first.state new later r start answer other s (subst (λ (v : AddressState). MovesRange v r start other later) (sym e) t);
+      moves_once first.state new later r request answer other s (subst (λ (v : AddressState). MovesRange v r request other later) (sym e) t);
   several = λ first second new later requests answer other h s t.
       let e = alike_state first second h in
       all_once requests first.state new later answer other s (subst (λ (v : AddressState). AllocatesAll v requests other later) (sym e) t);

@@ -179,6 +179,6 @@ pub errors_change_nothing : ErrorsChangeNothing
 errors_change_nothing = record {
   allocation = λ old new request e h. allocation_refused request old.state new e h;
   several = λ old new requests e h. h.0;
-  move = λ old new r t e h. move_error_keeps old.state new r t e h;
+  move = λ old new r request e h. move_error_keeps old.state new r request e h;
   release = λ old new r e h. release_refused old.state new r e h;
 }

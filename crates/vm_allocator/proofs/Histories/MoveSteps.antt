@@ -1,7 +1,8 @@
 -- One move of a held range: what it changes, and that it has one result.
-use Rattle.std.proofs.Common.{◌≡◌, ◌≢◌, ◌⊎◌, ℕ, refl, sym, ap, ◌∙◌, inl, inr, ⊎_elim, subst, Result, Ok, Err, MatchResult}
+use Rattle.std.proofs.Common.{◌≡◌, ◌⊎◌, refl, sym, ap, ◌∙◌, inl, inr, ⊎_elim, subst, Result, Ok, Err, MatchResult}
 use Rattle.std.specs.List.{Contains}
 use Rattle.vm_ranges.specs.Range.{Range}
+use Rattle.vm_ranges.specs.Request.{Request}
 use Rattle.vm_engine.specs.Address.{AddressState, IsAddressState, releasing, with_range}
 use Rattle.vm_engine.specs.Answer.{Allocates}
 use Rattle.vm_ranges.specs.declared.error.Error.{Error}
@@ -10,22 +11,22 @@ use Rattle.vm_engine.proofs.Blocks.PlainWords.{IsHeld, held_contains}
 use Rattle.vm_engine.proofs.Blocks.HeldChanges.{held_now, still_held_with, held_with, held_without}
 use Rattle.vm_engine.proofs.Results.AddressResults.{allocated_state, freed_state, releases_held}
 use Rattle.vm_engine.proofs.Results.Once.{allocates_once}
-use Rattle.vm_allocator.specs.Moves.{request_to, MovesRange}
+use Rattle.vm_allocator.specs.Moves.{IsFor, MovesRange}
 use Rattle.vm_allocator.specs.Laws.HistoryLaws.{MovesAgreeExceptSplits}
 use Rattle.vm_allocator.proofs.Callers.{given}
 
--- A range was moved to another start: allocated there, and then freed where it was.
-pub record IsMoved (old : AddressState) (r : Range) (t : ℕ) (q : Range) (new : AddressState) : Type 0 where
+-- A range was moved: another range was allocated for the request, and then it was freed.
+pub record IsMoved (old : AddressState) (r : Range) (request : Request) (q : Range) (new : AddressState) : Type 0 where
   pub held : Contains old.held r
-  pub other : t ≢ r.start
+  pub other : ¬ IsFor r request
   pub mid : AddressState
-  pub allocated : Allocates old (request_to r t) (Ok q) mid
+  pub allocated : Allocates old request (Ok q) mid
   pub left : new ≡ releasing r mid
 
--- A successful move stays at its start, or is one to another start.
-pub moved_parts : (old new : AddressState) (r q : Range) (t : ℕ) → MovesRange old r t (Ok q) new → (Contains old.held r × (t ≡ r.start) × (q ≡ r) × (new ≡ old)) ⊎ IsMoved old r t q new
+-- A successful move changes nothing, or allocates another range.
+pub moved_parts : (old new : AddressState) (r q : Range) (request : Request) → MovesRange old r request (Ok q) new → (Contains old.held r × IsFor r request × (q ≡ r) × (new ≡ old)) ⊎ IsMoved old r request q new
 unfolding MovesRange
-moved_parts old new r q t m =
+moved_parts old new r q request m =
     ⊎_elim
     (λ k. absurd (cc (k.1.0)))
     (λ k.
@@ -36,43 +37,43 @@ moved_parts old new r q t m =
     m
 
 -- Between both steps the range is held at both places.
-pub both_held : (old new : AddressState) (r q : Range) (t : ℕ) (m : IsMoved old r t q new) → IsHeld m.mid.held r × IsHeld m.mid.held q
-both_held old new r q t m =
-    let g = given old m.mid (request_to r t) q m.allocated in
+pub both_held : (old new : AddressState) (r q : Range) (request : Request) (m : IsMoved old r request q new) → IsHeld m.mid.held r × IsHeld m.mid.held q
+both_held old new r q request m =
+    let g = given old m.mid request q m.allocated in
     let both : IsHeld (with_range q old.held) r × IsHeld (with_range q old.held) q = (still_held_with q r old.held (held_contains old.held r m.held), held_now q old.held) in
     subst (λ (v : AddressState). IsHeld v.held r × IsHeld v.held q) (sym g.left) both
 
 -- A failed move changes nothing.
-pub move_error_keeps : (old new : AddressState) (r : Range) (t : ℕ) (e : Error) → MovesRange old r t (Err e) new → new ≡ old
+pub move_error_keeps : (old new : AddressState) (r : Range) (request : Request) (e : Error) → MovesRange old r request (Err e) new → new ≡ old
 unfolding MovesRange
-move_error_keeps old new r t e m =
+move_error_keeps old new r request e m =
     ⊎_elim (λ k. k.1.1) (λ k. ⊎_elim (λ s. absurd (cc (s.1.0))) (λ s. s.1.2) k.1) m
 
--- A move changes nothing, or moves the range to another start.
-pub move_outcome : (old new : AddressState) (r : Range) (t : ℕ) (answer : Result Range Error) → MovesRange old r t answer new → (new ≡ old) ⊎ ((q : Range) × (answer ≡ Ok q) × IsMoved old r t q new)
-move_outcome old new r t (Err e) m = inl (move_error_keeps old new r t e m)
-move_outcome old new r t (Ok q) m = ⊎_elim (λ s. inl s.3) (λ s. inr (q, refl, s)) (moved_parts old new r q t m)
+-- A move changes nothing, or moves the range.
+pub move_outcome : (old new : AddressState) (r : Range) (request : Request) (answer : Result Range Error) → MovesRange old r request answer new → (new ≡ old) ⊎ ((q : Range) × (answer ≡ Ok q) × IsMoved old r request q new)
+move_outcome old new r request (Err e) m = inl (move_error_keeps old new r request e m)
+move_outcome old new r request (Ok q) m = ⊎_elim (λ s. inl s.3) (λ s. inr (q, refl, s)) (moved_parts old new r q request m)
 
-pub move_state : (old new : AddressState) (r : Range) (t : ℕ) (answer : Result Range Error) → IsAddressState old → MovesRange old r t answer new → IsAddressState new
-move_state old new r t answer i m =
+pub move_state : (old new : AddressState) (r : Range) (request : Request) (answer : Result Range Error) → IsAddressState old → MovesRange old r request answer new → IsAddressState new
+move_state old new r request answer i m =
     ⊎_elim
     (λ e. subst IsAddressState (sym e) i)
     (λ k.
     let s = k.2 in
-    let valid = allocated_state old s.mid (request_to r t) (Ok k.0) i s.allocated in
-    let free = releases_held s.mid r (both_held old new r k.0 t s).0 in
+    let valid = allocated_state old s.mid request (Ok k.0) i s.allocated in
+    let free = releases_held s.mid r (both_held old new r k.0 request s).0 in
     subst IsAddressState (sym s.left) (freed_state s.mid (releasing r s.mid) r (Ok tt) valid free))
-    (move_outcome old new r t answer m)
+    (move_outcome old new r request answer m)
 
--- The range p is the one that a move allocated at another start.
-pub record IsNewPlace (old : AddressState) (r : Range) (t : ℕ) (answer : Result Range Error) (p : Range) : Type 0 where
+-- The range p is the one that a move allocated.
+pub record IsNewPlace (old : AddressState) (r : Range) (request : Request) (answer : Result Range Error) (p : Range) : Type 0 where
   pub mid : AddressState
   pub given : answer ≡ Ok p
-  pub allocated : Allocates old (request_to r t) (Ok p) mid
+  pub allocated : Allocates old request (Ok p) mid
 
 -- A range that is held after a move was held before it, or is the new place.
-pub move_gives : (old new : AddressState) (r : Range) (t : ℕ) (answer : Result Range Error) (p : Range) → MovesRange old r t answer new → IsHeld new.held p → IsHeld old.held p ⊎ IsNewPlace old r t answer p
-move_gives old new r t answer p m h =
+pub move_gives : (old new : AddressState) (r : Range) (request : Request) (answer : Result Range Error) (p : Range) → MovesRange old r request answer new → IsHeld new.held p → IsHeld old.held p ⊎ IsNewPlace old r request answer p
+move_gives old new r request answer p m h =
     ⊎_elim
     (λ e. inl (subst (λ (v : AddressState). IsHeld v.held p) e h))
     (λ k.
@@ -83,11 +84,11 @@ move_gives old new r t answer p m h =
     (λ (e : q ≡ p). inr (record {
       mid = s.mid;
       given = k.1 ∙ ap (λ (v : Range). Ok v) e;
-      allocated = subst (λ (v : Range). Allocates old (request_to r t) (Ok v) s.mid) e s.allocated;
+      allocated = subst (λ (v : Range). Allocates old request (Ok v) s.mid) e s.allocated;
     }))
     (λ (before : IsHeld old.held p). inl before)
-    (held_with q p old.held (subst (λ (v : AddressState). IsHeld v.held p) (given old s.mid (request_to r t) q s.allocated).left between)))
-    (move_outcome old new r t answer m)
+    (held_with q p old.held (subst (λ (v : AddressState). IsHeld v.held p) (given old s.mid request q s.allocated).left between)))
+    (move_outcome old new r request answer m)
 
 -- The same allocation leads to the same state after the range is freed.
 left_once : (old mid after new later : AddressState) (r : Range) (answer : Result Range Error) → mid ≡ after → MatchResult answer (λ _. new ≡ releasing r mid) (λ _. new ≡ old) → MatchResult answer (λ _. later ≡ releasing r after) (λ _. later ≡ old) → new ≡ later
@@ -95,9 +96,9 @@ left_once old mid after new later r (Ok q) e a b = a ∙ (ap (λ (v : AddressSta
 left_once old mid after new later r (Err x) e a b = a ∙ sym b
 
 -- A move has one result and one next state, except that the split of its allocation may fail.
-pub moves_once : (old new later : AddressState) (r : Range) (t : ℕ) (answer other : Result Range Error) → MovesRange old r t answer new → MovesRange old r t other later → MovesAgreeExceptSplits old answer new other later
+pub moves_once : (old new later : AddressState) (r : Range) (request : Request) (answer other : Result Range Error) → MovesRange old r request answer new → MovesRange old r request other later → MovesAgreeExceptSplits old answer new other later
 unfolding MovesRange
-moves_once old new later r t answer other m n =
+moves_once old new later r request answer other m n =
     unless_same _ _ _ _ _ m n (λ a b. inl (a.0 ∙ sym b.0, a.1 ∙ sym b.1)) (λ m n.
     if_same _ _ _ _ _ m n (λ a b. inl (a.0 ∙ sym b.0, a.1 ∙ sym b.1)) (λ a b.
     ⊎_elim
@@ -105,4 +106,4 @@ moves_once old new later r t answer other m n =
     let second : MatchResult answer (λ _. later ≡ releasing r b.0) (λ _. later ≡ old) = subst (λ (v : Result Range Error). MatchResult v (λ _. later ≡ releasing r b.0) (λ _. later ≡ old)) (sym same.0) b.2 in
     inl (same.0, left_once old a.0 b.0 new later r answer same.1 a.2 second))
     (λ differ. inr (a.0, b.0, differ))
-    (allocates_once old a.0 b.0 (request_to r t) answer other a.1 b.1)))
+    (allocates_once old a.0 b.0 request answer other a.1 b.1)))

@@ -14,7 +14,6 @@ use Rattle.vm_engine.proofs.Results.Outcomes.{IsRefused}
 use Rattle.vm_engine.proofs.Results.Once.{frees_once}
 use Rattle.vm_engine.proofs.Nodes.CountedTrees.{length_with}
 use Rattle.vm_allocator.specs.Several.{AllocatesEach}
-use Rattle.vm_allocator.specs.Moves.{request_to}
 use Rattle.vm_allocator.specs.Histories.AddressHistories.{Call, Allocation, Several, Release, Move, Cloning, Asked, Allocate, AllocateAll, Free, MoveTo, Clone, asked_by, RunsOutOfMemory, IsCallFrom, IsHistoryFrom}
 use Rattle.vm_allocator.specs.Laws.HistoryLaws.{IsLimitOfAll, added_at_most, SameCallsSameResults}
 use Rattle.vm_allocator.proofs.Callers.{given}
@@ -27,14 +26,14 @@ abbrev ResultOf : Asked → Type 0
 ResultOf (Allocate request) = Result Range Error
 ResultOf (AllocateAll requests) = Result (List Range) Error
 ResultOf (Free r) = Result (Unit {0}) Error
-ResultOf (MoveTo r t) = Result Range Error
+ResultOf (MoveTo r request) = Result Range Error
 ResultOf Clone = Result AddressState Error
 
 abbrev answered : (a : Asked) → ResultOf a → Call
 answered (Allocate request) x = Allocation request x
 answered (AllocateAll requests) x = Several requests x
 answered (Free r) x = Release r x
-answered (MoveTo r t) x = Move r t x
+answered (MoveTo r request) x = Move r request x
 answered Clone x = Cloning x
 
 abbrev IsAnswered : Asked → Call → Type 0
@@ -44,7 +43,7 @@ own_answer : (call : Call) → IsAnswered (asked_by call) call
 own_answer (Allocation request x) = (x, refl)
 own_answer (Several requests x) = (x, refl)
 own_answer (Release r x) = (x, refl)
-own_answer (Move r t x) = (x, refl)
+own_answer (Move r request x) = (x, refl)
 own_answer (Cloning x) = (x, refl)
 
 answer_to : (a : Asked) (call : Call) → asked_by call ≡ a → IsAnswered a call
@@ -94,16 +93,16 @@ held_after (Allocate q) (Err e) old new h =
 held_after (AllocateAll qs) (Ok rs) old new h = let all = each_more qs rs old new h in omega (arith, all)
 held_after (AllocateAll qs) (Err e) old new h = let same = ap (λ (v : AddressState). length v.held) h.0 in omega (arith, same)
 held_after (Free r) x old new h = freed_after r x old new h
-held_after (MoveTo r t) x old new h =
+held_after (MoveTo r request) x old new h =
     ⊎_elim
     (λ e. let same = ap (λ (v : AddressState). length v.held) e in omega (arith, same))
     (λ k.
     let s = k.2 in
-    let one = one_more old s.mid (request_to r t) k.0 s.allocated in
+    let one = one_more old s.mid request k.0 s.allocated in
     let same = ap (λ (v : AddressState). length v.held) s.left in
     let few = fewer_without r s.mid.held in
     omega (arith, one, same, few))
-    (move_outcome old new r t x h)
+    (move_outcome old new r request x h)
 held_after Clone x old new h = let same = ap (λ (v : AddressState). length v.held) (cloning_keeps old new x h.0 h.1) in omega (arith, same)
 
 -- ---- One call
@@ -129,11 +128,11 @@ answer_once (AllocateAll qs) x y old new later few p m h k =
     (λ l. absurd (⊎_elim (below_limit old qs x (omega (arith, few)) p) (below_limit old qs y (omega (arith, few)) m) l))
     (all_once qs old new later x y h k)
 answer_once (Free r) x y old new later few p m h k = frees_once old new later r x y h k
-answer_once (MoveTo r t) x y old new later few p m h k =
+answer_once (MoveTo r request) x y old new later few p m h k =
     ⊎_elim
     (λ same. same)
     (λ d. absurd (⊎_elim (no_split_refusal old x (omega (arith, few)) p) (no_split_refusal old y (omega (arith, few)) m) d.2.refused))
-    (moves_once old new later r t x y h k)
+    (moves_once old new later r request x y h k)
 answer_once Clone x y old new later few p m h k = (
   ⊎_elim (λ e. ⊎_elim (λ f. e ∙ sym f) (λ f. absurd (m f)) k.0) (λ e. absurd (p e)) h.0,
   cloning_keeps old new x h.0 h.1 ∙ sym (cloning_keeps old later y k.0 k.1),
@@ -153,7 +152,7 @@ added_first : (a : Asked) (asked : List Asked) → added_at_most (a ∷ asked) �
 added_first (Allocate q) asked = omega arith
 added_first (AllocateAll qs) asked = omega arith
 added_first (Free r) asked = omega arith
-added_first (MoveTo r t) asked = omega arith
+added_first (MoveTo r request) asked = omega arith
 added_first Clone asked = omega arith
 
 pub same_results : SameCallsSameResults

@@ -14,7 +14,7 @@ use Rattle.vm_ranges.specs.Cloning.{Clones}
 use Rattle.vm_engine.specs.Held.{range_fault, or_else, first_fault, TOO_MANY_BLOCKS, BySpace, MakesHeld, MakesWithHeld}
 use Rattle.vm_engine.specs.Tree.Blocks.{blocks_of}
 use Rattle.vm_allocator.specs.Several.{FailsBy, AllocatesAll}
-use Rattle.vm_allocator.specs.Moves.{request_to, MovesRange}
+use Rattle.vm_allocator.specs.Moves.{IsFor, MovesRange}
 use Rattle.vm_allocator.specs.Histories.AddressHistories.{Allocation, Several, Release, Move, Cloning, Asked, Allocate, AllocateAll, Free, MoveTo, Clone, RunsOutOfMemory}
 use Rattle.vm_allocator.specs.Laws.HistoryLaws.{EveryCallIsAnswered, EveryListHasHistory}
 use Rattle.vm_ranges.specs.declared.error.Error.{Error}
@@ -24,8 +24,9 @@ use Rattle.vm_ranges.specs.declared.constraint.AllocPolicy.{AllocPolicy}
 use Rattle.vm_ranges.specs.declared.constraint.AllocPolicy.TheVariants.{FirstMatch, LastMatch, ExactMatch}
 use Rattle.std.proofs.lemmas.List.Elements.{All-nil, All-cons}
 use Rattle.vm_ranges.proofs.Decisions.{Decided, decided_below, decided_up_to, decided_alignment, decided_start, lowest_or_none, highest_or_none}
+use Rattle.vm_engine.proofs.SavedNodes.HeldKeys.{first_fault_known}
 use Rattle.vm_allocator.proofs.Results.Moves.{move_refused, move_stays}
-use Rattle.vm_allocator.proofs.Decisions.{decided_all_clear, decided_place, decided_inside, decided_held}
+use Rattle.vm_allocator.proofs.Decisions.{decided_all_clear, decided_place, decided_inside, decided_held, decided_for}
 
 -- ---- A result of a relation, by deciding its conditions
 -- The relation is true for some result other than OutOfMemory and some next state.
@@ -125,24 +126,24 @@ total_frees old r =
     (λ (not_held : Contains old.held r → ⊥). (Err ResourceNotAvailable, old, inr (not_held, (refl, refl))))
     (decided_held old.held r)
 
--- A move to another start has the result of its allocation.
-moved_by : (old mid : AddressState) (r : Range) (t : ℕ) (answer : Result Range Error) → Contains old.held r → t ≢ r.start → Allocates old (request_to r t) answer mid → (new : AddressState) × MovesRange old r t answer new
+-- A move for another range has the result of its allocation.
+moved_by : (old mid : AddressState) (r : Range) (request : Request) (answer : Result Range Error) → Contains old.held r → ¬ IsFor r request → Allocates old request answer mid → (new : AddressState) × MovesRange old r request answer new
 unfolding MovesRange
-moved_by old mid r t (Ok q) c d a = (releasing r mid, inr (c, inr (d, (mid, a, refl))))
-moved_by old mid r t (Err e) c d a = (old, inr (c, inr (d, (mid, a, refl))))
+moved_by old mid r request (Ok q) c n a = (releasing r mid, inr (c, inr (n, (mid, a, refl))))
+moved_by old mid r request (Err e) c n a = (old, inr (c, inr (n, (mid, a, refl))))
 
-total_moves : (old : AddressState) (r : Range) (t : ℕ) → IsTotal (MovesRange old r t)
-total_moves old r t =
+total_moves : (old : AddressState) (r : Range) (request : Request) → IsTotal (MovesRange old r request)
+total_moves old r request =
     ⊎_elim
     (λ (held : Contains old.held r).
     ⊎_elim
-    (λ (same : t ≡ r.start). (Ok r, old, move_stays old r t r.start held refl same, λ h. absurd (cc h)))
-    (λ (other : t ≡ r.start → ⊥).
-    let a = total_allocates old (request_to r t) in
-    let m = moved_by old a.1 r t a.0 held other a.2 in
+    (λ (same : IsFor r request). (Ok r, old, move_stays old r request held same, λ h. absurd (cc h)))
+    (λ (other : ¬ IsFor r request).
+    let a = total_allocates old request in
+    let m = moved_by old a.1 r request a.0 held other a.2 in
     (a.0, m.0, m.1, a.3))
-    (cases_eq t r.start))
-    (λ (none : ¬ Contains old.held r). (Err ResourceNotAvailable, old, move_refused old r t none, λ h. absurd (cc h)))
+    (decided_for r request))
+    (λ (none : ¬ Contains old.held r). (Err ResourceNotAvailable, old, move_refused old r request none, λ h. absurd (cc h)))
     (decided_held old.held r)
 
 total_makes : (base size : ℕ) → (answer : Result AddressState Error) × Makes base size answer × (answer ≢ Err OutOfMemory)
@@ -184,30 +185,6 @@ all_from old mid q qs (Ok r) h other rest = all_after old mid rest.1 q qs r rest
 total_several : (old : AddressState) (requests : List Request) → HasAll old requests
 total_several old [] = (Ok [], old, refl, λ h. absurd (cc h))
 total_several old (q ∷ qs) = let a = total_allocates old q in all_from old a.1 q qs a.0 a.2 a.3 (total_several a.1 qs)
-
-range_fault_known : (lo hi : ℕ) (r : Range) → range_fault lo hi r ≢ Some OutOfMemory
-range_fault_known lo hi r =
-    elim (ltb r.start lo) as (λ v. cond v (Some ResourceNotAvailable) (cond (eqb r.start MAX) (Some Overflow) (cond (ltb hi r.end) (Some ResourceNotAvailable) (cond (eqb r.end MAX) (Some Overflow) None))) ≢ Some OutOfMemory) [
-      | true ↦ λ k. cc k
-      | false ↦ elim (eqb r.start MAX) as (λ v. cond v (Some Overflow) (cond (ltb hi r.end) (Some ResourceNotAvailable) (cond (eqb r.end MAX) (Some Overflow) None)) ≢ Some OutOfMemory) [
-        | true ↦ λ k. cc k
-        | false ↦ elim (ltb hi r.end) as (λ v. cond v (Some ResourceNotAvailable) (cond (eqb r.end MAX) (Some Overflow) None) ≢ Some OutOfMemory) [
-          | true ↦ λ k. cc k
-          | false ↦ elim (eqb r.end MAX) as (λ v. cond v (Some Overflow) None ≢ Some OutOfMemory) [
-            | true ↦ λ k. cc k
-            | false ↦ λ k. cc k
-          ]
-        ]
-      ]
-    ]
-
-first_fault_known : (lo hi : ℕ) (rs : List Range) → first_fault lo hi rs ≢ Some OutOfMemory
-first_fault_known lo hi [] = λ k. cc k
-first_fault_known lo hi (r ∷ rs) =
-    elim (range_fault lo hi r) as (λ v. v ≢ Some OutOfMemory → or_else v (first_fault (r.end + 1) hi rs) ≢ Some OutOfMemory) [
-      | None ↦ λ n. first_fault_known (r.end + 1) hi rs
-      | Some e ↦ λ n. n
-    ] (range_fault_known lo hi r)
 
 total_held : (space : Range) (held : List Range) → (answer : Result AddressState Error) × MakesHeld space held answer × (answer ≢ Err OutOfMemory)
 unfolding MakesHeld
@@ -277,14 +254,14 @@ every_list old (Free r ∷ asked) =
       ap (λ (v : List Asked). Free r ∷ v) rest.3,
       All-cons (λ call. ¬ RunsOutOfMemory call) (Release r f.0) rest.0 (λ h. h) rest.4,
     )
-every_list old (MoveTo r t ∷ asked) =
-    let a = total_moves old r t in
+every_list old (MoveTo r request ∷ asked) =
+    let a = total_moves old r request in
     let rest = every_list a.1 asked in (
-      Move r t a.0 ∷ rest.0,
+      Move r request a.0 ∷ rest.0,
       rest.1,
       (a.1, a.2, rest.2),
-      ap (λ (v : List Asked). MoveTo r t ∷ v) rest.3,
-      All-cons (λ call. ¬ RunsOutOfMemory call) (Move r t a.0) rest.0 a.3 rest.4,
+      ap (λ (v : List Asked). MoveTo r request ∷ v) rest.3,
+      All-cons (λ call. ¬ RunsOutOfMemory call) (Move r request a.0) rest.0 a.3 rest.4,
     )
 every_list old (Clone ∷ asked) =
     let c = total_clones old in

@@ -10,7 +10,7 @@ use Rattle.vm_engine.specs.Answer.{Allocates, Frees, Makes}
 use Rattle.vm_engine.specs.Held.{MakesWithHeld}
 use Rattle.vm_engine.specs.Values.SavedTrees.{Saved, HasHeldKeys, HasTreeOf}
 use Rattle.vm_allocator.specs.Several.{AllocatesAll}
-use Rattle.vm_allocator.specs.Moves.{request_to, MovesRange}
+use Rattle.vm_allocator.specs.Moves.{MovesRange}
 use Rattle.vm_ranges.specs.Cloning.{Clones}
 use Rattle.vm_allocator.specs.Values.AllocatorValues.{EncodesAddresses}
 use Rattle.vm_allocator.specs.Values.RepairedValues.{EncodesRepaired}
@@ -18,12 +18,12 @@ use Rattle.vm_ranges.specs.declared.error.Error.{Error}
 use Rattle.vm_ranges.specs.declared.error.Error.TheVariants.{OutOfMemory}
 
 -- A call with its result: a request, which can have a window, several requests at once, the freeing of a range, the move of
--- a range to a start, or the creation of a clone.
+-- a range to the place of a request, or the creation of a clone.
 pub data Call : Type 0 where
   Allocation : Request → Result Range Error → Call
   Several : List Request → Result (List Range) Error → Call
   Release : Range → Result (Unit {0}) Error → Call
-  Move : Range → ℕ → Result Range Error → Call
+  Move : Range → Request → Result Range Error → Call
   Cloning : Result AddressState Error → Call
 
 -- A call without its result.
@@ -31,7 +31,7 @@ pub data Asked : Type 0 where
   Allocate : Request → Asked
   AllocateAll : List Request → Asked
   Free : Range → Asked
-  MoveTo : Range → ℕ → Asked
+  MoveTo : Range → Request → Asked
   Clone : Asked
 
 -- The call without its result.
@@ -39,7 +39,7 @@ abbrev pub asked_by : Call → Asked
 asked_by (Allocation request answer) = Allocate request
 asked_by (Several requests answer) = AllocateAll requests
 asked_by (Release r answer) = Free r
-asked_by (Move r t answer) = MoveTo r t
+asked_by (Move r request answer) = MoveTo r request
 asked_by (Cloning answer) = Clone
 
 -- The call returned OutOfMemory.
@@ -47,7 +47,7 @@ abbrev pub RunsOutOfMemory : Call → Type 0
 RunsOutOfMemory (Allocation request answer) = answer ≡ Err OutOfMemory
 RunsOutOfMemory (Several requests answer) = answer ≡ Err OutOfMemory
 RunsOutOfMemory (Release r answer) = ⊥
-RunsOutOfMemory (Move r t answer) = answer ≡ Err OutOfMemory
+RunsOutOfMemory (Move r request answer) = answer ≡ Err OutOfMemory
 RunsOutOfMemory (Cloning answer) = answer ≡ Err OutOfMemory
 
 -- In the state old the call has its result, and leaves the state new. After a clone is made, new is the state of the
@@ -56,7 +56,7 @@ abbrev pub IsCallFrom : AddressState → Call → AddressState → Type 0
 IsCallFrom old (Allocation request answer) new = Allocates old request answer new
 IsCallFrom old (Several requests answer) new = AllocatesAll old requests answer new
 IsCallFrom old (Release r answer) new = Frees old r answer new
-IsCallFrom old (Move r t answer) new = MovesRange old r t answer new
+IsCallFrom old (Move r request answer) new = MovesRange old r request answer new
 IsCallFrom old (Cloning answer) new = Clones old answer × (new ≡ result_unwrap_or answer old)
 
 -- The calls lead from the state old to the state new: each begins in the state that the call before it left.
@@ -113,12 +113,12 @@ pub record Reached : Type 0 where
   pub state : AddressState
   pub reached : IsReached calls state
 
--- The call allocated the range for the request. A move allocates as many addresses at its start.
+-- The call allocated the range for the request.
 abbrev pub Gives : Call → Request → Range → Type 0
 Gives (Allocation asked answer) request r = (asked ≡ request) × (answer ≡ Ok r)
 Gives (Several requests answer) request r = IfOk answer (λ ranges. Contains (zip requests ranges) (request, r))
 Gives (Release q answer) request r = ⊥
-Gives (Move q t answer) request r = (request_to q t ≡ request) × (answer ≡ Ok r)
+Gives (Move q asked answer) request r = (asked ≡ request) × (answer ≡ Ok r)
 Gives (Cloning answer) request r = ⊥
 
 -- A call allocated the range: with the requested length, at a multiple of the requested alignment, and in the window of the

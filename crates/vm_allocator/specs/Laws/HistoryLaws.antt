@@ -89,8 +89,8 @@ pub record ErrorsChangeNothing : Type 0 where
       Allocates old.state request (Err e) new → new ≡ old.state
   pub several : (old : Reached) (new : AddressState) (requests : List Request) (e : Error) →
       AllocatesAll old.state requests (Err e) new → new ≡ old.state
-  pub move : (old : Reached) (new : AddressState) (r : Range) (t : ℕ) (e : Error) →
-      MovesRange old.state r t (Err e) new → new ≡ old.state
+  pub move : (old : Reached) (new : AddressState) (r : Range) (request : Request) (e : Error) →
+      MovesRange old.state r request (Err e) new → new ≡ old.state
   pub release : (old : Reached) (new : AddressState) (r : Range) (e : Error) →
       Frees old.state r (Err e) new → new ≡ old.state
 
@@ -147,9 +147,9 @@ pub record StateDecides : Type 0 where
       (answer other : Result Range Error) → HaveSameState first.state second.state →
       Allocates first.state request answer new → Allocates second.state request other later →
       AgreeExceptSplits first.state answer new other later
-  pub move : (first second : Reached) (new later : AddressState) (r : Range) (t : ℕ)
+  pub move : (first second : Reached) (new later : AddressState) (r : Range) (request : Request)
       (answer other : Result Range Error) → HaveSameState first.state second.state →
-      MovesRange first.state r t answer new → MovesRange second.state r t other later →
+      MovesRange first.state r request answer new → MovesRange second.state r request other later →
       MovesAgreeExceptSplits first.state answer new other later
   pub several : (first second : Reached) (new later : AddressState) (requests : List Request)
       (answer other : Result (List Range) Error) → HaveSameState first.state second.state →
@@ -165,7 +165,7 @@ added_at_most [] = 0
 added_at_most (Allocate request ∷ asked) = added_at_most asked + 1
 added_at_most (AllocateAll requests ∷ asked) = added_at_most asked + length requests
 added_at_most (Free r ∷ asked) = added_at_most asked
-added_at_most (MoveTo r t ∷ asked) = added_at_most asked + 1
+added_at_most (MoveTo r request ∷ asked) = added_at_most asked + 1
 added_at_most (Clone ∷ asked) = added_at_most asked
 
 -- The same list of calls in the same state has the same results and the same last state. No call returns OutOfMemory, and
@@ -206,9 +206,9 @@ pub record EveryCallIsAnswered : Type 0 where
       Allocates old request answer new × (answer ≢ Err OutOfMemory)
   pub freed : (old : AddressState) (r : Range) →
       (answer : Result (Unit {0}) Error) × (new : AddressState) × Frees old r answer new
-  pub moved : (old : AddressState) (r : Range) (t : ℕ) →
+  pub moved : (old : AddressState) (r : Range) (request : Request) →
       (answer : Result Range Error) × (new : AddressState) ×
-      MovesRange old r t answer new × (answer ≢ Err OutOfMemory)
+      MovesRange old r request answer new × (answer ≢ Err OutOfMemory)
   pub cloned : (old : AddressState) →
       (answer : Result AddressState Error) × Clones old answer × (answer ≢ Err OutOfMemory)
 

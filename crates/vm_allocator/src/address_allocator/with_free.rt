@@ -1,12 +1,13 @@
 //! Creates an allocator of the ranges that are free in it.
-ghost use Rattle.std.specs.Prelude.{◌≡◌, ◌↔◌, ℕ, IfOk, IfErr};
-ghost use Rattle.std.specs.List.{Any};
+ghost use Rattle.std.specs.Prelude.{◌≡◌, ◌↔◌, ℕ, ◌+◌, None, IfOk, IfErr};
+ghost use Rattle.std.specs.List.{Contains};
 ghost use Rattle.vm_ranges.specs.ListErrors.{by_error};
-ghost use Rattle.vm_ranges.specs.Range.{IsIn};
+ghost use Rattle.vm_ranges.specs.Range.{Range, IsIn};
 ghost use Rattle.vm_engine.specs.Address.{IsAddressState, IsClear};
 ghost use Rattle.vm_engine.specs.Tree.Shape.{height_of, node_count, IsLowestHeight};
 ghost use Rattle.vm_allocator.specs.Allocator.{state_of, made_state};
 ghost use Rattle.vm_allocator.specs.Holes.{MakesWithFree, wrong_index, holes_after};
+ghost use Rattle.vm_allocator.specs.Checks.FreeChecks.{ChecksFree};
 
 use super::AddressAllocator;
 use std::alloc::{AllocError, Global};
@@ -45,7 +46,7 @@ impl AddressAllocator {
 
         // An address is clear if and only if it is in one of the ranges.
         ensures clear { IfOk result (λ allocator. (x : ℕ) →
-            IsClear (state_of allocator) x ↔ Any (λ r. IsIn r x) free.now) }
+            IsClear (state_of allocator) x ↔ ((r : Range) × Contains free.now r × IsIn r x)) }
         ensures low { IfOk result (λ allocator.
             IsLowestHeight (node_count allocator.tree) (height_of allocator.tree)) }
         ensures state { IfOk result (λ allocator. IsAddressState (state_of allocator)) }
@@ -72,7 +73,9 @@ impl AddressAllocator {
 fn check_free(
     first: &RangeInclusive,
     others: &[RangeInclusive],
-) -> std::result::Result<(RangeInclusive, u64), ListError> {
+) -> std::result::Result<(RangeInclusive, u64), ListError>
+    ensures { ChecksFree first.now others.now result }
+{
     let mut last = *first;
     let mut holes = 0;
     for (index, range) in others.iter().enumerate() {
@@ -90,12 +93,15 @@ fn check_free(
     Ok((last, holes))
 }
 
-/// Returns the holes between ranges in ascending order.
+/// Returns the holes between ranges. The ranges are in ascending order.
 fn holes_between(
     alloc: Global,
     first: &RangeInclusive,
     others: &[RangeInclusive],
-) -> std::result::Result<Vec<RangeInclusive>, AllocError> {
+) -> std::result::Result<Vec<RangeInclusive>, AllocError>
+    requires { wrong_index 1 (first.now.end + 1) others.now ≡ None }
+    ensures { IfOk result (λ holes. holes.items ≡ holes_after (first.now.end + 1) others.now) }
+{
     let mut holes = Vec::new(alloc);
     let mut end = first.end();
     for range in others {

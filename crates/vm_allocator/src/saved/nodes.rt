@@ -1,16 +1,18 @@
 //! Makes allocators of the nodes that a reader has read.
-ghost use Rattle.std.specs.Prelude.{◌≡◌, IfOk};
+ghost use Rattle.std.specs.Prelude.{◌≡◌, Err, IfOk};
 ghost use Rattle.vm_ranges.specs.Saving.{ReadsParts};
 ghost use Rattle.vm_ranges.specs.declared.saved.Condition.TheVariants.{Inside, Tree};
 ghost use Rattle.vm_engine.specs.Address.{IsAddressState};
-ghost use Rattle.vm_engine.specs.Checks.Spans.{StandsFor};
-ghost use Rattle.vm_engine.specs.Tree.Shape.{blocks};
-ghost use Rattle.vm_engine.specs.Values.SavedTrees.{Saved, held_keys, HasHeldKeys, HasTreeOf};
+ghost use Rattle.vm_ranges.specs.declared.saved.SavedError.TheVariants.{OutOfMemory};
+ghost use Rattle.vm_engine.specs.Checks.HeldKeys.{CanBeHeld};
+ghost use Rattle.vm_engine.specs.Tree.Shape.{blocks, height_of, node_count, IsLowestHeight};
+ghost use Rattle.vm_engine.specs.Values.NodesRead.{AreNodesOf};
+ghost use Rattle.vm_engine.specs.Values.SavedTrees.{Saved, HasHeldKeys, HasTreeOf};
 ghost use Rattle.vm_allocator.specs.Allocator.{state_of, made_state};
 
 use crate::address_allocator::AddressAllocator;
 use std::alloc::{AllocError, Global};
-use vm_engine::{IntervalTree, ReadNodes, Span, WrittenBlocks};
+use vm_engine::{IntervalTree, ReadNodes, WrittenBlocks};
 use vm_ranges::{RangeInclusive, SavedError};
 
 impl AddressAllocator {
@@ -25,13 +27,16 @@ impl AddressAllocator {
         alloc: Global,
         address_space: RangeInclusive,
         nodes: &ReadNodes,
-        root: Option<Span>,
     ) -> std::result::Result<Self, SavedError>
-        ensures answer { (t : Saved) → StandsFor root t → nodes.now.held ≡ held_keys t
+        ensures answer { (t : Saved) → AreNodesOf nodes.now t
             → ReadsParts (HasTreeOf address_space t) Tree (made_state result) }
+        // Memory can only run out if the keys can be held.
+        ensures memory { result ≡ Err OutOfMemory → CanBeHeld address_space nodes.now.held }
+        ensures low { IfOk result (λ allocator.
+            IsLowestHeight (node_count allocator.tree) (height_of allocator.tree)) }
         ensures state { IfOk result (λ allocator. IsAddressState (state_of allocator)) }
     {
-        let interval_tree = IntervalTree::from_nodes(alloc, address_space, nodes, root)?;
+        let interval_tree = IntervalTree::from_nodes(alloc, address_space, nodes)?;
         Ok(AddressAllocator {
             address_space,
             interval_tree,
@@ -40,7 +45,7 @@ impl AddressAllocator {
 
     /// Returns the allocator of a saved space in which the allocated keys of a saved tree are
     /// allocated. The tree can have no nodes, gaps between keys, free neighbours, no balance and any
-    /// heights.
+    /// heights. Its tree has the minimum height.
     ///
     /// # Errors
     ///
@@ -52,13 +57,16 @@ impl AddressAllocator {
         alloc: Global,
         address_space: RangeInclusive,
         nodes: &ReadNodes,
-        root: Option<Span>,
     ) -> std::result::Result<Self, SavedError>
-        ensures answer { (t : Saved) → StandsFor root t → nodes.now.held ≡ held_keys t
+        ensures answer { (t : Saved) → AreNodesOf nodes.now t
             → ReadsParts (HasHeldKeys address_space t) Inside (made_state result) }
+        // Memory can only run out if the keys can be held.
+        ensures memory { result ≡ Err OutOfMemory → CanBeHeld address_space nodes.now.held }
+        ensures low { IfOk result (λ allocator.
+            IsLowestHeight (node_count allocator.tree) (height_of allocator.tree)) }
         ensures state { IfOk result (λ allocator. IsAddressState (state_of allocator)) }
     {
-        let interval_tree = IntervalTree::from_nodes_repaired(alloc, address_space, nodes, root)?;
+        let interval_tree = IntervalTree::from_nodes_repaired(alloc, address_space, nodes)?;
         Ok(AddressAllocator {
             address_space,
             interval_tree,

@@ -48,13 +48,16 @@ tiled p s lo hi (b ∷ bs) t l e =
     ∙ ap (λ (v : Block). gap_before s lo ++ v ∷ bs) same)
     (state_cases b.state)
 
+-- The blocks of the state that a tiling has are its blocks.
+pub tiling_blocks : (space : Range) (bs : List Block) → TilesSpace space bs → blocks_of (record { space = space; held = held_of bs }) ≡ bs
+unfolding TilesSpace blocks_of
+tiling_blocks space bs t =
+    tiled Allocated space.start space.start space.end bs t (omega arith) (λ _. refl)
+    ∙ ap (λ (v : List Block). v ++ bs) (no_gap space.start space.start refl)
+
 -- The blocks of a tree's state are the blocks of the tree.
 pub tree_blocks : (s : Shape) → IsSpaceTree s → blocks_of (tree_state s) ≡ blocks s
-unfolding TilesSpace blocks_of
-tree_blocks s h =
-    let sp = space_of (blocks s) in
-    tiled Allocated sp.start sp.start sp.end (blocks s) h.tiling.tiles (omega arith) (λ _. refl)
-    ∙ ap (λ (v : List Block). v ++ blocks s) (no_gap sp.start sp.start refl)
+tree_blocks s h = tiling_blocks (space_of (blocks s)) (blocks s) h.tiling.tiles
 
 -- A gap has no held range.
 held_of-gap : (lo next : ℕ) (bs : List Block) → held_of (gap_before lo next ++ bs) ≡ held_of bs

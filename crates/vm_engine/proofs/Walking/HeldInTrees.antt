@@ -52,7 +52,7 @@ all_blocks (b ∷ bs) =
     (state_cases b.state)
 
 -- A tree of the maximum height has fewer than 2 ^ MAX_HEIGHT blocks.
-few_in_tree : (s : Shape) → height_of s ≤ MAX_HEIGHT → length (blocks s) < 2 ^ MAX_HEIGHT
+pub few_in_tree : (s : Shape) → height_of s ≤ MAX_HEIGHT → length (blocks s) < 2 ^ MAX_HEIGHT
 few_in_tree s h = omega (arith, node_count-blocks s, most_nodes s, power_grows (height_of s) MAX_HEIGHT h)
 
 pub few_held : (s : Shape) → height_of s ≤ MAX_HEIGHT → length (held_of (blocks s)) < 2 ^ MAX_HEIGHT

@@ -2,21 +2,25 @@
 //!
 //! A reader calls `begin` before it reads the fields of a node, and `end` after that. It has no list
 //! of nodes: a subtree is known by its span, and only the allocated keys of all subtrees are kept.
-ghost use Rattle.std.specs.Prelude.{◌≡◌, ◌+◌, ◌-◌, ◌<◌, ◌≤◌, ◌++◌, take, drop, IfOk, IfSome};
+//! The span of the root is kept beside them, so a tree is made of the nodes of one reader.
+ghost use Rattle.std.specs.Prelude.{◌≡◌, ◌+◌, ◌-◌, ◌<◌, ◌≤◌, ◌++◌, Err, take, drop, IfOk, IfSome};
 ghost use Rattle.std.specs.Vec.{vec_len};
 ghost use Rattle.vm_engine.specs.Address.{IsAddressState};
-ghost use Rattle.vm_engine.specs.Checks.Spans.{Arranges, EndsNode, StandsFor};
-ghost use Rattle.vm_engine.specs.Values.SavedTrees.{Saved, held_keys, HasHeldKeys, HasTreeOf};
+ghost use Rattle.vm_engine.specs.Checks.Spans.{Arranges, EndsNode};
+ghost use Rattle.vm_engine.specs.Checks.HeldKeys.{CanBeHeld, HoldsKeys};
+ghost use Rattle.vm_engine.specs.Tree.Shape.{height_of, node_count, IsLowestHeight};
+ghost use Rattle.vm_engine.specs.Values.SavedTrees.{Saved, HasHeldKeys, HasTreeOf};
 ghost use Rattle.vm_engine.specs.Tree.SpaceTree.{tree_state, made_tree};
 ghost use Rattle.vm_ranges.specs.Saving.{ReadsParts};
 ghost use Rattle.vm_ranges.specs.declared.saved.Condition.TheVariants.{Inside, Tree};
-ghost use Rattle.vm_engine.specs.Values.NodesRead.{BeginsNode, no_nodes};
+ghost use Rattle.vm_ranges.specs.declared.saved.SavedError.TheVariants.{OutOfMemory};
+ghost use Rattle.vm_engine.specs.Values.NodesRead.{AreNodesOf, BeginsNode, no_nodes, root_after};
 
 use super::span::{MAX_NESTING, Span, held_in, is_inside, is_tree_of, span_over};
 use crate::IntervalTree;
 use std::alloc::Global;
 use std::marker::Model;
-use vm_ranges::{Condition, NodeState, RangeInclusive, SavedError};
+use vm_ranges::{Condition, Error, NodeState, RangeInclusive, SavedError};
 
 /// The nodes of a saved tree that were read so far.
 #[derive(Drop)]
@@ -25,16 +29,16 @@ pub struct ReadNodes {
     held: Vec<RangeInclusive>,
     // The number of nodes that began and did not end.
     depth: u64,
+    // The span of the last node that ended in no other node.
+    root: Option<Span>,
 }
 
 impl Model for ReadNodes {
-    ghost use Rattle.vm_engine.specs.Values.NodesRead.{NodesRead, nodes_code};
+    ghost use Rattle.vm_engine.specs.Values.NodesRead.{NodesRead};
 
     ghost Value = { NodesRead };
 
-    ghost coded = { nodes_code };
-
-    ghost view = { λ n. record { held = n.held.items; depth = n.depth } };
+    ghost view = { λ n. record { held = n.held.items; depth = n.depth; root = n.root } };
 
     ghost invariant = { λ n. Unit {0} };
 }
@@ -47,6 +51,7 @@ impl ReadNodes {
         ReadNodes {
             held: Vec::new(alloc),
             depth: 0,
+            root: None,
         }
     }
 
@@ -68,7 +73,8 @@ impl ReadNodes {
     }
 
     /// Ends the node that began last, and returns the span of its subtree. A child that is absent is
-    /// `None`. The nodes of the children have ended right before, in any order.
+    /// `None`. The nodes of the children have ended right before, in any order, and their spans are the
+    /// results of their ends.
     ///
     /// After an error the keys can be in another order, so a reader stops there.
     ///
@@ -91,19 +97,39 @@ impl ReadNodes {
         ensures node { EndsNode self.old.held left (record { key = key; state = state }) right height
             result self.new.held }
         ensures depth { self.new.depth ≡ self.old.depth - 1 }
+        ensures root { IfOk result (λ span. self.new.root ≡ root_after self.old span) }
     {
         self.depth = self.depth.saturating_sub(1);
-        let Some(span) = span_over(&left, &key, state, &right, height) else {
-            return Err(SavedError::Violated(Condition::Keys));
-        };
-        let Some(place) = arrange(&mut self.held, held_in(&left), &key, held_in(&right)) else {
-            return Err(SavedError::Violated(Condition::Keys));
-        };
-        if state == NodeState::Allocated {
-            self.held.insert(place, key)?;
+        let span = end_in(&mut self.held, left, key, state, right, height)?;
+        if self.depth == 0 {
+            self.root = Some(span);
         }
         Ok(span)
     }
+}
+
+/// Ends a node in a list of keys, which then has the keys of its subtree in order. Returns its span.
+fn end_in(
+    list: &mut Vec<RangeInclusive>,
+    left: Option<Span>,
+    key: RangeInclusive,
+    state: NodeState,
+    right: Option<Span>,
+    height: u64,
+) -> std::result::Result<Span, SavedError>
+    ensures { EndsNode list.old.items left (record { key = key; state = state }) right height
+        result list.new.items }
+{
+    let Some(span) = span_over(&left, &key, state, &right, height) else {
+        return Err(SavedError::Violated(Condition::Keys));
+    };
+    let Some(place) = arrange(list, held_in(&left), &key, held_in(&right)) else {
+        return Err(SavedError::Violated(Condition::Keys));
+    };
+    if state == NodeState::Allocated {
+        list.insert(place, key)?;
+    }
+    Ok(span)
 }
 
 /// Puts the last keys of a list in order: first those of the left child of a node, then those of the
@@ -143,7 +169,8 @@ fn rotate(list: &mut Vec<RangeInclusive>, first: usize, count: usize)
 }
 
 impl IntervalTree {
-    /// Returns a tree of the space with the same allocated ranges as a saved tree.
+    /// Returns a tree of the space with the same allocated ranges as a saved tree. It has the minimum
+    /// height for its nodes.
     ///
     /// # Errors
     ///
@@ -154,24 +181,23 @@ impl IntervalTree {
         alloc: Global,
         space: RangeInclusive,
         nodes: &ReadNodes,
-        root: Option<Span>,
     ) -> std::result::Result<Self, SavedError>
-        ensures answer { (t : Saved) → StandsFor root t → nodes.now.held ≡ held_keys t
+        ensures answer { (t : Saved) → AreNodesOf nodes.now t
             → ReadsParts (HasTreeOf space t) Tree (made_tree result) }
+        ensures memory { result ≡ Err OutOfMemory → CanBeHeld space nodes.now.held }
+        ensures low { IfOk result (λ tree. IsLowestHeight (node_count tree) (height_of tree)) }
         ensures space { IfOk result (λ tree. (tree_state tree).space ≡ space) }
         ensures state { IfOk result (λ tree. IsAddressState (tree_state tree)) }
     {
-        if !is_tree_of(&space, &root) {
+        if !is_tree_of(&space, &nodes.root) {
             return Err(SavedError::Violated(Condition::Tree));
         }
-        let Ok(tree) = IntervalTree::with_held(alloc, space, &nodes.held) else {
-            return Err(SavedError::OutOfMemory);
-        };
-        Ok(tree)
+        tree_with(alloc, space, &nodes.held, Condition::Tree)
     }
 
     /// Returns a tree of the space with the same allocated ranges as a saved tree, which can have no
-    /// nodes, gaps between keys, free neighbours, no balance and any heights.
+    /// nodes, gaps between keys, free neighbours, no balance and any heights. The tree has the minimum
+    /// height for its nodes.
     ///
     /// # Errors
     ///
@@ -183,19 +209,40 @@ impl IntervalTree {
         alloc: Global,
         space: RangeInclusive,
         nodes: &ReadNodes,
-        root: Option<Span>,
     ) -> std::result::Result<Self, SavedError>
-        ensures answer { (t : Saved) → StandsFor root t → nodes.now.held ≡ held_keys t
+        ensures answer { (t : Saved) → AreNodesOf nodes.now t
             → ReadsParts (HasHeldKeys space t) Inside (made_tree result) }
+        ensures memory { result ≡ Err OutOfMemory → CanBeHeld space nodes.now.held }
+        ensures low { IfOk result (λ tree. IsLowestHeight (node_count tree) (height_of tree)) }
         ensures space { IfOk result (λ tree. (tree_state tree).space ≡ space) }
         ensures state { IfOk result (λ tree. IsAddressState (tree_state tree)) }
     {
-        if !is_inside(&space, &root) {
+        if !is_inside(&space, &nodes.root) {
             return Err(SavedError::Violated(Condition::Inside));
         }
-        let Ok(tree) = IntervalTree::with_held(alloc, space, &nodes.held) else {
-            return Err(SavedError::OutOfMemory);
-        };
-        Ok(tree)
+        tree_with(alloc, space, &nodes.held, Condition::Inside)
+    }
+}
+
+/// Returns the tree of a space with these ranges allocated. If they cannot be, the condition is violated.
+#[tactic(auto, using(crate::proofs::SavedNodes::HeldKeys::holding_keys))]
+fn tree_with(
+    alloc: Global,
+    space: RangeInclusive,
+    held: &[RangeInclusive],
+    condition: Condition,
+) -> std::result::Result<IntervalTree, SavedError>
+    ensures held { HoldsKeys space held.now condition (made_tree result) }
+    ensures low { IfOk result (λ tree. IsLowestHeight (node_count tree) (height_of tree)) }
+    ensures state { IfOk result (λ tree. IsAddressState (tree_state tree)) }
+{
+    match IntervalTree::with_held(alloc, space, held) {
+        Ok(tree) => Ok(tree),
+        Err(failure) => {
+            if failure.error == Error::OutOfMemory {
+                return Err(SavedError::OutOfMemory);
+            }
+            Err(SavedError::Violated(condition))
+        }
     }
 }

@@ -1,21 +1,31 @@
-use Rattle.std.proofs.Common.{refl, sym, ap, ◌∙◌, arith}
+use Rattle.std.proofs.Common.{◌≡◌, true, false, refl, sym, ap, ◌∙◌, arith}
+use Rattle.vm_ranges.specs.Range.{IsRange}
+use Rattle.vm_ranges.specs.declared.saved.Condition.TheVariants.{Inside}
+use Rattle.vm_engine.specs.Checks.HeldKeys.{HoldsKeys}
+use Rattle.vm_engine.specs.Checks.Spans.{is_inside}
+use Rattle.vm_engine.specs.Tree.SpaceTree.{made_tree}
 use Rattle.vm_engine.specs.Values.NodesRead.{NodesRead}
-use Rattle.vm_engine.specs.Tree.SpaceTree.{tree_state}
-use Rattle.vm_engine.proofs.SavedNodes.Roots.{made_space, repaired_state, repaired_none, repaired_made}
+use Rattle.vm_engine.proofs.SavedNodes.Roots.{repaired_none}
+use Rattle.vm_engine.proofs.SavedNodes.HeldKeys.{repaired_answer, held_if_memory, held_space}
 use Rattle.vm_engine.proofs.interval_tree.IntervalTree.from_nodes_repaired.Goals as goal
 
 pub returns-then-not-is_inside-clause-answer : goal.returns-then-not-is_inside-clause-answer
-returns-then-not-is_inside-clause-answer c = λ t st held. (refl, repaired_none c.args.space c.args.root t st (sym c.is_inside.ensures.inside ∙ c.if-not-is_inside.true))
+returns-then-not-is_inside-clause-answer c = λ t n.
+    let is : is_inside c.args.space c.args.nodes.now.root ≡ false = ap (λ (v : NodesRead). is_inside c.args.space v.root) (sym c.nodes.view_is) ∙ (sym c.is_inside.ensures.inside ∙ c.if-not-is_inside.true) in
+    (refl, repaired_none c.args.space c.args.nodes.now.root t n.span is)
 
-pub returns-in_default-clause-answer : goal.returns-in_default-clause-answer
-returns-in_default-clause-answer c = λ t st held. repaired_state c.args.space c.args.root t (omega arith) st (sym c.is_inside.ensures.inside ∙ c.if-not-is_inside.false)
+-- The keys of the reader are held.
+holds : (c : goal.After-tree_with) → HoldsKeys c.args.space c.args.nodes.now.held Inside (made_tree c.tree_with.result)
+holds c = rw (← ap (λ (v : NodesRead). v.held) c.nodes.view_is, ← c.deref.ensures.value) c.tree_with.ensures.held
 
 pub returns-clause-answer : goal.returns-clause-answer
-returns-clause-answer c = λ t st held.
-    let made = rw c.deref.ensures.value at c.in-Ok.ensures.answer in
-    repaired_made c.args.space c.args.root t c.nodes.inside.held.items (tree_state c.in-Ok.tree) (omega arith) st (sym c.is_inside.ensures.inside ∙ c.if-not-is_inside.false) (ap (λ (v : NodesRead). v.held) c.nodes.view_is ∙ held) made
+returns-clause-answer c = λ t n.
+    let is : is_inside c.args.space c.args.nodes.now.root ≡ true = ap (λ (v : NodesRead). is_inside c.args.space v.root) (sym c.nodes.view_is) ∙ (sym c.is_inside.ensures.inside ∙ c.if-not-is_inside.false) in
+    let range : IsRange c.args.space.start c.args.space.end = (omega arith, omega arith, λ e. omega (arith, e)) in
+    repaired_answer c.args.space c.args.nodes.now.root t c.args.nodes.now.held (made_tree c.tree_with.result) range n.span n.keys is (holds c)
+
+pub returns-clause-memory : goal.returns-clause-memory
+returns-clause-memory c = held_if_memory c.args.space c.args.nodes.now.held Inside c.tree_with.result (holds c)
 
 pub returns-clause-space : goal.returns-clause-space
-returns-clause-space c =
-    let made = rw c.deref.ensures.value at c.in-Ok.ensures.answer in
-    made_space c.args.space c.nodes.inside.held.items (tree_state c.in-Ok.tree) made
+returns-clause-space c = held_space c.args.space c.args.nodes.now.held Inside c.tree_with.result (holds c)
