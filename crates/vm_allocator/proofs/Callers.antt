@@ -167,7 +167,7 @@ allocated_same mid new r (Ok again) l h = allocated_at_start mid new (address_co
 allocated_same mid new r (Err e) l h = tt
 
 -- A held address is in a held range.
-range_of : (hs : List Range) (x : ℕ) → IsHeldAddress hs x → (q : Range) × IsHeldRange hs q × IsIn q x
+pub range_of : (hs : List Range) (x : ℕ) → IsHeldAddress hs x → (q : Range) × IsHeldRange hs q × IsIn q x
 range_of [] x h = absurd h
 range_of (y ∷ ys) x h =
     ⊎_elim (λ (i : IsIn y x). (y, inl refl, i)) (λ (k : IsHeldAddress ys x). let q = range_of ys x k in (q.0, inr q.1, q.2)) h

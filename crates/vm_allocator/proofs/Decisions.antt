@@ -2,13 +2,13 @@
 use Rattle.std.proofs.Common.{◌≡◌, ℕ, ◌%◌, ◌<◌, ◌≤◌, List, [], ◌∷◌, ap, arith, inl, inr, ⊎_elim, Option, Some, None, IfSome}
 use Rattle.std.proofs.lemmas.Bool.{cases_eq, cases_lt}
 use Rattle.std.specs.List.{Contains}
-use Rattle.vm_ranges.specs.Range.{Range, IsIn, Covers, address_count}
+use Rattle.vm_ranges.specs.Range.{Range, MAX, IsRange, IsIn, Covers, address_count}
 use Rattle.vm_ranges.specs.Request.{Request}
 use Rattle.vm_engine.specs.Address.{AddressState, IsClear, AreClear, IsPlace}
 use Rattle.vm_ranges.specs.declared.constraint.AllocPolicy.{AllocPolicy}
 use Rattle.vm_ranges.specs.declared.constraint.AllocPolicy.TheVariants.{FirstMatch, LastMatch, ExactMatch}
 use Rattle.vm_allocator.specs.Moves.{IsFor}
-use Rattle.vm_ranges.proofs.Decisions.{Decided, decided_both, decided_if, decided_up_to, decided_row, decided_in, decided_same}
+use Rattle.vm_ranges.proofs.Decisions.{Decided, decided_both, decided_if, decided_below, decided_up_to, decided_row, decided_in, decided_same}
 use Rattle.vm_engine.proofs.Blocks.PlainWords.{IsHeldAddress, IsHeld, contains_held, held_contains, all_miss, none_holds}
 
 decided_held_address : (hs : List Range) (x : ℕ) → Decided (IsHeldAddress hs x)
@@ -46,6 +46,10 @@ decided_among (x ∷ xs) r =
 pub decided_held : (hs : List Range) (r : Range) → Decided (Contains hs r)
 decided_held hs r = decided_if (IsHeld hs r) (Contains hs r) (contains_held hs r) (held_contains hs r) (decided_among hs r)
 
+-- Three facts together.
+decided_three : (P Q R : Type 0) → Decided P → Decided Q → Decided R → Decided (P × Q × R)
+decided_three P Q R p q r = decided_if (P × (Q × R)) (P × Q × R) (λ h. (h.0, h.1.0, h.1.1)) (λ h. (h.0, (h.1, h.2))) (decided_both _ _ p (decided_both _ _ q r))
+
 -- Whether a request is for exactly a range.
 decided_policy : (policy : AllocPolicy) (t : ℕ) → Decided (policy ≡ ExactMatch t)
 decided_policy FirstMatch t = inr (λ e. absurd (cc e))
@@ -68,5 +72,14 @@ decided_cover (Some w) r =
 pub decided_for : (r : Range) (request : Request) → Decided (IsFor r request)
 unfolding IsFor
 decided_for r request =
-    decided_both _ _ (decided_policy request.policy r.start)
-    (decided_both _ _ (cases_eq request.size (address_count r)) (decided_cover request.window r))
+    decided_if ((request.policy ≡ ExactMatch r.start) × (request.size ≡ address_count r) × IfSome request.window (λ w. Covers w r)) (IsFor r request) (λ h. h) (λ h. h)
+    (decided_three _ _ _ (decided_policy request.policy r.start) (cases_eq request.size (address_count r)) (decided_cover request.window r))
+
+-- Whether two numbers are the ends of a range.
+pub decided_range : (start end : ℕ) → Decided (IsRange start end)
+decided_range start end =
+    decided_three _ _ _ (decided_up_to start end) (decided_up_to end MAX)
+    (⊎_elim
+    (λ (zero : start ≡ 0). decided_if (end < MAX) (start ≡ 0 → end < MAX) (λ l _. l) (λ f. f zero) (decided_below end MAX))
+    (λ (other : start ≡ 0 → ⊥). inl (λ e. absurd (other e)))
+    (cases_eq start 0))

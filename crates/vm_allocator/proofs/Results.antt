@@ -9,3 +9,4 @@ pub mod HeldFaults
 pub mod LongestGap
 pub mod WindowResults
 pub mod Conflicts
+pub mod Holes

@@ -1,8 +1,8 @@
 -- The conflict of a request.
-use Rattle.std.proofs.Common.{◌≡◌, ◌↔◌, ℕ, ◌+◌, ◌-◌, ◌%◌, ◌<◌, ◌≤◌, List, [], ◌∷◌, Option, Some, None, refl, sym, ap, ◌∙◌, arith, inl, inr, subst}
+use Rattle.std.proofs.Common.{◌≡◌, ◌↔◌, ℕ, ◌+◌, ◌-◌, ◌%◌, ◌<◌, ◌≤◌, List, [], ◌∷◌, Option, Some, None, refl, sym, ap, ◌∙◌, arith, inl, inr, ⊎_elim, subst}
 use Rattle.vm_ranges.specs.Cases.{Unless}
 use Rattle.vm_ranges.specs.Range.{Range, MAX, Covers, span, address_count}
-use Rattle.vm_ranges.specs.Request.{Request, IsStartAligned, IsRequest}
+use Rattle.vm_ranges.specs.Request.{Request, ByPolicy, IsStartAligned, IsRequest}
 use Rattle.vm_ranges.specs.declared.constraint.AllocPolicy.{AllocPolicy}
 use Rattle.vm_ranges.specs.declared.constraint.AllocPolicy.TheVariants.{FirstMatch, LastMatch, ExactMatch}
 use Rattle.vm_engine.specs.Address.{AddressState, IsAddressState, IsPlace, AreClear}
@@ -12,6 +12,7 @@ use Rattle.vm_engine.proofs.Choosing.WindowPlaces.{LiesIn, lies_in, place_lying}
 use Rattle.vm_engine.proofs.Results.Meeting.{clear_if_none_meets}
 use Rattle.vm_engine.proofs.Results.Once.{place_anywhere}
 use Rattle.vm_allocator.specs.Conflicts.{with_first, IsConflictOf, IsConflict, ConflictDecides}
+use Rattle.vm_allocator.specs.Laws.WindowLaws.{WholeWindowKeepsConflicts}
 use Rattle.vm_allocator.specs.declared.address_allocator.conflicts.Conflict.{Conflict}
 use Rattle.vm_allocator.specs.declared.address_allocator.conflicts.Conflict.TheVariants.{OutsideSpace}
 use Rattle.vm_allocator.proofs.Results.WindowResults.{covered}
@@ -51,10 +52,11 @@ module _ (state : AddressState) (n a s : ℕ) (some : 0 < n) (aligned : s % a �
   window_decides : (window : Option Range) → IsConflictOf state window (span s n) answer → (answer ≡ None) ↔ IsPlace n a (within window state) s
   unfolding IsConflictOf
   window_decides None h = free_decides h
-  window_decides (Some w) (inl o) =
+  window_decides (Some w) (inl o) = (λ e. absurd (cc (e, o.1)), λ p. absurd (o.0 (in_space (Some w) p)))
+  window_decides (Some w) (inr (inside, inl o)) =
       (λ e. absurd (cc (e, o.1)), λ p. absurd (o.0 (in_window w (lies_in w n a state some s p))))
-  window_decides (Some w) (inr i) =
-      let free = free_decides i.1 in (
+  window_decides (Some w) (inr (inside, inr i)) =
+      let free = free_decides (inr (inside, i.1)) in (
         λ e. place_lying w n a state some s (covered w n s some i.0) (free.0 e),
         λ p. free.1 (place_anywhere (Some w) n a s state p),
       )
@@ -69,6 +71,21 @@ by_policy state size align (ExactMatch s) window answer valid r h = window_decid
 
 pub conflict_decides : (state : AddressState) (request : Request) (answer : Option Conflict) → IsAddressState state → IsRequest request → IsConflict state request answer → ConflictDecides state request answer
 conflict_decides state request answer valid r h = by_policy state request.size request.align request.policy request.window answer valid r h
+
+-- ---- A window that contains the space
+same_conflict : (state : AddressState) (size : ℕ) (policy : AllocPolicy) (w : Range) (answer : Option Conflict) → w.start ≤ state.space.start → state.space.end ≤ w.end →
+    ByPolicy policy (answer ≡ None) (answer ≡ None) (λ s. IsConflictOf state (Some w) (span s size) answer) ↔ ByPolicy policy (answer ≡ None) (answer ≡ None) (λ s. IsConflictOf state None (span s size) answer)
+unfolding IsConflictOf Covers
+same_conflict state size FirstMatch w answer low high = (λ h. h, λ h. h)
+same_conflict state size LastMatch w answer low high = (λ h. h, λ h. h)
+same_conflict state size (ExactMatch s) w answer low high = (
+  λ h. ⊎_elim (λ o. inl o) (λ i. ⊎_elim (λ o. absurd (o.0 (λ x k. let j = i.0 x k in (omega (arith, low, j.0), omega (arith, high, j.1))))) (λ k. inr (i.0, k.1)) i.1) h,
+  λ h. ⊎_elim (λ o. inl o) (λ i. inr (i.0, inr (λ x k. let j = i.0 x k in (omega (arith, low, j.0), omega (arith, high, j.1)), i.1))) h,
+)
+
+pub whole_conflict : WholeWindowKeepsConflicts
+unfolding IsConflict
+whole_conflict state request w answer low high = same_conflict state request.size request.policy w answer low high
 
 -- ---- The body
 -- A range that would end past MAX is in no range.

@@ -3,7 +3,7 @@ use Rattle.std.proofs.Common.{◌≡◌, ◌≢◌, ℕ, ◌+◌, ◌-◌, ◌<�
 use Rattle.std.proofs.lemmas.Bool.{cases_eq}
 use Rattle.std.specs.List.{Contains}
 use Rattle.vm_ranges.specs.Cases.{IfElse, Unless}
-use Rattle.vm_ranges.specs.Range.{Range, MAX, span}
+use Rattle.vm_ranges.specs.Range.{Range, MAX, IsRange, span}
 use Rattle.vm_engine.specs.Address.{AddressState, AreClear, IsPlace, IsLowestPlace, IsHighestPlace, holding, releasing}
 use Rattle.vm_ranges.specs.Request.{Request, IsStartAligned, ByConstraint}
 use Rattle.vm_engine.specs.Windows.{within}
@@ -15,10 +15,11 @@ use Rattle.vm_engine.specs.Held.{range_fault, or_else, first_fault, TOO_MANY_BLO
 use Rattle.vm_engine.specs.Tree.Blocks.{blocks_of}
 use Rattle.vm_allocator.specs.Several.{FailsBy, AllocatesAll}
 use Rattle.vm_allocator.specs.Moves.{IsFor, MovesRange}
+use Rattle.vm_allocator.specs.Holes.{holes_after, last_end, wrong_index, MakesWithFree}
 use Rattle.vm_allocator.specs.Histories.AddressHistories.{Allocation, Several, Release, Move, Cloning, Asked, Allocate, AllocateAll, Free, MoveTo, Clone, RunsOutOfMemory}
 use Rattle.vm_allocator.specs.Laws.HistoryLaws.{EveryCallIsAnswered, EveryListHasHistory}
 use Rattle.vm_ranges.specs.declared.error.Error.{Error}
-use Rattle.vm_ranges.specs.declared.error.Error.TheVariants.{OutOfMemory, Overflow, ResourceNotAvailable, Underflow, InvalidStateTransition, InvalidSize, InvalidAlignment, UnalignedAddress}
+use Rattle.vm_ranges.specs.declared.error.Error.TheVariants.{OutOfMemory, Overflow, ResourceNotAvailable, Underflow, InvalidRange, InvalidStateTransition, InvalidSize, InvalidAlignment, UnalignedAddress}
 use Rattle.vm_ranges.specs.declared.state.NodeState.TheVariants.{Allocated}
 use Rattle.vm_ranges.specs.declared.constraint.AllocPolicy.{AllocPolicy}
 use Rattle.vm_ranges.specs.declared.constraint.AllocPolicy.TheVariants.{FirstMatch, LastMatch, ExactMatch}
@@ -26,7 +27,7 @@ use Rattle.std.proofs.lemmas.List.Elements.{All-nil, All-cons}
 use Rattle.vm_ranges.proofs.Decisions.{Decided, decided_below, decided_up_to, decided_alignment, decided_start, lowest_or_none, highest_or_none}
 use Rattle.vm_engine.proofs.SavedNodes.HeldKeys.{first_fault_known}
 use Rattle.vm_allocator.proofs.Results.Moves.{move_refused, move_stays}
-use Rattle.vm_allocator.proofs.Decisions.{decided_all_clear, decided_place, decided_inside, decided_held, decided_for}
+use Rattle.vm_allocator.proofs.Decisions.{decided_all_clear, decided_place, decided_inside, decided_held, decided_for, decided_range}
 
 -- ---- A result of a relation, by deciding its conditions
 -- The relation is true for some result other than OutOfMemory and some next state.
@@ -212,10 +213,26 @@ total_makes_held base size held =
     (decided_below MAX (base + size - 1)))
     (cases_eq size 0)
 
+total_makes_with_free : (free : List Range) → (answer : Result AddressState Error) × MakesWithFree free answer × (answer ≢ Err OutOfMemory)
+total_makes_with_free [] = (Err Underflow, refl, λ h. absurd (cc h))
+total_makes_with_free (r ∷ rs) =
+    let space : Range = record { start = r.start; end = last_end r.end rs } in
+    elim (wrong_index 0 0 (r ∷ rs)) as (λ v. (answer : Result AddressState Error) × MatchOption v
+    (Unless (IsRange space.start space.end) (answer ≡ Err (InvalidRange space.start space.end)) (MakesHeld space (holes_after (r.end + 1) rs) answer))
+    (λ index. answer ≡ Err ResourceNotAvailable) × (answer ≢ Err OutOfMemory)) [
+      | None ↦
+          ⊎_elim
+          (λ (range : IsRange space.start space.end). let h = total_held space (holes_after (r.end + 1) rs) in (h.0, inr (range, h.1), h.2))
+          (λ (none : ¬ IsRange space.start space.end). (Err (InvalidRange space.start space.end), inl (none, refl), λ h. absurd (cc h)))
+          (decided_range space.start space.end)
+      | Some i ↦ (Err ResourceNotAvailable, refl, λ h. absurd (cc h))
+    ]
+
 pub every_call : EveryCallIsAnswered
 every_call = record {
   made = total_makes;
   made_with_held = total_makes_held;
+  made_with_free = total_makes_with_free;
   several = total_several;
   allocated = total_allocates;
   freed = total_frees;

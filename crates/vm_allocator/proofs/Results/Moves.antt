@@ -1,9 +1,9 @@
 -- The move of a held range: an allocation for a request, and then the freeing of the range.
-use Rattle.std.proofs.Common.{◌≡◌, ◌≢◌, ℕ, ◌+◌, ◌-◌, ◌%◌, ◌<◌, List, arith, refl, sym, ap, ◌∙◌, inl, inr, ⊎_elim, subst, IfSome, Result, Ok, Err}
+use Rattle.std.proofs.Common.{◌≡◌, ◌≢◌, ℕ, ◌+◌, ◌-◌, ◌%◌, ◌<◌, List, arith, refl, sym, ap, ◌∙◌, inl, inr, ⊎_elim, subst, IfSome, IfOk, Result, Ok, Err}
 use Rattle.std.specs.List.{Contains}
 use Rattle.vm_ranges.specs.Range.{Range, Covers, address_count}
 use Rattle.vm_ranges.specs.Alignment.{IsAlignment}
-use Rattle.vm_ranges.specs.Request.{Request, request_for, IsRequest, IsStartAligned, MakesConstraint, ByPolicy}
+use Rattle.vm_ranges.specs.Request.{Request, request_for, IsRequest, IsStartAligned, ByConstraint, MakesConstraint, ByPolicy}
 use Rattle.vm_engine.specs.Address.{AddressState, IsAddressState, IsPlace, releasing, with_range}
 use Rattle.vm_engine.specs.Answer.{Allocates, Frees, IsChosen}
 use Rattle.vm_ranges.specs.declared.error.Error.{Error}
@@ -83,7 +83,7 @@ pub ruleset moves = (move_refused, move_stays, move_back, own_range_fits, own_ra
 -- ---- A move to a start
 -- A request for some addresses at a start, at alignment 1, is valid.
 pub start_is_valid : (n t : ℕ) (e : Error) → 0 < n → ¬ MakesConstraint (request_for n 1 (ExactMatch t)) (Err e)
-unfolding MakesConstraint IsAlignment IsStartAligned
+unfolding MakesConstraint ByConstraint IsAlignment IsStartAligned
 start_is_valid n t e some m =
     let one : t % 1 ≡ 0 = grind arith in
     ⊎_elim
@@ -123,4 +123,19 @@ moved_to old new r q t m =
     k.1)
     m
 
-pub ruleset moves_to_starts = (start_is_valid, own_start, other_start, moved_to)
+pub move_to_fits : (old new : AddressState) (r : Range) (t : ℕ) (answer : Result Range Error) → MovesRange old r (request_to r t) answer new → IfOk answer (λ q. (q.start ≡ t) × (address_count q ≡ address_count r))
+move_to_fits old new r t (Ok q) m = moved_to old new r q t m
+move_to_fits old new r t (Err e) m = tt
+
+-- The request that is made is the one to the start.
+pub made_to : (r : Range) (t n : ℕ) (q : Request) → n ≡ address_count r → MakesConstraint (request_for n 1 (ExactMatch t)) (Ok q) → q ≡ request_to r t
+unfolding MakesConstraint ByConstraint
+made_to r t n q e m =
+    ⊎_elim
+    (λ z. absurd (cc (z.1)))
+    (λ z.
+    ⊎_elim
+    (λ a. absurd (cc (a.1)))
+    (λ a. ⊎_elim (λ s. absurd (cc (s.1))) (λ s. let same : q ≡ request_for n 1 (ExactMatch t) = cc (s.1) in same ∙ ap (λ (v : ℕ). request_for v 1 (ExactMatch t)) e) a.1)
+    z.1)
+    m

@@ -12,6 +12,7 @@ use Rattle.vm_engine.specs.Held.{MakesWithHeld}
 use Rattle.vm_engine.specs.Values.SavedTrees.{Saved}
 use Rattle.vm_allocator.specs.Several.{AllocatesEach, AllocatesAll}
 use Rattle.vm_allocator.specs.Moves.{MovesRange}
+use Rattle.vm_allocator.specs.Holes.{MakesWithFree}
 use Rattle.vm_engine.specs.Laws.AddressLaws.{DifferBySplit, AgreeExceptSplits, AreDisjoint}
 use Rattle.vm_ranges.specs.Cloning.{Clones}
 use Rattle.vm_engine.specs.Comparison.{AreEqual}
@@ -198,6 +199,8 @@ pub record EveryCallIsAnswered : Type 0 where
       (answer : Result AddressState Error) × Makes base size answer × (answer ≢ Err OutOfMemory)
   pub made_with_held : (base size : ℕ) (held : List Range) →
       (answer : Result AddressState Error) × MakesWithHeld base size held answer × (answer ≢ Err OutOfMemory)
+  pub made_with_free : (free : List Range) →
+      (answer : Result AddressState Error) × MakesWithFree free answer × (answer ≢ Err OutOfMemory)
   pub several : (old : AddressState) (requests : List Request) →
       (answer : Result (List Range) Error) × (new : AddressState) ×
       AllocatesAll old requests answer new × (answer ≢ Err OutOfMemory)

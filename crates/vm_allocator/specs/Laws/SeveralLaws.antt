@@ -8,7 +8,8 @@ use Rattle.vm_engine.specs.Answer.{Allocates, Makes}
 use Rattle.vm_engine.specs.Comparison.{AreEqual}
 use Rattle.vm_engine.specs.Held.{first_fault, MakesWithHeld}
 use Rattle.vm_allocator.specs.Several.{AllocatesEach, RefusesOne, FailsAll, exact_requests}
-use Rattle.vm_allocator.specs.Histories.AddressHistories.{Call, IsHistoryFrom}
+use Rattle.vm_allocator.specs.Holes.{MakesWithFree}
+use Rattle.vm_allocator.specs.Histories.AddressHistories.{Call, IsHistoryFrom, IsMadeWithHeld}
 use Rattle.vm_ranges.specs.declared.error.Error.{Error}
 use Rattle.vm_ranges.specs.declared.error.Error.TheVariants.{OutOfMemory}
 use Rattle.vm_ranges.specs.declared.constraint.AllocPolicy.TheVariants.{ExactMatch}
@@ -70,3 +71,9 @@ pub record FailureChangesNothing : Type 0 where
   pub equal : (old new : AddressState) (requests : List Request) (e : Error) → FailsAll old requests e new → AreEqual new old
   pub later : (old new last : AddressState) (requests : List Request) (e : Error) (calls : List Call) → FailsAll old requests e new →
       IsHistoryFrom new calls last ↔ IsHistoryFrom old calls last
+
+-- An allocator that is made of its free ranges is one that `with_held` makes. So all laws of histories are true for it.
+abbrev pub FreeIsHeld : Type 0
+FreeIsHeld =
+    (free : List Range) (made : AddressState) → All (λ r. IsRange r.start r.end) free →
+    MakesWithFree free (Ok made) → IsMadeWithHeld made

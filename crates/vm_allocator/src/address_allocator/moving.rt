@@ -84,7 +84,6 @@ impl AddressAllocator {
     /// - Only if the new range splits its gap:
     ///   - `Overflow` if the height of the tree is 48 or more.
     ///   - `OutOfMemory` if the allocation of a node fails.
-    #[tactic(auto, using(crate::proofs::Results::Moves::moves_to_starts, crate::proofs::Trees::trees))]
     pub fn move_range(
         &mut self,
         alloc: Global,
@@ -111,13 +110,16 @@ impl AddressAllocator {
         ensures answer { MovesRange (state_of self.old) key.now (request_to key.now start) result
             (state_of self.new) }
     {
-        let request = Constraint::new(key.len(), 1, AllocPolicy::ExactMatch(start))?;
+        let Ok(request) = Constraint::new(key.len(), 1, AllocPolicy::ExactMatch(start)) else {
+            unreachable!()
+        };
         self.move_constraint(alloc, key, request)
     }
 }
 
 /// Returns `true` if a request is for exactly this range: at its start, as long, and with the range in
 /// its window.
+#[tactic(auto, unfolding(crate::specs::Moves::IsFor))]
 fn is_for(range: &RangeInclusive, request: &Constraint) -> bool
     ensures { IsTestOf result (IsFor range.now request.now) }
 {

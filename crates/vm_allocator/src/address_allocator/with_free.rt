@@ -37,10 +37,8 @@ impl AddressAllocator {
     /// - `InvalidRange` if the space would have all 2^64 addresses.
     /// - `Overflow` if there are 2^48 holes or more.
     /// - `OutOfMemory` if an allocation fails.
-    pub fn with_free(
-        alloc: Global,
-        free: &[RangeInclusive],
-    ) -> std::result::Result<Self, ListError>
+    #[tactic(auto, using(crate::proofs::Results::Making::making_held, crate::proofs::Trees::trees))]
+    pub fn with_free(alloc: Global, free: &[RangeInclusive]) -> std::result::Result<Self, ListError>
         ensures answer { MakesWithFree free.now (made_state (by_error result)) }
         ensures index { IfErr result (λ failure. failure.index ≡ wrong_index 0 0 free.now) }
 
@@ -70,6 +68,7 @@ impl AddressAllocator {
 
 /// Returns the last range and the number of holes, or the error of the first range that does not start
 /// after the end of the range before it.
+#[tactic(auto, using(crate::proofs::Results::Holes::wrong_here, crate::proofs::Results::Holes::right_here, crate::proofs::Results::Holes::hole_here, crate::proofs::Results::Holes::no_hole))]
 fn check_free(
     first: &RangeInclusive,
     others: &[RangeInclusive],
@@ -94,6 +93,7 @@ fn check_free(
 }
 
 /// Returns the holes between ranges. The ranges are in ascending order.
+#[tactic(auto, using(crate::proofs::Results::Holes::in_order_first, crate::proofs::Results::Holes::in_order_rest, crate::proofs::Results::Holes::hole_here, crate::proofs::Results::Holes::no_hole))]
 fn holes_between(
     alloc: Global,
     first: &RangeInclusive,
@@ -105,7 +105,8 @@ fn holes_between(
     let mut holes = Vec::new(alloc);
     let mut end = first.end();
     for range in others {
-        if let Ok(hole) = RangeInclusive::new(end + 1, range.start() - 1) {
+        let start = range.start();
+        if let Ok(hole) = RangeInclusive::new(end + 1, start - 1) {
             holes.push(hole)?;
         }
         end = range.end();

@@ -3,6 +3,7 @@ ghost use Rattle.vm_allocator.specs.Several.{HeldAsAllocated};
 ghost use Rattle.vm_allocator.specs.Laws.SeveralLaws.{
   HeldIsEqual,
   FaultIsThatOfExactMatch,
+  FreeIsHeld,
   OneIsAllocated,
   PartsAreAllocatedInTurn,
   FailureChangesNothing,
@@ -26,4 +27,10 @@ fn several_are_allocated_in_turn()
     ensures one { OneIsAllocated }
     ensures parts { PartsAreAllocatedInTurn }
     ensures unchanged { FailureChangesNothing }
+{}
+
+/// States that an allocator which is made of its free ranges is as one that is made with its holes
+/// allocated.
+fn free_is_held()
+    ensures { FreeIsHeld }
 {}

@@ -17,7 +17,7 @@ use Rattle.vm_ranges.proofs.RangeCalls.{same_range}
 no_gap : (lo next : ℕ) → lo ≡ next → gap_before lo next ≡ []
 no_gap lo next h = rw (le-ltb lo next (omega arith)) refl
 
-gap : (lo next : ℕ) → lo < next → gap_before lo next ≡ free_block (record { start = lo; end = next - 1 }) ∷ []
+pub gap : (lo next : ℕ) → lo < next → gap_before lo next ≡ free_block (record { start = lo; end = next - 1 }) ∷ []
 gap lo next h = rw (lt-ltb lo next h) refl
 
 -- A free block is the gap at its position.

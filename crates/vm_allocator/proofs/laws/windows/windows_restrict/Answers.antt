@@ -1,3 +1,4 @@
+use Rattle.vm_allocator.proofs.Results.Conflicts.{whole_conflict}
 use Rattle.vm_allocator.proofs.Results.WindowResults.{inside, whole_window, kept_in_window}
 use Rattle.vm_allocator.proofs.laws.windows.windows_restrict.Goals as goal
 
@@ -9,3 +10,6 @@ returns-clause-whole c = whole_window
 
 pub returns-clause-kept : goal.returns-clause-kept
 returns-clause-kept c = kept_in_window
+
+pub returns-clause-conflicts : goal.returns-clause-conflicts
+returns-clause-conflicts c = whole_conflict
