@@ -334,15 +334,14 @@ fn read_subtree(from: &mut Reader<'_>, nodes: &mut ReadNodes) -> Read<Option<Spa
 /// Reads an address allocator. If `is_strict`, its tree must be one that this library writes or
 /// builds.
 pub(crate) fn read_space(from: &mut Reader<'_>, is_strict: bool) -> Read<AddressAllocator> {
-    let (mut nodes, mut space, mut root) = (ReadNodes::new(Global), None, None);
+    let (mut nodes, mut space) = (ReadNodes::new(Global), None);
     from.object([c"address_space", c"interval_tree"], |from, at| {
         if at == 0 {
             space = Some(read_range(from)?);
             return Ok(());
         }
         from.object([c"root"], |from, _| {
-            root = read_subtree(from, &mut nodes)?;
-            Ok(())
+            read_subtree(from, &mut nodes).map(|_| ())
         })
     })?;
     let allocator = if is_strict {
@@ -350,7 +349,7 @@ pub(crate) fn read_space(from: &mut Reader<'_>, is_strict: bool) -> Read<Address
     } else {
         AddressAllocator::from_nodes_repaired
     };
-    let made = allocator(Global, from.some(space)?, &nodes, root);
+    let made = allocator(Global, from.some(space)?, &nodes);
     made.map_err(|error| from.of_parts(error))
 }
 

@@ -26,6 +26,7 @@ mod requests;
 mod several;
 mod splits;
 mod windows;
+mod with_free;
 mod with_held;
 mod without_memory;
 

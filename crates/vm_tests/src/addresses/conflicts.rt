@@ -37,7 +37,7 @@ impl Reason {
 }
 
 /// Requests in the space [16, 79], in which [32, 39] and [56, 63] are allocated.
-const ROWS: [(Call, Reason); 24] = [
+const ROWS: [(Call, Reason); 25] = [
     (Exact(16, 1, 16), Nothing),
     (Exact(17, 1, 16), Taken(32, 39)),
     (Exact(16, 1, 40), Nothing),
@@ -54,15 +54,17 @@ const ROWS: [(Call, Reason); 24] = [
     (Exact(1, 1, 80), OfSpace(16, 79)),
     (Exact(1, 1, MAX), OfSpace(16, 79)),
     (Exact(MAX, 1, 16), OfSpace(16, 79)),
-    // One address is outside the window, which is the first reason.
+    // One address is outside the window.
     (ExactIn(8, 1, 24, (24, 31)), Nothing),
     (ExactIn(8, 1, 24, (24, 30)), OfWindow(24, 30)),
     (ExactIn(8, 1, 24, (25, 31)), OfWindow(25, 31)),
     (ExactIn(8, 1, 32, (32, 38)), OfWindow(32, 38)),
     (ExactIn(8, 1, 32, (32, 39)), Taken(32, 39)),
-    (ExactIn(2, 1, 79, (16, 79)), OfWindow(16, 79)),
+    // The space comes before the window.
+    (ExactIn(2, 1, 79, (16, 79)), OfSpace(16, 79)),
     (ExactIn(2, 1, 79, (16, 80)), OfSpace(16, 79)),
-    (ExactIn(MAX, 1, 16, (16, MAX)), OfWindow(16, MAX)),
+    (ExactIn(2, 1, 79, (16, 20)), OfSpace(16, 79)),
+    (ExactIn(MAX, 1, 16, (16, MAX)), OfSpace(16, 79)),
     // Other policies have no reason.
     (First(65, 1), Nothing),
     (LastIn(8, 1, (32, 39)), Nothing),
@@ -72,7 +74,7 @@ const ROWS: [(Call, Reason); 24] = [
 const AT_MAX: [(Call, Reason); 3] = [
     (Exact(1, 1, MAX), Nothing),
     (Exact(2, 1, MAX), OfSpace(MAX - 15, MAX)),
-    (ExactIn(2, 1, MAX, (1, MAX)), OfWindow(1, MAX)),
+    (ExactIn(2, 1, MAX, (1, MAX)), OfSpace(MAX - 15, MAX)),
 ];
 
 fn expect_reasons(rt: &impl Abort, space: &AddressAllocator, rows: &[(Call, Reason)]) {

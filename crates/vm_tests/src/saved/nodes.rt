@@ -164,12 +164,12 @@ const ROWS: [Row<'static>; 21] = [
     ),
 ];
 
-/// Ends each node of a row, and returns the span of the last one.
+/// Ends each node of a row.
 fn end_each(
     rt: &(impl Abort + AllocGlobal),
     nodes: &mut ReadNodes,
     row: &[Node],
-) -> std::result::Result<Option<Span>, (usize, SavedError)> {
+) -> std::result::Result<(), (usize, SavedError)> {
     let mut spans: Vec<Span> = list_for(rt, row.len());
     for (place, node) in row.iter().enumerate() {
         let ((start, end), state, (left, right), height) = *node;
@@ -180,7 +180,7 @@ fn end_each(
             Err(error) => return Err((place, error)),
         }
     }
-    Ok(spans.last().copied())
+    Ok(())
 }
 
 /// Checks that the result is an allocator with exactly these allocated ranges, or that memory ran out.
@@ -199,8 +199,8 @@ fn expect_held(
 fn damaged_nodes(rt: HostRuntime) {
     for (row, want, held) in &ROWS {
         let mut nodes = ReadNodes::new(rt.alloc());
-        let root = match (end_each(&rt, &mut nodes, row), want) {
-            (Ok(root), Exact | Repaired | NoSpace) => root,
+        match (end_each(&rt, &mut nodes, row), want) {
+            (Ok(()), Exact | Repaired | NoSpace) => {}
             (Err((_, OutOfMemory)), _) => continue,
             (answer, _) => {
                 let last = row.len().saturating_sub(1);
@@ -208,10 +208,10 @@ fn damaged_nodes(rt: HostRuntime) {
                 assert!(&rt; matches!(want, NoNode));
                 continue;
             }
-        };
+        }
         let space = range(&rt, 1, MAX);
-        let strict = AddressAllocator::from_nodes(rt.alloc(), space, &nodes, root);
-        let repaired = AddressAllocator::from_nodes_repaired(rt.alloc(), space, &nodes, root);
+        let strict = AddressAllocator::from_nodes(rt.alloc(), space, &nodes);
+        let repaired = AddressAllocator::from_nodes_repaired(rt.alloc(), space, &nodes);
         match want {
             Exact => {
                 expect_held(&rt, strict, held);

@@ -42,29 +42,29 @@ struct Space {
 #[serde(rename = "IntervalTree", deny_unknown_fields)]
 struct Tree {
     #[serde(deserialize_with = "root")]
-    root: (ReadNodes, Option<Span>),
+    root: ReadNodes,
 }
 
-fn root<'de, D: Deserializer<'de>>(from: D) -> Result<(ReadNodes, Option<Span>), D::Error> {
-    let (mut nodes, mut root) = (ReadNodes::new(Global), None);
+fn root<'de, D: Deserializer<'de>>(from: D) -> Result<ReadNodes, D::Error> {
+    let mut nodes = ReadNodes::new(Global);
     let tree = Subtree {
         nodes: &mut nodes,
-        link: &mut root,
+        link: &mut None,
     };
     tree.deserialize(from)?;
-    Ok((nodes, root))
+    Ok(nodes)
 }
 
 impl Space {
     /// Returns the allocator. If `is_strict`, the tree must be one that the proved code builds.
     fn allocator<E: Error>(self, is_strict: bool) -> Result<AddressAllocator, E> {
-        let (nodes, root) = self.interval_tree.root;
+        let nodes = self.interval_tree.root;
         let allocator = if is_strict {
             AddressAllocator::from_nodes
         } else {
             AddressAllocator::from_nodes_repaired
         };
-        allocator(Global, self.address_space, &nodes, root).map_err(invalid)
+        allocator(Global, self.address_space, &nodes).map_err(invalid)
     }
 }
 

@@ -63,7 +63,9 @@ impl AddressAllocator {
         key: &RangeInclusive,
         start: u64,
     ) -> Result<RangeInclusive> {
-        let request = Constraint::new(key.len(), 1, AllocPolicy::ExactMatch(start))?;
+        let Ok(request) = Constraint::new(key.len(), 1, AllocPolicy::ExactMatch(start)) else {
+            unreachable!()
+        };
         self.move_constraint(alloc, key, request)
     }
 }

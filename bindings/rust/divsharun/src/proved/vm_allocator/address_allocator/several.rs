@@ -17,7 +17,8 @@ impl AddressAllocator {
     /// An error leaves the same ranges allocated, because the ranges allocated so far are freed again.
     /// All later calls have the same results. The shape of the tree can differ, and so the height, the
     /// counts of later calls and `to_value`.
-    /// - `OutOfMemory` without an index if the allocation of the list fails. This is checked first.
+    /// - `OutOfMemory` without an index if the allocation of the list fails. This is first, and leaves the
+    ///   same tree.
     /// - The error of the first request that fails, with its index.
     pub fn allocate_all(
         &mut self,

@@ -31,10 +31,7 @@ impl AddressAllocator {
     /// - `InvalidRange` if the space would have all 2^64 addresses.
     /// - `Overflow` if there are 2^48 holes or more.
     /// - `OutOfMemory` if an allocation fails.
-    pub fn with_free(
-        alloc: Global,
-        free: &[RangeInclusive],
-    ) -> core::result::Result<Self, ListError> {
+    pub fn with_free(alloc: Global, free: &[RangeInclusive]) -> core::result::Result<Self, ListError> {
         let Some((first, others)) = free.split_first() else {
             return Err(Error::Underflow.into());
         };
@@ -75,7 +72,7 @@ fn check_free(
     Ok((last, holes))
 }
 
-/// Returns the holes between ranges in ascending order.
+/// Returns the holes between ranges. The ranges are in ascending order.
 fn holes_between(
     alloc: Global,
     first: &RangeInclusive,
@@ -84,7 +81,8 @@ fn holes_between(
     let mut holes = Vec::new(alloc);
     let mut end = first.end();
     for range in others {
-        if let Ok(hole) = RangeInclusive::new(end + 1, range.start() - 1) {
+        let start = range.start();
+        if let Ok(hole) = RangeInclusive::new(end + 1, start - 1) {
             holes.push(hole)?;
         }
         end = range.end();

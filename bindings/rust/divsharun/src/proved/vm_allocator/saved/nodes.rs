@@ -4,7 +4,7 @@
 
 use crate::proved::vm_allocator::address_allocator::AddressAllocator;
 use crate::rattle::{AllocError, Global};
-use crate::proved::vm_engine::{IntervalTree, ReadNodes, Span, WrittenBlocks};
+use crate::proved::vm_engine::{IntervalTree, ReadNodes, WrittenBlocks};
 use crate::proved::vm_ranges::{RangeInclusive, SavedError};
 
 impl AddressAllocator {
@@ -19,9 +19,8 @@ impl AddressAllocator {
         alloc: Global,
         address_space: RangeInclusive,
         nodes: &ReadNodes,
-        root: Option<Span>,
     ) -> core::result::Result<Self, SavedError> {
-        let interval_tree = IntervalTree::from_nodes(alloc, address_space, nodes, root)?;
+        let interval_tree = IntervalTree::from_nodes(alloc, address_space, nodes)?;
         Ok(AddressAllocator {
             address_space,
             interval_tree,
@@ -30,7 +29,7 @@ impl AddressAllocator {
 
     /// Returns the allocator of a saved space in which the allocated keys of a saved tree are
     /// allocated. The tree can have no nodes, gaps between keys, free neighbours, no balance and any
-    /// heights.
+    /// heights. Its tree has the minimum height.
     ///
     /// # Errors
     ///
@@ -42,9 +41,8 @@ impl AddressAllocator {
         alloc: Global,
         address_space: RangeInclusive,
         nodes: &ReadNodes,
-        root: Option<Span>,
     ) -> core::result::Result<Self, SavedError> {
-        let interval_tree = IntervalTree::from_nodes_repaired(alloc, address_space, nodes, root)?;
+        let interval_tree = IntervalTree::from_nodes_repaired(alloc, address_space, nodes)?;
         Ok(AddressAllocator {
             address_space,
             interval_tree,

@@ -4,12 +4,13 @@
 //!
 //! A reader calls `begin` before it reads the fields of a node, and `end` after that. It has no list
 //! of nodes: a subtree is known by its span, and only the allocated keys of all subtrees are kept.
+//! The span of the root is kept beside them, so a tree is made of the nodes of one reader.
 
 use crate::rattle::Vec;
 use super::span::{MAX_NESTING, Span, held_in, is_inside, is_tree_of, span_over};
 use crate::proved::vm_engine::IntervalTree;
 use crate::rattle::Global;
-use crate::proved::vm_ranges::{Condition, NodeState, RangeInclusive, SavedError};
+use crate::proved::vm_ranges::{Condition, Error, NodeState, RangeInclusive, SavedError};
 
 /// The nodes of a saved tree that were read so far.
 pub struct ReadNodes {
@@ -17,6 +18,8 @@ pub struct ReadNodes {
     held: Vec<RangeInclusive>,
     // The number of nodes that began and did not end.
     depth: u64,
+    // The span of the last node that ended in no other node.
+    root: Option<Span>,
 }
 
 impl ReadNodes {
@@ -25,6 +28,7 @@ impl ReadNodes {
         ReadNodes {
             held: Vec::new(alloc),
             depth: 0,
+            root: None,
         }
     }
 
@@ -44,7 +48,8 @@ impl ReadNodes {
     }
 
     /// Ends the node that began last, and returns the span of its subtree. A child that is absent is
-    /// `None`. The nodes of the children have ended right before, in any order.
+    /// `None`. The nodes of the children have ended right before, in any order, and their spans are the
+    /// results of their ends.
     ///
     /// After an error the keys can be in another order, so a reader stops there.
     ///
@@ -65,17 +70,33 @@ impl ReadNodes {
         height: u64,
     ) -> core::result::Result<Span, SavedError> {
         self.depth = self.depth.saturating_sub(1);
-        let Some(span) = span_over(&left, &key, state, &right, height) else {
-            return Err(SavedError::Violated(Condition::Keys));
-        };
-        let Some(place) = arrange(&mut self.held, held_in(&left), &key, held_in(&right)) else {
-            return Err(SavedError::Violated(Condition::Keys));
-        };
-        if state == NodeState::Allocated {
-            self.held.insert(place, key)?;
+        let span = end_in(&mut self.held, left, key, state, right, height)?;
+        if self.depth == 0 {
+            self.root = Some(span);
         }
         Ok(span)
     }
+}
+
+/// Ends a node in a list of keys, which then has the keys of its subtree in order. Returns its span.
+fn end_in(
+    list: &mut Vec<RangeInclusive>,
+    left: Option<Span>,
+    key: RangeInclusive,
+    state: NodeState,
+    right: Option<Span>,
+    height: u64,
+) -> core::result::Result<Span, SavedError> {
+    let Some(span) = span_over(&left, &key, state, &right, height) else {
+        return Err(SavedError::Violated(Condition::Keys));
+    };
+    let Some(place) = arrange(list, held_in(&left), &key, held_in(&right)) else {
+        return Err(SavedError::Violated(Condition::Keys));
+    };
+    if state == NodeState::Allocated {
+        list.insert(place, key)?;
+    }
+    Ok(span)
 }
 
 /// Puts the last keys of a list in order: first those of the left child of a node, then those of the
@@ -107,7 +128,8 @@ fn rotate(list: &mut Vec<RangeInclusive>, first: usize, count: usize) {
 }
 
 impl IntervalTree {
-    /// Returns a tree of the space with the same allocated ranges as a saved tree.
+    /// Returns a tree of the space with the same allocated ranges as a saved tree. It has the minimum
+    /// height for its nodes.
     ///
     /// # Errors
     ///
@@ -118,19 +140,16 @@ impl IntervalTree {
         alloc: Global,
         space: RangeInclusive,
         nodes: &ReadNodes,
-        root: Option<Span>,
     ) -> core::result::Result<Self, SavedError> {
-        if !is_tree_of(&space, &root) {
+        if !is_tree_of(&space, &nodes.root) {
             return Err(SavedError::Violated(Condition::Tree));
         }
-        let Ok(tree) = IntervalTree::with_held(alloc, space, &nodes.held) else {
-            return Err(SavedError::OutOfMemory);
-        };
-        Ok(tree)
+        tree_with(alloc, space, &nodes.held, Condition::Tree)
     }
 
     /// Returns a tree of the space with the same allocated ranges as a saved tree, which can have no
-    /// nodes, gaps between keys, free neighbours, no balance and any heights.
+    /// nodes, gaps between keys, free neighbours, no balance and any heights. The tree has the minimum
+    /// height for its nodes.
     ///
     /// # Errors
     ///
@@ -142,14 +161,28 @@ impl IntervalTree {
         alloc: Global,
         space: RangeInclusive,
         nodes: &ReadNodes,
-        root: Option<Span>,
     ) -> core::result::Result<Self, SavedError> {
-        if !is_inside(&space, &root) {
+        if !is_inside(&space, &nodes.root) {
             return Err(SavedError::Violated(Condition::Inside));
         }
-        let Ok(tree) = IntervalTree::with_held(alloc, space, &nodes.held) else {
-            return Err(SavedError::OutOfMemory);
-        };
-        Ok(tree)
+        tree_with(alloc, space, &nodes.held, Condition::Inside)
+    }
+}
+
+/// Returns the tree of a space with these ranges allocated. If they cannot be, the condition is violated.
+fn tree_with(
+    alloc: Global,
+    space: RangeInclusive,
+    held: &[RangeInclusive],
+    condition: Condition,
+) -> core::result::Result<IntervalTree, SavedError> {
+    match IntervalTree::with_held(alloc, space, held) {
+        Ok(tree) => Ok(tree),
+        Err(failure) => {
+            if failure.error == Error::OutOfMemory {
+                return Err(SavedError::OutOfMemory);
+            }
+            Err(SavedError::Violated(condition))
+        }
     }
 }
