@@ -16,8 +16,8 @@
 //! | `undevice ID` | [`DeviceManager::release`] |
 //!
 //! The output is `done`, `range START END`, `id N`, `device ID START END`, `yes` or `no`, or
-//! `error` with the reason. The program `divsharun-replay` runs the language on its standard input
-//! and output.
+//! `error` with the reason. The program `divsharun-replay` runs the lines of a file, or of its
+//! standard input.
 //!
 //! [`AddressAllocator::new`]: crate::AddressAllocator::new
 //! [`AddressAllocator::allocate`]: crate::AddressAllocator::allocate

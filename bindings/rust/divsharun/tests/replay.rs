@@ -1,10 +1,14 @@
 //! Guards against a replay program that differs from the proved one: its results, and its exit status
-//! if a read or a write fails.
+//! if a read or a write fails. The arguments are only of this program.
 
 use divsharun::replay::{run, ReplayError};
 use std::fs::File;
 use std::io::{self, Read, Write};
+use std::os::fd::OwnedFd;
+use std::os::unix::net::UnixStream;
 use std::process::{Command, Stdio};
+
+const USAGE: &str = "usage: divsharun-replay [FILE]";
 
 /// Lines, and the result of each.
 const LINES: [(&str, &str); 14] = [
@@ -67,28 +71,74 @@ fn failed_reads_and_writes_are_errors() {
     assert_eq!(run(input().as_bytes(), Fails), Err(ReplayError::Write));
 }
 
-/// Runs the program on the lines. Returns its exit status and its output.
-fn program(output: Stdio) -> (Option<i32>, String) {
+/// Runs the program. Returns its exit status, its output and its standard error.
+fn program(arguments: &[&str], input: Stdio, output: Stdio) -> (Option<i32>, String, String) {
     let mut program = Command::new(env!("CARGO_BIN_EXE_divsharun-replay"));
-    let mut child = program
-        .stdin(Stdio::piped())
-        .stdout(output)
-        .spawn()
-        .unwrap();
-    let mut lines = child.stdin.take().unwrap();
-    lines.write_all(input().as_bytes()).unwrap();
-    drop(lines);
+    program.args(arguments).stdin(input).stdout(output);
+    let child = program.stderr(Stdio::piped()).spawn().unwrap();
     let done = child.wait_with_output().unwrap();
-    (done.status.code(), String::from_utf8(done.stdout).unwrap())
+    let text = |bytes| String::from_utf8(bytes).unwrap();
+    (done.status.code(), text(done.stdout), text(done.stderr))
+}
+
+/// Writes a file of lines. Returns its path.
+fn file_of(name: &str, lines: &str) -> String {
+    let path = format!("{}/{name}", env!("CARGO_TARGET_TMPDIR"));
+    std::fs::write(&path, lines).unwrap();
+    path
 }
 
 #[test]
-fn the_program_ends_with_a_status() {
-    assert_eq!(program(Stdio::piped()), (Some(0), output()));
-    let full = File::options().write(true).open("/dev/full").unwrap();
-    assert_eq!(program(full.into()).0, Some(2));
-    let folder = File::open("/").unwrap();
-    let mut program = Command::new(env!("CARGO_BIN_EXE_divsharun-replay"));
-    let done = program.stdin(folder).output().unwrap();
-    assert_eq!((done.status.code(), done.stdout), (Some(1), vec![]));
+fn the_program_reads_its_input_or_a_file() {
+    let (lines, file) = (file_of("lines", &input()), file_of("a file", "undevice\n"));
+    let (file, output) = (&file[..], &output()[..]);
+    let version = concat!("divsharun-replay ", env!("CARGO_PKG_VERSION"), "\n");
+    // The arguments, and the status, the output and a part of the error that they lead to.
+    for (arguments, status, output, part) in [
+        (&[][..], 0, output, ""),
+        (&["-"], 0, output, ""),
+        (&[file], 0, "error line\n", ""),
+        (&["--", file], 0, "error line\n", ""),
+        (&["--version"], 0, version, ""),
+        (&["--unknown"], 2, "", USAGE),
+        (&[file, file], 2, "", USAGE),
+        (&["no such"], 1, "", "replay: no such: "),
+        (&["--", "-"], 1, "", "replay: -: "),
+        (&["/"], 1, "", "replay: /: "),
+    ] {
+        let input = File::open(&lines).unwrap().into();
+        let (code, printed, errors) = program(arguments, input, Stdio::piped());
+        assert_eq!(
+            (code, &printed[..]),
+            (Some(status), output),
+            "{arguments:?}"
+        );
+        assert!(errors.contains(part), "{arguments:?}: {errors}");
+        assert_eq!(errors.lines().count(), part.lines().count(), "{errors}");
+    }
+    let (code, help, errors) = program(&["--help"], Stdio::null(), Stdio::piped());
+    assert!(help.starts_with(USAGE), "{help}");
+    assert_eq!((code, &errors[..]), (Some(0), ""));
+}
+
+#[test]
+fn the_program_reports_a_failed_write() {
+    for arguments in [&["-"], &["--help"]] {
+        let input = File::open(file_of("lines to a full device", &input())).unwrap();
+        let full = File::options().write(true).open("/dev/full").unwrap();
+        let (code, _, errors) = program(arguments, input.into(), full.into());
+        assert_eq!((code, errors.lines().count()), (Some(2), 1), "{errors}");
+    }
+}
+
+#[test]
+fn the_program_prints_the_results_before_a_failed_read() {
+    // If one end of a socket is closed with unread bytes, the other end fails after its lines.
+    let (mut near, mut far) = UnixStream::pair().unwrap();
+    far.write_all(b"unread").unwrap();
+    near.write_all(input().as_bytes()).unwrap();
+    drop(near);
+    let (code, printed, errors) = program(&[], OwnedFd::from(far).into(), Stdio::piped());
+    assert_eq!((code, printed), (Some(1), output()));
+    assert!(errors.contains("replay: standard input: "), "{errors}");
 }
