@@ -1,1 +1,1 @@
-compile_error!("this serde is empty: with a registry, run `cargo test -p divsharun --features serde` in bindings/rust");
+compile_error!("this serde is empty: with a registry, run `cargo test` in bindings/rust/patched");
