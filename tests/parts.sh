@@ -1,7 +1,7 @@
 # shellcheck shell=bash
-# Parts of a check. tests/all, tests/quick, tests/plain_rust and tests/c_library source this file at the top
-# of the repository. Each part is named when it begins, and finish_parts prints the time of each. Output
-# that only matters if a part fails goes to the folder $scratch.
+# Parts of a check. tests/all, tests/plain, tests/quick, tests/plain_rust and tests/c_library source this file
+# at the top of the repository. Each part is named when it begins, and finish_parts prints the time of each.
+# Output that only matters if a part fails goes to the folder $scratch.
 scratch=$(mktemp -d) || exit 1
 trap 'rm -rf "$scratch"' EXIT
 log=$scratch/log times=$scratch/times passed_parts=0 failed_parts=()
@@ -37,14 +37,6 @@ quietly() { # command ..: shows the end of its output if it fails
 }
 
 in_folder() { (cd "$1" && shift && "$@"); } # folder, command ..
-
-rules() { # command ..: runs it for each check of texts, up to the first that fails
-    local rule
-    for rule in count_rule error_rule; do
-        "$@" "tests/$rule" && "$@" "tests/$rule" --mutants || return 1
-    done
-    "$@" tests/pages
-}
 
 finish_parts() { # name of the check
     echo "== minutes and seconds that each part took"
