@@ -2,8 +2,9 @@
 //!
 //! The lowest free id is always allocated first, so the ids are close together, and a vector takes
 //! less time than a map.
-ghost use Rattle.std.specs.Prelude.{◌≡◌, ℕ, ◌+◌, ◌^◌, ◌<◌, ◌≤◌, length, max, map as map_list, IfOk, OnOk, OnErr};
-ghost use Rattle.std.specs.Iterator.{YieldsFirst, YieldsLast, item_count};
+ghost use Rattle.std.specs.Prelude.{◌≡◌, ℕ, ◌+◌, ◌^◌, ◌<◌, ◌≤◌, length, max, map as map_list, Some, IfOk, IfSome, OnOk, OnErr};
+ghost use Rattle.std.specs.Iterator.{YieldsFirst, YieldsLast, UpTo, at_most, item_count};
+ghost use Rattle.std.specs.Iterator.SizeHint.{IsWithinCount};
 ghost use Rattle.std.specs.FinMap as map;
 ghost use Rattle.vm_devices.specs.Queries.{device_of};
 ghost use Rattle.vm_devices.specs.Slots.{slot_entries};
@@ -217,7 +218,11 @@ impl<'a> Iterator for Devices<'a> {
     }
 
     /// Returns the number of devices that are left, as both bounds.
-    fn size_hint(&self) -> (usize, Option<usize>) {
+    fn size_hint(&self) -> (usize, Option<usize>)
+        ensures exact { result ≡ (length self.now, Some (length self.now)) }
+        ensures lower { IsWithinCount result.0 (at_most (length self.now)) }
+        ensures upper { IfSome result.1 (UpTo (at_most (length self.now))) }
+    {
         (self.left, Some(self.left))
     }
 }

@@ -2,8 +2,9 @@
 //! and the numbers of gaps and of free addresses.
 //!
 //! A gap is a run of free addresses with no free address next to it. Each free block is a gap.
-ghost use Rattle.std.specs.Prelude.{◌≡◌, length};
-ghost use Rattle.std.specs.Iterator.{YieldsFirst, YieldsLast, item_count};
+ghost use Rattle.std.specs.Prelude.{◌≡◌, Some, IfSome, length};
+ghost use Rattle.std.specs.Iterator.{YieldsFirst, YieldsLast, UpTo, at_most, item_count};
+ghost use Rattle.std.specs.Iterator.SizeHint.{IsWithinCount};
 ghost use Rattle.vm_engine.specs.Queries.{gaps_of, longest_of, count_of, IsGapAt, meeting};
 ghost use Rattle.vm_engine.specs.Tree.SpaceTree.{tree_state};
 
@@ -102,7 +103,12 @@ impl<'a> Iterator for Gaps<'a> {
         Some(gap)
     }
 
-    fn size_hint(&self) -> (usize, Option<usize>) {
+    /// Returns the number of gaps that are left, as both bounds.
+    fn size_hint(&self) -> (usize, Option<usize>)
+        ensures exact { result ≡ (length self.now, Some (length self.now)) }
+        ensures lower { IsWithinCount result.0 (at_most (length self.now)) }
+        ensures upper { IfSome result.1 (UpTo (at_most (length self.now))) }
+    {
         (self.left, Some(self.left))
     }
 }

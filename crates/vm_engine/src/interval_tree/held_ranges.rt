@@ -1,7 +1,8 @@
 //! Queries about the allocated ranges.
-ghost use Rattle.std.specs.Prelude.{◌≡◌, ◌↔◌, IsTrue, length};
+ghost use Rattle.std.specs.Prelude.{◌≡◌, ◌↔◌, IsTrue, Some, IfSome, length};
 ghost use Rattle.std.specs.List.{Contains};
-ghost use Rattle.std.specs.Iterator.{YieldsFirst, YieldsLast, item_count};
+ghost use Rattle.std.specs.Iterator.{YieldsFirst, YieldsLast, UpTo, at_most, item_count};
+ghost use Rattle.std.specs.Iterator.SizeHint.{IsWithinCount};
 ghost use Rattle.vm_engine.specs.Queries.{IsHeldAt, meeting};
 ghost use Rattle.vm_engine.specs.Tree.SpaceTree.{tree_state};
 
@@ -101,7 +102,12 @@ impl<'a> Iterator for HeldRanges<'a> {
         Some(range)
     }
 
-    fn size_hint(&self) -> (usize, Option<usize>) {
+    /// Returns the number of allocated ranges that are left, as both bounds.
+    fn size_hint(&self) -> (usize, Option<usize>)
+        ensures exact { result ≡ (length self.now, Some (length self.now)) }
+        ensures lower { IsWithinCount result.0 (at_most (length self.now)) }
+        ensures upper { IfSome result.1 (UpTo (at_most (length self.now))) }
+    {
         (self.left, Some(self.left))
     }
 }
