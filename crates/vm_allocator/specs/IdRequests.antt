@@ -1,6 +1,6 @@
 -- The results of calls that allocate a given id, an id of a window, or several ids.
 use Rattle.std.specs.Prelude.{◌≡◌, ℕ, ◌+◌, ◌-◌, ◌<◌, ◌≤◌, ◌⊎◌, ◌||◌, not, nat_lt, if◌then◌else◌, List, [], ◌∷◌, length, take, Option, Some, None, MatchOption, Result, Ok, Err}
-use Rattle.std.specs.List.{filter, range_with_len}
+use Rattle.std.specs.List.{Contains, filter, range_with_len}
 use Rattle.std.specs.FinSet as set
 use Rattle.vm_ranges.specs.Cases.{IfElse, Unless}
 use Rattle.vm_ranges.specs.declared.error.Error.{Error}
@@ -76,13 +76,22 @@ fault_of_held lo hi next (i ∷ is) =
     else if nat_lt i next then Some ResourceNotAvailable
     else fault_of_held lo hi (i + 1) is
 
+-- The list skips an id: an id from lo up to an id of the list is not in the list.
+pub record SkipsId (lo : ℕ) (held : List ℕ) : Type 0 where
+  pub skipped : ℕ
+  pub above : ℕ
+  pub between : (lo ≤ skipped) × (skipped < above)
+  pub listed : Contains held above
+  pub not_listed : ¬ Contains held skipped
+
 -- The result of `with_held` for the ids from lo to hi. The first condition that is true decides:
 -- - InvalidRange if hi is below lo.
 -- - The error of the first id that is wrong.
--- - Otherwise the ids are allocated in a new allocator, or the result is OutOfMemory.
+-- - Otherwise the ids are allocated in a new allocator, or the result is OutOfMemory. A list that skips no id needs no
+--   memory.
 unfoldable pub MakesWithHeld : ℕ → ℕ → List ℕ → Result IdState Error → Type 0
 MakesWithHeld lo hi held answer =
     IfElse (hi < lo) (answer ≡ Err (InvalidRange lo hi))
     (MatchOption (fault_of_held lo hi lo held)
-    ((answer ≡ Ok (holding_ids held (new_ids lo hi))) ⊎ (answer ≡ Err OutOfMemory))
+    ((answer ≡ Ok (holding_ids held (new_ids lo hi))) ⊎ (SkipsId lo held × (answer ≡ Err OutOfMemory)))
     (λ e. answer ≡ Err e))

@@ -1,11 +1,11 @@
 -- Every call of an id allocator has a result, so every list of calls has a history.
-use Rattle.std.proofs.Common.{◌≡◌, ◌≢◌, ℕ, ◌+◌, ◌<◌, ◌≤◌, ◌⊎◌, List, [], ◌∷◌, length, take, true, false, refl, ap, arith, inl, inr, ⊎_elim, Option, Some, None, Result, Ok, Err}
+use Rattle.std.proofs.Common.{◌≡◌, ◌≢◌, ℕ, ◌+◌, ◌<◌, ◌≤◌, ◌⊎◌, ◌||◌, Bool, nat_lt, if◌then◌else◌, List, [], ◌∷◌, length, take, true, false, refl, ap, arith, inl, inr, ⊎_elim, Option, Some, None, Result, Ok, Err}
 use Rattle.std.specs.Option.{MatchOption}
 use Rattle.std.proofs.lemmas.Bool.{cases_eq, cases_Bool, both_ways}
 use Rattle.std.proofs.lemmas.List.Elements.{All-nil, All-cons}
 use Rattle.std.specs.FinSet as set
 use Rattle.vm_allocator.specs.Ids.{MAX_ID, IdState, IsOfRange, WasEverAllocated, IsHeld, IsNotHeld, IsLowestNotHeld, AreAllHeld, new_ids, holding_id, releasing_id, MakesIds, ByLowestNotHeld, AllocatesId, PeeksId, FreesId}
-use Rattle.vm_allocator.specs.IdRequests.{free_ids, holding_ids, HoldsId, AllocatesExactId, IsNotHeldIn, IsLowestNotHeldIn, IsNoneNotHeldIn, AllocatesIdIn, AllocatesIds, fault_of_held, MakesWithHeld}
+use Rattle.vm_allocator.specs.IdRequests.{free_ids, holding_ids, HoldsId, AllocatesExactId, IsNotHeldIn, IsLowestNotHeldIn, IsNoneNotHeldIn, AllocatesIdIn, AllocatesIds, fault_of_held, SkipsId, MakesWithHeld}
 use Rattle.vm_ranges.specs.Cloning.{Clones}
 use Rattle.vm_allocator.specs.Histories.IdHistories.{Allocation, ExactAllocation, WindowAllocation, SeveralAllocations, Release, Cloning, IdAsked, Allocate, AllocateExact, AllocateIn, AllocateSeveral, Free, Clone, RunsOutOfMemory}
 use Rattle.vm_allocator.specs.Laws.IdHistoryLaws.{EveryIdCallIsAnswered, EveryIdListHasHistory}
@@ -142,16 +142,30 @@ total_several old count =
     (Ok (take count (free_ids old)), holding_ids (take count (free_ids old)) old, inr (enough, inl (refl, refl)), λ h. absurd (cc h)))
     (decided_below (length (free_ids old)) count)
 
-by_fault : (lo hi : ℕ) (held : List ℕ) (o : Option Error) → (answer : Result IdState Error) × MatchOption o ((answer ≡ Ok (holding_ids held (new_ids lo hi))) ⊎ (answer ≡ Err OutOfMemory)) (λ e. answer ≡ Err e)
-by_fault lo hi held None = (Ok (holding_ids held (new_ids lo hi)), inl refl)
-by_fault lo hi held (Some e) = (Err e, refl)
+-- The error of a wrong id is not OutOfMemory.
+one_fault : (outside below : Bool) (i : ℕ) (others : Option Error) → others ≢ Some OutOfMemory →
+    (if outside then Some (OutOfRange i) else if below then Some ResourceNotAvailable else others) ≢ Some OutOfMemory
+one_fault true below i others n = λ h. absurd (cc h)
+one_fault false true i others n = λ h. absurd (cc h)
+one_fault false false i others n = n
 
-total_makes_with_held : (lo hi : ℕ) (held : List ℕ) → (answer : Result IdState Error) × MakesWithHeld lo hi held answer
+plain_fault : (lo hi next : ℕ) (held : List ℕ) → fault_of_held lo hi next held ≢ Some OutOfMemory
+plain_fault lo hi next [] = λ h. absurd (cc h)
+plain_fault lo hi next (i ∷ is) =
+    one_fault (nat_lt i lo || nat_lt hi i) (nat_lt i next) i (fault_of_held lo hi (i + 1) is) (plain_fault lo hi (i + 1) is)
+
+by_fault : (lo hi : ℕ) (held : List ℕ) (o : Option Error) → o ≢ Some OutOfMemory →
+    (answer : Result IdState Error) × MatchOption o ((answer ≡ Ok (holding_ids held (new_ids lo hi))) ⊎ (SkipsId lo held × (answer ≡ Err OutOfMemory))) (λ e. answer ≡ Err e)
+    × (answer ≢ Err OutOfMemory)
+by_fault lo hi held None n = (Ok (holding_ids held (new_ids lo hi)), inl refl, λ h. absurd (cc h))
+by_fault lo hi held (Some e) n = (Err e, refl, λ h. let is : e ≡ OutOfMemory = cc h in n (ap Some is))
+
+total_makes_with_held : (lo hi : ℕ) (held : List ℕ) → (answer : Result IdState Error) × MakesWithHeld lo hi held answer × (answer ≢ Err OutOfMemory)
 unfolding MakesWithHeld
 total_makes_with_held lo hi held =
     ⊎_elim
-    (λ (no_range : hi < lo). (Err (InvalidRange lo hi), inl (no_range, refl)))
-    (λ (range : hi < lo → ⊥). let m = by_fault lo hi held (fault_of_held lo hi lo held) in (m.0, inr (range, m.1)))
+    (λ (no_range : hi < lo). (Err (InvalidRange lo hi), inl (no_range, refl), λ h. absurd (cc h)))
+    (λ (range : hi < lo → ⊥). let m = by_fault lo hi held (fault_of_held lo hi lo held) (plain_fault lo hi lo held) in (m.0, inr (range, m.1), m.2))
     (decided_below hi lo)
 
 pub every_call : EveryIdCallIsAnswered

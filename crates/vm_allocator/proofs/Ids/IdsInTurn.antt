@@ -11,7 +11,7 @@ use Rattle.std.specs.Ordering.{eq_by_cmp}
 use Rattle.vm_ranges.proofs.NumberSets.{tied_here, tied_is, same_members, inserted_here, inserted_other, from_inserted, removed_other, from_removed}
 use Rattle.vm_ranges.proofs.TwoFacts.{if_same, unless_same}
 use Rattle.vm_allocator.specs.Ids.{MAX_ID, IdState, IsOfRange, IsHeld, IsNotHeld, IsLowestNotHeld, AreAllHeld, IsIdState, MakesIds, new_ids, holding_id, releasing_id, ByLowestNotHeld, AllocatesId, FreesId}
-use Rattle.vm_allocator.specs.IdRequests.{free_ids, holding_ids, HoldsId, AllocatesExactId, IsLowestNotHeldIn, IsNoneNotHeldIn, AllocatesIdIn, AllocatesIds, fault_of_held, MakesWithHeld}
+use Rattle.vm_allocator.specs.IdRequests.{free_ids, holding_ids, HoldsId, AllocatesExactId, IsLowestNotHeldIn, IsNoneNotHeldIn, AllocatesIdIn, AllocatesIds, fault_of_held, SkipsId, MakesWithHeld}
 use Rattle.vm_allocator.specs.Laws.IdRequestLaws.{AllocatesInTurn, AllocatesExactlyInTurn, FreesInTurn, free_ids_below, SeveralAreAsSingle, ExactIsAsSingle, WindowsOfIds, HeldIdsAreAsExact, IdRequestsAreDetermined, IdRequestsPreserveStates}
 use Rattle.vm_ranges.specs.declared.error.Error.{Error}
 use Rattle.vm_ranges.specs.declared.error.Error.TheVariants.{Overflow, ResourceNotAvailable, OutOfMemory}
@@ -323,17 +323,17 @@ held_in_turn (i ∷ is) lo hi next s v l h b f =
     let rest = held_in_turn is lo hi (i + 1) (holding_id i s) (holding_in_range s i v (above, below)) l h bound r.others in
     ((holding_id i s, takes_new_id s i v above below past, rest.0), rest.1)
 
-made_of_held : (o : Option Error) (r s : Result IdState Error) (made : IdState) → r ≡ Ok made → MatchOption o ((r ≡ s) ⊎ (r ≡ Err OutOfMemory)) (λ e. r ≡ Err e) → (o ≡ None) × (r ≡ s)
-made_of_held None r s made is (inl a) = (refl, a)
-made_of_held None r s made is (inr a) = absurd (cc (is, a))
-made_of_held (Some e) r s made is a = absurd (cc (is, a))
+made_of_held : (lo : ℕ) (held : List ℕ) (o : Option Error) (r s : Result IdState Error) (made : IdState) → r ≡ Ok made → MatchOption o ((r ≡ s) ⊎ (SkipsId lo held × (r ≡ Err OutOfMemory))) (λ e. r ≡ Err e) → (o ≡ None) × (r ≡ s)
+made_of_held lo held None r s made is (inl a) = (refl, a)
+made_of_held lo held None r s made is (inr a) = absurd (cc (is, a.1))
+made_of_held lo held (Some e) r s made is a = absurd (cc (is, a))
 
 held_are_made : (lo hi : ℕ) (held : List ℕ) (first made : IdState) → hi ≤ MAX_ID → MakesIds lo hi (Ok first) → MakesWithHeld lo hi held (Ok made) → AllocatesExactlyInTurn first held made × IsIdState made
 unfolding MakesWithHeld
 held_are_made lo hi held first made m h (inl a) = absurd (cc (a.1))
 held_are_made lo hi held first made m h (inr a) =
     let new = (made_state lo hi first h).0 in
-    let all = made_of_held (fault_of_held lo hi lo held) (Ok made) (Ok (holding_ids held (new_ids lo hi))) made refl a.1 in
+    let all = made_of_held lo held (fault_of_held lo hi lo held) (Ok made) (Ok (holding_ids held (new_ids lo hi))) made refl a.1 in
     let state : made ≡ holding_ids held (new_ids lo hi) = cc (all.1) in
     let valid = id_states_are_preserved.made lo hi first m h in
     let turn = held_in_turn held lo hi lo first valid (ap (λ (s : IdState). s.lo) (sym new)) (ap (λ (s : IdState). s.hi) (sym new)) (ap (λ (s : IdState). s.bound) (sym new)) all.0 in

@@ -1,10 +1,12 @@
 -- Creating an id allocator of its range and the list of its held ids.
-use Rattle.std.proofs.Common.{◌≡◌, ℕ, ◌+◌, ◌<◌, ◌≤◌, ◌⊎◌, ◌||◌, true, ltb, List, [], ◌∷◌, ◌++◌, length, take, drop, get_or, refl, sym, ap, ◌∙◌, subst, arith, inl, inr, ⊎_elim, max, Option, Some, None, Result, Ok, Err}
+use Rattle.std.proofs.Common.{◌≡◌, ℕ, ◌+◌, ◌<◌, ◌≤◌, ◌⊎◌, ◌||◌, true, ltb, zero, suc, List, [], ◌∷◌, ◌++◌, length, take, drop, get_or, refl, sym, ap, ◌∙◌, subst, arith, inl, inr, ⊎_elim, max, Option, Some, None, Result, Ok, Err}
 use Rattle.std.proofs.lemmas.Bool.{cases_lt, lt-ltb, le-ltb, or_left, or_right}
-use Rattle.std.proofs.lemmas.List.{drop_more, drop_all, take_more}
+use Rattle.std.proofs.lemmas.List.{drop_more, drop_all, take_more, take-append-drop}
+use Rattle.std.proofs.lemmas.List.Elements.{Contains-get_or, Contains-append_cases}
+use Rattle.std.specs.List.{Contains}
 use Rattle.std.specs.Option.{MatchOption}
 use Rattle.vm_allocator.specs.Ids.{IdState, IsIdState, MakesIds, new_ids, holding_id}
-use Rattle.vm_allocator.specs.IdRequests.{HoldsId, holding_ids, fault_of_held, MakesWithHeld}
+use Rattle.vm_allocator.specs.IdRequests.{HoldsId, holding_ids, fault_of_held, SkipsId, MakesWithHeld}
 use Rattle.vm_ranges.specs.declared.error.Error.{Error}
 use Rattle.vm_ranges.specs.declared.error.Error.TheVariants.{OutOfRange, ResourceNotAvailable, OutOfMemory}
 use Rattle.vm_allocator.proofs.Ids.ExactIds.{holding_in_range}
@@ -92,9 +94,9 @@ pub held_refused : (lo hi : ℕ) (held : List ℕ) (e : Error) → lo ≤ hi →
 unfolding MakesWithHeld
 held_refused lo hi held e l f = inr (λ h. omega arith, rw f refl)
 
-pub held_no_memory : (lo hi : ℕ) (held : List ℕ) → lo ≤ hi → fault_of_held lo hi lo held ≡ None → MakesWithHeld lo hi held (Err OutOfMemory)
+pub held_no_memory : (lo hi : ℕ) (held : List ℕ) → lo ≤ hi → fault_of_held lo hi lo held ≡ None → SkipsId lo held → MakesWithHeld lo hi held (Err OutOfMemory)
 unfolding MakesWithHeld
-held_no_memory lo hi held l f = inr (λ h. omega arith, rw f (inr refl))
+held_no_memory lo hi held l f s = inr (λ h. omega arith, rw f (inr (s, refl)))
 
 pub held_made : (lo hi : ℕ) (held : List ℕ) (state : IdState) → lo ≤ hi → fault_of_held lo hi lo held ≡ None → state ≡ holding_ids held (new_ids lo hi) → MakesWithHeld lo hi held (Ok state)
 unfolding MakesWithHeld
@@ -134,12 +136,57 @@ one_more_held lo hi i n held state new l e h is =
       left = subst (λ (b : ℕ). fault_of_held lo hi b (drop (i + 1) held) ≡ None) bound r.others;
     })
 
+-- ---- The skipped ids
+-- The ids of a list without a wrong id are not below `next`.
+listed_from : (lo hi next : ℕ) (is : List ℕ) (x k : ℕ) → fault_of_held lo hi next is ≡ None → k < length is → get_or is k x ≡ x → next ≤ x
+listed_from lo hi next [] x k f l e = absurd (omega arith)
+listed_from lo hi next (i ∷ is) x zero f l e = let r = right_from lo hi next i is f in omega (arith, r.order, e)
+listed_from lo hi next (i ∷ is) x (suc k) f l e =
+    let r = right_from lo hi next i is f in
+    let rest = listed_from lo hi (i + 1) is x k r.others (omega arith) e in
+    omega (arith, r.order, rest)
+
+-- The allocated ids are below the bound.
+bound_rises : (is : List ℕ) (s : IdState) → s.bound ≤ (holding_ids is s).bound
+bound_rises [] s = omega arith
+bound_rises (i ∷ is) s = let rest = bound_rises is (holding_id i s) in omega (arith, rest)
+
+allocated_below : (is : List ℕ) (s : IdState) (x k : ℕ) → k < length is → get_or is k x ≡ x → x < (holding_ids is s).bound
+allocated_below [] s x k l e = absurd (omega arith)
+allocated_below (i ∷ is) s x zero l e = let rest = bound_rises is (holding_id i s) in omega (arith, rest, e)
+allocated_below (i ∷ is) s x (suc k) l e = allocated_below is (holding_id i s) x k (omega arith) e
+
+-- If the next id is above the bound, the list skips the bound.
+pub skips_bound : (lo hi i n : ℕ) (held : List ℕ) (state : IdState) → i < length held → n ≡ get_or held i 0 → HoldsUpTo lo hi i held state → state.bound < n → SkipsId lo held
+skips_bound lo hi i n held state l e h above =
+    let low : lo ≤ state.bound = omega (arith, h.range.0, h.valid.bound.0) in
+    record {
+      skipped = state.bound;
+      above = n;
+      between = (low, above);
+      listed = subst (Contains held) (sym e) (Contains-get_or held i 0 l);
+      not_listed = λ c.
+          ⊎_elim
+          (λ (b : Contains (take i held) state.bound).
+          let below = allocated_below (take i held) (new_ids lo hi) state.bound b.0 b.1 b.2 in
+          let same = ap (λ (v : IdState). v.bound) h.so_far in
+          omega (arith, below, same))
+          (λ (b : Contains (drop i held) state.bound).
+          let r = next_right lo hi i n held state l e h in
+          let first : drop i held ≡ n ∷ drop (i + 1) held = drop_more held i 0 l ∙ ap (λ (x : ℕ). x ∷ drop (i + 1) held) (sym e) in
+          let d = subst (λ (xs : List ℕ). Contains xs state.bound) first b in
+          let right = right_id lo hi n n (drop (i + 1) held) r.range.0 r.range.1 (omega arith) ∙ r.others in
+          let low = listed_from lo hi n (n ∷ drop (i + 1) held) state.bound d.0 right d.1 d.2 in
+          omega (arith, low, above))
+          (Contains-append_cases (take i held) (drop i held) state.bound (subst (λ (xs : List ℕ). Contains xs state.bound) (sym (take-append-drop i held)) c));
+    }
+
 pub new_held_state : (old new : IdState) (n : ℕ) (r : Result ℕ Error) (k : ℕ) → r ≡ Ok k → HoldsId old n r new → new ≡ holding_id n old
 unfolding HoldsId
 new_held_state old new n r k is (inl a) = a.1
 new_held_state old new n r k is (inr a) = absurd (cc (is, a.1))
 
-pub new_held_error : (old new : IdState) (n : ℕ) (r : Result ℕ Error) (e : Error) → r ≡ Err e → HoldsId old n r new → e ≡ OutOfMemory
+pub new_held_error : (old new : IdState) (n : ℕ) (r : Result ℕ Error) (e : Error) → r ≡ Err e → HoldsId old n r new → (old.bound < n) × (e ≡ OutOfMemory)
 unfolding HoldsId
 new_held_error old new n r e is (inl a) = absurd (cc (is, a.0))
-new_held_error old new n r e is (inr a) = cc (is, a.1)
+new_held_error old new n r e is (inr a) = (a.0, cc (is, a.1))

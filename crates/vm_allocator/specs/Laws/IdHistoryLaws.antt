@@ -47,7 +47,8 @@ pub record EveryIdCallIsAnswered : Type 0 where
       (answer : Result ℕ Error) × (new : IdState) × AllocatesIdIn old first last answer new × (answer ≢ Err OutOfMemory)
   pub several : (old : IdState) (count : ℕ) →
       (answer : Result (List ℕ) Error) × (new : IdState) × AllocatesIds old count answer new × (answer ≢ Err OutOfMemory)
-  pub made_with_held : (lo hi : ℕ) (held : List ℕ) → (answer : Result IdState Error) × MakesWithHeld lo hi held answer
+  pub made_with_held : (lo hi : ℕ) (held : List ℕ) →
+      (answer : Result IdState Error) × MakesWithHeld lo hi held answer × (answer ≢ Err OutOfMemory)
   pub peeked : (state : IdState) → (answer : Result ℕ Error) × PeeksId state answer
   pub freed : (old : IdState) (id : ℕ) →
       (answer : Result ℕ Error) × (new : IdState) × FreesId old id answer new × (answer ≢ Err OutOfMemory)

@@ -1,7 +1,7 @@
 //! Creates an id allocator of its range and the list of its allocated ids.
-ghost use Rattle.std.specs.Prelude.{◌≡◌, ◌≤◌, MatchOption, Ok, Err, IfOk};
+ghost use Rattle.std.specs.Prelude.{◌≡◌, ◌≤◌, MatchOption, Ok, Err, IfOk, IsOk};
 ghost use Rattle.vm_allocator.specs.Ids.{IsIdState};
-ghost use Rattle.vm_allocator.specs.IdRequests.{MakesWithHeld, fault_of_held};
+ghost use Rattle.vm_allocator.specs.IdRequests.{MakesWithHeld, SkipsId, fault_of_held};
 
 use super::IdAllocator;
 use std::alloc::Global;
@@ -12,8 +12,9 @@ impl IdAllocator {
     /// ids are allocated. They are given in ascending order.
     ///
     /// It is equal to a new allocator after [`allocate_exact`](Self::allocate_exact) of each id. The ids
-    /// can be untrusted input. All of them are checked before memory is allocated. Time and memory are
-    /// linear in the last id minus `range_base`.
+    /// can be untrusted input. All of them are checked before memory is allocated. Memory is allocated
+    /// only for the ids that the list skips: those from `range_base` up to its last id that it does not
+    /// contain. Time and memory are linear in the last id minus `range_base`.
     ///
     /// # Errors
     ///
@@ -24,6 +25,11 @@ impl IdAllocator {
     ///   - `ResourceNotAvailable` if the id is not above the id before it.
     /// - `OutOfMemory` if an allocation of memory fails.
     pub fn with_held(alloc: Global, range_base: u32, range_end: u32, held: &[u32]) -> Result<Self>
+        // A list without a wrong id needs no memory if it skips no id.
+        ensures succeeds { range_base ≤ range_end → fault_of_held range_base range_end range_base held.now ≡ None
+            → ¬ SkipsId range_base held.now → IsOk result }
+
+        // Each result under its exact condition.
         ensures answer { MakesWithHeld range_base range_end held.now result }
         ensures state { IfOk result IsIdState }
     {

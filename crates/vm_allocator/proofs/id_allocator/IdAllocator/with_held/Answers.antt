@@ -3,7 +3,7 @@ use Rattle.std.proofs.lemmas.List.{take_all}
 use Rattle.vm_allocator.specs.Ids.{MAX_ID, new_ids}
 use Rattle.vm_allocator.specs.IdRequests.{fault_of_held, holding_ids}
 use Rattle.vm_allocator.proofs.Ids.IdResults.{id_states_are_preserved}
-use Rattle.vm_allocator.proofs.Ids.WithHeld.{checked_error, checked_right, made_state, made_error, held_refused, held_no_memory, held_made, none_yet, one_more_held, new_held_state, new_held_error}
+use Rattle.vm_allocator.proofs.Ids.WithHeld.{checked_error, checked_right, made_state, made_error, held_refused, held_no_memory, held_made, none_yet, one_more_held, skips_bound, new_held_state, new_held_error}
 use Rattle.vm_allocator.proofs.id_allocator.IdAllocator.with_held.Goals as goal
 
 pub returns-in_err-ids-clause-answer : goal.returns-in_err-ids-clause-answer
@@ -32,7 +32,13 @@ returns-in_err-allocate_new-clause-answer c =
     let right = checked_right (fault_of_held c.args.range_base c.args.range_end c.args.range_base c.args.held.now) c.check_held.result c.in_ok-check_held.was c.check_held.ensures in
     let is : c.from_residual-in_err-allocate_new.result ≡ Err c.in_err-allocate_new.field-0.0 = search rules in
     let memory = new_held_error c.loop-id.ids _ _ c.allocate_new.result c.in_err-allocate_new.field-0.0 c.in_err-allocate_new.was c.allocate_new.ensures in
-    rw (is, memory) (held_no_memory c.args.range_base c.args.range_end c.args.held.now made.1 right)
+    let skips = skips_bound c.args.range_base c.args.range_end c.loop-id.id-index _ c.args.held.now c.loop-id.ids c.loop-id-test.true refl c.loop-id.invariant memory.0 in
+    rw (is, memory.1) (held_no_memory c.args.range_base c.args.range_end c.args.held.now made.1 right skips)
+
+pub returns-in_err-allocate_new-clause-succeeds : goal.returns-in_err-allocate_new-clause-succeeds
+returns-in_err-allocate_new-clause-succeeds c = λ l none fits.
+    let memory = new_held_error c.loop-id.ids _ _ c.allocate_new.result c.in_err-allocate_new.field-0.0 c.in_err-allocate_new.was c.allocate_new.ensures in
+    absurd (fits (skips_bound c.args.range_base c.args.range_end c.loop-id.id-index _ c.args.held.now c.loop-id.ids c.loop-id-test.true refl c.loop-id.invariant memory.0))
 
 pub loop-id-preserved : goal.loop-id-preserved
 loop-id-preserved c =
