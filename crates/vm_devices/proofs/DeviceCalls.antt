@@ -217,8 +217,6 @@ module _ (old : DeviceState) (request : Request) (id : ℕ) (r : Range) (mid : A
     pub undone_state : IsDeviceState (devices_of ids space slots)
     undone_state = rw left_as_it_was i
 
-pub ruleset enters = (entered)
-
 -- ---- Releasing
 pub no_device : (old new : DeviceState) (id : ℕ) → map.get old.devices id ≡ None → new ≡ old → Releases old id (Err (NeverAllocated id)) new
 unfolding Releases

@@ -5,6 +5,7 @@ pub mod DevicesAgain
 pub mod DevicesOnce
 pub mod EveryDeviceCall
 pub mod DeviceCalls
+pub mod Depths
 pub mod Callers
 pub mod Entries
 pub mod AscendingIds

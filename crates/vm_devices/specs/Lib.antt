@@ -1,4 +1,5 @@
 pub mod Devices
+pub mod Manager
 pub mod Histories
 pub mod Laws
 pub mod Saved

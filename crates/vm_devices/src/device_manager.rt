@@ -8,16 +8,19 @@ ghost use Rattle.vm_ranges.specs.Cloning.{Clones};
 ghost use Rattle.vm_ranges.specs.Range.{Range, Covers, address_count};
 ghost use Rattle.vm_ranges.specs.Request.{request_for};
 ghost use Rattle.vm_engine.specs.Answer.{IsChosen};
+ghost use Rattle.vm_engine.specs.Tree.Shape.{height_of};
 ghost use Rattle.vm_allocator.specs.Ids.{IsLowestNotHeld, PeeksId};
 ghost use Rattle.vm_devices.specs.Devices.{
   IsDeviceState,
   IsDevice,
   MakesManager,
   Reserves,
+  ReservesIfLow,
   Releases,
   with_device,
   without_device,
 };
+ghost use Rattle.vm_devices.specs.Manager.{device_state, made_manager};
 
 use crate::device_slot::DeviceSlot;
 use std::alloc::Global;
@@ -53,13 +56,14 @@ pub struct DeviceManager {
 
 impl Model for DeviceManager {
     ghost use Rattle.vm_allocator.specs.Allocator.{state_of};
-    ghost use Rattle.vm_devices.specs.Devices.{DeviceState, device_state_code, devices_of, IsDeviceState};
+    ghost use Rattle.vm_devices.specs.Devices.{devices_of, IsDeviceState};
+    ghost use Rattle.vm_devices.specs.Manager.{DevicesInTree, devices_code};
 
-    ghost Value = { DeviceState };
+    ghost Value = { DevicesInTree };
 
-    ghost coded = { device_state_code };
+    ghost coded = { devices_code };
 
-    ghost view = { λ a. devices_of a.id_allocator (state_of a.mmio_allocator) a.slots };
+    ghost view = { λ a. record { ids = a.id_allocator; addresses = a.mmio_allocator; devices = a.slots } };
 
     ghost invariant = { λ a. IsDeviceState (devices_of a.id_allocator (state_of a.mmio_allocator) a.slots) };
 }
@@ -77,8 +81,8 @@ impl DeviceManager {
     /// - `OutOfMemory` if an allocation fails.
     #[tactic(auto, using(crate::proofs::DeviceCalls::makes_managers))]
     pub fn new(alloc: Global, id_lo: u32, id_hi: u32, base: u64, size: u64) -> Result<Self>
-        ensures answer { MakesManager id_lo id_hi base size result }
-        ensures state { IfOk result IsDeviceState }
+        ensures answer { MakesManager id_lo id_hi base size (made_manager result) }
+        ensures state { IfOk result (λ manager. IsDeviceState (device_state manager)) }
     {
         let id_allocator = IdAllocator::new(alloc, id_lo, id_hi)?;
         let mmio_allocator = AddressAllocator::new(alloc, base, size)?;
@@ -89,13 +93,14 @@ impl DeviceManager {
         })
     }
 
-    /// Returns a copy. It has equal allocators and the same devices.
+    /// Returns a copy. It has equal allocators, the same tree of addresses and the same devices.
     ///
     /// # Errors
     ///
     /// - `OutOfMemory` if an allocation fails.
     pub fn try_clone(&self, alloc: Global) -> Result<Self>
-        ensures { Clones self.now result }
+        ensures answer { Clones (device_state self.now) (made_manager result) }
+        ensures same { Clones self.now result }
     {
         let id_allocator = self.id_allocator.try_clone(alloc)?;
         let mmio_allocator = self.mmio_allocator.try_clone(alloc)?;
@@ -114,7 +119,10 @@ impl DeviceManager {
     ///
     /// # Errors
     ///
-    /// An error leaves ids, ranges and devices unchanged. In this order:
+    /// An error leaves ids, ranges and devices unchanged. If an allocation for the table of devices
+    /// fails, the range that was allocated before it is freed again, and the tree can have another
+    /// shape. Then the height of [`addresses`](Self::addresses), later counts of it and `to_value` can
+    /// differ, and nothing else. In this order:
     /// - `Overflow` if all ids are allocated and their range ends at `u32::MAX`.
     /// - `ResourceNotAvailable` if all ids are allocated and their range ends below `u32::MAX`.
     /// - The errors of `AddressAllocator::allocate`, in the order of its documentation.
@@ -129,18 +137,24 @@ impl DeviceManager {
     ) -> Result<DeviceSlot>
         // The id is the lowest that is not held. The range is as long as asked and aligned, at the place
         // that the policy chooses.
-        ensures lowest { IfOk result (λ slot. IsLowestNotHeld self.old.ids slot.id) }
+        ensures lowest { IfOk result (λ slot. IsLowestNotHeld (device_state self.old).ids slot.id) }
         ensures fits { IfOk result (λ slot. (address_count slot.range ≡ size) × (slot.range.start % align ≡ 0)) }
         ensures chosen { IfOk result (λ slot.
-            IsChosen (request_for size align policy) self.old.space slot.range.start) }
+            IsChosen (request_for size align policy) (device_state self.old).space slot.range.start) }
 
         // The device has both, and nothing else changes.
-        ensures held { IfOk result (λ slot. self.new ≡ with_device slot.id slot.range self.old) }
-        ensures unchanged { OnErr result (self.new ≡ self.old) }
-        ensures state { IsDeviceState self.new }
+        ensures held { IfOk result (λ slot.
+            device_state self.new ≡ with_device slot.id slot.range (device_state self.old)) }
+        ensures unchanged { OnErr result (device_state self.new ≡ device_state self.old) }
+        ensures state { IsDeviceState (device_state self.new) }
+
+        // The limit on the height is checked before memory is allocated.
+        ensures depth { ReservesIfLow (height_of self.old.addresses.tree) (device_state self.old)
+            (request_for size align policy) result }
 
         // Each result under its exact condition.
-        ensures answer { Reserves self.old (request_for size align policy) result self.new }
+        ensures answer { Reserves (device_state self.old) (request_for size align policy) result
+            (device_state self.new) }
     {
         let id = self.id_allocator.peek_id()?;
         let request = Constraint::new(size, align, policy)?;
@@ -152,7 +166,7 @@ impl DeviceManager {
     ///
     /// # Errors
     ///
-    /// An error leaves ids, ranges and devices unchanged. In this order:
+    /// An error leaves unchanged what an error of [`reserve`](Self::reserve) does. In this order:
     /// - `Overflow` if all ids are allocated and their range ends at `u32::MAX`.
     /// - `ResourceNotAvailable` if all ids are allocated and their range ends below `u32::MAX`.
     /// - The errors of `AddressAllocator::allocate_constraint`, in the order of its documentation.
@@ -161,19 +175,22 @@ impl DeviceManager {
     pub fn reserve_constraint(&mut self, alloc: Global, request: Constraint) -> Result<DeviceSlot>
         // The id is the lowest that is not held. The range is as long as asked, aligned and in the window,
         // at the place that the policy chooses there.
-        ensures lowest { IfOk result (λ slot. IsLowestNotHeld self.old.ids slot.id) }
+        ensures lowest { IfOk result (λ slot. IsLowestNotHeld (device_state self.old).ids slot.id) }
         ensures fits { IfOk result (λ slot.
             (address_count slot.range ≡ request.size) × (slot.range.start % request.align ≡ 0)) }
         ensures inside { IfOk result (λ slot. IfSome request.window (λ window. Covers window slot.range)) }
-        ensures chosen { IfOk result (λ slot. IsChosen request self.old.space slot.range.start) }
+        ensures chosen { IfOk result (λ slot. IsChosen request (device_state self.old).space slot.range.start) }
 
         // The device has both, and nothing else changes.
-        ensures held { IfOk result (λ slot. self.new ≡ with_device slot.id slot.range self.old) }
-        ensures unchanged { OnErr result (self.new ≡ self.old) }
-        ensures state { IsDeviceState self.new }
+        ensures held { IfOk result (λ slot.
+            device_state self.new ≡ with_device slot.id slot.range (device_state self.old)) }
+        ensures unchanged { OnErr result (device_state self.new ≡ device_state self.old) }
+
+        // The limit on the height is checked before memory is allocated.
+        ensures depth { ReservesIfLow (height_of self.old.addresses.tree) (device_state self.old) request result }
 
         // Each result under its exact condition.
-        ensures answer { Reserves self.old request result self.new }
+        ensures answer { Reserves (device_state self.old) request result (device_state self.new) }
     {
         let ids = &self.id_allocator;
         let id = ids.peek_id()?;
@@ -184,19 +201,19 @@ impl DeviceManager {
     ///
     /// # Errors
     ///
-    /// An error leaves ids, ranges and devices unchanged. In this order:
+    /// An error changes nothing, and leaves the same tree. In this order:
     /// - `NeverAllocated(id)` if no device has the id.
     /// - `OutOfMemory` if an allocation of memory fails.
     #[tactic(auto, using(crate::proofs::DeviceCalls::releases))]
     pub fn release(&mut self, id: u32) -> Result<()>
         // The id and the range of the device are freed, and nothing else changes.
-        ensures released { OnOk result ((range : Range) × IsDevice self.old id range
-            × (self.new ≡ without_device id range self.old)) }
+        ensures released { OnOk result ((range : Range) × IsDevice (device_state self.old) id range
+            × (device_state self.new ≡ without_device id range (device_state self.old))) }
         ensures unchanged { OnErr result (self.new ≡ self.old) }
-        ensures state { IsDeviceState self.new }
+        ensures state { IsDeviceState (device_state self.new) }
 
         // Each result under its exact condition.
-        ensures answer { Releases self.old id result self.new }
+        ensures answer { Releases (device_state self.old) id result (device_state self.new) }
     {
         let Some(range) = self.slot(id) else {
             return Err(Error::NeverAllocated(id));
@@ -212,17 +229,19 @@ impl DeviceManager {
     ///
     /// It does not allocate.
     pub fn slot(&self, id: u32) -> Option<RangeInclusive>
-        ensures value { result ≡ map.get self.now.devices id }
-        ensures state { IsDeviceState self.now }
+        ensures value { result ≡ map.get (device_state self.now).devices id }
+        ensures state { IsDeviceState (device_state self.now) }
     {
         self.slots.get(id)
     }
 
-    /// Makes a device of the lowest free id and of a range for the request. An error changes nothing.
-    #[tactic(auto, using(crate::proofs::DeviceCalls::enters))]
+    /// Makes a device of the lowest free id and of a range for the request. An error leaves ids, ranges
+    /// and devices unchanged.
+    #[tactic(auto, using(crate::proofs::Depths::low_reserved))]
     fn reserve_range(&mut self, alloc: Global, id: u32, request: Constraint) -> Result<DeviceSlot>
-        requires { PeeksId self.old.ids (Ok id) }
-        ensures { Reserves self.old request result self.new }
+        requires { PeeksId (device_state self.old).ids (Ok id) }
+        ensures answer { Reserves (device_state self.old) request result (device_state self.new) }
+        ensures depth { ReservesIfLow (height_of self.old.addresses.tree) (device_state self.old) request result }
     {
         let range = self.mmio_allocator.allocate_constraint(alloc, request)?;
         if let Err(refused) = self.slots.insert(alloc, id, range) {

@@ -23,13 +23,15 @@ pub(crate) struct Machine {
 impl Model for Machine {
     ghost use Rattle.std.specs.Option.{option_map};
     ghost use Rattle.vm_allocator.specs.Allocator.{state_of};
+    ghost use Rattle.vm_devices.specs.Manager.{device_state};
     ghost use Rattle.vm_lines.specs.Machines.{Machine, machine_code};
 
     ghost Value = { Machine };
 
     ghost coded = { machine_code };
 
-    ghost view = { λ a. record { space = option_map state_of a.space; ids = a.ids; devices = a.devices } };
+    ghost view = { λ a.
+        record { space = option_map state_of a.space; ids = a.ids; devices = option_map device_state a.devices } };
 }
 
 impl Machine {

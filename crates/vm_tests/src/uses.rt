@@ -7,6 +7,7 @@ ghost use Rattle.std.specs.List.{Contains};
 ghost use Rattle.vm_allocator.specs.Range.{address_count};
 ghost use Rattle.vm_allocator.specs.Allocator.{state_of};
 ghost use Rattle.vm_allocator.specs.Ids.{IsHeld};
+ghost use Rattle.vm_devices.specs.Manager.{device_state};
 
 use crate::fixtures::{expect_true, made, range};
 use crate::plugging::replugged;
@@ -102,7 +103,7 @@ fn devices_through_text(
     alloc: Global,
     devices: &DeviceManager,
 ) -> std::result::Result<DeviceManager, ValueError>
-    ensures { IfOk result (λ again. again ≡ devices.now) }
+    ensures { IfOk result (λ again. device_state again ≡ device_state devices.now) }
 {
     let Ok(saved) = devices.to_value(alloc) else {
         return Err(ValueError::OutOfMemory);

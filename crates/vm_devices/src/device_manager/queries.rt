@@ -1,8 +1,8 @@
 //! Queries of the devices: an iterator, their number, the device at an address, and both
 //! allocators.
 ghost use Rattle.std.specs.Prelude.{◌≡◌};
-ghost use Rattle.vm_allocator.specs.Allocator.{state_of};
 ghost use Rattle.vm_allocator.specs.Conflicts.{IsConflict, ConflictDecides};
+ghost use Rattle.vm_devices.specs.Manager.{device_state};
 ghost use Rattle.vm_devices.specs.Queries.{device_list, device_count, DeviceAt};
 
 use super::DeviceManager;
@@ -15,7 +15,7 @@ impl DeviceManager {
     ///
     /// It does not allocate.
     pub fn devices(&self) -> Devices<'_>
-        ensures { result ≡ device_list self.now }
+        ensures { result ≡ device_list (device_state self.now) }
     {
         self.slots.iter(self.device_count())
     }
@@ -24,7 +24,7 @@ impl DeviceManager {
     ///
     /// It does not visit the devices, and does not allocate.
     pub fn device_count(&self) -> u64
-        ensures { result ≡ device_count self.now }
+        ensures { result ≡ device_count (device_state self.now) }
     {
         self.id_allocator.held_count()
     }
@@ -34,7 +34,7 @@ impl DeviceManager {
     /// It descends one path of the tree, looks the range up in a table, and does not allocate.
     #[tactic(auto, using(crate::proofs::DeviceStarts::found))]
     pub fn device_at(&self, address: u64) -> Option<DeviceSlot>
-        ensures { DeviceAt self.now address result }
+        ensures { DeviceAt (device_state self.now) address result }
     {
         let range = self.mmio_allocator.held_at(address)?;
         let id = self.slots.id_at(range.start())?;
@@ -46,15 +46,15 @@ impl DeviceManager {
     ///
     /// It descends one path of the tree for each end of the range and does not allocate.
     pub fn conflict(&self, request: Constraint) -> Option<Conflict>
-        ensures value { IsConflict self.now.space request result }
-        ensures decides { ConflictDecides self.now.space request result }
+        ensures value { IsConflict (device_state self.now).space request result }
+        ensures decides { ConflictDecides (device_state self.now).space request result }
     {
         self.mmio_allocator.conflict(request)
     }
 
     /// Returns the allocator of the addresses, to look at.
     pub fn addresses(&self) -> &AddressAllocator
-        ensures { state_of result.now ≡ self.now.space }
+        ensures { result.now ≡ self.now.addresses }
     {
         &self.mmio_allocator
     }

@@ -3,6 +3,7 @@ ghost use Rattle.std.specs.Prelude.{◌≡◌, IfOk, option_map};
 ghost use Rattle.serde_json.specs.View.{view, items_view};
 ghost use Rattle.vm_ranges.specs.Saving.{Saves};
 ghost use Rattle.vm_devices.specs.Devices.{IsDeviceState};
+ghost use Rattle.vm_devices.specs.Manager.{device_state, made_manager};
 ghost use Rattle.vm_devices.specs.Saved.{EncodesManager, ReadsInParts};
 ghost use Rattle.vm_devices.specs.SavedChecks.{decoded_manager, ManagerParts};
 
@@ -25,7 +26,7 @@ impl DeviceManager {
     ///
     /// - `OutOfMemory` if an allocation fails.
     pub fn to_value(&self, alloc: Global) -> Result<Value>
-        ensures { Saves (λ d. EncodesManager d self.now) result }
+        ensures { Saves (λ d. EncodesManager d (device_state self.now)) result }
     {
         let ids = self.id_allocator.to_value(alloc)?;
         let space = self.mmio_allocator.to_value(alloc)?;
@@ -50,8 +51,8 @@ impl DeviceManager {
     /// - `OutOfMemory` if an allocation fails.
     #[tactic(auto, using(crate::proofs::SavedManagers::no_fields))]
     pub fn from_value(alloc: Global, value: &Value) -> std::result::Result<Self, ValueError>
-        ensures answer { ReadsInParts (EncodesManager (view value.now)) result }
-        ensures state { IfOk result IsDeviceState }
+        ensures answer { ReadsInParts (EncodesManager (view value.now)) (made_manager result) }
+        ensures state { IfOk result (λ manager. IsDeviceState (device_state manager)) }
     {
         let Some(fields) = decode_fields(value) else {
             return Err(ValueError::NotAState);

@@ -5,6 +5,7 @@ ghost use Rattle.vm_engine.specs.Address.{IsAddressState};
 ghost use Rattle.vm_allocator.specs.Allocator.{state_of};
 ghost use Rattle.vm_allocator.specs.Ids.{IsIdState};
 ghost use Rattle.vm_devices.specs.Devices.{IsDeviceState};
+ghost use Rattle.vm_devices.specs.Manager.{device_state, made_manager};
 ghost use Rattle.vm_devices.specs.Listed.{HaveAscendingIds, PushesDevice, MakesOfDevices};
 ghost use Rattle.vm_devices.specs.SavedChecks.{CanBeInserted, PairsDevices};
 
@@ -104,8 +105,8 @@ impl DeviceManager {
         space: AddressAllocator,
         devices: &ReadDevices,
     ) -> Result<Self, SavedError>
-        ensures answer { MakesOfDevices version ids (state_of space) devices.now result }
-        ensures state { IfOk result IsDeviceState }
+        ensures answer { MakesOfDevices version ids (state_of space) devices.now (made_manager result) }
+        ensures state { IfOk result (λ manager. IsDeviceState (device_state manager)) }
     {
         if version != SAVED_VERSION {
             return Err(SavedError::Violated(Condition::Version));

@@ -1,4 +1,5 @@
 use Rattle.std.proofs.Common.{sym, ap, ◌∙◌}
+use Rattle.vm_devices.specs.Manager.{DevicesInTree, device_state}
 use Rattle.vm_devices.specs.Queries.{device_count}
 use Rattle.vm_devices.proofs.Entries.{all_counted}
 use Rattle.vm_devices.proofs.device_manager.DeviceManager.device_count.Goals as goal
@@ -7,4 +8,4 @@ pub returns : goal.returns
 returns c =
     c.held_count.ensures.value
     ∙ sym (all_counted _ c.self.invariant.space c.self.invariant.pairs).ids_counted
-    ∙ ap device_count c.self.view_is
+    ∙ ap (λ (v : DevicesInTree). device_count (device_state v)) c.self.view_is

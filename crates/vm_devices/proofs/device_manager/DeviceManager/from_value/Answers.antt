@@ -2,6 +2,7 @@ use Rattle.std.proofs.Common.{◌≡◌, List, sym, subst, Ok, Err, rules}
 use Rattle.serde_json.specs.View.{items_view}
 use Rattle.serde_json.specs.declared.value.Value.{Value}
 use Rattle.vm_ranges.specs.Saving.{value_error}
+use Rattle.vm_devices.specs.Manager.{device_state}
 use Rattle.vm_devices.specs.Saved.{ReadsInParts}
 use Rattle.vm_devices.specs.SavedChecks.{EncodesDevices}
 use Rattle.vm_devices.proofs.SavedManagers.{fields_read, ids_refused, slots_refused, parts_refused, parts_read}
@@ -30,5 +31,5 @@ returns-in_err-from_devices-clause-answer c =
 
 pub returns-clause-answer : goal.returns-clause-answer
 returns-clause-answer c =
-    fields_read _ _ (sym c.in-Some.ensures) (Ok c.in_ok-from_devices.field-0)
-    (parts_read _ _ _ _ c.in_ok-ids.ensures.answer c.in_ok-space.ensures.answer (rw (← c.deref.ensures.value) c.in_ok-devices.ensures) c.in_ok-from_devices.field-0 c.in_ok-from_devices.ensures.answer)
+    fields_read _ _ (sym c.in-Some.ensures) (Ok (device_state c.in_ok-from_devices.field-0))
+    (parts_read _ _ _ _ c.in_ok-ids.ensures.answer c.in_ok-space.ensures.answer (rw (← c.deref.ensures.value) c.in_ok-devices.ensures) (device_state c.in_ok-from_devices.field-0) c.in_ok-from_devices.ensures.answer)

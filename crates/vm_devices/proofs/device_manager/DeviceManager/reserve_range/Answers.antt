@@ -2,16 +2,24 @@ use Rattle.std.proofs.Common.{◌≡◌, ap, ◌∙◌, refl, Err, rules}
 use Rattle.vm_ranges.specs.declared.error.Error.TheVariants.{OutOfMemory}
 use Rattle.vm_allocator.specs.Allocator.{state_of}
 use Rattle.vm_devices.specs.Devices.{devices_of}
-use Rattle.vm_devices.proofs.DeviceCalls.{id_peeked, entered_state, undone, undone_state}
+use Rattle.vm_devices.proofs.DeviceCalls.{id_peeked, entered, entered_state, undone, undone_state}
 use Rattle.vm_devices.proofs.DeviceStarts.{new_device}
+use Rattle.vm_devices.proofs.Depths.{low_without_range, low_without_table}
 use Rattle.vm_devices.proofs.device_manager.DeviceManager.reserve_range.Goals as goal
 
-pub returns-in_err-range : goal.returns-in_err-range
-returns-in_err-range c =
+pub returns-in_err-range-clause-answer : goal.returns-in_err-range-clause-answer
+returns-in_err-range-clause-answer c =
     let e = c.in_err-range.field-0.0 in
     let is : c.from_residual.result ≡ Err e = search rules in
     let same = ap (λ a. devices_of c.self.inside.id_allocator (state_of a) c.self.inside.slots) c.in_err-range.ensures.unchanged in
-    rw is (id_peeked _ _ c.args.request c.args.id (state_of c.allocate_constraint.new.self) (Err e) _ c.requires (rw (← c.self.view_is) c.in_err-range.ensures.answer) (refl, same ∙ c.self.view_is))
+    rw (← c.self.view_is, is)
+    (id_peeked _ _ c.args.request c.args.id (state_of c.allocate_constraint.new.self) (Err e) _ (rw (← c.self.view_is) at c.requires) c.in_err-range.ensures.answer (refl, same))
+
+pub returns-in_err-range-clause-depth : goal.returns-in_err-range-clause-depth
+returns-in_err-range-clause-depth c =
+    let e = c.in_err-range.field-0.0 in
+    let is : c.from_residual.result ≡ Err e = search rules in
+    rw (← c.self.view_is, is) (low_without_range _ _ c.args.request e c.in_err-range.ensures.depth)
 
 pub insert-requires : goal.insert-requires
 insert-requires c =
@@ -22,14 +30,25 @@ invariant_of-self-in-Err c =
     undone_state _ c.args.request c.args.id c.in_ok-range.range _ c.self.invariant (rw (← c.self.view_is) at c.requires) c.in_ok-range.ensures.answer _ _ _ c.free.result
     c.free.ensures.answer c.in-Err.ensures.err refl
 
-pub returns-in-Err : goal.returns-in-Err
-returns-in-Err c =
+pub returns-in-Err-clause-answer : goal.returns-in-Err-clause-answer
+returns-in-Err-clause-answer c =
     let is : c.into.result ≡ OutOfMemory = search rules in
     rw (← c.self.view_is, is)
     (undone _ c.args.request c.args.id c.in_ok-range.range _ c.self.invariant (rw (← c.self.view_is) at c.requires) c.in_ok-range.ensures.answer _ _ _ c.free.result
     c.free.ensures.answer c.in-Err.ensures.err refl)
 
+pub returns-in-Err-clause-depth : goal.returns-in-Err-clause-depth
+returns-in-Err-clause-depth c =
+    let is : c.into.result ≡ OutOfMemory = search rules in
+    rw (← c.self.view_is, is) (low_without_table _ _ c.args.request c.in_ok-range.range _ c.in_ok-range.ensures.answer c.in_ok-range.ensures.depth)
+
 pub invariant_of-self-2 : goal.invariant_of-self-2
 invariant_of-self-2 c =
     entered_state _ c.args.request c.args.id c.in_ok-range.range _ c.self.invariant (rw (← c.self.view_is) at c.requires) c.in_ok-range.ensures.answer _ _ _ c.allocate_id.result
     c.allocate_id.ensures.answer refl c.in_default.ensures.inserted
+
+pub returns-clause-answer : goal.returns-clause-answer
+returns-clause-answer c =
+    rw (← c.self.view_is)
+    (entered _ c.args.request c.args.id c.in_ok-range.range _ c.self.invariant (rw (← c.self.view_is) at c.requires) c.in_ok-range.ensures.answer _ _ _ c.allocate_id.result
+    c.allocate_id.ensures.answer refl c.in_default.ensures.inserted)

@@ -1,4 +1,5 @@
 use Rattle.std.proofs.Common.{refl}
+use Rattle.vm_devices.specs.Manager.{device_state}
 use Rattle.vm_lines.specs.Machines.{Does, OnDevices}
 use Rattle.vm_lines.proofs.machine.Machine.release_device.Goals as goal
 
@@ -6,4 +7,4 @@ pub returns : goal.returns
 unfolding Does OnDevices
 returns c =
     rw (← c.self.view_is, c.in-Some.is)
-    (c.release.new.self, (c.release.result, c.release.ensures.answer, c.done_reply.ensures), refl)
+    (device_state c.release.new.self, (c.release.result, c.release.ensures.answer, c.done_reply.ensures), refl)

@@ -1,12 +1,13 @@
 use Rattle.std.proofs.Common.{ap, refl}
 use Rattle.std.proofs.lemmas.Bool.{both_ways}
 use Rattle.vm_devices.specs.Devices.{DeviceState}
+use Rattle.vm_devices.specs.Manager.{device_state}
 use Rattle.vm_devices.proofs.WrittenManagers.{tested, tested_by_order}
 use Rattle.vm_devices.proofs.device_manager.comparing.DeviceManagerPartialEq.eq.Goals as goal
 
 pub returns-then-has_allocators_of-clause-equal : goal.returns-then-has_allocators_of-clause-equal
 returns-then-has_allocators_of-clause-equal c =
-    tested c.args.self.now c.args.other.now c.same_devices.result (c.if-has_allocators_of.ensures.same.0 refl) (rw (← c.devices.ensures, ← c.devices-then-has_allocators_of.ensures) c.same_devices.ensures)
+    tested (device_state c.args.self.now) (device_state c.args.other.now) c.same_devices.result (c.if-has_allocators_of.ensures.same.0 refl) (rw (← c.devices.ensures, ← c.devices-then-has_allocators_of.ensures) c.same_devices.ensures)
 
 pub returns-then-has_allocators_of-clause-order : goal.returns-then-has_allocators_of-clause-order
 returns-then-has_allocators_of-clause-order c =
