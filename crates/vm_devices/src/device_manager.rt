@@ -119,14 +119,13 @@ impl DeviceManager {
     ///
     /// # Errors
     ///
-    /// An error leaves ids, ranges and devices unchanged. If an allocation for the table of devices
-    /// fails, the range that was allocated before it is freed again, and the tree can have another
-    /// shape. Then the height of [`addresses`](Self::addresses), later counts of it and `to_value` can
-    /// differ, and nothing else. In this order:
+    /// An error leaves ids, ranges and devices unchanged. In this order:
     /// - `Overflow` if all ids are allocated and their range ends at `u32::MAX`.
     /// - `ResourceNotAvailable` if all ids are allocated and their range ends below `u32::MAX`.
     /// - The errors of `AddressAllocator::allocate`, in the order of its documentation.
-    /// - `OutOfMemory` if an allocation for the table of devices fails.
+    /// - `OutOfMemory` if an allocation for the table of devices fails. The range is freed again, and the
+    ///   tree of [`addresses`](Self::addresses) can have another shape. Then its height, its later counts
+    ///   and `to_value` can differ.
     #[tactic(auto, using(crate::proofs::DeviceCalls::reserves))]
     pub fn reserve(
         &mut self,
@@ -166,11 +165,12 @@ impl DeviceManager {
     ///
     /// # Errors
     ///
-    /// An error leaves unchanged what an error of [`reserve`](Self::reserve) does. In this order:
+    /// An error leaves ids, ranges and devices unchanged. In this order:
     /// - `Overflow` if all ids are allocated and their range ends at `u32::MAX`.
     /// - `ResourceNotAvailable` if all ids are allocated and their range ends below `u32::MAX`.
     /// - The errors of `AddressAllocator::allocate_constraint`, in the order of its documentation.
-    /// - `OutOfMemory` if an allocation for the table of devices fails.
+    /// - `OutOfMemory` if an allocation for the table of devices fails, as by
+    ///   [`reserve`](Self::reserve).
     #[tactic(auto, using(crate::proofs::DeviceCalls::reserves))]
     pub fn reserve_constraint(&mut self, alloc: Global, request: Constraint) -> Result<DeviceSlot>
         // The id is the lowest that is not held. The range is as long as asked, aligned and in the window,
