@@ -57,7 +57,7 @@ impl DeviceManager {
         })
     }
 
-    /// Returns a copy. It has equal allocators and the same devices.
+    /// Returns a copy. It has equal allocators, the same tree of addresses and the same devices.
     ///
     /// # Errors
     ///
@@ -84,7 +84,9 @@ impl DeviceManager {
     /// - `Overflow` if all ids are allocated and their range ends at `u32::MAX`.
     /// - `ResourceNotAvailable` if all ids are allocated and their range ends below `u32::MAX`.
     /// - The errors of `AddressAllocator::allocate`, in the order of its documentation.
-    /// - `OutOfMemory` if an allocation for the table of devices fails.
+    /// - `OutOfMemory` if an allocation for the table of devices fails. The range is freed again, and the
+    ///   tree of [`addresses`](Self::addresses) can have another shape. Then its height, its later counts
+    ///   and `to_value` can differ.
     pub fn reserve(
         &mut self,
         alloc: Global,
@@ -106,7 +108,8 @@ impl DeviceManager {
     /// - `Overflow` if all ids are allocated and their range ends at `u32::MAX`.
     /// - `ResourceNotAvailable` if all ids are allocated and their range ends below `u32::MAX`.
     /// - The errors of `AddressAllocator::allocate_constraint`, in the order of its documentation.
-    /// - `OutOfMemory` if an allocation for the table of devices fails.
+    /// - `OutOfMemory` if an allocation for the table of devices fails, as by
+    ///   [`reserve`](Self::reserve).
     pub fn reserve_constraint(&mut self, alloc: Global, request: Constraint) -> Result<DeviceSlot> {
         let ids = &self.id_allocator;
         let id = ids.peek_id()?;
@@ -117,7 +120,7 @@ impl DeviceManager {
     ///
     /// # Errors
     ///
-    /// An error leaves ids, ranges and devices unchanged. In this order:
+    /// An error changes nothing, and leaves the same tree. In this order:
     /// - `NeverAllocated(id)` if no device has the id.
     /// - `OutOfMemory` if an allocation of memory fails.
     pub fn release(&mut self, id: u32) -> Result<()> {
@@ -138,7 +141,8 @@ impl DeviceManager {
         self.slots.get(id)
     }
 
-    /// Makes a device of the lowest free id and of a range for the request. An error changes nothing.
+    /// Makes a device of the lowest free id and of a range for the request. An error leaves ids, ranges
+    /// and devices unchanged.
     fn reserve_range(&mut self, alloc: Global, id: u32, request: Constraint) -> Result<DeviceSlot> {
         let range = self.mmio_allocator.allocate_constraint(alloc, request)?;
         if let Err(refused) = self.slots.insert(alloc, id, range) {

@@ -11,8 +11,9 @@ impl IdAllocator {
     /// ids are allocated. They are given in ascending order.
     ///
     /// It is equal to a new allocator after [`allocate_exact`](Self::allocate_exact) of each id. The ids
-    /// can be untrusted input. All of them are checked before memory is allocated. Time and memory are
-    /// linear in the last id minus `range_base`.
+    /// can be untrusted input. All of them are checked before memory is allocated. Memory is allocated
+    /// only for the ids that the list skips: those from `range_base` up to its last id that it does not
+    /// contain. Time and memory are linear in the last id minus `range_base`.
     ///
     /// # Errors
     ///

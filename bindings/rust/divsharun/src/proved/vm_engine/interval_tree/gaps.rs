@@ -66,6 +66,7 @@ impl<'a> Iterator for Gaps<'a> {
         Some(gap)
     }
 
+    /// Returns the number of gaps that are left, as both bounds.
     fn size_hint(&self) -> (usize, Option<usize>) {
         (self.left, Some(self.left))
     }

@@ -64,6 +64,7 @@ impl<'a> Iterator for HeldRanges<'a> {
         Some(range)
     }
 
+    /// Returns the number of allocated ranges that are left, as both bounds.
     fn size_hint(&self) -> (usize, Option<usize>) {
         (self.left, Some(self.left))
     }
