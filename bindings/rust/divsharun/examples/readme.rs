@@ -1,7 +1,5 @@
 //! The example of the repository's README.md.
-use divsharun::{
-    AddressAllocator, AllocPolicy, DeviceManager, IdAllocator, RangeInclusive, Result,
-};
+use divsharun::{AddressAllocator, AllocPolicy, DeviceManager, RangeInclusive, Result};
 
 fn main() -> Result<()> {
     // The MMIO gap of x86, in which the I/O APIC, the local APICs and the firmware are allocated.
@@ -14,9 +12,6 @@ fn main() -> Result<()> {
     let bar = mmio.allocate(0x4000, 0x4000, AllocPolicy::FirstMatch)?;
     println!("bar {bar:#}");
     mmio.free(&bar)?;
-
-    let mut interrupts = IdAllocator::new(5, 23)?;
-    println!("interrupt {}", interrupts.allocate_id()?);
 
     // An id and a range for each device: both or neither.
     let mut devices = DeviceManager::new(5, 23, 0xc000_0000, 0x1000_0000)?;
