@@ -1,6 +1,7 @@
 //! Guards against a query that allocates. The calls run while every allocation fails.
 use super::*;
-use crate::fixtures::fail_from_here;
+use crate::fixtures::{fail_from_here, range};
+use vm_allocator::Conflict;
 
 /// Makes calls that do not allocate, and checks their results.
 fn replay_refused(
@@ -11,6 +12,14 @@ fn replay_refused(
     for (call, want) in rows {
         expect_eq(rt, &call.ask(devices, rt.alloc()), &want.answer(), call);
     }
+}
+
+/// Checks the conflict of a request with the device at [0x1000, 0x17FF].
+fn expect_conflict(rt: &impl Abort, devices: &DeviceManager) {
+    let exact = Constraint::new(8, 1, AllocPolicy::ExactMatch(0x17FF));
+    let request = exact.expect(rt, "it is a request");
+    let conflict = Some(Conflict::Allocated(range(rt, 0x1000, 0x17FF)));
+    expect_eq(rt, &devices.conflict(request), &conflict, &request);
 }
 
 /// Frees an id for the first time, which allocates. Its result shows whether the run is without
@@ -38,6 +47,7 @@ fn looked_up_or_refused(rt: HostRuntime) {
     ];
     fail_from_here(rt.alloc());
     replay_refused(&rt, &mut devices, rows);
+    expect_conflict(&rt, &devices);
     expect_no_manager(&rt, (2, 1), 0, 0, Error::InvalidRange(2, 1));
     release_first(&rt, &mut devices);
 }

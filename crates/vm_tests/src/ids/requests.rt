@@ -257,7 +257,8 @@ fn with_held_of_wrong_ids(rt: HostRuntime) {
     expect_no_held(&rt, 5, 23, &[7, 6], Error::ResourceNotAvailable);
 }
 
-/// The allocations of each call: none for an id up to the next one, and one for a list.
+/// The allocations of each call: none for an id up to the next one, one for a list, and none for a new
+/// allocator whose ids skip none.
 #[test]
 fn allocations_of_requests(rt: HostRuntime) {
     let mut ids = made(&rt, 5, 23);
@@ -275,6 +276,10 @@ fn allocations_of_requests(rt: HostRuntime) {
     count_allocations(rt.alloc());
     take_several(&rt, &mut ids, &[11, 12, 13]);
     expect_allocations(rt.alloc(), 1);
+    count_allocations(rt.alloc());
+    let first = made_with(&rt, 5, 23, &[5, 6, 7]);
+    expect_allocations(rt.alloc(), 0);
+    expect_eq(&rt, &first.next_id(), &Some(8), &"the first three ids");
 }
 
 #[test]
