@@ -169,10 +169,80 @@ impl AddressAllocator {
         size: u64,
         held: &[RangeInclusive],
     ) -> core::result::Result<Self, ListError<TryError>> {
-        let mut ranges = list_for(held.len()).map_err(ListError::of_no_item)?;
-        ranges.extend(held.iter().map(|range| range.0));
+        let ranges = proved_ranges(held)?;
         let answer = proved::AddressAllocator::with_held(Global, base, size, &ranges);
         or_list_error(answer).map(AddressAllocator)
+    }
+
+    /// Creates an allocator in which exactly these ranges are free. They must be in ascending order,
+    /// and share no address.
+    ///
+    /// The space is from the first address of the first range to the last address of the last one. Each
+    /// hole between the ranges is an allocated range, and can be freed. Ranges without a hole between
+    /// them are one gap. The tree has the minimum height. The time is linear in the number of ranges.
+    ///
+    /// # Errors
+    ///
+    /// In this order. Only the error of a range has an index.
+    /// - `Underflow` if there is no range.
+    /// - `ResourceNotAvailable` for the first range that does not start after the end of the range before
+    ///   it.
+    /// - `InvalidRange(0, u64::MAX)` if the space would have all 2^64 addresses.
+    /// - `Overflow` if there are 2^48 or more holes.
+    ///
+    /// # Example
+    ///
+    /// ```rust
+    /// use divsharun::{AddressAllocator, AllocPolicy, Error, ListError, RangeInclusive};
+    ///
+    /// // The windows of a host bridge.
+    /// let low = RangeInclusive::new(0xc000_0000, 0xfebf_ffff)?;
+    /// let high = RangeInclusive::new(0x1_0000_0000, 0x7f_ffff_ffff)?;
+    /// let mut mmio = AddressAllocator::with_free(&[low, high])?;
+    /// assert!(mmio.gaps().eq([low, high]));
+    ///
+    /// let bar = mmio.allocate(0x4000_0000, 0x4000_0000, AllocPolicy::FirstMatch)?;
+    /// assert_eq!(bar.start(), high.start());
+    /// assert_eq!(
+    ///     AddressAllocator::with_free(&[high, low]),
+    ///     Err(ListError { index: Some(1), error: Error::ResourceNotAvailable })
+    /// );
+    /// # Ok::<(), Error>(())
+    /// ```
+    pub fn with_free(free: &[RangeInclusive]) -> core::result::Result<Self, ListError> {
+        unless_list_out_of_memory(Self::try_with_free(free))
+    }
+
+    /// Creates an allocator like [`with_free`](Self::with_free), but returns an error if memory runs
+    /// out.
+    ///
+    /// # Errors
+    ///
+    /// In this order:
+    /// - `OutOfMemory` without an index if memory for a copy of the list runs out.
+    /// - `Refused` with `Underflow`, `ResourceNotAvailable`, `InvalidRange` or `Overflow`, if `with_free`
+    ///   returns that error, with the same index.
+    /// - `OutOfMemory` without an index if memory for the holes or for a node runs out.
+    ///
+    /// # Example
+    ///
+    /// ```rust
+    /// use divsharun::{AddressAllocator, Error, ListError, RangeInclusive, TryError};
+    ///
+    /// let [low, high] = [RangeInclusive::new(0, 0x2f7)?, RangeInclusive::new(0x300, 0x3f7)?];
+    /// let ports = AddressAllocator::try_with_free(&[low, high])?;
+    /// assert_eq!(ports.held_at(0x2f8).map(|hole| hole.to_string()), Some("2f8-2ff".to_string()));
+    /// assert_eq!(
+    ///     AddressAllocator::try_with_free(&[]),
+    ///     Err(ListError { index: None, error: TryError::Refused(Error::Underflow) })
+    /// );
+    /// # Ok::<(), TryError>(())
+    /// ```
+    pub fn try_with_free(
+        free: &[RangeInclusive],
+    ) -> core::result::Result<Self, ListError<TryError>> {
+        let ranges = proved_ranges(free)?;
+        or_list_error(proved::AddressAllocator::with_free(Global, &ranges)).map(AddressAllocator)
     }
 
     /// Allocates `size` free addresses that start at a multiple of `alignment`, and returns their
@@ -284,11 +354,9 @@ impl AddressAllocator {
     /// assert_eq!(mmio.allocate_constraint(registers)?.start(), 0xd000_2000);
     ///
     /// let window = RangeInclusive::new(0xd000_0000, 0xd000_0fff)?;
-    /// assert_eq!(mmio.allocate_constraint(registers.within(window))?, window);
-    /// assert_eq!(
-    ///     mmio.allocate_constraint(registers.within(window)),
-    ///     Err(Error::ResourceNotAvailable)
-    /// );
+    /// let inside = registers.within(window)?;
+    /// assert_eq!(mmio.allocate_constraint(inside)?, window);
+    /// assert_eq!(mmio.allocate_constraint(inside), Err(Error::ResourceNotAvailable));
     /// # Ok::<(), Error>(())
     /// ```
     pub fn allocate_constraint(&mut self, request: Constraint) -> Result<RangeInclusive> {
@@ -308,11 +376,11 @@ impl AddressAllocator {
     /// # Example
     ///
     /// ```rust
-    /// use divsharun::{AddressAllocator, AllocPolicy, Constraint, Error, RangeInclusive, TryError};
+    /// use divsharun::{AddressAllocator, AllocPolicy, Constraint, Error, TryError};
     ///
     /// let mut mmio = AddressAllocator::try_new(0xc000_0000, 0x2_0000_0000)?;
-    /// let low = RangeInclusive::new(0, 0xffff_ffff)?;
-    /// let bar = Constraint::new(0x4000_0000, 0x1000, AllocPolicy::LastMatch)?.within(low);
+    /// let bar = Constraint::new(0x4000_0000, 0x1000, AllocPolicy::LastMatch)?;
+    /// let bar = bar.within(..=0xffff_ffff)?;
     /// assert_eq!(mmio.try_allocate_constraint(bar)?.start(), 0xc000_0000);
     /// assert_eq!(
     ///     mmio.try_allocate_constraint(bar),
@@ -331,8 +399,8 @@ impl AddressAllocator {
     /// range is free, and for the other policies.
     ///
     /// It returns the first of these reasons:
-    /// - [`OutsideWindow`](Conflict::OutsideWindow) if the range is not in the window of the request.
-    /// - [`OutsideSpace`](Conflict::OutsideSpace) if it is not in the space.
+    /// - [`OutsideSpace`](Conflict::OutsideSpace) if the range is not in the space.
+    /// - [`OutsideWindow`](Conflict::OutsideWindow) if it is not in the window of the request.
     /// - [`Allocated`](Conflict::Allocated) if an allocated range has an address in common with it.
     ///
     /// # Example
@@ -350,16 +418,93 @@ impl AddressAllocator {
     /// assert_eq!(ports.conflict(video), None);
     /// # Ok::<(), divsharun::Error>(())
     /// ```
+    #[must_use]
     pub fn conflict(&self, request: Constraint) -> Option<Conflict> {
         self.0.conflict(request.0).map(Conflict::of)
     }
 
-    /// Moves an allocated range to another start, and returns the range there. A guest does this when
-    /// it programs a BAR.
+    /// Moves an allocated range to the place of a request, and returns the range there. A guest does
+    /// this when it programs a BAR, and a monitor when it resizes one.
     ///
-    /// It allocates as many addresses at `start` by `ExactMatch` at alignment 1, and then frees `key`.
-    /// So the new range cannot overlap `key`. A move to the start of `key` succeeds and changes
-    /// nothing.
+    /// It allocates a range for the request like [`allocate_constraint`](Self::allocate_constraint), and
+    /// then frees `key`. So the addresses of `key` do not count as free. An `ExactMatch` request for
+    /// exactly `key`, with `key` in its window, succeeds and changes nothing.
+    ///
+    /// # Errors
+    ///
+    /// An error changes nothing. In this order:
+    /// - `ResourceNotAvailable` if exactly this range is not allocated.
+    /// - `Overflow`, `ResourceNotAvailable` or `InvalidStateTransition`, if `allocate_constraint` returns
+    ///   that error for the request.
+    ///
+    /// # Example
+    ///
+    /// ```rust
+    /// use divsharun::{AddressAllocator, AllocPolicy, Constraint, Error};
+    ///
+    /// // A 32-bit BAR, aligned to its size.
+    /// let bar = |size, policy| Constraint::new(size, size, policy)?.within(..=0xffff_ffff);
+    /// let mut mmio = AddressAllocator::new(0xd000_0000, 0x1_0000_0000)?;
+    /// let range = mmio.allocate_constraint(bar(0x4000, AllocPolicy::FirstMatch)?)?;
+    ///
+    /// // The guest programs a start that is aligned, then one that is not, and one above 4 GiB.
+    /// let moved = mmio.move_constraint(&range, bar(0x4000, AllocPolicy::ExactMatch(0xd800_0000))?)?;
+    /// assert_eq!((moved.start(), moved.len()), (0xd800_0000, 0x4000));
+    /// assert_eq!(bar(0x4000, AllocPolicy::ExactMatch(0xd800_2000)), Err(Error::UnalignedAddress));
+    /// let above = bar(0x4000, AllocPolicy::ExactMatch(0x1_0000_0000))?;
+    /// assert_eq!(mmio.move_constraint(&moved, above), Err(Error::ResourceNotAvailable));
+    ///
+    /// // The monitor resizes it.
+    /// let larger = mmio.move_constraint(&moved, bar(0x1_0000, AllocPolicy::FirstMatch)?)?;
+    /// assert!(mmio.held_ranges().eq([larger]));
+    /// # Ok::<(), Error>(())
+    /// ```
+    pub fn move_constraint(
+        &mut self,
+        key: &RangeInclusive,
+        request: Constraint,
+    ) -> Result<RangeInclusive> {
+        or_abort(self.0.move_constraint(Global, &key.0, request.0)).map(RangeInclusive)
+    }
+
+    /// Moves a range like [`move_constraint`](Self::move_constraint), but returns an error if memory
+    /// runs out.
+    ///
+    /// # Errors
+    ///
+    /// An error changes nothing. In this order:
+    /// - `Refused` with `ResourceNotAvailable`, `Overflow` or `InvalidStateTransition`, if
+    ///   `move_constraint` returns that error.
+    /// - `OutOfMemory` if memory for a node runs out. A new range that fills its gap does not allocate.
+    ///
+    /// # Example
+    ///
+    /// ```rust
+    /// use divsharun::{AddressAllocator, AllocPolicy, Constraint, Error, TryError};
+    ///
+    /// let mut ports = AddressAllocator::try_new(0xc000, 0x1000)?;
+    /// let bar = ports.try_allocate(0x100, 0x100, AllocPolicy::FirstMatch)?;
+    /// let smaller = Constraint::new(0x20, 0x20, AllocPolicy::LastMatch)?;
+    /// assert_eq!(ports.try_move_constraint(&bar, smaller)?.start(), 0xcfe0);
+    /// assert_eq!(
+    ///     ports.try_move_constraint(&bar, smaller),
+    ///     Err(TryError::Refused(Error::ResourceNotAvailable))
+    /// );
+    /// # Ok::<(), TryError>(())
+    /// ```
+    pub fn try_move_constraint(
+        &mut self,
+        key: &RangeInclusive,
+        request: Constraint,
+    ) -> core::result::Result<RangeInclusive, TryError> {
+        or_try_error(self.0.move_constraint(Global, &key.0, request.0)).map(RangeInclusive)
+    }
+
+    /// Moves an allocated range to another start, and returns the range there.
+    ///
+    /// This is [`move_constraint`](Self::move_constraint) for as many addresses at `start`, at alignment
+    /// 1 and without a window. So it does not check the alignment and the window of the first request,
+    /// and the new range cannot overlap `key`. A move to the start of `key` succeeds and changes nothing.
     ///
     /// # Errors
     ///
@@ -564,16 +709,15 @@ impl AddressAllocator {
     /// # Example
     ///
     /// ```rust
-    /// use divsharun::{AddressAllocator, AllocPolicy, Constraint, Error, RangeInclusive};
+    /// use divsharun::{AddressAllocator, AllocPolicy, Constraint};
     ///
     /// let mut ports = AddressAllocator::new(0, 0x1000)?;
-    /// let window = RangeInclusive::new(0x400, 0x7ff)?;
-    /// let request = Constraint::new(0x10, 1, AllocPolicy::FirstMatch)?.within(window);
+    /// let request = Constraint::new(0x10, 1, AllocPolicy::FirstMatch)?.within(0x400..=0x7ff)?;
     /// let (range, entered) = ports.allocate_constraint_counted(request);
     /// assert_eq!((range?.start(), ports.height()), (0x400, 2));
     /// // The space was one gap, so its tree had a height of 1.
     /// assert!(entered <= 4);
-    /// # Ok::<(), Error>(())
+    /// # Ok::<(), divsharun::Error>(())
     /// ```
     pub fn allocate_constraint_counted(
         &mut self,
@@ -997,6 +1141,15 @@ impl AddressAllocator {
     pub fn try_clone(&self) -> core::result::Result<Self, TryError> {
         or_try_error(self.0.try_clone(Global)).map(AddressAllocator)
     }
+}
+
+/// Converts to a list of the proved code.
+fn proved_ranges(
+    ranges: &[RangeInclusive],
+) -> core::result::Result<Vec<proved::RangeInclusive>, ListError<TryError>> {
+    let mut list = list_for(ranges.len()).map_err(ListError::of_no_item)?;
+    list.extend(ranges.iter().map(|range| range.0));
+    Ok(list)
 }
 
 /// Creates an empty list with memory for a number of values.

@@ -3,7 +3,8 @@ use crate::RangeInclusive;
 
 /// The reason why the range of an `ExactMatch` request is not free.
 ///
-/// [`AddressAllocator::conflict`](crate::AddressAllocator::conflict) returns it.
+/// [`AddressAllocator::conflict`](crate::AddressAllocator::conflict) and
+/// [`DeviceManager::conflict`](crate::DeviceManager::conflict) return it.
 ///
 /// # Example
 ///
@@ -15,7 +16,7 @@ use crate::RangeInclusive;
 /// assert_eq!(mmio.conflict(bar), None);
 ///
 /// let bridge = RangeInclusive::new(0xd000_0000, 0xdfff_ffff)?;
-/// assert_eq!(mmio.conflict(bar.within(bridge)), Some(Conflict::OutsideWindow(bridge)));
+/// assert_eq!(mmio.conflict(bar.within(bridge)?), Some(Conflict::OutsideWindow(bridge)));
 ///
 /// let io_apic = Constraint::new(0x1000, 0x1000, AllocPolicy::ExactMatch(0xfec0_0000))?;
 /// let space = RangeInclusive::new(mmio.base(), mmio.end())?;
@@ -24,10 +25,10 @@ use crate::RangeInclusive;
 /// ```
 #[derive(Clone, Copy, Debug, PartialEq, Eq, Hash)]
 pub enum Conflict {
-    /// The range is not in the window of the request. This is the window.
-    OutsideWindow(RangeInclusive),
     /// The range is not in the space. This is the space.
     OutsideSpace(RangeInclusive),
+    /// The range is in the space and not in the window of the request. This is the window.
+    OutsideWindow(RangeInclusive),
     /// This allocated range has an address in common with the range. It is the lowest of them.
     Allocated(RangeInclusive),
 }
@@ -36,10 +37,10 @@ impl Conflict {
     /// Converts a conflict of the proved code.
     pub(crate) const fn of(conflict: proved::Conflict) -> Conflict {
         match conflict {
+            proved::Conflict::OutsideSpace(space) => Conflict::OutsideSpace(RangeInclusive(space)),
             proved::Conflict::OutsideWindow(window) => {
                 Conflict::OutsideWindow(RangeInclusive(window))
             }
-            proved::Conflict::OutsideSpace(space) => Conflict::OutsideSpace(RangeInclusive(space)),
             proved::Conflict::Allocated(range) => Conflict::Allocated(RangeInclusive(range)),
         }
     }

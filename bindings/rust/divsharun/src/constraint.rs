@@ -2,6 +2,7 @@ use crate::proved::vm_allocator as proved;
 use crate::{Error, RangeInclusive, Result};
 use core::fmt;
 use core::hash::{Hash, Hasher};
+use core::ops::{Bound, RangeBounds};
 
 /// The range that [`allocate`](crate::AddressAllocator::allocate) chooses if several fit. The
 /// default is `FirstMatch`.
@@ -151,26 +152,39 @@ impl Constraint {
     /// `FirstMatch` then chooses the lowest range in the window, and `LastMatch` the highest.
     /// `ExactMatch` keeps its start. A window replaces the window that the request had.
     ///
-    /// A window that starts at 0 has no lower limit. A window that ends at `u64::MAX` has no upper
-    /// limit. No [`RangeInclusive`] has all 2^64 addresses, so a request with neither limit has no
-    /// window. A window that contains the space changes nothing.
+    /// The window is any range of `u64`, such as `..=max` or `base..`, or a [`RangeInclusive`]. A window
+    /// that starts at 0 has no lower limit. A window that ends at `u64::MAX` has no upper limit. With
+    /// neither limit, the request has no window. A window that contains the space changes nothing.
+    ///
+    /// # Errors
+    ///
+    /// - `InvalidRange(first, last)` if the last address of the window is below the first. For `a..b`
+    ///   they are `a` and `b - 1`. If the window ends before 0 or starts after `u64::MAX`, they are 1
+    ///   and 0.
     ///
     /// # Example
     ///
     /// ```rust
-    /// use divsharun::{AddressAllocator, AllocPolicy, Constraint, Error, RangeInclusive};
+    /// use divsharun::{AddressAllocator, AllocPolicy, Constraint, Error};
     ///
     /// // A 32-bit and a 64-bit register of one device, in one call.
     /// let mut mmio = AddressAllocator::new(0xc000_0000, 0x2_0000_0000)?;
-    /// let low = RangeInclusive::new(0, 0xffff_ffff)?;
     /// let bar = Constraint::new(0x1000, 0x1000, AllocPolicy::LastMatch)?;
-    /// let bars = mmio.allocate_all(&[bar.within(low), bar])?;
+    /// let bars = mmio.allocate_all(&[bar.within(..=0xffff_ffff)?, bar])?;
     /// assert_eq!((bars[0].start(), bars[1].start()), (0xffff_f000, 0x2_bfff_f000));
+    ///
+    /// assert_eq!(bar.within(bars[0])?.window(), Some(bars[0]));
+    /// assert_eq!(bar.within(..)?.window(), None);
+    /// assert_eq!(bar.within(9..9), Err(Error::InvalidRange(9, 8)));
     /// # Ok::<(), Error>(())
     /// ```
-    #[must_use]
-    pub const fn within(self, window: RangeInclusive) -> Self {
-        Constraint(self.0.within(window.0))
+    pub fn within(self, window: impl Window) -> Result<Self> {
+        let (low, high) = window.limits();
+        match self.0.within_limits(low, high) {
+            Ok(request) => Ok(Constraint(request)),
+            // The only error of the call.
+            Err(_) => Err(Error::InvalidRange(low, high)),
+        }
     }
 
     /// Returns the window in which the range must lie, or `None` if there is no limit.
@@ -180,9 +194,9 @@ impl Constraint {
     /// ```rust
     /// use divsharun::{AllocPolicy, Constraint, Error, RangeInclusive};
     ///
-    /// let low = RangeInclusive::new(0, 0xffff_ffff)?;
     /// let bar = Constraint::new(0x1000, 0x1000, AllocPolicy::FirstMatch)?;
-    /// assert_eq!((bar.window(), bar.within(low).window()), (None, Some(low)));
+    /// let low = RangeInclusive::new(0, 0xffff_ffff)?;
+    /// assert_eq!((bar.window(), bar.within(low)?.window()), (None, Some(low)));
     /// # Ok::<(), Error>(())
     /// ```
     #[must_use]
@@ -208,6 +222,58 @@ impl Constraint {
     #[must_use]
     pub const fn policy(self) -> AllocPolicy {
         AllocPolicy::of(self.0.policy())
+    }
+}
+
+/// The window of a request: a range of addresses, with or without a limit at each end.
+///
+/// Each range of `u64` is one, such as `..=max` and `base..`, and so is a [`RangeInclusive`].
+/// [`Constraint::within`] takes it.
+///
+/// # Example
+///
+/// ```rust
+/// use divsharun::{RangeInclusive, Window};
+///
+/// assert_eq!((..=0xffff_ffff_u64).limits(), (0, 0xffff_ffff));
+/// assert_eq!((0x1_0000_0000..).limits(), (0x1_0000_0000, u64::MAX));
+/// assert_eq!(RangeInclusive::new(0x3f8, 0x3ff)?.limits(), (0x3f8, 0x3ff));
+/// # Ok::<(), divsharun::Error>(())
+/// ```
+pub trait Window {
+    /// Returns the first and the last address. 0 is no lower limit, and `u64::MAX` no upper limit. If
+    /// there is no address, the last one is below the first.
+    fn limits(&self) -> (u64, u64);
+}
+
+impl<R: RangeBounds<u64>> Window for R {
+    fn limits(&self) -> (u64, u64) {
+        let low = match self.start_bound() {
+            Bound::Unbounded => Some(0),
+            Bound::Included(low) => Some(*low),
+            Bound::Excluded(below) => below.checked_add(1),
+        };
+        let high = match self.end_bound() {
+            Bound::Unbounded => Some(u64::MAX),
+            Bound::Included(high) => Some(*high),
+            Bound::Excluded(above) => above.checked_sub(1),
+        };
+        // No address is above `u64::MAX` or below 0.
+        low.zip(high).unwrap_or((1, 0))
+    }
+}
+
+// The fields of the proved range are private, so it cannot have references to its ends, as
+// `RangeBounds` requires.
+impl Window for RangeInclusive {
+    fn limits(&self) -> (u64, u64) {
+        (self.start(), self.end())
+    }
+}
+
+impl Window for &RangeInclusive {
+    fn limits(&self) -> (u64, u64) {
+        (**self).limits()
     }
 }
 

@@ -2,7 +2,7 @@ use crate::address_allocator::ShortDebug;
 use crate::error::{or_abort, or_try_error, out_of_memory};
 use crate::proved::vm_devices as proved_devices;
 use crate::rattle::Global;
-use crate::{AllocPolicy, Constraint, RangeInclusive, Result, TryError};
+use crate::{AllocPolicy, Conflict, Constraint, RangeInclusive, Result, TryError};
 use core::fmt;
 use core::iter::FusedIterator;
 
@@ -81,14 +81,13 @@ impl DeviceSlot {
 /// has several BARs and interrupt vectors. Two calls allocate these, each all or none:
 ///
 /// ```rust
-/// use divsharun::{AddressAllocator, AllocPolicy, Constraint, Error, IdAllocator, RangeInclusive};
+/// use divsharun::{AddressAllocator, AllocPolicy, Constraint, Error, IdAllocator};
 ///
 /// let mut space = AddressAllocator::new(0xc000_0000, 0x2_0000_0000)?;
 /// let mut vectors = IdAllocator::new(32, 238)?;
 ///
-/// let low = RangeInclusive::new(0, 0xffff_ffff)?;
 /// let requests = [
-///     Constraint::new(0x1000, 0x1000, AllocPolicy::FirstMatch)?.within(low),
+///     Constraint::new(0x1000, 0x1000, AllocPolicy::FirstMatch)?.within(..=0xffff_ffff)?,
 ///     Constraint::new(0x4000_0000, 0x4000_0000, AllocPolicy::LastMatch)?,
 /// ];
 /// let ids = vectors.allocate_ids(4)?;
@@ -247,14 +246,13 @@ impl DeviceManager {
     /// # Example
     ///
     /// ```rust
-    /// use divsharun::{AllocPolicy, Constraint, DeviceManager, Error, RangeInclusive};
+    /// use divsharun::{AllocPolicy, Constraint, DeviceManager};
     ///
     /// let mut devices = DeviceManager::new(5, 23, 0xc000_0000, 0x2_0000_0000)?;
-    /// let low = RangeInclusive::new(0, 0xffff_ffff)?;
     /// let bar = Constraint::new(0x1000, 0x1000, AllocPolicy::LastMatch)?;
-    /// let disk = devices.reserve_constraint(bar.within(low))?;
+    /// let disk = devices.reserve_constraint(bar.within(..=0xffff_ffff)?)?;
     /// assert_eq!((disk.id, disk.range.start()), (5, 0xffff_f000));
-    /// # Ok::<(), Error>(())
+    /// # Ok::<(), divsharun::Error>(())
     /// ```
     pub fn reserve_constraint(&mut self, request: Constraint) -> Result<DeviceSlot> {
         or_abort(self.0.reserve_constraint(Global, request.0)).map(DeviceSlot::of)
@@ -272,13 +270,13 @@ impl DeviceManager {
     /// # Example
     ///
     /// ```rust
-    /// use divsharun::{AllocPolicy, Constraint, DeviceManager, Error, RangeInclusive, TryError};
+    /// use divsharun::{AllocPolicy, Constraint, DeviceManager, Error, TryError};
     ///
     /// let mut devices = DeviceManager::try_new(5, 23, 0xc000_0000, 0x2_0000_0000)?;
-    /// let below_the_space = RangeInclusive::new(0, 0xbfff_ffff)?;
     /// let bar = Constraint::new(0x1000, 0x1000, AllocPolicy::FirstMatch)?;
+    /// let below_the_space = bar.within(..0xc000_0000)?;
     /// assert_eq!(
-    ///     devices.try_reserve_constraint(bar.within(below_the_space)),
+    ///     devices.try_reserve_constraint(below_the_space),
     ///     Err(TryError::Refused(Error::ResourceNotAvailable))
     /// );
     /// assert_eq!(devices.try_reserve_constraint(bar)?.id, 5);
@@ -289,6 +287,27 @@ impl DeviceManager {
         request: Constraint,
     ) -> core::result::Result<DeviceSlot, TryError> {
         or_try_error(self.0.reserve_constraint(Global, request.0)).map(DeviceSlot::of)
+    }
+
+    /// Returns the reason why the range of an `ExactMatch` request is not free, like
+    /// [`AddressAllocator::conflict`](crate::AddressAllocator::conflict). The ids do not matter.
+    ///
+    /// # Example
+    ///
+    /// ```rust
+    /// use divsharun::{AllocPolicy, Conflict, Constraint, DeviceManager};
+    ///
+    /// let mut devices = DeviceManager::new(5, 5, 0xd000_0000, 0x1000_0000)?;
+    /// let disk = devices.reserve(0x4000, 0x4000, AllocPolicy::FirstMatch)?;
+    /// // The id is allocated, and these ranges are not.
+    /// let net = |start| Constraint::new(0x1000, 0x1000, AllocPolicy::ExactMatch(start));
+    /// assert_eq!(devices.conflict(net(0xd000_4000)?), None);
+    /// assert_eq!(devices.conflict(net(0xd000_3000)?), Some(Conflict::Allocated(disk.range)));
+    /// # Ok::<(), divsharun::Error>(())
+    /// ```
+    #[must_use]
+    pub fn conflict(&self, request: Constraint) -> Option<Conflict> {
+        self.0.conflict(request.0).map(Conflict::of)
     }
 
     /// Releases a device: frees its id and its range.

@@ -211,6 +211,38 @@ impl From<Error> for TryError {
 /// assert_eq!(bars(&mut mmio), Err(Error::ResourceNotAvailable));
 /// # Ok::<(), Error>(())
 /// ```
+///
+/// An error type of your own can be made from [`Error`] and [`TryError`] only:
+///
+/// ```rust
+/// use divsharun::{AddressAllocator, Error, RangeInclusive, TryError};
+///
+/// #[derive(Debug, PartialEq)]
+/// enum NoMachine {
+///     Refused(Error),
+///     OutOfMemory,
+/// }
+///
+/// impl From<Error> for NoMachine {
+///     fn from(error: Error) -> Self {
+///         NoMachine::Refused(error)
+///     }
+/// }
+///
+/// impl From<TryError> for NoMachine {
+///     fn from(error: TryError) -> Self {
+///         error.error().map_or(NoMachine::OutOfMemory, NoMachine::Refused)
+///     }
+/// }
+///
+/// fn bridge(windows: &[RangeInclusive]) -> Result<[AddressAllocator; 2], NoMachine> {
+///     let mmio = AddressAllocator::with_free(windows).map_err(Error::from)?;
+///     let restored = AddressAllocator::try_with_free(windows).map_err(TryError::from)?;
+///     Ok([mmio, restored])
+/// }
+///
+/// assert_eq!(bridge(&[]), Err(NoMachine::Refused(Error::Underflow)));
+/// ```
 #[derive(Copy, Clone, PartialEq, Eq, PartialOrd, Ord, Hash, Debug)]
 pub struct ListError<E = Error> {
     /// The index of the item that failed, or `None` if no item is the cause.

@@ -29,9 +29,8 @@
 //! mmio.free(&window)?;
 //!
 //! // A request can have a window, in which its range must lie.
-//! let low = RangeInclusive::new(0, 0xdfff_ffff)?;
-//! let request = Constraint::new(0x1000, 0x1000, AllocPolicy::LastMatch)?.within(low);
-//! assert_eq!(mmio.allocate_constraint(request)?.start(), 0xdfff_f000);
+//! let request = Constraint::new(0x1000, 0x1000, AllocPolicy::LastMatch)?;
+//! assert_eq!(mmio.allocate_constraint(request.within(..=0xdfff_ffff)?)?.start(), 0xdfff_f000);
 //! # Ok::<(), divsharun::Error>(())
 //! ```
 //!
@@ -50,9 +49,11 @@
 //!   [`held_ids`](IdAllocator::held_ids), [`iter`](IdAllocator::iter), the ends of the range and
 //!   equality;
 //! - of an [`AddressAllocator`]: [`with_held`](AddressAllocator::with_held),
+//!   [`with_free`](AddressAllocator::with_free),
 //!   [`allocate_all`](AddressAllocator::allocate_all),
 //!   [`allocate_constraint`](AddressAllocator::allocate_constraint),
 //!   [`conflict`](AddressAllocator::conflict), [`move_range`](AddressAllocator::move_range),
+//!   [`move_constraint`](AddressAllocator::move_constraint),
 //!   [`held_ranges`](AddressAllocator::held_ranges), [`iter`](AddressAllocator::iter),
 //!   [`held_ranges_in`](AddressAllocator::held_ranges_in), [`holds`](AddressAllocator::holds),
 //!   [`held_at`](AddressAllocator::held_at), [`held_count`](AddressAllocator::held_count),
@@ -64,7 +65,8 @@
 //!   [`allocate_constraint_counted`](AddressAllocator::allocate_constraint_counted) and
 //!   [`free_counted`](AddressAllocator::free_counted);
 //! - of a [`Constraint`]: its [`policy`](Constraint::policy), its
-//!   [`window`](Constraint::window), its text and its hash;
+//!   [`window`](Constraint::window) by [`within`](Constraint::within) any [`Window`], its text and its
+//!   hash;
 //! - of a [`RangeInclusive`]: [`from_start_len`](RangeInclusive::from_start_len),
 //!   [`offset_of`](RangeInclusive::offset_of), its texts, conversions,
 //!   [`contains_address`](RangeInclusive::contains_address) and
@@ -101,7 +103,8 @@
 //!
 //! Each allocated range and each gap has a node of 56 bytes. Allocating or moving a range allocates one
 //! for each part of its gap that remains, and `allocate_all` also three lists. A copy allocates all
-//! nodes, and `with_held` also a list. `reserve` and freeing, skipping or copying ids can allocate.
+//! nodes, `with_held` also a list, and `with_free` two. `reserve` and freeing, skipping or copying ids
+//! can allocate.
 //!
 //! # Threads
 //!
@@ -232,7 +235,7 @@ mod texts;
 
 pub use address_allocator::{AddressAllocator, Gaps, GapsIn, HeldRanges, HeldRangesIn};
 pub use conflict::Conflict;
-pub use constraint::{AllocPolicy, Constraint, DEFAULT_CONSTRAINT_ALIGN};
+pub use constraint::{AllocPolicy, Constraint, Window, DEFAULT_CONSTRAINT_ALIGN};
 pub use device_manager::{DeviceManager, DeviceSlot, Devices};
 pub use error::{Error, ListError, Result, TryError};
 pub use id_allocator::{HeldIds, IdAllocator};

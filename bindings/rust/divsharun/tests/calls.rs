@@ -8,7 +8,7 @@ mod items;
 mod model;
 
 use divsharun::{
-    AddressAllocator, AllocPolicy, Block, Conflict, Constraint, DeviceManager, DeviceSlot, Error,
+    AddressAllocator, AllocPolicy, Block, Constraint, DeviceManager, DeviceSlot, Error,
     IdAllocator, ListError, NodeState, RangeInclusive, TryError,
 };
 use draw::Draw;
@@ -36,7 +36,7 @@ fn blocks_of(held: &[RangeInclusive], gaps: &[RangeInclusive]) -> Vec<Block<'sta
     blocks
 }
 
-/// Moves a range, if the addresses there are free, or checks that it stays.
+/// Moves a range in both forms. The alignment is 1, and there is no window.
 fn move_range(space: &mut AddressAllocator, model: &mut Model, number: usize, to: u64) {
     let held = model.held[number];
     let mut tried = space.clone();
@@ -44,15 +44,7 @@ fn move_range(space: &mut AddressAllocator, model: &mut Model, number: usize, to
     assert_eq!(refused(tried.try_move_range(&held, to)), answer);
     assert_eq!(tried, *space);
     let request = Constraint::new(held.len(), 1, AllocPolicy::ExactMatch(to)).unwrap();
-    if to == held.start() {
-        assert_eq!(answer, Ok(held));
-    } else if model.fits(to, request) {
-        let moved = answer.unwrap();
-        assert_eq!((moved.start(), moved.len()), (to, held.len()));
-        model.held[number] = moved;
-    } else {
-        assert!(answer.is_err());
-    }
+    assert_eq!(answer, model.move_to(number, request));
 }
 
 #[test]
@@ -88,7 +80,7 @@ fn answers_are_those_of_a_plain_model() {
             space.gaps().fold(0, |count, _| count + 1)
         );
     }
-    let mut held = model.held;
+    let mut held = model.held.clone();
     held.sort();
     assert!(space.held_ranges().eq(held.iter().copied()));
     let gaps: Vec<_> = space.gaps().collect();
@@ -109,6 +101,7 @@ fn answers_are_those_of_a_plain_model() {
         expect_items(items, &blocks, |items| Some(items.len()), &mut draw);
     }
     expect_queries(&space, &held, &gaps, &mut draw);
+    expect_conflicts(&space, &model);
     let lengths = || gaps.iter().map(RangeInclusive::len);
     assert_eq!(space.longest_gap(), lengths().max().unwrap_or(0));
     assert_eq!(space.free_len(), lengths().sum());
@@ -141,21 +134,67 @@ fn expect_queries(
             draw,
         );
         expect_items(space.gaps_in(&window), &meeting(gaps), |_| None, draw);
-        let conflict = |within: RangeInclusive| {
-            let exact = Constraint::new(window.len(), 1, AllocPolicy::ExactMatch(start)).unwrap();
-            space.conflict(exact.within(within))
-        };
-        let lowest = meeting(held).first().copied().map(Conflict::Allocated);
-        let whole = RangeInclusive::new(BASE, BASE + WIDTH - 1).unwrap();
-        let outside = Some(Conflict::OutsideSpace(whole)).filter(|_| !whole.contains(&window));
-        assert_eq!(conflict(window), outside.or(lowest));
-        let below = RangeInclusive::new(start - 1, end - 1).unwrap();
-        assert_eq!(conflict(below), Some(Conflict::OutsideWindow(below)));
         if start == end {
             assert_eq!(space.held_at(start), meeting(held).pop());
             assert_eq!(space.gap_at(start), meeting(gaps).pop());
         }
     }
+}
+
+/// Checks the conflicts of each range near the space: without a window, in windows that change nothing,
+/// and in one that ends too early.
+fn expect_conflicts(space: &AddressAllocator, model: &Model) {
+    let addresses = BASE - 2..BASE + WIDTH + 2;
+    for start in addresses.clone() {
+        for end in start..addresses.end {
+            let policy = AllocPolicy::ExactMatch(start);
+            let exact = Constraint::new(end - start + 1, 1, policy).unwrap();
+            let conflict = model.conflict(exact);
+            assert_eq!(space.conflict(exact), conflict);
+            for same in [
+                exact.within(start..=end),
+                exact.within(BASE..BASE + WIDTH),
+                exact.within(BASE - 9..),
+                exact.within(..BASE + WIDTH),
+            ] {
+                assert_eq!(space.conflict(same.unwrap()), conflict);
+            }
+            let below = exact.within(start - 1..end).unwrap();
+            assert_eq!(space.conflict(below), model.conflict(below));
+        }
+    }
+}
+
+/// Returns the next few addresses.
+fn next_part(next: &mut u64, draw: &mut Draw) -> RangeInclusive {
+    let part = RangeInclusive::from_start_len(*next, 1 + draw.below(4)).unwrap();
+    *next = part.end() + 1;
+    part
+}
+
+/// Compares spaces of random free ranges with those of their holes. Some ranges have no hole between
+/// them.
+#[test]
+fn holes_between_free_ranges_are_allocated() {
+    let mut draw = Draw(11);
+    for _ in 0..2_000 {
+        let (mut free, mut holes) = (Vec::new(), Vec::new());
+        let base = draw.below(1 << 16) << 46;
+        let mut next = base;
+        for number in 0..=draw.below(12) {
+            if number > 0 && draw.below(3) > 0 {
+                holes.push(next_part(&mut next, &mut draw));
+            }
+            free.push(next_part(&mut next, &mut draw));
+        }
+        let space = AddressAllocator::with_free(&free);
+        let same = AddressAllocator::with_held(base, next - base, &holes);
+        assert_eq!(space, same);
+        assert_eq!(AddressAllocator::try_with_free(&free).ok(), space.ok());
+    }
+    let last = RangeInclusive::new(u64::MAX, u64::MAX).unwrap();
+    let space = AddressAllocator::with_free(&[last]);
+    assert!(space.is_ok_and(|space| space.gaps().eq([last])));
 }
 
 /// Makes lists of random requests in one call. If the model has no place for one of them, nothing
@@ -193,10 +232,10 @@ fn requests_are_allocated_together_or_not_at_all() {
     assert!((200..1_800).contains(&refused), "{refused} lists fail");
 }
 
-/// Checks each error of `with_held` and `allocate_all` in both forms.
+/// Checks each error of `with_held`, `with_free` and `allocate_all` in both forms.
 #[test]
 fn errors_of_calls_with_lists() {
-    use Error::{InvalidStateTransition, Overflow, ResourceNotAvailable, Underflow};
+    use Error::{InvalidRange, InvalidStateTransition, Overflow, ResourceNotAvailable, Underflow};
 
     let range = |start, end| RangeInclusive::new(start, end).unwrap();
     let max = u64::MAX;
@@ -225,6 +264,32 @@ fn errors_of_calls_with_lists() {
         assert_eq!(answer, Err(ListError { index, error }));
     }
 
+    for (free, index, error) in [
+        (&[][..], None, Underflow),
+        (
+            &[range(5, 9), range(9, 12), range(1, 2)],
+            Some(1),
+            ResourceNotAvailable,
+        ),
+        (
+            &[range(5, 9), range(10, 12), range(0, max - 1)],
+            Some(2),
+            ResourceNotAvailable,
+        ),
+        (
+            &[range(0, 4), range(9, max), range(max, max)],
+            Some(2),
+            ResourceNotAvailable,
+        ),
+        (&[range(0, 4), range(9, max)], None, InvalidRange(0, max)),
+    ] {
+        let answer = AddressAllocator::with_free(free);
+        assert_eq!(answer, Err(ListError { index, error }));
+        let answer = AddressAllocator::try_with_free(free);
+        let error = TryError::Refused(error);
+        assert_eq!(answer, Err(ListError { index, error }));
+    }
+
     let exact = |start| Constraint::new(8, 8, AllocPolicy::ExactMatch(start)).unwrap();
     let held = [range(16, 23)];
     let mut space = AddressAllocator::with_held(0, 64, &held).unwrap();
@@ -247,35 +312,54 @@ fn errors_of_calls_with_lists() {
     }
 }
 
-/// Checks that `?` converts the error of a call with a list, and its texts.
-#[test]
-fn errors_of_lists_convert() -> Result<(), Box<dyn std::error::Error>> {
-    fn refused(space: &mut AddressAllocator) -> divsharun::Result<()> {
-        let request = Constraint::new(9, 1, AllocPolicy::FirstMatch)?;
-        space.allocate_all(&[request])?;
-        Ok(())
+/// Makes a call with a list whose item 1 fails.
+fn refused_list<E: From<ListError>>(call: usize) -> Result<(), E> {
+    let range = RangeInclusive::new(0, 7).unwrap();
+    let request = Constraint::new(8, 1, AllocPolicy::FirstMatch).unwrap();
+    match call {
+        0 => drop(AddressAllocator::with_held(0, 8, &[range, range])?),
+        1 => drop(AddressAllocator::with_free(&[range, range])?),
+        _ => drop(AddressAllocator::with_free(&[range])?.allocate_all(&[request, request])?),
     }
-    fn try_refused(space: &mut AddressAllocator, is_plain: bool) -> Result<(), TryError> {
-        let request = Constraint::new(9, 1, AllocPolicy::FirstMatch)?;
-        if is_plain {
-            space.allocate_all(&[request])?;
+    Ok(())
+}
+
+/// Makes the `try_` variant of a call of [`refused_list`].
+fn try_refused_list<E: From<ListError<TryError>>>(call: usize) -> Result<(), E> {
+    let range = RangeInclusive::new(0, 7).unwrap();
+    let request = Constraint::new(8, 1, AllocPolicy::FirstMatch).unwrap();
+    match call {
+        0 => drop(AddressAllocator::try_with_held(0, 8, &[range, range])?),
+        1 => drop(AddressAllocator::try_with_free(&[range, range])?),
+        _ => {
+            let mut space = AddressAllocator::try_with_free(&[range])?;
+            drop(space.try_allocate_all(&[request, request])?);
         }
-        space.try_allocate_all(&[request])?;
-        Ok(())
     }
-    let mut space = AddressAllocator::with_held(0, 8, &[])?;
+    Ok(())
+}
+
+/// Checks that `?` converts the error of each call with a list, and its texts.
+#[test]
+fn errors_of_lists_convert() {
+    type Boxed = Box<dyn std::error::Error>;
+
     let error = Error::ResourceNotAvailable;
-    assert_eq!(refused(&mut space), Err(error));
-    for is_plain in [false, true] {
-        assert_eq!(try_refused(&mut space, is_plain), Err(error.into()));
+    let text = "item 1: The requested resource is not available.";
+    for call in 0..3 {
+        assert_eq!(refused_list(call), Err(error));
+        assert_eq!(refused_list(call), Err(TryError::Refused(error)));
+        assert_eq!(try_refused_list(call), Err(TryError::Refused(error)));
+        for answer in [refused_list(call), try_refused_list(call)] {
+            assert_eq!(
+                answer.map_err(|error: Boxed| error.to_string()),
+                Err(text.into())
+            );
+        }
     }
-    let index = Some(0);
-    let text = "item 0: The requested resource is not available.";
-    assert_eq!(ListError { index, error }.to_string(), text);
     let index = None;
     let text = "The requested resource is not available.";
     assert_eq!(ListError { index, error }.to_string(), text);
-    Ok(())
 }
 
 #[test]
@@ -762,9 +846,7 @@ fn requests_are_written_in_one_line_and_hashed() {
         if let Some((start, end)) = window {
             let window = RangeInclusive::new(start, end).unwrap();
             // A window replaces the window before it.
-            request = request
-                .within(RangeInclusive::new(5, 6).unwrap())
-                .within(window);
+            request = request.within(5..=6).unwrap().within(window).unwrap();
             assert_eq!(request.window(), Some(window));
         }
         assert_eq!(request.to_string(), text);
@@ -799,7 +881,7 @@ fn different_values_are_not_equal() {
         [(3, 4), (4, 2)]
             .map(|(size, align)| Constraint::new(size, align, AllocPolicy::FirstMatch).unwrap()),
     );
-    requests.extend([range, other].map(|window| requests[0].within(window)));
+    requests.extend([range, other].map(|window| requests[0].within(window).unwrap()));
     expect_distinct(&requests);
     expect_distinct(
         &[(1, range), (2, range), (1, other)].map(|(id, range)| DeviceSlot { id, range }),

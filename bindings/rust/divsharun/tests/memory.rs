@@ -7,8 +7,8 @@
 mod refusing;
 
 use divsharun::{
-    AddressAllocator, AllocPolicy, Constraint, DeviceManager, Error, IdAllocator, ListError,
-    RangeInclusive, TryError,
+    AddressAllocator, AllocPolicy, Conflict, Constraint, DeviceManager, Error, IdAllocator,
+    ListError, RangeInclusive, TryError,
 };
 use refusing::{blocks, peak_of, refusing};
 use std::env;
@@ -29,8 +29,9 @@ type EndedCall = fn(&mut AddressAllocator);
 
 /// Calls that return an error, each with the number of its allocations on [`two_held`]: one for a
 /// space, one for each free part of a gap that remains, one for each block of a copy or of a space
-/// with ranges. A call with ranges copies the list, and one with requests makes three lists.
-const TRIED: [(u64, TriedCall); 29] = [
+/// with ranges. A call with ranges copies the list, and one with requests makes three lists. Holes
+/// between free ranges are a list too.
+const TRIED: [(u64, TriedCall); 36] = [
     (1, |_| AddressAllocator::try_new(0, 64).map(drop)),
     (5, |space| space.try_clone().map(drop)),
     (1, |_| of_list(AddressAllocator::try_with_held(0, 64, &[]))),
@@ -40,6 +41,17 @@ const TRIED: [(u64, TriedCall); 29] = [
     (1 + 4, |_| {
         of_list(AddressAllocator::try_with_held(16, 48, &both()))
     }),
+    (1 + 1 + 5, |_| {
+        of_list(AddressAllocator::try_with_free(&three_gaps()))
+    }),
+    (1 + 1, |_| {
+        let whole = RangeInclusive::new(0, 63)?;
+        of_list(AddressAllocator::try_with_free(&[whole]))
+    }),
+    (1, |_| {
+        refused(AddressAllocator::try_with_free(&[both()[1], both()[0]]))
+    }),
+    (0, |_| refused(AddressAllocator::try_with_free(&[]))),
     (3 + 3, |space| {
         of_list(space.try_allocate_all(&three_requests()))
     }),
@@ -74,6 +86,18 @@ const TRIED: [(u64, TriedCall); 29] = [
     }),
     (2, |space| space.try_move_range(&both()[0], 4).map(drop)),
     (0, |space| refused(space.try_move_range(&both()[0], 17))),
+    (2, |space| {
+        let request = in_the_middle(4, LastMatch);
+        space.try_move_constraint(&both()[0], request).map(drop)
+    }),
+    (0, |space| {
+        let fills = request(16, ExactMatch(24));
+        space.try_move_constraint(&both()[1], fills).map(drop)
+    }),
+    (0, |space| {
+        let request = in_the_middle(16, FirstMatch);
+        refused(space.try_move_constraint(&both()[0], request))
+    }),
     (3 + 2 + 1, |space| {
         let requests = [in_the_middle(4, LastMatch), request(4, FirstMatch)];
         of_list(space.try_allocate_all(&requests))
@@ -103,11 +127,14 @@ const TRIED: [(u64, TriedCall); 29] = [
 
 /// Calls that end the process, each with the number of its allocations on [`two_held`]. A set or a
 /// map allocates two blocks for a few ids or devices.
-const ENDED: [(u64, EndedCall); 20] = [
+const ENDED: [(u64, EndedCall); 22] = [
     (1, |_| assert!(AddressAllocator::new(0, 64).is_ok())),
     (5, |space| drop(space.clone())),
     (1 + 5, |_| {
         assert!(AddressAllocator::with_held(0, 64, &both()).is_ok())
+    }),
+    (1 + 1 + 5, |_| {
+        assert!(AddressAllocator::with_free(&three_gaps()).is_ok())
     }),
     (3 + 3, |space| {
         assert!(space.allocate_all(&three_requests()).is_ok())
@@ -126,6 +153,10 @@ const ENDED: [(u64, EndedCall); 20] = [
     }),
     (2, |space| drop(space.layout().named([(both()[0], "disk")]))),
     (2, |space| assert!(space.move_range(&both()[0], 4).is_ok())),
+    (2, |space| {
+        let request = in_the_middle(4, FirstMatch);
+        assert!(space.move_constraint(&both()[0], request).is_ok())
+    }),
     (2, |_| drop(one_free_id())),
     (4, |_| drop(one_free_id().clone())),
     (2, |_| assert!(IdAllocator::with_held(0, 9, &[1]).is_ok())),
@@ -188,13 +219,19 @@ fn both() -> [RangeInclusive; 2] {
     [16, 40].map(|start| RangeInclusive::new(start, start + 7).expect("a range"))
 }
 
+/// Returns the gaps of [`two_held`].
+fn three_gaps() -> [RangeInclusive; 3] {
+    [(0, 15), (24, 39), (48, 63)]
+        .map(|(start, end)| RangeInclusive::new(start, end).expect("a range"))
+}
+
 fn request(size: u64, policy: AllocPolicy) -> Constraint {
     Constraint::new(size, 1, policy).expect("a request")
 }
 
 /// Returns a request whose window begins and ends inside the second gap of [`two_held`].
 fn in_the_middle(size: u64, policy: AllocPolicy) -> Constraint {
-    request(size, policy).within(RangeInclusive::new(26, 37).expect("a range"))
+    request(size, policy).within(26..38).expect("a window")
 }
 
 /// Returns requests that split a gap at its start and another in the middle, and fill the third.
@@ -321,11 +358,15 @@ fn unchanged_until_allowed<O: PartialEq + Debug, T: Debug>(
 /// Makes the calls that do not allocate, each of which would fail at its first allocation.
 fn no_request_is_made() {
     let (mut space, other) = (two_held(), two_held());
+    let devices = DeviceManager::new(0, 0, 0, 64).expect("a manager");
     let held = both();
     let ((), requests) = refusing(1, || {
         assert!(space.held_ranges().eq(held) && space.holds(&held[0]) && space == other);
         assert_eq!((space.held_count(), space.base(), space.end()), (2, 0, 63));
         assert_eq!(space.layout().blocks().count(), 5);
+        let exact = request(8, ExactMatch(9));
+        assert_eq!(space.conflict(exact), Some(Conflict::Allocated(held[0])));
+        assert_eq!(devices.conflict(exact), None);
         assert!(space.cmp(&other).is_eq() && space.height() > 1);
         assert_eq!(space.allocate_all(&[]), Ok(Vec::new()));
         assert_eq!(space.free(&held[0]), Ok(()));

@@ -1,17 +1,18 @@
 //! Guards against a form of a call that loses the window, the policy or the alignment of its request.
 //!
-//! Requests in each form, with a window or without, are compared with a table, and with a plain model of
-//! a small space.
+//! Requests in each form, with a window or without, and moves by them are compared with tables, and with
+//! a plain model of a small space.
 
 mod draw;
 mod model;
 
 use divsharun::{
-    AddressAllocator, AllocPolicy, Constraint, DeviceManager, DeviceSlot, Error, ListError,
-    NodeState, RangeInclusive, Result, TryError,
+    AddressAllocator, AllocPolicy, Conflict, Constraint, DeviceManager, DeviceSlot, Error,
+    ListError, NodeState, RangeInclusive, Result, TryError,
 };
 use draw::Draw;
 use model::{refused, Model, WIDTH};
+use std::ops::Bound::{Excluded, Included, Unbounded};
 use AllocPolicy::{ExactMatch, FirstMatch, LastMatch};
 use Error::{InvalidStateTransition, Overflow, ResourceNotAvailable};
 
@@ -114,6 +115,13 @@ impl Forms {
             "{request}: {answers:?}"
         );
         answers[0]
+    }
+
+    /// Returns the conflict of a request, with a space and with a manager.
+    fn conflict(&self, request: Constraint) -> Option<Conflict> {
+        let conflict = self.spaces[0].conflict(request);
+        assert_eq!(self.devices[0].conflict(request), conflict);
+        conflict
     }
 
     /// Frees a range, or returns the error of a range that is not allocated.
@@ -276,7 +284,7 @@ fn each_policy_at_the_ends_of_windows() {
                 );
             }
             let request = Constraint::new(size, align, policy).unwrap();
-            let request = request.within(range(start, end));
+            let request = request.within(start..=end).unwrap();
             let want = want.map(|start| range(start, start + (size - 1)));
             assert_eq!(spaces.allocate(request), want, "{request}");
         }
@@ -308,11 +316,12 @@ fn drawn(draw: &mut Draw, model: &Model) -> Constraint {
     let start = near(draw);
     let end = start.saturating_add(draw.below(WIDTH));
     match draw.below(6) {
-        0 => request,
-        1 if end < MAX => request.within(range(0, end)),
-        2 if start > 0 => request.within(range(start, MAX)),
+        0 => Ok(request),
+        1 => request.within(..=end),
+        2 => request.within(start..),
         _ => request.within(range(start, end)),
     }
+    .unwrap()
 }
 
 /// Counts a result: each policy that succeeds, and each error.
@@ -359,6 +368,7 @@ fn ranges_and_errors_are_those_of_a_plain_model() {
         let mut model = Model::new(base);
         for _ in 0..4_000 {
             let request = drawn(&mut draw, &model);
+            assert_eq!(spaces.conflict(request), model.conflict(request));
             let answer = spaces.allocate(request);
             assert_eq!(answer, model.allocate(request), "{request} in {base:#x}");
             kinds[kind_of(request, &answer)] += 1;
@@ -378,16 +388,144 @@ fn ranges_and_errors_are_those_of_a_plain_model() {
     assert!(kinds.iter().all(|kind| *kind > 100), "{kinds:?}");
 }
 
+/// Moves random ranges to the places of random requests, in both forms.
+#[test]
+fn moves_are_those_of_a_plain_model() {
+    let mut draw = Draw(9);
+    let mut kinds = [0; 6];
+    for base in [0, 1000, MAX - WIDTH + 1] {
+        let mut model = Model::new(base);
+        let mut space = AddressAllocator::new(base, WIDTH).unwrap();
+        for size in [1, 4, 2, 8] {
+            model
+                .held
+                .extend(space.allocate(size, size, FirstMatch).ok());
+        }
+        for _ in 0..4_000 {
+            let number = draw.below(4) as usize;
+            let (key, request) = (model.held[number], drawn(&mut draw, &model));
+            let mut tried = space.clone();
+            let answer = space.move_constraint(&key, request);
+            assert_eq!(answer, model.move_to(number, request), "{key} to {request}");
+            assert_eq!(refused(tried.try_move_constraint(&key, request)), answer);
+            assert_eq!(space, tried);
+            kinds[kind_of(request, &answer)] += 1;
+        }
+        let mut held = model.held;
+        held.sort();
+        assert!(space.held_ranges().eq(held));
+    }
+    assert!(kinds.iter().all(|kind| *kind > 100), "{kinds:?}");
+}
+
+/// Moves of a range, each with the range, the window, the request and the new start. In the space
+/// [16, 79], only [32, 39] is allocated.
+const MOVES: &[((u64, u64), Row)] = &[
+    // Elsewhere, also with another size.
+    ((32, 39), ((0, MAX), (8, 8, FirstMatch), Ok(16))),
+    ((32, 39), ((0, 61), (8, 8, LastMatch), Ok(48))),
+    ((32, 39), ((42, 61), (4, 8, LastMatch), Ok(56))),
+    ((32, 39), ((40, MAX), (16, 16, ExactMatch(64)), Ok(64))),
+    // The addresses of the range do not count as free.
+    ((32, 39), ((0, MAX), (40, 1, FirstMatch), Ok(40))),
+    ((32, 39), ((0, MAX), (41, 1, LastMatch), NONE)),
+    ((32, 39), ((0, MAX), (8, 1, ExactMatch(33)), NONE)),
+    ((32, 39), ((0, MAX), (4, 1, ExactMatch(32)), NONE)),
+    // To its own place.
+    ((32, 39), ((0, MAX), (8, 8, ExactMatch(32)), Ok(32))),
+    ((32, 39), ((32, 39), (8, 8, ExactMatch(32)), Ok(32))),
+    ((32, 39), ((33, MAX), (8, 8, ExactMatch(32)), NONE)),
+    ((32, 39), ((0, 38), (8, 8, ExactMatch(32)), Err(IS_HELD))),
+    // Outside the window, and outside the space.
+    ((32, 39), ((0, 61), (8, 8, ExactMatch(56)), NONE)),
+    ((32, 39), ((0, MAX), (8, 8, ExactMatch(80)), NONE)),
+    ((32, 39), ((0, MAX), (1, 1, ExactMatch(MAX)), Err(Overflow))),
+    // A range that is not allocated. Its error precedes the others.
+    ((32, 38), ((0, MAX), (1, 1, ExactMatch(MAX)), NONE)),
+    ((40, 47), ((0, MAX), (8, 8, FirstMatch), NONE)),
+];
+
+#[test]
+fn moves_to_places_and_errors_in_order() {
+    for &((first, last), ((start, end), (size, align, policy), want)) in MOVES {
+        let mut space = AddressAllocator::with_held(16, WIDTH, &[range(32, 39)]).unwrap();
+        let request = Constraint::new(size, align, policy).unwrap();
+        let request = request.within(start..=end).unwrap();
+        let want = want.map(|start| range(start, start + (size - 1)));
+        let answer = space.move_constraint(&range(first, last), request);
+        assert_eq!(answer, want, "{request}");
+        let held = want.unwrap_or(range(32, 39));
+        assert!(space.held_ranges().eq([held]), "{request}");
+    }
+}
+
+/// Checks the window of each kind of range, and the error of each empty one.
+#[test]
+fn windows_are_ranges_of_any_kind() {
+    let request = Constraint::new(1, 1, FirstMatch).unwrap();
+    let whole = [
+        request.within(..),
+        request.within(0..),
+        request.within(..=MAX),
+        request.within(0..=MAX),
+        request.within((Unbounded, Included(MAX))),
+    ];
+    for window in whole {
+        // A window replaces the one before it.
+        let limited = request.within(5..9).unwrap();
+        assert_eq!((limited.window(), window), (Some(range(5, 8)), Ok(request)));
+        assert_eq!(limited.within(..), Ok(request));
+    }
+    for (window, (start, end)) in [
+        (request.within(..MAX), (0, MAX - 1)),
+        (request.within(1..), (1, MAX)),
+        (request.within(..=5), (0, 5)),
+        (request.within(..5), (0, 4)),
+        (request.within(0..1), (0, 0)),
+        (request.within(5..=9), (5, 9)),
+        (request.within(5..9), (5, 8)),
+        (request.within(1 << 40..1 << 41), (1 << 40, (1 << 41) - 1)),
+        (request.within(MAX..), (MAX, MAX)),
+        (request.within(MAX..=MAX), (MAX, MAX)),
+        (request.within((Excluded(4), Excluded(9))), (5, 8)),
+        (request.within((Excluded(4), Unbounded)), (5, MAX)),
+        (request.within(range(5, 9)), (5, 9)),
+        (request.within(&range(1, MAX)), (1, MAX)),
+    ] {
+        assert_eq!(window.map(Constraint::window), Ok(Some(range(start, end))));
+    }
+    let mut spent = 7..=7;
+    spent.next();
+    // Clippy finds that some of these ranges are empty.
+    #[allow(clippy::reversed_empty_ranges)]
+    let empty = [
+        (request.within(5..5), (5, 4)),
+        (request.within(9..5), (9, 4)),
+        (request.within(5..=4), (5, 4)),
+        (request.within(MAX..=0), (MAX, 0)),
+        (request.within(spent), (7, 6)),
+        (request.within((Excluded(5), Excluded(6))), (6, 5)),
+        (request.within(..0), (1, 0)),
+        (request.within(0..0), (1, 0)),
+        (request.within(5..0), (1, 0)),
+        (request.within((Excluded(MAX), Unbounded)), (1, 0)),
+    ];
+    for (window, (first, last)) in empty {
+        assert_eq!(window, Err(Error::InvalidRange(first, last)));
+    }
+}
+
 /// Makes requests with different windows in one call, the last of which fails.
 #[test]
 fn windows_of_one_call_are_separate() {
     let request = |policy| Constraint::new(4, 4, policy).unwrap();
+    let within = |policy, window: RangeInclusive| request(policy).within(window).unwrap();
     let requests = [
-        request(FirstMatch).within(range(20, 39)),
-        request(LastMatch).within(range(20, 39)),
+        within(FirstMatch, range(20, 39)),
+        within(LastMatch, range(20, 39)),
         request(FirstMatch),
-        request(LastMatch).within(range(0, 47)),
-        request(FirstMatch).within(range(20, 27)),
+        within(LastMatch, range(0, 47)),
+        within(FirstMatch, range(20, 27)),
         request(LastMatch),
     ];
     let starts = [20, 36, 0, 44, 24, 60];
@@ -398,7 +536,7 @@ fn windows_of_one_call_are_separate() {
     assert_eq!(other.try_allocate_all(&requests), Ok(ranges));
 
     let before = space.clone();
-    let failing = [requests[2], request(FirstMatch).within(range(20, 27))];
+    let failing = [requests[2], within(FirstMatch, range(20, 27))];
     let failure = ListError {
         index: Some(1),
         error: ResourceNotAvailable,
@@ -413,7 +551,7 @@ fn windows_of_one_call_are_separate() {
 #[test]
 fn errors_of_devices_in_windows() {
     let all = |policy| Constraint::new(WIDTH, 1, policy).unwrap();
-    let outside = all(FirstMatch).within(range(WIDTH, MAX));
+    let outside = all(FirstMatch).within(WIDTH..).unwrap();
     for (last_id, error) in [(5, ResourceNotAvailable), (u32::MAX, Overflow)] {
         let mut devices = DeviceManager::new(last_id, last_id, 0, WIDTH).unwrap();
         for answer in [
@@ -424,7 +562,7 @@ fn errors_of_devices_in_windows() {
         }
         assert_eq!(devices.device_count(), 0);
         let window = range(0, WIDTH - 1);
-        let device = devices.reserve_constraint(all(LastMatch).within(window));
+        let device = devices.reserve_constraint(all(LastMatch).within(window).unwrap());
         assert_eq!(
             device.map(|device| (device.id, device.range)),
             Ok((last_id, window))
@@ -433,7 +571,7 @@ fn errors_of_devices_in_windows() {
         for request in [
             outside,
             all(ExactMatch(0)),
-            all(ExactMatch(0)).within(window),
+            all(ExactMatch(0)).within(window).unwrap(),
         ] {
             assert_eq!(devices.reserve_constraint(request), Err(error));
             let answer = devices.try_reserve_constraint(request);

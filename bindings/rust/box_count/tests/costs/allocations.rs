@@ -59,6 +59,10 @@ fn spaces() {
     expect("clone", NODES, || space.try_clone(Global)).unwrap();
     let create = || AddressAllocator::with_held(Global, BASE, SIZE, &held);
     assert!(expect("ranges given", NODES, create).unwrap() == space);
+    // The holes between the gaps: their list, and one node for each gap and hole.
+    let gaps: Vec<_> = space.gaps().collect();
+    let create = || AddressAllocator::with_free(Global, &gaps);
+    expect("gaps given", list(HELD - 1) + NODES - 1, create).unwrap();
     let value = space.to_value(Global).unwrap();
     let read = || AddressAllocator::from_value(Global, &value);
     expect("read", NODES, read).unwrap();
@@ -89,7 +93,9 @@ fn spaces() {
     let allocate = || other.allocate_all(Global, &fillings);
     expect("fillings", 1, allocate).unwrap();
     let allocate = || other.allocate(Global, 4, 1, ExactMatch(BASE + 16 * HELD));
-    expect("a split", 2, allocate).unwrap();
+    let range = expect("a split", 2, allocate).unwrap();
+    let move_up = || other.move_constraint(Global, &range, request(4, 16 * HELD + 64));
+    expect("a move", 2, move_up).unwrap();
     let free = || held.iter().all(|range| other.free(range).is_ok());
     assert!(expect("freed", 0, free));
 }

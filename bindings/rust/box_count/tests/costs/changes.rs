@@ -109,7 +109,7 @@ fn both() -> RangeInclusive {
 
 /// A walk descends once for each end of a tree, and once in each of two trees. Numbers of the whole
 /// tree are stored in its root.
-const WALKS: [(&str, u64, Walk); 22] = [
+const WALKS: [(&str, u64, Walk); 23] = [
     ("==", 2, |a, b| a != b),
     ("<", 2, |a, b| a < b),
     ("cmp", 2, |a, b| a.cmp(b).is_lt()),
@@ -131,6 +131,10 @@ const WALKS: [(&str, u64, Walk); 22] = [
     ("conflict", 2, |a, _| {
         let request = Constraint::new(17, 1, ExactMatch(32)).unwrap();
         a.conflict(request) == Some(Conflict::Allocated(first()))
+    }),
+    ("conflict outside the space", 0, |a, _| {
+        let request = Constraint::new(17, 1, ExactMatch(15)).unwrap();
+        a.conflict(request).is_some()
     }),
     ("first gap within", 2, |a, _| {
         a.gaps_in(&both()).next() == Some(range(33, 47))

@@ -1,6 +1,6 @@
 //! A plain model of a small space, which looks at each address.
 use divsharun::AllocPolicy::{ExactMatch, FirstMatch, LastMatch};
-use divsharun::{Constraint, Error, NodeState, RangeInclusive, Result, TryError};
+use divsharun::{Conflict, Constraint, Error, NodeState, RangeInclusive, Result, TryError};
 
 /// The number of addresses of a space.
 pub const WIDTH: u64 = 64;
@@ -28,7 +28,7 @@ impl Model {
     }
 
     /// Returns `true` if each address of a range is free and in the window of the request.
-    pub fn fits(&self, start: u64, request: Constraint) -> bool {
+    fn fits(&self, start: u64, request: Constraint) -> bool {
         let first = u128::from(start);
         (first..first + u128::from(request.size()))
             .all(|address| self.is_free(address) && is_in_window(address, request))
@@ -48,6 +48,40 @@ impl Model {
             return Err(Error::Overflow);
         }
         RangeInclusive::new(start, end)
+    }
+
+    /// Moves an allocated range, and returns the range that is allocated instead.
+    pub fn move_to(&mut self, number: usize, request: Constraint) -> Result<RangeInclusive> {
+        let key = self.held[number];
+        let is_for_key = (request.policy(), request.size()) == (ExactMatch(key.start()), key.len())
+            && request.window().is_none_or(|window| window.contains(&key));
+        let range = match is_for_key {
+            true => key,
+            false => self.allocate(request)?,
+        };
+        self.held[number] = range;
+        Ok(range)
+    }
+
+    /// Returns the reason why the range of an `ExactMatch` is not free.
+    pub fn conflict(&self, request: Constraint) -> Option<Conflict> {
+        let ExactMatch(start) = request.policy() else {
+            return None;
+        };
+        let (first, base) = (u128::from(start), u128::from(self.base));
+        let last = first + u128::from(request.size() - 1);
+        if first < base || base + u128::from(WIDTH - 1) < last {
+            let space = RangeInclusive::from_start_len(self.base, WIDTH);
+            return space.ok().map(Conflict::OutsideSpace);
+        }
+        if !(is_in_window(first, request) && is_in_window(last, request)) {
+            return request.window().map(Conflict::OutsideWindow);
+        }
+        let meets = |held: &&RangeInclusive| {
+            u128::from(held.start()) <= last && first <= u128::from(held.end())
+        };
+        let lowest = self.held.iter().filter(meets).min();
+        lowest.copied().map(Conflict::Allocated)
     }
 
     /// Returns the start of an `ExactMatch`, or the first error that is not about `MAX` as its end.
