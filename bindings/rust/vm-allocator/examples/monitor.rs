@@ -18,7 +18,7 @@ const MIB: u64 = 1 << 20;
 const GIB: u64 = 1 << 30;
 
 /// A BAR of a device by its size, which is a power of two.
-#[derive(Clone, Copy)]
+#[derive(Clone, Copy, Debug)]
 enum Bar {
     Of32Bits(u64),
     Of64Bits(u64),
@@ -26,19 +26,20 @@ enum Bar {
 
 impl Bar {
     /// Returns the request for the BAR, aligned to its size and at least to a page.
-    fn request(&self) -> Result<Constraint> {
-        let (size, window) = match *self {
-            Of32Bits(size) => (size, RangeInclusive::new(0, 4 * GIB - 1)?),
-            Of64Bits(size) => (size, RangeInclusive::new(4 * GIB, u64::MAX)?),
-        };
-        let request = Constraint::new(size, PAGE.max(size), AllocPolicy::FirstMatch)?;
-        Ok(request.within(window))
+    fn request(self, policy: AllocPolicy) -> Result<Constraint> {
+        let request = |size: u64| Constraint::new(size, PAGE.max(size), policy);
+        match self {
+            Of32Bits(size) => request(size)?.within(..4 * GIB),
+            Of64Bits(size) => request(size)?.within(4 * GIB..),
+        }
     }
 }
 
 #[derive(Debug)]
 struct PciDevice {
     interrupt: u32,
+    kinds: Vec<Bar>,
+    /// The range of the BAR of each kind.
     bars: Vec<RangeInclusive>,
 }
 
@@ -72,13 +73,19 @@ impl Resources {
     }
 
     /// Plugs in a device. It gets an interrupt and all of its BARs, or nothing.
-    fn plug(&mut self, bars: &[Bar]) -> Result<PciDevice> {
-        let requests: Vec<_> = bars.iter().map(Bar::request).collect::<Result<_>>()?;
+    fn plug(&mut self, kinds: &[Bar]) -> Result<PciDevice> {
+        let request = |kind: &Bar| kind.request(AllocPolicy::FirstMatch);
+        let requests: Vec<_> = kinds.iter().map(request).collect::<Result<_>>()?;
         self.interrupts.peek_id()?;
         let bars = self.addresses.allocate_all(&requests)?;
         // An interrupt is free, so this succeeds.
         let interrupt = self.interrupts.allocate_id()?;
-        Ok(PciDevice { interrupt, bars })
+        let kinds = kinds.to_vec();
+        Ok(PciDevice {
+            interrupt,
+            kinds,
+            bars,
+        })
     }
 
     /// Frees everything that a device has.
@@ -89,10 +96,21 @@ impl Resources {
         self.interrupts.free_id(device.interrupt).map(drop)
     }
 
-    /// Moves a BAR of a device to the start that the guest programs.
+    /// Moves a BAR of a device to the start that the guest programs. The BAR stays unchanged if its new
+    /// range is misaligned, not free, or on the wrong side of 4 GiB.
     fn move_bar(&mut self, device: &mut PciDevice, index: usize, start: u64) -> Result<()> {
+        let request = device.kinds[index].request(AllocPolicy::ExactMatch(start))?;
         let bar = &mut device.bars[index];
-        *bar = self.addresses.move_range(bar, start)?;
+        *bar = self.addresses.move_constraint(bar, request)?;
+        Ok(())
+    }
+
+    /// Makes a BAR of a device larger or smaller. The BAR stays unchanged if no range fits.
+    fn resize_bar(&mut self, device: &mut PciDevice, index: usize, kind: Bar) -> Result<()> {
+        let request = kind.request(AllocPolicy::FirstMatch)?;
+        let bar = &mut device.bars[index];
+        *bar = self.addresses.move_constraint(bar, request)?;
+        device.kinds[index] = kind;
         Ok(())
     }
 
@@ -191,11 +209,22 @@ fn plug_cards(shared: &Shared) -> Result<PciDevice> {
     assert_eq!(again.bars, card.bars);
     println!("plugged in again, with the same ranges");
 
-    // The guest programs the second BAR. Another one is in the way of its first try.
-    let taken = shared.with(|resources| resources.move_bar(&mut again, 1, card.bars[0].start()));
-    assert!(matches!(taken, Err(Error::ResourceNotAvailable)));
+    // The guest programs the second BAR. First another BAR is in the way, then the start is misaligned,
+    // and then it is above 4 GiB.
+    for (start, error) in [
+        (card.bars[0].start(), Error::ResourceNotAvailable),
+        (0xe000_0800, Error::UnalignedAddress),
+        (again.bars[2].end() + 1, Error::ResourceNotAvailable),
+    ] {
+        let moved = shared.with(|resources| resources.move_bar(&mut again, 1, start));
+        assert_eq!((moved, again.bars[1]), (Err(error), card.bars[1]));
+    }
     shared.with(|resources| resources.move_bar(&mut again, 1, 0xe000_0000))?;
     println!("moved to {}", again.bars[1]);
+
+    // The driver resizes the third BAR.
+    shared.with(|resources| resources.resize_bar(&mut again, 2, Of64Bits(32 * GIB)))?;
+    println!("resized to {}", again.bars[2]);
     Ok(again)
 }
 

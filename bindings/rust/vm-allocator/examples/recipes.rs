@@ -12,12 +12,22 @@ const GIB: u64 = 1 << 30;
 
 /// A 32-bit BAR is below 4 GiB, and a 64-bit BAR is above it.
 fn bars(space: &mut AddressAllocator) -> Result<()> {
-    let below = RangeInclusive::new(0, 4 * GIB - 1)?;
-    let above = RangeInclusive::new(4 * GIB, u64::MAX)?;
     let request = Constraint::new(MIB, MIB, AllocPolicy::FirstMatch)?;
-    let of_32_bits = space.allocate_constraint(request.within(below))?;
-    let of_64_bits = space.allocate_constraint(request.within(above))?;
-    assert!(below.contains(&of_32_bits) && above.contains(&of_64_bits));
+    let of_32_bits = space.allocate_constraint(request.within(..4 * GIB)?)?;
+    let of_64_bits = space.allocate_constraint(request.within(4 * GIB..)?)?;
+    assert!(of_32_bits.end() < 4 * GIB && of_64_bits.start() >= 4 * GIB);
+    Ok(())
+}
+
+/// The windows of a host bridge are one space, with a hole for the interrupt controllers.
+fn host_bridge() -> Result<()> {
+    let windows = [
+        RangeInclusive::new(0xc000_0000, 0xfebf_ffff)?,
+        RangeInclusive::new(4 * GIB, 256 * GIB - 1)?,
+    ];
+    let mut space = AddressAllocator::with_free(&windows)?;
+    let bar = space.allocate(GIB, GIB, AllocPolicy::FirstMatch)?;
+    assert!(windows[1].contains(&bar));
     Ok(())
 }
 
@@ -41,14 +51,18 @@ fn hot_plug(space: &mut AddressAllocator) -> Result<()> {
     Ok(())
 }
 
-/// The guest programs another start of a BAR, which must be free.
+/// The guest programs another start of a 32-bit BAR, which must be free, aligned and below 4 GiB. Then
+/// the BAR gets another size.
 fn moved_bar(space: &mut AddressAllocator) -> Result<()> {
-    let bar = space.allocate(PAGE, PAGE, AllocPolicy::FirstMatch)?;
-    let moved = space.move_range(&bar, 0xe000_0000)?;
+    let request = |size, policy| Constraint::new(size, size, policy)?.within(..4 * GIB);
+    let bar = space.allocate_constraint(request(PAGE, AllocPolicy::FirstMatch)?)?;
+    let programmed = request(PAGE, AllocPolicy::ExactMatch(0xe000_0000))?;
+    let moved = space.move_constraint(&bar, programmed)?;
     assert!(space.holds(&moved) && !space.holds(&bar));
+    assert_eq!(space.conflict(programmed), Some(Conflict::Allocated(moved)));
 
-    let again = Constraint::new(PAGE, PAGE, AllocPolicy::ExactMatch(moved.start()))?;
-    assert_eq!(space.conflict(again), Some(Conflict::Allocated(moved)));
+    let resized = space.move_constraint(&moved, request(MIB, AllocPolicy::FirstMatch)?)?;
+    assert!(space.holds(&resized) && !space.holds(&moved));
     Ok(())
 }
 
@@ -100,6 +114,7 @@ fn threads(space: AddressAllocator) -> Result<()> {
 fn main() -> Result<()> {
     let mut space = AddressAllocator::new(3 * GIB, 253 * GIB)?;
     bars(&mut space)?;
+    host_bridge()?;
     bridge_window(&mut space)?;
     hot_plug(&mut space)?;
     moved_bar(&mut space)?;
