@@ -55,10 +55,11 @@
  * text, and its part after the first fault allocates nothing.
  *
  * Cost. Let k be the number of allocated ranges. Allocating, moving and freeing
- * a range takes time of the order of log k, and so do dvs_range_is_allocated(),
- * dvs_range_at() and dvs_gap_at(). An alignment can make the search for a range
- * visit more gaps. A visit within a range or from an address takes time of the order
- * of log k, plus the number of allocated ranges and gaps up to where it ends.
+ * a range takes time of the order of log k, and so do dvs_range_conflict(),
+ * dvs_range_is_allocated(), dvs_range_at() and dvs_gap_at(). An alignment can make
+ * the search for a range visit more gaps. A visit within a range or from an address
+ * takes time of the order of log k, plus the number of allocated ranges and gaps up to
+ * where it ends.
  *
  * Calls on one id or device take logarithmic time too. If such a call makes the list
  * of freed ids or of devices longer, it can also move the list, in linear time.
@@ -183,11 +184,15 @@ typedef struct dvs_refusal {
 } dvs_refusal;
 
 /*
- * The causes. The first one that applies is written, in this order: outside the window,
- * outside the space, allocated, an earlier request.
+ * The causes. The first one that applies is written, in this order: outside the space,
+ * outside the window, allocated, an earlier request. A call looks for the cause only if
+ * its `refusal` is not null.
  */
 enum {
-    /* Another error, no given start, no free id, or the range to move is not allocated. */
+    /*
+     * No conflict, another error, no given start, no free id, or the range to move is
+     * not allocated.
+     */
     DVS_CAUSE_NONE = 0,
     /* An address is allocated. `other` is the lowest allocated range that has one. */
     DVS_CAUSE_ALLOCATED = 1,
@@ -229,8 +234,8 @@ typedef struct dvs_request {
      * The range must lie in this window. NULL if there is none. The pointer must
      * be valid during the call only.
      *
-     * A window that starts at 0 has no lower limit, and one that ends at
-     * UINT64_MAX has no upper limit. A window with both has no limit, like NULL.
+     * A `start` of 0 is no lower limit. An `end` of UINT64_MAX is no upper limit.
+     * With neither limit there is no window, as with NULL.
      */
     const dvs_range *window;
 } dvs_request;
@@ -318,6 +323,30 @@ DVS_WARN_UNUSED
 dvs_status dvs_address_allocator_with_held(uint64_t base, uint64_t size, const dvs_range *held,
                                            size_t count, dvs_address_allocator **allocator,
                                            size_t *failed, dvs_refusal *refusal);
+
+/*
+ * Creates an allocator in which exactly the `count` ranges of the array `ranges` are
+ * free. They must be in ascending order, and share no address. Destroy the allocator
+ * with dvs_address_allocator_destroy().
+ *
+ * The space is from the first address of the first range to the last address of the
+ * last one. Each hole between the ranges is an allocated range, and can be freed. Ranges
+ * without a hole between them are one gap.
+ *
+ * Errors, in order:
+ * - DVS_INVALID_RANGE, with the first range that is not a valid range.
+ * - DVS_OUT_OF_MEMORY if memory for a copy of the list runs out.
+ * - DVS_UNDERFLOW if `count` is 0. The array can be null then.
+ * - DVS_RESOURCE_NOT_AVAILABLE for the first range that does not start after the end
+ *   of the range before it.
+ * - DVS_INVALID_RANGE, with the space, if it would have all 2^64 addresses.
+ * - DVS_OVERFLOW if there are 2^48 or more holes.
+ * - DVS_OUT_OF_MEMORY.
+ */
+DVS_WARN_UNUSED
+dvs_status dvs_address_allocator_with_free(const dvs_range *ranges, size_t count,
+                                           dvs_address_allocator **allocator, size_t *failed,
+                                           dvs_refusal *refusal);
 
 /*
  * Destroys an allocator, with all its allocated ranges. It does nothing if the
@@ -411,10 +440,14 @@ dvs_status dvs_range_allocate_exact(dvs_address_allocator *allocator, uint64_t s
  *
  * Errors, in order:
  * - DVS_INVALID_POLICY if the policy is not one of the constants.
+ * - DVS_INVALID_SIZE if `size` is 0.
+ * - DVS_INVALID_ALIGNMENT if `alignment` is not a power of two.
+ * - DVS_UNALIGNED_ADDRESS if the start of DVS_EXACT is not a multiple of
+ *   `alignment`.
  * - DVS_INVALID_RANGE, with the window, if its start is past its end.
- * - The errors of dvs_range_allocate_first(), _last() or _exact(), in the same
- *   order. Addresses outside the window count as outside the space. So no range
- *   fits if the window and the space have no address in common.
+ * - The other errors of dvs_range_allocate_first(), _last() or _exact(), in the
+ *   same order. Addresses outside the window count as outside the space. So no
+ *   range fits if the window and the space have no address in common.
  *
  * DVS_INVALID_STATE_TRANSITION is also returned if the allocated range starts in
  * the window and ends past it. A window that ends before UINT64_MAX avoids the
@@ -432,8 +465,8 @@ dvs_status dvs_range_allocate(dvs_address_allocator *allocator, const dvs_reques
  *
  * Errors, in order:
  * - For the first request that is invalid for every allocator:
- *   DVS_INVALID_POLICY, DVS_INVALID_RANGE, DVS_INVALID_SIZE,
- *   DVS_INVALID_ALIGNMENT or DVS_UNALIGNED_ADDRESS.
+ *   DVS_INVALID_POLICY, DVS_INVALID_SIZE, DVS_INVALID_ALIGNMENT,
+ *   DVS_UNALIGNED_ADDRESS or DVS_INVALID_RANGE.
  * - DVS_OUT_OF_MEMORY if memory for a list runs out.
  * - For the first request that fails: the error of dvs_range_allocate().
  */
@@ -442,6 +475,17 @@ dvs_status dvs_address_allocator_allocate_all(dvs_address_allocator *allocator,
                                               const dvs_request *requests, size_t count,
                                               dvs_range *ranges, size_t *failed,
                                               dvs_refusal *refusal);
+
+/*
+ * Writes to `conflict` why the range of a DVS_EXACT request is not free: the cause, the
+ * requested range and the one that the cause names, as in a refusal. If the range is
+ * free, and for the other policies, the cause is DVS_CAUSE_NONE.
+ *
+ * Errors: those of dvs_range_allocate() from DVS_INVALID_POLICY to DVS_INVALID_RANGE.
+ */
+DVS_WARN_UNUSED
+dvs_status dvs_range_conflict(const dvs_address_allocator *allocator, const dvs_request *request,
+                              dvs_refusal *conflict);
 
 /*
  * Frees an allocated range. It does not allocate memory.
@@ -454,10 +498,28 @@ dvs_status dvs_address_allocator_allocate_all(dvs_address_allocator *allocator,
 dvs_status dvs_range_free(dvs_address_allocator *allocator, dvs_range range, dvs_refusal *refusal);
 
 /*
- * Moves an allocated range to `start`, and writes the range there to `moved`. A
- * guest does this when it programs a BAR. It allocates as many addresses at
- * `start`, and then frees `range`. So both cannot overlap. A move of a range to
- * its own start succeeds and changes nothing.
+ * Moves an allocated range to the place of `request`, and writes the range there to
+ * `moved`. A guest does this when it programs a BAR, and a monitor when it resizes one.
+ * It allocates a range for the request, and then frees `range`. So the addresses of
+ * `range` do not count as free. A DVS_EXACT request for exactly `range`, with `range` in
+ * its window, succeeds and changes nothing.
+ *
+ * Errors, in order:
+ * - Those of dvs_range_allocate() from DVS_INVALID_POLICY to DVS_INVALID_RANGE.
+ * - DVS_INVALID_RANGE if `range` is not a valid range.
+ * - DVS_RESOURCE_NOT_AVAILABLE if exactly this range is not allocated.
+ * - The other errors of dvs_range_allocate(), in the same order.
+ */
+DVS_WARN_UNUSED
+dvs_status dvs_range_move_request(dvs_address_allocator *allocator, dvs_range range,
+                                  const dvs_request *request, dvs_range *moved,
+                                  dvs_refusal *refusal);
+
+/*
+ * Moves an allocated range to `start`, and writes the range there to `moved`. This
+ * is dvs_range_move_request() for as many addresses at `start`, at alignment 1 and
+ * without a window. So it does not check the alignment and the window of the first
+ * request. A move of a range to its own start succeeds and changes nothing.
  *
  * Errors, in order:
  * - DVS_INVALID_RANGE if `range` is not a valid range.
@@ -878,18 +940,21 @@ dvs_status dvs_device_reserve_exact(dvs_device_manager *manager, uint64_t size, 
  * id.
  *
  * Errors, in order:
- * - DVS_INVALID_POLICY if the policy is not one of the constants.
- * - DVS_INVALID_RANGE, with the window, if its start is past its end.
- * - DVS_INVALID_SIZE if `size` is 0.
- * - DVS_INVALID_ALIGNMENT if `alignment` is not a power of two.
- * - DVS_UNALIGNED_ADDRESS if the start of DVS_EXACT is not a multiple of
- *   `alignment`.
+ * - Those of dvs_range_allocate() from DVS_INVALID_POLICY to DVS_INVALID_RANGE.
  * - Those of dvs_id_allocate().
  * - The other errors of dvs_range_allocate(), in the same order.
  */
 DVS_WARN_UNUSED
 dvs_status dvs_device_reserve(dvs_device_manager *manager, const dvs_request *request,
                               dvs_device *device, dvs_refusal *refusal);
+
+/*
+ * Writes to `conflict` why the range of a DVS_EXACT request is not free, like
+ * dvs_range_conflict(). The ids do not matter.
+ */
+DVS_WARN_UNUSED
+dvs_status dvs_device_conflict(const dvs_device_manager *manager, const dvs_request *request,
+                               dvs_refusal *conflict);
 
 /*
  * Releases a device: frees its id and its range.

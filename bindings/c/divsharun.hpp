@@ -331,6 +331,14 @@ class address_allocator : public owner<dvs_address_allocator, dvs_address_alloca
                                                    failed, refusal);
         });
     }
+    DVS_MUST_CHECK error make_with_free(const std::vector<dvs_range> &ranges,
+                                        std::size_t *failed = nullptr,
+                                        dvs_refusal *refusal = nullptr) {
+        return create([&](object **out) {
+            return dvs_address_allocator_with_free(ranges.data(), ranges.size(), out, failed,
+                                                   refusal);
+        });
+    }
     DVS_MUST_CHECK error read(const std::string &text, dvs_text_fault *fault = nullptr,
                               const dvs_text_limits *limits = nullptr) {
         return read_by(dvs_address_allocator_read_within, text, fault, limits);
@@ -384,6 +392,20 @@ class address_allocator : public owner<dvs_address_allocator, dvs_address_alloca
     DVS_MUST_CHECK error move_range(dvs_range range, uint64_t start, dvs_range &moved,
                                     dvs_refusal *refusal = nullptr) {
         return code(dvs_range_move(get(), range, start, &moved, refusal));
+    }
+    DVS_MUST_CHECK error move_range(dvs_range range, const dvs_request &asked, dvs_range &moved,
+                                    dvs_refusal *refusal = nullptr) {
+        return code(dvs_range_move_request(get(), range, &asked, &moved, refusal));
+    }
+    DVS_MUST_CHECK error move_range(dvs_range range, const request &asked, dvs_range &moved,
+                                    dvs_refusal *refusal = nullptr) {
+        return move_range(range, asked.get(), moved, refusal);
+    }
+    DVS_MUST_CHECK error conflict(const dvs_request &asked, dvs_refusal &found) const {
+        return code(dvs_range_conflict(get(), &asked, &found));
+    }
+    DVS_MUST_CHECK error conflict(const request &asked, dvs_refusal &found) const {
+        return conflict(asked.get(), found);
     }
     DVS_MUST_CHECK error space(dvs_range &space) const {
         return code(dvs_address_allocator_space(get(), &space));
@@ -554,6 +576,12 @@ class device_manager : public owner<dvs_device_manager, dvs_device_manager_destr
     DVS_MUST_CHECK error reserve(const request &asked, dvs_device &device,
                                  dvs_refusal *refusal = nullptr) {
         return reserve(asked.get(), device, refusal);
+    }
+    DVS_MUST_CHECK error conflict(const dvs_request &asked, dvs_refusal &found) const {
+        return code(dvs_device_conflict(get(), &asked, &found));
+    }
+    DVS_MUST_CHECK error conflict(const request &asked, dvs_refusal &found) const {
+        return conflict(asked.get(), found);
     }
     DVS_MUST_CHECK error release(uint32_t id) {
         return code(dvs_device_release(get(), id, nullptr));

@@ -47,6 +47,21 @@ static void plug_card(dvs_address_allocator *mmio, char *card, const dvs_request
         printf("%s: BAR %u does not fit, so no BAR is allocated\n", card, (unsigned)failed);
 }
 
+/* Moves a BAR to the start that the guest programs. The BAR stays unchanged if its new range is
+ * misaligned, outside the window or not free. */
+static void program_bar(dvs_address_allocator *mmio, dvs_request bar, uint64_t start,
+                        dvs_range *range) {
+    dvs_status status;
+
+    bar.policy = DVS_EXACT;
+    bar.start = start;
+    status = dvs_range_move_request(mmio, *range, &bar, range, NULL);
+    if (status == DVS_OK)
+        print_range("moved", *range);
+    else
+        printf("not moved to %#" PRIx64 ": %s\n", start, dvs_status_text(status));
+}
+
 /* Returns a saved and restored copy of the allocator, as after a migration. */
 static dvs_address_allocator *restored(const dvs_address_allocator *mmio) {
     dvs_address_allocator *copy;
@@ -100,9 +115,9 @@ int main(void) {
     if (status == DVS_INVALID_STATE_TRANSITION)
         printf("already allocated, up to %#" PRIx64 "\n", refusal.range.end);
 
-    /* The guest programs the first BAR of the graphics. */
-    check(dvs_range_move(mmio, bars[0], 0xd0000000, &bars[0], NULL), "moving a BAR");
-    print_range("moved", bars[0]);
+    program_bar(mmio, graphics[0], 0xd0000800, &bars[0]);
+    program_bar(mmio, graphics[0], 0x200000000, &bars[0]);
+    program_bar(mmio, graphics[0], 0xd0000000, &bars[0]);
 
     copy = restored(mmio);
     dvs_address_allocator_destroy(mmio);

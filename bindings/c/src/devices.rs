@@ -7,7 +7,7 @@ use crate::proved::vm_allocator::{AllocPolicy, Constraint, Error};
 use crate::proved::vm_devices::{DeviceManager, DeviceSlot};
 use crate::ranges::space_of;
 use crate::rattle::Global;
-use crate::requests::{dvs_request, refused, with_request};
+use crate::requests::{dvs_request, refused, with_conflict, with_request};
 use crate::texts::{dvs_text_fault, read, read_devices, save};
 use crate::{dvs_range, dvs_refusal, dvs_status, status_of, CallError, Out};
 use core::ffi::{c_char, c_int, c_void};
@@ -69,8 +69,8 @@ pub extern "C" fn dvs_device_reserve_first(
     device: Out<dvs_device>,
     refusal: Out<dvs_refusal>,
 ) -> dvs_status {
-    let taken = reserve(manager, size, alignment, AllocPolicy::FirstMatch, device);
-    status_of(taken, refusal)
+    let policy = AllocPolicy::FirstMatch;
+    reserve(manager, size, alignment, policy, device, refusal)
 }
 
 #[unsafe(no_mangle)]
@@ -81,8 +81,8 @@ pub extern "C" fn dvs_device_reserve_last(
     device: Out<dvs_device>,
     refusal: Out<dvs_refusal>,
 ) -> dvs_status {
-    let taken = reserve(manager, size, alignment, AllocPolicy::LastMatch, device);
-    status_of(taken, refusal)
+    let policy = AllocPolicy::LastMatch;
+    reserve(manager, size, alignment, policy, device, refusal)
 }
 
 #[unsafe(no_mangle)]
@@ -95,8 +95,7 @@ pub extern "C" fn dvs_device_reserve_exact(
     refusal: Out<dvs_refusal>,
 ) -> dvs_status {
     let policy = AllocPolicy::ExactMatch(start);
-    let taken = reserve(manager, size, alignment, policy, device);
-    status_of(taken, refusal)
+    reserve(manager, size, alignment, policy, device, refusal)
 }
 
 fn reserve(
@@ -105,25 +104,30 @@ fn reserve(
     alignment: u64,
     policy: AllocPolicy,
     device: Out<dvs_device>,
-) -> Result<(), CallError> {
-    with_mut(manager, device, |manager| {
+    refusal: Out<dvs_refusal>,
+) -> dvs_status {
+    let taken = with_mut(manager, device, |manager| {
         let reserved = manager.reserve(Global, size, alignment, policy);
-        reserved.map(Into::into).map_err(|error| {
-            let request = Constraint::new(size, alignment, policy);
-            refused_device(manager, request.ok(), error)
-        })
-    })
+        reserved
+            .map(Into::into)
+            .map_err(|error| match Constraint::new(size, alignment, policy) {
+                Ok(request) => refused_device(manager, request, error, refusal.is_some()),
+                Err(_) => error.into(),
+            })
+    });
+    status_of(taken, refusal)
 }
 
 /// Returns the error of a refused device. If all ids are allocated, no range is in the way.
 #[cold]
-fn refused_device(manager: &DeviceManager, request: Option<Constraint>, error: Error) -> CallError {
-    match request {
-        Some(request) if manager.ids().peek_id().is_ok() => {
-            refused(manager.addresses(), request, error)
-        }
-        _ => error.into(),
-    }
+fn refused_device(
+    manager: &DeviceManager,
+    request: Constraint,
+    error: Error,
+    wants_details: bool,
+) -> CallError {
+    let wants_details = wants_details && manager.ids().peek_id().is_ok();
+    refused(manager.addresses(), request, error, wants_details)
 }
 
 #[unsafe(no_mangle)]
@@ -137,9 +141,19 @@ pub extern "C" fn dvs_device_reserve(
         let reserved = manager.reserve_constraint(Global, request);
         reserved
             .map(Into::into)
-            .map_err(|error| refused_device(manager, Some(request), error))
+            .map_err(|error| refused_device(manager, request, error, refusal.is_some()))
     });
     status_of(taken, refusal)
+}
+
+#[unsafe(no_mangle)]
+pub extern "C" fn dvs_device_conflict(
+    manager: Option<&dvs_device_manager>,
+    request: Option<&dvs_request>,
+    conflict: Out<dvs_refusal>,
+) -> dvs_status {
+    let asked = with_conflict(manager, request, conflict, DeviceManager::conflict);
+    status_of(asked, None)
 }
 
 #[unsafe(no_mangle)]

@@ -1,7 +1,7 @@
 //! Calls with arrays of ranges and of requests.
 
 use crate::handle::{non_null, Handle};
-use crate::proved::vm_allocator::{AddressAllocator, ListError};
+use crate::proved::vm_allocator::{AddressAllocator, ListError, RangeInclusive};
 use crate::ranges::dvs_address_allocator;
 use crate::rattle::Global;
 use crate::requests::{dvs_request, refused};
@@ -91,6 +91,25 @@ fn status_of_array(
     status_of(answer.map_err(|failure| failure.error), refusal)
 }
 
+/// Creates an allocator from an array of ranges, and writes its pointer to `out`.
+///
+/// # Safety
+///
+/// The array is null or points to `count` readable ranges.
+unsafe fn create_from(
+    ranges: *const dvs_range,
+    count: usize,
+    out: Out<*mut dvs_address_allocator>,
+    made: impl FnOnce(&[RangeInclusive]) -> Result<AddressAllocator, ListError>,
+) -> Result<(), ArrayError> {
+    let out = non_null(out)?;
+    // SAFETY: the caller's contract.
+    let ranges = unsafe { array(ranges, count) }?;
+    let ranges = converted(ranges, |range| Ok((*range).try_into()?))?;
+    out.write(Handle::new(made(&ranges)?)?);
+    Ok(())
+}
+
 /// # Safety
 ///
 /// The array is null or points to `count` readable ranges.
@@ -104,16 +123,27 @@ pub unsafe extern "C" fn dvs_address_allocator_with_held(
     failed: Out<usize>,
     refusal: Out<dvs_refusal>,
 ) -> dvs_status {
-    let make = || {
-        let allocator = non_null(allocator)?;
-        // SAFETY: the caller's contract.
-        let held = unsafe { array(held, count) }?;
-        let held = converted(held, |range| Ok((*range).try_into()?))?;
-        let made = AddressAllocator::with_held(Global, base, size, &held)?;
-        allocator.write(Handle::new(made)?);
-        Ok(())
-    };
-    status_of_array(make(), count, failed, refusal)
+    let made = |held: &_| AddressAllocator::with_held(Global, base, size, held);
+    // SAFETY: the caller's contract.
+    let made = unsafe { create_from(held, count, allocator, made) };
+    status_of_array(made, count, failed, refusal)
+}
+
+/// # Safety
+///
+/// The array is null or points to `count` readable ranges.
+#[unsafe(no_mangle)]
+pub unsafe extern "C" fn dvs_address_allocator_with_free(
+    ranges: *const dvs_range,
+    count: usize,
+    allocator: Out<*mut dvs_address_allocator>,
+    failed: Out<usize>,
+    refusal: Out<dvs_refusal>,
+) -> dvs_status {
+    let made = |free: &_| AddressAllocator::with_free(Global, free);
+    // SAFETY: the caller's contract.
+    let made = unsafe { create_from(ranges, count, allocator, made) };
+    status_of_array(made, count, failed, refusal)
 }
 
 /// # Safety
@@ -141,7 +171,7 @@ pub unsafe extern "C" fn dvs_address_allocator_allocate_all(
         let allocated = object.allocate_all(Global, &requests).map_err(|failure| {
             let index = failure.index;
             let error = match index.and_then(|index| requests.get(index)) {
-                Some(&request) => refused(object, request, failure.error),
+                Some(&request) => refused(object, request, failure.error, refusal.is_some()),
                 None => failure.error.into(),
             };
             ArrayError { index, error }

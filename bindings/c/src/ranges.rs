@@ -8,7 +8,7 @@ use crate::proved::vm_allocator::{
     AddressAllocator, AllocPolicy, Constraint, Error, RangeInclusive, Result as Answer,
 };
 use crate::rattle::Global;
-use crate::requests::{dvs_request, refused, with_request};
+use crate::requests::{dvs_request, refused, with_conflict, with_request};
 use crate::texts::{dvs_text_fault, read, read_space, save};
 use crate::{dvs_range, dvs_refusal, dvs_status, status_of, CallError, Out};
 use core::ffi::{c_char, c_int, c_void};
@@ -90,8 +90,8 @@ pub extern "C" fn dvs_range_allocate_first(
     range: Out<dvs_range>,
     refusal: Out<dvs_refusal>,
 ) -> dvs_status {
-    let taken = allocate(allocator, size, alignment, AllocPolicy::FirstMatch, range);
-    status_of(taken, refusal)
+    let policy = AllocPolicy::FirstMatch;
+    allocate(allocator, size, alignment, policy, range, refusal)
 }
 
 #[unsafe(no_mangle)]
@@ -102,8 +102,8 @@ pub extern "C" fn dvs_range_allocate_last(
     range: Out<dvs_range>,
     refusal: Out<dvs_refusal>,
 ) -> dvs_status {
-    let taken = allocate(allocator, size, alignment, AllocPolicy::LastMatch, range);
-    status_of(taken, refusal)
+    let policy = AllocPolicy::LastMatch;
+    allocate(allocator, size, alignment, policy, range, refusal)
 }
 
 #[unsafe(no_mangle)]
@@ -116,8 +116,7 @@ pub extern "C" fn dvs_range_allocate_exact(
     refusal: Out<dvs_refusal>,
 ) -> dvs_status {
     let policy = AllocPolicy::ExactMatch(start);
-    let taken = allocate(allocator, size, alignment, policy, range);
-    status_of(taken, refusal)
+    allocate(allocator, size, alignment, policy, range, refusal)
 }
 
 #[inline(always)]
@@ -127,21 +126,25 @@ fn allocate(
     alignment: u64,
     policy: AllocPolicy,
     range: Out<dvs_range>,
-) -> Result<(), CallError> {
-    with_mut(allocator, range, |allocator| {
-        allocate_request(allocator, Constraint::new(size, alignment, policy)?)
-    })
+    refusal: Out<dvs_refusal>,
+) -> dvs_status {
+    let taken = with_mut(allocator, range, |allocator| {
+        let request = Constraint::new(size, alignment, policy)?;
+        allocate_request(allocator, request, refusal.is_some())
+    });
+    status_of(taken, refusal)
 }
 
 #[inline(always)]
 fn allocate_request(
     allocator: &mut AddressAllocator,
     request: Constraint,
+    wants_details: bool,
 ) -> Result<dvs_range, CallError> {
     let allocated = allocator.allocate_constraint(Global, request);
     allocated
         .map(Into::into)
-        .map_err(|error| refused(allocator, request, error))
+        .map_err(|error| refused(allocator, request, error, wants_details))
 }
 
 #[unsafe(no_mangle)]
@@ -151,8 +154,20 @@ pub extern "C" fn dvs_range_allocate(
     range: Out<dvs_range>,
     refusal: Out<dvs_refusal>,
 ) -> dvs_status {
-    let taken = with_request(allocator, request, range, allocate_request);
+    let taken = with_request(allocator, request, range, |allocator, request| {
+        allocate_request(allocator, request, refusal.is_some())
+    });
     status_of(taken, refusal)
+}
+
+#[unsafe(no_mangle)]
+pub extern "C" fn dvs_range_conflict(
+    allocator: Option<&dvs_address_allocator>,
+    request: Option<&dvs_request>,
+    conflict: Out<dvs_refusal>,
+) -> dvs_status {
+    let asked = with_conflict(allocator, request, conflict, AddressAllocator::conflict);
+    status_of(asked, None)
 }
 
 #[unsafe(no_mangle)]
@@ -174,25 +189,45 @@ pub extern "C" fn dvs_range_move(
     refusal: Out<dvs_refusal>,
 ) -> dvs_status {
     let answer = with_mut(allocator, moved, |allocator| {
-        let range = range.try_into()?;
-        move_range(allocator, &range, start)
+        let range: RangeInclusive = range.try_into()?;
+        let request = Constraint::new(range.len(), 1, AllocPolicy::ExactMatch(start))?;
+        let moved = allocator.move_range(Global, &range, start);
+        moved
+            .map(Into::into)
+            .map_err(|error| refused_move(allocator, &range, request, error, refusal.is_some()))
     });
     status_of(answer, refusal)
 }
 
-fn move_range(
-    allocator: &mut AddressAllocator,
+#[unsafe(no_mangle)]
+pub extern "C" fn dvs_range_move_request(
+    allocator: Option<&dvs_address_allocator>,
+    range: dvs_range,
+    request: Option<&dvs_request>,
+    moved: Out<dvs_range>,
+    refusal: Out<dvs_refusal>,
+) -> dvs_status {
+    let answer = with_request(allocator, request, moved, |allocator, request| {
+        let range = range.try_into()?;
+        let moved = allocator.move_constraint(Global, &range, request);
+        moved
+            .map(Into::into)
+            .map_err(|error| refused_move(allocator, &range, request, error, refusal.is_some()))
+    });
+    status_of(answer, refusal)
+}
+
+/// Returns the error of a refused move. If the range is not allocated, no other one is in the way.
+#[cold]
+fn refused_move(
+    allocator: &AddressAllocator,
     range: &RangeInclusive,
-    start: u64,
-) -> Result<dvs_range, CallError> {
-    let request = Constraint::new(range.len(), 1, AllocPolicy::ExactMatch(start))?;
-    let moved = allocator.move_range(Global, range, start);
-    moved
-        .map(Into::into)
-        .map_err(|error| match allocator.holds(range) {
-            true => refused(allocator, request, error),
-            false => error.into(),
-        })
+    request: Constraint,
+    error: Error,
+    wants_details: bool,
+) -> CallError {
+    let wants_details = wants_details && allocator.holds(range);
+    refused(allocator, request, error, wants_details)
 }
 
 #[unsafe(no_mangle)]

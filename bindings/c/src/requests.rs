@@ -2,9 +2,9 @@
 
 use crate::handle::{non_null, Handle};
 use crate::proved::vm_allocator::{
-    AddressAllocator, AllocPolicy, Conflict, Constraint, Error, RangeInclusive, Result as Answer,
+    AddressAllocator, AllocPolicy, Conflict, Constraint, Error, RangeInclusive,
 };
-use crate::{dvs_range, CallError, Out};
+use crate::{dvs_range, dvs_refusal, CallError, Out};
 
 const DVS_FIRST: u32 = 0;
 const DVS_LAST: u32 = 1;
@@ -32,14 +32,13 @@ impl dvs_request<'_> {
     ///
     /// In this order:
     /// - `InvalidPolicy` if the policy is not one of the constants.
-    /// - `InvalidRange` if the start of the window is past its end.
     /// - Those of `Constraint::new`.
+    /// - That of `Constraint::within_limits`.
     pub(crate) fn constraint(&self) -> Result<Constraint, CallError> {
-        let (policy, window) = (self.policy()?, self.window()?);
-        let request = Constraint::new(self.size, self.alignment, policy)?;
-        Ok(match window {
+        let request = Constraint::new(self.size, self.alignment, self.policy()?)?;
+        Ok(match self.window {
             None => request,
-            Some(window) => request.within(window),
+            Some(window) => request.within_limits(window.start, window.end)?,
         })
     }
 
@@ -49,18 +48,6 @@ impl dvs_request<'_> {
             DVS_LAST => Ok(AllocPolicy::LastMatch),
             DVS_EXACT => Ok(AllocPolicy::ExactMatch(self.start)),
             _ => Err(CallError::InvalidPolicy),
-        }
-    }
-
-    /// Returns the window, or `None` if it has all addresses.
-    fn window(&self) -> Answer<Option<RangeInclusive>> {
-        match self.window {
-            None
-            | Some(dvs_range {
-                start: 0,
-                end: u64::MAX,
-            }) => Ok(None),
-            Some(window) => Ok(Some((*window).try_into()?)),
         }
     }
 }
@@ -78,19 +65,46 @@ pub(crate) fn with_request<T, A>(
     Ok(())
 }
 
+/// Writes the conflict of a request with an object to `out`.
+pub(crate) fn with_conflict<T>(
+    handle: Option<&Handle<T>>,
+    request: Option<&dvs_request>,
+    out: Out<dvs_refusal>,
+    conflict: impl FnOnce(&T, Constraint) -> Option<Conflict>,
+) -> Result<(), CallError> {
+    let (handle, asked, out) = (non_null(handle)?, non_null(request)?, non_null(out)?);
+    let request = asked.constraint()?;
+    out.write(match conflict(handle.get(), request) {
+        None => dvs_refusal::default(),
+        Some(conflict) => in_the_way(asked.start, request, Some(conflict)).numbers(),
+    });
+    Ok(())
+}
+
 /// Returns the error of a refused request. If the range at the start that it names is not available,
-/// the error has the cause.
+/// and the caller wants details, the error has the cause.
 #[cold]
 #[inline(never)]
-pub(crate) fn refused(space: &AddressAllocator, request: Constraint, error: Error) -> CallError {
-    let (Error::ResourceNotAvailable, AllocPolicy::ExactMatch(start)) = (&error, request.policy())
-    else {
-        return error.into();
-    };
+pub(crate) fn refused(
+    space: &AddressAllocator,
+    request: Constraint,
+    error: Error,
+    wants_details: bool,
+) -> CallError {
+    match (&error, request.policy()) {
+        (Error::ResourceNotAvailable, AllocPolicy::ExactMatch(start)) if wants_details => {
+            in_the_way(start, request, space.conflict(request))
+        }
+        _ => error.into(),
+    }
+}
+
+/// Returns the error of a request for a start at which its range is not available.
+fn in_the_way(start: u64, request: Constraint, conflict: Option<Conflict>) -> CallError {
     let range = RangeInclusive::from_start_len(start, request.size());
-    let (cause, other) = match space.conflict(request) {
-        Some(Conflict::OutsideWindow(window)) => (DVS_CAUSE_OUTSIDE_WINDOW, window.into()),
+    let (cause, other) = match conflict {
         Some(Conflict::OutsideSpace(space)) => (DVS_CAUSE_OUTSIDE_SPACE, space.into()),
+        Some(Conflict::OutsideWindow(window)) => (DVS_CAUSE_OUTSIDE_WINDOW, window.into()),
         Some(Conflict::Allocated(held)) => (DVS_CAUSE_ALLOCATED, held.into()),
         // `allocate_all` has freed the ranges of the requests before this one.
         None => (DVS_CAUSE_EARLIER_REQUEST, dvs_range::default()),

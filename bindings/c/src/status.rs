@@ -100,7 +100,7 @@ impl CallError {
     }
 
     /// Returns the details of the error.
-    fn numbers(&self) -> dvs_refusal {
+    pub(crate) fn numbers(&self) -> dvs_refusal {
         let none = dvs_refusal::default();
         match self {
             CallError::Call(error) => numbers_of_error(error),

@@ -7,6 +7,7 @@
 #include "every_call.h"
 
 #include <limits.h>
+#include <time.h>
 
 /* ---- Calls with numbers ---- */
 
@@ -83,6 +84,7 @@ static const struct step on_none[] = {
     {WITH_IDS, {5, 12}, TELLS_ID(DVS_OUT_OF_RANGE, 3)},
     {WITH_IDS, {3, 12}, NO_PLACE},
     {WITH_RANGES, {0, 0}, TELLS(DVS_INVALID_RANGE, 2, 1)},
+    {WITH_FREE, {0}, TELLS(DVS_INVALID_RANGE, 2, 1)},
     {DESTROY_SPACE, {0}, SUCCEEDS},
     {DESTROY_IDS, {0}, SUCCEEDS},
     {DESTROY_MANAGER, {0}, SUCCEEDS},
@@ -108,6 +110,8 @@ static const struct step on_space[] = {
     {EXACT, {1, 1, 0xfff}, IN_THE_WAY(0xfff, 0xfff, OUTSIDE_SPACE, 0x1000, 0x1fff)},
     {REQUEST, {0}, FAILS(DVS_INVALID_POLICY)},
     {LIST, {0}, FAILS(DVS_INVALID_POLICY)},
+    {MOVE_REQUEST, {2, 1}, FAILS(DVS_INVALID_POLICY)},
+    {CONFLICT, {0}, ENDS(DVS_INVALID_POLICY)},
     {FIRST, {0x1001, 1}, NO_PLACE},
     {FIRST, {0x100, 0x100}, GETS(0x1000, 0x10ff)},
     {LAST, {0x10, 0x100}, GETS(0x1f00, 0x1f0f)},
@@ -213,6 +217,7 @@ static const struct step of_given_ids[] = {
 /* For the ids from 1 to 3, and the space from 0x1000 to 0x1fff. */
 static const struct step on_devices[] = {
     {RESERVE, {0}, FAILS(DVS_INVALID_POLICY)},
+    {DEVICE_CONFLICT, {0}, ENDS(DVS_INVALID_POLICY)},
     {RESERVE_FIRST, {0x100, 0x100}, GETS_DEVICE(1, 0x1000, 0x10ff)},
     {RESERVE_LAST, {0x100, 0x100}, GETS_DEVICE(2, 0x1f00, 0x1fff)},
     {RESERVE_EXACT, {0x100, 1, 0x1000}, TELLS(DVS_INVALID_STATE_TRANSITION, 0x1000, 0x10ff)},
@@ -384,12 +389,13 @@ static void use_objects(void) {
 
 /* Gives null for the object, for each result, and for the other pointers. */
 static void give_null(void) {
-    static const int with_pointers[] = {WITH_RANGES, WITH_IDS,       READ_SPACE,   REPAIR_SPACE,
-                                        READ_IDS,    READ_MANAGER,   SPACE_WITHIN, REPAIR_WITHIN,
-                                        IDS_WITHIN,  MANAGER_WITHIN, REQUEST,      LIST,
-                                        RESERVE,     EQUAL_SPACE,    EQUAL_IDS,    EQUAL_MANAGERS};
-    static const struct arguments none = {true, true, NULL, NULL,   NULL,
-                                          NULL, NULL, 5,    {4, 1}, NULL};
+    static const int with_pointers[] = {
+        WITH_RANGES,    WITH_FREE,       WITH_IDS,     READ_SPACE,    REPAIR_SPACE,
+        READ_IDS,       READ_MANAGER,    SPACE_WITHIN, REPAIR_WITHIN, IDS_WITHIN,
+        MANAGER_WITHIN, MOVE_REQUEST,    REQUEST,      LIST,          CONFLICT,
+        RESERVE,        DEVICE_CONFLICT, EQUAL_SPACE,  EQUAL_IDS,     EQUAL_MANAGERS};
+    static const struct arguments none = {true, true, NULL,   NULL, NULL, NULL,
+                                          NULL, 5,    {4, 1}, NULL, false};
     size_t i;
     int call;
 
@@ -414,6 +420,7 @@ static void give_null(void) {
         refuse(with_pointers[i], objects[group_of(with_pointers[i])], DVS_NULL);
     CHECK(dvs_id_allocator_with_held(1, 0, NULL, 0, NULL, NULL) == DVS_NULL);
     CHECK(dvs_address_allocator_with_held(0, 0, NULL, 0, NULL, NULL, NULL) == DVS_NULL);
+    CHECK(dvs_address_allocator_with_free(NULL, 0, NULL, NULL, NULL) == DVS_NULL);
     CHECK(dvs_address_allocator_allocate_all((dvs_address_allocator *)objects[0], NULL, SIZE_MAX,
                                              &results.device.range, NULL, NULL) == DVS_NULL);
     dvs_text_destroy(NULL);
@@ -422,6 +429,13 @@ static void give_null(void) {
 
 /* The group whose object is visited, and the number of visits. */
 static int visited, visits;
+
+/* Returns the status of a query with zeros and an invalid request. */
+static dvs_status status_of_query(int call) {
+    if (call == CONFLICT || call == DEVICE_CONFLICT)
+        return DVS_INVALID_POLICY;
+    return call == GAP_AT ? DVS_RESOURCE_NOT_AVAILABLE : DVS_OK;
+}
 
 /* Checks that a visitor can query, compare, save and copy the object, but not change or destroy it.
  */
@@ -441,8 +455,7 @@ static int keep_object(void *context) {
     }
     given = usual;
     for (call = group->queries; call < group->visits - 3; call++)
-        CHECK(attempt(call, object, zeros) ==
-              (call == GAP_AT ? DVS_RESOURCE_NOT_AVAILABLE : DVS_OK));
+        CHECK(attempt(call, object, zeros) == status_of_query(call));
     copy = copied(visited, object);
     compare(visited, object, copy, true);
     destroy(visited, copy);
@@ -517,6 +530,66 @@ static void copy_objects(void) {
         destroy(group, pairs[group][0]);
         destroy(group, pairs[group][1]);
     }
+}
+
+/* ---- The cost of a cause ---- */
+
+enum { ROUNDS = 10, TRIES = 2000 };
+
+/* Returns the processor time of requests whose addresses are allocated. */
+static clock_t time_refused(int call, void *object) {
+    const clock_t begun = clock();
+    uint64_t i;
+
+    for (i = 1; i < TRIES; i++) {
+        const uint64_t numbers[] = {2, 2, 4 * i, 0};
+        const dvs_request request = {2, 2, 4 * i, DVS_EXACT, NULL};
+        const dvs_request requests[] = {request, request};
+
+        given.request = requests;
+        CHECK(make_call(call, object, numbers) == DVS_RESOURCE_NOT_AVAILABLE);
+    }
+    return clock() - begun;
+}
+
+/* Checks that a call without a refusal looks for no cause. The shortest rounds are compared,
+ * because other processes only add time. */
+static void look_for_no_cause(void) {
+    static const int calls[] = {EXACT, MOVE, MOVE_REQUEST, REQUEST, LIST, RESERVE_EXACT, RESERVE};
+    dvs_address_allocator *space;
+    dvs_device_manager *manager;
+    dvs_device device;
+    uint64_t at;
+    size_t i;
+    int round;
+
+    CHECK(dvs_address_allocator_new(0, 4 * TRIES, &space) == DVS_OK);
+    CHECK(dvs_device_manager_new(0, TRIES, 0, 4 * TRIES, &manager, NULL) == DVS_OK);
+    /* MOVE moves this range. */
+    CHECK(dvs_range_allocate_exact(space, 1, 1, 2, &device.range, NULL) == DVS_OK);
+    for (at = 4; at < 4 * TRIES; at += 4) {
+        CHECK(dvs_range_allocate_exact(space, 3, 1, at, &device.range, NULL) == DVS_OK);
+        CHECK(dvs_device_reserve_exact(manager, 3, 1, at, &device, NULL) == DVS_OK);
+    }
+    given = usual;
+    for (i = 0; i < sizeof calls / sizeof calls[0]; i++) {
+        clock_t with = 0, without = 0;
+
+        for (round = 0; round < ROUNDS; round++) {
+            void *object = calls[i] < ID ? (void *)space : (void *)manager;
+            clock_t time;
+
+            given.has_no_refusal = false;
+            time = time_refused(calls[i], object);
+            with = round == 0 || time < with ? time : with;
+            given.has_no_refusal = true;
+            time = time_refused(calls[i], object);
+            without = round == 0 || time < without ? time : without;
+        }
+        CHECK(5 * without < 4 * with);
+    }
+    destroy(0, space);
+    destroy(2, manager);
 }
 
 /* ---- Texts ---- */
@@ -719,6 +792,7 @@ int main(void) {
     give_null();
     change_in_visits();
     copy_objects();
+    look_for_no_cause();
     read_texts();
     read_again();
     say_words();

@@ -116,6 +116,56 @@ static void refuse_ranges(void) {
     }
 }
 
+/* The first two ranges have no hole between them. */
+static void make_with_free(void) {
+    static const dvs_range parts[] = {{0x7654321000000000, 0x76543210ffffffff},
+                                      {0x7654321100000000, 0x76543211ffffffff},
+                                      {0x7654321300000000, 0x7654321300000000}};
+    dvs_address_allocator *space;
+    struct seen held = all_of(), gaps = all_of();
+    dvs_range range;
+    size_t failed = MOST;
+
+    CHECK(dvs_address_allocator_with_free(parts, 3, &space, &failed, NULL) == DVS_OK);
+    CHECK(failed == 3 && dvs_address_allocator_space(space, &range) == DVS_OK);
+    CHECK(is_range(range, parts[0].start, parts[2].end));
+    CHECK(dvs_range_visit(space, see_range, &held) == DVS_OK && held.count == 1);
+    CHECK(is_range(held.ranges[0], 0x7654321200000000, 0x76543212ffffffff));
+    CHECK(dvs_gap_visit(space, see_range, &gaps) == DVS_OK && gaps.count == 2);
+    CHECK(is_range(gaps.ranges[0], parts[0].start, parts[1].end));
+    CHECK(dvs_range_free(space, held.ranges[0], NULL) == DVS_OK);
+    dvs_address_allocator_destroy(space);
+}
+
+static void refuse_free(void) {
+    static const struct row {
+        dvs_range parts[2];
+        size_t count;
+        dvs_status status;
+        size_t failed;
+        dvs_range told;
+    } rows[] = {
+        {{{5, 4}, {1, 3}}, 2, DVS_INVALID_RANGE, 0, {5, 4}},
+        {{{5, 9}, {1, 0}}, 2, DVS_INVALID_RANGE, 1, {1, 0}},
+        {{{5, 9}, {5, 9}}, 0, DVS_UNDERFLOW, 0, {0, 0}},
+        {{{5, 9}, {9, 12}}, 2, DVS_RESOURCE_NOT_AVAILABLE, 1, {0, 0}},
+        {{{5, 9}, {1, 3}}, 2, DVS_RESOURCE_NOT_AVAILABLE, 1, {0, 0}},
+        {{{0, 9}, {11, UINT64_MAX}}, 2, DVS_INVALID_RANGE, 2, {0, UINT64_MAX}},
+    };
+    size_t i;
+
+    for (i = 0; i < sizeof rows / sizeof rows[0]; i++) {
+        dvs_address_allocator *space = NULL;
+        dvs_refusal refusal;
+        size_t failed = MOST;
+
+        CHECK(dvs_address_allocator_with_free(rows[i].parts, rows[i].count, &space, &failed,
+                                              &refusal) == rows[i].status);
+        CHECK(space == NULL && failed == rows[i].failed && refusal.cause == DVS_CAUSE_NONE);
+        CHECK(is_range(refusal.range, rows[i].told.start, rows[i].told.end));
+    }
+}
+
 /* Counts that no array has. */
 static void refuse_counts(void) {
     static const uint32_t ids[] = {9, 9};
@@ -128,6 +178,9 @@ static void refuse_counts(void) {
 
     for (i = 0; i < sizeof counts / sizeof counts[0]; i++) {
         CHECK(dvs_address_allocator_with_held(0, 9, &held, counts[i], &made, &failed, NULL) ==
+              DVS_OUT_OF_MEMORY);
+        CHECK(failed == counts[i]);
+        CHECK(dvs_address_allocator_with_free(&held, counts[i], &made, &failed, NULL) ==
               DVS_OUT_OF_MEMORY);
         CHECK(failed == counts[i]);
         CHECK(dvs_id_allocator_with_held(0, 9, ids, counts[i], &made_ids, NULL) ==
@@ -516,6 +569,8 @@ static void look_up_devices(void) {
 int main(void) {
     make_with_ranges();
     refuse_ranges();
+    make_with_free();
+    refuse_free();
     refuse_counts();
     look_up_ranges();
     visit_gaps();

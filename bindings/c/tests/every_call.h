@@ -11,18 +11,19 @@ enum { MANY = 300 };
  * limits are in the order of those without. */
 /* clang-format off */
 enum {
-    FROM_LENGTH, OFFSET_OF, NEW_SPACE, NEW_IDS, NEW_MANAGER, WITH_RANGES, WITH_IDS, READ_SPACE, REPAIR_SPACE,
+    FROM_LENGTH, OFFSET_OF, NEW_SPACE, NEW_IDS, NEW_MANAGER, WITH_RANGES, WITH_FREE, WITH_IDS, READ_SPACE, REPAIR_SPACE,
     READ_IDS, READ_MANAGER, SPACE_WITHIN, REPAIR_WITHIN, IDS_WITHIN, MANAGER_WITHIN,
 
-    FIRST, LAST, EXACT, MOVE, REQUEST, LIST, FREE, DESTROY_SPACE,
-    SPACE, IS_ALLOCATED, COUNT, GAP_COUNT, FREE_LENGTH, LONGEST_GAP, RANGE_AT, GAP_AT, EQUAL_SPACE, COPY_SPACE, SAVE_SPACE,
+    FIRST, LAST, EXACT, MOVE, MOVE_REQUEST, REQUEST, LIST, FREE, DESTROY_SPACE,
+    SPACE, IS_ALLOCATED, COUNT, GAP_COUNT, FREE_LENGTH, LONGEST_GAP, RANGE_AT, GAP_AT, CONFLICT, EQUAL_SPACE, COPY_SPACE, SAVE_SPACE,
     VISIT, VISIT_GAPS, VISIT_IN, GAPS_IN, VISIT_FROM, VISIT_BACK, GAPS_FROM, GAPS_BACK,
 
     ID, ID_IN, IDS, ID_EXACT, FREE_ID, DESTROY_IDS,
     PEEK, IS_ID_HELD, ID_COUNT, FREE_COUNT, ID_ENDS, EQUAL_IDS, COPY_IDS, SAVE_IDS, VISIT_IDS,
 
     RESERVE_FIRST, RESERVE_LAST, RESERVE_EXACT, RESERVE, RELEASE, DESTROY_MANAGER,
-    DEVICE_SLOT, DEVICE_AT, DEVICE_COUNT, DEVICE_SPACE, DEVICE_IDS, EQUAL_MANAGERS, COPY_MANAGER, SAVE_MANAGER, VISIT_DEVICES,
+    DEVICE_SLOT, DEVICE_AT, DEVICE_COUNT, DEVICE_SPACE, DEVICE_IDS, DEVICE_CONFLICT, EQUAL_MANAGERS, COPY_MANAGER, SAVE_MANAGER,
+    VISIT_DEVICES,
     CALLS
 };
 /* clang-format on */
@@ -60,10 +61,12 @@ struct arguments {
     dvs_text_limits limits;
     /* Of a visit. */
     void *context;
+    /* Whether a refusal is null. */
+    bool has_no_refusal;
 };
 
-static const struct arguments usual = {true, true, worst, backwards, falling_ids,
-                                       NULL, "",   0,     {0, 0},    NULL};
+static const struct arguments usual = {true, true, worst,  backwards, falling_ids, NULL,
+                                       "",   0,    {0, 0}, NULL,      false};
 static struct arguments given;
 
 /* What every visitor does. */
@@ -85,7 +88,7 @@ static int see_device(void *context, dvs_device device) {
 static bool has_refusal, has_fault;
 
 #define TO(result) (given.has_result ? &(result) : NULL)
-#define REFUSAL (has_refusal = true, &refusal)
+#define REFUSAL (has_refusal = !given.has_no_refusal, has_refusal ? &refusal : NULL)
 #define FAULT (has_fault = true, &fault)
 #define CASE(name, call)                                                                           \
     case name:                                                                                     \
@@ -116,6 +119,7 @@ static dvs_status make_call(int call, void *object, const uint64_t *n) {
     uint64_t *to_number = TO(results.device.range.start);
     uint32_t *to_id = TO(results.device.id), *to_last = given.has_second ? &results.last : NULL;
     bool *to_flag = TO(results.flag);
+    dvs_refusal *to_conflict = TO(results.conflict);
     char **to_text = TO(results.text);
     size_t *to_length = given.has_second ? &results.length : NULL;
     dvs_range_visitor *visitor = TO(*see_range);
@@ -129,6 +133,8 @@ static dvs_status make_call(int call, void *object, const uint64_t *n) {
         CASE(NEW_MANAGER, dvs_device_manager_new(first, last, n[2], n[3], to_manager, REFUSAL));
         CASE(WITH_RANGES, dvs_address_allocator_with_held(n[0], n[1], given.held_ranges, 2,
                                                           to_space, &failed, REFUSAL));
+        CASE(WITH_FREE,
+             dvs_address_allocator_with_free(given.held_ranges, 2, to_space, &failed, REFUSAL));
         CASE(WITH_IDS, dvs_id_allocator_with_held(first, last, given.held, 2, to_ids, REFUSAL));
         CASE(READ_SPACE, dvs_address_allocator_read(text, length, to_space));
         CASE(REPAIR_SPACE, dvs_address_allocator_read_repaired(text, length, to_space));
@@ -145,6 +151,7 @@ static dvs_status make_call(int call, void *object, const uint64_t *n) {
         CASE(LAST, dvs_range_allocate_last(space, n[0], n[1], to, REFUSAL));
         CASE(EXACT, dvs_range_allocate_exact(space, n[0], n[1], n[2], to, REFUSAL));
         CASE(MOVE, dvs_range_move(space, range, n[2], to, REFUSAL));
+        CASE(MOVE_REQUEST, dvs_range_move_request(space, range, given.request, to, REFUSAL));
         CASE(REQUEST, dvs_range_allocate(space, given.request, to, REFUSAL));
         CASE(LIST,
              dvs_address_allocator_allocate_all(space, given.request, 2, to_all, &failed, REFUSAL));
@@ -158,6 +165,7 @@ static dvs_status make_call(int call, void *object, const uint64_t *n) {
         CASE(LONGEST_GAP, dvs_longest_gap(seen_space, to_number));
         CASE(RANGE_AT, dvs_range_at(seen_space, n[0], to));
         CASE(GAP_AT, dvs_gap_at(seen_space, n[0], to));
+        CASE(CONFLICT, dvs_range_conflict(seen_space, given.request, to_conflict));
         CASE(EQUAL_SPACE, dvs_address_allocator_equal(seen_space, other_space, to_flag));
         CASE(COPY_SPACE, dvs_address_allocator_copy(seen_space, to_space));
         CASE(SAVE_SPACE, dvs_address_allocator_save(seen_space, to_text, to_length));
@@ -196,6 +204,7 @@ static dvs_status make_call(int call, void *object, const uint64_t *n) {
         CASE(DEVICE_COUNT, dvs_device_count(seen_manager, to_number));
         CASE(DEVICE_SPACE, dvs_device_manager_space(seen_manager, to));
         CASE(DEVICE_IDS, dvs_device_manager_ids(seen_manager, to_id, to_last));
+        CASE(DEVICE_CONFLICT, dvs_device_conflict(seen_manager, given.request, to_conflict));
         CASE(EQUAL_MANAGERS, dvs_device_manager_equal(seen_manager, other_manager, to_flag));
         CASE(COPY_MANAGER, dvs_device_manager_copy(seen_manager, to_manager));
         CASE(SAVE_MANAGER, dvs_device_manager_save(seen_manager, to_text, to_length));
@@ -224,7 +233,7 @@ static inline void check_refused(int call, dvs_status status, dvs_status expecte
 
     if (status != expected)
         fprintf(stderr, "call %d: status %d\n", call, (int)status);
-    CHECK(failed == (call == LIST || call == WITH_RANGES ? 2 : MANY) ||
+    CHECK(failed == (call == LIST || call == WITH_RANGES || call == WITH_FREE ? 2 : MANY) ||
           (failed < 2 && call == LIST && expected == DVS_OUT_OF_MEMORY));
     CHECK(status == expected && is_untouched(&results, sizeof results));
     CHECK(has_refusal ? memcmp(&refusal, &none, sizeof none) == 0

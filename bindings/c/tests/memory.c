@@ -169,6 +169,7 @@ static const struct row rows[] = {
     {"exact", EXACT, 0, {3, 1, 500}, 2},
     {"in a window", REQUEST, 0, {0}, 2},
     {"move", MOVE, 0, {9, 10, 500}, 2},
+    {"move in a window", MOVE_REQUEST, 0, {9, 10}, 2},
     {"copy a space", COPY_SPACE, 0, {0}, 39},
     {"copy ids", COPY_IDS, 1, {0}, 2},
     {"copy a manager", COPY_MANAGER, 2, {0}, 4},
@@ -178,6 +179,7 @@ static const struct row rows[] = {
     {"read a space", SPACE_WITHIN, 0, {0}, 39},
     {"repair a space", REPAIR_WITHIN, 0, {0}, 39},
     {"with ranges", WITH_RANGES, 0, {0, 16}, 7},
+    {"with free ranges", WITH_FREE, 0, {0}, 6},
     {"several requests", LIST, 0, {0}, 6},
     {"several ids", IDS, 1, {0}, 1},
     {"free an id", FREE_ID, 1, {0}, 1},
@@ -271,6 +273,8 @@ static const struct {
     {MOVE, 0, {9, 10, 99}, DVS_INVALID_STATE_TRANSITION},
     {MOVE, 0, {9, 10, 10}, DVS_RESOURCE_NOT_AVAILABLE},
     {MOVE, 0, {9, 10, 9}, DVS_OK},
+    {MOVE_REQUEST, 0, {1, 1, 0, DVS_FIRST}, DVS_RESOURCE_NOT_AVAILABLE},
+    {CONFLICT, 0, {2, 1, 9, DVS_EXACT}, DVS_OK},
     {FREE, 0, {9, 10}, DVS_OK},
     {ID, 1, {0}, DVS_OK},
     {ID_EXACT, 1, {0}, DVS_RESOURCE_NOT_AVAILABLE},
@@ -286,6 +290,7 @@ static const struct {
     {RESERVE_EXACT, 2, {998, 1, 2}, DVS_OK},
     {RESERVE, 2, {998, 1, 2, DVS_EXACT}, DVS_OK},
     {RESERVE, 2, {TOP, 1, 0, DVS_LAST}, DVS_RESOURCE_NOT_AVAILABLE},
+    {DEVICE_CONFLICT, 2, {998, 1, 2, DVS_EXACT}, DVS_OK},
     {RELEASE, 2, {2}, DVS_NEVER_ALLOCATED},
 };
 
@@ -303,8 +308,8 @@ static void call_without_memory(int call, int group, const uint64_t *numbers, dv
     got = attempt(call, objects[group], numbers);
     CHECK(until_refused == 1);
     until_refused = 0;
-    CHECK(got == status ||
-          (numbers == zeros && status == DVS_OK && got == DVS_RESOURCE_NOT_AVAILABLE));
+    CHECK(got == status || (numbers == zeros && status == DVS_OK &&
+                            (got == DVS_RESOURCE_NOT_AVAILABLE || got == DVS_INVALID_SIZE)));
     tear_down();
 }
 

@@ -20,6 +20,7 @@ static bool seen[STATUSES];
 static struct {
     dvs_device device;
     dvs_range ranges[2];
+    dvs_refusal conflict;
     uint32_t several[2];
     dvs_address_allocator *space;
     dvs_id_allocator *ids;

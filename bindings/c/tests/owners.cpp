@@ -57,6 +57,11 @@ static void allocate() {
     CHECK(!space.move_range({0x1000, 0x10ff}, 0x1400, range) && is_range(range, 0x1400, 0x14ff));
     CHECK(space.move_range(range, 0x1401, range) == dvs::code(DVS_RESOURCE_NOT_AVAILABLE));
     CHECK(!space.move_range(range, 0x1000, range) && is_range(range, 0x1000, 0x10ff));
+    dvs::request place = dvs::request::last(0x80, 0x80).within({0, 0x1fff});
+    CHECK(!space.move_range(range, place, range) && is_range(range, 0x1e80, 0x1eff));
+    CHECK(space.move_range({0x1000, 0x10ff}, place, range) == DVS_RESOURCE_NOT_AVAILABLE);
+    CHECK(!space.move_range(range, {0x100, 0x100, 0x1000, DVS_EXACT, nullptr}, range));
+    CHECK(is_range(range, 0x1000, 0x10ff));
     std::size_t failed = 9;
     CHECK(!space.allocate_all({{1, 1, 0, DVS_FIRST, nullptr}, {2, 1, 0, DVS_LAST, nullptr}}, ranges,
                               &failed));
@@ -98,10 +103,19 @@ static void allocate_in_windows() {
     CHECK(space.allocate(request::exact(2, 1, 0x1100).within(low), range) == DVS_OK);
     CHECK(space.move_range(range, 0x3fff, range, &refusal) == DVS_RESOURCE_NOT_AVAILABLE);
     CHECK(dvs::cause_of(refusal) == dvs::cause::outside_space);
+    dvs_refusal conflict;
     CHECK(space.allocate(request::exact(2, 1, 0x1fff).within(low), range, &refusal) ==
           DVS_RESOURCE_NOT_AVAILABLE);
     CHECK(dvs::cause_of(refusal) == dvs::cause::outside_window &&
           is_range(refusal.other, 0x1000, 0x1fff));
+    CHECK(!space.conflict(request::exact(2, 1, 0x1fff).within(low), conflict));
+    CHECK(memcmp(&conflict, &refusal, sizeof conflict) == 0);
+    CHECK(!space.conflict({2, 1, 0x1102, DVS_EXACT, &low}, conflict));
+    CHECK(dvs::cause_of(conflict) == dvs::cause::none && is_range(conflict.range, 0, 0));
+    CHECK(space.conflict({2, 1, 0, 3, nullptr}, conflict) == DVS_INVALID_POLICY);
+    CHECK(space.move_range(range, request::exact(2, 1, 0x1fff).within(low), range, &refusal) ==
+          DVS_RESOURCE_NOT_AVAILABLE);
+    CHECK(dvs::cause_of(refusal) == dvs::cause::outside_window);
     std::vector<dvs_range> ranges;
     CHECK(space.allocate_all({request::exact(2, 1, 0x1200), request::exact(2, 1, 0x1201)}, ranges,
                              nullptr, &refusal) == DVS_RESOURCE_NOT_AVAILABLE);
@@ -143,6 +157,10 @@ static void reserve_in_windows() {
     CHECK(devices.reserve(request::exact(8, 8, 16).within({16, 16}), device, &refusal) ==
           dvs::code(DVS_INVALID_STATE_TRANSITION));
     CHECK(is_range(refusal.range, 16, 23));
+    CHECK(!devices.conflict(request::exact(8, 8, 16).within({0, 30}), refusal));
+    CHECK(dvs::cause_of(refusal) == dvs::cause::allocated && is_range(refusal.other, 16, 23));
+    CHECK(!devices.conflict({8, 8, 64, DVS_EXACT, nullptr}, refusal));
+    CHECK(dvs::cause_of(refusal) == dvs::cause::outside_space && is_range(refusal.other, 0, 63));
     CHECK(!devices.reserve({8, 8, 0, DVS_FIRST, nullptr}, device) && device.id == 6);
     CHECK(list(devices, &dvs::device_manager::devices).size() == 2 && is_range(device.range, 0, 7));
 }
@@ -159,6 +177,11 @@ static void save() {
     CHECK(space.make_with_held(0, 16, {range_of(1, 2), range_of(2, 4)}, &failed) ==
               dvs::code(DVS_RESOURCE_NOT_AVAILABLE) &&
           failed == 1);
+    CHECK(space.make_with_free({range_of(0, 2), range_of(2, 4)}, &failed) ==
+              DVS_RESOURCE_NOT_AVAILABLE &&
+          failed == 1);
+    CHECK(!space.make_with_free({range_of(0, 2), range_of(4, 15)}) &&
+          is_range(ranges_of(space)[0], 3, 3));
     CHECK(!space.make_with_held(0, 16, {range_of(1, 2), range_of(4, 4)}) && !space.save(text));
     CHECK(!copy.read(text) && ranges_of(copy).size() == 2);
     CHECK(copy.read("{}") == dvs::code(DVS_NOT_A_STATE) && ranges_of(copy).size() == 2);
@@ -319,6 +342,7 @@ static void tell_details() {
     const std::vector<dvs_request> twice(2, {1, 1, 99, DVS_EXACT, nullptr});
 
     CHECK(space.make_with_held(0, 9, {{2, 1}}, nullptr, &refusal) && tells(refusal, 2, 1));
+    CHECK(space.make_with_free({{4, 3}}, nullptr, &refusal) && tells(refusal, 4, 3));
     CHECK(ids.make_with_held(5, 9, {4}, &refusal) == DVS_OUT_OF_RANGE && tells(refusal, 0, 0, 4));
     CHECK(!space.make(1, 0x1000) && !devices.make(5, 9, 1, 0x1000));
     CHECK(!space.allocate_first(16, 64, range) && is_range(range, 64, 79));
@@ -355,6 +379,7 @@ static void ask_empty(const dvs::address_allocator &space, const dvs::id_allocat
     dvs::each_range each_range;
     dvs::each_gap each_gap;
     dvs_range range = {0, 0};
+    dvs_refusal refusal;
     dvs_device device;
     uint64_t count;
     uint32_t id;
@@ -381,6 +406,7 @@ static void ask_empty(const dvs::address_allocator &space, const dvs::id_allocat
                               space.for_each_back(0, see),
                               space.for_each_gap_from(0, see),
                               space.for_each_gap_back(0, see),
+                              space.conflict(dvs::request::first(1, 1), refusal),
                               ids.save(text),
                               ids.range(id, id),
                               ids.peek(id),
@@ -394,6 +420,7 @@ static void ask_empty(const dvs::address_allocator &space, const dvs::id_allocat
                               devices.slot(0, range),
                               devices.device_count(count),
                               devices.devices(slots),
+                              devices.conflict(dvs::request::first(1, 1), refusal),
                               devices.at(0, device)};
 
     for (const dvs::error &one : all)
@@ -434,6 +461,7 @@ static void replace_in_a_visit() {
     CHECK(!space.for_each([&](dvs_range) {
         CHECK(space.make(0, 0) == DVS_UNDERFLOW && space.make(0, 16) == DVS_BUSY);
         CHECK(space.make_with_held(0, 16, {}) == DVS_BUSY && space.read(text) == DVS_BUSY);
+        CHECK(space.make_with_free({range_of(0, 1)}) == DVS_BUSY);
         CHECK(space.read_repaired(text) == DVS_BUSY && ranges_of(space).size() == 1);
         CHECK(space.adopt(nullptr) == DVS_BUSY);
         space = std::move(other);

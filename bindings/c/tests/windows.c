@@ -101,7 +101,7 @@ static const struct row at_ends[] = {
     {DVS_FIRST, 0x701, 1, 0, {0, TOP}, NO_PLACE},
 };
 
-/* Windows that are not ranges, allocated ranges, and requests with two errors. */
+/* Windows that are not ranges, allocated ranges, and requests with two errors or two causes. */
 static const struct row refused[] = {
     {DVS_FIRST, 1, 1, 0, {9, 8}, TELLS(DVS_INVALID_RANGE, 9, 8)},
     {DVS_LAST, 1, 1, 0, {TOP, 0}, TELLS(DVS_INVALID_RANGE, TOP, 0)},
@@ -122,12 +122,15 @@ static const struct row refused[] = {
     {DVS_EXACT, 0x80, 1, 0x1400, {0x1400, 0x14fe}, BLOCKED(ALLOCATED)},
     {DVS_EXACT + 1, 0, 3, 0, {9, 8}, FAILS(DVS_INVALID_POLICY)},
     {UINT32_MAX, 1, 1, 0, {0x1500, 0x17ff}, FAILS(DVS_INVALID_POLICY)},
-    {DVS_EXACT, 0, 3, 1, {9, 8}, TELLS(DVS_INVALID_RANGE, 9, 8)},
-    {DVS_EXACT, 0, 3, 1, {0, 0xfff}, FAILS(DVS_INVALID_SIZE)},
-    {DVS_EXACT, 1, 3, 1, {0, 0xfff}, FAILS(DVS_INVALID_ALIGNMENT)},
-    {DVS_EXACT, 1, 4, 0x1502, {0, 0xfff}, FAILS(DVS_UNALIGNED_ADDRESS)},
+    {DVS_EXACT, 0, 3, 1, {9, 8}, FAILS(DVS_INVALID_SIZE)},
+    {DVS_EXACT, 1, 3, 1, {9, 8}, FAILS(DVS_INVALID_ALIGNMENT)},
+    {DVS_EXACT, 1, 4, 0x1502, {9, 8}, FAILS(DVS_UNALIGNED_ADDRESS)},
+    {DVS_EXACT, 2, 1, TOP, {9, 8}, TELLS(DVS_INVALID_RANGE, 9, 8)},
     {DVS_EXACT, 2, 1, TOP, {0, 0xfff}, FAILS(DVS_OVERFLOW)},
-    {DVS_EXACT, TOP, 1, 0x1500, {0x1600, 0x17ff}, BLOCKED(OUTSIDE_WINDOW)},
+    {DVS_EXACT, 2, 1, 0xfff, {0x1500, 0x17ff}, BLOCKED(OUTSIDE_SPACE)},
+    {DVS_EXACT, 0xf00, 1, 0x1400, {0x1400, 0x17ff}, BLOCKED(OUTSIDE_SPACE)},
+    {DVS_EXACT, 0x200, 1, 0x1400, {0x1500, 0x17ff}, BLOCKED(OUTSIDE_WINDOW)},
+    {DVS_EXACT, TOP, 1, 0x1500, {0x1600, 0x17ff}, BLOCKED(OUTSIDE_SPACE)},
     {DVS_EXACT, TOP, 1, 0x1500, {0x1500, 0x1501}, FAILS(DVS_OVERFLOW)},
     {DVS_EXACT, TOP, 1, 0x1400, {0x1400, 0x1401}, FAILS(DVS_OVERFLOW)},
 };
@@ -180,10 +183,10 @@ static const struct row in_the_way[] = {
 /* In a manager whose id UINT32_MAX is allocated. An error of the id precedes that of the range. */
 static const struct row without_ids[] = {
     {DVS_EXACT + 1, 0, 3, 1, {9, 8}, FAILS(DVS_INVALID_POLICY)},
-    {DVS_EXACT, 0, 3, 1, {9, 8}, TELLS(DVS_INVALID_RANGE, 9, 8)},
-    {DVS_EXACT, 0, 3, 1, {0, 0xfff}, FAILS(DVS_INVALID_SIZE)},
-    {DVS_EXACT, 1, 3, 1, {0, 0xfff}, FAILS(DVS_INVALID_ALIGNMENT)},
-    {DVS_EXACT, 1, 4, 0x1502, {0, 0xfff}, FAILS(DVS_UNALIGNED_ADDRESS)},
+    {DVS_EXACT, 0, 3, 1, {9, 8}, FAILS(DVS_INVALID_SIZE)},
+    {DVS_EXACT, 1, 3, 1, {9, 8}, FAILS(DVS_INVALID_ALIGNMENT)},
+    {DVS_EXACT, 1, 4, 0x1502, {9, 8}, FAILS(DVS_UNALIGNED_ADDRESS)},
+    {DVS_EXACT, 1, 1, 0x1502, {9, 8}, TELLS(DVS_INVALID_RANGE, 9, 8)},
     {DVS_EXACT, 0x100, 1, 0x1400, {0x1400, 0x14ff}, FAILS(DVS_OVERFLOW)},
     {DVS_FIRST, 1, 1, 0, {0, 0xfff}, FAILS(DVS_OVERFLOW)},
     {DVS_LAST, 1, 1, 0, {0x1500, 0x17ff}, FAILS(DVS_OVERFLOW)},
@@ -194,6 +197,35 @@ static const struct row without_id[] = {
     {DVS_EXACT, 0x10, 1, 0x1400, {0, TOP}, NO_PLACE},
     {DVS_EXACT, 0x10, 1, 0x1500, {0, 0xfff}, NO_PLACE},
 };
+
+/* Moves of a range in a space of 256 units, of which the units 4 and 5 are allocated. */
+#define UNIT ((uint64_t)1 << 32)
+#define AT(unit) (0x7654321000000000 + (unit)*UNIT)
+/* clang-format off */
+#define HELD {AT(4), AT(6) - 1}
+
+static const struct {
+    dvs_range range;
+    struct row row;
+} moves[] = {
+    {HELD, {DVS_FIRST, 3 * UNIT + 1, 4 * UNIT, 0, {AT(6), TOP}, GETS(AT(8), AT(11))}},
+    {HELD, {DVS_LAST, 2 * UNIT, 8 * UNIT, 0, {0, AT(248) - 1}, GETS(AT(240), AT(242) - 1)}},
+    {HELD, {DVS_EXACT, UNIT + 1, 8 * UNIT, AT(128), {AT(128), AT(129)}, GETS(AT(128), AT(129))}},
+    {HELD, {DVS_EXACT, UNIT + 1, 8 * UNIT, AT(128), {AT(128), AT(129) - 1},
+            IN_THE_WAY(AT(128), AT(129), OUTSIDE_WINDOW, AT(128), AT(129) - 1)}},
+    {HELD, {DVS_EXACT, 2 * UNIT, 1, AT(3), {0, TOP}, IN_THE_WAY(AT(3), AT(5) - 1, ALLOCATED, AT(4), AT(6) - 1)}},
+    /* To its own place. */
+    {HELD, {DVS_EXACT, 2 * UNIT, 1, AT(4), HELD, GETS(AT(4), AT(6) - 1)}},
+    {HELD, {DVS_EXACT, 2 * UNIT, 1, AT(4), {AT(4), AT(5)}, TELLS(DVS_INVALID_STATE_TRANSITION, AT(4), AT(6) - 1)}},
+    /* Errors of the request, then of the range, then of the new range. */
+    {{2, 1}, {DVS_EXACT + 1, 0, 1, TOP, {9, 8}, FAILS(DVS_INVALID_POLICY)}},
+    {{2, 1}, {DVS_EXACT, 1, 1, TOP, {9, 8}, TELLS(DVS_INVALID_RANGE, 9, 8)}},
+    {{2, 1}, {DVS_EXACT, 1, 1, TOP, {0, TOP}, TELLS(DVS_INVALID_RANGE, 2, 1)}},
+    {{AT(4), AT(5)}, {DVS_EXACT, 1, 1, TOP, {0, TOP}, NO_PLACE}},
+    {{AT(4), AT(5)}, {DVS_EXACT, 1, 1, AT(5), {0, TOP}, NO_PLACE}},
+    {HELD, {DVS_EXACT, 1, 1, TOP, {0, TOP}, FAILS(DVS_OVERFLOW)}},
+};
+/* clang-format on */
 
 /* Returns the outcome of a row, with the requested range and the one that the cause names. */
 static struct outcome outcome_of(const struct row *row, dvs_range space) {
@@ -212,6 +244,41 @@ static struct outcome outcome_of(const struct row *row, dvs_range space) {
     if (all.cause == DVS_CAUSE_OUTSIDE_WINDOW)
         all.other = row->window;
     return all;
+}
+
+/* Checks the conflict of a request with this outcome, with a space, or with a manager if there is
+ * no space. */
+static void check_conflict(const dvs_request *request, const struct outcome *outcome, dvs_range all,
+                           const dvs_address_allocator *space, const dvs_device_manager *manager) {
+    const bool is_past_window =
+        request->window != NULL && request->window->end < outcome->range.end;
+    dvs_refusal expected = {outcome->range, outcome->other, 0, 0, outcome->cause};
+    dvs_status status = DVS_OK;
+
+    switch (outcome->status) {
+    case DVS_OK:
+        memset(&expected, 0, sizeof expected);
+        break;
+    case DVS_OVERFLOW:
+        if (request->start > TOP - (request->size - 1)) {
+            expected.cause = DVS_CAUSE_OUTSIDE_SPACE;
+            expected.other = all;
+        }
+        break;
+    case DVS_INVALID_STATE_TRANSITION:
+        expected.cause = is_past_window ? DVS_CAUSE_OUTSIDE_WINDOW : DVS_CAUSE_ALLOCATED;
+        expected.other = is_past_window ? *request->window : outcome->range;
+        break;
+    case DVS_RESOURCE_NOT_AVAILABLE:
+        break;
+    default:
+        status = outcome->status;
+    }
+    prepare();
+    CHECK(status == (space != NULL ? dvs_range_conflict(space, request, &results.conflict)
+                                   : dvs_device_conflict(manager, request, &results.conflict)));
+    CHECK(status == DVS_OK ? memcmp(&results.conflict, &expected, sizeof expected) == 0
+                           : is_untouched(&results, sizeof results));
 }
 
 /* A call with a request, on a space or a manager. It frees what it has allocated. */
@@ -238,6 +305,17 @@ static dvs_status allocate_list(void *object, const dvs_request *request) {
     return status;
 }
 
+/* Moves the last range of `held`, and moves it back. */
+static dvs_status move_one(void *object, const dvs_request *request) {
+    static const dvs_request back = {0x100, 1, 0x1800, DVS_EXACT, NULL};
+    dvs_address_allocator *space = (dvs_address_allocator *)object;
+    dvs_range *range = &results.device.range, moved;
+    dvs_status status = dvs_range_move_request(space, held[1], request, range, &refusal);
+
+    CHECK(status != DVS_OK || dvs_range_move_request(space, *range, &back, &moved, NULL) == DVS_OK);
+    return status;
+}
+
 static dvs_status reserve_one(void *object, const dvs_request *request) {
     dvs_device_manager *manager = (dvs_device_manager *)object;
     dvs_status status = dvs_device_reserve(manager, request, &results.device, &refusal);
@@ -250,10 +328,16 @@ static dvs_status reserve_one(void *object, const dvs_request *request) {
     return status;
 }
 
+static dvs_request request_of(const struct row *row) {
+    const dvs_request request = {row->size, row->alignment, row->start, row->policy, &row->window};
+
+    return request;
+}
+
 /* Checks a call for a row. A window of all addresses is also NULL. */
 static void check_call(const struct row *row, dvs_range space, request_call *call, void *object) {
     const struct outcome outcome = outcome_of(row, space);
-    dvs_request request = {row->size, row->alignment, row->start, row->policy, &row->window};
+    dvs_request request = request_of(row);
     int i;
 
     for (i = 0; i <= is_range(row->window, 0, TOP); i++) {
@@ -289,8 +373,14 @@ static void check_rows(dvs_range all, uint32_t held_count, const struct row *row
                                           &space, NULL, NULL) == DVS_OK);
     for (i = 0; i < count; i++) {
         char *ranges = saved_space(space, &length), *devices = saved_devices(manager, &length);
+        const struct outcome outcome = outcome_of(&rows[i], all);
+        const dvs_request request = request_of(&rows[i]);
         bool is_ok = rows[i].outcome.status == DVS_OK;
 
+        check_conflict(&request, &outcome, all, space, NULL);
+        check_conflict(&request, &outcome, all, NULL, manager);
+        if (held_count == 2)
+            check_call(&rows[i], all, move_one, space);
         check_call(&rows[i], all, allocate_one, space);
         check_call(&rows[i], all, allocate_list, space);
         check_call(&rows[i], all, reserve_one, manager);
@@ -299,6 +389,24 @@ static void check_rows(dvs_range all, uint32_t held_count, const struct row *row
     }
     dvs_address_allocator_destroy(space);
     dvs_device_manager_destroy(manager);
+}
+
+static void move_in_windows(void) {
+    static const dvs_range range = HELD;
+    dvs_address_allocator *space;
+    size_t i;
+
+    for (i = 0; i < sizeof moves / sizeof moves[0]; i++) {
+        const dvs_request request = request_of(&moves[i].row);
+        dvs_range *to = &results.device.range;
+
+        CHECK(dvs_address_allocator_with_held(AT(0), 256 * UNIT, &range, 1, &space, NULL, NULL) ==
+              DVS_OK);
+        prepare();
+        CHECK(has_outcome(&moves[i].row.outcome,
+                          dvs_range_move_request(space, moves[i].range, &request, to, &refusal)));
+        dvs_address_allocator_destroy(space);
+    }
 }
 
 /* Checks rows with a manager that has the id `id` only, for the first range of `held`. */
@@ -356,12 +464,12 @@ static struct outcome blocked(const dvs_request *request, dvs_range window) {
     if (sizes[request->start - BASE] == request->size && window.start <= request->start &&
         request->start <= window.end) {
         found.status = DVS_INVALID_STATE_TRANSITION;
-    } else if (found.range.start < window.start || window.end < found.range.end) {
-        found.cause = DVS_CAUSE_OUTSIDE_WINDOW;
-        found.other = window;
     } else if (found.range.end > BASE + 63) {
         found.cause = DVS_CAUSE_OUTSIDE_SPACE;
         found.other = range_of(BASE, BASE + 63);
+    } else if (found.range.start < window.start || window.end < found.range.end) {
+        found.cause = DVS_CAUSE_OUTSIDE_WINDOW;
+        found.other = window;
     } else {
         while (sizes[at] == 0 || BASE + at + sizes[at] <= found.range.start)
             at++;
@@ -388,16 +496,28 @@ static struct outcome searched(const dvs_request *request, dvs_range window) {
                                                                   : found;
 }
 
+static bool is_for(const dvs_request *request, dvs_range window, dvs_range range) {
+    return request->policy == DVS_EXACT && request->start == range.start &&
+           request->size == range.end - range.start + 1 && window.start <= range.start &&
+           range.end <= window.end;
+}
+
+/* Allocates a range or moves one, and frees one. */
 static void request_at_random(void) {
     dvs_address_allocator *space;
-    dvs_range window;
+    dvs_range window, *to = &results.device.range;
     dvs_request request = {0, 0, 0, 0, &window};
-    uint64_t start, counts[STATUSES] = {0};
+    uint64_t start, counts[STATUSES] = {0}, moved_ranges = 0;
     int i;
 
     CHECK(dvs_address_allocator_new(BASE, 64, &space) == DVS_OK);
     for (i = 0; i < STEPS; i++) {
+        const uint64_t from = drawn(64);
+        const dvs_range moved = range_of(BASE + from, BASE + from + sizes[from] - 1);
+        const struct outcome stays = GETS(moved.start, moved.end);
+        const bool is_move = sizes[from] > 0;
         struct outcome outcome;
+        dvs_status status;
 
         window.start = BASE - 8 + drawn(80);
         window.end = window.start + drawn(40);
@@ -406,11 +526,20 @@ static void request_at_random(void) {
         request.start = BASE + (drawn(64) & ~(request.alignment - 1));
         request.policy = (uint32_t)drawn(3);
         outcome = searched(&request, window);
+        check_conflict(&request, &outcome, range_of(BASE, BASE + 63), space, NULL);
+        if (is_move && is_for(&request, window, moved))
+            outcome = stays;
         counts[outcome.status]++;
         prepare();
-        CHECK(has_outcome(&outcome,
-                          dvs_range_allocate(space, &request, &results.device.range, &refusal)));
-        if (outcome.status == DVS_OK) {
+        status = is_move ? dvs_range_move_request(space, moved, &request, to, &refusal)
+                         : dvs_range_allocate(space, &request, to, &refusal);
+        CHECK(has_outcome(&outcome, status));
+        if (status == DVS_OK && is_move) {
+            bits &= ~bits_of(from, sizes[from]);
+            sizes[from] = 0;
+            moved_ranges++;
+        }
+        if (status == DVS_OK) {
             bits |= bits_of(outcome.range.start - BASE, request.size);
             sizes[outcome.range.start - BASE] = request.size;
         }
@@ -423,11 +552,13 @@ static void request_at_random(void) {
         sizes[start] = 0;
     }
     CHECK(counts[DVS_OK] > STEPS / 8 && counts[DVS_INVALID_STATE_TRANSITION] > 0);
+    CHECK(moved_ranges > STEPS / 32);
     dvs_address_allocator_destroy(space);
 }
 
 int main(void) {
     request_in_windows();
+    move_in_windows();
     request_at_random();
     puts("windows: requests in tables and at random checked");
     return 0;

@@ -94,12 +94,13 @@
 //! # Costs
 //!
 //! Let k be the number of allocated ranges. Allocating, moving and freeing a range takes time of the
-//! order of log k, and so do `holds`, `held_at` and `gap_at`. An alignment can make the search for a
-//! range visit more gaps. A walk within a range takes time of the order of log k, plus the number of
-//! ranges and gaps in it. Calls on one id or device take logarithmic time. If such a call makes the list
-//! of freed ids or of devices longer, it can also move the list, in linear time. `allocate_exact` and
-//! `allocate_in` add each id that they skip to the freed ones. Counts, ends, `height` and `longest_gap`
-//! take constant time. Other calls of allocators and managers take at most linear time.
+//! order of log k, and so do `conflict`, `holds`, `held_at` and `gap_at`. An alignment can make the
+//! search for a range visit more gaps. A walk within a range takes time of the order of log k, plus the
+//! number of ranges and gaps in it. Calls on one id or device take logarithmic time. If such a call makes
+//! the list of freed ids or of devices longer, it can also move the list, in linear time.
+//! `allocate_exact` and `allocate_in` add each id that they skip to the freed ones. Counts, ends,
+//! `height` and `longest_gap` take constant time. Other calls of allocators and managers take at most
+//! linear time.
 //!
 //! Each allocated range and each gap has a node of 56 bytes. Allocating or moving a range allocates one
 //! for each part of its gap that remains, and `allocate_all` also three lists. A copy allocates all
