@@ -115,6 +115,7 @@ int main(void) {
     if (status == DVS_INVALID_STATE_TRANSITION)
         printf("already allocated, up to %#" PRIx64 "\n", refusal.range.end);
 
+    /* The guest programs the first BAR of the graphics. Only the third start is valid. */
     program_bar(mmio, graphics[0], 0xd0000800, &bars[0]);
     program_bar(mmio, graphics[0], 0x200000000, &bars[0]);
     program_bar(mmio, graphics[0], 0xd0000000, &bars[0]);
