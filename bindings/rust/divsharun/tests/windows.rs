@@ -476,6 +476,7 @@ fn windows_are_ranges_of_any_kind() {
         assert_eq!((limited.window(), window), (Some(range(5, 8)), Ok(request)));
         assert_eq!(limited.within(..), Ok(request));
     }
+    let borrowed = &range(1, MAX);
     for (window, (start, end)) in [
         (request.within(..MAX), (0, MAX - 1)),
         (request.within(1..), (1, MAX)),
@@ -490,7 +491,7 @@ fn windows_are_ranges_of_any_kind() {
         (request.within((Excluded(4), Excluded(9))), (5, 8)),
         (request.within((Excluded(4), Unbounded)), (5, MAX)),
         (request.within(range(5, 9)), (5, 9)),
-        (request.within(&range(1, MAX)), (1, MAX)),
+        (request.within(borrowed), (1, MAX)),
     ] {
         assert_eq!(window.map(Constraint::window), Ok(Some(range(start, end))));
     }
