@@ -113,9 +113,9 @@ static void allocate_in_windows() {
     CHECK(!space.conflict({2, 1, 0x1102, DVS_EXACT, &low}, conflict));
     CHECK(dvs::cause_of(conflict) == dvs::cause::none && is_range(conflict.range, 0, 0));
     CHECK(space.conflict({2, 1, 0, 3, nullptr}, conflict) == DVS_INVALID_POLICY);
-    CHECK(space.move_range(range, request::exact(2, 1, 0x1fff).within(low), range, &refusal) ==
+    CHECK(space.move_range(range, request::exact(2, 1, 0xfff).within(low), range, &refusal) ==
           DVS_RESOURCE_NOT_AVAILABLE);
-    CHECK(dvs::cause_of(refusal) == dvs::cause::outside_window);
+    CHECK(dvs::cause_of(refusal) == dvs::cause::outside_space);
     std::vector<dvs_range> ranges;
     CHECK(space.allocate_all({request::exact(2, 1, 0x1200), request::exact(2, 1, 0x1201)}, ranges,
                              nullptr, &refusal) == DVS_RESOURCE_NOT_AVAILABLE);
@@ -177,9 +177,9 @@ static void save() {
     CHECK(space.make_with_held(0, 16, {range_of(1, 2), range_of(2, 4)}, &failed) ==
               dvs::code(DVS_RESOURCE_NOT_AVAILABLE) &&
           failed == 1);
-    CHECK(space.make_with_free({range_of(0, 2), range_of(2, 4)}, &failed) ==
+    CHECK(space.make_with_free({range_of(0, 2), range_of(3, 4), range_of(4, 5)}, &failed) ==
               DVS_RESOURCE_NOT_AVAILABLE &&
-          failed == 1);
+          failed == 2);
     CHECK(!space.make_with_free({range_of(0, 2), range_of(4, 15)}) &&
           is_range(ranges_of(space)[0], 3, 3));
     CHECK(!space.make_with_held(0, 16, {range_of(1, 2), range_of(4, 4)}) && !space.save(text));

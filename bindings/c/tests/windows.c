@@ -409,12 +409,16 @@ static void move_in_windows(void) {
     }
 }
 
-/* Checks rows with a manager that has the id `id` only, for the first range of `held`. */
+/* Checks rows with a manager that has the id `id` only, for the first range of `held`. The ids do
+ * not matter for a conflict. */
 static void check_without_ids(uint32_t id, const struct row *rows, size_t count) {
+    const dvs_request taken = {0x10, 1, 0x1400, DVS_EXACT, NULL};
+    const struct outcome conflict = IN_THE_WAY(0x1400, 0x140f, ALLOCATED, 0x1400, 0x14ff);
     const dvs_range all = range_of(0x1000, 0x1fff);
     dvs_device_manager *manager = manager_with(all, id, id, 1);
     size_t i;
 
+    check_conflict(&taken, &conflict, all, NULL, manager);
     for (i = 0; i < count; i++)
         check_call(&rows[i], all, reserve_one, manager);
     prepare();
