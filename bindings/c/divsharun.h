@@ -165,7 +165,7 @@ typedef struct dvs_range {
     uint64_t end;
 } dvs_range;
 
-/* Details of an error. The other members are 0. */
+/* Details of an error or a conflict. The other members are 0. */
 typedef struct dvs_refusal {
     /*
      * DVS_INVALID_RANGE, DVS_OVERLAP: the range. DVS_INVALID_STATE_TRANSITION: the
