@@ -433,9 +433,9 @@ impl AddressAllocator {
     /// # Errors
     ///
     /// An error changes nothing. In this order:
-    /// - `ResourceNotAvailable` if exactly this range is not allocated.
+    /// - `ResourceNotAvailable` if exactly `key` is not allocated.
     /// - `Overflow`, `ResourceNotAvailable` or `InvalidStateTransition`, if `allocate_constraint` returns
-    ///   that error for the request.
+    ///   that error.
     ///
     /// # Example
     ///
