@@ -2,7 +2,7 @@
 
 use vm_allocator::{Error, IdAllocator, RangeInclusive};
 
-/// That crate tests a private call. The errors of `free_id` show its result.
+/// The errors of `free_id` show the result of the private call that is tested there.
 #[test]
 fn test_id_sanity_checks() {
     let mut ids = IdAllocator::new(5, 23).unwrap();

@@ -62,7 +62,7 @@ index_fits : (i lo hi s e : ℕ) (hs : List Range) → lo ≤ s → s ≤ e → 
 index_fits i lo hi s e hs l o h m =
     rw (le-ltb s lo l, ne_eqb s MAX (λ x. omega (arith, x, o, h, m)), le-ltb hi e (omega (arith, h)), ne_eqb e MAX (λ x. omega (arith, x, h, m))) refl
 
--- What is true of the holes after a range that ends at `end`, in a space from lo to hi.
+-- The holes after a range that ends at `end` can be held in a space from lo to hi, and this is the number of its blocks.
 record IsHoleList (lo end hi : ℕ) (hs : List Range) : Type 0 where
   pub faults : first_fault lo hi hs ≡ None
   pub index : (i : ℕ) → fault_index i lo hi hs ≡ None
@@ -209,7 +209,7 @@ holes_fit r rs l = hole_list 1 r.start r.end (last_end r.end rs) rs l.right l.ra
 none_wrong : (r : Range) (rs : List Range) → IsFreeList r rs → wrong_index 0 0 (r ∷ rs) ≡ None
 none_wrong r rs l = right_here 0 0 r rs (omega arith) ∙ l.right
 
--- What the checks of the body show.
+-- The checks of the body accept only such a list.
 pub list_checked : (r last : Range) (rs : List Range) (n : ℕ) (space : Range) → IsRange r.start r.end → ChecksFree r rs (Ok (last, n)) → MakesRange r.start last.end (Ok space) →
     IsFreeList r rs × (space ≡ record { start = r.start; end = last_end r.end rs })
 list_checked r last rs n space some checks made =

@@ -17,8 +17,8 @@ use Rattle.vm_allocator.specs.Values.RepairedValues.{EncodesRepaired}
 use Rattle.vm_ranges.specs.declared.error.Error.{Error}
 use Rattle.vm_ranges.specs.declared.error.Error.TheVariants.{OutOfMemory}
 
--- A call with its result: a request, which can have a window, several requests at once, the freeing of a range, the move of
--- a range to the place of a request, or the creation of a clone.
+-- A call with its result: a request, several requests at once, the freeing of a range, the move of a range to the place of a
+-- request, or the creation of a clone.
 pub data Call : Type 0 where
   Allocation : Request → Result Range Error → Call
   Several : List Request → Result (List Range) Error → Call

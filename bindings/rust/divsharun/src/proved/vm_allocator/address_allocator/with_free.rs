@@ -20,7 +20,7 @@ impl AddressAllocator {
     /// without a hole between them are one gap.
     ///
     /// Its tree has the minimum height for its nodes. It takes time linear in the number of ranges, and
-    /// allocates a list of the holes besides the nodes.
+    /// also allocates a list of the holes.
     ///
     /// # Errors
     ///
