@@ -1,5 +1,5 @@
 -- The view of a manager in clauses, and its state.
-use Rattle.std.specs.Prelude.{ℕ, Result, Ok, Err, refl}
+use Rattle.std.specs.Prelude.{Result, Ok, Err, refl}
 use Rattle.std.specs.Ordering.{nat_cmp}
 use Rattle.std.specs.Coded.{Coded, code_by, coded×, coded_ℕ}
 use Rattle.std.specs.FinMap as map
