@@ -2,13 +2,12 @@
 use Rattle.std.proofs.Common.{◌≡◌, refl, sym, ap, ◌∙◌, inr, ⊎_elim, subst, Ok}
 use Rattle.std.specs.List.{Contains}
 use Rattle.vm_ranges.specs.Range.{Range, address_count}
-use Rattle.vm_ranges.specs.Request.{Request}
 use Rattle.vm_engine.specs.Address.{AddressState, AreClear, releasing, without_range}
 use Rattle.vm_engine.specs.Answer.{Frees}
 use Rattle.vm_engine.proofs.Blocks.PlainWords.{contains_held}
 use Rattle.vm_engine.proofs.Blocks.HeldChanges.{others_held}
 use Rattle.vm_engine.proofs.Results.AddressResults.{allocated_state, releases_held}
-use Rattle.vm_allocator.specs.Moves.{IsFor, MovesRange}
+use Rattle.vm_allocator.specs.Moves.{MovesRange}
 use Rattle.vm_allocator.specs.Laws.MoveLaws.{IsAsRequested, MovedIsHeld, OldPlaceIsClear, MoveIsTwoCalls}
 use Rattle.vm_allocator.proofs.Callers.{request_fits, request_inside, released_clear}
 use Rattle.vm_allocator.proofs.Results.Moves.{own_range_fits, own_range_inside, new_start}

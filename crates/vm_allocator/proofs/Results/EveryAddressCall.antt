@@ -1,5 +1,5 @@
 -- Every call has a result, so every list of calls has a history.
-use Rattle.std.proofs.Common.{◌≡◌, ◌≢◌, ℕ, ◌+◌, ◌-◌, ◌<◌, ◌≤◌, ◌⊎◌, true, false, cond, eqb, ltb, List, [], ◌∷◌, length, refl, ap, arith, subst, inl, inr, ⊎_elim, Option, Some, None, MatchOption, Result, Ok, Err}
+use Rattle.std.proofs.Common.{◌≡◌, ◌≢◌, ℕ, ◌+◌, ◌-◌, ◌<◌, ◌≤◌, ◌⊎◌, List, [], ◌∷◌, length, refl, ap, arith, subst, inl, inr, ⊎_elim, Option, Some, None, MatchOption, Result, Ok, Err}
 use Rattle.std.proofs.lemmas.Bool.{cases_eq}
 use Rattle.std.specs.List.{Contains}
 use Rattle.vm_ranges.specs.Cases.{IfElse, Unless}
@@ -11,7 +11,7 @@ use Rattle.vm_engine.proofs.Results.Requests.{request_in}
 use Rattle.vm_engine.proofs.Results.AddressResults.{outcome}
 use Rattle.vm_engine.specs.Answer.{IsChosen, ByStart, ByExactPolicy, ByPlace, AllocatesAt, Grants, Allocates, Frees, Makes}
 use Rattle.vm_ranges.specs.Cloning.{Clones}
-use Rattle.vm_engine.specs.Held.{range_fault, or_else, first_fault, TOO_MANY_BLOCKS, BySpace, MakesHeld, MakesWithHeld}
+use Rattle.vm_engine.specs.Held.{first_fault, TOO_MANY_BLOCKS, BySpace, MakesHeld, MakesWithHeld}
 use Rattle.vm_engine.specs.Tree.Blocks.{blocks_of}
 use Rattle.vm_allocator.specs.Several.{FailsBy, AllocatesAll}
 use Rattle.vm_allocator.specs.Moves.{IsFor, MovesRange}

@@ -1,5 +1,5 @@
 -- A space in which given ranges are free.
-use Rattle.std.proofs.Common.{◌≡◌, ◌≢◌, ◌↔◌, ℕ, ◌+◌, ◌-◌, ◌*◌, ◌<◌, ◌≤◌, ◌^◌, ◌⊎◌, cond, ltb, eqb, true, false, List, [], ◌∷◌, ◌++◌, length, Option, Some, None, MatchOption, Result, Ok, Err, refl, sym, ap, ◌∙◌, subst, arith, inl, inr, ⊎_elim}
+use Rattle.std.proofs.Common.{◌≡◌, ◌↔◌, ℕ, ◌+◌, ◌-◌, ◌*◌, ◌<◌, ◌≤◌, ◌^◌, ◌⊎◌, List, [], ◌∷◌, length, Option, Some, None, MatchOption, Result, Ok, Err, refl, sym, ap, ◌∙◌, subst, arith, inl, inr, ⊎_elim}
 use Rattle.std.proofs.lemmas.Bool.{cases_eq, cases_lt, lt-ltb, le-ltb, ne_eqb}
 use Rattle.std.proofs.lemmas.List.{length-append}
 use Rattle.std.proofs.lemmas.List.Elements.{All-nil, All-cons, All-head, All-tail}
@@ -9,12 +9,12 @@ use Rattle.vm_ranges.specs.Range.{Range, MAX, IsRange, IsIn, span}
 use Rattle.vm_engine.specs.Address.{AddressState, IsClear}
 use Rattle.vm_engine.specs.Held.{first_fault, fault_index, BySpace, MakesHeld}
 use Rattle.vm_engine.specs.Tree.Block.{held_block}
-use Rattle.vm_engine.specs.Tree.Blocks.{gap_before, blocks_between, blocks_of}
+use Rattle.vm_engine.specs.Tree.Blocks.{gap_before, blocks_between}
 use Rattle.vm_ranges.specs.declared.error.Error.{Error}
 use Rattle.vm_ranges.specs.declared.error.Error.TheVariants.{Overflow, OutOfMemory, ResourceNotAvailable, InvalidRange}
 use Rattle.vm_engine.proofs.Making.HeldTrees.{held_made, makes_high, makes_memory}
 use Rattle.vm_engine.proofs.Comparing.Tilings.{gap}
-use Rattle.vm_engine.proofs.Blocks.PlainWords.{IsHeldAddress, IsHeld, contains_held, held_contains, held_address, all_miss, none_holds}
+use Rattle.vm_engine.proofs.Blocks.PlainWords.{IsHeldAddress, contains_held, held_contains, held_address, all_miss, none_holds}
 use Rattle.vm_ranges.specs.Making.{MakesRange}
 use Rattle.vm_allocator.specs.Checks.FreeChecks.{AreRanges, ChecksFree}
 use Rattle.vm_allocator.specs.Holes.{holes_after, last_end, wrong_index, MakesWithFree}

@@ -1,5 +1,5 @@
 -- The keys of a saved tree as held ranges of a space.
-use Rattle.std.proofs.Common.{◌≡◌, ◌≢◌, ℕ, ◌+◌, ◌<◌, ◌≤◌, ◌^◌, ◌⊎◌, ltb, eqb, cond, true, false, List, [], ◌∷◌, length, Option, Some, None, MatchOption, Result, Ok, Err, IfOk, refl, sym, ap, ◌∙◌, subst, arith, inl, inr, ⊎_elim}
+use Rattle.std.proofs.Common.{◌≡◌, ◌≢◌, ℕ, ◌+◌, ◌≤◌, ◌⊎◌, ltb, eqb, cond, true, false, List, [], ◌∷◌, length, Option, Some, None, MatchOption, Result, Ok, Err, IfOk, refl, sym, ap, ◌∙◌, subst, arith, inl, inr, ⊎_elim}
 use Rattle.std.proofs.lemmas.Bool.{le-ltb, ne_eqb}
 use Rattle.vm_ranges.specs.Cases.{IfElse}
 use Rattle.vm_ranges.specs.Range.{Range, MAX, IsRange}

@@ -1,5 +1,5 @@
 -- The nodes of a saved tree that were read so far.
-use Rattle.std.specs.Prelude.{◌≡◌, ◌+◌, ◌-◌, ◌<◌, ◌≤◌, ℕ, nat_le, if◌then◌else◌, List, [], Option, None, Some, Result, Ok, Err}
+use Rattle.std.specs.Prelude.{◌≡◌, ◌+◌, ◌<◌, ℕ, nat_le, if◌then◌else◌, List, [], Option, None, Some, Result, Ok, Err}
 use Rattle.vm_ranges.specs.Cases.{IfElse}
 use Rattle.vm_ranges.specs.Range.{Range}
 use Rattle.vm_engine.specs.Checks.Spans.{StandsFor}
