@@ -344,7 +344,7 @@ dvs_status dvs_address_allocator_with_held(uint64_t base, uint64_t size, const d
  * - DVS_OUT_OF_MEMORY.
  */
 DVS_WARN_UNUSED
-dvs_status dvs_address_allocator_with_free(const struct dvs_range *ranges, size_t count,
+dvs_status dvs_address_allocator_with_free(const dvs_range *ranges, size_t count,
                                            dvs_address_allocator **allocator, size_t *failed,
                                            dvs_refusal *refusal);
 

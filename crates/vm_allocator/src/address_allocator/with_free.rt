@@ -57,7 +57,7 @@ impl AddressAllocator {
         if count > MAX_HOLES {
             return Err(Error::Overflow.into());
         }
-        let holes = holes_between(alloc, first, others)?;
+        let holes = holes_between(alloc, first, others, count)?;
         let interval_tree = IntervalTree::with_held(alloc, address_space, &holes)?;
         Ok(AddressAllocator {
             address_space,
@@ -92,17 +92,18 @@ fn check_free(
     Ok((last, holes))
 }
 
-/// Returns the holes between ranges. The ranges are in ascending order.
+/// Returns the holes between ranges, in a list for `count` of them. The ranges are in ascending order.
 #[tactic(auto, using(crate::proofs::Results::Holes::in_order_first, crate::proofs::Results::Holes::in_order_rest, crate::proofs::Results::Holes::hole_here, crate::proofs::Results::Holes::no_hole))]
 fn holes_between(
     alloc: Global,
     first: &RangeInclusive,
     others: &[RangeInclusive],
+    count: u64,
 ) -> std::result::Result<Vec<RangeInclusive>, AllocError>
     requires { wrong_index 1 (first.now.end + 1) others.now ≡ None }
     ensures { IfOk result (λ holes. holes.items ≡ holes_after (first.now.end + 1) others.now) }
 {
-    let mut holes = Vec::new(alloc);
+    let mut holes = Vec::with_capacity(alloc, count as usize)?;
     let mut end = first.end();
     for range in others {
         let start = range.start();

@@ -40,7 +40,7 @@ impl AddressAllocator {
         if count > MAX_HOLES {
             return Err(Error::Overflow.into());
         }
-        let holes = holes_between(alloc, first, others)?;
+        let holes = holes_between(alloc, first, others, count)?;
         let interval_tree = IntervalTree::with_held(alloc, address_space, &holes)?;
         Ok(AddressAllocator {
             address_space,
@@ -72,13 +72,14 @@ fn check_free(
     Ok((last, holes))
 }
 
-/// Returns the holes between ranges. The ranges are in ascending order.
+/// Returns the holes between ranges, in a list for `count` of them. The ranges are in ascending order.
 fn holes_between(
     alloc: Global,
     first: &RangeInclusive,
     others: &[RangeInclusive],
+    count: u64,
 ) -> core::result::Result<Vec<RangeInclusive>, AllocError> {
-    let mut holes = Vec::new(alloc);
+    let mut holes = Vec::with_capacity(alloc, count as usize)?;
     let mut end = first.end();
     for range in others {
         let start = range.start();
