@@ -59,10 +59,10 @@ fn spaces() {
     expect("clone", NODES, || space.try_clone(Global)).unwrap();
     let create = || AddressAllocator::with_held(Global, BASE, SIZE, &held);
     assert!(expect("ranges given", NODES, create).unwrap() == space);
-    // The holes between the gaps: their list, and one node for each gap and hole.
+    // The list of the holes between the gaps, and one node for each gap and hole. No hole is after the last.
     let gaps: Vec<_> = space.gaps().collect();
     let create = || AddressAllocator::with_free(Global, &gaps);
-    expect("gaps given", list(HELD - 1) + NODES - 1, create).unwrap();
+    expect("gaps given", 1 + (NODES - 1), create).unwrap();
     let value = space.to_value(Global).unwrap();
     let read = || AddressAllocator::from_value(Global, &value);
     expect("read", NODES, read).unwrap();
