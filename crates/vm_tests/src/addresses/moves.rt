@@ -103,7 +103,12 @@ fn moves_by_requests(rt: HostRuntime) {
     hold(&rt, &mut space, 8, 8);
     hold(&rt, &mut space, 32, 8);
     for row in &RESIZED {
-        expect_eq(&rt, &resize(&rt, &mut space, row), &row.3.answer(), &(row.0, row.2));
+        expect_eq(
+            &rt,
+            &resize(&rt, &mut space, row),
+            &row.3.answer(),
+            &(row.0, row.2),
+        );
     }
     let are_held = holds_exactly(&space, &[(32, 39), (60, 63)]);
     expect_true(&rt, are_held, &"both ranges are at their last places");

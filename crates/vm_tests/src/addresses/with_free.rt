@@ -3,9 +3,7 @@
 //! They guard against holes that are one address too long or too short, and against another order of
 //! errors.
 use super::*;
-use crate::fixtures::{
-    balance, fail_from_here, gaps_exactly, holds_exactly, list_for, range,
-};
+use crate::fixtures::{balance, fail_from_here, gaps_exactly, holds_exactly, list_for, range};
 use vm_allocator::ListError;
 
 /// Three ranges that cannot be free, and the error: the index of the range that is wrong, and the error.
@@ -34,7 +32,11 @@ const CREATED: [Created<'static>; 6] = [
     (&[(7, 7), (100, 200)], &[(8, 99)], &[(7, 7), (100, 200)]),
     // Ranges without a hole between them are one gap.
     (&[(0, 3), (4, 7), (9, 9)], &[(8, 8)], &[(0, 7), (9, 9)]),
-    (&[(1, HALF), (MAX, MAX)], &[(HALF + 1, LAST)], &[(1, HALF), (MAX, MAX)]),
+    (
+        &[(1, HALF), (MAX, MAX)],
+        &[(HALF + 1, LAST)],
+        &[(1, HALF), (MAX, MAX)],
+    ),
 ];
 
 /// Returns the ranges from one address to another.
@@ -64,7 +66,12 @@ fn wrong_free_ranges(rt: HostRuntime) {
     let none = AddressAllocator::with_free(rt.alloc(), &[]);
     let all = [range(&rt, 0, HALF), range(&rt, HALF + 2, MAX)];
     let whole = AddressAllocator::with_free(rt.alloc(), &all);
-    expect_eq(&rt, &none.err(), &Some(ListError::from(Error::Underflow)), &"no range");
+    expect_eq(
+        &rt,
+        &none.err(),
+        &Some(ListError::from(Error::Underflow)),
+        &"no range",
+    );
     let is_none = Some(ListError::from(Error::InvalidRange(0, MAX)));
     expect_eq(&rt, &whole.err(), &is_none, &"all addresses");
 }
