@@ -81,9 +81,8 @@
 //! If memory runs out, the process ends, as with Rust's collections. To handle the error
 //! instead, use the `try_` variants, for example
 //! [`AddressAllocator::try_allocate`], [`IdAllocator::try_free_id`] and
-//! [`DeviceManager::try_reserve`]. They return a [`TryError`], and then the same
-//! ranges and ids are allocated as before. Both
-//! kinds can be called on the same object.
+//! [`DeviceManager::try_reserve`]. They return a [`TryError`], and then the same ranges and ids are
+//! allocated as before. Both kinds can be called on the same object.
 //!
 //! With serde, it is an error of the format if memory runs out. A view that `try_saved` returns
 //! is saved without allocating memory. The memory of a format is its own: serde_json ends the process
@@ -138,9 +137,9 @@
 //!
 //! The results of allocators and managers are proved for every input, for the sources in Rattle.
 //! [`layout`](AddressAllocator::layout), [`contains_address`](RangeInclusive::contains_address),
-//! [`intersection`](RangeInclusive::intersection), conversions and texts are tested. The private module
-//! `proved` is generated from these sources by removing their contracts. The README of this crate
-//! lists what is trusted, including the other modules, which convert between their types and the
+//! [`intersection`](RangeInclusive::intersection), conversions and texts are tested. The private
+//! module `proved` is generated from these sources by removing their contracts. The README of this
+//! crate lists what is trusted, including the other modules, which convert between their types and the
 //! generated ones.
 //!
 //! # Features
