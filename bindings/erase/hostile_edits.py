@@ -18,7 +18,7 @@ import mutants  # noqa: E402
 
 RANGE, CONSTRAINT = "vm_ranges/src/range.rt", "vm_ranges/src/constraint.rt"
 CLAUSE, BODY = "ensures { result ≡ address_count self.now }", "        1 + (self.end - self.start)"
-IMPL, IMPORT = "impl RangeInclusive {", "use std::cmp::Ordering;"
+IMPL, IMPORT, HEAD = "impl RangeInclusive {", "use std::cmp::Ordering;", "`cmp` names it: by start, then by end."
 # A description of the edit, its file, the old text, the new text, and a part of the reason.
 EDITS = [
     ("a statement between clauses", RANGE, CLAUSE, f"{CLAUSE}\n        let x = 1;", "clauses without a body"),
@@ -27,7 +27,9 @@ EDITS = [
     ("a clause with two names", RANGE, CLAUSE, "ensures one two { f }", "a clause of this form"),
     ("a clause without end", "vm_ranges/src/lib.rt", "mod state;", "mod state;\nfn f() ensures { f", "a clause without end"),
     ("a ghost behind brackets", RANGE, BODY, f"        self.x[0] ghost use X;\n{BODY}", "'ghost' in code"),
-    ("a ghost with half a list", RANGE, IMPL, f"ghost use X.{{y;\n{IMPL}", "a ghost of this form"),
+    *[("a ghost with " + what, RANGE, IMPL, f"ghost use X{text};\n{IMPL}", "a ghost of this form") for what, text in [
+        ("half a list", ".{y"), ("a quote", '."y'), ("a text", '."y"'), ("a blank line", "\n\n.y"), ("an item behind a line", "\n\nfn f() {}")]],
+    *[("an inner attribute", RANGE, HEAD, f"{HEAD}\n{item}", "an attribute ''") for item in ("#![no_std]", '#![path = "x"]', "#![allow(x)]")],
     ("a ghost in code", RANGE, BODY, f"        1 + ghost x = {{ f }};\n{BODY}", "'ghost' in code"),
     ("a carriage return in a comment", RANGE, IMPL, f"// How many.\rfn f() {{}}\n{IMPL}", "a carriage return"),
     ("an import under another name", RANGE, IMPORT, "use std::cmp::Reverse as Ordering;", "an import under another name"),
@@ -66,13 +68,14 @@ EDITS += [(f"{name} {word}", RANGE, old, new.replace("WORD", word), reason.repla
     ("a clause with", "' \" ` -- // /* {-}", CLAUSE, "ensures { result ≡ f WORD }", "in a clause"),
     ("a definition of", "Box BTreeMap BTreeSet Err Iterator None Ok Option Ord Ordering Some Value Vec u128 u32 u64 u8 u8x16 usize",
      IMPL, f"struct WORD {{ inner: u64 }}\n{IMPL}", "a definition of 'WORD'"),
-    ("the word", """async await become box char decreases dyn extern f32 f64 gen i8 i16 i32 i64 i128 invariant isize
-     macro_rules prove prove_eq trait try union unsafe where yield""", BODY, f"        WORD;\n{BODY}", "'WORD' in code"),
+    *[(kind, """async await become box char decreases dyn extern f32 f64 gen i8 i16 i32 i64 i128 invariant isize
+     macro_rules prove prove_eq trait try union unsafe where yield""", BODY, f"        {code};\n{BODY}", "'WORD' in code")
+      for kind, code in [("the word", "WORD"), ("in brackets, the word", "(WORD)"), ("the head", "f(x, WORD::y)")]],
     ("the macro", "assert!(1) cfg![1] dbg!{1} env!(1) format!(1) include!(1) json!(1) panic!{} vec![1]", BODY, f"        WORD;\n{BODY}", "a macro '"),
     ("the method", "as_mut drain expect map pow rev swap unwrap_or wrapping_sub", BODY, "        self.end.WORD(1)", "a method 'WORD'"),
-    ("the function", "drop max panic swap transmute", BODY, "        1 + WORD(self.end)", "a function 'WORD'"),
+    ("the function", "Ordering drop max panic swap transmute", BODY, "        1 + WORD(self.end)", "a function 'WORD'"),
     ("the type", "Cell Rc String Wrapping", BODY, f"        let x: WORD = self.end;\n{BODY}", "a type 'WORD'"),
-    ("the path", "Box::leak Ord::max Value::String Vec::from u64::MIN", BODY, "        1 + WORD(self.end)", "a path 'WORD'"),
+    ("the path", "Box::leak Ord::max Ordering::reverse Value::String Vec::from u64::MIN", BODY, "        1 + WORD(self.end)", "a path 'WORD'"),
     ("the library's", "serde_json::from_str std::alloc::Layout std::cmp::Reverse std::collections::HashMap std::io::stdin std::mem::take",
      BODY, f"        WORD;\n{BODY}", "is in no table"),
     ("a cast to", "RangeInclusive _", BODY, "        1 + self.end as WORD", "'as WORD'"),
