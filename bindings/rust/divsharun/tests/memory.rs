@@ -7,10 +7,11 @@
 mod refusing;
 
 use divsharun::{
-    AddressAllocator, AllocPolicy, Conflict, Constraint, DeviceManager, Error, IdAllocator,
-    ListError, RangeInclusive, TryError,
+    AddressAllocator, AllocPolicy, Conflict, Constraint, DeviceManager, Error, Gaps, GapsIn,
+    HeldRanges, HeldRangesIn, IdAllocator, ListError, RangeInclusive, TryError,
 };
 use refusing::{blocks, peak_of, refusing};
+use std::cell::RefCell;
 use std::env;
 use std::fmt::Debug;
 use std::os::unix::process::ExitStatusExt;
@@ -199,6 +200,7 @@ fn main() {
     refuse_each_request();
     objects_stay_the_same();
     no_request_is_made();
+    items_without_memory();
     lists_have_no_spare_bytes();
     processes_are_ended();
     println!("each allocation is counted, and failed in turn");
@@ -355,6 +357,30 @@ fn unchanged_until_allowed<O: PartialEq + Debug, T: Debug>(
     }
 }
 
+/// Checks that only an allocation for a request has an index.
+fn items_without_memory() {
+    let expect = |number, index, call: &dyn Fn() -> Result<(), ListError<TryError>>| {
+        let error = TryError::OutOfMemory;
+        let (answer, _) = refusing(number, call);
+        assert_eq!(answer, Err(ListError { index, error }), "{number}");
+    };
+    for (number, index) in (1..).zip([None, None, None, Some(0), Some(1), Some(1)]) {
+        let space = RefCell::new(two_held());
+        expect(number, index, &|| {
+            space.borrow_mut().try_allocate_all(&three_requests())?;
+            Ok(())
+        });
+    }
+    for number in 1..=6 {
+        expect(number, None, &|| {
+            AddressAllocator::try_with_held(0, 64, &both()).map(drop)
+        });
+        expect(number, None, &|| {
+            AddressAllocator::try_with_free(&three_gaps()).map(drop)
+        });
+    }
+}
+
 /// Makes the calls that do not allocate, each of which would fail at its first allocation.
 fn no_request_is_made() {
     let (mut space, other) = (two_held(), two_held());
@@ -367,6 +393,14 @@ fn no_request_is_made() {
         let exact = request(8, ExactMatch(9));
         assert_eq!(space.conflict(exact), Some(Conflict::Allocated(held[0])));
         assert_eq!(devices.conflict(exact), None);
+        assert!(devices.devices().rev().eq([]) && devices.device_at(9).is_none());
+        assert!(space.held_ranges_in(&held[1]).rev().eq([held[1]]));
+        assert!(space.gaps().rev().eq(three_gaps().into_iter().rev()));
+        assert!(space.gaps_in(&three_gaps()[0]).eq([three_gaps()[0]]));
+        let at = (space.held_at(16), space.gap_at(0));
+        assert_eq!(at, (Some(held[0]), Some(three_gaps()[0])));
+        let gaps = (space.gap_count(), space.longest_gap(), space.free_len());
+        assert_eq!(gaps, (3, 16, 48));
         assert!(space.cmp(&other).is_eq() && space.height() > 1);
         assert_eq!(space.allocate_all(&[]), Ok(Vec::new()));
         assert_eq!(space.free(&held[0]), Ok(()));
@@ -382,6 +416,7 @@ fn no_request_is_made() {
         let mut ids = IdAllocator::new(5, 6).expect("ids");
         assert_eq!((ids.allocate_id(), ids.peek_id()), (Ok(5), Ok(6)));
         assert!(ids.is_allocated(5) && ids.held_count() == 1);
+        assert!(ids.held_ids().rev().eq([5]) && ids.free_count() == 1);
         assert_eq!(ids.free_id(6), Err(Error::NeverAllocated(6)));
         assert_eq!(ids.allocate_exact(7), Err(Error::OutOfRange(7)));
         assert_eq!(ids.allocate_exact(6), Ok(6));
@@ -394,11 +429,12 @@ fn no_request_is_made() {
     assert_eq!(requests, 0);
 }
 
-/// Checks the bytes of calls with lists, and of a small manager.
+/// Checks the bytes of calls with lists, of copies and walks, and of a small manager.
 fn lists_have_no_spare_bytes() {
     const COUNT: usize = 1000;
     let size = COUNT as u64;
     let (_, node) = peak_of(|| AddressAllocator::new(0, 64));
+    assert_eq!(node, 56);
     let held = (0..size).map(|number| RangeInclusive::new(2 * number, 2 * number));
     let held: Vec<_> = held.map(|range| range.expect("a range")).collect();
     let (_, bytes) = peak_of(|| AddressAllocator::with_held(0, 2 * size, &held));
@@ -406,6 +442,15 @@ fn lists_have_no_spare_bytes() {
         bytes,
         COUNT * size_of::<RangeInclusive>() + 2 * COUNT * node
     );
+    let (copy, bytes) = peak_of(|| AddressAllocator::with_free(&held));
+    let holes = (2 * COUNT - 1) * size_of::<RangeInclusive>();
+    assert_eq!(bytes, holes + (2 * COUNT - 1) * node);
+    let (_, bytes) = peak_of(|| copy.clone());
+    assert_eq!(bytes, (2 * COUNT - 1) * node);
+    // A walk has two paths of at most 50 nodes, and at most three numbers.
+    let walk = 100 * size_of::<usize>() + 3 * size_of::<u64>();
+    assert!(size_of::<HeldRanges>() <= walk && size_of::<HeldRangesIn>() <= walk);
+    assert!(size_of::<Gaps>() <= walk && size_of::<GapsIn>() <= walk);
     let mut space = AddressAllocator::new(0, size).expect("a space");
     let requests = [request(1, FirstMatch); COUNT];
     let (ranges, bytes) = peak_of(|| space.allocate_all(&requests));
@@ -415,6 +460,12 @@ fn lists_have_no_spare_bytes() {
     let mut ids = IdAllocator::new(0, 2000).expect("ids");
     let (_, bytes) = peak_of(|| ids.allocate_ids(COUNT));
     assert_eq!(bytes, COUNT * size_of::<u32>());
+    // Skipped ids fill chunks of 1 KiB, which are in a list with an eighth more.
+    let (_, bytes) = peak_of(|| ids.allocate_exact(2 * COUNT as u32));
+    let chunks = COUNT * size_of::<u32>();
+    assert!(bytes < chunks * 9 / 8, "{bytes} bytes");
+    let (_, bytes) = peak_of(|| ids.clone());
+    assert!(bytes < chunks * 9 / 8, "{bytes} bytes");
     // A set and a map have chunks of 1 KiB, and a list has capacity for four devices.
     let (_, bytes) =
         peak_of(|| reserve_and_release(|devices| devices.reserve(1, 1, FirstMatch).is_ok()));
