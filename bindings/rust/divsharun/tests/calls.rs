@@ -12,8 +12,8 @@ use divsharun::{
     IdAllocator, ListError, NodeState, RangeInclusive, TryError,
 };
 use draw::Draw;
-use items::{expect_in_order, expect_items};
-use model::{refused, Model, WIDTH};
+use items::{exact, expect_in_order, expect_items, inexact};
+use model::{refused, Model, Scale, WIDTH};
 use std::collections::{BTreeSet, HashSet};
 use std::fmt::Debug;
 
@@ -37,24 +37,39 @@ fn blocks_of(held: &[RangeInclusive], gaps: &[RangeInclusive]) -> Vec<Block<'sta
 }
 
 /// Moves a range in both forms. The alignment is 1, and there is no window.
-fn move_range(space: &mut AddressAllocator, model: &mut Model, number: usize, to: u64) {
+fn move_range(
+    space: &mut AddressAllocator,
+    model: &mut Model,
+    scale: Scale,
+    number: usize,
+    to: u64,
+) {
     let held = model.held[number];
     let mut tried = space.clone();
-    let answer = space.move_range(&held, to);
-    assert_eq!(refused(tried.try_move_range(&held, to)), answer);
-    assert_eq!(tried, *space);
     let request = Constraint::new(held.len(), 1, AllocPolicy::ExactMatch(to)).unwrap();
-    assert_eq!(answer, model.move_to(number, request));
+    let want = scale.answer(model.move_to(number, request));
+    let (held, to) = (scale.range(held), to << scale.0);
+    assert_eq!(space.move_range(&held, to), want);
+    assert_eq!(refused(tried.try_move_range(&held, to)), want);
+    assert_eq!(tried, *space);
 }
 
+/// Compares small and large addresses, and the first and the last ones.
 #[test]
 fn answers_are_those_of_a_plain_model() {
     let mut draw = Draw(1);
-    let mut model = Model::new(BASE);
-    let mut space = AddressAllocator::new(BASE, WIDTH).unwrap();
-    for _ in 0..20_000 {
+    for (base, scale) in [(BASE, 0), (0, 0), (u64::MAX - WIDTH + 1, 0), (112, 56)] {
+        expect_answers(base, Scale(scale), &mut draw);
+    }
+}
+
+fn expect_answers(base: u64, scale: Scale, draw: &mut Draw) {
+    let mut model = Model::new(base);
+    let (start, length) = (base << scale.0, WIDTH << scale.0);
+    let mut space = AddressAllocator::new(start, length).unwrap();
+    for _ in 0..8_000 {
         let (size, align) = (1 + draw.below(6), 1 << draw.below(3));
-        let at = BASE + draw.below(WIDTH);
+        let at = base + draw.below(WIDTH);
         let any = draw.below(model.held.len().max(1) as u64) as usize;
         let policy = match draw.below(9) {
             0..=2 => AllocPolicy::FirstMatch,
@@ -62,112 +77,177 @@ fn answers_are_those_of_a_plain_model() {
             4 => AllocPolicy::ExactMatch(at - at % align),
             _ if model.held.is_empty() => continue,
             5 => {
-                move_range(&mut space, &mut model, any, at);
+                move_range(&mut space, &mut model, scale, any, at);
                 continue;
             }
             _ => {
-                assert_eq!(space.free(&model.held.swap_remove(any)), Ok(()));
+                let held = scale.range(model.held.swap_remove(any));
+                assert_eq!(space.free(&held), Ok(()));
                 continue;
             }
         };
         let request = Constraint::new(size, align, policy).unwrap();
-        let answer = space.allocate(size, align, policy);
-        assert_eq!(answer, model.allocate(request));
+        let answer = model.allocate(request);
         model.held.extend(answer.ok());
+        let request = scale.request(request);
+        let range = space.allocate(request.size(), request.align(), request.policy());
+        assert_eq!(range, scale.answer(answer));
         assert_eq!(space.held_count(), model.held.len() as u64);
         assert_eq!(
             space.gap_count(),
             space.gaps().fold(0, |count, _| count + 1)
         );
     }
-    let mut held = model.held.clone();
+    let held = model.held.iter().map(|held| scale.range(*held));
+    let mut held: Vec<_> = held.collect();
     held.sort();
     assert!(space.held_ranges().eq(held.iter().copied()));
     let gaps: Vec<_> = space.gaps().collect();
     let layout = space.layout();
     let blocks = blocks_of(&held, &gaps);
-    for _ in 0..100 {
-        expect_items(
-            space.held_ranges(),
-            &held,
-            |items| Some(items.len()),
-            &mut draw,
-        );
-        let items = (&space).into_iter();
-        expect_items(items, &held, |items| Some(items.len()), &mut draw);
-        expect_items(space.iter(), &held, |items| Some(items.len()), &mut draw);
-        expect_items(space.gaps(), &gaps, |items| Some(items.len()), &mut draw);
+    for _ in 0..40 {
+        expect_items(space.held_ranges(), &held, exact, draw);
+        expect_items((&space).into_iter(), &held, exact, draw);
+        expect_items(space.iter(), &held, exact, draw);
+        expect_items(space.gaps(), &gaps, exact, draw);
         let items = layout.blocks();
-        expect_items(items, &blocks, |items| Some(items.len()), &mut draw);
+        expect_items(items, &blocks, |items| Some(items.len()), draw);
     }
-    expect_queries(&space, &held, &gaps, &mut draw);
-    expect_conflicts(&space, &model);
+    let last = u64::MAX >> scale.0;
+    let near = base.saturating_sub(2)..=last.min(base.saturating_add(WIDTH + 1));
+    let addresses: BTreeSet<_> = near.chain([0, last]).collect();
+    let pairs = addresses.iter().flat_map(|start| {
+        let ends = addresses.range(start..).copied();
+        ends.map(|end| (*start, end))
+    });
+    for (start, end) in pairs.filter(|pair| *pair != (0, last)) {
+        let window = scale.range(RangeInclusive::new(start, end).unwrap());
+        expect_queries(&space, &held, &gaps, &window, draw);
+    }
+    if (9..=BASE).contains(&base) {
+        expect_conflicts(&space, &model, scale);
+    }
     let lengths = || gaps.iter().map(RangeInclusive::len);
     assert_eq!(space.longest_gap(), lengths().max().unwrap_or(0));
     assert_eq!(space.free_len(), lengths().sum());
     assert_eq!(space.gap_count(), gaps.len() as u64);
-    let created = AddressAllocator::with_held(BASE, WIDTH, &held);
+    let created = AddressAllocator::try_with_held(start, length, &held);
+    assert_eq!(created.as_ref(), Ok(&space));
+    let created = AddressAllocator::with_held(start, length, &held);
     assert_eq!(created, Ok(space));
 }
 
-/// Checks the queries of each address, and of each range of the space and the addresses next to it.
+/// Checks the queries of a range, and of its ends.
 fn expect_queries(
     space: &AddressAllocator,
     held: &[RangeInclusive],
     gaps: &[RangeInclusive],
+    window: &RangeInclusive,
     draw: &mut Draw,
 ) {
-    let addresses = BASE - 2..BASE + WIDTH + 2;
-    for (start, end) in addresses
-        .clone()
-        .flat_map(|start| (start..addresses.end).map(move |end| (start, end)))
-    {
-        let window = RangeInclusive::new(start, end).unwrap();
-        let meeting = |ranges: &[RangeInclusive]| -> Vec<RangeInclusive> {
-            let meets = |range: &&RangeInclusive| range.overlaps(&window);
-            ranges.iter().filter(meets).copied().collect()
+    let meeting = |ranges: &[RangeInclusive]| -> Vec<RangeInclusive> {
+        let meets = |range: &&RangeInclusive| range.overlaps(window);
+        ranges.iter().filter(meets).copied().collect()
+    };
+    expect_items(space.held_ranges_in(window), &meeting(held), inexact, draw);
+    expect_items(space.gaps_in(window), &meeting(gaps), inexact, draw);
+    for address in [window.start(), window.end()] {
+        let at = |ranges: &[RangeInclusive]| -> Option<RangeInclusive> {
+            let has = |range: &&RangeInclusive| range.contains_address(address);
+            ranges.iter().find(has).copied()
         };
+        assert_eq!(space.held_at(address), at(held));
+        assert_eq!(space.gap_at(address), at(gaps));
+    }
+}
+
+/// Checks the queries of spaces with the first or the last addresses.
+#[test]
+fn queries_of_the_first_and_the_last_addresses() {
+    const MAX: u64 = u64::MAX;
+    const HALF: u64 = 1 << 63;
+    let numbers = [0, 1, 2, 1 << 40, HALF - 1, HALF, MAX - 2, MAX - 1, MAX];
+    let mut draw = Draw(13);
+    for (base, size, held, gaps) in [
+        (0, 1, &[(0, 0)][..], &[][..]),
+        (0, 1, &[], &[(0, 0)]),
+        (MAX, 1, &[], &[(MAX, MAX)]),
+        (MAX - 1, 2, &[(MAX - 1, MAX - 1)], &[(MAX, MAX)]),
+        (1, MAX, &[(1, MAX - 1)], &[(MAX, MAX)]),
+        (0, MAX, &[(1, MAX - 2)], &[(0, 0), (MAX - 1, MAX - 1)]),
+        (0, MAX, &[(0, 0), (MAX - 1, MAX - 1)], &[(1, MAX - 2)]),
+        (
+            1,
+            MAX,
+            &[(1, HALF - 1), (MAX - 1, MAX - 1)],
+            &[(HALF, MAX - 2), (MAX, MAX)],
+        ),
+    ] {
+        let ranges = |ends: &[(u64, u64)]| -> Vec<RangeInclusive> {
+            let range = |(start, end): &(u64, u64)| RangeInclusive::new(*start, *end).unwrap();
+            ends.iter().map(range).collect()
+        };
+        let (held, gaps) = (ranges(held), ranges(gaps));
+        let mut devices = DeviceManager::new(u32::MAX - 1, u32::MAX, base, size).unwrap();
+        for (id, range) in [u32::MAX - 1, u32::MAX].into_iter().zip(&held) {
+            let policy = AllocPolicy::ExactMatch(range.start());
+            let device = DeviceSlot { id, range: *range };
+            assert_eq!(devices.reserve(range.len(), 1, policy), Ok(device));
+            assert_eq!(devices.slot(id), Some(*range));
+        }
+        let space = AddressAllocator::with_held(base, size, &held).unwrap();
+        let layout = space.layout();
+        let blocks = blocks_of(&held, &gaps);
         expect_items(
-            space.held_ranges_in(&window),
-            &meeting(held),
-            |_| None,
-            draw,
+            layout.blocks(),
+            &blocks,
+            |items| Some(items.len()),
+            &mut draw,
         );
-        expect_items(space.gaps_in(&window), &meeting(gaps), |_| None, draw);
-        if start == end {
-            assert_eq!(space.held_at(start), meeting(held).pop());
-            assert_eq!(space.gap_at(start), meeting(gaps).pop());
+        for (start, end) in numbers
+            .iter()
+            .flat_map(|start| numbers.map(|end| (*start, end)))
+        {
+            if let Ok(window) = RangeInclusive::new(start, end) {
+                expect_queries(&space, &held, &gaps, &window, &mut draw);
+            }
+            let device = devices.device_at(start).map(|device| device.range);
+            assert_eq!(device, space.held_at(start));
         }
     }
 }
 
 /// Checks the conflicts of each range near the space: without a window, in windows that change nothing,
 /// and in one that ends too early.
-fn expect_conflicts(space: &AddressAllocator, model: &Model) {
-    let addresses = BASE - 2..BASE + WIDTH + 2;
+fn expect_conflicts(space: &AddressAllocator, model: &Model, scale: Scale) {
+    let base = model.base;
+    let addresses = base - 2..base + WIDTH + 2;
+    let conflict_in = |request| space.conflict(scale.request(request));
     for start in addresses.clone() {
         for end in start..addresses.end {
             let policy = AllocPolicy::ExactMatch(start);
             let exact = Constraint::new(end - start + 1, 1, policy).unwrap();
-            let conflict = model.conflict(exact);
-            assert_eq!(space.conflict(exact), conflict);
+            let conflict = model.conflict(exact).map(|found| scale.conflict(found));
+            assert_eq!(conflict_in(exact), conflict);
             for same in [
                 exact.within(start..=end),
-                exact.within(BASE..BASE + WIDTH),
-                exact.within(BASE - 9..),
-                exact.within(..BASE + WIDTH),
+                exact.within(base..base + WIDTH),
+                exact.within(base - 9..),
+                exact.within(..base + WIDTH),
             ] {
-                assert_eq!(space.conflict(same.unwrap()), conflict);
+                assert_eq!(conflict_in(same.unwrap()), conflict);
             }
             let below = exact.within(start - 1..end).unwrap();
-            assert_eq!(space.conflict(below), model.conflict(below));
+            let conflict = model.conflict(below).map(|found| scale.conflict(found));
+            assert_eq!(conflict_in(below), conflict);
         }
     }
 }
 
-/// Returns the next few addresses.
-fn next_part(next: &mut u64, draw: &mut Draw) -> RangeInclusive {
-    let part = RangeInclusive::from_start_len(*next, 1 + draw.below(4)).unwrap();
+/// Returns the next few addresses, or as many times more as the scale says.
+fn next_part(next: &mut u64, Scale(scale): Scale, draw: &mut Draw) -> RangeInclusive {
+    let len = (1 + draw.below(4)) << scale;
+    let part = RangeInclusive::from_start_len(*next, len).unwrap();
     *next = part.end() + 1;
     part
 }
@@ -180,12 +260,13 @@ fn holes_between_free_ranges_are_allocated() {
     for _ in 0..2_000 {
         let (mut free, mut holes) = (Vec::new(), Vec::new());
         let base = draw.below(1 << 16) << 46;
+        let scale = Scale(draw.below(2) as u32 * 57);
         let mut next = base;
         for number in 0..=draw.below(12) {
             if number > 0 && draw.below(3) > 0 {
-                holes.push(next_part(&mut next, &mut draw));
+                holes.push(next_part(&mut next, scale, &mut draw));
             }
-            free.push(next_part(&mut next, &mut draw));
+            free.push(next_part(&mut next, scale, &mut draw));
         }
         let space = AddressAllocator::with_free(&free);
         let same = AddressAllocator::with_held(base, next - base, &holes);
@@ -508,7 +589,8 @@ fn ids_are_those_of_a_plain_model() {
             next = next.max(want.map_or(0, |id| u64::from(id) + 1));
             assert_eq!((ids.held_count(), &ids), (held.len() as u64, &tried));
             let list: Vec<_> = held.iter().copied().collect();
-            expect_items(ids.held_ids(), &list, |items| Some(items.len()), &mut draw);
+            expect_items(ids.held_ids(), &list, exact, &mut draw);
+            expect_in_order(ids.iter(), &list);
             for same in [
                 IdAllocator::with_held(first, last, &list),
                 refused(IdAllocator::try_with_held(first, last, &list)),
@@ -751,6 +833,11 @@ fn causes_of_errors() {
     use std::error::Error as _;
 
     let error = TryError::Refused(Error::Overflow);
+    let of_item = ListError {
+        index: Some(1),
+        error,
+    };
+    assert!(Error::Overflow.source().is_none() && of_item.source().is_none());
     assert_eq!(error.error(), Some(Error::Overflow));
     let source = error.source().and_then(|source| source.downcast_ref());
     assert_eq!(source, Some(&Error::Overflow));
@@ -758,18 +845,59 @@ fn causes_of_errors() {
     assert!(TryError::OutOfMemory.source().is_none());
 }
 
-/// Checks that a width applies to a whole text.
+/// Checks each text, and that a width applies to a whole text.
 #[test]
 fn texts_are_padded_as_a_whole() {
     let range = RangeInclusive::new(0xd0, 0xd7).unwrap();
-    let texts: [(&dyn std::fmt::Display, &str); 6] = [
+    let texts: [(&dyn std::fmt::Display, &str); 16] = [
         (&range, "d0-d7"),
+        (
+            &Error::Overflow,
+            "Management operations on desired resource resulted in overflow.",
+        ),
+        (
+            &Error::Underflow,
+            "Management operations on desired resource resulted in underflow.",
+        ),
         (
             &Error::OutOfRange(7),
             "Specified id: 7 is not in the range.",
         ),
+        (
+            &Error::AlreadyReleased(7),
+            "Specified id: 7 is already released.",
+        ),
+        (
+            &Error::NeverAllocated(7),
+            "Specified id: 7 was never allocated, can't release it.",
+        ),
+        (
+            &TryError::Refused(Error::ResourceNotAvailable),
+            "The requested resource is not available.",
+        ),
+        (
+            &Error::InvalidRange(8, 7),
+            "The range specified: 8-7 is not valid.",
+        ),
         (&Error::InvalidAlignment, "Alignment value is invalid."),
+        (
+            &Error::InvalidStateTransition(range, NodeState::Allocated),
+            "Invalid state transition for node RangeInclusive { start: 208, end: 215 } from \
+             Allocated to NodeState::Free",
+        ),
+        (&Error::UnalignedAddress, "The address is not aligned."),
+        (
+            &Error::InvalidSize(7),
+            "The specified size: 7 is not valid.",
+        ),
         (&TryError::OutOfMemory, "There is not enough memory."),
+        (
+            &ListError {
+                index: None,
+                error: TryError::OutOfMemory,
+            },
+            "There is not enough memory.",
+        ),
         (
             &ListError {
                 index: Some(2),
@@ -850,6 +978,8 @@ fn requests_are_written_in_one_line_and_hashed() {
             assert_eq!(request.window(), Some(window));
         }
         assert_eq!(request.to_string(), text);
+        let numbers = (request.size(), request.align(), request.policy());
+        assert_eq!(numbers, (size, align, policy));
         assert!(seen.insert(request) && !seen.insert(request));
     }
 }
@@ -910,6 +1040,29 @@ fn different_values_are_not_equal() {
         error: *error,
     });
     expect_distinct(&lists.collect::<Vec<_>>());
+}
+
+#[test]
+fn ranges_of_lengths() {
+    const MAX: u64 = u64::MAX;
+    let numbers = [0, 1, 2, 1 << 40, 1 << 63, MAX - 1, MAX];
+    for (start, len) in numbers
+        .into_iter()
+        .flat_map(|start| numbers.map(|len| (start, len)))
+    {
+        let range = RangeInclusive::from_start_len(start, len);
+        let Some(last) = len.checked_sub(1) else {
+            assert_eq!(range, Err(Error::InvalidSize(0)));
+            continue;
+        };
+        let end = start.checked_add(last);
+        let want = end.map(|end| RangeInclusive::new(start, end).unwrap());
+        assert_eq!(range, want.ok_or(Error::Overflow));
+        for (range, address) in range.iter().flat_map(|range| numbers.map(|at| (range, at))) {
+            let offset = address.checked_sub(start).filter(|offset| *offset < len);
+            assert_eq!((range.offset_of(address), range.len()), (offset, len));
+        }
+    }
 }
 
 #[test]

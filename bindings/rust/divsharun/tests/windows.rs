@@ -11,7 +11,7 @@ use divsharun::{
     ListError, NodeState, RangeInclusive, Result, TryError,
 };
 use draw::Draw;
-use model::{refused, Model, WIDTH};
+use model::{refused, Model, Scale, WIDTH};
 use std::ops::Bound::{Excluded, Included, Unbounded};
 use AllocPolicy::{ExactMatch, FirstMatch, LastMatch};
 use Error::{InvalidStateTransition, Overflow, ResourceNotAvailable};
@@ -90,15 +90,18 @@ const OF_DEVICES: [Form<DeviceManager>; 4] = [
 struct Forms {
     spaces: [AddressAllocator; 8],
     devices: [DeviceManager; 4],
+    scale: Scale,
 }
 
 impl Forms {
-    /// Creates spaces of [`WIDTH`] addresses.
-    fn new(base: u64) -> Forms {
-        let devices = |_| DeviceManager::new(FIRST_ID, u32::MAX, base, WIDTH).unwrap();
+    /// Creates spaces of [`WIDTH`] addresses, or as many times more as the scale says.
+    fn new(base: u64, scale: Scale) -> Forms {
+        let (base, size) = (base << scale.0, WIDTH << scale.0);
+        let devices = |_| DeviceManager::new(FIRST_ID, u32::MAX, base, size).unwrap();
         Forms {
-            spaces: [(); 8].map(|_| AddressAllocator::new(base, WIDTH).unwrap()),
+            spaces: [(); 8].map(|_| AddressAllocator::new(base, size).unwrap()),
             devices: [(); 4].map(devices),
+            scale,
         }
     }
 
@@ -145,7 +148,7 @@ impl Forms {
         answer
     }
 
-    /// Checks the queries of each address, and the list of devices.
+    /// Checks the queries of each address of the model, and the list of devices.
     fn compare(&self, held: &[RangeInclusive]) {
         for devices in &self.devices {
             assert_eq!(devices.device_count(), held.len() as u64);
@@ -156,14 +159,17 @@ impl Forms {
                 assert!(held.contains(&device.range) && device.id >= FIRST_ID);
             }
             let base = self.spaces[0].base();
-            for address in base..=base + (WIDTH - 1) {
+            for address in (0..WIDTH).map(|number| base + (number << self.scale.0)) {
                 let at = devices.device_at(address).map(|device| device.range);
                 assert_eq!(at, self.spaces[0].held_at(address));
+                let is_in = |range: &&RangeInclusive| range.contains_address(address);
+                assert_eq!(at, held.iter().find(is_in).copied());
             }
         }
         for space in &self.spaces {
             assert_eq!(*space, self.spaces[0]);
-            assert_eq!(space.end() - space.base(), WIDTH - 1);
+            let size = WIDTH << self.scale.0;
+            assert_eq!(space.end() - space.base(), size - 1);
         }
     }
 }
@@ -275,7 +281,7 @@ fn each_policy_at_the_ends_of_windows() {
         (MAX - 63, None, AT_MAX),
     ] {
         for &((start, end), (size, align, policy), want) in rows {
-            let mut spaces = Forms::new(base);
+            let mut spaces = Forms::new(base, Scale(0));
             if let Some((size, start)) = held {
                 let request = Constraint::new(size, 1, ExactMatch(start)).unwrap();
                 assert_eq!(
@@ -292,13 +298,14 @@ fn each_policy_at_the_ends_of_windows() {
 }
 
 /// Returns a random request near a space. Its `ExactMatch` often names an allocated range.
-fn drawn(draw: &mut Draw, model: &Model) -> Constraint {
+fn drawn(draw: &mut Draw, model: &Model, scale: Scale) -> Constraint {
     let near = |draw: &mut Draw| {
         let lowest = model.base.saturating_sub(4);
         lowest.saturating_add(draw.below(WIDTH + 8))
     };
     let mut size = [1 + draw.below(6), 1 + draw.below(WIDTH + 8)][usize::from(draw.below(4) == 0)];
-    let mut align = [1 << draw.below(3), 1 << draw.below(64)][usize::from(draw.below(8) == 0)];
+    let mut align = [1 << draw.below(3), 1 << draw.below(64 - u64::from(scale.0))]
+        [usize::from(draw.below(8) == 0)];
     let policy = match draw.below(6) {
         0 | 1 => FirstMatch,
         2 | 3 => LastMatch,
@@ -359,31 +366,49 @@ fn numbers_that_are_no_request() {
     }
 }
 
+/// Bases and scales. The scaled spaces have a start that is aligned to 2^62 or to 2^63.
+const BASES: [(u64, Scale); 7] = [
+    (0, Scale(0)),
+    (1, Scale(0)),
+    (1000, Scale(0)),
+    (MAX - WIDTH, Scale(0)),
+    (MAX - WIDTH + 1, Scale(0)),
+    (40, Scale(56)),
+    (112, Scale(56)),
+];
+
 #[test]
 fn ranges_and_errors_are_those_of_a_plain_model() {
     let mut draw = Draw(7);
     let mut kinds = [0; 6];
-    for base in [0, 1, 1000, MAX - WIDTH, MAX - WIDTH + 1] {
-        let mut spaces = Forms::new(base);
+    for (base, scale) in BASES {
+        let mut spaces = Forms::new(base, scale);
         let mut model = Model::new(base);
         for _ in 0..4_000 {
-            let request = drawn(&mut draw, &model);
-            assert_eq!(spaces.conflict(request), model.conflict(request));
-            let answer = spaces.allocate(request);
-            assert_eq!(answer, model.allocate(request), "{request} in {base:#x}");
+            let request = drawn(&mut draw, &model, scale);
+            let scaled = scale.request(request);
+            let conflict = model.conflict(request);
+            let conflict = conflict.map(|conflict| scale.conflict(conflict));
+            assert_eq!(spaces.conflict(scaled), conflict);
+            let answer = model.allocate(request);
+            let want = scale.answer(answer);
+            assert_eq!(spaces.allocate(scaled), want, "{scaled} in {base:#x}");
             kinds[kind_of(request, &answer)] += 1;
             model.held.extend(answer.ok());
             if draw.below(3) == 0 && !model.held.is_empty() {
                 let number = draw.below(model.held.len() as u64) as usize;
-                assert_eq!(spaces.free(&model.held.swap_remove(number)), Ok(()));
+                let held = scale.range(model.held.swap_remove(number));
+                assert_eq!(spaces.free(&held), Ok(()));
             }
             if draw.below(8) == 0 {
                 let near = range(request.size().min(base), base);
                 let is_held = model.held.contains(&near);
+                let near = scale.range(near);
                 assert!(is_held || spaces.free(&near) == Err(ResourceNotAvailable));
             }
         }
-        spaces.compare(&model.held);
+        let held = model.held.iter().map(|held| scale.range(*held));
+        spaces.compare(&held.collect::<Vec<_>>());
     }
     assert!(kinds.iter().all(|kind| *kind > 100), "{kinds:?}");
 }
@@ -393,27 +418,35 @@ fn ranges_and_errors_are_those_of_a_plain_model() {
 fn moves_are_those_of_a_plain_model() {
     let mut draw = Draw(9);
     let mut kinds = [0; 6];
-    for base in [0, 1000, MAX - WIDTH + 1] {
+    for (base, scale) in BASES {
         let mut model = Model::new(base);
-        let mut space = AddressAllocator::new(base, WIDTH).unwrap();
+        let (base, size) = (base << scale.0, WIDTH << scale.0);
+        let mut space = AddressAllocator::new(base, size).unwrap();
         for size in [1, 4, 2, 8] {
-            model
-                .held
-                .extend(space.allocate(size, size, FirstMatch).ok());
+            let request = Constraint::new(size, size, FirstMatch).unwrap();
+            let answer = model.allocate(request);
+            let range = space.allocate_constraint(scale.request(request));
+            assert_eq!(range, scale.answer(answer));
+            model.held.extend(answer);
         }
         for _ in 0..4_000 {
             let number = draw.below(4) as usize;
-            let (key, request) = (model.held[number], drawn(&mut draw, &model));
+            let request = drawn(&mut draw, &model, scale);
+            let key = scale.range(model.held[number]);
+            let answer = model.move_to(number, request);
+            kinds[kind_of(request, &answer)] += 1;
+            let (want, request) = (scale.answer(answer), scale.request(request));
             let mut tried = space.clone();
             let answer = space.move_constraint(&key, request);
-            assert_eq!(answer, model.move_to(number, request), "{key} to {request}");
-            assert_eq!(refused(tried.try_move_constraint(&key, request)), answer);
+            assert_eq!(answer, want, "{key} to {request}");
+            assert_eq!(refused(tried.try_move_constraint(&key, request)), want);
             assert_eq!(space, tried);
-            kinds[kind_of(request, &answer)] += 1;
         }
         let mut held = model.held;
         held.sort();
-        assert!(space.held_ranges().eq(held));
+        assert!(space
+            .held_ranges()
+            .eq(held.iter().map(|held| scale.range(*held))));
     }
     assert!(kinds.iter().all(|kind| *kind > 100), "{kinds:?}");
 }

@@ -23,6 +23,19 @@ where
     assert!(items.skip(middle).eq(list[middle..].iter().copied()));
 }
 
+/// Returns `None`, after a look at the least and the greatest of the ascending items of an iterator.
+pub fn inexact<I: Iterator<Item: Ord + Debug> + Clone>(items: &I) -> Option<usize> {
+    assert_eq!(items.clone().min(), items.clone().next());
+    assert_eq!(items.clone().max(), items.clone().last());
+    assert!(items.clone().is_sorted());
+    None
+}
+
+/// Returns the length of an iterator, after the same look.
+pub fn exact<I: ExactSizeIterator<Item: Ord + Debug> + Clone>(items: &I) -> Option<usize> {
+    inexact(items).or(Some(items.len()))
+}
+
 /// Takes items from both ends, one or several at a time, until an iterator and a list have none left.
 /// `length` returns its exact length, or `None` if it has none. It is compared after each call, and so
 /// are the size hint and the items of a clone.

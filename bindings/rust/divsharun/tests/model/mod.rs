@@ -113,6 +113,48 @@ fn is_in_window(address: u128, request: Constraint) -> bool {
     })
 }
 
+/// Makes large numbers: a space has `2^self.0` addresses for each one of a model.
+#[derive(Clone, Copy)]
+pub struct Scale(pub u32);
+
+impl Scale {
+    pub fn range(self, range: RangeInclusive) -> RangeInclusive {
+        let end = range.end().saturating_mul(1 << self.0);
+        let end = end.saturating_add((1 << self.0) - 1);
+        RangeInclusive::new(range.start() << self.0, end).unwrap()
+    }
+
+    pub fn request(self, request: Constraint) -> Constraint {
+        let policy = match request.policy() {
+            ExactMatch(start) => ExactMatch(start << self.0),
+            other => other,
+        };
+        let (size, align) = (request.size() << self.0, request.align() << self.0);
+        let scaled = Constraint::new(size, align, policy).unwrap();
+        let window = request.window().map(|window| self.range(window));
+        window.map_or(scaled, |window| scaled.within(window).unwrap())
+    }
+
+    pub fn answer(self, answer: Result<RangeInclusive>) -> Result<RangeInclusive> {
+        answer
+            .map(|range| self.range(range))
+            .map_err(|error| match error {
+                Error::InvalidStateTransition(range, state) => {
+                    Error::InvalidStateTransition(self.range(range), state)
+                }
+                other => other,
+            })
+    }
+
+    pub fn conflict(self, conflict: Conflict) -> Conflict {
+        match conflict {
+            Conflict::OutsideSpace(space) => Conflict::OutsideSpace(self.range(space)),
+            Conflict::OutsideWindow(window) => Conflict::OutsideWindow(self.range(window)),
+            Conflict::Allocated(range) => Conflict::Allocated(self.range(range)),
+        }
+    }
+}
+
 /// Returns the error of a `try_` call, which does not run out of memory.
 pub fn refused<T>(answer: std::result::Result<T, impl Into<TryError>>) -> Result<T> {
     answer.map_err(|error| match error.into() {
