@@ -273,15 +273,28 @@ const AT_MAX: &[Row] = &[
     ((0, MAX - 64), (1, 1, LastMatch), NONE),
 ];
 
+/// Rows for the 2^62 addresses from 5/8 * 2^62.
+const LARGE: &[Row] = &[
+    ((0, MAX), (1, 1 << 62, FirstMatch), Ok(1 << 62)),
+    ((0, MAX), (1 << 61, 1 << 62, LastMatch), Ok(1 << 62)),
+    ((0, MAX), (1, 1 << 63, FirstMatch), NONE),
+    ((0, MAX), (1, 1 << 63, LastMatch), NONE),
+    ((0, MAX), (1 << 62, 1, FirstMatch), Ok(40 << 56)),
+    ((0, MAX), ((1 << 62) + 1, 1, LastMatch), NONE),
+    ((0, MAX), (1 << 63, 1, FirstMatch), NONE),
+    ((0, MAX), (MAX, 1, LastMatch), NONE),
+];
+
 #[test]
 fn each_policy_at_the_ends_of_windows() {
-    for (base, held, rows) in [
-        (16, Some((8, 32)), IN_THE_MIDDLE),
-        (0, None, AT_ZERO),
-        (MAX - 63, None, AT_MAX),
+    for (base, scale, held, rows) in [
+        (16, 0, Some((8, 32)), IN_THE_MIDDLE),
+        (0, 0, None, AT_ZERO),
+        (MAX - 63, 0, None, AT_MAX),
+        (40, 56, None, LARGE),
     ] {
         for &((start, end), (size, align, policy), want) in rows {
-            let mut spaces = Forms::new(base, Scale(0));
+            let mut spaces = Forms::new(base, Scale(scale));
             if let Some((size, start)) = held {
                 let request = Constraint::new(size, 1, ExactMatch(start)).unwrap();
                 assert_eq!(
@@ -351,6 +364,9 @@ fn numbers_that_are_no_request() {
         (1, 0, LastMatch, Error::InvalidAlignment),
         (8, 3, ExactMatch(0), Error::InvalidAlignment),
         (8, 8, ExactMatch(4), Error::UnalignedAddress),
+        (1, 1 << 63, ExactMatch(1 << 62), Error::UnalignedAddress),
+        (MAX, MAX, FirstMatch, Error::InvalidAlignment),
+        (1, (1 << 63) + (1 << 41), LastMatch, Error::InvalidAlignment),
     ] {
         assert_eq!(Constraint::new(size, align, policy), Err(error));
         let mut space = AddressAllocator::new(0, WIDTH).unwrap();
