@@ -46,7 +46,7 @@ pub enum ReplayError {
 
 impl fmt::Display for ReplayError {
     fn fmt(&self, f: &mut fmt::Formatter<'_>) -> fmt::Result {
-        f.write_str(match self {
+        f.pad(match self {
             ReplayError::Read => "reading a line failed",
             ReplayError::Write => "writing a result failed",
         })

@@ -71,6 +71,8 @@ fn failed_reads_and_writes_are_errors() {
     assert_eq!(run(input().as_bytes(), Fails), Err(ReplayError::Write));
     let texts = [ReplayError::Read, ReplayError::Write].map(|error| error.to_string());
     assert_eq!(texts, ["reading a line failed", "writing a result failed"]);
+    let padded = format!("{:>24}", ReplayError::Read);
+    assert_eq!(padded, "   reading a line failed");
 }
 
 /// Runs the program. Returns its exit status, its output and its standard error.
