@@ -1189,6 +1189,32 @@ fn several_ids_are_those_of_single_calls() {
     assert_eq!(last.allocate_ids(1), Ok(vec![u32::MAX]));
 }
 
+/// Makes each call with the last id, in each form.
+#[test]
+fn the_last_id() {
+    const LAST: u32 = u32::MAX;
+    type Form = fn(&mut IdAllocator) -> Result<u32, Error>;
+    let forms: [Form; 7] = [
+        |ids| ids.allocate_id(),
+        |ids| ids.allocate_exact(LAST),
+        |ids| refused(ids.try_allocate_exact(LAST)),
+        |ids| ids.allocate_in(LAST, LAST),
+        |ids| refused(ids.try_allocate_in(LAST, LAST)),
+        |ids| ids.allocate_ids(1).map(|list| list[0]),
+        |ids| refused(ids.try_allocate_ids(1)).map(|list| list[0]),
+    ];
+    for form in forms {
+        let mut ids = IdAllocator::new(LAST, LAST).unwrap();
+        assert_eq!((ids.peek_id(), form(&mut ids)), (Ok(LAST), Ok(LAST)));
+        assert!(ids.is_allocated(LAST) && ids.held_ids().eq([LAST]));
+        assert_eq!(ids.clone().free_id(LAST), Ok(LAST));
+        assert_eq!(ids.try_free_id(LAST), Ok(LAST));
+        assert_eq!((ids.held_count(), ids.free_count()), (0, 1));
+    }
+    let all = IdAllocator::new(0, LAST).map(|ids| ids.free_count());
+    assert_eq!(all, Ok(1 << 32));
+}
+
 #[test]
 fn held_ids_are_checked_in_order() {
     let errors = [
