@@ -16,7 +16,6 @@ use items::{exact, expect_in_order, expect_items, inexact};
 use model::{refused, Model, Scale, WIDTH};
 use std::collections::{BTreeSet, HashSet};
 use std::fmt::Debug;
-use std::time::Instant;
 
 const BASE: u64 = 1000;
 
@@ -676,26 +675,6 @@ fn devices_are_listed_by_their_ids() {
             &mut draw,
         );
     }
-}
-
-/// Compares the times of small and large layouts, so a slow computer does not matter.
-#[test]
-fn a_walk_of_a_layout_begins_at_once() {
-    let times = [100, 20_000].map(|count| {
-        let held = (0..count).map(|number| RangeInclusive::new(2 * number, 2 * number));
-        let held: Result<Vec<_>, Error> = held.collect();
-        let space = AddressAllocator::with_held(0, 2 * count, &held.unwrap()).unwrap();
-        let layout = space.layout();
-        let time = || {
-            let start = Instant::now();
-            let mut blocks = layout.blocks();
-            assert_eq!(blocks.len() as u64, 2 * count);
-            assert!(blocks.next().is_some() && blocks.next_back().is_some());
-            start.elapsed()
-        };
-        (0..100).map(|_| time()).min().unwrap()
-    });
-    assert!(times[1] < 20 * times[0], "{times:?}");
 }
 
 /// Checks the names and values of fields. An allocator shows its allocated ranges and not its tree.
