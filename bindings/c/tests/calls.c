@@ -62,6 +62,11 @@ static void run_on_ids(uint32_t first, uint32_t last, const struct step *steps, 
     destroy(1, ids);
 }
 
+/* Large numbers: a multiple of 2^60, 2^40, and a number of addresses below 2^64. */
+#define PART(number) ((uint64_t)(number) << 60)
+#define BASE ((uint64_t)1 << 40)
+#define BELOW(count) (TOP - (count) + 1)
+
 static const struct step on_none[] = {
     {FROM_LENGTH, {TOP, 0}, ENDS(DVS_INVALID_SIZE)},
     {FROM_LENGTH, {TOP, 2}, ENDS(DVS_OVERFLOW)},
@@ -73,6 +78,12 @@ static const struct step on_none[] = {
     {OFFSET_OF, {0x1000, 0x10ff, 0xfff}, ENDS(DVS_RESOURCE_NOT_AVAILABLE)},
     {OFFSET_OF, {0x1000, 0x10ff, 0x1100}, ENDS(DVS_RESOURCE_NOT_AVAILABLE)},
     {OFFSET_OF, {2, 1, 1}, ENDS(DVS_INVALID_RANGE)},
+    {FROM_LENGTH, {PART(8), PART(8)}, GETS(PART(8), TOP)},
+    {FROM_LENGTH, {PART(8), PART(8) + 1}, ENDS(DVS_OVERFLOW)},
+    {OFFSET_OF, {BASE, TOP, TOP}, GETS_NUMBER(TOP - BASE)},
+    {OFFSET_OF, {PART(8), TOP, PART(8) - 1}, ENDS(DVS_RESOURCE_NOT_AVAILABLE)},
+    {NEW_SPACE, {PART(8), PART(8) + 1}, ENDS(DVS_OVERFLOW)},
+    {NEW_MANAGER, {1, 2, PART(8), PART(8) + 1}, FAILS(DVS_OVERFLOW)},
     {NEW_SPACE, {16, 0}, ENDS(DVS_UNDERFLOW)},
     {NEW_SPACE, {2, TOP}, ENDS(DVS_OVERFLOW)},
     {NEW_IDS, {23, 5}, TELLS(DVS_INVALID_RANGE, 23, 5)},
@@ -169,6 +180,47 @@ static const struct step of_large_ranges[] = {
 
 static const struct step on_last_space[] = {{SPACE, {0}, GETS(1, TOP)}};
 
+/* In all addresses from 2^40. */
+static const struct step of_largest_ranges[] = {
+    {SPACE, {0}, GETS(BASE, TOP)},
+    {GAP_AT, {TOP}, GETS(BASE, TOP)},
+    {GAP_AT, {BASE - 1}, ENDS(DVS_RESOURCE_NOT_AVAILABLE)},
+    {FREE_LENGTH, {0}, GETS_NUMBER(BELOW(BASE))},
+    {FIRST, {PART(4), PART(8)}, GETS(PART(8), PART(12) - 1)},
+    {FIRST, {PART(1) + 1, PART(4)}, GETS(PART(4), PART(5))},
+    {LAST, {BASE + 1, PART(2)}, GETS(PART(14), PART(14) + BASE)},
+    {LAST, {BASE, 2 * BASE}, GETS(BELOW(2 * BASE), TOP - BASE)},
+    {LAST, {BASE, BASE}, FAILS(DVS_OVERFLOW)},
+    {EXACT,
+     {BASE, 1, TOP - BASE},
+     IN_THE_WAY(TOP - BASE, TOP - 1, ALLOCATED, BELOW(2 * BASE), TOP - BASE)},
+    {EXACT, {BASE - 1, BASE, BELOW(BASE)}, GETS(BELOW(BASE), TOP - 1)},
+    {EXACT, {1, PART(8), PART(12)}, FAILS(DVS_UNALIGNED_ADDRESS)},
+    {EXACT, {1, PART(9), PART(9)}, FAILS(DVS_INVALID_ALIGNMENT)},
+    {EXACT, {PART(4), 1, PART(8)}, TELLS(DVS_INVALID_STATE_TRANSITION, PART(8), PART(12) - 1)},
+    {RANGE_AT, {TOP - 1}, GETS(BELOW(BASE), TOP - 1)},
+    {RANGE_AT, {TOP}, ENDS(DVS_RESOURCE_NOT_AVAILABLE)},
+    {RANGE_AT, {PART(8)}, GETS(PART(8), PART(12) - 1)},
+    {RANGE_AT, {PART(12)}, ENDS(DVS_RESOURCE_NOT_AVAILABLE)},
+    {GAP_AT, {TOP}, GETS(TOP, TOP)},
+    {GAP_AT, {TOP - 1}, ENDS(DVS_RESOURCE_NOT_AVAILABLE)},
+    {GAP_AT, {PART(8) - 1}, GETS(PART(5) + 1, PART(8) - 1)},
+    {GAP_AT, {PART(12)}, GETS(PART(12), PART(14) - 1)},
+    {IS_ALLOCATED, {PART(8), PART(12) - 1}, GETS_NUMBER(true)},
+    {IS_ALLOCATED, {PART(8), TOP}, GETS_NUMBER(false)},
+    {MOVE, {PART(8), PART(12) - 1, TOP}, FAILS(DVS_OVERFLOW)},
+    {MOVE, {PART(8), PART(12) - 1, PART(13)}, FAILS(DVS_OVERFLOW)},
+    {MOVE, {PART(14), PART(14) + BASE, PART(12)}, GETS(PART(12), PART(12) + BASE)},
+    {MOVE,
+     {PART(12), PART(12) + BASE, PART(8)},
+     IN_THE_WAY(PART(8), PART(8) + BASE, ALLOCATED, PART(8), PART(12) - 1)},
+    {FREE, {PART(8), PART(12) - 1}, SUCCEEDS},
+    {FREE, {PART(12), PART(12) + BASE}, SUCCEEDS},
+    {GAP_AT, {PART(15)}, GETS(PART(5) + 1, TOP - 2 * BASE)},
+    {LONGEST_GAP, {0}, GETS_NUMBER(TOP - 2 * BASE - PART(5))},
+    {FREE_LENGTH, {0}, GETS_NUMBER(BELOW(3 * BASE) - PART(1))},
+};
+
 /* On the ids from 5 to 7. */
 static const struct step on_ids[] = {
     {PEEK, {0}, GETS_ID(5)},
@@ -235,6 +287,23 @@ static const struct step on_devices[] = {
     {DEVICE_SLOT, {2}, TELLS_ID(DVS_NEVER_ALLOCATED, 2)},
 };
 
+/* For the ids from 1 to 9, and all addresses from 2^40. */
+static const struct step of_largest_devices[] = {
+    {DEVICE_SPACE, {0}, GETS(BASE, TOP)},
+    {RESERVE_FIRST, {PART(4), PART(8)}, GETS_DEVICE(1, PART(8), PART(12) - 1)},
+    {RESERVE_LAST, {BASE + 1, PART(2)}, GETS_DEVICE(2, PART(14), PART(14) + BASE)},
+    {RESERVE_LAST, {BASE, BASE}, FAILS(DVS_OVERFLOW)},
+    {RESERVE_EXACT, {BASE - 1, BASE, BELOW(BASE)}, GETS_DEVICE(3, BELOW(BASE), TOP - 1)},
+    {RESERVE_EXACT,
+     {BASE, BASE, PART(8)},
+     IN_THE_WAY(PART(8), PART(8) + BASE - 1, ALLOCATED, PART(8), PART(12) - 1)},
+    {DEVICE_SLOT, {1}, GETS(PART(8), PART(12) - 1)},
+    {DEVICE_AT, {PART(12) - 1}, GETS_DEVICE(1, PART(8), PART(12) - 1)},
+    {DEVICE_AT, {TOP - 1}, GETS_DEVICE(3, BELOW(BASE), TOP - 1)},
+    {DEVICE_AT, {TOP}, ENDS(DVS_RESOURCE_NOT_AVAILABLE)},
+    {DEVICE_AT, {PART(4)}, ENDS(DVS_RESOURCE_NOT_AVAILABLE)},
+};
+
 static const struct step on_one_device[] = {
     {RESERVE_FIRST, {1, 1}, GETS_DEVICE(1, 0x1000, 0x1000)}};
 
@@ -262,6 +331,7 @@ static void call_with_numbers(void) {
     run_on_space(0x1000, 0x1000, ROWS(of_moves));
     run_on_space(0x7654321000001000, (uint64_t)1 << 40, ROWS(of_large_ranges));
     run_on_space(1, TOP, ROWS(on_last_space));
+    run_on_space(BASE, BELOW(BASE), ROWS(of_largest_ranges));
     run_on_ids(5, 7, ROWS(on_ids),
                "{\"range_base\":5,\"next_id\":8,\"range_end\":7,\"freed_ids\":[]}");
     run_on_ids(
@@ -274,6 +344,9 @@ static void call_with_numbers(void) {
     CHECK(dvs_device_manager_new(1, 3, 0x1000, 0x1000, &manager, NULL) == DVS_OK);
     return_first_errors(manager, true);
     run(manager, ROWS(on_devices));
+    destroy(2, manager);
+    CHECK(dvs_device_manager_new(1, 9, BASE, BELOW(BASE), &manager, NULL) == DVS_OK);
+    run(manager, ROWS(of_largest_devices));
     destroy(2, manager);
     CHECK(dvs_device_manager_new(1, 1, 0x1000, 0x1000, &manager, NULL) == DVS_OK);
     run(manager, ROWS(on_one_device));
@@ -696,6 +769,13 @@ static void read_texts(void) {
         refuse(faults[i].call, NULL, faults[i].status);
         check_fault(faults[i].offset, faults[i].field, faults[i].reason);
         refuse(faults[i].call - SPACE_WITHIN + READ_SPACE, NULL, faults[i].status);
+    }
+    /* Limits that no text exceeds. */
+    for (i = 0; i < sizeof readings / sizeof readings[0]; i++) {
+        give_text(readings[i].text, strlen(readings[i].text), UINT32_MAX);
+        given.limits.length = BASE + 1;
+        CHECK(attempt(readings[i].call, NULL, bad) == DVS_OK);
+        destroy(readings[i].group, created(readings[i].group));
     }
     /* The limit of nesting holds behind a fault. */
     give_text("{\"base\":[[1]]}", 14, 4);

@@ -6,6 +6,8 @@
 
 enum { MOST = 8 };
 
+#define HALF ((uint64_t)1 << 63)
+
 /* The arguments of the visitor's calls. */
 struct seen {
     size_t count;
@@ -118,9 +120,9 @@ static void refuse_ranges(void) {
 
 /* The first two ranges have no hole between them. */
 static void make_with_free(void) {
-    static const dvs_range parts[] = {{0x7654321000000000, 0x76543210ffffffff},
-                                      {0x7654321100000000, 0x76543211ffffffff},
-                                      {0x7654321300000000, 0x7654321300000000}};
+    static const dvs_range parts[] = {{0xfedcba9000000000, 0xfedcba90ffffffff},
+                                      {0xfedcba9100000000, 0xfedcba91ffffffff},
+                                      {0xfedcba9300000000, 0xfedcba9300000000}};
     dvs_address_allocator *space;
     struct seen held = all_of(), gaps = all_of();
     dvs_range range;
@@ -130,7 +132,7 @@ static void make_with_free(void) {
     CHECK(failed == 3 && dvs_address_allocator_space(space, &range) == DVS_OK);
     CHECK(is_range(range, parts[0].start, parts[2].end));
     CHECK(dvs_range_visit(space, see_range, &held) == DVS_OK && held.count == 1);
-    CHECK(is_range(held.ranges[0], 0x7654321200000000, 0x76543212ffffffff));
+    CHECK(is_range(held.ranges[0], 0xfedcba9200000000, 0xfedcba92ffffffff));
     CHECK(dvs_gap_visit(space, see_range, &gaps) == DVS_OK && gaps.count == 2);
     CHECK(is_range(gaps.ranges[0], parts[0].start, parts[1].end));
     CHECK(dvs_range_free(space, held.ranges[0], NULL) == DVS_OK);
@@ -302,17 +304,18 @@ static void visit_from(const dvs_address_allocator *space, uint64_t address, vis
 /* Visits from and between the ends of each range, the addresses next to them, and the ends of all.
  */
 static void visit_from_addresses(void) {
-    static const dvs_range held[] = {{2, 4}, {5, 9}, {20, UINT64_MAX - 9}};
+    static const dvs_range held[] = {{2, 4}, {5, 9}, {20, HALF}, {HALF + 9, UINT64_MAX - 9}};
     static const uint64_t bases[] = {0, 2, 1},
                           lasts[] = {UINT64_MAX - 1, UINT64_MAX, UINT64_MAX - 9};
-    uint64_t addresses[] = {0, 1, 2, 3, 4, 5, 9, 10, 19, 20, 21, 0, 0, 0, 0, 0};
+    uint64_t addresses[] = {0,  1,        2,    3,        4, 5, 9, 10, 19, 20,
+                            21, HALF - 1, HALF, HALF + 5, 0, 0, 0, 0,  0};
     dvs_address_allocator *space;
     size_t i, j, k;
 
     for (j = 0; j < 5; j++)
-        addresses[11 + j] = UINT64_MAX - (j < 3 ? j : 5 + j);
+        addresses[14 + j] = UINT64_MAX - (j < 3 ? j : 5 + j);
     for (i = 0; i < 3; i++) {
-        CHECK(dvs_address_allocator_with_held(bases[i], lasts[i] - bases[i] + 1, held, 3, &space,
+        CHECK(dvs_address_allocator_with_held(bases[i], lasts[i] - bases[i] + 1, held, 4, &space,
                                               NULL, NULL) == DVS_OK);
         for (j = 0; j < sizeof addresses / sizeof addresses[0]; j++) {
             visit_from(space, addresses[j], dvs_range_visit, dvs_range_visit_from,

@@ -180,6 +180,33 @@ static const struct row in_the_way[] = {
     {DVS_EXACT, 0x400, 1, 0x1500, {0, TOP}, BLOCKED(ALLOCATED)},
 };
 
+/* In the space from 1 to UINT64_MAX. */
+#define MUCH ((uint64_t)1 << 41)
+#define QUARTER ((uint64_t)1 << 62)
+#define HALF (2 * QUARTER)
+static const struct row of_largest[] = {
+    {DVS_FIRST, QUARTER, HALF, 0, {0, TOP}, GETS(HALF, HALF + QUARTER - 1)},
+    {DVS_FIRST, QUARTER + 1, QUARTER, 0, {0, TOP}, GETS(QUARTER, HALF)},
+    {DVS_FIRST, MUCH, 1, 0, {HALF + 5, TOP}, GETS(HALF + 5, HALF + 4 + MUCH)},
+    {DVS_FIRST, MUCH + 1, 1, 0, {TOP - MUCH, TOP}, FAILS(DVS_OVERFLOW)},
+    {DVS_FIRST, MUCH + 2, 1, 0, {TOP - MUCH, TOP}, NO_PLACE},
+    {DVS_FIRST, HALF + QUARTER, HALF, 0, {0, TOP}, NO_PLACE},
+    {DVS_LAST, QUARTER + 1, QUARTER, 0, {0, TOP}, GETS(HALF, HALF + QUARTER)},
+    {DVS_LAST, MUCH, MUCH, 0, {0, TOP}, FAILS(DVS_OVERFLOW)},
+    {DVS_LAST, MUCH, MUCH, 0, {0, TOP - 1}, GETS(TOP - 2 * MUCH + 1, TOP - MUCH)},
+    {DVS_LAST, MUCH, HALF, 0, {1, HALF + MUCH - 2}, NO_PLACE},
+    {DVS_EXACT, HALF - 1, HALF, HALF, {HALF, TOP - 1}, GETS(HALF, TOP - 1)},
+    {DVS_EXACT, HALF, HALF, HALF, {0, TOP}, FAILS(DVS_OVERFLOW)},
+    {DVS_EXACT, HALF + 1, HALF, HALF, {0, TOP}, FAILS(DVS_OVERFLOW)},
+    {DVS_EXACT, MUCH, HALF, HALF + QUARTER, {0, TOP}, FAILS(DVS_UNALIGNED_ADDRESS)},
+    {DVS_EXACT, MUCH, HALF + QUARTER, 0, {0, TOP}, FAILS(DVS_INVALID_ALIGNMENT)},
+    {DVS_EXACT, MUCH, 1, HALF + 5, {HALF + 6, TOP}, BLOCKED(OUTSIDE_WINDOW)},
+    {DVS_EXACT, MUCH, 1, HALF + 5, {HALF, HALF + 3 + MUCH}, BLOCKED(OUTSIDE_WINDOW)},
+    {DVS_EXACT, MUCH, 1, 0, {0, TOP}, BLOCKED(OUTSIDE_SPACE)},
+    {DVS_EXACT, TOP, 1, 1, {0, TOP}, BLOCKED(ALLOCATED)},
+    {DVS_FIRST, 1, 1, 0, {TOP, HALF}, TELLS(DVS_INVALID_RANGE, TOP, HALF)},
+};
+
 /* In a manager whose id UINT32_MAX is allocated. An error of the id precedes that of the range. */
 static const struct row without_ids[] = {
     {DVS_EXACT + 1, 0, 3, 1, {9, 8}, FAILS(DVS_INVALID_POLICY)},
@@ -200,7 +227,7 @@ static const struct row without_id[] = {
 
 /* Moves of a range in a space of 256 units, of which the units 4 and 5 are allocated. */
 #define UNIT ((uint64_t)1 << 32)
-#define AT(unit) (0x7654321000000000 + (unit)*UNIT)
+#define AT(unit) (0xfedcba9000000000 + (unit)*UNIT)
 /* clang-format off */
 #define HELD {AT(4), AT(6) - 1}
 
@@ -435,6 +462,7 @@ static void request_in_windows(void) {
     check_rows(page, 2, ROWS(refused));
     check_rows(page, 2, ROWS(in_the_way));
     check_rows(range_of(0, 0xff), 0, ROWS(at_zero));
+    check_rows(range_of(1, TOP), 2, ROWS(of_largest));
     check_rows(range_of(TOP - 0xff, TOP), 0, ROWS(at_top));
     check_without_ids(UINT32_MAX, ROWS(without_ids));
     check_without_ids(7, ROWS(without_id));
