@@ -161,12 +161,12 @@ pub unsafe extern "C" fn dvs_address_allocator_allocate_all(
 ) -> dvs_status {
     let allocate = || {
         let allocator = non_null(allocator)?;
-        // SAFETY: the caller's contract.
-        let requests = unsafe { array(requests, count) }?;
-        if ranges.is_null() && !requests.is_empty() {
+        if count > 0 && (requests.is_null() || ranges.is_null()) {
             return Err(CallError::Null.into());
         }
         let object = allocator.get_mut()?;
+        // SAFETY: the caller's contract.
+        let requests = unsafe { array(requests, count) }?;
         let requests = converted(requests, dvs_request::constraint)?;
         let allocated = object.allocate_all(Global, &requests).map_err(|failure| {
             let index = failure.index;
