@@ -496,6 +496,8 @@ static void give_null(void) {
     CHECK(dvs_address_allocator_with_free(NULL, 0, NULL, NULL, NULL) == DVS_NULL);
     CHECK(dvs_address_allocator_allocate_all((dvs_address_allocator *)objects[0], NULL, SIZE_MAX,
                                              &results.device.range, NULL, NULL) == DVS_NULL);
+    CHECK(dvs_address_allocator_allocate_all((dvs_address_allocator *)objects[0], worst, SIZE_MAX,
+                                             NULL, NULL, NULL) == DVS_NULL);
     dvs_text_destroy(NULL);
     use_objects();
 }
@@ -510,15 +512,45 @@ static dvs_status status_of_query(int call) {
     return call == GAP_AT ? DVS_RESOURCE_NOT_AVAILABLE : DVS_OK;
 }
 
+/* Checks that calls with nothing to do are refused in a visit, and calls for an absurd number. */
+static void do_nothing(void *object) {
+    static const dvs_request to_itself = {1, 1, 0, DVS_EXACT, NULL};
+    static const uint64_t in_place[4] = {0, 0, 0, 0};
+    static const size_t counts[] = {0, SIZE_MAX};
+    dvs_address_allocator *space = (dvs_address_allocator *)object;
+    dvs_range *to = results.ranges;
+    size_t i;
+
+    prepare();
+    for (i = 0; i < 2 && visited == 1; i++)
+        CHECK(dvs_ids_allocate((dvs_id_allocator *)object, results.several, counts[i]) == DVS_BUSY);
+    if (visited == 1)
+        CHECK(dvs_ids_allocate((dvs_id_allocator *)object, NULL, 0) == DVS_BUSY);
+    if (visited != 0)
+        return;
+    for (i = 0; i < 2; i++)
+        CHECK(dvs_address_allocator_allocate_all(space, worst, counts[i], to, &failed, NULL) ==
+                  DVS_BUSY &&
+              failed == counts[i]);
+    CHECK(dvs_address_allocator_allocate_all(space, NULL, 0, NULL, NULL, NULL) == DVS_BUSY);
+    CHECK(dvs_address_allocator_allocate_all(space, NULL, 1, to, NULL, NULL) == DVS_NULL);
+    given.request = &to_itself;
+    CHECK(attempt(MOVE, object, in_place) == DVS_BUSY);
+    CHECK(attempt(MOVE_REQUEST, object, in_place) == DVS_BUSY);
+}
+
 /* Checks that a visitor can query, compare, save and copy the object, but not change or destroy it.
- */
+ * Without a context it ends the visit. */
 static int keep_object(void *context) {
     static const uint64_t zeros[4] = {0, 0, 0, 0};
     const struct group *group = &groups[visited];
     void *object = objects[visited], *copy;
     int call;
 
+    if (context == NULL)
+        return 1;
     visits++;
+    do_nothing(object);
     for (call = group->changes; call < group->queries; call++) {
         given = usual;
         refuse(call, object, DVS_BUSY);
@@ -663,6 +695,138 @@ static void look_for_no_cause(void) {
     }
     destroy(0, space);
     destroy(2, manager);
+}
+
+/* ---- Calls in constant or logarithmic time ---- */
+
+/* A number of a call near an address, and the id of its device. */
+#define NEAR(distance) (PART(1) + (distance))
+#define NTH PART(2)
+
+enum { FEW = 1000, LOTS = 100000, PLACES = 1000, LIMIT = 20 };
+
+/* Calls of which the header says it, each with the call that undoes a change. */
+static const struct quick {
+    int call;
+    uint64_t numbers[3];
+    int undo;
+} quick[] = {
+    {SPACE, {0}, 0},
+    {IS_ALLOCATED, {NEAR(0), NEAR(1)}, 0},
+    {COUNT, {0}, 0},
+    {GAP_COUNT, {0}, 0},
+    {FREE_LENGTH, {0}, 0},
+    {LONGEST_GAP, {0}, 0},
+    {RANGE_AT, {NEAR(1)}, 0},
+    {GAP_AT, {NEAR(2)}, 0},
+    {CONFLICT, {0}, 0},
+    {VISIT_IN, {NEAR(0), NEAR(3)}, 0},
+    {GAPS_IN, {NEAR(0), NEAR(3)}, 0},
+    {VISIT_FROM, {NEAR(2)}, 0},
+    {VISIT_BACK, {0, NEAR(2)}, 0},
+    {GAPS_FROM, {NEAR(0)}, 0},
+    {GAPS_BACK, {0, NEAR(0)}, 0},
+    {FIRST, {1, 1}, FREE},
+    {LAST, {1, 1}, FREE},
+    {EXACT, {1, 1, NEAR(2)}, FREE},
+    {REQUEST, {0}, FREE},
+    {MOVE, {NEAR(0), NEAR(1), NEAR(2)}, MOVE},
+    {MOVE_REQUEST, {NEAR(0), NEAR(1)}, MOVE},
+    {PEEK, {0}, 0},
+    {IS_ID_HELD, {NEAR(0)}, 0},
+    {ID_COUNT, {0}, 0},
+    {FREE_COUNT, {0}, 0},
+    {ID_ENDS, {0}, 0},
+    {ID, {0}, FREE_ID},
+    {ID_EXACT, {NEAR(1)}, FREE_ID},
+    {ID_IN, {NEAR(2), NEAR(3)}, FREE_ID},
+    {DEVICE_SLOT, {NTH}, 0},
+    {DEVICE_AT, {NEAR(1)}, 0},
+    {DEVICE_COUNT, {0}, 0},
+    {DEVICE_SPACE, {0}, 0},
+    {DEVICE_IDS, {0}, 0},
+    {DEVICE_CONFLICT, {0}, 0},
+    {RESERVE_FIRST, {1, 1}, RELEASE},
+    {RESERVE_LAST, {1, 1}, RELEASE},
+    {RESERVE_EXACT, {1, 1, NEAR(2)}, RELEASE},
+    {RESERVE, {0}, RELEASE},
+};
+
+/* Makes objects with a range, an id and a device at each multiple of 4. */
+static void make_many(uint32_t count, void **many) {
+    dvs_range *ranges = (dvs_range *)malloc(count * sizeof *ranges);
+    uint32_t *ids = (uint32_t *)malloc(count * sizeof *ids), i;
+    dvs_device device;
+
+    CHECK(dvs_device_manager_new(0, count, 0, 4 * count, &results.manager, NULL) == DVS_OK);
+    for (i = 0; i < count; i++) {
+        ids[i] = 4 * i;
+        ranges[i] = range_of(4 * i, 4 * i + 1);
+        CHECK(dvs_device_reserve_exact(results.manager, 2, 1, 4 * i, &device, NULL) == DVS_OK);
+    }
+    CHECK(dvs_address_allocator_with_held(0, 4 * count, ranges, count, &results.space, NULL,
+                                          NULL) == DVS_OK);
+    CHECK(dvs_id_allocator_with_held(0, 4 * count, ids, count, &results.ids, NULL) == DVS_OK);
+    for (i = 0; i < 3; i++)
+        many[i] = created(i);
+    free(ids);
+    free(ranges);
+}
+
+/* Returns the processor time of a call at many places. */
+static clock_t time_quick(const struct quick *row, void *object, uint64_t count) {
+    const clock_t begun = clock();
+    uint64_t i, j;
+
+    for (i = 0; i < PLACES; i++) {
+        const uint64_t at = 4 * (i * 7919 % count);
+        const dvs_request request = {2, 2, at + 2, DVS_EXACT, NULL};
+        uint64_t numbers[4] = {0, 0, 0, 0};
+
+        given.request = &request;
+        for (j = 0; j < 3; j++)
+            numbers[j] = row->numbers[j] == NTH       ? at / 4
+                         : row->numbers[j] >= NEAR(0) ? at + (row->numbers[j] - NEAR(0))
+                                                      : row->numbers[j];
+        results.device.id = (uint32_t)at + 1;
+        CHECK(make_call(row->call, object, numbers) == DVS_OK);
+        numbers[0] = row->undo < ID ? results.device.range.start : results.device.id;
+        numbers[1] = results.device.range.end;
+        numbers[2] = at;
+        CHECK(row->undo == 0 || make_call(row->undo, object, numbers) == DVS_OK);
+    }
+    return clock() - begun;
+}
+
+/* Compares the shortest times in small and in large objects. A linear call takes a hundred times as
+ * long. */
+static void be_quick(void) {
+    void *few[3], *lots[3];
+    size_t i;
+    int round;
+
+    make_many(FEW, few);
+    make_many(LOTS, lots);
+    given = usual;
+    for (i = 0; i < sizeof quick / sizeof quick[0]; i++) {
+        const int group = group_of(quick[i].call);
+        clock_t in_few = 0, in_lots = 0;
+
+        for (round = 0; round < 3; round++) {
+            clock_t time = time_quick(&quick[i], few[group], FEW);
+
+            in_few = round == 0 || time < in_few ? time : in_few;
+            time = time_quick(&quick[i], lots[group], LOTS);
+            in_lots = round == 0 || time < in_lots ? time : in_lots;
+        }
+        if (in_lots >= LIMIT * in_few)
+            fprintf(stderr, "call %d: %d and %d\n", quick[i].call, (int)in_few, (int)in_lots);
+        CHECK(in_lots < LIMIT * in_few);
+    }
+    for (i = 0; i < 3; i++) {
+        destroy((int)i, few[i]);
+        destroy((int)i, lots[i]);
+    }
 }
 
 /* ---- Texts ---- */
@@ -873,6 +1037,7 @@ int main(void) {
     change_in_visits();
     copy_objects();
     look_for_no_cause();
+    be_quick();
     read_texts();
     read_again();
     say_words();

@@ -99,22 +99,35 @@ static void refuse_ranges(void) {
         {1, UINT64_MAX, 3, UINT64_MAX, DVS_RESOURCE_NOT_AVAILABLE, 1},
         {0, 16, 15, UINT64_MAX, DVS_RESOURCE_NOT_AVAILABLE, 1},
     };
+    /* None, or one that is wrong too. */
+    static const dvs_range third[] = {{0, 0}, {9, 8}, {30, 40}};
     char none;
     size_t i;
 
-    for (i = 0; i < sizeof rows / sizeof rows[0]; i++) {
+    for (i = 0; i < 3 * sizeof rows / sizeof rows[0]; i++) {
+        const struct row *row = &rows[i / 3];
+        const bool is_second = row->status == DVS_INVALID_RANGE,
+                   is_third = i % 3 == 1 && !is_second;
         dvs_address_allocator *const before = (dvs_address_allocator *)&none, *space = before;
         dvs_refusal refusal;
-        dvs_range held[2];
-        bool is_invalid = rows[i].status == DVS_INVALID_RANGE;
-        size_t failed = MOST;
+        dvs_range held[3];
+        size_t failed = MOST, count = i % 3 == 0 ? 2 : 3;
 
         held[0] = range_of(1, 3);
-        held[1] = range_of(rows[i].start, rows[i].end);
-        CHECK(dvs_address_allocator_with_held(rows[i].base, rows[i].size, held, 2, &space, &failed,
-                                              &refusal) == rows[i].status);
-        CHECK(space == before && failed == rows[i].failed);
-        CHECK(is_range(refusal.range, is_invalid ? 5 : 0, is_invalid ? 4 : 0));
+        held[1] = range_of(row->start, row->end);
+        held[2] = third[i % 3];
+        CHECK(dvs_address_allocator_with_held(row->base, row->size, held, count, &space, &failed,
+                                              &refusal) ==
+              (is_third ? (dvs_status)DVS_INVALID_RANGE : row->status));
+        CHECK(space == before);
+        CHECK(failed == (is_third ? 2 : row->failed == 2 ? count : row->failed));
+        CHECK(is_range(refusal.range,
+                       is_third    ? 9
+                       : is_second ? 5
+                                   : 0,
+                       is_third    ? 8
+                       : is_second ? 4
+                                   : 0));
     }
 }
 
@@ -141,7 +154,7 @@ static void make_with_free(void) {
 
 static void refuse_free(void) {
     static const struct row {
-        dvs_range parts[2];
+        dvs_range parts[3];
         size_t count;
         dvs_status status;
         size_t failed;
@@ -153,6 +166,9 @@ static void refuse_free(void) {
         {{{5, 9}, {9, 12}}, 2, DVS_RESOURCE_NOT_AVAILABLE, 1, {0, 0}},
         {{{5, 9}, {1, 3}}, 2, DVS_RESOURCE_NOT_AVAILABLE, 1, {0, 0}},
         {{{0, 9}, {11, UINT64_MAX}}, 2, DVS_INVALID_RANGE, 2, {0, UINT64_MAX}},
+        {{{5, 9}, {9, 12}, {4, 3}}, 3, DVS_INVALID_RANGE, 2, {4, 3}},
+        {{{5, 9}, {9, 12}, {1, 3}}, 3, DVS_RESOURCE_NOT_AVAILABLE, 1, {0, 0}},
+        {{{0, 9}, {9, 12}, {20, UINT64_MAX}}, 3, DVS_RESOURCE_NOT_AVAILABLE, 1, {0, 0}},
     };
     size_t i;
 
@@ -165,6 +181,27 @@ static void refuse_free(void) {
                                               &refusal) == rows[i].status);
         CHECK(space == NULL && failed == rows[i].failed && refusal.cause == DVS_CAUSE_NONE);
         CHECK(is_range(refusal.range, rows[i].told.start, rows[i].told.end));
+    }
+}
+
+/* Lists with two wrong ids, for the ids from 5 to 12. */
+static void refuse_ids(void) {
+    static const struct {
+        uint32_t held[3];
+        dvs_status status;
+        uint32_t id;
+    } rows[] = {
+        {{9, 9, 20}, DVS_RESOURCE_NOT_AVAILABLE, 0}, {{9, 8, 4}, DVS_RESOURCE_NOT_AVAILABLE, 0},
+        {{9, 20, 9}, DVS_OUT_OF_RANGE, 20},          {{9, 4, 8}, DVS_OUT_OF_RANGE, 4},
+        {{4, 4, 20}, DVS_OUT_OF_RANGE, 4},
+    };
+    dvs_id_allocator *ids;
+    dvs_refusal refusal;
+    size_t i;
+
+    for (i = 0; i < sizeof rows / sizeof rows[0]; i++) {
+        CHECK(dvs_id_allocator_with_held(5, 12, rows[i].held, 3, &ids, &refusal) == rows[i].status);
+        CHECK(refusal.id == rows[i].id && is_range(refusal.range, 0, 0));
     }
 }
 
@@ -433,6 +470,14 @@ static void allocate_in_windows(void) {
 
 #define NO_PLACE(cause) DVS_RESOURCE_NOT_AVAILABLE, DVS_CAUSE_##cause
 
+/* Whether a request with this error is invalid for every allocator. */
+static bool is_invalid(dvs_status status) {
+    return status == DVS_INVALID_POLICY || status == DVS_INVALID_SIZE ||
+           status == DVS_INVALID_ALIGNMENT || status == DVS_UNALIGNED_ADDRESS ||
+           status == DVS_INVALID_RANGE;
+}
+
+/* Allocates lists with two faults. The first one that is invalid is returned, or else the first. */
 static void allocate_none(void) {
     static const dvs_range backwards = {5, 4}, outside = {0x4000, UINT64_MAX};
     static const struct row {
@@ -460,37 +505,34 @@ static void allocate_none(void) {
     };
     dvs_address_allocator *space = two_held();
     dvs_address_allocator *before = two_held();
-    dvs_request invalid_last[2];
+    const size_t count = sizeof rows / sizeof rows[0];
     dvs_range ranges[4];
     dvs_refusal refusal;
     size_t i;
 
-    for (i = 0; i < sizeof rows / sizeof rows[0]; i++) {
+    for (i = 0; i < count * count; i++) {
+        const struct row *third = &rows[i / count], *fourth = &rows[i % count];
+        const bool is_third = is_invalid(third->status) || !is_invalid(fourth->status);
+        const struct row *first = is_third ? third : fourth;
         dvs_request requests[4];
         struct seen now = all_of(), then = all_of();
         size_t failed = MOST;
 
         requests[0] = request_of(0x1000, 1, DVS_FIRST, 0);
         requests[1] = request_of(0x800, 1, DVS_EXACT, 0x2000);
-        requests[2] = rows[i].request;
-        requests[3] = request_of(0x4000, 1, DVS_FIRST, 0);
+        requests[2] = third->request;
+        requests[3] = fourth->request;
         ranges[0] = range_of(1, 2);
         CHECK(dvs_address_allocator_allocate_all(space, requests, 4, ranges, &failed, &refusal) ==
-              rows[i].status);
-        CHECK(failed == 2 && is_range(ranges[0], 1, 2) && refusal.id == 0);
-        CHECK(refusal.cause == rows[i].cause);
-        CHECK(is_range(refusal.other, rows[i].other.start, rows[i].other.end));
-        CHECK(refusal.cause == 0 || refusal.range.start == rows[i].request.start);
+              first->status);
+        CHECK(failed == (is_third ? 2 : 3) && is_range(ranges[0], 1, 2) && refusal.id == 0);
+        CHECK(refusal.cause == first->cause);
+        CHECK(is_range(refusal.other, first->other.start, first->other.end));
+        CHECK(refusal.cause == 0 || refusal.range.start == first->request.start);
         CHECK(dvs_range_visit(space, see_range, &now) == DVS_OK);
         CHECK(dvs_range_visit(before, see_range, &then) == DVS_OK);
         CHECK(memcmp(&now, &then, sizeof now) == 0);
     }
-    /* A request that is always invalid comes before one that does not fit. */
-    invalid_last[0] = rows[4].request;
-    invalid_last[1] = rows[0].request;
-    CHECK(dvs_address_allocator_allocate_all(space, invalid_last, 2, ranges, &i, NULL) ==
-          DVS_INVALID_SIZE);
-    CHECK(i == 1);
     CHECK(dvs_address_allocator_allocate_all(space, NULL, SIZE_MAX, ranges, NULL, NULL) ==
           DVS_NULL);
     dvs_address_allocator_destroy(space);
@@ -527,6 +569,8 @@ static void allocate_several_ids(void) {
 
     CHECK(dvs_id_allocator_with_held(5, 12, held, 2, &ids, NULL) == DVS_OK);
     CHECK(dvs_ids_allocate(ids, several, 7) == DVS_RESOURCE_NOT_AVAILABLE);
+    CHECK(dvs_ids_allocate(ids, several, SIZE_MAX) == DVS_RESOURCE_NOT_AVAILABLE);
+    CHECK(dvs_ids_allocate(ids, several, (size_t)UINT32_MAX + 2) == DVS_RESOURCE_NOT_AVAILABLE);
     CHECK(several[0] == 0);
     CHECK(dvs_ids_allocate(ids, NULL, 0) == DVS_OK);
     CHECK(dvs_ids_allocate(ids, several, 4) == DVS_OK);
@@ -574,6 +618,7 @@ int main(void) {
     refuse_ranges();
     make_with_free();
     refuse_free();
+    refuse_ids();
     refuse_counts();
     look_up_ranges();
     visit_gaps();

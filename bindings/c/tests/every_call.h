@@ -173,10 +173,10 @@ static dvs_status make_call(int call, void *object, const uint64_t *n) {
         CASE(VISIT_GAPS, dvs_gap_visit(seen_space, visitor, given.context));
         CASE(VISIT_IN, dvs_range_visit_in(seen_space, range, visitor, given.context, REFUSAL));
         CASE(GAPS_IN, dvs_gap_visit_in(seen_space, range, visitor, given.context, REFUSAL));
-        CASE(VISIT_FROM, dvs_range_visit_from(seen_space, 0, visitor, given.context));
-        CASE(VISIT_BACK, dvs_range_visit_back(seen_space, TOP, visitor, given.context));
-        CASE(GAPS_FROM, dvs_gap_visit_from(seen_space, 0, visitor, given.context));
-        CASE(GAPS_BACK, dvs_gap_visit_back(seen_space, TOP, visitor, given.context));
+        CASE(VISIT_FROM, dvs_range_visit_from(seen_space, n[0], visitor, given.context));
+        CASE(VISIT_BACK, dvs_range_visit_back(seen_space, n[1], visitor, given.context));
+        CASE(GAPS_FROM, dvs_gap_visit_from(seen_space, n[0], visitor, given.context));
+        CASE(GAPS_BACK, dvs_gap_visit_back(seen_space, n[1], visitor, given.context));
         CASE(ID, dvs_id_allocate(ids, to_id));
         CASE(ID_IN, dvs_id_allocate_in(ids, first, last, to_id, REFUSAL));
         CASE(IDS, dvs_ids_allocate(ids, TO(*results.several), 2));
