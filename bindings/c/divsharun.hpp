@@ -547,6 +547,7 @@ class device_manager : public owner<dvs_device_manager, dvs_device_manager_destr
     using object = dvs_device_manager;
 
   public:
+    using owner::release;
     DVS_MUST_CHECK error make(uint32_t first_id, uint32_t last_id, uint64_t base, uint64_t size) {
         return create([=](object **out) {
             return dvs_device_manager_new(first_id, last_id, base, size, out, nullptr);
