@@ -6,6 +6,7 @@
 
 #include <divsharun.hpp>
 
+#include <algorithm>
 #include <stdexcept>
 
 /* Returns the items that a list has. */
@@ -231,6 +232,94 @@ static void copy() {
     CHECK(is_range(seen[2], 5, 15) && is_range(seen[3], 0, 0));
 }
 
+/* An action that cannot be copied, and counts its calls. */
+struct take_two {
+    std::vector<dvs_range> *seen;
+    std::unique_ptr<int> owned;
+    int left;
+
+    explicit take_two(std::vector<dvs_range> &ranges) : seen(&ranges), owned(new int(0)), left(2) {}
+    bool operator()(dvs_range range) {
+        seen->push_back(range);
+        return --left > 0;
+    }
+};
+
+static bool are_same(const std::vector<dvs_range> &seen, const std::vector<dvs_range> &expected) {
+    bool are = seen.size() == expected.size();
+
+    for (std::size_t i = 0; are && i < seen.size(); i++)
+        are = is_range(seen[i], expected[i].start, expected[i].end);
+    return are;
+}
+
+/* Checks the walks and the visits from an address, and the lists of the part above it, against the
+ * list of all ranges or gaps. A walk starts again at its end or at another item. */
+template <typename Each, typename Start, typename Up, typename Down, typename In>
+static void walk(uint64_t address, const std::vector<dvs_range> &all, Each &each, Start start,
+                 Up up, Down down, In in) {
+    std::vector<dvs_range> above, below, seen;
+
+    for (dvs_range item : all) {
+        if (item.end >= address)
+            above.push_back(item);
+        if (item.start <= address)
+            below.insert(below.begin(), item);
+    }
+    CHECK(!start(address, each));
+    for (int i = 0; i < 2; i++, seen.clear()) {
+        for (dvs_range item : each)
+            seen.push_back(item);
+        CHECK(are_same(seen, above));
+    }
+    CHECK(!in({std::max<uint64_t>(address, 1), UINT64_MAX}, seen) && are_same(seen, above));
+    while (address % 2 == 0 && each != each.end())
+        ++each;
+    above.resize(std::min<std::size_t>(above.size(), 2));
+    below.resize(std::min<std::size_t>(below.size(), 2));
+    seen.clear();
+    CHECK(!up(address, take_two(seen)) && are_same(seen, above));
+    seen.clear();
+    CHECK(!down(address, take_two(seen)) && are_same(seen, below));
+}
+
+/* Walks from each end of each range and gap, and from the addresses next to it. */
+static void walk_from_addresses() {
+    const uint64_t middle = (uint64_t)1 << 63, top = UINT64_MAX;
+    dvs::address_allocator space;
+    std::vector<dvs_range> seen;
+    dvs::each_range ranges;
+    dvs::each_gap gaps;
+
+    CHECK(!space.make_with_held(1, top,
+                                {range_of(1, 2), range_of(5, 5), range_of(middle, middle + 8),
+                                 range_of(top - 6, top - 4)}));
+    for (uint64_t end : {uint64_t(2), uint64_t(6), middle, middle + 9, top - 6, top - 3, top - 1})
+        for (uint64_t address = end - 2; address - end + 2 < 4; address++) {
+            walk(
+                address, ranges_of(space), ranges,
+                [&](uint64_t from, dvs::each_range &to) { return space.ranges_from(from, to); },
+                [&](uint64_t from, take_two see) {
+                    return space.for_each_from(from, std::move(see));
+                },
+                [&](uint64_t from, take_two see) {
+                    return space.for_each_back(from, std::move(see));
+                },
+                [&](dvs_range in, std::vector<dvs_range> &to) { return space.ranges_in(in, to); });
+            walk(
+                address, gaps_of(space), gaps,
+                [&](uint64_t from, dvs::each_gap &to) { return space.gaps_from(from, to); },
+                [&](uint64_t from, take_two see) {
+                    return space.for_each_gap_from(from, std::move(see));
+                },
+                [&](uint64_t from, take_two see) {
+                    return space.for_each_gap_back(from, std::move(see));
+                },
+                [&](dvs_range in, std::vector<dvs_range> &to) { return space.gaps_in(in, to); });
+        }
+    CHECK(!space.for_each(take_two(seen)) && seen.size() == 2 && is_range(seen[1], 5, 5));
+}
+
 /* Checks the items of loops, also of a loop that changes the allocator. */
 static void loop() {
     dvs::address_allocator space, top;
@@ -266,6 +355,49 @@ static void loop() {
     CHECK(ranges_of(space).size() == 1 && gaps_of(space).size() == 1);
 }
 
+/* Checks that methods pass on numbers above 2^40, up to UINT64_MAX. */
+static void pass_large_numbers() {
+    using dvs::request;
+    const uint64_t much = (uint64_t)1 << 41, half = (uint64_t)1 << 63, top = UINT64_MAX;
+    dvs::address_allocator space;
+    dvs::device_manager devices;
+    dvs_range range, moved;
+    dvs_device device;
+    dvs_refusal refusal;
+    uint64_t number = 0;
+    bool is_allocated = false;
+
+    CHECK(!dvs::range_from(half, half, range) && is_range(range, half, top));
+    CHECK(!dvs::offset_of({much, top}, top, number) && number == top - much);
+    CHECK(!space.make(much, top - much + 1) && !space.space(range) && is_range(range, much, top));
+    CHECK(!space.longest_gap(number) && number == top - much + 1);
+    CHECK(!space.allocate_first(much, half, range) && is_range(range, half, half + much - 1));
+    CHECK(!space.allocate_last(much, 2 * much, range));
+    CHECK(is_range(range, top - 2 * much + 1, top - much));
+    CHECK(!space.allocate_exact(much - 1, much, top - much + 1, range) && range.end == top - 1);
+    CHECK(!space.is_allocated(range, is_allocated) && is_allocated);
+    CHECK(space.allocate_exact(1, 1, top, moved) == DVS_OVERFLOW);
+    CHECK(!space.conflict(request::exact(much, 1, half), refusal) && refusal.other.start == half);
+    CHECK(!space.allocate(request::first(much, half / 2), range) && range.start == half / 2);
+    CHECK(!space.move_range(range, half + 2 * much, moved) && moved.end == half + 3 * much - 1);
+    CHECK(
+        !space.move_range(moved, request::last(much, much).within({half, half + 8 * much}), range));
+    CHECK(is_range(range, half + 7 * much, half + 8 * much - 1));
+    CHECK(!space.at(range.end, moved) && moved.start == range.start && !space.gap_at(top, moved));
+    CHECK(is_range(moved, top, top) && !space.free(range) && !space.held_count(number));
+    CHECK(number == 3 && !space.free_length(number) && number == top - 4 * much + 2);
+    CHECK(!devices.make(1, 9, much, top - much + 1) && !devices.space(range));
+    CHECK(is_range(range, much, top) && !devices.reserve_first(much, half, device));
+    CHECK(device.range.start == half && !devices.reserve_last(much, 2 * much, device));
+    CHECK(!devices.at(top - much, device) && device.id == 2 && !devices.slot(2, range));
+    CHECK(is_range(range, top - 2 * much + 1, top - much));
+    CHECK(!devices.reserve_exact(much - 1, much, top - much + 1, device));
+    CHECK(device.range.end == top - 1 && devices.at(top, device) == DVS_RESOURCE_NOT_AVAILABLE);
+    CHECK(!devices.conflict(request::exact(1, 1, half), refusal) && refusal.other.start == half);
+    CHECK(!devices.reserve(request::first(much, half / 2), device));
+    CHECK(device.range.start == half / 2);
+}
+
 static void compare_errors() {
     dvs::address_allocator space;
     dvs::error failure = space.make(UINT64_MAX, 2);
@@ -274,6 +406,12 @@ static void compare_errors() {
           failure == dvs::code(DVS_OVERFLOW));
     CHECK(failure && failure != std::errc::not_enough_memory);
     CHECK(dvs::code(DVS_OUT_OF_MEMORY) == std::errc::not_enough_memory);
+    for (dvs_status status = 0; status < 100; status++) {
+        CHECK(dvs::code(status).message() == dvs_status_text(status));
+        CHECK(!dvs::code(status) == (status == DVS_OK) && dvs::code(status) == status);
+        CHECK((dvs::code(status) == std::errc::not_enough_memory) == (status == DVS_OUT_OF_MEMORY));
+        CHECK(dvs::code(status) != status + 1 && dvs::code(status) != dvs::code(status + 1));
+    }
     CHECK(space.make(UINT64_MAX, 1) == DVS_OK);
     std::error_code plain = failure;
     CHECK(plain == failure && plain.message() == dvs_status_text(DVS_OVERFLOW));
@@ -450,20 +588,118 @@ static void throw_in_a_visit() {
     CHECK(!space.for_each([&calls](dvs_range) { return ++calls < 3; }) && calls == 3);
 }
 
+/* Calls `action` in a visit of an owner's object, which has an item. */
+template <typename Action> static void visit(const dvs::address_allocator &space, Action action) {
+    auto one = [](void *context, dvs_range) { return (*static_cast<Action *>(context))(), 1; };
+    CHECK(dvs_range_visit(space.get(), one, &action) == DVS_OK);
+}
+template <typename Action> static void visit(const dvs::id_allocator &ids, Action action) {
+    auto one = [](void *context, uint32_t) { return (*static_cast<Action *>(context))(), 1; };
+    CHECK(dvs_id_visit(ids.get(), one, &action) == DVS_OK);
+}
+template <typename Action> static void visit(const dvs::device_manager &devices, Action action) {
+    auto one = [](void *context, dvs_device) { return (*static_cast<Action *>(context))(), 1; };
+    CHECK(dvs_device_visit(devices.get(), one, &action) == DVS_OK);
+}
+
+/* A visitor replaces an owner, and then calls `change`. What is refused destroys no object. */
+template <typename Owner, typename Change>
+static void keep_in_a_visit(Owner &owner, Change change) {
+    Owner second, before;
+    std::string text;
+    auto *const kept = owner.get();
+
+    CHECK(!second.make_copy(owner) && !before.make_copy(owner) && !owner.save(text));
+    visit(owner, [&] {
+        auto *const made = second.release();
+        CHECK(owner.adopt(made) == DVS_BUSY && owner.adopt(nullptr) == DVS_BUSY);
+        CHECK(!second && !second.adopt(made) && second.get() == made && second == before);
+        CHECK(owner.make_copy(second) == DVS_BUSY && owner.make_copy(owner) == DVS_BUSY);
+        CHECK(owner.make_copy(Owner()) == DVS_NULL && owner.read("{}") == DVS_NOT_A_STATE);
+        CHECK(owner.read(text) == DVS_BUSY && owner.get() == kept);
+        std::swap(owner, second);
+        CHECK(owner.get() == made && second.get() == kept && !owner.make_copy(second));
+        owner = std::move(second);
+        CHECK(owner.get() == kept && second == before);
+        Owner moved(std::move(owner));
+        CHECK(!owner && moved.get() == kept && owner.adopt(moved.release()) == DVS_OK);
+        CHECK(!moved && owner.get() == kept && !second.make_copy(owner));
+        change();
+        CHECK(owner.get() == kept && owner == before);
+    });
+    CHECK(!owner.adopt(second.release()) && owner == before && !owner.make_copy(before));
+}
+
+/* Calls each other method that changes an object, also with nothing to do. */
+static void change_in_a_visit() {
+    using dvs::request;
+    dvs::address_allocator space;
+    dvs::id_allocator ids;
+    dvs::device_manager devices;
+    dvs_device device = {{0, 0}, 0};
+    dvs_range range = {1, 1};
+    uint32_t id = 0;
+    std::vector<dvs_range> ranges;
+    std::vector<uint32_t> several(2), none;
+    std::string text;
+    const dvs_request asked = {1, 1, 1, DVS_EXACT, nullptr};
+
+    CHECK(!space.make_with_held(0, 16, {range}) && !ids.make_with_held(5, 9, {5}));
+    CHECK(!devices.make(5, 9, 0, 16) && !devices.reserve_first(1, 1, device) && !space.save(text));
+    keep_in_a_visit(space, [&] {
+        const dvs::error all[] = {space.make(0, 16),
+                                  space.make_with_held(0, 16, {range}),
+                                  space.make_with_free({range}),
+                                  space.read_repaired(text),
+                                  space.allocate_first(1, 1, range),
+                                  space.allocate_last(1, 1, range),
+                                  space.allocate_exact(1, 1, 2, range),
+                                  space.allocate(asked, range),
+                                  space.allocate(request::first(1, 1), range),
+                                  space.allocate_all(std::vector<dvs_request>(), ranges),
+                                  space.allocate_all({request::first(1, 1)}, ranges),
+                                  space.move_range(range, 1, range),
+                                  space.move_range(range, asked, range),
+                                  space.move_range(range, request::exact(1, 1, 1), range),
+                                  space.free(range)};
+        for (const dvs::error &one : all)
+            CHECK(one == DVS_BUSY);
+        CHECK(space.make(0, 0) == DVS_UNDERFLOW && is_range(range, 1, 1));
+    });
+    keep_in_a_visit(ids, [&] {
+        const dvs::error all[] = {ids.make(5, 9),
+                                  ids.make_with_held(5, 9, {5}),
+                                  ids.allocate(id),
+                                  ids.allocate_exact(6),
+                                  ids.allocate_in(6, 9, id),
+                                  ids.allocate_all(none),
+                                  ids.allocate_all(several),
+                                  ids.free(5)};
+        for (const dvs::error &one : all)
+            CHECK(one == DVS_BUSY);
+        CHECK(ids.make(9, 5) == DVS_INVALID_RANGE && id == 0);
+    });
+    keep_in_a_visit(devices, [&] {
+        const dvs::error all[] = {devices.make(5, 9, 0, 16),
+                                  devices.reserve_first(1, 1, device),
+                                  devices.reserve_last(1, 1, device),
+                                  devices.reserve_exact(1, 1, 1, device),
+                                  devices.reserve(asked, device),
+                                  devices.reserve(request::first(1, 1), device),
+                                  devices.release(5)};
+        for (const dvs::error &one : all)
+            CHECK(one == DVS_BUSY);
+        CHECK(devices.make(5, 9, 0, 0) == DVS_UNDERFLOW && device.id == 5);
+    });
+}
+
 /* A visitor replaces the owner of the object that it visits. */
 static void replace_in_a_visit() {
     dvs::address_allocator space, other;
-    std::string text;
     int calls = 0;
 
     CHECK(!space.make_with_held(0, 16, {range_of(1, 1)}) && !other.make(16, 16));
-    CHECK(!space.save(text));
     CHECK(!space.for_each([&](dvs_range) {
-        CHECK(space.make(0, 0) == DVS_UNDERFLOW && space.make(0, 16) == DVS_BUSY);
-        CHECK(space.make_with_held(0, 16, {}) == DVS_BUSY && space.read(text) == DVS_BUSY);
-        CHECK(space.make_with_free({range_of(0, 1)}) == DVS_BUSY);
-        CHECK(space.read_repaired(text) == DVS_BUSY && ranges_of(space).size() == 1);
-        CHECK(space.adopt(nullptr) == DVS_BUSY);
         space = std::move(other);
         CHECK(ranges_of(space).empty() && ranges_of(other).size() == 1);
         CHECK(other.free(range_of(1, 1)) == DVS_BUSY && !space.make(16, 16));
@@ -483,6 +719,8 @@ int main() {
     allocate_all_in_windows();
     copy();
     loop();
+    walk_from_addresses();
+    pass_large_numbers();
     compare_errors();
     ask();
     reserve_in_windows();
@@ -490,6 +728,7 @@ int main() {
     tell_details();
     ask_empty({}, {}, {});
     throw_in_a_visit();
+    change_in_a_visit();
     replace_in_a_visit();
     puts("owners: the header for C++ checked");
     return 0;
