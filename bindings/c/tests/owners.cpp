@@ -255,9 +255,10 @@ static bool are_same(const std::vector<dvs_range> &seen, const std::vector<dvs_r
 
 /* Checks the walks and the visits from an address, and the lists of the part above it, against the
  * list of all ranges or gaps. A walk starts again at its end or at another item. */
-template <typename Each, typename Start, typename Up, typename Down, typename In>
-static void walk(uint64_t address, const std::vector<dvs_range> &all, Each &each, Start start,
-                 Up up, Down down, In in) {
+template <typename Each, typename Start, typename Visit, typename List>
+static void walk(const dvs::address_allocator &space, uint64_t address,
+                 const std::vector<dvs_range> &all, Each &each, Start start, Visit up, Visit down,
+                 List list_in) {
     std::vector<dvs_range> above, below, seen;
 
     for (dvs_range item : all) {
@@ -266,25 +267,29 @@ static void walk(uint64_t address, const std::vector<dvs_range> &all, Each &each
         if (item.start <= address)
             below.insert(below.begin(), item);
     }
-    CHECK(!start(address, each));
+    CHECK(!(space.*start)(address, each));
     for (int i = 0; i < 2; i++, seen.clear()) {
-        for (dvs_range item : each)
+        for (dvs_range item : each) {
             seen.push_back(item);
+            CHECK(seen.size() <= above.size());
+        }
         CHECK(are_same(seen, above));
     }
-    CHECK(!in({std::max<uint64_t>(address, 1), UINT64_MAX}, seen) && are_same(seen, above));
-    while (address % 2 == 0 && each != each.end())
+    CHECK(!(space.*list_in)({std::max<uint64_t>(address, 1), UINT64_MAX}, seen));
+    CHECK(are_same(seen, above));
+    while (address % 2 == 1 && each != each.end())
         ++each;
     above.resize(std::min<std::size_t>(above.size(), 2));
     below.resize(std::min<std::size_t>(below.size(), 2));
     seen.clear();
-    CHECK(!up(address, take_two(seen)) && are_same(seen, above));
+    CHECK(!(space.*up)(address, take_two(seen)) && are_same(seen, above));
     seen.clear();
-    CHECK(!down(address, take_two(seen)) && are_same(seen, below));
+    CHECK(!(space.*down)(address, take_two(seen)) && are_same(seen, below));
 }
 
 /* Walks from each end of each range and gap, and from the addresses next to it. */
 static void walk_from_addresses() {
+    using owner = dvs::address_allocator;
     const uint64_t middle = (uint64_t)1 << 63, top = UINT64_MAX;
     dvs::address_allocator space;
     std::vector<dvs_range> seen;
@@ -292,30 +297,17 @@ static void walk_from_addresses() {
     dvs::each_gap gaps;
 
     CHECK(!space.make_with_held(1, top,
-                                {range_of(1, 2), range_of(5, 5), range_of(middle, middle + 8),
-                                 range_of(top - 6, top - 4)}));
+                                {range_of(1, 2), range_of(5, 5), range_of(6, 6),
+                                 range_of(middle, middle + 8), range_of(top - 6, top - 4),
+                                 range_of(top - 1, top - 1)}));
     for (uint64_t end : {uint64_t(2), uint64_t(6), middle, middle + 9, top - 6, top - 3, top - 1})
         for (uint64_t address = end - 2; address - end + 2 < 4; address++) {
-            walk(
-                address, ranges_of(space), ranges,
-                [&](uint64_t from, dvs::each_range &to) { return space.ranges_from(from, to); },
-                [&](uint64_t from, take_two see) {
-                    return space.for_each_from(from, std::move(see));
-                },
-                [&](uint64_t from, take_two see) {
-                    return space.for_each_back(from, std::move(see));
-                },
-                [&](dvs_range in, std::vector<dvs_range> &to) { return space.ranges_in(in, to); });
-            walk(
-                address, gaps_of(space), gaps,
-                [&](uint64_t from, dvs::each_gap &to) { return space.gaps_from(from, to); },
-                [&](uint64_t from, take_two see) {
-                    return space.for_each_gap_from(from, std::move(see));
-                },
-                [&](uint64_t from, take_two see) {
-                    return space.for_each_gap_back(from, std::move(see));
-                },
-                [&](dvs_range in, std::vector<dvs_range> &to) { return space.gaps_in(in, to); });
+            walk(space, address, ranges_of(space), ranges, &owner::ranges_from,
+                 &owner::for_each_from<take_two>, &owner::for_each_back<take_two>,
+                 &owner::ranges_in);
+            walk(space, address, gaps_of(space), gaps, &owner::gaps_from,
+                 &owner::for_each_gap_from<take_two>, &owner::for_each_gap_back<take_two>,
+                 &owner::gaps_in);
         }
     CHECK(!space.for_each(take_two(seen)) && seen.size() == 2 && is_range(seen[1], 5, 5));
 }
