@@ -809,14 +809,14 @@ static void be_quick(void) {
     make_many(LOTS, lots);
     given = usual;
     for (i = 0; i < sizeof quick / sizeof quick[0]; i++) {
-        const int group = group_of(quick[i].call);
         clock_t in_few = 0, in_lots = 0;
 
+        visited = group_of(quick[i].call);
         for (round = 0; round < 3; round++) {
-            clock_t time = time_quick(&quick[i], few[group], FEW);
+            clock_t time = time_quick(&quick[i], few[visited], FEW);
 
             in_few = round == 0 || time < in_few ? time : in_few;
-            time = time_quick(&quick[i], lots[group], LOTS);
+            time = time_quick(&quick[i], lots[visited], LOTS);
             in_lots = round == 0 || time < in_lots ? time : in_lots;
         }
         if (in_lots >= LIMIT * in_few)

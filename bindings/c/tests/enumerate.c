@@ -512,7 +512,9 @@ static void allocate_none(void) {
 
     for (i = 0; i < count * count; i++) {
         const struct row *third = &rows[i / count], *fourth = &rows[i % count];
-        const bool is_third = is_invalid(third->status) || !is_invalid(fourth->status);
+        /* A row with itself is the fourth request only. */
+        const bool is_third =
+            third != fourth && (is_invalid(third->status) || !is_invalid(fourth->status));
         const struct row *first = is_third ? third : fourth;
         dvs_request requests[4];
         struct seen now = all_of(), then = all_of();
@@ -520,7 +522,7 @@ static void allocate_none(void) {
 
         requests[0] = request_of(0x1000, 1, DVS_FIRST, 0);
         requests[1] = request_of(0x800, 1, DVS_EXACT, 0x2000);
-        requests[2] = third->request;
+        requests[2] = third != fourth ? third->request : request_of(1, 1, DVS_EXACT, 0x2fff);
         requests[3] = fourth->request;
         ranges[0] = range_of(1, 2);
         CHECK(dvs_address_allocator_allocate_all(space, requests, 4, ranges, &failed, &refusal) ==
