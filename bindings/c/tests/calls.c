@@ -705,7 +705,7 @@ static void look_for_no_cause(void) {
 
 enum { FEW = 1000, LOTS = 100000, PLACES = 1000, LIMIT = 20 };
 
-/* Calls of which the header says it, each with the call that undoes a change. */
+/* Each with the call that undoes a change. */
 static const struct quick {
     int call;
     uint64_t numbers[3];

@@ -594,7 +594,7 @@ template <typename Action> static void visit(const dvs::device_manager &devices,
     CHECK(dvs_device_visit(devices.get(), one, &action) == DVS_OK);
 }
 
-/* A visitor replaces an owner, and then calls `change`. What is refused destroys no object. */
+/* A visitor replaces an owner, and then calls `change`. A refused call destroys no object. */
 template <typename Owner, typename Change>
 static void keep_in_a_visit(Owner &owner, Change change) {
     Owner second, before;

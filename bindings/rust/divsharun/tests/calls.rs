@@ -249,7 +249,7 @@ fn expect_conflicts(space: &AddressAllocator, model: &Model, scale: Scale) {
     }
 }
 
-/// Returns the next few addresses, or as many times more as the scale says.
+/// Returns the next part of a space. The scale multiplies its length.
 fn next_part(next: &mut u64, Scale(scale): Scale, draw: &mut Draw) -> RangeInclusive {
     let len = (1 + draw.below(4)) << scale;
     let part = RangeInclusive::from_start_len(*next, len).unwrap();

@@ -94,7 +94,7 @@ struct Forms {
 }
 
 impl Forms {
-    /// Creates spaces of [`WIDTH`] addresses, or as many times more as the scale says.
+    /// Creates spaces of [`WIDTH`] addresses, times the scale.
     fn new(base: u64, scale: Scale) -> Forms {
         let (base, size) = (base << scale.0, WIDTH << scale.0);
         let devices = |_| DeviceManager::new(FIRST_ID, u32::MAX, base, size).unwrap();

@@ -1,0 +1,33 @@
+/* Makes the mistake whose number is the argument. Valgrind must notice it in a call. */
+
+#include "check.h"
+
+SAVED(saved, dvs_address_allocator)
+
+int main(int argc, char **argv) {
+    const int mistake = argc == 2 ? atoi(argv[1]) : 0;
+    dvs_range *one = (dvs_range *)malloc(sizeof *one);
+    dvs_address_allocator *space, *other;
+    size_t length;
+    uint64_t count;
+    char *text;
+
+    *one = range_of(1, 1);
+    CHECK(dvs_address_allocator_with_held(0, 16, one, 1, &space, NULL, NULL) == DVS_OK);
+    text = saved(space, &length);
+    /* An array that is too short. */
+    if (mistake == 1 &&
+        dvs_address_allocator_with_held(0, 16, one, 2, &other, NULL, NULL) == DVS_OK)
+        dvs_address_allocator_destroy(other);
+    CHECK(dvs_address_allocator_destroy(space) == DVS_OK);
+    /* An object that is used, or destroyed again, after it was destroyed. */
+    if (mistake == 2)
+        (void)!dvs_range_count(space, &count);
+    if (mistake == 3)
+        (void)!dvs_address_allocator_destroy(space);
+    dvs_text_destroy(text);
+    if (mistake == 4)
+        dvs_text_destroy(text);
+    free(one);
+    return 0;
+}
