@@ -34,7 +34,7 @@ FOLDERS = {
     "thiserror": (None, {"Error"}),
 }
 FOLDERS_OF_TESTS = {
-    "std": ("std", {"io"}),
+    "std": ("std", {"io", "mem"}),
     "std::env": ("crate::testing", {"Env"}),
     "std::fmt": ("core::fmt", {"Debug", "Display"}),
     "std::io": ("std::io", {"ErrorKind", "Read", "Write"}),
@@ -312,7 +312,7 @@ class File(Tokens):
 
     def attribute(self, item, index, behind):
         words = [token.text for token in self.tokens[index + 2:behind - 1]]
-        if words[:1] == ["tactic"]:
+        if words[:1] in (["cycle"], ["tactic"]):
             self.cut(index, behind)
         elif words == ["cfg", "(", "test", ")"]:
             item.of_tests = True

@@ -639,7 +639,7 @@ static void copy_objects(void) {
 
 /* ---- The cost of a cause ---- */
 
-enum { ROUNDS = 10, TRIES = 2000 };
+enum { ROUNDS = 1000, TRIES = 2000 };
 
 /* Returns the processor time of requests whose addresses are allocated. */
 static clock_t time_refused(int call, void *object) {
@@ -657,8 +657,8 @@ static clock_t time_refused(int call, void *object) {
     return clock() - begun;
 }
 
-/* Checks that a call without a refusal looks for no cause. The shortest rounds are compared,
- * because other processes only add time. */
+/* Checks that a call without a refusal looks for no cause. Other processes only add time, so the
+ * shortest rounds are compared, in as many rounds as it takes. */
 static void look_for_no_cause(void) {
     static const int calls[] = {EXACT, MOVE, MOVE_REQUEST, REQUEST, LIST, RESERVE_EXACT, RESERVE};
     dvs_address_allocator *space;
@@ -680,7 +680,7 @@ static void look_for_no_cause(void) {
     for (i = 0; i < sizeof calls / sizeof calls[0]; i++) {
         clock_t with = 0, without = 0;
 
-        for (round = 0; round < ROUNDS; round++) {
+        for (round = 0; 5 * without >= 4 * with && round < ROUNDS; round++) {
             void *object = calls[i] < ID ? (void *)space : (void *)manager;
             clock_t time;
 

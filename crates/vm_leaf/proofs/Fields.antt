@@ -1,0 +1,88 @@
+-- The blocks of a leaf by its fields.
+use Rattle.std.proofs.Common.{◌≡◌, ℕ, ◌+◌, ◌-◌, ◌<◌, ◌≤◌, List, [], length, get_or, take, drop, refl, ap, ◌∙◌, sym, arith, length-take-le}
+use Rattle.std.proofs.lemmas.List.{drop_more, drop_all, get_or-take}
+use Rattle.vm_leaf.specs.Block.{Block}
+use Rattle.vm_leaf.specs.Blocks.{nth}
+use Rattle.std.proofs.Common.{inl, inr}
+use Rattle.std.proofs.lemmas.Bool.{cases_lt}
+use Rattle.vm_ranges.specs.Range.{IsRange}
+use Rattle.vm_leaf.specs.Leaf.{tiling, blocks_of, IsInside}
+use Rattle.vm_leaf.specs.States.{states_in}
+use Rattle.vm_leaf.specs.declared.leaf.Leaf.TheInside.{Inside}
+use Rattle.vm_leaf.proofs.Tiles.{leaf_part, leaf_range}
+use Rattle.vm_leaf.proofs.Tilings.{length-tiling, nth-tiling}
+
+pub length_blocks : (S : List ℕ) (m len hi : ℕ) → len ≤ length S → length (tiling (states_in m) 0 (take len S) hi) ≡ len
+length_blocks S m len hi h = length-tiling (states_in m) 0 (take len S) hi ∙ length-take-le len S h
+
+pub nth_inner : (S : List ℕ) (m len hi i : ℕ) → len ≤ length S → i + 1 < len
+    → nth (tiling (states_in m) 0 (take len S) hi) i ≡ record { key = record { start = get_or S i 0; end = get_or S (i + 1) 0 - 1 }; state = states_in m i }
+nth_inner S m len hi i h l =
+    let n = length-take-le len S h in
+    let at_i : get_or (take len S) i 0 ≡ get_or S i 0 = get_or-take len S i 0 (omega arith) in
+    let at_next : get_or (take len S) (i + 1) 0 ≡ get_or S (i + 1) 0 = get_or-take len S (i + 1) 0 (omega arith) in
+    let more = drop_more (take len S) (i + 1) 0 (omega arith) in
+    let zero_plus : 0 + i ≡ i = omega arith in
+    nth-tiling (states_in m) 0 i (take len S) hi (omega arith) ∙ rw (more, at_i, at_next, zero_plus) refl
+
+pub nth_last : (S : List ℕ) (m len hi i : ℕ) → len ≤ length S → i + 1 ≡ len
+    → nth (tiling (states_in m) 0 (take len S) hi) i ≡ record { key = record { start = get_or S i 0; end = hi }; state = states_in m i }
+nth_last S m len hi i h l =
+    let n = length-take-le len S h in
+    let at_i : get_or (take len S) i 0 ≡ get_or S i 0 = get_or-take len S i 0 (omega arith) in
+    let none : drop (i + 1) (take len S) ≡ [] = drop_all (i + 1) (take len S) (omega arith) in
+    let zero_plus : 0 + i ≡ i = omega arith in
+    nth-tiling (states_in m) 0 i (take len S) hi (omega arith) ∙ rw (none, at_i, zero_plus) refl
+
+pub length_of : (a : Inside) → IsInside a → length a.starts ≡ 32 → length (blocks_of a) ≡ a.len
+length_of a v h = length_blocks a.starts a.held a.len a.end (omega (arith, v.fits))
+
+-- The block at i, by the fields of the leaf.
+pub record IsBlockAt (a : Inside) (i : ℕ) : Type 0 where
+  pub inner : i + 1 < a.len → nth (blocks_of a) i ≡ record { key = record { start = get_or a.starts i 0; end = get_or a.starts (i + 1) 0 - 1 }; state = states_in a.held i }
+  pub last : i + 1 ≡ a.len → nth (blocks_of a) i ≡ record { key = record { start = get_or a.starts i 0; end = a.end }; state = states_in a.held i }
+  pub above : 0 < i → 1 ≤ get_or a.starts i 0
+  pub start : (nth (blocks_of a) i).key.start ≡ get_or a.starts i 0
+  pub state : (nth (blocks_of a) i).state ≡ states_in a.held i
+  pub range : IsRange (nth (blocks_of a) i).key.start (nth (blocks_of a) i).key.end
+
+pub block_at : (a : Inside) (i : ℕ) → IsInside a → length a.starts ≡ 32 → i < a.len → IsBlockAt a i
+block_at a i v e l =
+    let h : a.len ≤ length a.starts = omega (arith, v.fits) in
+    let n = length_blocks a.starts a.held a.len a.end h in
+    let inner = nth_inner a.starts a.held a.len a.end i h in
+    let last = nth_last a.starts a.held a.len a.end i h in
+    let p = leaf_part (blocks_of a) i v.blocks (omega arith) in
+    let start : (nth (blocks_of a) i).key.start ≡ get_or a.starts i 0 =
+    elim (cases_lt (i + 1) a.len) [ inl q ↦ ap (λ (b : Block). b.key.start) (inner q) | inr q ↦ ap (λ (b : Block). b.key.start) (last (omega arith)) ] in
+    let state : (nth (blocks_of a) i).state ≡ states_in a.held i =
+    elim (cases_lt (i + 1) a.len) [ inl q ↦ ap (λ (b : Block). b.state) (inner q) | inr q ↦ ap (λ (b : Block). b.state) (last (omega arith)) ] in
+    record {
+      inner = inner;
+      last = last;
+      above = λ z. omega (arith, p.above z);
+      start = start;
+      state = state;
+      range = leaf_range (blocks_of a) i v.blocks (omega arith);
+    }
+
+module _ (a : Inside) (bs : List Block) (i : ℕ) (v : IsInside a) (e : length a.starts ≡ 32) (view : blocks_of a ≡ bs) (l : i < length bs) where
+  within : i < a.len
+  within = let n = length_of a v e in let m = ap length view in omega arith
+
+  pub start_is : get_or a.starts i 0 ≡ (nth bs i).key.start
+  start_is = sym (block_at a i v e within).start ∙ ap (λ (b : List Block). (nth b i).key.start) view
+
+  pub state_is : states_in a.held i ≡ (nth bs i).state
+  state_is = sym (block_at a i v e within).state ∙ ap (λ (b : List Block). (nth b i).state) view
+
+  pub end_is : (i + 1 < a.len → get_or a.starts (i + 1) 0 - 1 ≡ (nth bs i).key.end) × (a.len ≤ i + 1 → a.end ≡ (nth bs i).key.end)
+  end_is =
+      let f = ap (λ (b : List Block). (nth b i).key.end) view in
+      let w = within in (
+        λ q. sym (ap (λ (b : Block). b.key.end) ((block_at a i v e within).inner q)) ∙ f,
+        λ q. sym (ap (λ (b : Block). b.key.end) ((block_at a i v e within).last (omega arith))) ∙ f,
+      )
+
+pub next_above : (a : Inside) (i : ℕ) → IsInside a → length a.starts ≡ 32 → i + 1 < a.len → 1 ≤ get_or a.starts (i + 1) 0
+next_above a i v e l = (block_at a (i + 1) v e l).above (omega arith)

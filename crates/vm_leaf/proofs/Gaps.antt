@@ -1,0 +1,47 @@
+-- The gaps of a leaf by its mask.
+use Rattle.std.proofs.Common.{◌≡◌, ℕ, ◌<◌, ◌≤◌, List, length, Option, Some, None, ap, ◌∙◌, sym, arith, inl, inr}
+use Rattle.std.specs.Prelude.{MatchOption}
+use Rattle.std.proofs.lemmas.Bool.{cases_lt}
+use Rattle.std.proofs.lemmas.Nat.Bits.{bit_at_above}
+use Rattle.vm_ranges.specs.declared.state.NodeState.{NodeState}
+use Rattle.vm_ranges.specs.declared.state.NodeState.TheVariants.{Free, Allocated}
+use Rattle.vm_leaf.specs.Block.{Block}
+use Rattle.vm_leaf.specs.Blocks.{nth}
+use Rattle.vm_leaf.specs.Leaf.{blocks_of, IsInside}
+use Rattle.vm_leaf.specs.States.{states_in, state_of}
+use Rattle.vm_leaf.specs.declared.leaf.Leaf.TheInside.{Inside}
+use Rattle.vm_leaf.proofs.Fields.{length_of, state_is}
+
+not_both : (s : NodeState) → s ≡ Free → s ≡ Allocated → ⊥
+not_both s e f = cc
+
+-- The result of `gap_before` for a mask, and that of `last_gap` for a list.
+abbrev pub FindsBefore : (ℕ → NodeState) → ℕ → Option ℕ → Type 0
+FindsBefore st upto r =
+    MatchOption r ((k : ℕ) → k < upto → st k ≡ Allocated) (λ i. (i < upto) × (st i ≡ Free) × ((k : ℕ) → i < k → k < upto → st k ≡ Allocated))
+
+same_finds : (st su : ℕ → NodeState) (upto : ℕ) → ((k : ℕ) → k < upto → su k ≡ st k) → (r : Option ℕ) → FindsBefore st upto r → FindsBefore su upto r
+same_finds st su upto e None h = λ k l. e k l ∙ h k l
+same_finds st su upto e (Some i) h = (h.0, e i h.0 ∙ h.1, λ k l u. e k u ∙ h.2 k l u)
+
+module _ (a : Inside) (bs : List Block) (v : IsInside a) (e : length a.starts ≡ 32) (view : blocks_of a ≡ bs) where
+  pub gap_within : (r from : ℕ) → from ≤ length bs → ((k : ℕ) → from ≤ k → k < r → states_in a.held k ≡ Allocated) → r ≤ length bs
+  gap_within r from l h =
+      let n = length_of a v e in
+      let m = ap length view in
+      elim (cases_lt (length bs) r) [
+        | inl q ↦ (
+            let past : states_in a.held (length bs) ≡ Free = ap state_of (bit_at_above a.held a.len (length bs) v.mask (omega arith)) in
+            absurd (not_both _ past (h (length bs) l q))
+            )
+        | inr q ↦ q
+      ]
+
+  pub gap_free : (r : ℕ) → states_in a.held r ≡ Free → r < length bs → (nth bs r).state ≡ Free
+  gap_free r h l = sym (state_is a bs r v e view l) ∙ h
+
+  pub gap_skipped : (k : ℕ) → states_in a.held k ≡ Allocated → k < length bs → (nth bs k).state ≡ Allocated
+  gap_skipped k h l = sym (state_is a bs k v e view l) ∙ h
+
+  pub gap_last : (upto : ℕ) (r : Option ℕ) → upto ≤ length bs → FindsBefore (states_in a.held) upto r → FindsBefore (λ k. (nth bs k).state) upto r
+  gap_last upto r l h = same_finds (states_in a.held) (λ k. (nth bs k).state) upto (λ k u. sym (state_is a bs k v e view (omega arith))) r h

@@ -1,0 +1,18 @@
+use Rattle.std.proofs.Common.{sym, subst}
+use Rattle.vm_ranges.specs.Range.{IsRange}
+use Rattle.vm_leaf.proofs.Rests.{first_of_parts, first_range, rest_left}
+use Rattle.vm_leaf.proofs.leaf.walk.Blocks.take_first.Goals as goal
+
+pub valid_range-key-requires : goal.valid_range-key-requires
+valid_range-key-requires c =
+    subst (IsRange c.in-Some.start.now) (sym c.end_of_first.ensures)
+    (first_range c.self.inside.starts.now c.self.inside.end c.self.inside.held c.in-Some.start.now c.in-Some.others.now c.in-Some.ensures.cases.0 c.self.invariant)
+
+pub invariant_of-self : goal.invariant_of-self
+invariant_of-self c =
+    rest_left c.self.inside.starts.now c.self.inside.end c.self.inside.held c.in-Some.start.now c.in-Some.others.now c.in-Some.ensures.cases.0 c.self.invariant
+
+pub returns : goal.returns
+returns c =
+    first_of_parts c.args.self.now c.self.inside.starts.now c.self.inside.end c.self.inside.held c.in-Some.start.now c.end_of_first.result c.in-Some.others.now c.valid_range-key.result c.state_in-state.result c.self.view_is
+    c.in-Some.ensures.cases.0 c.valid_range-key.ensures c.end_of_first.ensures c.state_in-state.ensures

@@ -1,0 +1,10 @@
+pub mod Block
+pub mod Blocks
+pub mod Fit
+pub mod Leaf
+pub mod Left
+pub mod Multiples
+pub mod Raises
+pub mod Rest
+pub mod States
+pub mod Windows

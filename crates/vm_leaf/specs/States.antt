@@ -1,0 +1,19 @@
+-- The states of the blocks of a leaf.
+use Rattle.std.specs.Prelude.{ℕ, ◌+◌, ◌*◌, ◌/◌, ◌%◌, ◌^◌}
+use Rattle.std.specs.Int.{bit_at}
+use Rattle.std.proofs.Common.{zero, suc}
+use Rattle.vm_ranges.specs.declared.state.NodeState.{NodeState}
+use Rattle.vm_ranges.specs.declared.state.NodeState.TheVariants.{Free, Allocated}
+
+-- The state of a block with this bit in the mask.
+abbrev pub state_of : ℕ → NodeState
+state_of zero = Free
+state_of (suc n) = Allocated
+
+-- The state of block k in the mask m. Its bit is 1 if the block is held.
+abbrev pub states_in : ℕ → ℕ → NodeState
+states_in m k = state_of (bit_at m k)
+
+-- The bits of m below `keep`, and its bits starting at `from`, moved so that they start at `to`.
+abbrev pub moved : ℕ → ℕ → ℕ → ℕ → ℕ
+moved m keep from to = m / 2 ^ from * 2 ^ to + m % 2 ^ keep

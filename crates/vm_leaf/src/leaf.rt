@@ -1,0 +1,526 @@
+//! A leaf: up to 32 consecutive blocks, with their first addresses in one array.
+ghost use Rattle.std.specs.Prelude.{◌≡◌, ◌≢◌, ℕ, ◌+◌, ◌-◌, ◌*◌, ◌%◌, ◌^◌, ◌<◌, ◌≤◌, [], ◌∷◌, ◌++◌, length, take, drop, MatchBool};
+ghost use Rattle.vm_ranges.specs.declared.state.NodeState.TheVariants.{Free, Allocated};
+ghost use Rattle.vm_ranges.specs.Range.{IsRange, IsIn};
+ghost use Rattle.vm_leaf.specs.States.{states_in, moved};
+ghost use Rattle.vm_leaf.specs.Block.{held_block};
+ghost use Rattle.vm_leaf.specs.Left.{IsLeft, added_by};
+ghost use Rattle.vm_leaf.specs.Blocks.{nth, start_of, end_of, with_parts, upper_held, lower_held, middle_held, gap_over, parts, freed_at, IsJoined, IsLeaf};
+ghost use Rattle.vm_leaf.specs.Raises.{Raises};
+
+mod ends;
+mod fits;
+mod gaps;
+mod left;
+mod moves;
+mod summary;
+mod walk;
+
+pub use self::left::Left;
+pub use self::summary::Summary;
+pub use self::walk::Blocks;
+use crate::block::Block;
+use std::marker::Model;
+use vm_ranges::{NodeState, RangeInclusive};
+
+/// The maximum number of blocks of a leaf.
+pub const CAPACITY: usize = 32;
+
+/// The minimum number of blocks of a leaf, unless the leaf is the whole tree.
+pub const MIN_BLOCKS: usize = 12;
+
+/// One to 32 consecutive blocks that cover a range of addresses. Two neighbours are never both free.
+#[derive(Drop)]
+pub struct Leaf {
+    /// The first addresses of the blocks, in ascending order. Only the first `len` are used.
+    starts: [u64; CAPACITY],
+    /// The last address of the last block.
+    end: u64,
+    /// The states: bit `i` is 1 if block `i` is allocated. The bits at or above `len` are 0.
+    held: u64,
+    /// The number of blocks.
+    len: usize,
+}
+
+/// A place in a leaf: the index of a block and an address in it.
+#[derive(Clone, Copy, Debug)]
+pub struct Place {
+    /// The index of the block.
+    pub index: usize,
+    /// The address, which is the first one of the range to allocate.
+    pub start: u64,
+}
+
+impl Model for Leaf {
+    ghost use Rattle.std.specs.Prelude.{List};
+    ghost use Rattle.vm_leaf.specs.Block.{Block, blocks_code};
+
+    ghost Value = { List Block };
+
+    ghost coded = { blocks_code };
+
+    ghost use Rattle.vm_leaf.specs.Leaf.{blocks_of, IsInside};
+
+    ghost view = { blocks_of };
+
+    ghost invariant = { IsInside };
+}
+
+/// Returns the range from `start` to `end`, which must be the ends of a range.
+#[inline(always)]
+fn valid_range(start: u64, end: u64) -> RangeInclusive
+    requires { IsRange start end }
+    ensures { result ≡ record { start = start; end = end } }
+{
+    let Ok(range) = RangeInclusive::new(start, end) else {
+        unreachable!()
+    };
+    range
+}
+
+/// Returns the state of block `i`, which is bit `i` of the mask `held`.
+#[inline(always)]
+#[tactic(auto, using(crate::proofs::Masks::reading))]
+fn state_in(held: u64, i: usize) -> NodeState
+    requires { i < 64 }
+    ensures { result ≡ states_in held i }
+{
+    if (held >> i) & 1 == 0 {
+        NodeState::Free
+    } else {
+        NodeState::Allocated
+    }
+}
+
+/// Returns the mask `held` with bit `i` set.
+#[inline(always)]
+#[tactic(auto, using(crate::proofs::Masks::setting))]
+fn with_held(held: u64, i: usize) -> u64
+    requires { i < 64 }
+    ensures same { states_in result i ≡ Allocated }
+    ensures others { (k : ℕ) → k ≢ i → states_in result k ≡ states_in held k }
+    ensures bound { (n : ℕ) → i < n → held < 2 ^ n → result < 2 ^ n }
+{
+    held | 1 << i
+}
+
+/// Returns the bits of `held` below `keep`, and the bits starting at `from`, moved so that they start at `to`.
+#[inline(always)]
+#[tactic(auto, using(crate::proofs::Masks::moving))]
+fn with_moved(held: u64, keep: usize, from: usize, to: usize) -> u64
+    requires keeps { keep ≤ to }
+    requires from { from ≤ 32 }
+    requires to { to ≤ 32 }
+    requires mask { held < 2 ^ 32 }
+    ensures { result ≡ moved held keep from to }
+{
+    ((held >> from) << to) + held % (1 << keep)
+}
+
+/// Inserts `first` at the index `at` of the first `len` numbers.
+#[inline(always)]
+#[tactic(auto, using(crate::proofs::Arrays::inserted_one))]
+fn insert_one(starts: &mut [u64; CAPACITY], len: usize, at: usize, first: u64)
+    requires within { at ≤ len }
+    requires room { len + 1 ≤ 32 }
+    ensures { take (len + 1) starts.new ≡ take at starts.old ++ (first ∷ drop at (take len starts.old)) }
+{
+    starts.copy_within(at..len, at + 1);
+    starts[at] = first;
+}
+
+/// Inserts `first` and `second` at the index `at` of the first `len` numbers.
+#[inline(always)]
+#[tactic(auto, using(crate::proofs::Arrays::inserted_two))]
+fn insert_two(starts: &mut [u64; CAPACITY], len: usize, at: usize, first: u64, second: u64)
+    requires within { at ≤ len }
+    requires room { len + 2 ≤ 32 }
+    ensures { take (len + 2) starts.new ≡ take at starts.old ++ (first ∷ (second ∷ drop at (take len starts.old))) }
+{
+    starts.copy_within(at..len, at + 2);
+    starts[at] = first;
+    starts[at + 1] = second;
+}
+
+/// Removes the numbers with the indices `to..from` from the first `len` numbers.
+#[inline(always)]
+#[tactic(auto, using(crate::proofs::Arrays::removed))]
+fn remove_between(starts: &mut [u64; CAPACITY], len: usize, to: usize, from: usize)
+    requires order { to ≤ from }
+    requires within { from ≤ len }
+    requires fits { len ≤ 32 }
+    ensures { take (len - from + to) starts.new ≡ take to starts.old ++ drop from (take len starts.old) }
+{
+    starts.copy_within(from..len, to);
+}
+
+/// Writes the first `n` numbers of `other` to the indices `at..at + n`.
+#[inline(always)]
+#[tactic(auto, using(crate::proofs::Arrays::copied))]
+fn copy_in(starts: &mut [u64; CAPACITY], at: usize, other: &[u64; CAPACITY], n: usize)
+    requires { at + n ≤ 32 }
+    ensures { take (at + n) starts.new ≡ take at starts.old ++ take n other.now }
+{
+    starts[at..at + n].copy_from_slice(&other[..n]);
+}
+
+/// Returns the mask of `len` blocks with the states `held`, followed by `more` blocks with the states `other`.
+#[inline(always)]
+#[tactic(auto, using(crate::proofs::Masks::appending))]
+fn with_appended(held: u64, len: usize, other: u64, more: usize) -> u64
+    requires fits { len + more ≤ 32 }
+    requires mask { held < 2 ^ len }
+    requires other_mask { other < 2 ^ more }
+    ensures { result ≡ other * 2 ^ len + held }
+{
+    (other << len) + held
+}
+
+/// Returns the bits of the mask `held` below `at`.
+#[inline(always)]
+#[tactic(auto, using(crate::proofs::Masks::moving))]
+fn low_part(held: u64, at: usize) -> u64
+    requires { at ≤ 32 }
+    ensures { result ≡ held % 2 ^ at }
+{
+    held % (1 << at)
+}
+
+impl Leaf {
+    /// Creates a leaf that has only this block.
+    pub fn single(block: Block) -> Leaf
+        ensures value { result ≡ block ∷ [] }
+        ensures leaf { IsLeaf result }
+    {
+        let mut starts = [0; CAPACITY];
+        starts[0] = block.key.start();
+        let held = match block.state {
+            NodeState::Free => 0,
+            NodeState::Allocated => 1,
+        };
+        Leaf {
+            starts,
+            end: block.key.end(),
+            held,
+            len: 1,
+        }
+    }
+
+    /// Returns the number of blocks.
+    #[inline(always)]
+    #[tactic(auto, using(crate::proofs::Fields::length_of))]
+    pub fn len(&self) -> usize
+        ensures value { result ≡ length self.now }
+        ensures leaf { IsLeaf self.now }
+    {
+        self.len
+    }
+
+    /// Returns the first address of block `i`.
+    #[inline(always)]
+    #[tactic(auto, using(crate::proofs::Fields::length_of))]
+    fn start_at(&self, i: usize) -> u64
+        requires { i < length self.now }
+        ensures { result ≡ (nth self.now i).key.start }
+    {
+        // Proof: a field is read before the index is checked.
+        let _len = self.len;
+        self.starts[i]
+    }
+
+    /// Returns the last address of block `i`.
+    #[inline(always)]
+    #[tactic(auto, using(crate::proofs::Fields::length_of))]
+    fn end_at(&self, i: usize) -> u64
+        requires { i < length self.now }
+        ensures { result ≡ (nth self.now i).key.end }
+    {
+        let len = self.len;
+        if i + 1 < len {
+            self.starts[i + 1] - 1
+        } else {
+            self.end
+        }
+    }
+
+    /// Returns the state of block `i`.
+    #[inline(always)]
+    #[tactic(auto, using(crate::proofs::Fields::length_of))]
+    fn state_at(&self, i: usize) -> NodeState
+        requires { i < length self.now }
+        ensures { result ≡ (nth self.now i).state }
+    {
+        state_in(self.held, i)
+    }
+
+    /// Returns block `i`, which must exist.
+    pub fn block_at(&self, i: usize) -> Block
+        requires { i < length self.now }
+        ensures { result ≡ nth self.now i }
+    {
+        Block {
+            key: self.key_at(i),
+            state: self.state_at(i),
+        }
+    }
+
+    /// Returns `low + half` if that block exists and starts at or below `address`, otherwise `low`.
+    ///
+    /// The block with the address must be one of the `2 * half` blocks starting at `low`.
+    #[inline(always)]
+    #[tactic(auto, using(crate::proofs::Fields::length_of))]
+    fn narrow(&self, low: usize, half: usize, address: u64) -> usize
+        requires within { low < length self.now }
+        requires from { (nth self.now low).key.start ≤ address }
+        requires fits { low + half < 32 }
+        requires upto { low + 2 * half < length self.now → address < (nth self.now (low + 2 * half)).key.start }
+        ensures within { result < length self.now }
+        ensures from { (nth self.now result).key.start ≤ address }
+        ensures upto { result + half < length self.now → address < (nth self.now (result + half)).key.start }
+        ensures bound { result ≤ low + half }
+    {
+        let len = self.len;
+        let middle = low + half;
+        let first = self.starts[middle];
+        if (middle < len) & (first <= address) {
+            middle
+        } else {
+            low
+        }
+    }
+
+    /// Returns the index of the block with `address`, which must be in the leaf.
+    ///
+    /// The search has five steps, and no branch of them depends on the address. It also
+    /// reads entries of the array behind the last block, which have no effect.
+    pub fn index_of(&self, address: u64) -> usize
+        requires from { start_of self.now ≤ address }
+        requires upto { address ≤ end_of self.now }
+        ensures within { result < length self.now }
+        ensures found { IsIn (nth self.now result).key address }
+    {
+        // Proof: `len` gives the facts of a leaf.
+        let _len = self.len();
+        let low = self.narrow(0, 16, address);
+        let low = self.narrow(low, 8, address);
+        let low = self.narrow(low, 4, address);
+        let low = self.narrow(low, 2, address);
+        self.narrow(low, 1, address)
+    }
+
+    /// Allocates the whole gap `i`.
+    #[tactic(auto, using(crate::proofs::Fields::length_of))]
+    pub fn take(&mut self, i: usize)
+        requires within { i < length self.old }
+        requires free { (nth self.old i).state ≡ Free }
+        ensures { self.new ≡ with_parts self.old i 1 (held_block (nth self.old i).key ∷ []) }
+    {
+        self.held = with_held(self.held, i);
+    }
+
+    /// Splits the gap `i` into a free part and an allocated part, which starts at `first`.
+    #[inline(always)]
+    #[tactic(auto, using(crate::proofs::Fields::length_of))]
+    fn split_upper(&mut self, i: usize, first: u64)
+        requires within { i < length self.old }
+        requires free { (nth self.old i).state ≡ Free }
+        requires room { length self.old + 1 ≤ 32 }
+        requires after { (nth self.old i).key.start < first }
+        requires upto { first ≤ (nth self.old i).key.end }
+        ensures { self.new ≡ with_parts self.old i 1 (upper_held (nth self.old i).key first) }
+    {
+        let len = self.len;
+        insert_one(&mut self.starts, len, i + 1, first);
+        self.held = with_held(with_moved(self.held, i + 1, i + 1, i + 2), i + 1);
+        self.len = len + 1;
+    }
+
+    /// Splits the gap `i` into an allocated part and a free part, which starts at `next`.
+    #[inline(always)]
+    #[tactic(auto, using(crate::proofs::Fields::length_of))]
+    fn split_lower(&mut self, i: usize, next: u64)
+        requires within { i < length self.old }
+        requires free { (nth self.old i).state ≡ Free }
+        requires room { length self.old + 1 ≤ 32 }
+        requires after { (nth self.old i).key.start < next }
+        requires upto { next ≤ (nth self.old i).key.end }
+        ensures { self.new ≡ with_parts self.old i 1 (lower_held (nth self.old i).key next) }
+    {
+        let len = self.len;
+        insert_one(&mut self.starts, len, i + 1, next);
+        self.held = with_held(with_moved(self.held, i + 1, i + 1, i + 2), i);
+        self.len = len + 1;
+    }
+
+    /// Splits the gap `i` into a free part, an allocated part that starts at `first`, and a free part that starts
+    /// at `next`.
+    #[inline(always)]
+    #[tactic(auto, using(crate::proofs::Fields::length_of))]
+    fn split_middle(&mut self, i: usize, first: u64, next: u64)
+        requires within { i < length self.old }
+        requires free { (nth self.old i).state ≡ Free }
+        requires room { length self.old + 2 ≤ 32 }
+        requires after { (nth self.old i).key.start < first }
+        requires order { first < next }
+        requires upto { next ≤ (nth self.old i).key.end }
+        ensures { self.new ≡ with_parts self.old i 1 (middle_held (nth self.old i).key first next) }
+    {
+        let len = self.len;
+        insert_two(&mut self.starts, len, i + 1, first, next);
+        self.held = with_held(with_moved(self.held, i + 1, i + 1, i + 3), i + 1);
+        self.len = len + 2;
+    }
+
+    /// Replaces the `n` blocks starting at `i` with one gap. Their neighbours must be allocated.
+    #[inline(always)]
+    #[tactic(auto, using(crate::proofs::Fields::length_of))]
+    fn merge(&mut self, i: usize, n: usize)
+        requires some { 0 < n }
+        requires within { i + n ≤ length self.old }
+        requires before { 0 < i → (nth self.old (i - 1)).state ≡ Allocated }
+        requires after { i + n < length self.old → (nth self.old (i + n)).state ≡ Allocated }
+        ensures { self.new ≡ with_parts self.old i n (gap_over self.old i n) }
+    {
+        let len = self.len;
+        remove_between(&mut self.starts, len, i + 1, i + n);
+        self.held = with_moved(self.held, i, i + n, i + 1);
+        self.len = len - n + 1;
+    }
+
+    /// Allocates `range`, which must be in the gap `i`. `left` is the parts of the gap that stay free.
+    ///
+    /// The leaf must have room for these parts. If it has not, [`Leaf::split_full`] allocates the range.
+    #[tactic(auto, using(crate::proofs::Parts::parting, crate::proofs::Tiles::leaf_range))]
+    pub fn split(&mut self, i: usize, range: RangeInclusive, left: Left)
+        requires within { i < length self.old }
+        requires free { (nth self.old i).state ≡ Free }
+        requires left { IsLeft left (nth self.old i).key range }
+        requires room { length self.old + added_by left ≤ 32 }
+        ensures { self.new ≡ with_parts self.old i 1 (parts (nth self.old i).key range) }
+    {
+        // Proof: `len` gives the facts of a leaf.
+        let _len = self.len();
+        let (start, end) = (range.start(), range.end());
+        match left {
+            Left::Nothing => self.take(i),
+            Left::Before => self.split_upper(i, start),
+            Left::After => self.split_lower(i, end + 1),
+            Left::Both => self.split_middle(i, start, end + 1),
+        }
+    }
+
+    /// Returns `true` if there is a block before block `i` and it is free.
+    #[inline(always)]
+    fn is_free_before(&self, i: usize) -> bool
+        requires { i < length self.now }
+        ensures { MatchBool result
+            ((0 < i) × ((nth self.now (i - 1)).state ≡ Free))
+            (0 < i → (nth self.now (i - 1)).state ≡ Allocated) }
+    {
+        if i == 0 {
+            return false;
+        }
+        match self.state_at(i - 1) {
+            NodeState::Free => true,
+            NodeState::Allocated => false,
+        }
+    }
+
+    /// Returns `true` if there is a block after block `i` and it is free.
+    #[inline(always)]
+    fn is_free_after(&self, i: usize) -> bool
+        requires { i < length self.now }
+        ensures { MatchBool result
+            ((i + 1 < length self.now) × ((nth self.now (i + 1)).state ≡ Free))
+            (i + 1 < length self.now → (nth self.now (i + 1)).state ≡ Allocated) }
+    {
+        let len = self.len();
+        if i + 1 == len {
+            return false;
+        }
+        match self.state_at(i + 1) {
+            NodeState::Free => true,
+            NodeState::Allocated => false,
+        }
+    }
+
+    /// Replaces the `n` blocks starting at `i` with one gap, and returns its range.
+    #[inline(always)]
+    #[tactic(auto, using(crate::proofs::Raised::joins))]
+    fn join_blocks(&mut self, i: usize, n: usize) -> RangeInclusive
+        requires some { 0 < n }
+        requires within { i + n ≤ length self.old }
+        requires before { 0 < i → (nth self.old (i - 1)).state ≡ Allocated }
+        requires after { i + n < length self.old → (nth self.old (i + n)).state ≡ Allocated }
+        ensures key { result ≡ record { start = (nth self.old i).key.start; end = (nth self.old (i + n - 1)).key.end } }
+        ensures merged { self.new ≡ with_parts self.old i n (gap_over self.old i n) }
+        ensures raised { Raises result self.old self.new }
+    {
+        // Proof: `len` gives the facts of a leaf.
+        let _len = self.len();
+        let gap = valid_range(self.start_at(i), self.end_at(i + n - 1));
+        self.merge(i, n);
+        gap
+    }
+
+    /// Frees the allocated block `i`, joins it with its free neighbours, and returns the range of the gap.
+    #[inline(always)]
+    pub fn join(&mut self, i: usize) -> RangeInclusive
+        requires within { i < length self.old }
+        requires held { (nth self.old i).state ≡ Allocated }
+        ensures freed { self.new ≡ freed_at i self.old }
+        ensures gap { IsJoined i result self.old self.new }
+        ensures raised { Raises result self.old self.new }
+    {
+        // Proof: `len` gives the facts of a leaf.
+        let _len = self.len();
+        let after = self.is_free_after(i);
+        if self.is_free_before(i) {
+            if after {
+                return self.join_blocks(i - 1, 3);
+            }
+            return self.join_blocks(i - 1, 2);
+        }
+        if after {
+            return self.join_blocks(i, 2);
+        }
+        self.join_blocks(i, 1)
+    }
+
+    /// Removes the blocks starting at index `at`, and returns a leaf of them.
+    #[inline(always)]
+    #[tactic(auto, using(crate::proofs::Fields::length_of))]
+    fn split_off(&mut self, at: usize) -> Leaf
+        requires some { 0 < at }
+        requires rest { at < length self.old }
+        ensures low { self.new ≡ take at self.old }
+        ensures high { result ≡ drop at self.old }
+    {
+        let len = self.len;
+        let mut starts = self.starts;
+        remove_between(&mut starts, len, 0, at);
+        let upper = Leaf {
+            starts,
+            end: self.end,
+            held: self.held >> at,
+            len: len - at,
+        };
+        self.end = self.starts[at] - 1;
+        self.held = low_part(self.held, at);
+        self.len = at;
+        upper
+    }
+
+    /// Appends the blocks of the next leaf. The leaf must have room for them.
+    #[tactic(auto, using(crate::proofs::Fields::length_of))]
+    pub fn append(&mut self, other: &Leaf)
+        requires { IsLeaf (self.old ++ other.now) }
+        ensures { self.new ≡ self.old ++ other.now }
+    {
+        let (len, more) = (self.len, other.len);
+        copy_in(&mut self.starts, len, &other.starts, more);
+        self.held = with_appended(self.held, len, other.held, more);
+        self.end = other.end;
+        self.len = len + more;
+    }
+}

@@ -1,0 +1,242 @@
+-- A list of blocks in which a range is allocated.
+use Rattle.std.specs.Prelude.{◌⊎◌, Result, Ok, Err, OnErr}
+use Rattle.std.proofs.Common.{◌≡◌, ◌≢◌, ℕ, ◌+◌, ◌-◌, ◌<◌, ◌≤◌, List, [], ◌∷◌, ◌++◌, length, take, drop, refl, ap, ◌∙◌, sym, arith, inl, inr, append_assoc, length-append}
+use Rattle.std.proofs.lemmas.Bool.{cases_lt}
+use Rattle.vm_ranges.specs.Range.{Range, IsIn, span}
+use Rattle.vm_ranges.specs.declared.state.NodeState.{NodeState}
+use Rattle.vm_ranges.specs.declared.state.NodeState.TheVariants.{Free, Allocated}
+use Rattle.vm_leaf.specs.declared.block.Block.{Block}
+use Rattle.vm_leaf.specs.Block.{free_block}
+use Rattle.vm_leaf.specs.Blocks.{Tiles, nth, start_of, parts, IsRun, IsTakenFrom}
+use Rattle.vm_leaf.specs.Left.{IsLeft}
+use Rattle.vm_leaf.specs.declared.leaf.Place.{Place}
+use Rattle.vm_leaf.specs.declared.leaf.left.Left.{Left}
+use Rattle.vm_leaf.specs.declared.leaf.left.Left.TheVariants.{Nothing, Before, After, Both}
+use Rattle.vm_leaf.proofs.Parts.{parts_all, parts_upper, parts_lower, parts_middle}
+use Rattle.vm_leaf.proofs.Tiles.{tiles_under, tiles_weaken, after_held, last_state}
+use Rattle.vm_tree.specs.Shape.{Shape, blocks}
+use Rattle.vm_tree.specs.Allocation.{Spot, IsSpotIn, SettlesAt, SettlesIn, IsTakenAt, IsBlockAt, AllocatesExact}
+use Rattle.vm_tree.specs.Placing.{spot_at, IsExactPlace}
+use Rattle.vm_tree.proofs.Lists.{cut_at}
+use Rattle.vm_tree.specs.declared.search.Search.{Search}
+use Rattle.vm_tree.specs.declared.search.Taken.{Taken}
+use Rattle.vm_tree.specs.declared.search.Refusal.{Refusal}
+use Rattle.vm_tree.specs.declared.search.Refusal.TheVariants.{NoPlace, Held, PastMax, OutOfMemory, TooHigh}
+
+-- ---- The parts that stay free of a gap
+pub left_of : (k r : Range) → IsTakenFrom k r → (left : Left) × IsLeft left k r
+left_of k r t =
+    elim (cases_lt k.start r.start) [
+      | inl l ↦ elim (cases_lt r.end k.end) [
+        | inl m ↦ (Both, (l, m))
+        | inr m ↦ (Before, (l, omega (arith, t.upto)))
+      ]
+      | inr l ↦ elim (cases_lt r.end k.end) [
+        | inl m ↦ (After, (omega (arith, t.from), m))
+        | inr m ↦ (Nothing, (omega (arith, t.from), omega (arith, t.upto)))
+      ]
+    ]
+
+-- ---- The parts of a gap cover what the gap covered
+tiles_parts : (left : Left) (k r : Range) (q : NodeState) (m hi : ℕ) (us : List Block) → IsLeft left k r → IsTakenFrom k r → Tiles q m (free_block k ∷ us) hi → Tiles q m (parts k r ++ us) hi
+tiles_parts Nothing k r q m hi us h t c =
+    rw (parts_all k r h.0 h.1) (c.0, c.1, after_held q, tiles_weaken Free (k.end + 1) hi us c.3)
+tiles_parts Before k r q m hi us h t c =
+    rw (parts_upper k r h.0 h.1) (c.0, omega (arith, c.0), c.2, (omega arith, omega (arith, t.some, t.upto), tt, tiles_weaken Free (k.end + 1) hi us c.3))
+tiles_parts After k r q m hi us h t c =
+    rw (parts_lower k r h.0 h.1) (c.0, omega (arith, c.0, t.some), after_held q, (omega arith, omega arith, tt, c.3))
+tiles_parts Both k r q m hi us h t c =
+    rw (parts_middle k r h.0 h.1) (c.0, omega (arith, c.0), c.2, (omega arith, omega (arith, t.some), tt, (omega arith, omega arith, tt, c.3)))
+
+some_parts : (k r : Range) → IsTakenFrom k r → 1 ≤ length (parts k r)
+some_parts k r t =
+    let l = left_of k r t in
+    by_left l.0 l.1
+  where
+    by_left : (left : Left) → IsLeft left k r → 1 ≤ length (parts k r)
+    by_left Nothing h = rw (parts_all k r h.0 h.1) (omega arith)
+    by_left Before h = rw (parts_upper k r h.0 h.1) (omega arith)
+    by_left After h = rw (parts_lower k r h.0 h.1) (omega arith)
+    by_left Both h = rw (parts_middle k r h.0 h.1) (omega arith)
+
+start_tiles : (p : NodeState) (lo hi : ℕ) (bs : List Block) → 0 < length bs → Tiles p lo bs hi → start_of bs ≡ lo
+start_tiles p lo hi [] l t = absurd (omega arith)
+start_tiles p lo hi (b ∷ bs) l t = t.0
+
+-- ---- A run in which a range of a gap is allocated
+module _ (old new lower upper : List Block) (k r : Range) (run : IsRun old) (cut : old ≡ lower ++ free_block k ∷ upper) (taken : IsTakenFrom k r) (after : new ≡ lower ++ (parts k r ++ upper)) where
+  new_tiles : Tiles Allocated run.lo new run.hi
+  new_tiles =
+      let l = left_of k r taken in
+      let t : Tiles Allocated run.lo (lower ++ free_block k ∷ upper) run.hi = rw cut at run.tiles in
+      rw after (tiles_under Allocated run.lo run.hi lower (free_block k ∷ upper) (parts k r ++ upper) (λ m c. tiles_parts l.0 k r (last_state Allocated lower) m run.hi upper l.1 taken c) t)
+
+  new_some : 0 < length new
+  new_some =
+      let a = length-append lower (parts k r ++ upper) in
+      let b = length-append (parts k r) upper in
+      let c = some_parts k r taken in
+      rw after (omega arith)
+
+  pub run_after : IsRun new
+  run_after = record { lo = run.lo; hi = run.hi; some = new_some; tiles = new_tiles; range = run.range }
+
+  pub start_after : start_of new ≡ start_of old
+  start_after = start_tiles Allocated run.lo run.hi new new_some new_tiles ∙ sym (start_tiles Allocated run.lo run.hi old run.some run.tiles)
+
+-- ---- The result at a spot in the left part of a list, and in the right part
+pub settles_left : (seek : Search) (spot : Spot) (m r : List Block) (answer : Result Taken Refusal) → SettlesAt seek spot m answer
+    → SettlesAt seek (record spot { upper = spot.upper ++ r }) (m ++ r) answer
+settles_left seek spot m r (Ok taken) h =
+    let ps = parts spot.key (span spot.start seek.size) in
+    record {
+      start = h.start;
+      below = h.below;
+      low = h.low;
+      blocks = ap (λ (x : List Block). x ++ r) h.blocks ∙ append_assoc spot.lower (ps ++ spot.upper) r ∙ ap (λ (x : List Block). spot.lower ++ x) (append_assoc ps spot.upper r);
+      added = h.added;
+    }
+settles_left seek spot m r (Err NoPlace) h = h
+settles_left seek spot m r (Err Held) h = h
+settles_left seek spot m r (Err PastMax) h = h
+settles_left seek spot m r (Err OutOfMemory) h = (record { below = h.0.below; splits = h.0.splits }, h.1)
+settles_left seek spot m r (Err TooHigh) h = (record { below = h.0.below; splits = h.0.splits }, h.1)
+
+pub settles_right : (seek : Search) (spot : Spot) (l m : List Block) (answer : Result Taken Refusal) → SettlesAt seek spot m answer
+    → SettlesAt seek (record spot { lower = l ++ spot.lower }) (l ++ m) answer
+settles_right seek spot l m (Ok taken) h =
+    let ps = parts spot.key (span spot.start seek.size) in
+    record {
+      start = h.start;
+      below = h.below;
+      low = h.low;
+      blocks = ap (λ (x : List Block). l ++ x) h.blocks ∙ sym (append_assoc l spot.lower (ps ++ spot.upper));
+      added = h.added;
+    }
+settles_right seek spot l m (Err NoPlace) h = h
+settles_right seek spot l m (Err Held) h = h
+settles_right seek spot l m (Err PastMax) h = h
+settles_right seek spot l m (Err OutOfMemory) h = (record { below = h.0.below; splits = h.0.splits }, h.1)
+settles_right seek spot l m (Err TooHigh) h = (record { below = h.0.below; splits = h.0.splits }, h.1)
+
+-- The result does not name the change.
+pub settles_other : (seek : Search) (spot : Spot) (new other : List Block) (taken more : Taken) → other ≡ new → more.start ≡ taken.start → more.added ≡ taken.added
+    → IsTakenAt seek spot new taken → IsTakenAt seek spot other more
+settles_other seek spot new other taken more e f g h = record {
+  start = f ∙ h.start;
+  below = h.below;
+  low = h.low;
+  blocks = e ∙ h.blocks;
+  added = ap (λ (x : ℕ). x + 1) g ∙ h.added;
+}
+
+same_key : (k : Range) (start end : ℕ) → k.start ≡ start → k.end ≡ end → k ≡ record { start = start; end = end }
+same_key k start end p q = rw (← p, ← q) refl
+
+same_block : (b : Block) → b ≡ record { key = b.key; state = b.state }
+same_block b = refl
+
+-- ---- The block of an exact range
+module _ (seek : Search) (t : ℕ) (bs : List Block) (i : ℕ) where
+  here : i < length bs → IsIn (nth bs i).key t → IsBlockAt t bs (take i bs) (nth bs i) (drop (i + 1) bs)
+  here l f = record { cut = cut_at bs i l; inside = f }
+
+  found : (new : List Block) (answer : Result Taken Refusal) → i < length bs → IsIn (nth bs i).key t
+      → SettlesIn seek t (take i bs) (nth bs i).state (nth bs i).key (drop (i + 1) bs) new answer → AllocatesExact seek t bs new answer
+  found new answer l f h = record { lower = take i bs; block = nth bs i; upper = drop (i + 1) bs; at = here l f; settles = h }
+
+  pub exact_held : i < length bs → IsIn (nth bs i).key t → (nth bs i).state ≡ Allocated → (nth bs i).key.start ≡ t → (nth bs i).key.end ≡ t + seek.size - 1
+      → AllocatesExact seek t bs bs (Err Held)
+  exact_held l f state start end = found bs (Err Held) l f (rw state (inl (same_key (nth bs i).key t (t + seek.size - 1) start end, refl)))
+
+  pub exact_other_start : i < length bs → IsIn (nth bs i).key t → (nth bs i).state ≡ Allocated → (nth bs i).key.start ≢ t → AllocatesExact seek t bs bs (Err NoPlace)
+  exact_other_start l f state start = found bs (Err NoPlace) l f (rw state (inr (λ e. start (ap (λ (k : Range). k.start) e), refl)))
+
+  pub exact_other_end : i < length bs → IsIn (nth bs i).key t → (nth bs i).state ≡ Allocated → (nth bs i).key.end ≢ t + seek.size - 1 → AllocatesExact seek t bs bs (Err NoPlace)
+  exact_other_end l f state end = found bs (Err NoPlace) l f (rw state (inr (λ e. end (ap (λ (k : Range). k.end) e), refl)))
+
+  pub exact_short : i < length bs → IsIn (nth bs i).key t → (nth bs i).state ≡ Free → (nth bs i).key.end < t + seek.size - 1 → AllocatesExact seek t bs bs (Err NoPlace)
+  exact_short l f state short = found bs (Err NoPlace) l f (rw state (inl (inl short, refl)))
+
+  pub exact_past : i < length bs → IsIn (nth bs i).key t → (nth bs i).state ≡ Free → seek.high < t + seek.size - 1 → AllocatesExact seek t bs bs (Err NoPlace)
+  exact_past l f state past = found bs (Err NoPlace) l f (rw state (inl (inr past, refl)))
+
+-- A range that lies in a gap and in the window.
+pub exact_settled : (seek : Search) (t : ℕ) (bs new : List Block) (place : Place) (answer : Result Taken Refusal) → 0 < seek.size → IsExactPlace seek t bs place
+    → SettlesAt seek (spot_at bs place) new answer → AllocatesExact seek t bs new answer
+exact_settled seek t bs new place answer z h s =
+    let free : (nth bs place.index).state ≡ Free = h.here.free in
+    let q : place.start ≡ t = h.start in
+    let g : SettlesAt seek (record { lower = take place.index bs; key = (nth bs place.index).key; upper = drop (place.index + 1) bs; start = t }) new answer = rw q at s in
+    found seek t bs place.index new answer h.here.within (omega (arith, h.here.from), omega (arith, h.here.upto))
+    (rw free (inr ((λ e. elim e [ inl l ↦ omega (arith, h.here.upto) | inr l ↦ omega (arith, h.high) ]), g)))
+
+-- ---- An exact range in the left part of a list, and in the right part
+in_left : (seek : Search) (t : ℕ) (lower : List Block) (state : NodeState) (key : Range) (upper m r : List Block) (answer : Result Taken Refusal)
+    → SettlesIn seek t lower state key upper m answer → SettlesIn seek t lower state key (upper ++ r) (m ++ r) answer
+in_left seek t lower Allocated key upper m r answer h = h
+in_left seek t lower Free key upper m r answer h =
+    let spot : Spot = record { lower = lower; key = key; upper = upper; start = t } in
+    elim h [ inl x ↦ inl x | inr x ↦ inr (x.0, settles_left seek spot m r answer x.1) ]
+
+in_right : (seek : Search) (t : ℕ) (lower : List Block) (state : NodeState) (key : Range) (upper l m : List Block) (answer : Result Taken Refusal)
+    → SettlesIn seek t lower state key upper m answer → SettlesIn seek t (l ++ lower) state key upper (l ++ m) answer
+in_right seek t lower Allocated key upper l m answer h = h
+in_right seek t lower Free key upper l m answer h =
+    let spot : Spot = record { lower = lower; key = key; upper = upper; start = t } in
+    elim h [ inl x ↦ inl x | inr x ↦ inr (x.0, settles_right seek spot l m answer x.1) ]
+
+pub exact_left : (seek : Search) (t : ℕ) (l m r : List Block) (answer : Result Taken Refusal) → AllocatesExact seek t l m answer → AllocatesExact seek t (l ++ r) (m ++ r) answer
+exact_left seek t l m r answer h = record {
+  lower = h.lower;
+  block = h.block;
+  upper = h.upper ++ r;
+  at = record { cut = ap (λ (x : List Block). x ++ r) h.at.cut ∙ append_assoc h.lower (h.block ∷ h.upper) r; inside = h.at.inside };
+  settles = in_left seek t h.lower h.block.state h.block.key h.upper m r answer h.settles;
+}
+
+pub exact_right : (seek : Search) (t : ℕ) (l r m : List Block) (answer : Result Taken Refusal) → AllocatesExact seek t r m answer → AllocatesExact seek t (l ++ r) (l ++ m) answer
+exact_right seek t l r m answer h = record {
+  lower = l ++ h.lower;
+  block = h.block;
+  upper = h.upper;
+  at = record { cut = ap (λ (x : List Block). l ++ x) h.at.cut ∙ sym (append_assoc l h.lower (h.block ∷ h.upper)); inside = h.at.inside };
+  settles = in_right seek t h.lower h.block.state h.block.key h.upper l m answer h.settles;
+}
+
+gap_end : (x last high : ℕ) → ¬ ((x < last) ⊎ (high < last)) → last ≤ x
+gap_end x last high h = elim (cases_lt x last) [ inl l ↦ absurd (h (inl l)) | inr l ↦ l ]
+
+-- The range that was allocated lies in a gap.
+pub record IsAllocated (seek : Search) (old new : List Block) (taken : Taken) : Type 0 where
+  pub spot : Spot
+  pub cut : IsSpotIn old spot
+  pub inside : IsTakenFrom spot.key (span spot.start seek.size)
+  pub taken_at : IsTakenAt seek spot new taken
+
+pub run_allocated : (seek : Search) (old new : List Block) (taken : Taken) → IsRun old → IsAllocated seek old new taken → IsRun new
+run_allocated seek old new taken run h = run_after old new h.spot.lower h.spot.upper h.spot.key (span h.spot.start seek.size) run h.cut h.inside h.taken_at.blocks
+
+pub start_allocated : (seek : Search) (old new : List Block) (taken : Taken) → IsRun old → IsAllocated seek old new taken → start_of new ≡ start_of old
+start_allocated seek old new taken run h = start_after old new h.spot.lower h.spot.upper h.spot.key (span h.spot.start seek.size) run h.cut h.inside h.taken_at.blocks
+
+pub exact_allocated : (seek : Search) (t : ℕ) (old new : List Block) (taken : Taken) → 0 < seek.size → AllocatesExact seek t old new (Ok taken) → IsAllocated seek old new taken
+exact_allocated seek t old new taken z h = by_state h.lower h.block.state h.block.key h.upper h.at.cut h.at.inside h.settles
+  where
+    by_state : (lower : List Block) (state : NodeState) (key : Range) (upper : List Block) → old ≡ lower ++ record { key = key; state = state } ∷ upper → IsIn key t
+        → SettlesIn seek t lower state key upper new (Ok taken) → IsAllocated seek old new taken
+    by_state lower Allocated key upper cut inside s = elim s [ inl x ↦ (let e = x.1 in absurd (cc)) | inr x ↦ (let e = x.1 in absurd (cc)) ]
+    by_state lower Free key upper cut inside s =
+        let spot : Spot = record { lower = lower; key = key; upper = upper; start = t } in
+        elim s [
+          | inl x ↦ (let e = x.1 in absurd (cc))
+          | inr x ↦ record { spot = spot; cut = cut; inside = record { from = inside.0; some = omega arith; upto = gap_end key.end (t + seek.size - 1) seek.high x.0 }; taken_at = x.1 }
+        ]
+
+-- The first address stays the same.
+pub exact_start : (seek : Search) (t : ℕ) (old new : Shape) (answer : Result Taken Refusal) → 0 < seek.size → IsRun (blocks old)
+    → AllocatesExact seek t (blocks old) (blocks new) answer → OnErr answer (new ≡ old) → start_of (blocks new) ≡ start_of (blocks old)
+exact_start seek t old new (Ok taken) z run h u = start_allocated seek (blocks old) (blocks new) taken run (exact_allocated seek t (blocks old) (blocks new) taken z h)
+exact_start seek t old new (Err refusal) z run h u = ap (λ (s : Shape). start_of (blocks s)) u
+
+pub ruleset finding_exact = (exact_held, exact_other_start, exact_other_end, exact_short, exact_past)

@@ -1,0 +1,408 @@
+-- A search within a window enters the paths to the ends of the window and to the place that it finds. It also enters subtrees
+-- with a part of a gap that has no place.
+use Rattle.std.proofs.Common.{◌≡◌, ℕ, ◌+◌, ◌-◌, ◌*◌, ◌<◌, ◌≤◌, max, min, Bool, true, false, cond, ltb, leb, List, [], ◌∷◌, ◌++◌, length, refl, sym, ap, ◌∙◌, arith, ⊎_elim, subst}
+use Rattle.std.specs.List.{list_any, filter}
+use Rattle.std.proofs.Math.Nat.{mul-le-mul}
+use Rattle.std.proofs.lemmas.List.{length-append}
+use Rattle.std.proofs.lemmas.List.Elements.{filter-append}
+use Rattle.std.proofs.lemmas.List.Folds.{list_any-append}
+use Rattle.std.proofs.lemmas.Bool.{or_parts, and_parts, leb-true, le-leb, lt-leb, lt-ltb, le-ltb, cases_lt}
+use Rattle.vm_ranges.specs.Range.{Range}
+use Rattle.vm_ranges.proofs.RangeCalls.{same_range}
+use Rattle.vm_ranges.specs.declared.state.NodeState.{NodeState}
+use Rattle.vm_ranges.specs.declared.state.NodeState.TheVariants.{Allocated}
+use Rattle.vm_leaf.proofs.Tiles.{tiles_part}
+use Rattle.vm_leaf.specs.declared.block.Block.{Block}
+use Rattle.vm_leaf.specs.Block.{free_length}
+use Rattle.vm_leaf.specs.Blocks.{Tiles, IsRun, start_of, end_of, longest_gap}
+use Rattle.vm_leaf.specs.Windows.{common, cut_to}
+use Rattle.vm_tree.specs.Shape.{Shape, Tip, Fork, blocks, height_of, HasFullLeaves}
+use Rattle.vm_tree.specs.NodeCounts.{has_aligned, has_fit, has_fit_in, may_fit_in, nodes_of_first, nodes_of_last}
+use Rattle.vm_tree.specs.GapSearch.{is_misaligned, is_too_short, on_part, parts_passing, gaps_without_place, IsWholeWindow, IsSearchCount}
+use Rattle.vm_tree.proofs.Trees.{full_some}
+use Rattle.vm_tree.proofs.Lists.{cut_tiles}
+
+-- ---- The numbers
+-- Each of two children has height at most m and enters its height for each such gap. The node itself is entered once.
+one_more : (m f hx fx wx hy fy wy : ℕ) → hx ≤ m → hy ≤ m → wx ≤ hx * fx → wy ≤ hy * fy → fx + fy ≤ f → 1 ≤ f → wx + wy + 1 ≤ (m + 1) * f
+one_more m f hx fx wx hy fy wy p q u v s o =
+    let x : hx * fx ≤ m * fx = mul-le-mul p (omega arith) in
+    let y : hy * fy ≤ m * fy = mul-le-mul q (omega arith) in
+    let both : m * (fx + fy) ≤ m * f = mul-le-mul (omega arith) s in
+    omega arith
+
+among_append : (q : Block → Bool) (xs ys : List Block) → length (filter q (xs ++ ys)) ≡ length (filter q xs) + length (filter q ys)
+among_append q xs ys = ap length (filter-append q xs ys) ∙ length-append (filter q xs) (filter q ys)
+
+-- ---- 1 if x is below y, otherwise 0
+abbrev below : ℕ → ℕ → ℕ
+below x y = cond (ltb x y) 1 0
+
+below_is : (x y : ℕ) → x < y → below x y ≡ 1
+below_is x y p = rw (lt-ltb x y p) refl
+
+not_below : (x y : ℕ) → y ≤ x → below x y ≡ 0
+not_below x y p = rw (le-ltb x y p) refl
+
+below_most : (x y : ℕ) → below x y ≤ 1
+below_most x y = ⊎_elim (λ (p : x < y). omega (arith, below_is x y p)) (λ (p : y ≤ x). omega (arith, not_below x y p)) (cases_lt x y)
+
+below_rises : (x y v w : ℕ) → v ≤ x → y ≤ w → below x y ≤ below v w
+below_rises x y v w p q =
+    ⊎_elim
+    (λ (k : x < y). omega (arith, below_is x y k, below_is v w (omega arith)))
+    (λ (k : y ≤ x). omega (arith, not_below x y k))
+    (cases_lt x y)
+
+-- A child that is passed enters no node, and needs no gap.
+if_entered : (t : Bool) (count h v c : ℕ) → count ≤ h * (v + c) → cond t count 0 ≤ h * (v + cond t c 0)
+if_entered true count h v c p = p
+if_entered false count h v c p = omega arith
+
+if_at_most : (t : Bool) (x : ℕ) → cond t x 0 ≤ x
+if_at_most true x = omega arith
+if_at_most false x = omega arith
+
+exchanged : (x y most : ℕ) → x + y + 1 ≤ most → y + x + 1 ≤ most
+exchanged x y most p = omega arith
+
+if_may_fit : (test : Bool) (count most : ℕ) → (test ≡ true → count ≤ most) → cond test count 0 ≤ most
+if_may_fit true count most f = f refl
+if_may_fit false count most f = omega arith
+
+one_or_none : (test : Bool) (most : ℕ) → 1 ≤ most → cond test 1 0 ≤ most
+one_or_none true most p = p
+one_or_none false most p = omega arith
+
+widened : (h v c count : ℕ) → c ≤ 2 → count ≤ h * (v + c) → count ≤ h * (v + 2)
+widened h v c count p q = let k : h * (v + c) ≤ h * (v + 2) = mul-le-mul (omega arith) (omega arith) in omega arith
+
+-- ---- The parts of a run in two parts
+-- The blocks of both children cover lo to at - 1 and at to hi.
+record AreSides (p : NodeState) (lo hi : ℕ) (l r : List Block) : Type 0 where
+  left : Tiles p lo l (start_of r - 1)
+  state : NodeState
+  right : Tiles state (start_of r) r hi
+  from : lo < start_of r
+  upto : start_of r ≤ hi
+
+first_start : (p : NodeState) (lo hi : ℕ) (bs : List Block) → 0 < length bs → Tiles p lo bs hi → (start_of bs ≡ lo) × (lo ≤ hi)
+first_start p lo hi [] z t = absurd (omega arith)
+first_start p lo hi (b ∷ bs) z t = (t.0, omega (arith, t.1, upto b.state (b.key.end + 1) hi bs t.3))
+  where
+    upto : (p : NodeState) (lo hi : ℕ) (bs : List Block) → Tiles p lo bs hi → lo ≤ hi + 1
+    upto p lo hi [] t = omega (arith, t)
+    upto p lo hi (b ∷ bs) t = omega (arith, t.1, upto b.state (b.key.end + 1) hi bs t.3)
+
+sides : (p : NodeState) (lo hi : ℕ) (l r : List Block) → 0 < length l → 0 < length r → Tiles p lo (l ++ r) hi → AreSides p lo hi l r
+sides p lo hi l r a b t =
+    let c = cut_tiles p lo hi l r a t in
+    let e = first_start c.1.0 _ hi r b c.1.1 in
+    let f = first_start p lo _ l a c.0 in
+    let q = e.0 in
+    record {
+      left = subst (λ (v : ℕ). Tiles p lo l v) (omega (arith, q)) c.0;
+      state = c.1.0;
+      right = subst (λ (v : ℕ). Tiles c.1.0 v r hi) (sym q) c.1.1;
+      from = omega (arith, q, f.1);
+      upto = omega (arith, q, e.1);
+    }
+
+-- ---- Blocks that may have a fit
+-- A candidate of some blocks is one that passes the test if it has no place.
+abbrev HasOneWithoutPlace : ℕ → ℕ → (Block → Bool) → Type 0
+HasOneWithoutPlace n a q = (bs : List Block) → may_fit_in n a bs ≡ true → list_any (has_fit n a) bs ≡ false → 1 ≤ length (filter q bs)
+
+long_is_misaligned : (n a : ℕ) (b : Block) → n ≤ free_length b → has_fit n a b ≡ false → length (filter (is_misaligned n a) (b ∷ [])) ≡ 1
+unfolding is_misaligned
+long_is_misaligned n a b p e = rw (le-leb n (free_length b) p, e) refl
+
+misaligned_in_long : (n a : ℕ) (bs : List Block) → 0 < n → n ≤ longest_gap bs → list_any (has_fit n a) bs ≡ false → 1 ≤ length (filter (is_misaligned n a) bs)
+misaligned_in_long n a [] z p e = absurd (omega arith)
+misaligned_in_long n a (b ∷ bs) z p e =
+    let none = or_parts (has_fit n a b) (list_any (has_fit n a) bs) e in
+    let split = among_append (is_misaligned n a) (b ∷ []) bs in
+    ⊎_elim
+    (λ (k : free_length b < n). omega (arith, split, misaligned_in_long n a bs z (omega arith) none.1))
+    (λ (k : n ≤ free_length b). omega (arith, split, long_is_misaligned n a b k none.0))
+    (cases_lt (free_length b) n)
+
+too_short_in_aligned : (n a : ℕ) (bs : List Block) → list_any (has_aligned a) bs ≡ true → list_any (has_fit n a) bs ≡ false → 1 ≤ length (filter (is_too_short n a) bs)
+unfolding is_too_short
+too_short_in_aligned n a [] p e = absurd (cc p)
+too_short_in_aligned n a (b ∷ bs) p e =
+    let none = or_parts (has_fit n a b) (list_any (has_fit n a) bs) e in
+    let split = among_append (is_too_short n a) (b ∷ []) bs in
+    elim (has_aligned a b) as (λ v. has_aligned a b ≡ v → 1 ≤ length (filter (is_too_short n a) (b ∷ bs))) [
+      | true ↦ λ f. let one : length (filter (is_too_short n a) (b ∷ [])) ≡ 1 = rw (f, none.0) refl in omega (arith, split)
+      | false ↦ λ f. omega (arith, split, too_short_in_aligned n a bs (rw f at p) none.1)
+    ] refl
+
+searched_parts : (n a : ℕ) (bs : List Block) → may_fit_in n a bs ≡ true → (n ≤ longest_gap bs) × (list_any (has_aligned a) bs ≡ true)
+unfolding may_fit_in
+searched_parts n a bs e =
+    let parts = and_parts (leb n (longest_gap bs)) (list_any (has_aligned a) bs) e in
+    (leb-true _ _ parts.0, parts.1)
+
+pub misaligned_in_vain : (n a : ℕ) → 0 < n → HasOneWithoutPlace n a (is_misaligned n a)
+misaligned_in_vain n a z bs k e = misaligned_in_long n a bs z (searched_parts n a bs k).0 e
+
+pub too_short_in_vain : (n a : ℕ) → HasOneWithoutPlace n a (is_too_short n a)
+too_short_in_vain n a bs k e = too_short_in_aligned n a bs (searched_parts n a bs k).1 e
+
+-- ---- A window
+module _ (w : Range) (n a : ℕ) (q : Block → Bool) where
+  parts_split : (l r : Shape) → parts_passing w q (blocks l ++ blocks r) ≡ parts_passing w q (blocks l) + parts_passing w q (blocks r)
+  parts_split l r = among_append (on_part w q) (blocks l) (blocks r)
+
+  none_split : (l r : Shape) → list_any (has_fit_in w n a) (blocks l ++ blocks r) ≡ false
+      → (list_any (has_fit_in w n a) (blocks l) ≡ false) × (list_any (has_fit_in w n a) (blocks r) ≡ false)
+  none_split l r e = or_parts (list_any (has_fit_in w n a) (blocks l)) (list_any (has_fit_in w n a) (blocks r)) (sym (list_any-append (has_fit_in w n a) (blocks l) (blocks r)) ∙ e)
+
+  -- ---- Blocks that lie in the window are their own parts
+  same_part : (b : Block) → w.start ≤ b.key.start → b.key.end ≤ w.end → cut_to w b ≡ b
+  same_part b p u = ap (λ (v : Range). record b { key = v }) (same_range (common w b.key) b.key (omega (arith, p)) (omega (arith, u)))
+
+  part_passes : (b : Block) → w.start ≤ b.key.start → b.key.start ≤ b.key.end → b.key.end ≤ w.end → on_part w q b ≡ q b
+  part_passes b p m u = rw (le-leb (common w b.key).start (common w b.key).end (omega (arith, p, m, u)), same_part b p u) refl
+
+  ends : (p : NodeState) (lo hi : ℕ) (b : Block) (bs : List Block) → Tiles p lo (b ∷ bs) hi → b.key.end ≤ hi
+  ends p lo hi b [] t = omega (arith, t.3)
+  ends p lo hi b (x ∷ bs) t = omega (arith, t.3.0, t.3.1, ends b.state (b.key.end + 1) hi x bs t.3)
+
+  same_fits : (p : NodeState) (lo hi : ℕ) (bs : List Block) → Tiles p lo bs hi → w.start ≤ lo → hi ≤ w.end → list_any (has_fit_in w n a) bs ≡ list_any (has_fit n a) bs
+  same_fits p lo hi [] k s u = refl
+  same_fits p lo hi (b ∷ bs) k s u =
+      let e = ends p lo hi b bs k in
+      rw (same_part b (omega (arith, k.0)) (omega arith), same_fits b.state (b.key.end + 1) hi bs k.3 (omega (arith, k.0, k.1)) u) refl
+
+  same_parts : (p : NodeState) (lo hi : ℕ) (bs : List Block) → Tiles p lo bs hi → w.start ≤ lo → hi ≤ w.end → parts_passing w q bs ≡ length (filter q bs)
+  same_parts p lo hi [] k s u = refl
+  same_parts p lo hi (b ∷ bs) k s u =
+      let e = ends p lo hi b bs k in
+      let own : on_part w q b ≡ q b = part_passes b (omega (arith, k.0)) (omega (arith, k.0, k.1)) (omega arith) in
+      let rest = same_parts b.state (b.key.end + 1) hi bs k.3 (omega (arith, k.0, k.1)) u in
+      by_test (on_part w q b) (q b) own rest
+    where
+      by_test : (t v : Bool) → t ≡ v → parts_passing w q bs ≡ length (filter q bs) → length (cond t (b ∷ filter (on_part w q) bs) (filter (on_part w q) bs)) ≡ length (cond v (b ∷ filter q bs) (filter q bs))
+      by_test true true e h = omega (arith, h)
+      by_test false false e h = h
+      by_test true false e h = absurd (cc e)
+      by_test false true e h = absurd (cc e)
+
+  -- ---- A subtree whose blocks cover lo to hi: 1 if the window cuts it below, and 1 if the window cuts it above
+  abbrev lower : ℕ → ℕ
+  lower lo = below lo w.start
+
+  abbrev upper : ℕ → ℕ
+  upper hi = below w.end hi
+
+  module _ (some : HasOneWithoutPlace n a q) where
+    one_at_least : (p : NodeState) (lo hi : ℕ) (bs : List Block) → Tiles p lo bs hi → may_fit_in n a bs ≡ true → list_any (has_fit_in w n a) bs ≡ false → 1 ≤ parts_passing w q bs + (lower lo + upper hi)
+    one_at_least s lo hi bs k m e =
+        ⊎_elim
+        (λ (p : lo < w.start). omega (arith, below_is lo w.start p))
+        (λ (p : w.start ≤ lo).
+        ⊎_elim
+        (λ (u : w.end < hi). omega (arith, below_is w.end hi u))
+        (λ (u : hi ≤ w.end). omega (arith, same_parts s lo hi bs k p u, some bs m (sym (same_fits s lo hi bs k p u) ∙ e)))
+        (cases_lt w.end hi))
+        (cases_lt lo w.start)
+
+  -- ---- The cuts of both children are at most those of the node
+  abbrev both_cuts : ℕ → ℕ → ℕ → ℕ
+  both_cuts at x y = cond (ltb w.start at) x 0 + cond (leb at w.end) y 0
+
+  by_sides : (at x y most : ℕ) → (w.start < at → at ≤ w.end → x + y ≤ most) → (w.start < at → w.end < at → x ≤ most) → (at ≤ w.start → at ≤ w.end → y ≤ most) → both_cuts at x y ≤ most
+  by_sides at x y most both left right =
+      ⊎_elim
+      (λ (i : w.start < at).
+      ⊎_elim
+      (λ (j : w.end < at). rw (lt-ltb w.start at i, lt-leb at w.end j) (omega (arith, left i j)))
+      (λ (j : at ≤ w.end). rw (lt-ltb w.start at i, le-leb at w.end j) (both i j))
+      (cases_lt w.end at))
+      (λ (i : at ≤ w.start).
+      ⊎_elim
+      (λ (j : w.end < at). rw (le-ltb w.start at i, lt-leb at w.end j) (omega arith))
+      (λ (j : at ≤ w.end). rw (le-ltb w.start at i, le-leb at w.end j) (omega (arith, right i j)))
+      (cases_lt w.end at))
+      (cases_lt w.start at)
+
+  module _ (lo hi at : ℕ) (p : lo < at) (u : at ≤ hi) where
+    no_upper : at ≤ w.end → upper (at - 1) ≡ 0
+    no_upper j = not_below w.end (at - 1) (omega arith)
+
+    no_lower : w.start < at → lower at ≡ 0
+    no_lower i = not_below at w.start (omega arith)
+
+    less_upper : upper (at - 1) ≤ upper hi
+    less_upper = below_rises w.end (at - 1) w.end hi (omega arith) (omega arith)
+
+    less_lower : lower at ≤ lower lo
+    less_lower = below_rises at w.start lo w.start (omega arith) (omega arith)
+
+    -- Neither child has a place.
+    cuts_in_vain : both_cuts at (lower lo + upper (at - 1)) (lower at + upper hi) ≤ lower lo + upper hi
+    cuts_in_vain =
+        by_sides at (lower lo + upper (at - 1)) (lower at + upper hi) (lower lo + upper hi)
+        (λ i j. omega (arith, no_upper j, no_lower i))
+        (λ i j. omega (arith, less_upper))
+        (λ i j. omega (arith, less_lower))
+
+    -- The left child has no place, and the right child can have one.
+    cuts_to_right : both_cuts at (lower lo + upper (at - 1)) (lower at + 1) ≤ lower lo + 1
+    cuts_to_right =
+        by_sides at (lower lo + upper (at - 1)) (lower at + 1) (lower lo + 1)
+        (λ i j. omega (arith, no_upper j, no_lower i))
+        (λ i j. omega (arith, below_most w.end (at - 1)))
+        (λ i j. omega (arith, less_lower))
+
+    -- The right child has no place, and the left child can have one.
+    cuts_to_left : both_cuts at (1 + upper (at - 1)) (lower at + upper hi) ≤ 1 + upper hi
+    cuts_to_left =
+        by_sides at (1 + upper (at - 1)) (lower at + upper hi) (1 + upper hi)
+        (λ i j. omega (arith, no_upper j, no_lower i))
+        (λ i j. omega (arith, less_upper))
+        (λ i j. omega (arith, below_most at w.start))
+
+  -- ---- The nodes of a subtree, if they are at most its height for each of so many paths
+  step : (l r : Shape) (first second x y most : ℕ) → first ≤ height_of l * (parts_passing w q (blocks l) + x) → second ≤ height_of r * (parts_passing w q (blocks r) + y) → x + y ≤ most → 1 ≤ parts_passing w q (blocks l ++ blocks r) + most
+      → first + second + 1 ≤ height_of (Fork l r) * (parts_passing w q (blocks l ++ blocks r) + most)
+  step l r first second x y most p u c o =
+      let split = parts_split l r in
+      one_more (max (height_of l) (height_of r)) (parts_passing w q (blocks l ++ blocks r) + most) (height_of l) (parts_passing w q (blocks l) + x) first (height_of r) (parts_passing w q (blocks r) + y) second (omega arith) (omega arith) p u (omega (arith, split, c)) o
+
+  child_sides : (p : NodeState) (lo hi : ℕ) (l r : Shape) → HasFullLeaves (Fork l r) → Tiles p lo (blocks l ++ blocks r) hi → AreSides p lo hi (blocks l) (blocks r)
+  child_sides p lo hi l r f k = sides p lo hi (blocks l) (blocks r) (omega (arith, full_some l f.0)) (omega (arith, full_some r f.1)) k
+
+  module _ (some : HasOneWithoutPlace n a q) where
+    -- ---- The search for the lowest place
+    first_in_vain : (p : NodeState) (lo hi : ℕ) (s : Shape) → HasFullLeaves s → Tiles p lo (blocks s) hi → list_any (has_fit_in w n a) (blocks s) ≡ false → nodes_of_first w n a s ≤ height_of s * (parts_passing w q (blocks s) + (lower lo + upper hi))
+    unfolding nodes_of_first
+    first_in_vain p lo hi (Tip bs) f k e = if_may_fit (may_fit_in n a bs) 1 (1 * (parts_passing w q bs + (lower lo + upper hi))) (λ m. omega (arith, one_at_least some p lo hi bs k m e))
+    first_in_vain p lo hi (Fork l r) f k e =
+        let i = child_sides p lo hi l r f k in
+        let at = start_of (blocks r) in
+        let none = none_split l r e in
+        let left = if_entered (ltb w.start at) (nodes_of_first w n a l) (height_of l) (parts_passing w q (blocks l)) (lower lo + upper (at - 1)) (first_in_vain p lo (at - 1) l f.0 i.left none.0) in
+        let right = if_entered (leb at w.end) (nodes_of_first w n a r) (height_of r) (parts_passing w q (blocks r)) (lower at + upper hi) (first_in_vain i.state at hi r f.1 i.right none.1) in
+        rw none.0
+        (if_may_fit (may_fit_in n a (blocks l ++ blocks r)) _ (height_of (Fork l r) * (parts_passing w q (blocks l ++ blocks r) + (lower lo + upper hi))) (λ m.
+        step l r _ _ _ _ (lower lo + upper hi) left right (cuts_in_vain lo hi at i.from i.upto) (one_at_least some p lo hi (blocks l ++ blocks r) k m e)))
+
+    first_in_most : (p : NodeState) (lo hi : ℕ) (s : Shape) → HasFullLeaves s → Tiles p lo (blocks s) hi → nodes_of_first w n a s ≤ height_of s * (parts_passing w q (blocks s) + (lower lo + 1))
+    unfolding nodes_of_first
+    first_in_most p lo hi (Tip bs) f k = one_or_none (may_fit_in n a bs) (1 * (parts_passing w q bs + (lower lo + 1))) (omega arith)
+    first_in_most p lo hi (Fork l r) f k =
+        let i = child_sides p lo hi l r f k in
+        if_may_fit (may_fit_in n a (blocks l ++ blocks r)) _ (height_of (Fork l r) * (parts_passing w q (blocks l ++ blocks r) + (lower lo + 1)))
+        (λ m. by_found (list_any (has_fit_in w n a) (blocks l)) (first_in_most p lo (start_of (blocks r) - 1) l f.0 i.left) (first_in_most i.state (start_of (blocks r)) hi r f.1 i.right) (λ e. e))
+      where
+        by_found : (found : Bool) → nodes_of_first w n a l ≤ height_of l * (parts_passing w q (blocks l) + (lower lo + 1)) → nodes_of_first w n a r ≤ height_of r * (parts_passing w q (blocks r) + (lower (start_of (blocks r)) + 1)) → (found ≡ false → list_any (has_fit_in w n a) (blocks l) ≡ false)
+            → cond (ltb w.start (start_of (blocks r))) (nodes_of_first w n a l) 0 + cond found 0 (cond (leb (start_of (blocks r)) w.end) (nodes_of_first w n a r) 0) + 1 ≤ height_of (Fork l r) * (parts_passing w q (blocks l ++ blocks r) + (lower lo + 1))
+        by_found true x g e =
+            let at = start_of (blocks r) in
+            let left = if_entered (ltb w.start at) (nodes_of_first w n a l) (height_of l) (parts_passing w q (blocks l)) (lower lo + 1) x in
+            step l r _ 0 _ 0 (lower lo + 1) left (omega arith) (omega (arith, if_at_most (ltb w.start at) (lower lo + 1))) (omega arith)
+        by_found false x g e =
+            let i = child_sides p lo hi l r f k in
+            let at = start_of (blocks r) in
+            let left = if_entered (ltb w.start at) (nodes_of_first w n a l) (height_of l) (parts_passing w q (blocks l)) (lower lo + upper (at - 1)) (first_in_vain p lo (at - 1) l f.0 i.left (e refl)) in
+            let right = if_entered (leb at w.end) (nodes_of_first w n a r) (height_of r) (parts_passing w q (blocks r)) (lower at + 1) g in
+            step l r _ _ _ _ (lower lo + 1) left right (cuts_to_right lo hi at i.from i.upto) (omega arith)
+
+    -- ---- The search for the highest place
+    last_in_vain : (p : NodeState) (lo hi : ℕ) (s : Shape) → HasFullLeaves s → Tiles p lo (blocks s) hi → list_any (has_fit_in w n a) (blocks s) ≡ false → nodes_of_last w n a s ≤ height_of s * (parts_passing w q (blocks s) + (lower lo + upper hi))
+    unfolding nodes_of_last
+    last_in_vain p lo hi (Tip bs) f k e = if_may_fit (may_fit_in n a bs) 1 (1 * (parts_passing w q bs + (lower lo + upper hi))) (λ m. omega (arith, one_at_least some p lo hi bs k m e))
+    last_in_vain p lo hi (Fork l r) f k e =
+        let i = child_sides p lo hi l r f k in
+        let at = start_of (blocks r) in
+        let none = none_split l r e in
+        let left = if_entered (ltb w.start at) (nodes_of_last w n a l) (height_of l) (parts_passing w q (blocks l)) (lower lo + upper (at - 1)) (last_in_vain p lo (at - 1) l f.0 i.left none.0) in
+        let right = if_entered (leb at w.end) (nodes_of_last w n a r) (height_of r) (parts_passing w q (blocks r)) (lower at + upper hi) (last_in_vain i.state at hi r f.1 i.right none.1) in
+        rw none.1
+        (if_may_fit (may_fit_in n a (blocks l ++ blocks r)) _ (height_of (Fork l r) * (parts_passing w q (blocks l ++ blocks r) + (lower lo + upper hi))) (λ m.
+        let both = step l r _ _ _ _ (lower lo + upper hi) left right (cuts_in_vain lo hi at i.from i.upto) (one_at_least some p lo hi (blocks l ++ blocks r) k m e) in
+        exchanged _ _ _ both))
+
+    last_in_most : (p : NodeState) (lo hi : ℕ) (s : Shape) → HasFullLeaves s → Tiles p lo (blocks s) hi → nodes_of_last w n a s ≤ height_of s * (parts_passing w q (blocks s) + (1 + upper hi))
+    unfolding nodes_of_last
+    last_in_most p lo hi (Tip bs) f k = one_or_none (may_fit_in n a bs) (1 * (parts_passing w q bs + (1 + upper hi))) (omega arith)
+    last_in_most p lo hi (Fork l r) f k =
+        let i = child_sides p lo hi l r f k in
+        if_may_fit (may_fit_in n a (blocks l ++ blocks r)) _ (height_of (Fork l r) * (parts_passing w q (blocks l ++ blocks r) + (1 + upper hi)))
+        (λ m. by_found (list_any (has_fit_in w n a) (blocks r)) (last_in_most p lo (start_of (blocks r) - 1) l f.0 i.left) (last_in_most i.state (start_of (blocks r)) hi r f.1 i.right) (λ e. e))
+      where
+        by_found : (found : Bool) → nodes_of_last w n a l ≤ height_of l * (parts_passing w q (blocks l) + (1 + upper (start_of (blocks r) - 1))) → nodes_of_last w n a r ≤ height_of r * (parts_passing w q (blocks r) + (1 + upper hi)) → (found ≡ false → list_any (has_fit_in w n a) (blocks r) ≡ false)
+            → cond (leb (start_of (blocks r)) w.end) (nodes_of_last w n a r) 0 + cond found 0 (cond (ltb w.start (start_of (blocks r))) (nodes_of_last w n a l) 0) + 1 ≤ height_of (Fork l r) * (parts_passing w q (blocks l ++ blocks r) + (1 + upper hi))
+        by_found true x g e =
+            let at = start_of (blocks r) in
+            let right = if_entered (leb at w.end) (nodes_of_last w n a r) (height_of r) (parts_passing w q (blocks r)) (1 + upper hi) g in
+            exchanged _ _ _ (step l r 0 _ 0 _ (1 + upper hi) (omega arith) right (omega (arith, if_at_most (leb at w.end) (1 + upper hi))) (omega arith))
+        by_found false x g e =
+            let i = child_sides p lo hi l r f k in
+            let at = start_of (blocks r) in
+            let right = if_entered (leb at w.end) (nodes_of_last w n a r) (height_of r) (parts_passing w q (blocks r)) (lower at + upper hi) (last_in_vain i.state at hi r f.1 i.right (e refl)) in
+            let left = if_entered (ltb w.start at) (nodes_of_last w n a l) (height_of l) (parts_passing w q (blocks l)) (1 + upper (at - 1)) x in
+            exchanged _ _ _ (step l r _ _ _ _ (1 + upper hi) left right (cuts_to_left lo hi at i.from i.upto) (omega arith))
+
+-- ---- A whole tree
+last_end : (p : NodeState) (lo hi : ℕ) (bs : List Block) → 0 < length bs → Tiles p lo bs hi → end_of bs ≡ hi
+last_end p lo hi bs z t =
+    let q = tiles_part p lo hi bs (length bs - 1) t (omega arith) in
+    q.last (omega arith)
+
+module _ (w : Range) (n a : ℕ) (q : Block → Bool) (some : HasOneWithoutPlace n a q) (s : Shape) (f : HasFullLeaves s) (h : IsRun (blocks s)) where
+  starts : start_of (blocks s) ≡ h.lo
+  starts = (first_start Allocated h.lo h.hi (blocks s) h.some h.tiles).0
+
+  stops : end_of (blocks s) ≡ h.hi
+  stops = last_end Allocated h.lo h.hi (blocks s) h.some h.tiles
+
+  cut_below : IsWholeWindow w (blocks s) → below h.lo w.start ≡ 0
+  cut_below c = not_below h.lo w.start (omega (arith, c.from, starts))
+
+  cut_above : IsWholeWindow w (blocks s) → below w.end h.hi ≡ 0
+  cut_above c = not_below w.end h.hi (omega (arith, c.upto, stops))
+
+  exact : (c d : ℕ) (count : ℕ) → c ≡ d → count ≤ height_of s * (parts_passing w q (blocks s) + c) → count ≤ height_of s * (parts_passing w q (blocks s) + d)
+  exact c d count e p = subst (λ (v : ℕ). count ≤ height_of s * (parts_passing w q (blocks s) + v)) e p
+
+  pub first_count : IsSearchCount w n a (parts_passing w q (blocks s)) s (nodes_of_first w n a s)
+  first_count = record {
+    none = λ c e. (
+        let p = exact _ 0 _ (omega (arith, cut_below c, cut_above c)) (first_in_vain w n a q some Allocated h.lo h.hi s f h.tiles e) in
+        let z : parts_passing w q (blocks s) + 0 ≡ parts_passing w q (blocks s) = omega arith in
+        rw z at p
+        );
+    whole = λ c. exact _ 1 _ (omega (arith, cut_below c)) (first_in_most w n a q some Allocated h.lo h.hi s f h.tiles);
+    most = widened (height_of s) (parts_passing w q (blocks s)) (below h.lo w.start + 1) _ (omega (arith, below_most h.lo w.start)) (first_in_most w n a q some Allocated h.lo h.hi s f h.tiles);
+  }
+
+  pub last_count : IsSearchCount w n a (parts_passing w q (blocks s)) s (nodes_of_last w n a s)
+  last_count = record {
+    none = λ c e. (
+        let p = exact _ 0 _ (omega (arith, cut_below c, cut_above c)) (last_in_vain w n a q some Allocated h.lo h.hi s f h.tiles e) in
+        let z : parts_passing w q (blocks s) + 0 ≡ parts_passing w q (blocks s) = omega arith in
+        rw z at p
+        );
+    whole = λ c. exact _ 1 _ (omega (arith, cut_above c)) (last_in_most w n a q some Allocated h.lo h.hi s f h.tiles);
+    most = widened (height_of s) (parts_passing w q (blocks s)) (1 + below w.end h.hi) _ (omega (arith, below_most w.end h.hi)) (last_in_most w n a q some Allocated h.lo h.hi s f h.tiles);
+  }
+
+-- The bounds for two numbers are bounds for the lesser one.
+lesser : (w : Range) (n a u v : ℕ) (s : Shape) (count : ℕ) → IsSearchCount w n a u s count → IsSearchCount w n a v s count → IsSearchCount w n a (min u v) s count
+lesser w n a u v s count g h =
+    ⊎_elim
+    (λ (l : u < v). let e : u ≡ min u v = omega arith in subst (λ (x : ℕ). IsSearchCount w n a x s count) e g)
+    (λ (l : v ≤ u). let e : v ≡ min u v = omega arith in subst (λ (x : ℕ). IsSearchCount w n a x s count) e h)
+    (cases_lt u v)
+
+pub first_searches : (w : Range) (n a : ℕ) (s : Shape) → 0 < n → HasFullLeaves s → IsRun (blocks s) → IsSearchCount w n a (gaps_without_place w n a (blocks s)) s (nodes_of_first w n a s)
+first_searches w n a s z f h =
+    lesser w n a _ _ s _ (first_count w n a (is_misaligned n a) (misaligned_in_vain n a z) s f h) (first_count w n a (is_too_short n a) (too_short_in_vain n a) s f h)
+
+pub last_searches : (w : Range) (n a : ℕ) (s : Shape) → 0 < n → HasFullLeaves s → IsRun (blocks s) → IsSearchCount w n a (gaps_without_place w n a (blocks s)) s (nodes_of_last w n a s)
+last_searches w n a s z f h =
+    lesser w n a _ _ s _ (last_count w n a (is_misaligned n a) (misaligned_in_vain n a z) s f h) (last_count w n a (is_too_short n a) (too_short_in_vain n a) s f h)

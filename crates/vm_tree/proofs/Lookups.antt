@@ -1,0 +1,159 @@
+-- The leaf at an address, and the block at it.
+use Rattle.std.proofs.Common.{◌≡◌, ℕ, zero, suc, ◌+◌, ◌-◌, ◌<◌, ◌≤◌, List, [], ◌∷◌, ◌++◌, length, true, false, leb, Some, None, refl, ap, ◌∙◌, sym, subst, arith, inl, inr, append_assoc, length-append, append-nil}
+use Rattle.std.proofs.lemmas.Bool.{cases_lt, le-leb, lt-leb, and_right}
+use Rattle.std.proofs.lemmas.List.{get_or_append_left, get_or-append_right}
+use Rattle.vm_leaf.specs.declared.block.Block.{Block}
+use Rattle.vm_ranges.specs.Range.{IsIn, at_address}
+use Rattle.vm_ranges.specs.RangeOrder.{covers}
+use Rattle.vm_ranges.specs.declared.state.NodeState.{NodeState}
+use Rattle.vm_ranges.specs.declared.state.NodeState.TheVariants.{Allocated}
+use Rattle.vm_leaf.specs.Blocks.{nth, blank, start_of, end_of, Tiles, IsRun}
+use Rattle.vm_leaf.proofs.Tiles.{tiles_part}
+use Rattle.vm_tree.specs.Shape.{Shape, Tip, Fork, blocks, IsTree}
+use Rattle.vm_tree.specs.Lookups.{find_superset, IsLeafAt}
+use Rattle.vm_tree.proofs.Lists.{start_append, end_append, end_left}
+use Rattle.vm_tree.proofs.Trees.{tree_left, tree_right, left_some, right_some}
+
+zero_if : (n : ℕ) → (0 < n → ⊥) → n ≡ 0
+zero_if zero h = refl
+zero_if (suc n) h = absurd (h (omega arith))
+
+no_blocks : (bs : List Block) → length bs ≡ 0 → bs ≡ []
+no_blocks [] z = refl
+no_blocks (b ∷ bs) z = absurd (omega arith)
+
+tiles_order : (p : NodeState) (lo hi : ℕ) (bs : List Block) → Tiles p lo bs hi → lo ≤ hi + 1
+tiles_order p lo hi [] t = omega arith
+tiles_order p lo hi (b ∷ bs) t = let h = tiles_order b.state (b.key.end + 1) hi bs t.3 in omega arith
+
+start_is_low : (p : NodeState) (lo hi : ℕ) (bs : List Block) → 0 < length bs → Tiles p lo bs hi → start_of bs ≡ lo
+start_is_low p lo hi [] z t = absurd (omega arith)
+start_is_low p lo hi (b ∷ bs) z t = t.0
+
+-- ---- The path to the leaf
+pub tree_of_left : (t l r : Shape) → t ≡ Fork l r → IsTree t → IsTree l
+tree_of_left t l r q h = tree_left l r (subst IsTree q h)
+
+pub tree_of_right : (t l r : Shape) → t ≡ Fork l r → IsTree t → IsTree r
+tree_of_right t l r q h = tree_right l r (subst IsTree q h)
+
+pub leaf_of_tip : (t : Shape) (bs : List Block) (x : ℕ) → t ≡ Tip bs → IsTree t → IsLeafAt x (blocks t) bs
+leaf_of_tip t bs x q h =
+    let g : IsTree (Tip bs) = subst IsTree q h in
+    record {
+      lower = [];
+      upper = [];
+      cut = ap blocks q ∙ sym (append-nil bs);
+      some = g.leaves.0;
+      from = λ k. absurd (omega arith);
+      upto = λ k. absurd (omega arith);
+    }
+
+module _ (t l r : Shape) (x : ℕ) (leaf : List Block) (q : t ≡ Fork l r) (h : IsTree t) (c : IsRun (blocks t)) where
+  whole : IsTree (Fork l r)
+  whole = subst IsTree q h
+
+  seam : start_of (blocks r) ≡ end_of (blocks l) + 1
+  seam = end_left (blocks l) (blocks r) (subst (λ (z : Shape). IsRun (blocks z)) q c) (omega (arith, left_some l r whole)) (omega (arith, right_some l r whole))
+
+  -- The leaf is the last part of the left child, or the first part of the right one.
+  last_part : (lower upper : List Block) → blocks l ≡ lower ++ (leaf ++ upper) → 0 < length leaf → length upper ≡ 0 → end_of (blocks l) ≡ end_of leaf
+  last_part lower [] e s z = ap end_of (e ∙ ap (λ (v : List Block). lower ++ v) (append-nil leaf)) ∙ end_append lower leaf s
+  last_part lower (b ∷ upper) e s z = absurd (omega arith)
+
+  first_part : (lower upper : List Block) → blocks r ≡ lower ++ (leaf ++ upper) → 0 < length leaf → length lower ≡ 0 → start_of (blocks r) ≡ start_of leaf
+  first_part [] upper e s z = ap start_of e ∙ start_append leaf upper s
+  first_part (b ∷ lower) upper e s z = absurd (omega arith)
+
+  pub leaf_in_left : x < start_of (blocks r) → IsLeafAt x (blocks l) leaf → IsLeafAt x (blocks t) leaf
+  leaf_in_left u i = record {
+    lower = i.lower;
+    upper = i.upper ++ blocks r;
+    cut = ap blocks q ∙ ap (λ (z : List Block). z ++ blocks r) i.cut ∙ append_assoc i.lower (leaf ++ i.upper) (blocks r) ∙ ap (λ (z : List Block). i.lower ++ z) (append_assoc leaf i.upper (blocks r));
+    some = i.some;
+    from = i.from;
+    upto = λ k. elim (cases_lt 0 (length i.upper)) [
+      | inl m ↦ i.upto m
+      | inr m ↦ (let e = last_part i.lower i.upper i.cut i.some (omega arith) in let f = seam in omega arith)
+    ];
+  }
+
+  pub leaf_in_right : start_of (blocks r) ≤ x → IsLeafAt x (blocks r) leaf → IsLeafAt x (blocks t) leaf
+  leaf_in_right u i = record {
+    lower = blocks l ++ i.lower;
+    upper = i.upper;
+    cut = ap blocks q ∙ ap (λ (z : List Block). blocks l ++ z) i.cut ∙ sym (append_assoc (blocks l) i.lower (leaf ++ i.upper));
+    some = i.some;
+    from = λ k. elim (cases_lt 0 (length i.lower)) [
+      | inl m ↦ i.from m
+      | inr m ↦ (let e = first_part i.lower i.upper i.cut i.some (omega arith) in omega arith)
+    ];
+    upto = i.upto;
+  }
+
+pub ruleset descending = (leaf_of_tip, leaf_in_left)
+
+-- ---- The block at the address
+covers_it : (b : Block) (x : ℕ) → b.key.start ≤ x → x ≤ b.key.end → covers b.key (at_address x) ≡ true
+unfolding covers
+covers_it b x h k = rw (le-leb b.key.start x h, le-leb x b.key.end k) refl
+
+covers_not_above : (b : Block) (x : ℕ) → x < b.key.start → covers b.key (at_address x) ≡ false
+unfolding covers
+covers_not_above b x h = rw (lt-leb b.key.start x h) refl
+
+covers_not_below : (b : Block) (x : ℕ) → b.key.end < x → covers b.key (at_address x) ≡ false
+unfolding covers
+covers_not_below b x h = rw (lt-leb x b.key.end h) (and_right (leb b.key.start x) false refl)
+
+none_above : (p : NodeState) (lo hi x : ℕ) (bs : List Block) → Tiles p lo bs hi → x < lo → find_superset (at_address x) bs ≡ None
+none_above p lo hi x [] t h = refl
+none_above p lo hi x (b ∷ bs) t h = rw (covers_not_above b x (omega (arith, t.0))) (none_above b.state (b.key.end + 1) hi x bs t.3 (omega (arith, t.0, t.1)))
+
+none_below : (p : NodeState) (lo hi x : ℕ) (bs : List Block) → Tiles p lo bs hi → hi < x → find_superset (at_address x) bs ≡ None
+none_below p lo hi x [] t h = refl
+none_below p lo hi x (b ∷ bs) t h =
+    let e = tiles_order b.state (b.key.end + 1) hi bs t.3 in
+    rw (covers_not_below b x (omega arith)) (none_below b.state (b.key.end + 1) hi x bs t.3 h)
+
+found : (p : NodeState) (lo hi x i : ℕ) (bs : List Block) → Tiles p lo bs hi → i < length bs → IsIn (nth bs i).key x → find_superset (at_address x) bs ≡ Some (nth bs i)
+found p lo hi x i [] t l h = absurd (omega arith)
+found p lo hi x zero (b ∷ bs) t l h = rw (covers_it b x h.0 h.1) refl
+found p lo hi x (suc i) (b ∷ bs) t l h =
+    let q = tiles_part b.state (b.key.end + 1) hi bs i t.3 (omega arith) in
+    rw (covers_not_below b x (omega (arith, q.from, h.0))) (found b.state (b.key.end + 1) hi x i bs t.3 (omega arith) h)
+
+module _ (bs leaf : List Block) (x : ℕ) (run : IsRun bs) (at : IsLeafAt x bs leaf) where
+  lower_only : length at.lower ≡ 0 → bs ≡ leaf ++ at.upper
+  lower_only z = at.cut ∙ ap (λ (v : List Block). v ++ (leaf ++ at.upper)) (no_blocks at.lower z)
+
+  upper_only : length at.upper ≡ 0 → bs ≡ at.lower ++ leaf
+  upper_only z = at.cut ∙ ap (λ (v : List Block). at.lower ++ v) (ap (λ (v : List Block). leaf ++ v) (no_blocks at.upper z) ∙ append-nil leaf)
+
+  pub none_before : x < start_of leaf → find_superset (at_address x) bs ≡ None
+  none_before h =
+      let z : length at.lower ≡ 0 = zero_if (length at.lower) (λ k. omega (arith, at.from k)) in
+      let e = ap start_of (lower_only z) ∙ start_append leaf at.upper at.some in
+      let q = tiles_part Allocated run.lo run.hi bs 0 run.tiles run.some in
+      let k = start_is_low Allocated run.lo run.hi bs run.some run.tiles in
+      none_above Allocated run.lo run.hi x bs run.tiles (omega arith)
+
+  pub none_after : end_of leaf < x → find_superset (at_address x) bs ≡ None
+  none_after h =
+      let z : length at.upper ≡ 0 = zero_if (length at.upper) (λ k. omega (arith, at.upto k)) in
+      let e = ap end_of (upper_only z) ∙ end_append at.lower leaf at.some in
+      let q = tiles_part Allocated run.lo run.hi bs (length bs - 1) run.tiles (omega (arith, run.some)) in
+      none_below Allocated run.lo run.hi x bs run.tiles (omega (arith, q.last (omega (arith, run.some))))
+
+  pub block_found : (i : ℕ) → i < length leaf → IsIn (nth leaf i).key x → find_superset (at_address x) bs ≡ Some (nth leaf i)
+  block_found i l h =
+      let j = length at.lower + i in
+      let n = length-append at.lower (leaf ++ at.upper) in
+      let m = length-append leaf at.upper in
+      let k = ap length at.cut in
+      let e : nth bs (length at.lower + i) ≡ nth leaf i =
+      ap (λ (v : List Block). nth v (length at.lower + i)) at.cut ∙ get_or-append_right at.lower (leaf ++ at.upper) (length at.lower) (length at.lower + i) blank refl (omega arith)
+      ∙ ap (nth (leaf ++ at.upper)) (omega arith) ∙ get_or_append_left leaf at.upper blank i l in
+      found Allocated run.lo run.hi x (length at.lower + i) bs run.tiles (omega arith) (subst (λ (b : Block). IsIn b.key x) (sym e) h) ∙ ap (λ (b : Block). Some b) e
+
+pub ruleset at_address_cases = (none_before, none_after, block_found)

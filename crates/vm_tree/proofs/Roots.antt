@@ -1,0 +1,234 @@
+-- The root of a tree.
+use Rattle.std.proofs.Common.{◌≡◌, ◌≢◌, ℕ, ◌*◌, ◌<◌, ◌≤◌, true, false, Ok, Err, Result, IfOk, OnErr, inl, inr, ◌⊎◌, List, length, refl, sym, ap, ◌∙◌, subst, arith}
+use Rattle.std.proofs.lemmas.Bool.{cases_lt, cases_Bool, le-ltb, true≢false}
+use Rattle.vm_ranges.specs.Range.{Range, IsRange, MAX}
+use Rattle.vm_leaf.specs.Blocks.{IsRun, IsLeaf, parts}
+use Rattle.vm_leaf.specs.declared.block.Block.{Block}
+use Rattle.vm_tree.specs.Building.{AreInOrder, blocks_between, IsBuiltTree}
+use Rattle.vm_tree.specs.Allocation.{IsSearch, AllocatesExact, AllocatesLowest, AllocatesHighest, SplitsAt, range_at, window_of}
+use Rattle.vm_tree.specs.Growth.{IsSubtree, IsChild, GrowsBy, GrowsIfOk}
+use Rattle.vm_tree.specs.NodeCounts.{may_fit_in, nodes_of_first, nodes_of_last, nodes_to_address, nodes_to_lowest, nodes_to_highest}
+use Rattle.vm_tree.specs.GapSearch.{IsSearchCount, gaps_without_place}
+use Rattle.vm_tree.specs.declared.change.Change.{Change}
+use Rattle.vm_tree.specs.declared.change.Change.TheVariants.{Nothing, FreeOnly, Structure}
+use Rattle.vm_tree.specs.declared.search.Search.{Search}
+use Rattle.vm_tree.specs.declared.search.Taken.{Taken}
+use Rattle.vm_tree.specs.declared.search.Refusal.{Refusal}
+use Rattle.vm_tree.specs.declared.search.Refusal.TheVariants.{NoPlace, Held, PastMax, OutOfMemory, TooHigh}
+use Rattle.vm_tree.proofs.Allocating.{IsAllocated, run_allocated, exact_allocated}
+use Rattle.vm_tree.proofs.Paths.{path_length, first_fits, last_fits, lowest_searches, highest_searches, lowest_path, highest_path}
+use Rattle.vm_tree.proofs.SearchedBlocks.{none_if_passed}
+use Rattle.vm_tree.specs.Changes.{CanChange}
+use Rattle.vm_tree.specs.Frees.{Frees}
+use Rattle.vm_tree.specs.Roots.{IsBlockTree, IsPathLength, IsRoot}
+use Rattle.vm_tree.specs.Links.{side, IsSummed}
+use Rattle.vm_tree.specs.declared.link.Link.{Link}
+use Rattle.vm_tree.specs.Shape.{Shape, Tip, Fork, blocks, height_of, IsTree}
+use Rattle.vm_tree.proofs.BlockCursors.{between_tiles}
+use Rattle.vm_tree.proofs.Frees.{cover_freed}
+use Rattle.vm_tree.proofs.Heights.{low_tree}
+use Rattle.vm_tree.proofs.Plans.{some_between}
+use Rattle.vm_tree.proofs.SearchedFirst.{lowest_allocated, none_lowest, lowest_found, lowest_missed, first_nodes_passed}
+use Rattle.vm_tree.proofs.SearchedLast.{highest_allocated, none_highest, highest_found, highest_missed, last_nodes_passed}
+use Rattle.vm_tree.proofs.Trees.{high, full_rooted}
+
+pub valid : (s : Shape) → IsTree s → IsRun (blocks s) → height_of s < 49 → IsBlockTree s
+valid s t r h = record { tree = t; run = r; height = h; low = low_tree s t r }
+
+pub can_change : (s : Shape) → IsTree s → IsRun (blocks s) → height_of s < 49 → CanChange s
+can_change s t r h = record { tree = t; run = r; height = omega arith }
+
+-- A leaf that is the whole tree.
+pub lone_tree : (bs : List Block) → IsLeaf bs → IsTree (Tip bs)
+lone_tree bs h = record { balanced = tt; leaves = (h.some, h.fits) }
+
+pub lone_run : (bs : List Block) → IsLeaf bs → IsRun bs
+lone_run bs h = record { lo = h.lo; hi = h.hi; some = h.some; tiles = h.tiles; range = h.range }
+
+pub freed_run : (k : Range) (old new : List Block) → IsRun old → Frees k old new → IsRun new
+freed_run k old new r f = subst IsRun (sym f.after) (cover_freed f.lower k f.upper (subst IsRun f.before r))
+
+-- The tree of a space with held ranges covers the space.
+pub built_run : (space : Range) (held : List Range) (s : Shape) → IsRange space.start space.end → AreInOrder space.start held space.end → IsBuiltTree (blocks_between space.start held space.end) s → IsRun (blocks s)
+built_run space held s r o b =
+    let l = r.0 in
+    subst IsRun (sym b.blocks) (record {
+      lo = space.start;
+      hi = space.end;
+      some = some_between space.start space.end held l;
+      tiles = between_tiles space.start space.end held (omega arith) o;
+      range = r;
+    })
+
+pub ruleset making = (lone_tree, lone_run)
+
+pub ruleset building = (built_run)
+
+pub ruleset heights = (valid, high)
+
+pub ruleset freeing = (can_change, lone_tree, lone_run, freed_run, high)
+
+-- ---- Allocation
+subtree_of : (s : Shape) → 2 ≤ height_of s → IsTree s → IsRun (blocks s) → height_of s < 49 → IsSubtree s
+subtree_of (Tip bs) h t r k = absurd (omega arith)
+subtree_of (Fork l r) h t c k = record { balanced = t.balanced; full = t.leaves; run = c; low = k }
+
+pub child_of : (t : Link) → 2 ≤ height_of (side t) → IsTree (side t) → IsRun (blocks (side t)) → height_of (side t) < 49 → IsSummed t → IsChild t
+child_of t h tree run low summed = record { subtree = subtree_of (side t) h tree run low; summed = summed }
+
+pub path_fits : (x : ℕ) (s : Shape) → IsTree s → height_of s < 49 → nodes_to_address x s ≤ MAX
+path_fits x s t h = omega (arith, (path_length x s t.balanced).upto)
+
+pub path_of : (x : ℕ) (s : Shape) → IsTree s → IsPathLength s (nodes_to_address x s)
+path_of x s t = path_length x s t.balanced
+
+pub grown_tree : (change : Change) (old new : Shape) → GrowsBy change old new → IsTree new
+grown_tree change old new g = record { balanced = g.grows.balanced; leaves = full_rooted new g.grows.full }
+
+-- A range that fills its gap adds no block.
+fill_parts : (k r : Range) → r.start ≤ k.start → k.end ≤ r.end → length (parts k r) ≡ 1
+fill_parts k r a b = rw (le-ltb k.start r.start a, le-ltb r.end k.end b) refl
+
+fill_adds_none : (seek : Search) (old new : List Block) (taken : Taken) → seek.can_split ≡ false → IsAllocated seek old new taken → taken.added ≡ 0
+fill_adds_none seek old new taken c h =
+    let none : (SplitsAt seek h.spot → ⊥) = λ s. true≢false (sym (h.taken_at.low s) ∙ c) in
+    let before : h.spot.start ≤ h.spot.key.start = elim (cases_lt h.spot.key.start h.spot.start) [ inl l ↦ absurd (none (inl l)) | inr k ↦ k ] in
+    let after : h.spot.key.end ≤ (range_at seek h.spot).end = elim (cases_lt (range_at seek h.spot).end h.spot.key.end) [ inl l ↦ absurd (none (inr l)) | inr k ↦ k ] in
+    omega (arith, h.taken_at.added, fill_parts h.spot.key (range_at seek h.spot) before after)
+
+same_height : (change : Change) (old new : Shape) → GrowsBy change old new → change ≢ Structure → height_of new ≡ height_of old
+same_height Nothing old new g n = sym g.kept.1
+same_height FreeOnly old new g n = sym g.kept.0
+same_height Structure old new g n = absurd (n refl)
+
+-- A successful request allocates a range in a gap.
+abbrev Allocated : Search → List Block → List Block → Result Taken Refusal → Type 0
+Allocated seek old new answer = (taken : Taken) → answer ≡ Ok taken → IsAllocated seek old new taken
+
+module _ (seek : Search) (old new : Link) (root : IsRoot (record { root = old })) where
+  pub lone_after : (answer : Result Taken Refusal) → Allocated seek (blocks (side old)) (blocks (side new)) answer → OnErr answer (new ≡ old) → IfOk answer (λ _. IsTree (side new) × (height_of (side new) ≤ 2))
+      → (2 ≤ height_of (side new) → IsSummed new) → IsRoot (record { root = new })
+  lone_after (Ok taken) f u t s = record { tree = t.0; run = run_allocated seek (blocks (side old)) (blocks (side new)) taken root.run (f taken refl); height = omega (arith, t.1); summed = s }
+  lone_after (Err e) f u t s = subst (λ (l : Link). IsRoot (record { root = l })) (sym u) root
+
+  pub fork_after : (v : Shape) → side old ≡ v → (answer : Result Taken Refusal) → Allocated seek (blocks v) (blocks (side new)) answer → GrowsIfOk answer v (side new) → IsSummed new → (seek.can_split ≡ true → height_of v < 48) → IsRoot (record { root = new })
+  fork_after v q (Ok taken) f g s low = record {
+    tree = grown_tree taken.change v (side new) g.0;
+    run = run_allocated seek (blocks v) (blocks (side new)) taken (subst (λ (t : Shape). IsRun (blocks t)) q root.run) (f taken refl);
+    height = elim (cases_Bool seek.can_split) [
+      | inl e ↦ (let h = low e in omega (arith, g.0.grows.upto))
+      | inr e ↦ (let h = same_height taken.change v (side new) g.0 (g.1 (fill_adds_none seek (blocks v) (blocks (side new)) taken e (f taken refl))) in omega (arith, root.height, ap height_of q))
+    ];
+    summed = λ h. s;
+  }
+  fork_after v q (Err e) f u s low = record {
+    tree = subst IsTree (q ∙ sym u) root.tree;
+    run = subst (λ (t : Shape). IsRun (blocks t)) (q ∙ sym u) root.run;
+    height = subst (λ (t : Shape). height_of t < 49) (q ∙ sym u) root.height;
+    summed = λ h. s;
+  }
+
+module _ (seek : Search) (valid : IsSearch seek) (old new : List Block) (answer : Result Taken Refusal) where
+  pub exact_allocates : (t : ℕ) → AllocatesExact seek t old new answer → Allocated seek old new answer
+  exact_allocates t h = λ taken e. exact_allocated seek t old new taken valid.some (subst (AllocatesExact seek t old new) e h)
+
+  pub lowest_allocates : AllocatesLowest seek old new answer → Allocated seek old new answer
+  lowest_allocates h = λ taken e. lowest_allocated seek old new taken valid.some (subst (AllocatesLowest seek old new) e h)
+
+  pub highest_allocates : AllocatesHighest seek old new answer → Allocated seek old new answer
+  highest_allocates h = λ taken e. highest_allocated seek old new taken valid.some (subst (AllocatesHighest seek old new) e h)
+
+pub ruleset allocating_exact = (child_of, path_fits, path_of)
+
+-- A search has found no place, or it has another answer.
+no_place : (answer : Result Taken Refusal) → (answer ≡ Err NoPlace) ⊎ (answer ≢ Err NoPlace)
+no_place (Ok taken) = inr (λ e. absurd (cc))
+no_place (Err NoPlace) = inl refl
+no_place (Err Held) = inr (λ e. absurd (cc))
+no_place (Err PastMax) = inr (λ e. absurd (cc))
+no_place (Err OutOfMemory) = inr (λ e. absurd (cc))
+no_place (Err TooHigh) = inr (λ e. absurd (cc))
+
+-- ---- The lowest place
+module _ (seek : Search) (valid : IsSearch seek) where
+  lowest_lone_none : (v : Shape) (new : List Block) → height_of v < 2 → AllocatesLowest seek (blocks v) new (Err NoPlace) → nodes_to_lowest (window_of seek) seek.size seek.alignment v ≡ 0
+  unfolding nodes_to_lowest
+  lowest_lone_none (Tip bs) new h a = rw (lowest_missed seek valid bs (none_lowest seek bs new a)) refl
+  lowest_lone_none (Fork l r) new h a = absurd (omega (arith, high l))
+
+  lowest_lone_some : (v : Shape) (new : List Block) (answer : Result Taken Refusal) → height_of v < 2 → AllocatesLowest seek (blocks v) new answer → answer ≢ Err NoPlace
+      → nodes_to_lowest (window_of seek) seek.size seek.alignment v ≡ 1
+  unfolding nodes_to_lowest
+  lowest_lone_some (Tip bs) new answer h a n = rw (lowest_found seek valid bs new answer n a) refl
+  lowest_lone_some (Fork l r) new answer h a n = absurd (omega (arith, high l))
+
+  pub lowest_lone : (v : Shape) (new : List Block) (answer : Result Taken Refusal) (count : ℕ) → height_of v < 2 → AllocatesLowest seek (blocks v) new answer
+      → (answer ≡ Err NoPlace → count ≡ 0) → (answer ≢ Err NoPlace → count ≡ 1) → count ≡ nodes_to_lowest (window_of seek) seek.size seek.alignment v
+  lowest_lone v new answer count h a none found =
+      elim (no_place answer) [
+        | inl e ↦ none e ∙ sym (lowest_lone_none v new h (subst (AllocatesLowest seek (blocks v) new) e a))
+        | inr n ↦ found n ∙ sym (lowest_lone_some v new answer h a n)
+      ]
+
+  pub lowest_tall : (v : Shape) → 2 ≤ height_of v → nodes_to_lowest (window_of seek) seek.size seek.alignment v ≡ nodes_of_first (window_of seek) seek.size seek.alignment v
+  unfolding nodes_to_lowest
+  lowest_tall (Tip bs) h = absurd (omega arith)
+  lowest_tall (Fork l r) h = refl
+
+  pub lowest_none : (v : Shape) → may_fit_in seek.size seek.alignment (blocks v) ≡ false → AllocatesLowest seek (blocks v) (blocks v) (Err NoPlace)
+  lowest_none v h = inl (none_if_passed (window_of seek) seek.size seek.alignment (blocks v) valid.some valid.aligned h, refl)
+
+  pub lowest_passed : (v : Shape) → 2 ≤ height_of v → may_fit_in seek.size seek.alignment (blocks v) ≡ false → nodes_to_lowest (window_of seek) seek.size seek.alignment v ≡ 0
+  lowest_passed v t h = lowest_tall v t ∙ first_nodes_passed seek valid v h
+
+  -- The bounds on the nodes that were entered.
+  module _ (v : Shape) (tree : IsTree v) (run : IsRun (blocks v)) (low : height_of v < 49) (count : ℕ) (exact : count ≡ nodes_to_lowest (window_of seek) seek.size seek.alignment v) where
+    pub lowest_bounds : IsSearchCount (window_of seek) seek.size seek.alignment (gaps_without_place (window_of seek) seek.size seek.alignment (blocks v)) v count
+    lowest_bounds = subst (IsSearchCount (window_of seek) seek.size seek.alignment (gaps_without_place (window_of seek) seek.size seek.alignment (blocks v)) v) (sym exact) (lowest_searches (window_of seek) seek.size seek.alignment valid.some v tree run)
+
+    pub lowest_least : (new : List Block) (answer : Result Taken Refusal) → AllocatesLowest seek (blocks v) new answer → answer ≢ Err NoPlace → height_of v ≤ 2 * count
+    lowest_least new answer a n = omega (arith, exact, lowest_path (window_of seek) seek.size seek.alignment valid.some v valid.aligned tree run low (lowest_found seek valid (blocks v) new answer n a))
+
+pub ruleset allocating_lowest = (child_of, first_fits, lowest_tall, lowest_none, lowest_passed, lowest_bounds, lowest_least)
+
+-- ---- The highest place
+module _ (seek : Search) (valid : IsSearch seek) where
+  highest_lone_none : (v : Shape) (new : List Block) → height_of v < 2 → AllocatesHighest seek (blocks v) new (Err NoPlace) → nodes_to_highest (window_of seek) seek.size seek.alignment v ≡ 0
+  unfolding nodes_to_highest
+  highest_lone_none (Tip bs) new h a = rw (highest_missed seek valid bs (none_highest seek bs new a)) refl
+  highest_lone_none (Fork l r) new h a = absurd (omega (arith, high l))
+
+  highest_lone_some : (v : Shape) (new : List Block) (answer : Result Taken Refusal) → height_of v < 2 → AllocatesHighest seek (blocks v) new answer → answer ≢ Err NoPlace
+      → nodes_to_highest (window_of seek) seek.size seek.alignment v ≡ 1
+  unfolding nodes_to_highest
+  highest_lone_some (Tip bs) new answer h a n = rw (highest_found seek valid bs new answer n a) refl
+  highest_lone_some (Fork l r) new answer h a n = absurd (omega (arith, high l))
+
+  pub highest_lone : (v : Shape) (new : List Block) (answer : Result Taken Refusal) (count : ℕ) → height_of v < 2 → AllocatesHighest seek (blocks v) new answer
+      → (answer ≡ Err NoPlace → count ≡ 0) → (answer ≢ Err NoPlace → count ≡ 1) → count ≡ nodes_to_highest (window_of seek) seek.size seek.alignment v
+  highest_lone v new answer count h a none found =
+      elim (no_place answer) [
+        | inl e ↦ none e ∙ sym (highest_lone_none v new h (subst (AllocatesHighest seek (blocks v) new) e a))
+        | inr n ↦ found n ∙ sym (highest_lone_some v new answer h a n)
+      ]
+
+  pub highest_tall : (v : Shape) → 2 ≤ height_of v → nodes_to_highest (window_of seek) seek.size seek.alignment v ≡ nodes_of_last (window_of seek) seek.size seek.alignment v
+  unfolding nodes_to_highest
+  highest_tall (Tip bs) h = absurd (omega arith)
+  highest_tall (Fork l r) h = refl
+
+  pub highest_none : (v : Shape) → may_fit_in seek.size seek.alignment (blocks v) ≡ false → AllocatesHighest seek (blocks v) (blocks v) (Err NoPlace)
+  highest_none v h = inl (none_if_passed (window_of seek) seek.size seek.alignment (blocks v) valid.some valid.aligned h, refl)
+
+  pub highest_passed : (v : Shape) → 2 ≤ height_of v → may_fit_in seek.size seek.alignment (blocks v) ≡ false → nodes_to_highest (window_of seek) seek.size seek.alignment v ≡ 0
+  highest_passed v t h = highest_tall v t ∙ last_nodes_passed seek valid v h
+
+  -- The bounds on the nodes that were entered.
+  module _ (v : Shape) (tree : IsTree v) (run : IsRun (blocks v)) (low : height_of v < 49) (count : ℕ) (exact : count ≡ nodes_to_highest (window_of seek) seek.size seek.alignment v) where
+    pub highest_bounds : IsSearchCount (window_of seek) seek.size seek.alignment (gaps_without_place (window_of seek) seek.size seek.alignment (blocks v)) v count
+    highest_bounds = subst (IsSearchCount (window_of seek) seek.size seek.alignment (gaps_without_place (window_of seek) seek.size seek.alignment (blocks v)) v) (sym exact) (highest_searches (window_of seek) seek.size seek.alignment valid.some v tree run)
+
+    pub highest_least : (new : List Block) (answer : Result Taken Refusal) → AllocatesHighest seek (blocks v) new answer → answer ≢ Err NoPlace → height_of v ≤ 2 * count
+    highest_least new answer a n = omega (arith, exact, highest_path (window_of seek) seek.size seek.alignment valid.some v valid.aligned tree run low (highest_found seek valid (blocks v) new answer n a))
+
+pub ruleset allocating_highest = (child_of, last_fits, highest_tall, highest_none, highest_passed, highest_bounds, highest_least)

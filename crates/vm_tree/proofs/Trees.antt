@@ -1,0 +1,402 @@
+-- Trees that are balanced, mended and joined.
+use Rattle.std.proofs.Common.{◌≡◌, ℕ, zero, suc, ◌+◌, ◌-◌, ◌<◌, ◌≤◌, max, List, [], ◌∷◌, ◌++◌, length, take, drop, refl, ap, ◌∙◌, sym, subst, arith, append_assoc, length-append, length-drop, length-take-le}
+use Rattle.vm_leaf.specs.declared.block.Block.{Block}
+use Rattle.vm_leaf.specs.Blocks.{start_of}
+use Rattle.vm_leaf.specs.Blocks.{IsRun}
+use Rattle.vm_tree.specs.Shape.{Shape, Tip, Fork, blocks, height_of, DifferByAtMost, HasFullLeaves, IsRooted, IsTree}
+use Rattle.vm_tree.specs.Mending.{CanBalance, CanMend, Mends, JoinsLeaves, Shrinks, Loses, CanMendTree, MendsTree}
+use Rattle.vm_tree.proofs.Lists.{start_append, cover_left, cover_right, drop_append, take_append, cover_drop, cover_take, first_append, last_append}
+
+pub full_some : (s : Shape) → HasFullLeaves s → 12 ≤ length (blocks s)
+full_some (Tip bs) h = h.0
+full_some (Fork l r) h = let a = full_some l h.0 in omega (arith, length-append (blocks l) (blocks r))
+
+pub tall : (s : Shape) → IsRooted s → 2 ≤ height_of s → 24 ≤ length (blocks s)
+tall (Tip bs) h k = absurd (omega arith)
+tall (Fork l r) h k = let a = full_some l h.0 in let b = full_some r h.1 in omega (arith, length-append (blocks l) (blocks r))
+
+pub rooted_full : (s : Shape) → IsRooted s → 12 ≤ length (blocks s) → HasFullLeaves s
+rooted_full (Tip bs) h k = (k, h.1)
+rooted_full (Fork l r) h k = h
+
+pub full_rooted : (s : Shape) → HasFullLeaves s → IsRooted s
+full_rooted (Tip bs) h = (omega (arith, h.0), h.1)
+full_rooted (Fork l r) h = h
+
+pub rooted_some : (s : Shape) → IsRooted s → 0 < length (blocks s)
+rooted_some (Tip bs) h = h.0
+rooted_some (Fork l r) h = let a = full_some l h.0 in omega (arith, length-append (blocks l) (blocks r))
+
+pub high : (s : Shape) → 1 ≤ height_of s
+high (Tip bs) = omega arith
+high (Fork l r) = omega arith
+
+pub start_full : (l r : Shape) → HasFullLeaves l → start_of (blocks l ++ blocks r) ≡ start_of (blocks l)
+start_full l r h = start_append (blocks l) (blocks r) (omega (arith, full_some l h))
+
+pub joined : (l r : Shape) → CanBalance l r → DifferByAtMost 1 (height_of l) (height_of r) → Mends l r (Fork l r)
+joined l r h d = record {
+  blocks = refl;
+  tree = record { balanced = (h.left, h.right, d); leaves = (h.left_full, h.right_full) };
+  upto = omega arith;
+  from = omega arith;
+  steady = λ a b c. refl;
+}
+
+pub rotated_right : (a b r : Shape) → CanBalance (Fork a b) r → height_of (Fork a b) ≡ height_of r + 2 → height_of b ≤ height_of a → Mends (Fork a b) r (Fork a (Fork b r))
+rotated_right a b r h e o =
+    let d = h.left.2 in
+    record {
+      blocks = sym (append_assoc (blocks a) (blocks b) (blocks r));
+      tree = record {
+        balanced = (h.left.0, (h.left.1, h.right, (omega (arith, d.0, d.1), omega (arith, d.0, d.1))), (omega (arith, d.0, d.1), omega (arith, d.0, d.1)));
+        leaves = (h.left_full.0, (h.left_full.1, h.right_full));
+      };
+      upto = omega (arith, d.0, d.1);
+      from = omega (arith, d.0, d.1);
+      steady = λ a b c. absurd (omega (arith, c.0, c.1));
+    }
+
+pub rotated_left : (l a b : Shape) → CanBalance l (Fork a b) → height_of (Fork a b) ≡ height_of l + 2 → height_of a ≤ height_of b → Mends l (Fork a b) (Fork (Fork l a) b)
+rotated_left l a b h e o =
+    let d = h.right.2 in
+    record {
+      blocks = append_assoc (blocks l) (blocks a) (blocks b);
+      tree = record {
+        balanced = ((h.left, h.right.0, (omega (arith, d.0, d.1), omega (arith, d.0, d.1))), h.right.1, (omega (arith, d.0, d.1), omega (arith, d.0, d.1)));
+        leaves = ((h.left_full, h.right_full.0), h.right_full.1);
+      };
+      upto = omega (arith, d.0, d.1);
+      from = omega (arith, d.0, d.1);
+      steady = λ a b c. absurd (omega (arith, c.0, c.1));
+    }
+
+assoc4 : (a b c d : List Block) → (a ++ b) ++ (c ++ d) ≡ (a ++ (b ++ c)) ++ d
+assoc4 a b c d = simp append_assoc
+
+assoc4_left : (a b c d : List Block) → (a ++ b) ++ (c ++ d) ≡ a ++ ((b ++ c) ++ d)
+assoc4_left a b c d = simp append_assoc
+
+pub rotated_twice_right : (a b c r : Shape) → CanBalance (Fork a (Fork b c)) r → height_of (Fork a (Fork b c)) ≡ height_of r + 2 → height_of a < height_of (Fork b c)
+    → Mends (Fork a (Fork b c)) r (Fork (Fork a b) (Fork c r))
+rotated_twice_right a b c r h e o =
+    let d = h.left.2 in
+    let f = h.left.1.2 in
+    record {
+      blocks = assoc4 (blocks a) (blocks b) (blocks c) (blocks r);
+      tree = record {
+        balanced = (
+          (h.left.0, h.left.1.0, (omega (arith, d.0, d.1, f.0, f.1), omega (arith, d.0, d.1, f.0, f.1))),
+          (h.left.1.1, h.right, (omega (arith, d.0, d.1, f.0, f.1), omega (arith, d.0, d.1, f.0, f.1))),
+          (omega (arith, d.0, d.1, f.0, f.1), omega (arith, d.0, d.1, f.0, f.1)),
+        );
+        leaves = ((h.left_full.0, h.left_full.1.0), (h.left_full.1.1, h.right_full));
+      };
+      upto = omega (arith, d.0, d.1, f.0, f.1);
+      from = omega (arith, d.0, d.1, f.0, f.1);
+      steady = λ a b c. absurd (omega (arith, c.0, c.1));
+    }
+
+pub rotated_twice_left : (l b c a : Shape) → CanBalance l (Fork (Fork b c) a) → height_of (Fork (Fork b c) a) ≡ height_of l + 2 → height_of a < height_of (Fork b c)
+    → Mends l (Fork (Fork b c) a) (Fork (Fork l b) (Fork c a))
+rotated_twice_left l b c a h e o =
+    let d = h.right.2 in
+    let f = h.right.0.2 in
+    record {
+      blocks = assoc4_left (blocks l) (blocks b) (blocks c) (blocks a);
+      tree = record {
+        balanced = (
+          (h.left, h.right.0.0, (omega (arith, d.0, d.1, f.0, f.1), omega (arith, d.0, d.1, f.0, f.1))),
+          (h.right.0.1, h.right.1, (omega (arith, d.0, d.1, f.0, f.1), omega (arith, d.0, d.1, f.0, f.1))),
+          (omega (arith, d.0, d.1, f.0, f.1), omega (arith, d.0, d.1, f.0, f.1)),
+        );
+        leaves = ((h.left_full, h.right_full.0.0), (h.right_full.0.1, h.right_full.1));
+      };
+      upto = omega (arith, d.0, d.1, f.0, f.1);
+      from = omega (arith, d.0, d.1, f.0, f.1);
+      steady = λ a b c. absurd (omega (arith, c.0, c.1));
+    }
+
+pub two_leaves : (xs ys us vs : List Block) → us ++ vs ≡ xs ++ ys → (12 ≤ length us) × (length us ≤ 32) → (12 ≤ length vs) × (length vs ≤ 32)
+    → 32 < length xs + length ys → JoinsLeaves xs ys (Fork (Tip us) (Tip vs))
+two_leaves xs ys us vs e a b m = record {
+  blocks = e;
+  merged = λ l. absurd (omega arith);
+  full = λ l. (a, b);
+  balanced = (tt, tt, (omega arith, omega arith));
+  two = λ l. refl;
+}
+
+pub one_leaf : (xs ys : List Block) → length xs + length ys ≤ 32 → JoinsLeaves xs ys (Tip (xs ++ ys))
+one_leaf xs ys m = record {
+  blocks = refl;
+  merged = λ l. refl;
+  full = λ l. absurd (omega arith);
+  balanced = tt;
+  two = λ l. absurd (omega arith);
+}
+
+-- The leaves of the tree of two leaves.
+joined_rooted : (xs ys : List Block) (s : Shape) → JoinsLeaves xs ys s → 0 < length xs → IsRooted s
+joined_rooted xs ys s j a =
+    elim (Rattle.std.proofs.lemmas.Bool.cases_lt 32 (length xs + length ys)) [
+      | Rattle.std.proofs.Common.inl k ↦ full_rooted s (j.full k)
+      | Rattle.std.proofs.Common.inr k ↦ subst IsRooted (sym (j.merged k)) (omega (arith, length-append xs ys), omega (arith, length-append xs ys))
+    ]
+
+joined_full : (xs ys : List Block) (s : Shape) → JoinsLeaves xs ys s → 12 ≤ length xs + length ys → HasFullLeaves s
+joined_full xs ys s j a =
+    elim (Rattle.std.proofs.lemmas.Bool.cases_lt 32 (length xs + length ys)) [
+      | Rattle.std.proofs.Common.inl k ↦ j.full k
+      | Rattle.std.proofs.Common.inr k ↦ subst HasFullLeaves (sym (j.merged k)) (omega (arith, length-append xs ys), omega (arith, length-append xs ys))
+    ]
+
+joined_low : (xs ys : List Block) (s : Shape) → JoinsLeaves xs ys s → height_of s ≤ 2
+joined_low xs ys s j =
+    elim (Rattle.std.proofs.lemmas.Bool.cases_lt 32 (length xs + length ys)) [
+      | Rattle.std.proofs.Common.inl k ↦ omega (arith, j.two k)
+      | Rattle.std.proofs.Common.inr k ↦ omega (arith, ap height_of (j.merged k))
+    ]
+
+pub filled_leaves : (xs ys : List Block) (s : Shape) → CanMend (Tip xs) (Tip ys) → JoinsLeaves xs ys s → (HasFullLeaves (Tip xs) → HasFullLeaves (Tip ys) → ⊥) → Mends (Tip xs) (Tip ys) s
+filled_leaves xs ys s h j n =
+    let k = joined_low xs ys s j in
+    let t = high s in
+    record {
+      blocks = j.blocks;
+      tree = record { balanced = j.balanced; leaves = joined_rooted xs ys s j (omega (arith, h.left_some)) };
+      upto = omega arith;
+      from = omega arith;
+      steady = λ a b c. absurd (n a b);
+    }
+
+pub filled_low : (xs ys : List Block) (r s : Shape) → CanMend (Tip xs) (Fork (Tip ys) r) → length xs < 12 → JoinsLeaves xs ys s → Mends (Tip xs) (Fork (Tip ys) r) (Fork s r)
+filled_low xs ys r s h n j =
+    let k = joined_low xs ys s j in
+    let t = high s in
+    let u = high r in
+    let v : height_of (Fork (Tip ys) r) ≤ 2 = h.left_short n in
+    record {
+      blocks = ap (λ (z : List Block). z ++ blocks r) j.blocks ∙ append_assoc xs ys (blocks r);
+      tree = record {
+        balanced = (j.balanced, h.right.balanced.1, (omega arith, omega arith));
+        leaves = (joined_full xs ys s j (omega (arith, h.right.leaves.0.0)), h.right.leaves.1);
+      };
+      upto = omega arith;
+      from = omega arith;
+      steady = λ a b c. absurd (omega (arith, a.0));
+    }
+
+pub filled_high : (l : Shape) (xs ys : List Block) (s : Shape) → CanMend (Fork l (Tip xs)) (Tip ys) → length ys < 12 → JoinsLeaves xs ys s → Mends (Fork l (Tip xs)) (Tip ys) (Fork l s)
+filled_high l xs ys s h n j =
+    let k = joined_low xs ys s j in
+    let t = high s in
+    let u = high l in
+    let v : height_of (Fork l (Tip xs)) ≤ 2 = h.right_short n in
+    record {
+      blocks = ap (λ (z : List Block). blocks l ++ z) j.blocks ∙ sym (append_assoc (blocks l) xs ys);
+      tree = record {
+        balanced = (h.left.balanced.0, j.balanced, (omega arith, omega arith));
+        leaves = (h.left.leaves.0, joined_full xs ys s j (omega (arith, h.left.leaves.1.0)));
+      };
+      upto = omega arith;
+      from = omega arith;
+      steady = λ a b c. absurd (omega (arith, b.0));
+    }
+
+pub cover_low : (xs ys zs : List Block) → IsRun (xs ++ (ys ++ zs)) → 0 < length xs → IsRun (xs ++ ys)
+cover_low xs ys zs h a = cover_left (xs ++ ys) zs (subst IsRun (sym (append_assoc xs ys zs)) h) (omega (arith, length-append xs ys))
+
+pub cover_high : (xs ys zs : List Block) → IsRun ((xs ++ ys) ++ zs) → 0 < length xs → 0 < length ys → IsRun (ys ++ zs)
+cover_high xs ys zs h a b = cover_right xs (ys ++ zs) (subst IsRun (append_assoc xs ys zs) h) a (omega (arith, length-append ys zs))
+
+pub can_balance : (l r : Shape) → CanMend l r → HasFullLeaves l → HasFullLeaves r → CanBalance l r
+can_balance l r h a b = record { left = h.left.balanced; right = h.right.balanced; left_full = a; right_full = b; close = h.close }
+
+pub filled_low_at : (xs ys : List Block) (r m z low out : Shape) → r ≡ Fork m z → m ≡ Tip ys → CanMend (Tip xs) r → length xs < 12 → JoinsLeaves xs ys low → out ≡ Fork low z → Mends (Tip xs) r out
+filled_low_at xs ys r m z low out e f h n j o =
+    let q : r ≡ Fork (Tip ys) z = e ∙ ap (λ (t : Shape). Fork t z) f in
+    subst (λ (t : Shape). Mends (Tip xs) r t) (sym o)
+    (subst (λ (t : Shape). Mends (Tip xs) t (Fork low z)) (sym q) (filled_low xs ys z low (subst (λ (t : Shape). CanMend (Tip xs) t) q h) n j))
+
+pub filled_high_at : (xs ys : List Block) (l a m high out : Shape) → l ≡ Fork a m → m ≡ Tip xs → CanMend l (Tip ys) → length ys < 12 → JoinsLeaves xs ys high → out ≡ Fork a high → Mends l (Tip ys) out
+filled_high_at xs ys l a m high out e f h n j o =
+    let q : l ≡ Fork a (Tip xs) = e ∙ ap (λ (t : Shape). Fork a t) f in
+    subst (λ (t : Shape). Mends l (Tip ys) t) (sym o)
+    (subst (λ (t : Shape). Mends t (Tip ys) (Fork a high)) (sym q) (filled_high a xs ys high (subst (λ (t : Shape). CanMend t (Tip ys)) q h) n j))
+
+-- Parts of a tree.
+pub tree_left : (l r : Shape) → IsTree (Fork l r) → IsTree l
+tree_left l r h = record { balanced = h.balanced.0; leaves = full_rooted l h.leaves.0 }
+
+pub tree_right : (l r : Shape) → IsTree (Fork l r) → IsTree r
+tree_right l r h = record { balanced = h.balanced.1; leaves = full_rooted r h.leaves.1 }
+
+pub left_some : (l r : Shape) → IsTree (Fork l r) → 12 ≤ length (blocks l)
+left_some l r h = full_some l h.leaves.0
+
+pub right_some : (l r : Shape) → IsTree (Fork l r) → 12 ≤ length (blocks r)
+right_some l r h = full_some r h.leaves.1
+
+pub unchanged : (s : Shape) → IsTree s → Shrinks s s
+unchanged s h = record { tree = h; upto = omega arith; from = omega arith }
+
+low_fits : (s : Shape) → IsRooted s → height_of s ≤ 1 → length (blocks s) ≤ 32
+low_fits (Tip bs) h k = h.1
+low_fits (Fork l r) h k = let a = high l in absurd (omega arith)
+
+short_low : (s : Shape) → HasFullLeaves s → length (blocks s) < 24 → height_of s ≤ 1
+short_low s h k =
+    elim (Rattle.std.proofs.lemmas.Bool.cases_lt 1 (height_of s)) [
+      | Rattle.std.proofs.Common.inl t ↦ absurd (omega (arith, tall s (full_rooted s h) (omega arith)))
+      | Rattle.std.proofs.Common.inr t ↦ t
+    ]
+
+pub can_mend : (l r a b : Shape) → Loses l r a b → IsRun (blocks a ++ blocks b) → CanMend a b
+can_mend l r a b h c =
+    let n = left_some l r h.whole in
+    let m = right_some l r h.whole in
+    let d = h.whole.balanced.2 in
+    let x = high l in
+    let y = high r in
+    record {
+      left = h.left.tree;
+      right = h.right.tree;
+      close = (omega (arith, d.0, d.1, h.left.upto, h.left.from, h.right.upto, h.right.from), omega (arith, d.0, d.1, h.left.upto, h.left.from, h.right.upto, h.right.from));
+      left_some = omega (arith, h.left_loss);
+      right_some = omega (arith, h.right_loss);
+      left_short = λ k. (let z = short_low l h.whole.leaves.0 (omega (arith, h.left_loss)) in omega (arith, d.1, h.right.upto));
+      right_short = λ k. (let z = short_low r h.whole.leaves.1 (omega (arith, h.right_loss)) in omega (arith, d.0, h.left.upto));
+      cover = c;
+    }
+
+mended_length : (a b s : Shape) → Mends a b s → length (blocks s) ≡ length (blocks a) + length (blocks b)
+mended_length a b s m = ap length m.blocks ∙ length-append (blocks a) (blocks b)
+
+not_lower : (l r a b s : Shape) → Loses l r a b → Mends a b s → height_of s < max (height_of l) (height_of r) → ⊥
+not_lower l r a b s h m k =
+    let d = h.whole.balanced.2 in
+    let e = mended_length a b s m in
+    let n = left_some l r h.whole in
+    let o = right_some l r h.whole in
+    let x = high l in
+    let y = high r in
+    let w = high s in
+    elim (Rattle.std.proofs.lemmas.Bool.cases_lt 11 (length (blocks a))) [
+      | Rattle.std.proofs.Common.inl p ↦ elim (Rattle.std.proofs.lemmas.Bool.cases_lt 11 (length (blocks b))) [
+        | Rattle.std.proofs.Common.inl q ↦ (
+            let u = m.steady (rooted_full a h.left.tree.leaves (omega arith)) (rooted_full b h.right.tree.leaves (omega arith))
+            (omega (arith, d.0, d.1, h.left.upto, h.left.from, h.right.upto, h.right.from, m.from), omega (arith, d.0, d.1, h.left.upto, h.left.from, h.right.upto, h.right.from, m.from)) in
+            omega (arith, d.0, d.1, h.left.from, h.right.from, u)
+            )
+        | Rattle.std.proofs.Common.inr q ↦ (
+            let z = short_low r h.whole.leaves.1 (omega (arith, h.right_loss)) in
+            let f = low_fits s m.tree.leaves (omega (arith, d.0)) in
+            let g = tall l (full_rooted l h.whole.leaves.0) (omega arith) in
+            omega (arith, h.loss)
+            )
+      ]
+      | Rattle.std.proofs.Common.inr p ↦ (
+          let z = short_low l h.whole.leaves.0 (omega (arith, h.left_loss)) in
+          let f = low_fits s m.tree.leaves (omega (arith, d.1)) in
+          let g = tall r (full_rooted r h.whole.leaves.1) (omega arith) in
+          omega (arith, h.loss)
+          )
+    ]
+
+pub shrunk : (l r a b s : Shape) → Loses l r a b → Mends a b s → Shrinks (Fork l r) s
+shrunk l r a b s h m =
+    record {
+      tree = m.tree;
+      upto = omega (arith, m.upto, h.left.upto, h.right.upto);
+      from = elim (Rattle.std.proofs.lemmas.Bool.cases_lt (height_of s) (max (height_of l) (height_of r))) [
+        | Rattle.std.proofs.Common.inl k ↦ absurd (not_lower l r a b s h m k)
+        | Rattle.std.proofs.Common.inr k ↦ omega arith
+      ];
+    }
+
+pub lost_first : (l r a : Shape) → IsTree (Fork l r) → Shrinks l a → blocks a ≡ drop 1 (blocks l) → Loses l r a r
+lost_first l r a h f e =
+    let n = ap length e ∙ length-drop 1 (blocks l) in
+    record { whole = h; left = f; right = unchanged r (tree_right l r h); left_loss = omega arith; right_loss = omega arith; loss = omega arith }
+
+pub lost_last : (l r b : Shape) → IsTree (Fork l r) → Shrinks r b → blocks b ≡ take (length (blocks r) - 1) (blocks r) → Loses l r l b
+lost_last l r b h f e =
+    let n = ap length e ∙ length-take-le (length (blocks r) - 1) (blocks r) (omega arith) in
+    record { whole = h; left = unchanged l (tree_left l r h); right = f; left_loss = omega arith; right_loss = omega arith; loss = omega arith }
+
+-- The first block of the left part is dropped, or the last block of the right part.
+pub cover_lost_first : (l r a : Shape) → IsTree (Fork l r) → IsRun (blocks l ++ blocks r) → blocks a ≡ drop 1 (blocks l) → IsRun (blocks a ++ blocks r)
+cover_lost_first l r a h c e =
+    let n = left_some l r h in
+    subst (λ (z : List Block). IsRun (z ++ blocks r)) (sym e)
+    (subst IsRun (drop_append (blocks l) (blocks r) (omega arith)) (cover_drop (blocks l ++ blocks r) c (omega (arith, length-append (blocks l) (blocks r)))))
+
+pub cover_lost_last : (l r b : Shape) → IsTree (Fork l r) → IsRun (blocks l ++ blocks r) → blocks b ≡ take (length (blocks r) - 1) (blocks r) → IsRun (blocks l ++ blocks b)
+cover_lost_last l r b h c e =
+    let n = right_some l r h in
+    subst (λ (z : List Block). IsRun (blocks l ++ z)) (sym e)
+    (subst IsRun (take_append (blocks l) (blocks r) (omega arith)) (cover_take (blocks l ++ blocks r) c (omega (arith, left_some l r h, length-append (blocks l) (blocks r)))))
+
+-- A node whose first block is dropped.
+pub can_drop_first : (t l r a : Shape) → t ≡ Fork l r → IsTree t → IsRun (blocks t) → Shrinks l a → blocks a ≡ drop 1 (blocks l) → CanMend a r
+can_drop_first t l r a q h c f e =
+    let g : IsTree (Fork l r) = subst IsTree q h in
+    can_mend l r a r (lost_first l r a g f e) (cover_lost_first l r a g (subst (λ (z : Shape). IsRun (blocks z)) q c) e)
+
+pub can_drop_last : (t l r b : Shape) → t ≡ Fork l r → IsTree t → IsRun (blocks t) → Shrinks r b → blocks b ≡ take (length (blocks r) - 1) (blocks r) → CanMend l b
+can_drop_last t l r b q h c f e =
+    let g : IsTree (Fork l r) = subst IsTree q h in
+    can_mend l r l b (lost_last l r b g f e) (cover_lost_last l r b g (subst (λ (z : Shape). IsRun (blocks z)) q c) e)
+
+pub dropped_first : (t l r a s : Shape) → t ≡ Fork l r → IsTree t → Shrinks l a → blocks a ≡ drop 1 (blocks l) → Mends a r s → Shrinks t s × (blocks s ≡ drop 1 (blocks t))
+dropped_first t l r a s q h f e m =
+    let g : IsTree (Fork l r) = subst IsTree q h in (
+      subst (λ (z : Shape). Shrinks z s) (sym q) (shrunk l r a r s (lost_first l r a g f e) m),
+      m.blocks ∙ ap (λ (z : List Block). z ++ blocks r) e ∙ sym (drop_append (blocks l) (blocks r) (omega (arith, left_some l r g))) ∙ ap (λ (z : Shape). drop 1 (blocks z)) (sym q),
+    )
+
+pub dropped_last : (t l r b s : Shape) → t ≡ Fork l r → IsTree t → Shrinks r b → blocks b ≡ take (length (blocks r) - 1) (blocks r) → Mends l b s → Shrinks t s × (blocks s ≡ take (length (blocks t) - 1) (blocks t))
+dropped_last t l r b s q h f e m =
+    let g : IsTree (Fork l r) = subst IsTree q h in (
+      subst (λ (z : Shape). Shrinks z s) (sym q) (shrunk l r l b s (lost_last l r b g f e) m),
+      m.blocks ∙ ap (λ (z : List Block). blocks l ++ z) e ∙ sym (take_append (blocks l) (blocks r) (omega (arith, right_some l r g))) ∙ ap (λ (z : Shape). take (length (blocks z) - 1) (blocks z)) (sym q),
+    )
+
+pub tip_first : (bs : List Block) → IsTree (Tip bs) → 1 < length bs → Shrinks (Tip bs) (Tip (drop 1 bs))
+tip_first bs h n = record { tree = record { balanced = tt; leaves = (omega (arith, length-drop 1 bs), omega (arith, h.leaves.1, length-drop 1 bs)) }; upto = omega arith; from = omega arith }
+
+pub tip_last : (bs : List Block) → IsTree (Tip bs) → 1 < length bs → Shrinks (Tip bs) (Tip (take (length bs - 1) bs))
+tip_last bs h n =
+    let k = length-take-le (length bs - 1) bs (omega arith) in
+    record { tree = record { balanced = tt; leaves = (omega arith, omega (arith, h.leaves.1)) }; upto = omega arith; from = omega arith }
+
+pub cover_of_left : (t l r : Shape) → t ≡ Fork l r → IsTree t → IsRun (blocks t) → IsRun (blocks l)
+cover_of_left t l r q h c = let g : IsTree (Fork l r) = subst IsTree q h in cover_left (blocks l) (blocks r) (subst (λ (z : Shape). IsRun (blocks z)) q c) (omega (arith, left_some l r g))
+
+pub cover_of_right : (t l r : Shape) → t ≡ Fork l r → IsTree t → IsRun (blocks t) → IsRun (blocks r)
+cover_of_right t l r q h c =
+    let g : IsTree (Fork l r) = subst IsTree q h in
+    cover_right (blocks l) (blocks r) (subst (λ (z : Shape). IsRun (blocks z)) q c) (omega (arith, left_some l r g)) (omega (arith, right_some l r g))
+
+pub ruleset sizes = (full_some, tall, rooted_full, high)
+
+pub ruleset rotating = (full_some, start_full, high, joined, rotated_right, rotated_left, rotated_twice_right, rotated_twice_left)
+
+pub ruleset joining = (one_leaf, two_leaves)
+
+pub ruleset filling = (full_some, start_full, high, filled_leaves, filled_low, filled_high, cover_low, cover_high)
+
+pub ruleset mending = (full_some, tall, rooted_full, high, can_balance)
+
+pub ruleset dropping = (full_some, rooted_some, high, tree_left, tree_right, left_some, right_some, cover_of_left, cover_of_right, can_drop_first, can_drop_last, dropped_first, dropped_last, tip_first, tip_last)
+
+pub ruleset ends = (full_some, rooted_some, high, tree_left, tree_right, left_some, right_some, first_append, last_append)
+
+pub mend_parts : (t l r : Shape) → t ≡ Fork l r → CanMendTree t → CanMend l r
+mend_parts t l r q h = subst CanMendTree q h
+
+pub mend_whole : (t l r s : Shape) → t ≡ Fork l r → Mends l r s → MendsTree t s
+mend_whole t l r s q h = subst (λ (x : Shape). MendsTree x s) (sym q) h
+
+pub ruleset mending_tree = (mend_parts, mend_whole, high)

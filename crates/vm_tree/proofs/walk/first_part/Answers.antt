@@ -1,0 +1,15 @@
+use Rattle.std.proofs.Common.{arith}
+use Rattle.vm_tree.specs.Shape.{blocks}
+use Rattle.vm_tree.specs.Links.{side}
+use Rattle.vm_tree.proofs.Walks.{first_of_all, first_of_more}
+use Rattle.vm_tree.proofs.walk.first_part.Goals as goal
+
+pub returns-then-span-end : goal.returns-then-span-end
+returns-then-span-end c =
+    first_of_all c.args.span (blocks (side c.args.tree.now)) c.leaf_at-leaf.result.now c.requires.run c.leaf_at-leaf.ensures c.requires.order c.part_within-part.result c.part_within-part.ensures (omega arith)
+
+pub returns : goal.returns
+returns c =
+    let k = c.if-span-end.false in
+    rw c.end-end.ensures
+    (first_of_more c.args.span (blocks (side c.args.tree.now)) c.leaf_at-leaf.result.now c.requires.run c.leaf_at-leaf.ensures c.requires.order (omega arith) c.part_within-part.result c.part_within-part.ensures)

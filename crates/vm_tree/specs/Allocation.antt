@@ -1,0 +1,125 @@
+-- The allocation of a range in a gap of a list of blocks, and its errors.
+use Rattle.std.specs.Prelude.{◌≡◌, ℕ, ◌+◌, ◌<◌, ◌⊎◌, List, ◌∷◌, ◌++◌, length, true, false, Result, Ok, Err}
+use Rattle.std.specs.List.{All}
+use Rattle.vm_ranges.specs.Cases.{IfElse}
+use Rattle.vm_ranges.specs.Alignment.{IsAlignment}
+use Rattle.vm_ranges.specs.Range.{Range, MAX, IsIn, span}
+use Rattle.vm_leaf.specs.declared.block.Block.{Block}
+use Rattle.vm_leaf.specs.Block.{free_block}
+use Rattle.vm_leaf.specs.Blocks.{parts}
+use Rattle.vm_leaf.specs.Fit.{HasNoFit, IsLowestFit, IsHighestFit}
+use Rattle.vm_leaf.specs.Windows.{cut_to}
+use Rattle.vm_ranges.specs.declared.state.NodeState.{NodeState}
+use Rattle.vm_ranges.specs.declared.state.NodeState.TheVariants.{Free, Allocated}
+use Rattle.vm_tree.specs.declared.search.Search.{Search}
+use Rattle.vm_tree.specs.declared.search.Taken.{Taken}
+use Rattle.vm_tree.specs.declared.search.Refusal.{Refusal}
+use Rattle.vm_tree.specs.declared.search.Refusal.TheVariants.{NoPlace, Held, PastMax, OutOfMemory, TooHigh}
+
+-- The window of a search.
+abbrev pub window_of : Search → Range
+window_of search = record { start = search.low; end = search.high }
+
+-- The part of the block in the window w has no fit.
+unfoldable pub HasNoFitIn : Range → ℕ → ℕ → Block → Type 0
+HasNoFitIn w n a b = HasNoFit n a (cut_to w b)
+
+-- No part of a block in the window of the search has a fit.
+abbrev pub HasNoPlace : Search → List Block → Type 0
+HasNoPlace search bs = All (HasNoFitIn (window_of search) search.size search.alignment) bs
+
+-- A start in a gap of a list: the blocks before the gap, the gap, the blocks after it, and the start.
+pub record Spot : Type 0 where
+  pub lower : List Block
+  pub key : Range
+  pub upper : List Block
+  pub start : ℕ
+
+-- The spot is in a gap of the list.
+abbrev pub IsSpotIn : List Block → Spot → Type 0
+IsSpotIn bs spot = bs ≡ spot.lower ++ free_block spot.key ∷ spot.upper
+
+-- The spot is the lowest place of the search in the list.
+pub record IsLowestSpot (search : Search) (bs : List Block) (spot : Spot) : Type 0 where
+  pub cut : IsSpotIn bs spot
+  pub none : HasNoPlace search spot.lower
+  pub fit : IsLowestFit search.size search.alignment (cut_to (window_of search) (free_block spot.key)) spot.start
+
+-- The spot is the highest place of the search in the list.
+pub record IsHighestSpot (search : Search) (bs : List Block) (spot : Spot) : Type 0 where
+  pub cut : IsSpotIn bs spot
+  pub none : HasNoPlace search spot.upper
+  pub fit : IsHighestFit search.size search.alignment (cut_to (window_of search) (free_block spot.key)) spot.start
+
+-- The range of a search at a spot.
+abbrev pub range_at : Search → Spot → Range
+range_at search spot = span spot.start search.size
+
+-- The range does not fill the gap of the spot.
+abbrev pub SplitsAt : Search → Spot → Type 0
+SplitsAt search spot =
+    (spot.key.start < spot.start) ⊎ ((range_at search spot).end < spot.key.end)
+
+-- The range at the spot is allocated. `added` is the number of blocks that the list has more than before.
+pub record IsTakenAt (search : Search) (spot : Spot) (new : List Block) (taken : Taken) : Type 0 where
+  pub start : taken.start ≡ spot.start
+  pub below : (range_at search spot).end < MAX
+  pub low : SplitsAt search spot → search.can_split ≡ true
+  pub blocks : new ≡ spot.lower ++ (parts spot.key (range_at search spot) ++ spot.upper)
+  pub added : taken.added + 1 ≡ length (parts spot.key (range_at search spot))
+
+-- The range at the spot is below MAX, and does not fill its gap.
+pub record IsSplitAt (search : Search) (spot : Spot) : Type 0 where
+  pub below : (range_at search spot).end < MAX
+  pub splits : SplitsAt search spot
+
+-- The result of an allocation at the spot:
+-- - PastMax if the range ends at MAX.
+-- - A range that fills its gap is allocated.
+-- - Any other range is allocated, or it is OutOfMemory, or TooHigh if gaps cannot be split.
+abbrev pub SettlesAt : Search → Spot → List Block → Result Taken Refusal → Type 0
+SettlesAt search spot new (Ok taken) = IsTakenAt search spot new taken
+SettlesAt search spot new (Err NoPlace) = ⊥
+SettlesAt search spot new (Err Held) = ⊥
+SettlesAt search spot new (Err PastMax) = (range_at search spot).end ≡ MAX
+SettlesAt search spot new (Err OutOfMemory) = IsSplitAt search spot × (search.can_split ≡ true)
+SettlesAt search spot new (Err TooHigh) = IsSplitAt search spot × (search.can_split ≡ false)
+
+-- The lowest place of the search is allocated, or its error is returned. NoPlace if there is no place.
+abbrev pub AllocatesLowest : Search → List Block → List Block → Result Taken Refusal → Type 0
+AllocatesLowest search old new answer =
+    (HasNoPlace search old × (answer ≡ Err NoPlace)) ⊎ ((spot : Spot) × IsLowestSpot search old spot × SettlesAt search spot new answer)
+
+-- The highest place of the search is allocated, or its error is returned. NoPlace if there is no place.
+abbrev pub AllocatesHighest : Search → List Block → List Block → Result Taken Refusal → Type 0
+AllocatesHighest search old new answer =
+    (HasNoPlace search old × (answer ≡ Err NoPlace)) ⊎ ((spot : Spot) × IsHighestSpot search old spot × SettlesAt search spot new answer)
+
+-- The block of a list that contains the address t, with the blocks before and after it.
+pub record IsBlockAt (t : ℕ) (bs lower : List Block) (b : Block) (upper : List Block) : Type 0 where
+  pub cut : bs ≡ lower ++ b ∷ upper
+  pub inside : IsIn b.key t
+
+-- The result of a search at the start t in the block that contains t:
+-- - For a held block Held if it is exactly the range, and otherwise NoPlace.
+-- - For a gap NoPlace if the gap or the window ends before the range does, and otherwise the result at the spot.
+abbrev pub SettlesIn : Search → ℕ → List Block → NodeState → Range → List Block → List Block → Result Taken Refusal → Type 0
+SettlesIn search t lower Allocated key upper new answer =
+    IfElse (key ≡ span t search.size) (answer ≡ Err Held) (answer ≡ Err NoPlace)
+SettlesIn search t lower Free key upper new answer =
+    let last : ℕ = (span t search.size).end in
+    let spot : Spot = record { lower = lower; key = key; upper = upper; start = t } in
+    IfElse ((key.end < last) ⊎ (search.high < last)) (answer ≡ Err NoPlace) (SettlesAt search spot new answer)
+
+-- The range of the search at the start t is allocated, or its error is returned.
+pub record AllocatesExact (search : Search) (t : ℕ) (old new : List Block) (answer : Result Taken Refusal) : Type 0 where
+  pub lower : List Block
+  pub block : Block
+  pub upper : List Block
+  pub at : IsBlockAt t old lower block upper
+  pub settles : SettlesIn search t lower block.state block.key upper new answer
+
+-- The search is valid: the size is not 0, and the alignment is one of the 64 powers of two.
+pub record IsSearch (search : Search) : Type 0 where
+  pub some : 0 < search.size
+  pub aligned : IsAlignment search.alignment

@@ -1,0 +1,77 @@
+-- The blocks of a space with held ranges, and the tree that is built of them.
+use Rattle.std.specs.Prelude.{◌≡◌, ℕ, ◌+◌, ◌-◌, ◌*◌, ◌^◌, ◌<◌, ◌≤◌, List, [], ◌∷◌, ◌++◌, length, if◌then◌else◌, nat_lt}
+use Rattle.vm_ranges.specs.Range.{Range, MAX}
+use Rattle.vm_ranges.specs.declared.state.NodeState.TheVariants.{Free, Allocated}
+use Rattle.vm_leaf.specs.declared.block.Block.{Block}
+use Rattle.vm_tree.specs.Shape.{Shape, Tip, blocks, height_of, node_count, leaf_count, IsBalanced, HasFullLeaves, IsRooted, IsTree, MAX_HEIGHT}
+use Rattle.vm_tree.specs.declared.build.BlockCursor.{BlockCursor}
+
+-- The ranges are in order from lo to hi, do not overlap, and do not contain MAX.
+abbrev pub AreInOrder : ℕ → List Range → ℕ → Type 0
+AreInOrder lo [] hi = Unit {0}
+AreInOrder lo (r ∷ rs) hi =
+    (lo ≤ r.start) × (r.start ≤ r.end) × (r.end ≤ hi) × (r.end < MAX) × AreInOrder (r.end + 1) rs hi
+
+-- The free block from lo to next - 1, if it is not empty.
+abbrev pub gap_before : ℕ → ℕ → List Block
+gap_before lo next =
+    if nat_lt lo next then record { key = record { start = lo; end = next - 1 }; state = Free } ∷ [] else []
+
+-- The blocks from lo to hi if these ranges are held: the gaps and the ranges, in order.
+abbrev pub blocks_between : ℕ → List Range → ℕ → List Block
+blocks_between lo [] hi = gap_before lo (hi + 1)
+blocks_between lo (r ∷ rs) hi =
+    gap_before lo r.start ++ record { key = r; state = Allocated } ∷ blocks_between (r.end + 1) rs hi
+
+-- The blocks that are not built yet: the gaps and the held ranges.
+abbrev pub remaining_blocks : BlockCursor → List Block
+remaining_blocks cursor = blocks_between cursor.next cursor.held.now cursor.end
+
+-- The held ranges of the cursor are in order, and the cursor is in a space.
+pub record IsBlockCursor (cursor : BlockCursor) : Type 0 where
+  pub in_order : AreInOrder cursor.next cursor.held.now cursor.end
+  pub within : cursor.next ≤ cursor.end + 1
+  pub upto : cursor.end ≤ MAX
+  pub not_all : cursor.next ≡ 0 → cursor.end < MAX
+
+-- No tree of n nodes is lower than h, and a tree that is filled from the middle has this height.
+abbrev pub IsLowestHeight : ℕ → ℕ → Type 0
+IsLowestHeight n h = (n + 1 ≤ 2 ^ h) × (2 ^ h ≤ 2 * n + 1)
+
+-- The leaves can have `each` blocks, and the first `more` leaves one block more.
+pub record IsPlan (leaves each more : ℕ) : Type 0 where
+  pub some : 0 < leaves
+  pub few : leaves ≤ 2 ^ 44
+  pub order : more ≤ leaves
+  pub fits : each ≤ 32
+  pub fits_more : 0 < more → each < 32
+  pub full : 1 < leaves → 12 ≤ each
+  pub any : 0 < each + more
+
+-- No tree of n leaves is lower than h, and a tree that is built by halves has this height.
+abbrev pub IsLeafHeight : ℕ → ℕ → Type 0
+IsLeafHeight n h = (2 * n ≤ 2 ^ h) × (2 ^ h < 4 * n)
+
+-- A leaf of the first n blocks, and the list of the other blocks.
+pub record IsBuiltLeaf (n : ℕ) (old : List Block) (tree : Shape) (new : List Block) : Type 0 where
+  pub cut : old ≡ blocks tree ++ new
+  pub tip : tree ≡ Tip (blocks tree)
+  pub count : length (blocks tree) ≡ n
+
+-- A tree of the first blocks by a plan, and the list of the other blocks.
+pub record IsBuilt (leaves each more : ℕ) (old : List Block) (tree : Shape) (new : List Block) : Type 0 where
+  pub cut : old ≡ blocks tree ++ new
+  pub count : length (blocks tree) ≡ leaves * each + more
+  pub leaf_total : leaf_count tree ≡ leaves
+  pub balanced : IsBalanced tree
+  pub height : IsLeafHeight leaves (height_of tree)
+  pub full : 12 ≤ each → HasFullLeaves tree
+  pub rooted : IsRooted tree
+
+-- The tree has these blocks in the fewest leaves, and the minimum height for its nodes.
+pub record IsBuiltTree (bs : List Block) (s : Shape) : Type 0 where
+  pub blocks : blocks s ≡ bs
+  pub tree : IsTree s
+  pub few : 32 * leaf_count s < length bs + 32
+  pub low : height_of s < MAX_HEIGHT
+  pub lowest : IsLowestHeight (node_count s) (height_of s)

@@ -1,0 +1,56 @@
+-- A tree in which a range is allocated.
+use Rattle.std.specs.Prelude.{◌≡◌, ◌≢◌, ◌+◌, ◌<◌, ◌≤◌, ◌⊎◌, Result, Ok, Err}
+use Rattle.vm_leaf.specs.Blocks.{IsRun}
+use Rattle.vm_tree.specs.Shape.{Shape, Tip, Fork, blocks, height_of, IsBalanced, HasFullLeaves, MAX_HEIGHT}
+use Rattle.vm_tree.specs.Links.{side, IsSummed}
+use Rattle.vm_tree.specs.Changes.{Keeps}
+use Rattle.vm_tree.specs.declared.change.Change.{Change}
+use Rattle.vm_tree.specs.declared.change.Change.TheVariants.{Structure}
+use Rattle.vm_tree.specs.declared.link.Link.{Link}
+use Rattle.vm_tree.specs.declared.search.Taken.{Taken}
+use Rattle.vm_tree.specs.declared.search.Refusal.{Refusal}
+
+-- The tree can be a child of a node: it is balanced, its leaves have enough blocks, its blocks cover a range, and its
+-- height is below MAX_HEIGHT.
+pub record IsSubtree (s : Shape) : Type 0 where
+  pub balanced : IsBalanced s
+  pub full : HasFullLeaves s
+  pub run : IsRun (blocks s)
+  pub low : height_of s < MAX_HEIGHT
+
+-- The link is one to such a subtree, and the summary beside it is correct.
+pub record IsChild (t : Link) : Type 0 where
+  pub subtree : IsSubtree (side t)
+  pub summed : IsSummed t
+
+-- The new tree is balanced, its leaves have enough blocks, and it is as high as the old one or one higher.
+pub record Grows (old new : Shape) : Type 0 where
+  pub balanced : IsBalanced new
+  pub full : HasFullLeaves new
+  pub from : height_of old ≤ height_of new
+  pub upto : height_of new ≤ height_of old + 1
+
+-- The new tree has grown, and the change reports what it does not keep.
+pub record GrowsBy (change : Change) (old new : Shape) : Type 0 where
+  pub grows : Grows old new
+  pub kept : Keeps change old new
+
+-- A range that fills its gap adds no block, and does not change the structure.
+abbrev pub FillKeepsStructure : Taken → Type 0
+FillKeepsStructure taken = taken.added ≡ 0 → taken.change ≢ Structure
+
+-- One child of a node has grown. The other one is the same.
+unfoldable pub GrowsBelow : Change → Shape → Shape → Type 0
+GrowsBelow change (Tip bs) new = ⊥
+GrowsBelow change (Fork l r) (Tip bs) = ⊥
+GrowsBelow change (Fork l r) (Fork m s) = (GrowsBy change l m × (s ≡ r)) ⊎ ((m ≡ l) × GrowsBy change r s)
+
+-- If a range was allocated, the tree has grown as the change reports. After an error it is the same.
+abbrev pub GrowsIfOk : Result Taken Refusal → Shape → Shape → Type 0
+GrowsIfOk (Ok taken) old new = GrowsBy taken.change old new × FillKeepsStructure taken
+GrowsIfOk (Err refusal) old new = new ≡ old
+
+-- The same for a node of which one child has grown.
+abbrev pub GrowsBelowIfOk : Result Taken Refusal → Shape → Shape → Type 0
+GrowsBelowIfOk (Ok taken) old new = GrowsBelow taken.change old new × FillKeepsStructure taken
+GrowsBelowIfOk (Err refusal) old new = new ≡ old

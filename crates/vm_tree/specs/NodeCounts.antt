@@ -1,0 +1,72 @@
+-- The number of nodes that a search or an exact request enters. Each is defined along its path.
+use Rattle.std.specs.Prelude.{ℕ, ◌+◌, ◌-◌, ◌%◌, ◌&&◌, ◌++◌, if◌then◌else◌, nat_lt, nat_le, Bool, List}
+use Rattle.std.specs.List.{list_any}
+use Rattle.vm_ranges.specs.Range.{Range}
+use Rattle.vm_leaf.specs.declared.block.Block.{Block}
+use Rattle.vm_leaf.specs.Block.{is_free}
+use Rattle.vm_leaf.specs.Blocks.{start_of, longest_gap}
+use Rattle.vm_leaf.specs.Multiples.{has_multiple}
+use Rattle.vm_leaf.specs.Windows.{cut_to}
+use Rattle.vm_tree.specs.Shape.{Shape, Tip, Fork, blocks}
+
+-- Tests if the block is free and has a multiple of a.
+unfoldable pub has_aligned : ℕ → Block → Bool
+has_aligned a b = is_free b.state && has_multiple a b.key
+
+-- The lowest multiple of a that is x or more.
+abbrev pub multiple_from : ℕ → ℕ → ℕ
+multiple_from a x = x + (a - 1) - (x + (a - 1)) % a
+
+-- Tests if the block is free and n addresses fit into it at its lowest multiple of a.
+unfoldable pub has_fit : ℕ → ℕ → Block → Bool
+has_fit n a b = is_free b.state && nat_le (multiple_from a b.key.start + n) (b.key.end + 1)
+
+-- Tests if the part of the block in the window w has a fit.
+abbrev pub has_fit_in : Range → ℕ → ℕ → Block → Bool
+has_fit_in w n a b = has_fit n a (cut_to w b)
+
+-- Tests if n addresses may fit into one of the blocks at a multiple of a: one gap is long enough, and one gap has a
+-- multiple.
+unfoldable pub may_fit_in : ℕ → ℕ → List Block → Bool
+may_fit_in n a bs = nat_le n (longest_gap bs) && list_any (has_aligned a) bs
+
+-- The nodes that the search for the lowest place within the window w enters, or 0 if it does not enter the tree. It enters
+-- the root. It searches the left child if the window starts before the right child. It searches the right child if the
+-- window does not end before that, and the left child has no place.
+unfoldable pub nodes_of_first : Range → ℕ → ℕ → Shape → ℕ
+nodes_of_first w n a (Tip bs) = if may_fit_in n a bs then 1 else 0
+nodes_of_first w n a (Fork l r) =
+    if may_fit_in n a (blocks l ++ blocks r)
+    then (if nat_lt w.start (start_of (blocks r)) then nodes_of_first w n a l else 0)
+    + (if list_any (has_fit_in w n a) (blocks l) then 0
+    else if nat_le (start_of (blocks r)) w.end then nodes_of_first w n a r else 0)
+    + 1
+    else 0
+
+-- The nodes that the search for the highest place within the window w enters, from the right.
+unfoldable pub nodes_of_last : Range → ℕ → ℕ → Shape → ℕ
+nodes_of_last w n a (Tip bs) = if may_fit_in n a bs then 1 else 0
+nodes_of_last w n a (Fork l r) =
+    if may_fit_in n a (blocks l ++ blocks r)
+    then (if nat_le (start_of (blocks r)) w.end then nodes_of_last w n a r else 0)
+    + (if list_any (has_fit_in w n a) (blocks r) then 0
+    else if nat_lt w.start (start_of (blocks r)) then nodes_of_last w n a l else 0)
+    + 1
+    else 0
+
+-- The nodes on the path to the leaf whose blocks contain the address x.
+unfoldable pub nodes_to_address : ℕ → Shape → ℕ
+nodes_to_address x (Tip bs) = 1
+nodes_to_address x (Fork l r) =
+    (if nat_lt x (start_of (blocks r)) then nodes_to_address x l else nodes_to_address x r) + 1
+
+-- The nodes that a request for the lowest place within the window w enters. A leaf that is the whole tree is entered only if
+-- it has a place.
+unfoldable pub nodes_to_lowest : Range → ℕ → ℕ → Shape → ℕ
+nodes_to_lowest w n a (Tip bs) = if list_any (has_fit_in w n a) bs then 1 else 0
+nodes_to_lowest w n a (Fork l r) = nodes_of_first w n a (Fork l r)
+
+-- The nodes that a request for the highest place within the window w enters.
+unfoldable pub nodes_to_highest : Range → ℕ → ℕ → Shape → ℕ
+nodes_to_highest w n a (Tip bs) = if list_any (has_fit_in w n a) bs then 1 else 0
+nodes_to_highest w n a (Fork l r) = nodes_of_last w n a (Fork l r)

@@ -1,0 +1,63 @@
+-- A range that is to be allocated in a gap of a leaf.
+use Rattle.std.specs.Prelude.{◌≡◌, ℕ, ◌+◌, ◌≤◌, ◌<◌, List, length, take, drop, true, Result, Ok, Err}
+use Rattle.vm_ranges.specs.Range.{MAX, span}
+use Rattle.vm_ranges.specs.declared.state.NodeState.TheVariants.{Free}
+use Rattle.vm_leaf.specs.declared.block.Block.{Block}
+use Rattle.vm_leaf.specs.Block.{free_block}
+use Rattle.vm_leaf.specs.Blocks.{nth, start_of, end_of, IsTakenFrom}
+use Rattle.vm_leaf.specs.Left.{IsLeft}
+use Rattle.vm_leaf.specs.declared.leaf.Place.{Place}
+use Rattle.vm_tree.specs.Allocation.{Spot, SplitsAt, SettlesAt, AllocatesExact}
+use Rattle.vm_tree.specs.declared.allocate.place.Claim.{Claim}
+use Rattle.vm_tree.specs.declared.search.Search.{Search}
+use Rattle.vm_tree.specs.declared.search.Refusal.{Refusal}
+
+-- The spot of a place in these blocks.
+abbrev pub spot_at : List Block → Place → Spot
+spot_at bs place = record { lower = take place.index bs; key = (nth bs place.index).key; upper = drop (place.index + 1) bs; start = place.start }
+
+-- The place is in a gap of the blocks, and n addresses from there on fit into the gap.
+pub record IsPlaceIn (n : ℕ) (bs : List Block) (place : Place) : Type 0 where
+  pub within : place.index < length bs
+  pub free : (nth bs place.index).state ≡ Free
+  pub from : (nth bs place.index).key.start ≤ place.start
+  pub upto : place.start + n ≤ (nth bs place.index).key.end + 1
+
+-- The claim is one of a range in a gap of the blocks.
+pub record IsClaimIn (bs : List Block) (claim : Claim) : Type 0 where
+  pub within : claim.index < length bs
+  pub gap : nth bs claim.index ≡ free_block claim.gap
+  pub taken : IsTakenFrom claim.gap claim.range
+  pub left : IsLeft claim.left claim.gap claim.range
+
+-- The claim is that of the range of the search at the place.
+pub record IsClaimAt (search : Search) (bs : List Block) (place : Place) (claim : Claim) : Type 0 where
+  pub claim_in : IsClaimIn bs claim
+  pub index : claim.index ≡ place.index
+  pub range : claim.range ≡ span place.start search.size
+  pub below : claim.range.end < MAX
+  pub low : SplitsAt search (spot_at bs place) → search.can_split ≡ true
+
+-- The result of a claim of the range of the search at the place.
+abbrev pub ClaimsAt : Search → List Block → Place → Result Claim Refusal → Type 0
+ClaimsAt search bs place (Ok claim) = IsClaimAt search bs place claim
+ClaimsAt search bs place (Err refusal) = SettlesAt search (spot_at bs place) bs (Err refusal)
+
+-- The start t of a search is in the blocks and in the window, and its range ends at most at MAX.
+pub record IsStartIn (search : Search) (t : ℕ) (bs : List Block) : Type 0 where
+  pub from : start_of bs ≤ t
+  pub upto : t ≤ end_of bs
+  pub low : search.low ≤ t
+  pub high : t ≤ search.high
+  pub fits : t + search.size ≤ MAX + 1
+
+-- The range of the search at t lies in a gap of the blocks and in the window. The place is at t.
+pub record IsExactPlace (search : Search) (t : ℕ) (bs : List Block) (place : Place) : Type 0 where
+  pub here : IsPlaceIn search.size bs place
+  pub start : place.start ≡ t
+  pub high : t + search.size ≤ search.high + 1
+
+-- The place of the range of the search at t, or its error.
+abbrev pub FindsExact : Search → ℕ → List Block → Result Place Refusal → Type 0
+FindsExact search t bs (Ok place) = IsExactPlace search t bs place
+FindsExact search t bs (Err refusal) = AllocatesExact search t bs bs (Err refusal)

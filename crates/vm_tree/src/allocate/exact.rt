@@ -1,0 +1,161 @@
+//! The allocation of a range that starts at a given address.
+ghost use Rattle.std.specs.Prelude.{◌≡◌, ◌+◌, ◌<◌, ◌≤◌, OnErr, IfOk};
+ghost use Rattle.vm_ranges.specs.Range.{MAX};
+ghost use Rattle.vm_tree.specs.Shape.{blocks, height_of, HasFullLeaves, IsTree, MAX_HEIGHT};
+ghost use Rattle.vm_tree.specs.Links.{side, IsSummed};
+ghost use Rattle.vm_tree.specs.Growth.{IsSubtree, IsChild, GrowsIfOk, GrowsBelowIfOk};
+ghost use Rattle.vm_tree.specs.Allocation.{IsSearch, AllocatesExact};
+ghost use Rattle.vm_tree.specs.NodeCounts.{nodes_to_address};
+ghost use Rattle.vm_tree.specs.Placing.{IsStartIn, FindsExact};
+
+use super::place::{leaf_of, place_at, place_in_root};
+use crate::change::update;
+use crate::link::{Link, Node};
+use crate::search::{Refusal, Search, Taken};
+use crate::steps::Steps;
+use std::alloc::Global;
+use vm_leaf::{Leaf, Place};
+use vm_ranges::NodeState;
+
+/// Returns the place of the range of a search in a leaf, or the reason why it cannot be allocated. The
+/// leaf contains the first address of the range.
+#[inline(always)]
+#[tactic(auto, using(crate::proofs::Allocating::finding_exact))]
+fn find_exact(leaf: &Leaf, start: u64, search: &Search) -> Result<Place, Refusal>
+    requires search { IsSearch search.now }
+    requires start { IsStartIn search.now start leaf.now }
+    ensures { FindsExact search.now start leaf.now result }
+{
+    // Proof: `len` gives the facts of a leaf.
+    let _len = leaf.len();
+    let index = leaf.index_of(start);
+    let block = leaf.block_at(index);
+    let end = start + (search.size - 1);
+    match block.state {
+        NodeState::Allocated => {
+            if block.key.start() != start {
+                return Err(Refusal::NoPlace);
+            }
+            if block.key.end() != end {
+                return Err(Refusal::NoPlace);
+            }
+            Err(Refusal::Held)
+        }
+        NodeState::Free => {
+            if block.key.end() < end {
+                return Err(Refusal::NoPlace);
+            }
+            if search.high < end {
+                return Err(Refusal::NoPlace);
+            }
+            Ok(Place { index, start })
+        }
+    }
+}
+
+/// Allocates the range of a search that starts at `start` in a leaf, and updates what is stored beside
+/// the link.
+#[tactic(auto, using(crate::proofs::Allocating::exact_settled, crate::proofs::Trees::sizes))]
+#[inline(never)]
+fn exact_in_leaf(
+    tree: &mut Link,
+    start: u64,
+    search: &Search,
+    alloc: Global,
+) -> Result<Taken, Refusal>
+    requires search { IsSearch search.now }
+    requires start { IsStartIn search.now start (blocks (side tree.old)) }
+    requires leaf { height_of (side tree.old) < 2 }
+    requires full { HasFullLeaves (side tree.old) }
+    requires summed { IsSummed tree.old }
+    ensures answer { AllocatesExact search.now start (blocks (side tree.old)) (blocks (side tree.new)) result }
+    ensures change { GrowsIfOk result (side tree.old) (side tree.new) }
+    ensures summed { IsSummed tree.new }
+{
+    match find_exact(leaf_of(tree), start, search) {
+        Err(refusal) => Err(refusal),
+        Ok(place) => place_at(tree, place, search, alloc),
+    }
+}
+
+/// Allocates the range of a search that starts at `start` in a leaf that is the whole tree, and of which
+/// nothing correct is stored beside the link.
+#[tactic(auto, using(crate::proofs::Allocating::exact_settled, crate::proofs::Trees::sizes))]
+pub(crate) fn exact_in_root(
+    root: &mut Link,
+    start: u64,
+    search: &Search,
+    alloc: Global,
+) -> Result<Taken, Refusal>
+    requires search { IsSearch search.now }
+    requires start { IsStartIn search.now start (blocks (side root.old)) }
+    requires leaf { height_of (side root.old) < 2 }
+    requires tree { IsTree (side root.old) }
+    ensures answer { AllocatesExact search.now start (blocks (side root.old)) (blocks (side root.new)) result }
+    ensures unchanged { OnErr result (root.new ≡ root.old) }
+    ensures tree { IfOk result (λ _. IsTree (side root.new) × (height_of (side root.new) ≤ 2)) }
+    ensures summed { 2 ≤ height_of (side root.new) → IsSummed root.new }
+{
+    match find_exact(leaf_of(root), start, search) {
+        Err(refusal) => Err(refusal),
+        Ok(place) => place_in_root(root, place, search, alloc),
+    }
+}
+
+/// Allocates the range of a search that starts at `start` below a node.
+#[cycle(exact_at)]
+#[tactic(auto, using(crate::proofs::AllocatedExact::below))]
+fn exact_below(
+    node: &mut Node,
+    start: u64,
+    search: &Search,
+    alloc: Global,
+    count: &mut Steps,
+) -> Result<Taken, Refusal>
+    requires search { IsSearch search.now }
+    requires start { IsStartIn search.now start (blocks node.old) }
+    requires tree { IsSubtree node.old }
+    requires count_fits { count.old + nodes_to_address start node.old ≤ MAX + 1 }
+    ensures answer { AllocatesExact search.now start (blocks node.old) (blocks node.new) result }
+    ensures change { GrowsBelowIfOk result node.old node.new }
+    ensures count { count.new + 1 ≡ count.old + nodes_to_address start node.old }
+{
+    if start < node.at {
+        return exact_at(&mut node.left, start, search, alloc, count);
+    }
+    exact_at(&mut node.right, start, search, alloc, count)
+}
+
+/// Allocates the range of a search that starts at `start`, and updates what is stored beside the link.
+#[cycle(exact_at)]
+#[tactic(auto, using(crate::proofs::AllocatedExact::whole))]
+pub(crate) fn exact_at(
+    tree: &mut Link,
+    start: u64,
+    search: &Search,
+    alloc: Global,
+    count: &mut Steps,
+) -> Result<Taken, Refusal>
+    requires search { IsSearch search.now }
+    requires start { IsStartIn search.now start (blocks (side tree.old)) }
+    requires tree { IsChild tree.old }
+    requires count_fits { count.old + nodes_to_address start (side tree.old) ≤ MAX }
+    ensures answer { AllocatesExact search.now start (blocks (side tree.old)) (blocks (side tree.new)) result }
+    ensures change { GrowsIfOk result (side tree.old) (side tree.new) }
+    ensures summed { IsSummed tree.new }
+    ensures count { count.new ≡ count.old + nodes_to_address start (side tree.old) }
+{
+    count.enter();
+    match tree {
+        Link::Hole => unreachable!(),
+        Link::Leaf { .. } => exact_in_leaf(tree, start, search, alloc),
+        Link::Fork { node, .. } => {
+            let node: &mut Node = node;
+            let mut answer = exact_below(node, start, search, alloc, count);
+            if let Ok(taken) = &mut answer {
+                taken.change = update(tree, taken.change);
+            }
+            answer
+        }
+    }
+}

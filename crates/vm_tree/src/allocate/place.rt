@@ -1,0 +1,289 @@
+//! The allocation of a range at a place in a leaf, which may split the leaf in two.
+ghost use Rattle.std.specs.Prelude.{◌≡◌, ◌≢◌, ◌+◌, ◌<◌, ◌≤◌, length, OnErr, IfErr, IfOk, MatchBool};
+ghost use Rattle.vm_leaf.specs.Blocks.{with_parts, parts};
+ghost use Rattle.vm_leaf.specs.Left.{added_by};
+ghost use Rattle.vm_tree.specs.Shape.{Tip, blocks, height_of, HasFullLeaves, IsTree};
+ghost use Rattle.vm_tree.specs.Links.{side, IsSummed};
+ghost use Rattle.vm_tree.specs.Growth.{Grows, GrowsIfOk};
+ghost use Rattle.vm_tree.specs.Changes.{Keeps};
+ghost use Rattle.vm_tree.specs.Allocation.{IsSearch, SettlesAt};
+ghost use Rattle.vm_tree.specs.Placing.{spot_at, IsPlaceIn, IsClaimIn, ClaimsAt};
+
+use crate::change::Change;
+use crate::link::{Link, Node, fork_link, into_leaf, leaf_link};
+use crate::search::{Refusal, Search, Taken};
+use std::alloc::Global;
+use std::mem;
+use vm_leaf::{Block, CAPACITY, Leaf, Left, Place, Summary};
+use vm_ranges::{NodeState, RangeInclusive};
+
+/// A range that is to be allocated in a gap of a leaf.
+#[derive(Clone, Copy)]
+pub(crate) struct Claim {
+    /// The index of the gap.
+    index: usize,
+    gap: RangeInclusive,
+    range: RangeInclusive,
+    /// The parts of the gap that stay free.
+    left: Left,
+}
+
+/// Returns the claim of the range of a search at a place, or the reason why it cannot be allocated.
+#[inline(always)]
+fn claim_at(leaf: &Leaf, place: Place, search: &Search) -> Result<Claim, Refusal>
+    requires search { IsSearch search.now }
+    requires place { IsPlaceIn search.now.size leaf.now place }
+    ensures { ClaimsAt search.now leaf.now place result }
+{
+    let gap = leaf.key_at(place.index);
+    let end = place.start + (search.size - 1);
+    if end == u64::MAX {
+        return Err(Refusal::PastMax);
+    }
+    let Ok(range) = RangeInclusive::new(place.start, end) else {
+        unreachable!()
+    };
+    let left = Left::of(&gap, &range);
+    if left.added() > 0 && !search.can_split {
+        return Err(Refusal::TooHigh);
+    }
+    Ok(Claim {
+        index: place.index,
+        gap,
+        range,
+        left,
+    })
+}
+
+/// Returns the leaf of a link to a leaf.
+#[inline(always)]
+#[tactic(auto, using(crate::proofs::Trees::sizes))]
+pub(super) fn leaf_of(tree: &Link) -> &Leaf
+    requires low { height_of (side tree.now) < 2 }
+    requires some { 0 < length (blocks (side tree.now)) }
+    ensures { side tree.now ≡ Tip result.now }
+{
+    match tree {
+        Link::Leaf { leaf, .. } => leaf,
+        Link::Fork { node, .. } => {
+            // Proof: a node that is read has two children.
+            let node: &Node = node;
+            let _at = node.at;
+            unreachable!()
+        }
+        Link::Hole => unreachable!(),
+    }
+}
+
+/// Returns `true` if the leaf has room for the parts that stay free.
+#[inline(always)]
+fn has_room(leaf: &Leaf, left: Left) -> bool
+    ensures { MatchBool result (length leaf.now + added_by left ≤ 32) (32 < length leaf.now + added_by left) }
+{
+    leaf.len() + usize::from(left.added()) <= CAPACITY
+}
+
+/// Allocates the range of a claim in a leaf that has room for it, and updates what is stored beside the
+/// link. Returns the change.
+///
+/// A gap that is neither the longest nor has the most alignments does not count for the summary.
+#[inline(always)]
+#[tactic(auto, using(crate::proofs::Trees::sizes))]
+fn take(tree: &mut Link, claim: &Claim) -> Change
+    requires leaf { (height_of (side tree.old) < 2) × HasFullLeaves (side tree.old) }
+    requires claim { IsClaimIn (blocks (side tree.old)) claim.now }
+    requires room { length (blocks (side tree.old)) + added_by claim.now.left ≤ 32 }
+    requires summed { IsSummed tree.old }
+    ensures blocks { blocks (side tree.new)
+        ≡ with_parts (blocks (side tree.old)) claim.now.index 1 (parts claim.now.gap claim.now.range) }
+    ensures grows { Grows (side tree.old) (side tree.new) }
+    ensures kept { Keeps result (side tree.old) (side tree.new) × (result ≢ Change.Structure) }
+    ensures summed { IsSummed tree.new }
+{
+    match tree {
+        Link::Leaf {
+            longest,
+            alignments,
+            leaf,
+        } => {
+            let leaf: &mut Leaf = leaf;
+            leaf.split(claim.index, claim.range, claim.left);
+            let gap = Summary::of_gap(&claim.gap);
+            if gap.longest < *longest && gap.alignments < *alignments {
+                return Change::Nothing;
+            }
+            let new = leaf.summary();
+            if new.longest == *longest && new.alignments == *alignments {
+                return Change::Nothing;
+            }
+            *longest = new.longest;
+            *alignments = new.alignments;
+            Change::FreeOnly
+        }
+        Link::Fork { node, .. } => {
+            // Proof: a node that is read has two children.
+            let node: &Node = node;
+            let _at = node.at;
+            unreachable!()
+        }
+        Link::Hole => unreachable!(),
+    }
+}
+
+/// Allocates a box for a leaf and one for a node.
+fn spare_boxes(claim: &Claim, alloc: Global) -> Result<(Box<Leaf>, Box<Node>), Refusal>
+    ensures { IfErr result (λ refusal. refusal ≡ Refusal.OutOfMemory) }
+{
+    let block = Block {
+        key: claim.range,
+        state: NodeState::Allocated,
+    };
+    let leaf = Box::new(alloc, Leaf::single(block))?;
+    let empty = Node {
+        at: 0,
+        left: Link::Hole,
+        right: Link::Hole,
+    };
+    let node = Box::new(alloc, empty)?;
+    Ok((leaf, node))
+}
+
+/// Allocates the range of a claim in a leaf that has no room for it, which is split in two. Returns the
+/// link to the node over both leaves.
+fn halve(mut lower: Box<Leaf>, claim: &Claim, mut upper: Box<Leaf>, spare: Box<Node>) -> Link
+    requires claim { IsClaimIn lower.value claim.now }
+    requires full { 32 < length lower.value + added_by claim.now.left }
+    ensures blocks { blocks (side result)
+        ≡ with_parts lower.value claim.now.index 1 (parts claim.now.gap claim.now.range) }
+    ensures grows { Grows (Tip lower.value) (side result) }
+    ensures summed { IsSummed result }
+{
+    let low: &mut Leaf = &mut lower;
+    let high: &mut Leaf = &mut upper;
+    low.split_full(claim.index, claim.range, claim.left, high);
+    let at = high.key_at(0).start();
+    fork_link(leaf_link(lower), at, spare, leaf_link(upper))
+}
+
+/// Allocates the range of a claim in a leaf that has no room for it. The link becomes one to a node.
+///
+/// All memory is allocated before the first change.
+#[inline(never)]
+fn split_leaf(tree: &mut Link, claim: &Claim, alloc: Global) -> Result<(), Refusal>
+    requires leaf { height_of (side tree.old) < 2 }
+    requires some { 0 < length (blocks (side tree.old)) }
+    requires claim { IsClaimIn (blocks (side tree.old)) claim.now }
+    requires full { 32 < length (blocks (side tree.old)) + added_by claim.now.left }
+    ensures blocks { IfOk result (λ _. blocks (side tree.new)
+        ≡ with_parts (blocks (side tree.old)) claim.now.index 1 (parts claim.now.gap claim.now.range)) }
+    ensures grows { IfOk result (λ _. Grows (side tree.old) (side tree.new) × IsSummed tree.new) }
+    ensures error { IfErr result (λ refusal. refusal ≡ Refusal.OutOfMemory) }
+    ensures unchanged { OnErr result (tree.new ≡ tree.old) }
+{
+    let (upper, node) = spare_boxes(claim, alloc)?;
+    let lower = into_leaf(mem::replace(tree, Link::Hole));
+    *tree = halve(lower, claim, upper, node);
+    Ok(())
+}
+
+/// Allocates the range of a search at a place in a leaf, and updates what is stored beside the link. The
+/// leaf may become a node with two leaves.
+#[inline(always)]
+#[tactic(auto)]
+pub(super) fn place_at(
+    tree: &mut Link,
+    place: Place,
+    search: &Search,
+    alloc: Global,
+) -> Result<Taken, Refusal>
+    requires search { IsSearch search.now }
+    requires leaf { height_of (side tree.old) < 2 }
+    requires full { HasFullLeaves (side tree.old) }
+    requires place { IsPlaceIn search.now.size (blocks (side tree.old)) place }
+    requires summed { IsSummed tree.old }
+    ensures answer { SettlesAt search.now (spot_at (blocks (side tree.old)) place) (blocks (side tree.new)) result }
+    ensures change { GrowsIfOk result (side tree.old) (side tree.new) }
+    ensures summed { IsSummed tree.new }
+{
+    let leaf = leaf_of(tree);
+    let claim = claim_at(leaf, place, search)?;
+    let (start, added) = (place.start, claim.left.added());
+    if has_room(leaf, claim.left) {
+        let change = take(tree, &claim);
+        return Ok(Taken {
+            start,
+            added,
+            change,
+        });
+    }
+    split_leaf(tree, &claim, alloc)?;
+    Ok(Taken {
+        start,
+        added,
+        change: Change::Structure,
+    })
+}
+
+/// Allocates the range of a claim in a leaf that has room for it, and does not update what is stored
+/// beside the link.
+#[inline(always)]
+#[tactic(auto, using(crate::proofs::Trees::sizes))]
+fn take_alone(root: &mut Link, claim: &Claim)
+    requires leaf { height_of (side root.old) < 2 }
+    requires some { 0 < length (blocks (side root.old)) }
+    requires claim { IsClaimIn (blocks (side root.old)) claim.now }
+    requires room { length (blocks (side root.old)) + added_by claim.now.left ≤ 32 }
+    ensures blocks { blocks (side root.new)
+        ≡ with_parts (blocks (side root.old)) claim.now.index 1 (parts claim.now.gap claim.now.range) }
+    ensures tree { IsTree (side root.new) }
+    ensures leaf { height_of (side root.new) < 2 }
+{
+    match root {
+        Link::Leaf { leaf, .. } => {
+            let leaf: &mut Leaf = leaf;
+            leaf.split(claim.index, claim.range, claim.left);
+            // Proof: `len` gives the facts of a leaf.
+            let _len = leaf.len();
+        }
+        Link::Fork { node, .. } => {
+            // Proof: a node that is read has two children.
+            let node: &Node = node;
+            let _at = node.at;
+            unreachable!()
+        }
+        Link::Hole => unreachable!(),
+    }
+}
+
+/// Allocates the range of a search at a place in a leaf that is the whole tree, and of which nothing
+/// correct is stored beside the link. The leaf may become a node with two leaves.
+#[inline(always)]
+pub(super) fn place_in_root(
+    root: &mut Link,
+    place: Place,
+    search: &Search,
+    alloc: Global,
+) -> Result<Taken, Refusal>
+    requires search { IsSearch search.now }
+    requires leaf { height_of (side root.old) < 2 }
+    requires tree { IsTree (side root.old) }
+    requires place { IsPlaceIn search.now.size (blocks (side root.old)) place }
+    ensures answer { SettlesAt search.now (spot_at (blocks (side root.old)) place) (blocks (side root.new)) result }
+    ensures unchanged { OnErr result (root.new ≡ root.old) }
+    ensures tree { IfOk result (λ _. IsTree (side root.new) × (height_of (side root.new) ≤ 2)) }
+    ensures summed { 2 ≤ height_of (side root.new) → IsSummed root.new }
+{
+    let leaf = leaf_of(root);
+    let claim = claim_at(leaf, place, search)?;
+    let taken = Taken {
+        start: place.start,
+        added: claim.left.added(),
+        change: Change::Structure,
+    };
+    if has_room(leaf, claim.left) {
+        take_alone(root, &claim);
+        return Ok(taken);
+    }
+    split_leaf(root, &claim, alloc)?;
+    Ok(taken)
+}

@@ -1,0 +1,51 @@
+//! Copies of trees.
+ghost use Rattle.std.specs.Prelude.{◌≡◌, IfOk};
+ghost use Rattle.vm_tree.specs.Links.{side, IsSummed};
+
+use crate::link::{Link, Node};
+use std::alloc::{AllocError, Global};
+use vm_leaf::Leaf;
+
+/// Returns a copy of a tree with the same nodes, the same leaves and the same summaries.
+///
+/// It returns an error if an allocation fails. The parts copied so far are freed.
+pub(crate) fn copy(tree: &Link, alloc: Global) -> Result<Link, AllocError>
+    ensures { IfOk result (λ copy. (side copy ≡ side tree.now) × (IsSummed tree.now → IsSummed copy)) }
+{
+    match tree {
+        Link::Hole => Ok(Link::Hole),
+        Link::Leaf {
+            longest,
+            alignments,
+            leaf,
+        } => {
+            let leaf: &Leaf = leaf;
+            Ok(Link::Leaf {
+                longest: *longest,
+                alignments: *alignments,
+                leaf: Box::new(alloc, leaf.copy())?,
+            })
+        }
+        Link::Fork {
+            longest,
+            alignments,
+            height,
+            node,
+        } => {
+            let node: &Node = node;
+            let left = copy(&node.left, alloc)?;
+            let right = copy(&node.right, alloc)?;
+            let node = Node {
+                at: node.at,
+                left,
+                right,
+            };
+            Ok(Link::Fork {
+                longest: *longest,
+                alignments: *alignments,
+                height: *height,
+                node: Box::new(alloc, node)?,
+            })
+        }
+    }
+}

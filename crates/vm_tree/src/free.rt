@@ -1,0 +1,601 @@
+//! Frees a block of a tree in place, and joins it with the gaps on both sides. It does not allocate.
+//!
+//! The range of a block can end right before the edge between two children of a node, or start at it. Then
+//! the block on the other side of the edge is looked at. If it is a gap, the range is freed together with it.
+//! After that the gap is dropped from its leaf, and the edge moves over it.
+ghost use Rattle.std.specs.Prelude.{◌≡◌, ◌≢◌, ◌+◌, ◌*◌, ◌-◌, ◌<◌, ◌≤◌, length, take, drop, max, MatchOption};
+ghost use Rattle.vm_ranges.specs.Range.{IsRange, MAX, address_count};
+ghost use Rattle.vm_ranges.specs.declared.state.NodeState.TheVariants.{Free, Allocated};
+ghost use Rattle.vm_leaf.specs.Blocks.{nth, start_of, end_of, freed_at, longest_gap};
+ghost use Rattle.vm_leaf.specs.Multiples.{alignment_count, most_alignments};
+ghost use Rattle.vm_tree.specs.Shape.{Tip, Fork, blocks, height_of, IsTree};
+ghost use Rattle.vm_tree.specs.Links.{side, IsFreeOf, IsSummed, IsNode};
+ghost use Rattle.vm_tree.specs.Changes.{Reports, CanChange, Reduces};
+ghost use Rattle.vm_tree.specs.Frees.{Frees, FreesLast, FreesFirst, Holds, EndsHeld, StartsHeld, JoinsGap, FreesUnder};
+
+use crate::change::{Change, update};
+use crate::link::{Link, Node};
+use crate::steps::Steps;
+use vm_leaf::{Block, Leaf, MIN_BLOCKS, Summary};
+use vm_ranges::{NodeState, RangeInclusive};
+
+/// A range of a tree that was freed.
+#[derive(Clone, Copy, Debug)]
+pub(crate) struct Freed {
+    pub(crate) change: Change,
+    /// The number of gaps that were joined with the range: 0, 1 or 2.
+    pub(crate) joined: u64,
+}
+
+/// The gap that a freed range became.
+#[derive(Clone, Copy, Debug)]
+pub(crate) struct Gap {
+    pub(crate) range: RangeInclusive,
+    /// The number of gaps that were joined with the freed range: 0, 1 or 2.
+    pub(crate) joined: u64,
+}
+
+/// Frees the block at an index, and joins it with the gaps on both sides.
+#[inline(always)]
+fn join_at(leaf: &mut Leaf, i: usize) -> Gap
+    requires within { i < length leaf.old }
+    requires held { (nth leaf.old i).state ≡ Allocated }
+    ensures freed { leaf.new ≡ freed_at i leaf.old }
+    ensures gap { JoinsGap result leaf.old leaf.new }
+{
+    let len = leaf.len();
+    let range = leaf.join(i);
+    let joined = (len - leaf.len()) as u64;
+    Gap { range, joined }
+}
+
+/// Frees a held range of a leaf. Returns `None` if the leaf does not hold it.
+pub(crate) fn free_in(leaf: &mut Leaf, key: &RangeInclusive) -> Option<Gap>
+    requires from { start_of leaf.old ≤ key.now.start }
+    requires upto { key.now.start ≤ end_of leaf.old }
+    ensures { MatchOption result ((leaf.new ≡ leaf.old) × ¬ Holds key.now leaf.old)
+        (λ gap. Frees key.now leaf.old leaf.new × JoinsGap gap leaf.old leaf.new) }
+{
+    // Proof: `len` gives the facts of a leaf.
+    let _len = leaf.len();
+    let (start, end) = (key.start(), key.end());
+    let i = leaf.index_of(start);
+    let block = leaf.block_at(i);
+    if block.key.start() != start {
+        return None;
+    }
+    if block.key.end() != end {
+        return None;
+    }
+    match block.state {
+        NodeState::Free => None,
+        NodeState::Allocated => Some(join_at(leaf, i)),
+    }
+}
+
+/// Frees the last block of a leaf up to `end`, if it is held and starts at `start`.
+fn free_last_in(leaf: &mut Leaf, start: u64, end: u64) -> Option<Gap>
+    requires up { end_of leaf.old ≤ end }
+    requires range { IsRange (start_of leaf.old) end }
+    ensures { MatchOption result ((leaf.new ≡ leaf.old) × ¬ EndsHeld start leaf.old)
+        (λ gap. FreesLast start end leaf.old leaf.new × JoinsGap gap leaf.old leaf.new) }
+{
+    let last = leaf.len() - 1;
+    let block = leaf.block_at(last);
+    if block.key.start() != start {
+        return None;
+    }
+    match block.state {
+        NodeState::Free => None,
+        NodeState::Allocated => {
+            leaf.move_end(end);
+            Some(join_at(leaf, last))
+        }
+    }
+}
+
+/// Frees the first block of a leaf from `start` on, if it is held and ends at `end`.
+fn free_first_in(leaf: &mut Leaf, start: u64, end: u64) -> Option<Gap>
+    requires down { start ≤ start_of leaf.old }
+    requires range { IsRange start (end_of leaf.old) }
+    ensures { MatchOption result ((leaf.new ≡ leaf.old) × ¬ StartsHeld end leaf.old)
+        (λ gap. FreesFirst start end leaf.old leaf.new × JoinsGap gap leaf.old leaf.new) }
+{
+    // Proof: `len` gives the facts of a leaf.
+    let _len = leaf.len();
+    let block = leaf.block_at(0);
+    if block.key.end() != end {
+        return None;
+    }
+    match block.state {
+        NodeState::Free => None,
+        NodeState::Allocated => {
+            leaf.move_start(start);
+            Some(join_at(leaf, 0))
+        }
+    }
+}
+
+/// Writes the summary of a leaf beside its link. Returns the change.
+#[inline(always)]
+fn write_summary(longest: &mut u64, alignments: &mut u32, leaf: &Leaf, new: Summary) -> Change
+    requires { IsFreeOf (Tip leaf.now) new.longest new.alignments }
+    ensures summed { IsFreeOf (Tip leaf.now) longest.new alignments.new }
+    ensures reported { Reports result longest.old alignments.old 1 (Tip leaf.now) }
+{
+    let (old_longest, old_alignments) = (*longest, *alignments);
+    *longest = new.longest;
+    *alignments = new.alignments;
+    if leaf.len() < MIN_BLOCKS {
+        return Change::Structure;
+    }
+    if new.longest != old_longest {
+        return Change::FreeOnly;
+    }
+    if new.alignments != old_alignments {
+        return Change::FreeOnly;
+    }
+    Change::Nothing
+}
+
+/// Raises the summary beside a link to a leaf by that of a gap, which a freed range became.
+#[inline(always)]
+fn raise(longest: &mut u64, alignments: &mut u32, leaf: &Leaf, gap: &Gap) -> Freed
+    requires { IsFreeOf (Tip leaf.now) (max longest.old (address_count gap.now.range))
+        (max alignments.old (alignment_count gap.now.range)) }
+    ensures summed { IsFreeOf (Tip leaf.now) longest.new alignments.new }
+    ensures reported { Reports result.change longest.old alignments.old 1 (Tip leaf.now) }
+    ensures joined { result.joined ≡ gap.now.joined }
+{
+    let add = Summary::of_gap(&gap.range);
+    let new = Summary {
+        longest: add.longest.max(*longest),
+        alignments: add.alignments.max(*alignments),
+    };
+    let change = write_summary(longest, alignments, leaf, new);
+    Freed {
+        change,
+        joined: gap.joined,
+    }
+}
+
+/// Returns the summary of a leaf from which a block was dropped, from the summary before. The gaps are looked
+/// at only if the block can have been the largest gap.
+#[inline(always)]
+fn summary_without(block: &RangeInclusive, longest: u64, alignments: u32, leaf: &Leaf) -> Summary
+    requires longest { (longest_gap leaf.now ≤ longest)
+        × (longest ≤ max (longest_gap leaf.now) (address_count block.now)) }
+    requires alignments { (most_alignments leaf.now ≤ alignments)
+        × (alignments ≤ max (most_alignments leaf.now) (alignment_count block.now)) }
+    ensures { IsFreeOf (Tip leaf.now) result.longest result.alignments }
+{
+    let dropped = Summary::of_gap(block);
+    if dropped.longest >= longest {
+        return leaf.summary();
+    }
+    if dropped.alignments >= alignments {
+        return leaf.summary();
+    }
+    Summary {
+        longest,
+        alignments,
+    }
+}
+
+/// Removes the first block of a leaf, and updates the summary beside its link.
+fn drop_first_in(longest: &mut u64, alignments: &mut u32, leaf: &mut Leaf) -> Change
+    requires some { 1 < length leaf.old }
+    requires summed { IsFreeOf (Tip leaf.old) longest.old alignments.old }
+    ensures dropped { leaf.new ≡ drop 1 leaf.old }
+    ensures summed { IsFreeOf (Tip leaf.new) longest.new alignments.new }
+    ensures reported { Reports result longest.old alignments.old 1 (Tip leaf.new) }
+{
+    let block = leaf.key_at(0);
+    leaf.drop_first();
+    let new = summary_without(&block, *longest, *alignments, leaf);
+    write_summary(longest, alignments, leaf, new)
+}
+
+/// Removes the last block of a leaf, and updates the summary beside its link.
+fn drop_last_in(longest: &mut u64, alignments: &mut u32, leaf: &mut Leaf) -> Change
+    requires some { 1 < length leaf.old }
+    requires summed { IsFreeOf (Tip leaf.old) longest.old alignments.old }
+    ensures dropped { leaf.new ≡ take (length leaf.old - 1) leaf.old }
+    ensures summed { IsFreeOf (Tip leaf.new) longest.new alignments.new }
+    ensures reported { Reports result longest.old alignments.old 1 (Tip leaf.new) }
+{
+    let block = leaf.key_at(leaf.len() - 1);
+    leaf.drop_last();
+    let new = summary_without(&block, *longest, *alignments, leaf);
+    write_summary(longest, alignments, leaf, new)
+}
+
+/// Returns the first block of a tree.
+#[tactic(auto, using(crate::proofs::Trees::ends))]
+fn first_block(tree: &Link, count: &mut Steps) -> Block
+    requires tree { IsTree (side tree.now) }
+    requires count_fits { count.old + height_of (side tree.now) ≤ MAX }
+    ensures block { result ≡ nth (blocks (side tree.now)) 0 }
+    ensures count { (count.old < count.new) × (count.new ≤ count.old + height_of (side tree.now)) }
+{
+    count.enter();
+    match tree {
+        Link::Hole => unreachable!(),
+        Link::Leaf { leaf, .. } => {
+            let leaf: &Leaf = leaf;
+            leaf.block_at(0)
+        }
+        Link::Fork { node, .. } => {
+            let node: &Node = node;
+            first_block(&node.left, count)
+        }
+    }
+}
+
+/// Returns the last block of a tree.
+#[tactic(auto, using(crate::proofs::Trees::ends))]
+fn last_block(tree: &Link, count: &mut Steps) -> Block
+    requires tree { IsTree (side tree.now) }
+    requires count_fits { count.old + height_of (side tree.now) ≤ MAX }
+    ensures block { result ≡ nth (blocks (side tree.now)) (length (blocks (side tree.now)) - 1) }
+    ensures count { (count.old < count.new) × (count.new ≤ count.old + height_of (side tree.now)) }
+{
+    count.enter();
+    match tree {
+        Link::Hole => unreachable!(),
+        Link::Leaf { leaf, .. } => {
+            let leaf: &Leaf = leaf;
+            leaf.block_at(leaf.len() - 1)
+        }
+        Link::Fork { node, .. } => {
+            let node: &Node = node;
+            last_block(&node.right, count)
+        }
+    }
+}
+
+/// Drops the first block of a tree.
+fn drop_first(tree: &mut Link, count: &mut Steps) -> Change
+    requires can { CanChange (side tree.old) }
+    requires some { 1 < length (blocks (side tree.old)) }
+    requires summed { IsSummed tree.old }
+    requires count_fits { count.old + height_of (side tree.old) ≤ MAX }
+    ensures dropped { blocks (side tree.new) ≡ drop 1 (blocks (side tree.old)) }
+    ensures reduces { Reduces result 1 (side tree.old) (side tree.new) }
+    ensures summed { IsSummed tree.new }
+    ensures count { (count.old < count.new) × (count.new ≤ count.old + height_of (side tree.old)) }
+{
+    count.enter();
+    match tree {
+        Link::Hole => unreachable!(),
+        Link::Leaf {
+            longest,
+            alignments,
+            leaf,
+        } => {
+            let leaf: &mut Leaf = leaf;
+            drop_first_in(longest, alignments, leaf)
+        }
+        Link::Fork { node, .. } => {
+            let node: &mut Node = node;
+            let change = drop_first(&mut node.left, count);
+            update(tree, change)
+        }
+    }
+}
+
+/// Drops the last block of a tree.
+fn drop_last(tree: &mut Link, count: &mut Steps) -> Change
+    requires can { CanChange (side tree.old) }
+    requires some { 1 < length (blocks (side tree.old)) }
+    requires summed { IsSummed tree.old }
+    requires count_fits { count.old + height_of (side tree.old) ≤ MAX }
+    ensures dropped { blocks (side tree.new) ≡ take (length (blocks (side tree.old)) - 1) (blocks (side tree.old)) }
+    ensures reduces { Reduces result 1 (side tree.old) (side tree.new) }
+    ensures summed { IsSummed tree.new }
+    ensures count { (count.old < count.new) × (count.new ≤ count.old + height_of (side tree.old)) }
+{
+    count.enter();
+    match tree {
+        Link::Hole => unreachable!(),
+        Link::Leaf {
+            longest,
+            alignments,
+            leaf,
+        } => {
+            let leaf: &mut Leaf = leaf;
+            drop_last_in(longest, alignments, leaf)
+        }
+        Link::Fork { node, .. } => {
+            let node: &mut Node = node;
+            let change = drop_last(&mut node.right, count);
+            update(tree, change)
+        }
+    }
+}
+
+/// Frees the last block of a tree up to `end`, if it is held and starts at `start`.
+fn free_last(tree: &mut Link, start: u64, end: u64, count: &mut Steps) -> Option<Freed>
+    requires can { CanChange (side tree.old) }
+    requires summed { IsSummed tree.old }
+    requires up { end_of (blocks (side tree.old)) ≤ end }
+    requires range { IsRange (start_of (blocks (side tree.old))) end }
+    requires count_fits { count.old + height_of (side tree.old) ≤ MAX }
+    ensures freed { MatchOption result
+        ((side tree.new ≡ side tree.old) × ¬ EndsHeld start (blocks (side tree.old)))
+        (λ freed. FreesLast start end (blocks (side tree.old)) (blocks (side tree.new)) × Reduces freed.change freed.joined (side tree.old) (side tree.new)) }
+    ensures summed { IsSummed tree.new }
+    ensures count { (count.old < count.new) × (count.new ≤ count.old + height_of (side tree.old)) }
+{
+    count.enter();
+    match tree {
+        Link::Hole => unreachable!(),
+        Link::Leaf {
+            longest,
+            alignments,
+            leaf,
+        } => {
+            let leaf: &mut Leaf = leaf;
+            let gap = free_last_in(leaf, start, end)?;
+            Some(raise(longest, alignments, leaf, &gap))
+        }
+        Link::Fork { node, .. } => {
+            let node: &mut Node = node;
+            let freed = free_last(&mut node.right, start, end, count)?;
+            let change = update(tree, freed.change);
+            Some(Freed {
+                change,
+                joined: freed.joined,
+            })
+        }
+    }
+}
+
+/// Frees the first block of a tree from `start` on, if it is held and ends at `end`.
+fn free_first(tree: &mut Link, start: u64, end: u64, count: &mut Steps) -> Option<Freed>
+    requires can { CanChange (side tree.old) }
+    requires summed { IsSummed tree.old }
+    requires down { start ≤ start_of (blocks (side tree.old)) }
+    requires range { IsRange start (end_of (blocks (side tree.old))) }
+    requires count_fits { count.old + height_of (side tree.old) ≤ MAX }
+    ensures freed { MatchOption result
+        ((side tree.new ≡ side tree.old) × ¬ StartsHeld end (blocks (side tree.old)))
+        (λ freed. FreesFirst start end (blocks (side tree.old)) (blocks (side tree.new)) × Reduces freed.change freed.joined (side tree.old) (side tree.new)) }
+    ensures summed { IsSummed tree.new }
+    ensures count { (count.old < count.new) × (count.new ≤ count.old + height_of (side tree.old)) }
+{
+    count.enter();
+    match tree {
+        Link::Hole => unreachable!(),
+        Link::Leaf {
+            longest,
+            alignments,
+            leaf,
+        } => {
+            let leaf: &mut Leaf = leaf;
+            let gap = free_first_in(leaf, start, end)?;
+            Some(raise(longest, alignments, leaf, &gap))
+        }
+        Link::Fork { node, .. } => {
+            let node: &mut Node = node;
+            let freed = free_first(&mut node.left, start, end, count)?;
+            let change = update(tree, freed.change);
+            Some(Freed {
+                change,
+                joined: freed.joined,
+            })
+        }
+    }
+}
+
+/// Frees a range that ends right before the edge, up to the end of the gap after it. The gap is dropped.
+#[tactic(auto, using(crate::proofs::FreesEdges::gaps_below))]
+fn free_below_gap(
+    left: &mut Link,
+    at: &mut u64,
+    right: &mut Link,
+    key: &RangeInclusive,
+    end: u64,
+    count: &mut Steps,
+) -> Option<Freed>
+    requires can { CanChange (Fork (side left.old) (side right.old)) }
+    requires node { IsNode (record { at = at.old; left = left.old; right = right.old }) }
+    requires edge { key.now.end + 1 ≡ start_of (blocks (side right.old)) }
+    requires gap { ((nth (blocks (side right.old)) 0).state ≡ Free)
+        × (end ≡ (nth (blocks (side right.old)) 0).key.end) }
+    requires count_fits { count.old + 2 * max (height_of (side left.old)) (height_of (side right.old)) ≤ MAX }
+    ensures node { IsNode (record { at = at.new; left = left.new; right = right.new }) }
+    ensures freed { FreesUnder key.now (side left.old) (side right.old) (side left.new) (side right.new) result }
+    ensures count { (count.old ≤ count.new)
+        × (count.new ≤ count.old + 2 * max (height_of (side left.old)) (height_of (side right.old))) }
+{
+    let freed = free_last(left, key.start(), end, count)?;
+    drop_first(right, count);
+    *at = end + 1;
+    Some(Freed {
+        change: Change::Structure,
+        joined: freed.joined + 1,
+    })
+}
+
+/// Frees a range that starts at the edge, from the start of the gap before it on. The gap is dropped.
+#[tactic(auto, using(crate::proofs::FreesEdges::gaps_above))]
+fn free_above_gap(
+    left: &mut Link,
+    at: &mut u64,
+    right: &mut Link,
+    key: &RangeInclusive,
+    start: u64,
+    count: &mut Steps,
+) -> Option<Freed>
+    requires can { CanChange (Fork (side left.old) (side right.old)) }
+    requires node { IsNode (record { at = at.old; left = left.old; right = right.old }) }
+    requires edge { key.now.start ≡ start_of (blocks (side right.old)) }
+    requires gap { ((nth (blocks (side left.old)) (length (blocks (side left.old)) - 1)).state ≡ Free)
+        × (start ≡ (nth (blocks (side left.old)) (length (blocks (side left.old)) - 1)).key.start) }
+    requires count_fits { count.old + 2 * max (height_of (side left.old)) (height_of (side right.old)) ≤ MAX }
+    ensures node { IsNode (record { at = at.new; left = left.new; right = right.new }) }
+    ensures freed { FreesUnder key.now (side left.old) (side right.old) (side left.new) (side right.new) result }
+    ensures count { (count.old ≤ count.new)
+        × (count.new ≤ count.old + 2 * max (height_of (side left.old)) (height_of (side right.old))) }
+{
+    let freed = free_first(right, start, key.end(), count)?;
+    drop_last(left, count);
+    *at = start;
+    Some(Freed {
+        change: Change::Structure,
+        joined: freed.joined + 1,
+    })
+}
+
+/// Frees a range that ends right before the edge.
+#[inline(never)]
+#[tactic(auto, using(crate::proofs::FreesEdges::edges))]
+fn free_below(
+    left: &mut Link,
+    at: &mut u64,
+    right: &mut Link,
+    key: &RangeInclusive,
+    count: &mut Steps,
+) -> Option<Freed>
+    requires can { CanChange (Fork (side left.old) (side right.old)) }
+    requires node { IsNode (record { at = at.old; left = left.old; right = right.old }) }
+    requires edge { key.now.end + 1 ≡ start_of (blocks (side right.old)) }
+    requires count_fits { count.old + 3 * max (height_of (side left.old)) (height_of (side right.old)) ≤ MAX }
+    ensures node { IsNode (record { at = at.new; left = left.new; right = right.new }) }
+    ensures freed { FreesUnder key.now (side left.old) (side right.old) (side left.new) (side right.new) result }
+    ensures count { (count.old ≤ count.new)
+        × (count.new ≤ count.old + 3 * max (height_of (side left.old)) (height_of (side right.old))) }
+{
+    let next = first_block(right, count);
+    match next.state {
+        NodeState::Allocated => free_last(left, key.start(), key.end(), count),
+        NodeState::Free => free_below_gap(left, at, right, key, next.key.end(), count),
+    }
+}
+
+/// Frees a range that starts at the edge.
+#[inline(never)]
+#[tactic(auto, using(crate::proofs::FreesEdges::edges))]
+fn free_above(
+    left: &mut Link,
+    at: &mut u64,
+    right: &mut Link,
+    key: &RangeInclusive,
+    count: &mut Steps,
+) -> Option<Freed>
+    requires can { CanChange (Fork (side left.old) (side right.old)) }
+    requires node { IsNode (record { at = at.old; left = left.old; right = right.old }) }
+    requires edge { key.now.start ≡ start_of (blocks (side right.old)) }
+    requires count_fits { count.old + 3 * max (height_of (side left.old)) (height_of (side right.old)) ≤ MAX }
+    ensures node { IsNode (record { at = at.new; left = left.new; right = right.new }) }
+    ensures freed { FreesUnder key.now (side left.old) (side right.old) (side left.new) (side right.new) result }
+    ensures count { (count.old ≤ count.new)
+        × (count.new ≤ count.old + 3 * max (height_of (side left.old)) (height_of (side right.old))) }
+{
+    let before = last_block(left, count);
+    match before.state {
+        NodeState::Allocated => free_first(right, key.start(), key.end(), count),
+        NodeState::Free => free_above_gap(left, at, right, key, before.key.start(), count),
+    }
+}
+
+/// Frees a held range below a node that does not touch the edge between its children. Returns `None` if it
+/// is not there.
+///
+/// The compiler selects the child without a branch, because the call has no other code.
+#[cycle(free_at)]
+#[inline(never)]
+#[tactic(auto, using(crate::proofs::FreesEdges::edges))]
+fn free_child(
+    left: &mut Link,
+    edge: u64,
+    right: &mut Link,
+    key: &RangeInclusive,
+    count: &mut Steps,
+) -> Option<Freed>
+    requires can { CanChange (Fork (side left.old) (side right.old)) }
+    requires node { IsNode (record { at = edge; left = left.old; right = right.old }) }
+    requires within { (start_of (blocks (side left.old)) ≤ key.now.start)
+        × (key.now.start ≤ end_of (blocks (side right.old))) }
+    requires inside { (key.now.start ≢ edge) × (key.now.end + 1 ≢ edge) }
+    requires count_fits { count.old + 3 * max (height_of (side left.old)) (height_of (side right.old)) < MAX }
+    ensures node { IsNode (record { at = edge; left = left.new; right = right.new }) }
+    ensures freed { FreesUnder key.now (side left.old) (side right.old) (side left.new) (side right.new) result }
+    ensures count { (count.old ≤ count.new)
+        × (count.new ≤ count.old + 3 * max (height_of (side left.old)) (height_of (side right.old))) }
+{
+    if key.start() < edge {
+        return free_at(left, key, count);
+    }
+    free_at(right, key, count)
+}
+
+/// Frees a held range below a node. Returns `None` if it is not there.
+#[cycle(free_at)]
+#[inline(always)]
+#[tactic(auto, using(crate::proofs::FreesEdges::edges))]
+fn free_under(
+    left: &mut Link,
+    at: &mut u64,
+    right: &mut Link,
+    key: &RangeInclusive,
+    count: &mut Steps,
+) -> Option<Freed>
+    requires can { CanChange (Fork (side left.old) (side right.old)) }
+    requires node { IsNode (record { at = at.old; left = left.old; right = right.old }) }
+    requires within { (start_of (blocks (side left.old)) ≤ key.now.start)
+        × (key.now.start ≤ end_of (blocks (side right.old))) }
+    requires count_fits { count.old + 3 * max (height_of (side left.old)) (height_of (side right.old)) < MAX }
+    ensures node { IsNode (record { at = at.new; left = left.new; right = right.new }) }
+    ensures freed { FreesUnder key.now (side left.old) (side right.old) (side left.new) (side right.new) result }
+    ensures count { (count.old ≤ count.new)
+        × (count.new ≤ count.old + 3 * max (height_of (side left.old)) (height_of (side right.old))) }
+{
+    let edge = *at;
+    if key.start() == edge {
+        return free_above(left, at, right, key, count);
+    }
+    if key.end() == edge - 1 {
+        return free_below(left, at, right, key, count);
+    }
+    free_child(left, edge, right, key, count)
+}
+
+/// Frees a held range, and joins it with the gaps on both sides. Returns `None` if the tree does not hold it.
+#[cycle(free_at)]
+pub(crate) fn free_at(tree: &mut Link, key: &RangeInclusive, count: &mut Steps) -> Option<Freed>
+    requires can { CanChange (side tree.old) }
+    requires summed { IsSummed tree.old }
+    requires within { (start_of (blocks (side tree.old)) ≤ key.now.start)
+        × (key.now.start ≤ end_of (blocks (side tree.old))) }
+    requires count_fits { count.old + 3 * height_of (side tree.old) < MAX }
+    ensures freed { MatchOption result
+        ((side tree.new ≡ side tree.old) × ¬ Holds key.now (blocks (side tree.old)))
+        (λ freed. Frees key.now (blocks (side tree.old)) (blocks (side tree.new)) × Reduces freed.change freed.joined (side tree.old) (side tree.new)) }
+    ensures summed { IsSummed tree.new }
+    ensures count { (count.old < count.new) × (count.new + 2 ≤ count.old + 3 * height_of (side tree.old)) }
+{
+    count.enter();
+    match tree {
+        Link::Hole => unreachable!(),
+        Link::Leaf {
+            longest,
+            alignments,
+            leaf,
+        } => {
+            let leaf: &mut Leaf = leaf;
+            let gap = free_in(leaf, key)?;
+            Some(raise(longest, alignments, leaf, &gap))
+        }
+        Link::Fork { node, .. } => {
+            let node: &mut Node = node;
+            let freed = free_under(&mut node.left, &mut node.at, &mut node.right, key, count)?;
+            let change = update(tree, freed.change);
+            Some(Freed {
+                change,
+                joined: freed.joined,
+            })
+        }
+    }
+}

@@ -1,0 +1,55 @@
+//! A search for a place, and its results.
+ghost use Rattle.std.specs.Prelude.{◌≡◌};
+ghost use Rattle.vm_tree.specs.declared.search.Refusal.TheVariants.{OutOfMemory};
+
+use crate::change::Change;
+use std::alloc::AllocFailed;
+
+/// A search for a place: `size` addresses at a multiple of `alignment`, between `low` and `high`.
+#[derive(Clone, Copy, Debug)]
+pub struct Search {
+    /// The number of addresses, which is not 0.
+    pub size: u64,
+    /// One of the 64 powers of two.
+    pub alignment: u64,
+    /// The lowest address that the range can have.
+    pub low: u64,
+    /// The highest address that the range can have.
+    pub high: u64,
+    /// `false` if only ranges that fill their gaps can be allocated.
+    pub can_split: bool,
+}
+
+/// A range that was allocated.
+#[derive(Clone, Copy, Debug)]
+pub struct Taken {
+    /// The first address.
+    pub start: u64,
+    /// The number of blocks that the tree has more than before: 0, 1 or 2.
+    pub added: u8,
+    /// The change of the summary of the subtree.
+    pub(crate) change: Change,
+}
+
+/// The reason why no range was allocated.
+#[derive(Clone, Copy, Debug)]
+pub enum Refusal {
+    /// The range does not fit anywhere, or is not free.
+    NoPlace,
+    /// Exactly this range is already allocated.
+    Held,
+    /// The range would end at `u64::MAX`.
+    PastMax,
+    /// An allocation of memory failed.
+    OutOfMemory,
+    /// The range does not fill its gap, and the tree is too high to split it.
+    TooHigh,
+}
+
+impl<T: Drop> From<AllocFailed<T>> for Refusal {
+    ghost from_gives = { λ _ refusal. refusal ≡ OutOfMemory };
+
+    fn from(_error: AllocFailed<T>) -> Refusal {
+        Refusal::OutOfMemory
+    }
+}
