@@ -22,6 +22,7 @@ import types
 
 # Folders of libraries: the replacement of each, and the names that may be used. None: imports are removed.
 FOLDERS = {
+    "std": ("core", {"mem"}),
     "std::alloc": ("crate::rattle", {"AllocError", "AllocFailed", "Global"}),
     "std::cmp": ("core::cmp", {"Ordering"}),
     "std::collections": ("crate::rattle", {"BTreeMap", "BTreeSet"}),
@@ -34,7 +35,7 @@ FOLDERS = {
     "thiserror": (None, {"Error"}),
 }
 FOLDERS_OF_TESTS = {
-    "std": ("std", {"io", "mem"}),
+    "std": ("std", {"io"}),
     "std::env": ("crate::testing", {"Env"}),
     "std::fmt": ("core::fmt", {"Debug", "Display"}),
     "std::io": ("std::io", {"ErrorKind", "Read", "Write"}),
@@ -42,33 +43,35 @@ FOLDERS_OF_TESTS = {
     "std::str": ("core::str", {"from_utf8"}),
 }
 LIBRARIES = {folder.split("::")[0] for folder in FOLDERS}
+# Libraries whose public functions have preconditions. Only proved modules can use their items.
+INNER = {"vm_leaf", "vm_tree"}
 # Names of Rattle's prelude that Rust's prelude does not have or defines differently. `rattle` has them.
 PRELUDE = {"Box", "Vec"}
 # Names of both preludes, and further names of libraries.
 NAMES = {"Err", "None", "Ok", "Option", "Result", "Some"}
 NUMBERS = {"u8", "u32", "u64", "u128", "usize"}
 ASSOCIATED = {
-    "BTreeMap::new", "BTreeSet::new", "Box::into_inner", "Box::new", "Ord::cmp",
+    "BTreeMap::new", "BTreeSet::new", "Box::new", "Ord::cmp",
     "Ordering::Equal", "Ordering::Greater", "Ordering::Less", "Value::Null", "Value::as_u64", "Value::from",
-    "Value::try_from_str", "Vec::new", "Vec::with_capacity", "u128::from", "u32::MAX", "u32::try_from", "u64::MAX",
-    "u64::from", "u8x16::from_slice", "u8x16::splat",
+    "Value::try_from_str", "Vec::new", "Vec::with_capacity", "mem::replace", "u128::from", "u32::MAX", "u32::try_from",
+    "u64::MAX", "u64::from", "u8x16::from_slice", "u8x16::splat", "usize::from",
 }
 # Methods of types of other crates. Each was compared with the method of Rust.
 METHODS = {
     "and_then", "as_array", "as_object", "as_slice", "as_str", "as_u64", "checked_add", "checked_mul",
-    "checked_sub", "clone", "cmp", "contains", "copied", "copy_from_slice", "enumerate", "first", "first_chunk", "flush", "get",
+    "checked_sub", "clone", "cmp", "contains", "copied", "copy_from_slice", "copy_within", "enumerate", "first", "first_chunk", "flush", "get",
     "get_mut", "ilog2", "insert", "into", "is_ascii_digit", "is_empty", "is_none", "is_null", "is_power_of_two",
     "is_some", "iter", "last", "len", "max", "min", "next", "next_back", "ok", "ok_or", "pop", "pop_first", "push", "range", "read", "remove", "rotate_left",
-    "saturating_add", "saturating_sub", "simd_eq", "split_at", "split_first", "split_last", "take", "to_bitmask", "trailing_zeros", "unwrap", "write_all",
+    "saturating_add", "saturating_sub", "simd_eq", "split_at", "split_first", "split_last", "take", "to_bitmask", "trailing_ones", "trailing_zeros", "unwrap", "write_all",
 }
-MACROS = {"json", "unreachable"}
+MACROS = {"json", "matches", "unreachable"}
 DERIVES = {"Clone", "Copy", "Debug", "Default", "Drop", "Eq", "Error", "Hash", "Ord", "PartialEq", "PartialOrd"}
 TRAITS = {"DoubleEndedIterator", "Eq", "ExactSizeIterator", "From", "Iterator", "Ord", "PartialEq", "PartialOrd"}
 # Names that no item of a crate may have, because the tables mean the items of the libraries.
 TAKEN = (PRELUDE | NAMES | NUMBERS | TRAITS | {path.split("::")[0] for path in ASSOCIATED}) - {"Result"}
 TRAITS_OF_TESTS = {"Read", "Write"}
 ATTRIBUTES = {"allow", "cold", "default", "error", "inline"}
-KEYWORDS = set("_ as bool break continue else false for if in let match mut pub return str true while Self".split())
+KEYWORDS = set("_ as bool break else false for if in let match mut pub return str true while Self".split())
 PATHS = {"crate", "self", "super"}
 REFUSED_WORDS = set("""async await become box char decreases dyn extern f32 f64 gen ghost i8 i16 i32 i64
     i128 invariant isize macro_rules prove prove_eq trait try union unsafe where yield""".split())
@@ -88,7 +91,7 @@ MODULES = ORIGIN.format("crates.txt") + """
 """
 ATTRIBUTES_WITH_TESTS = "#![allow(dead_code, unused_assignments, unused_variables)]\n"
 # Code that only readers of values or callers in Rattle reach, in files that the package has, and an error that no call returns.
-UNREACHED = re.compile(r"^ *(?=(?:pub\(.*\) fn count_tree|pub fn align_(?:down|up)|Overlap)\(|pub enum ValueError\b)", re.MULTILINE)
+UNREACHED = re.compile(r"^ *(?=(?:pub fn align_(?:down|up)|Overlap)\(|pub enum ValueError\b)", re.MULTILINE)
 PRELUDE_OF_TESTS = "use crate::testing::*;\nuse crate::testing::{assert, assert_eq};\n"
 RUNTIME = "{\n    let rt = HostRuntime;"
 DISPLAY = """
@@ -471,7 +474,7 @@ class File(Tokens):
         if nothing and not (item.public or item.is_test or item.owner):
             return behind, False  # a law: only its clauses matter
         name = self.define(item.keyword + 1, self.crate.functions)
-        anyone = item.public or item.owner not in (None, "impl")
+        anyone = item.public and self.crate.name not in INNER or item.owner not in (None, "impl")
         if anyone and item.keyword in self.asking and not self.of_tests:
             self.fail(f"a 'requires' of {name!r}, which anyone may call", self.asking[item.keyword])
         if item.is_test:
@@ -643,6 +646,8 @@ class File(Tokens):
                 yield token.start, token.end, f"{'' if begins_path else 'in '}crate::proved::{self.crate.name}"
             elif begins_path and token.text in self.crate.stands_on:
                 yield token.start, token.start, "crate::proved::"
+            elif token.text == "pub" and self.crate.name in INNER and not self.at(index + 1, "("):
+                yield token.start, token.end, "pub(in crate::proved)"
 
     def outer_cuts(self):
         """Returns the cuts that are not inside another one."""
@@ -741,13 +746,13 @@ def erase(folder, out, with_tests):
     project = Project(folder, with_tests)
     texts = {"mod.rs": MODULES + (ATTRIBUTES_WITH_TESTS if with_tests else "") + "\n"}
     for name, crate in sorted(project.crates.items()):
-        texts["mod.rs"] += ('#[cfg(feature = "std")]\n' if crate.asks_for_std else "") + f"pub mod {name};\n"
+        texts["mod.rs"] += ('#[cfg(feature = "std")]\n' if crate.asks_for_std else "") + f"{'' if name in INNER else 'pub '}mod {name};\n"
         texts |= crate.texts()
     for path in [path for name in project.libraries for path in pathlib.Path(out, name).rglob("*.rs")]:
         if str(path.relative_to(out)) not in texts:
             path.unlink()
             if not any(path.parent.iterdir()):
-                path.parent.rmdir()
+                os.removedirs(path.parent)
     for path, text in texts.items():
         write(os.path.join(out, path), text)
     return project.crates

@@ -19,7 +19,7 @@ CHANGED = [
     (r"\bcrate::(?!proved)", "crate::proved::NAME::"),
     (r"(?<![\w:])(vm_\w+)::", r"crate::proved::\1::"),
     (r"\b(std::alloc|std::collections)::", "crate::rattle::"),
-    (r"\bstd::(cmp|result)::", r"core::\1::"),
+    (r"\bstd::(cmp|mem|result)\b", r"core::\1"),
     (r"\bstd::simd::prelude::", "crate::rattle::simd::"),
     (r"(?m)(^ *(?:(?:pub(?:\(\w+\))? )?fn \w+|impl)<.*?): Drop(?=[,>])", r"\1"),
     (r"(#\[derive\(.*?)(?:, )?\bDrop\b", r"\1"),
@@ -30,10 +30,12 @@ CHANGED = [
 # Texts that the first eraser adds: the attribute of code that divsharun does not reach, and what the derive of
 # `Error` stands for.
 ADDED = re.compile(
-    r"#\[allow\(dead_code\)\] (?=pub\(in [\w:]+\) fn count_tree\(|pub fn align_(?:down|up)\(|Overlap\(|pub enum ValueError\b)"
+    r"#\[allow\(dead_code\)\] (?=pub fn align_(?:down|up)\(|Overlap\(|pub enum ValueError\b)"
     r"|impl core::fmt::Display for \w+ \{\s+fn fmt\(&self, f: &mut core::fmt::Formatter<'_>\) -> core::fmt::Result \{\s+"
     r"match self \{\s+(?:\w+::\w+(?:\(field_0(?:, field_1)?\))? => write!\(f, \".*\"\),\s+)+\}\s+\}\s+\}\s+"
     r"impl core::error::Error for \w+ \{\}")
+# Crates whose items only proved modules can use.
+INNER = {"vm_leaf", "vm_tree"}
 # Imports that only the first eraser writes.
 PRELUDE = {"crate::rattle::Box", "crate::rattle::Vec"}
 
@@ -65,7 +67,7 @@ def piece_end(tokens, index):
     if at("ghost"):
         end = behind(tokens, index, "{", "}")
         return end + (tokens[end] in (";", ","))
-    if at("#", "[", "tactic") or at("#", "!", "[", "tactic") or at("#", "[", "error"):
+    if at("#", "[", "tactic") or at("#", "[", "cycle") or at("#", "!", "[", "tactic") or at("#", "[", "error"):
         return behind(tokens, index, "[", "]")
     if at("#", "[", "cfg", "(", "test", ")", "]"):
         return item_end(tokens, index)
@@ -120,6 +122,8 @@ def compare(source, plain, crate):
     is_of_values = "\nuse serde_json::" in text
     for old, new in CHANGED:
         text = re.sub(old, new.replace("NAME", crate), text)
+    if crate in INNER:
+        text = re.sub(r"\bpub (?!\()", "pub(in crate::proved) ", text)
     want, wanted = parted(tokens_of(text), is_of_values)
     have, named = parted(tokens_of(ADDED.sub("", plain.read_text(encoding="utf-8"))))
     if want == have and named <= wanted | PRELUDE:

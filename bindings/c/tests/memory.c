@@ -94,6 +94,13 @@ static int keep_object(void *context) {
     return (void)context, 0;
 }
 
+/* Allocates two addresses of the space. */
+static void hold(uint64_t start) {
+    dvs_range range;
+
+    CHECK(dvs_range_allocate_exact(results.space, 2, 1, start, &range, NULL) == DVS_OK);
+}
+
 /* Allocates numbers with each number of digits, and some free addresses and ids between them. */
 static void fill(void) {
     uint64_t power = 10;
@@ -101,15 +108,19 @@ static void fill(void) {
     uint32_t id;
     int i;
 
+    /* Two leaves of 32 ranges and gaps. The next split allocates a leaf and a node. */
     for (i = 1; i < 20; i++, power *= 10)
-        CHECK(dvs_range_allocate_exact(results.space, 2, 1, power - 1, &device.range, NULL) ==
-              DVS_OK);
+        hold(power - 1);
+    for (i = 4, power = 10000; i < 16; i++, power *= 10)
+        hold(5 * power);
+    hold(power + 1);
     for (i = 0; i < 300; i++)
         CHECK(dvs_id_allocate(results.ids, &id) == DVS_OK);
     /* The freed ids are in chunks of 256. The next one needs memory. */
     for (id = 1; id <= 256; id++)
         CHECK(dvs_id_free(results.ids, id, NULL) == DVS_OK);
-    for (i = 0; i < 2; i++)
+    /* A leaf of 31 ranges and a gap. */
+    for (i = 0; i < 31; i++)
         CHECK(dvs_device_reserve_first(results.manager, 1, 1, &device, NULL) == DVS_OK);
 }
 
@@ -164,23 +175,23 @@ static const struct row rows[] = {
     {"new space", NEW_SPACE, 0, {1, 2}, 2},
     {"new ids", NEW_IDS, 1, {1, 2}, 1},
     {"new manager", NEW_MANAGER, 2, {1, 2, 3, 4}, 2},
-    {"first", FIRST, 0, {3, 16}, 1},
+    {"first", FIRST, 0, {3, 16}, 2},
     {"last", LAST, 0, {3, 8}, 2},
     {"exact", EXACT, 0, {3, 1, 500}, 2},
     {"in a window", REQUEST, 0, {0}, 2},
     {"move", MOVE, 0, {9, 10, 500}, 2},
     {"move in a window", MOVE_REQUEST, 0, {9, 10}, 2},
-    {"copy a space", COPY_SPACE, 0, {0}, 39},
+    {"copy a space", COPY_SPACE, 0, {0}, 4},
     {"copy ids", COPY_IDS, 1, {0}, 2},
-    {"copy a manager", COPY_MANAGER, 2, {0}, 4},
+    {"copy a manager", COPY_MANAGER, 2, {0}, 5},
     {"save a space", SAVE_SPACE, 0, {0}, 2},
     {"save ids", SAVE_IDS, 1, {0}, 1},
     {"save a manager", SAVE_MANAGER, 2, {0}, 2},
-    {"read a space", SPACE_WITHIN, 0, {0}, 39},
-    {"repair a space", REPAIR_WITHIN, 0, {0}, 39},
-    {"with ranges", WITH_RANGES, 0, {0, 16}, 7},
-    {"with free ranges", WITH_FREE, 0, {0}, 6},
-    {"several requests", LIST, 0, {0}, 6},
+    {"read a space", SPACE_WITHIN, 0, {0}, 5},
+    {"repair a space", REPAIR_WITHIN, 0, {0}, 5},
+    {"with ranges", WITH_RANGES, 0, {0, 16}, 3},
+    {"with free ranges", WITH_FREE, 0, {0}, 4},
+    {"several requests", LIST, 0, {0}, 4},
     {"several ids", IDS, 1, {0}, 1},
     {"free an id", FREE_ID, 1, {0}, 1},
     {"with ids", WITH_IDS, 1, {0, 9}, 3},
@@ -285,13 +296,13 @@ static const struct {
     {RESERVE_FIRST, 2, {TOP, 1}, DVS_RESOURCE_NOT_AVAILABLE},
     {RESERVE_LAST, 2, {TOP, 1}, DVS_RESOURCE_NOT_AVAILABLE},
     {RESERVE_EXACT, 2, {1, 1, TOP}, DVS_OVERFLOW},
-    {RESERVE_FIRST, 2, {998, 1}, DVS_OK},
-    {RESERVE_LAST, 2, {998, 1}, DVS_OK},
-    {RESERVE_EXACT, 2, {998, 1, 2}, DVS_OK},
-    {RESERVE, 2, {998, 1, 2, DVS_EXACT}, DVS_OK},
+    {RESERVE_FIRST, 2, {969, 1}, DVS_OK},
+    {RESERVE_LAST, 2, {969, 1}, DVS_OK},
+    {RESERVE_EXACT, 2, {969, 1, 31}, DVS_OK},
+    {RESERVE, 2, {969, 1, 31, DVS_EXACT}, DVS_OK},
     {RESERVE, 2, {TOP, 1, 0, DVS_LAST}, DVS_RESOURCE_NOT_AVAILABLE},
-    {DEVICE_CONFLICT, 2, {998, 1, 2, DVS_EXACT}, DVS_OK},
-    {RELEASE, 2, {2}, DVS_NEVER_ALLOCATED},
+    {DEVICE_CONFLICT, 2, {969, 1, 31, DVS_EXACT}, DVS_OK},
+    {RELEASE, 2, {31}, DVS_NEVER_ALLOCATED},
 };
 
 static void call_without_memory(int call, int group, const uint64_t *numbers, dvs_status status) {

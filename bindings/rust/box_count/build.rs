@@ -2,10 +2,9 @@
 use std::{env, fs, path::Path};
 
 /// The places in boxed.rs that follow a box, and the same with a count.
-const FOLLOWED: [(&str, &str); 3] = [
+const FOLLOWED: [(&str, &str); 2] = [
     ("&self.0[0]\n", "{ follow(); &self.0[0] }\n"),
     ("&mut self.0[0]\n", "{ follow(); &mut self.0[0] }\n"),
-    ("let [value] = ", "follow(); let [value] = "),
 ];
 const COUNTER: &str = "
 std::thread_local! {

@@ -10,8 +10,7 @@ use Rattle.vm_ranges.specs.Request.{Request, request_for, IsRequest, IsStartAlig
 use Rattle.vm_engine.specs.Windows.{within}
 use Rattle.vm_engine.specs.Answer.{IsChosen, IsSplitRefusal, AllocatesAt, Grants, Allocates, Frees}
 use Rattle.vm_allocator.specs.Ids.{IdState, IsIdState, IsHeld, IsLowestNotHeld, holding_id, releasing_id, ByLowestNotHeld, AllocatesId, FreesId}
-use Rattle.vm_allocator.specs.Allocator.{SpaceInTree, state_of}
-use Rattle.vm_allocator.specs.Values.AllocatorValues.{EncodesAllocator, EncodesAddresses}
+use Rattle.vm_allocator.specs.Values.AllocatorValues.{EncodesAddresses}
 use Rattle.vm_allocator.specs.Values.IdValues.{EncodesIds}
 use Rattle.vm_ranges.specs.declared.error.Error.{Error}
 use Rattle.vm_ranges.specs.declared.error.Error.TheVariants.{Overflow, OutOfMemory, ResourceNotAvailable}
@@ -25,7 +24,7 @@ use Rattle.vm_engine.proofs.Results.Once.{chosen_place, place_in_window}
 use Rattle.vm_engine.proofs.Choosing.WindowPlaces.{lies_in}
 use Rattle.vm_engine.proofs.Results.Filling.{allocates_chosen}
 use Rattle.vm_engine.proofs.Results.Outcomes.{allocates_outcome}
-use Rattle.vm_allocator.proofs.Reading.ReadAllocators.{one_allocator, encoded_state as encoded_addresses}
+use Rattle.vm_allocator.proofs.Reading.ReadAllocators.{one_addresses, encoded_state as encoded_addresses}
 use Rattle.vm_allocator.proofs.Ids.ReadIdStates.{one_encoded, encoded_state as encoded_ids}
 -- A list of different held ranges or ids contains all of them if and only if its length is their number.
 pub use Rattle.vm_engine.proofs.Blocks.HeldLists.{ranges_listed}
@@ -304,23 +303,20 @@ frees_held old r c = releases_held old r (held_contains old.held r c)
 
 -- ---- Saved values
 -- The allocator that is read from a written value is the allocator that was written.
-pub allocator_again : (d : Data) (old new : SpaceInTree) → EncodesAllocator d old → EncodesAllocator d new → new ≡ old
-allocator_again d old new s t = one_allocator d new old t s
-
 pub ids_again : (d : Data) (old new : IdState) → EncodesIds d old → EncodesIds d new → new ≡ old
 ids_again d old new s t = one_encoded d new old t s
 
 pub addresses_again : (d : Data) (old new : AddressState) → EncodesAddresses d old → EncodesAddresses d new → new ≡ old
-addresses_again d old new s t = sym t.is ∙ ap state_of (one_allocator d t.allocator s.allocator t.encoded s.encoded) ∙ s.is
+addresses_again d old new s t = one_addresses d new old t s
 
 -- A state that a value encodes is valid.
 pub ids_encoded : (d : Data) (state : IdState) → EncodesIds d state → IsIdState state
 ids_encoded d state s = encoded_ids d state s
 
 pub addresses_encoded : (d : Data) (state : AddressState) → EncodesAddresses d state → IsAddressState state
-addresses_encoded d state s = subst IsAddressState s.is (encoded_addresses d s.allocator s.encoded)
+addresses_encoded d state s = encoded_addresses d state s
 
-pub ruleset callers = (allocated_held, allocated_apart, allocated_same, freed_fits_again, fits_again_or_limit, id_was_free, id_is_held, allocator_again, ids_again, text_gives_again, text_has_value)
+pub ruleset callers = (allocated_held, allocated_apart, allocated_same, freed_fits_again, fits_again_or_limit, id_was_free, id_is_held, addresses_again, ids_again, text_gives_again, text_has_value)
 
 -- A value that is written, and read from its text, is the same.
 pub ruleset through_text = (allocator_through_text, ids_through_text)

@@ -6,10 +6,10 @@ use Rattle.vm_ranges.specs.declared.error.Error.{Error}
 use Rattle.vm_engine.specs.Address.{AddressState, IsAddressState}
 use Rattle.vm_engine.specs.Answer.{Frees, Grants}
 use Rattle.vm_engine.specs.Held.{MakesHeld}
-use Rattle.vm_engine.specs.Tree.Shape.{Shape}
+use Rattle.vm_tree.specs.Shape.{Shape}
 use Rattle.vm_engine.specs.Tree.SpaceTree.{tree_state}
 use Rattle.vm_engine.proofs.Making.HeldTrees.{held_made}
-use Rattle.vm_engine.proofs.Nodes.Spaces.{grants_keeps, frees_keeps}
+use Rattle.vm_engine.proofs.Trees.Spaces.{grants_keeps, frees_keeps}
 use Rattle.vm_allocator.specs.Allocator.{IsTreeOf}
 
 pub tree_made : (space : Range) (s : Shape) → tree_state s ≡ record { space = space; held = [] } → IsAddressState (tree_state s) → IsTreeOf space s

@@ -3,8 +3,8 @@ use Rattle.std.specs.Prelude.{◌≡◌, Result, Ok, Err, refl}
 use Rattle.std.specs.Coded.{Coded, code_by, coded×}
 use Rattle.vm_ranges.specs.Range.{Range, range_code}
 use Rattle.vm_engine.specs.Address.{AddressState, IsAddressState}
-use Rattle.vm_engine.specs.Tree.Shape.{Shape, blocks}
-use Rattle.vm_engine.specs.Tree.ShapeCode.{shape_code}
+use Rattle.vm_tree.specs.Shape.{Shape, blocks}
+use Rattle.vm_tree.specs.ShapeCode.{shape_code}
 use Rattle.vm_engine.specs.Tree.SpaceTree.{space_of, tree_state}
 
 -- The space of an allocator, and the shape of its tree of blocks.

@@ -4,9 +4,9 @@ use Rattle.vm_ranges.specs.Range.{Range, address_count}
 use Rattle.vm_ranges.specs.Request.{Request, request_for}
 use Rattle.vm_engine.specs.Address.{AddressState, IsAddressState}
 use Rattle.vm_engine.specs.Answer.{Allocates}
-use Rattle.vm_engine.specs.Tree.Shape.{Shape, height_of}
+use Rattle.vm_tree.specs.Shape.{Shape}
 use Rattle.vm_engine.specs.Tree.SpaceTree.{tree_state}
-use Rattle.vm_engine.specs.Counts.Steps.{SplitsIfLow}
+use Rattle.vm_engine.specs.Counts.Steps.{SplitsIfFew}
 use Rattle.vm_ranges.specs.declared.error.Error.{Error}
 use Rattle.vm_ranges.specs.declared.error.Error.TheVariants.{OutOfMemory}
 use Rattle.vm_ranges.specs.declared.error.ListError.{ListError}
@@ -53,10 +53,10 @@ AllocatesEach old requests ranges new = EachBy Allocates old requests ranges new
 abbrev pub RefusesOne : AddressState → List Request → Error → Type 0
 RefusesOne old requests e = FailsBy Allocates old requests e
 
--- The result of one request, and of its tree: a split succeeds, or runs out of memory, only if the tree is low enough.
+-- The result of one request, and of its split: it succeeds, or runs out of memory, only if few enough ranges are held.
 pub record AllocatesInTree (old : Shape) (request : Request) (answer : Result Range Error) (new : Shape) : Type 0 where
   pub state : Allocates (tree_state old) request answer (tree_state new)
-  pub depth : SplitsIfLow (height_of old) (tree_state old) request answer
+  pub few : SplitsIfFew (tree_state old) request answer
 
 -- The requests fail together: out of memory, or with the error of the first request that fails. The state is that before.
 abbrev pub FailsAll : AddressState → List Request → Error → AddressState → Type 0

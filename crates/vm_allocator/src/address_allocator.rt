@@ -17,9 +17,10 @@ ghost use Rattle.vm_allocator.specs.Allocator.{state_of, made_state};
 ghost use Rattle.vm_engine.specs.Held.{MakesSpace, MakesWithHeld, HasFaultIndex};
 ghost use Rattle.vm_ranges.specs.ListErrors.{by_error};
 ghost use Rattle.vm_ranges.specs.Cloning.{Clones};
-ghost use Rattle.vm_engine.specs.Tree.Shape.{height_of, node_count, IsLowestHeight};
+ghost use Rattle.vm_tree.specs.Shape.{height_of, node_count};
+ghost use Rattle.vm_tree.specs.Building.{IsLowestHeight};
 ghost use Rattle.vm_engine.specs.Counts.GapSearch.{SearchesGaps, SearchesAligned};
-ghost use Rattle.vm_engine.specs.Counts.Steps.{EntersToAllocate, EntersToFree, IsAllocationCount, IsFreeCount, IsBalancedTreeOf, SplitsIfLow};
+ghost use Rattle.vm_engine.specs.Counts.Steps.{EntersToAllocate, IsAllocationCount, IsFreeCount, IsBalancedTreeOf, SplitsIfFew};
 
 use std::alloc::Global;
 use std::marker::Model;
@@ -61,7 +62,7 @@ impl Model for AddressAllocator {
 impl AddressAllocator {
     /// Creates an allocator for the `size` addresses starting at `base`. All of them are free.
     ///
-    /// It allocates one node.
+    /// It allocates one leaf.
     ///
     /// # Errors
     ///
@@ -98,7 +99,7 @@ impl AddressAllocator {
     ///   - `ResourceNotAvailable` if it is outside the space.
     ///   - `Overflow` if it ends at `u64::MAX`.
     /// - `Overflow` if the ranges and the gaps together are 2^49 or more.
-    /// - `OutOfMemory` if the allocation of a node fails.
+    /// - `OutOfMemory` if an allocation fails.
     #[tactic(auto, using(crate::proofs::Results::Making::making_held, crate::proofs::Trees::trees))]
     pub fn with_held(
         alloc: Global,
@@ -141,7 +142,7 @@ impl AddressAllocator {
     ///
     /// A gap is a run of free addresses with no free address next to it. A range that fills its gap
     /// needs no memory, and always succeeds if it ends below `u64::MAX`. Any other range splits its
-    /// gap, which allocates one or two nodes.
+    /// gap, which allocates nothing, or one leaf and one node.
     ///
     /// # Errors
     ///
@@ -157,8 +158,8 @@ impl AddressAllocator {
     /// - `ResourceNotAvailable` if there is no such range.
     /// - `Overflow` if the chosen range ends at `u64::MAX`, even if another range is free.
     /// - Only if the range splits its gap:
-    ///   - `Overflow` if the height of the tree is 48 or more, with more than 6 * 10^9 ranges.
-    ///   - `OutOfMemory` if the allocation of a node fails.
+    ///   - `Overflow` if 6,293,134,512 ranges or more are allocated.
+    ///   - `OutOfMemory` if an allocation fails.
     #[tactic(auto, using(crate::proofs::Callers::allocations, vm_engine::proofs::Results::Requests::allocating, vm_engine::proofs::Results::Filling::succeeding, crate::proofs::Trees::trees))]
     pub fn allocate(
         &mut self,
@@ -181,8 +182,8 @@ impl AddressAllocator {
         ensures filling { (start : ℕ) → FillsGap (state_of self.old) (request_for size alignment policy) start
             → IsOk result }
 
-        // The limit on the height is checked before memory is allocated.
-        ensures depth { SplitsIfLow (height_of self.old.tree) (state_of self.old)
+        // The limit on the number of ranges is checked before memory is allocated.
+        ensures few { SplitsIfFew (state_of self.old)
             (request_for size alignment policy) result }
         ensures state { IsAddressState (state_of self.new) }
 
@@ -226,8 +227,8 @@ impl AddressAllocator {
         // A request that fills its gap needs no memory, so it succeeds.
         ensures filling { (start : ℕ) → FillsGap (state_of self.old) request start → IsOk result }
 
-        // The limit on the height is checked before memory is allocated.
-        ensures depth { SplitsIfLow (height_of self.old.tree) (state_of self.old) request result }
+        // The limit on the number of ranges is checked before memory is allocated.
+        ensures few { SplitsIfFew (state_of self.old) request result }
 
         // Each result under its exact condition.
         ensures answer { Allocates (state_of self.old) request result (state_of self.new) }
@@ -240,15 +241,14 @@ impl AddressAllocator {
     ///
     /// Let h be the [`height`](Self::height) and k the number of allocated ranges before the call.
     /// The count is
-    /// - at most 2h for `ExactMatch`.
-    /// - at most 2k + 1 + h for `FirstMatch` and `LastMatch`.
-    /// - at least 1 for a success, and at least h / 2 for a success that splits its gap.
+    /// - at most h for `ExactMatch`.
+    /// - at most 2k + 1 for `FirstMatch` and `LastMatch`.
+    /// - at least 1 and at least h / 2 for a success.
     /// - 0 for `InvalidSize`, `InvalidAlignment` and `UnalignedAddress`.
     ///
     /// A search enters a subtree only if one of its gaps is long enough and one has a multiple of
-    /// `alignment`. So `FirstMatch` and `LastMatch` enter at most h(v + 2) nodes, at most h(v + 1) if
-    /// they fail, and at most hv if they return `ResourceNotAvailable`. Here v is the lesser of two
-    /// numbers:
+    /// `alignment`. So `FirstMatch` and `LastMatch` enter at most h(v + 1) nodes, and at most hv if they
+    /// return `ResourceNotAvailable`. Here v is the lesser of two numbers:
     /// - The gaps that are long enough but misaligned. This number is 0 if `alignment` is 1.
     /// - The gaps that have a multiple of `alignment` but are too short after it. There are at most
     ///   as many as multiples of `alignment` in the space.
@@ -272,10 +272,10 @@ impl AddressAllocator {
         ensures filling { (start : ℕ) → FillsGap (state_of self.old) (request_for size alignment policy) start
             → IsOk result.0 }
 
-        // The limit on the height is checked before memory is allocated.
-        ensures depth { SplitsIfLow (height_of self.old.tree) (state_of self.old)
+        // The limit on the number of ranges is checked before memory is allocated.
+        ensures few { SplitsIfFew (state_of self.old)
             (request_for size alignment policy) result.0 }
-        ensures count { EntersToAllocate self.old.tree (request_for size alignment policy) result.0 result.1 }
+        ensures count { EntersToAllocate self.old.tree (request_for size alignment policy) result.1 }
         ensures steps { IsAllocationCount (height_of self.old.tree) (state_of self.old)
             (request_for size alignment policy) result.0 result.1 }
         ensures search { SearchesGaps (height_of self.old.tree) (state_of self.old)
@@ -295,10 +295,10 @@ impl AddressAllocator {
     /// A request without a window has the bounds of [`allocate_counted`](Self::allocate_counted). Let
     /// h be the [`height`](Self::height) and k the number of allocated ranges before the call. With a
     /// window, the count is
-    /// - at most 2h for `ExactMatch`.
-    /// - at most 2k + 1 + h for `FirstMatch` and `LastMatch`.
-    /// - at most h(v + 3) for these two, and at most h(v + 2) if they fail. Here v is the lesser of
-    ///   the two numbers of `allocate_counted`, of the parts of the gaps in the window.
+    /// - at most h for `ExactMatch`.
+    /// - at most 2k + 1 for `FirstMatch` and `LastMatch`.
+    /// - at most h(v + 2) for these two. Here v is the lesser of the two numbers of `allocate_counted`,
+    ///   of the parts of the gaps in the window.
     ///
     /// # Errors
     ///
@@ -315,9 +315,9 @@ impl AddressAllocator {
         // A request that fills its gap needs no memory, so it succeeds.
         ensures filling { (start : ℕ) → FillsGap (state_of self.old) request start → IsOk result.0 }
 
-        // The limit on the height is checked before memory is allocated.
-        ensures depth { SplitsIfLow (height_of self.old.tree) (state_of self.old) request result.0 }
-        ensures count { EntersToAllocate self.old.tree request result.0 result.1 }
+        // The limit on the number of ranges is checked before memory is allocated.
+        ensures few { SplitsIfFew (state_of self.old) request result.0 }
+        ensures count { EntersToAllocate self.old.tree request result.1 }
         ensures steps { IsAllocationCount (height_of self.old.tree) (state_of self.old) request result.0 result.1 }
         ensures search { SearchesGaps (height_of self.old.tree) (state_of self.old)
             request result.0 result.1 }
@@ -354,8 +354,8 @@ impl AddressAllocator {
     /// Frees like [`free`](Self::free), and also returns the number of tree nodes that the call
     /// entered.
     ///
-    /// The count is at least 1, and at most 4h if h is the [`height`](Self::height) before the
-    /// call.
+    /// The count is at most 3h if h is the [`height`](Self::height) before the call, and at least 1 for a
+    /// success.
     ///
     /// # Errors
     ///
@@ -367,17 +367,17 @@ impl AddressAllocator {
 
         // Freeing an allocated range always succeeds.
         ensures held { Contains (state_of self.old).held key.now → IsOk result.0 }
-        ensures count { EntersToFree self.old.tree key.now result.0 0 result.1 }
-        ensures steps { IsFreeCount (height_of self.old.tree) result.1 }
+        ensures steps { IsFreeCount (height_of self.old.tree) result.0 result.1 }
         ensures state { IsAddressState (state_of self.new) }
     {
         self.interval_tree.free_counted(key)
     }
 
-    /// Returns the height of the tree: the number of nodes on its longest path, at most 49.
+    /// Returns the height of the tree: the number of nodes on its longest path, at most 48.
     ///
-    /// The tree is balanced. With k allocated ranges its height h satisfies F(h + 2) <= 2k + 2,
-    /// where F is the Fibonacci sequence 1, 1, 2, 3, 5.
+    /// A leaf is a node, and has up to 32 blocks. The tree is balanced. With k allocated ranges its height h
+    /// satisfies F(h + 2) <= 2k + 2, and 12 F(h + 1) <= 2k + 1 if h is above 1, where F is the Fibonacci
+    /// sequence 1, 1, 2, 3, 5.
     pub fn height(&self) -> u64
         ensures value { result ≡ height_of self.now.tree }
         ensures tree { IsBalancedTreeOf (state_of self.now) self.now.tree }

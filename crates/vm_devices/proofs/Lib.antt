@@ -5,7 +5,7 @@ pub mod DevicesAgain
 pub mod DevicesOnce
 pub mod EveryDeviceCall
 pub mod DeviceCalls
-pub mod Depths
+pub mod FewDevices
 pub mod Callers
 pub mod Entries
 pub mod AscendingIds

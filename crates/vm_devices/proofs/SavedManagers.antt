@@ -32,8 +32,7 @@ use Rattle.vm_ranges.specs.declared.saved.ValueError.{ValueError}
 use Rattle.vm_ranges.specs.declared.saved.ValueError.TheVariants.{NotAState, OutOfMemory}
 use Rattle.vm_engine.specs.Address.{AddressState}
 use Rattle.vm_allocator.specs.Ids.{IdState}
-use Rattle.vm_allocator.specs.Allocator.{SpaceInTree, state_of}
-use Rattle.vm_allocator.specs.Values.AllocatorValues.{EncodesAllocator, EncodesAddresses}
+use Rattle.vm_allocator.specs.Values.AllocatorValues.{EncodesAddresses}
 use Rattle.vm_allocator.specs.Values.IdValues.{EncodesIds}
 use Rattle.vm_devices.specs.Devices.{DeviceState, ArePaired, IsDeviceState, devices_of}
 use Rattle.vm_devices.specs.Laws.{ManagerIsReadAgain}
@@ -233,14 +232,14 @@ pub manager_again : ManagerIsReadAgain
 manager_again = record { one = one_manager; again = read_again }
 
 -- ---- A written value encodes the manager
-pub manager_written : {d ids space slots : Data} {i : IdState} {a : SpaceInTree} (table : map.FinMap nat_cmp Range) → ManagerParts d ids space slots →
-    EncodesIds ids i → EncodesAllocator space a → EncodesList slots (entries_of (device_list (devices_of i (state_of a) table))) →
-    IsDeviceState (devices_of i (state_of a) table) → EncodesManager d (devices_of i (state_of a) table)
+pub manager_written : {d ids space slots : Data} {i : IdState} {a : AddressState} (table : map.FinMap nat_cmp Range) → ManagerParts d ids space slots →
+    EncodesIds ids i → EncodesAddresses space a → EncodesList slots (entries_of (device_list (devices_of i a table))) →
+    IsDeviceState (devices_of i a table) → EncodesManager d (devices_of i a table)
 manager_written {d} {ids} {space} {slots} {i} {a} table p is held ss state = record {
   four_fields = p.four_fields;
   version = p.version_is;
   id_allocator = field_is (codes "id_allocator") d ids (λ v. EncodesIds v i) p.ids_is is;
-  mmio_allocator = field_is (codes "mmio_allocator") d space (λ v. EncodesAddresses v (state_of a)) p.space_is (record { allocator = a; encoded = held; is = refl });
+  mmio_allocator = field_is (codes "mmio_allocator") d space (λ v. EncodesAddresses v a) p.space_is held;
   listed = map.entries table;
   slots = field_is (codes "slots") d slots (λ v. EncodesList v (map.entries table)) p.slots_is (rw (entries_again (map.entries table)) at ss);
   ascending = keys_rise table;

@@ -8,14 +8,13 @@ ghost use Rattle.vm_ranges.specs.Cloning.{Clones};
 ghost use Rattle.vm_ranges.specs.Range.{Range, Covers, address_count};
 ghost use Rattle.vm_ranges.specs.Request.{request_for};
 ghost use Rattle.vm_engine.specs.Answer.{IsChosen};
-ghost use Rattle.vm_engine.specs.Tree.Shape.{height_of};
 ghost use Rattle.vm_allocator.specs.Ids.{IsLowestNotHeld, PeeksId};
 ghost use Rattle.vm_devices.specs.Devices.{
   IsDeviceState,
   IsDevice,
   MakesManager,
   Reserves,
-  ReservesIfLow,
+  ReservesIfFew,
   Releases,
   with_device,
   without_device,
@@ -124,8 +123,8 @@ impl DeviceManager {
     /// - `ResourceNotAvailable` if all ids are allocated and their range ends below `u32::MAX`.
     /// - The errors of `AddressAllocator::allocate`, in the order of its documentation.
     /// - `OutOfMemory` if an allocation for the table of devices fails. The range is freed again, and the
-    ///   tree of [`addresses`](Self::addresses) can have another shape. Then its height, its later counts
-    ///   and `to_value` can differ.
+    ///   tree of [`addresses`](Self::addresses) can have another shape. Then its height and its later
+    ///   counts can differ.
     #[tactic(auto, using(crate::proofs::DeviceCalls::reserves))]
     pub fn reserve(
         &mut self,
@@ -147,8 +146,8 @@ impl DeviceManager {
         ensures unchanged { OnErr result (device_state self.new ≡ device_state self.old) }
         ensures state { IsDeviceState (device_state self.new) }
 
-        // The limit on the height is checked before memory is allocated.
-        ensures depth { ReservesIfLow (height_of self.old.addresses.tree) (device_state self.old)
+        // The limit on the number of ranges is checked before memory is allocated.
+        ensures few { ReservesIfFew (device_state self.old)
             (request_for size align policy) result }
 
         // Each result under its exact condition.
@@ -186,8 +185,8 @@ impl DeviceManager {
             device_state self.new ≡ with_device slot.id slot.range (device_state self.old)) }
         ensures unchanged { OnErr result (device_state self.new ≡ device_state self.old) }
 
-        // The limit on the height is checked before memory is allocated.
-        ensures depth { ReservesIfLow (height_of self.old.addresses.tree) (device_state self.old) request result }
+        // The limit on the number of ranges is checked before memory is allocated.
+        ensures few { ReservesIfFew (device_state self.old) request result }
 
         // Each result under its exact condition.
         ensures answer { Reserves (device_state self.old) request result (device_state self.new) }
@@ -237,11 +236,11 @@ impl DeviceManager {
 
     /// Makes a device of the lowest free id and of a range for the request. An error leaves ids, ranges
     /// and devices unchanged.
-    #[tactic(auto, using(crate::proofs::Depths::low_reserved))]
+    #[tactic(auto, using(crate::proofs::FewDevices::few_reserved))]
     fn reserve_range(&mut self, alloc: Global, id: u32, request: Constraint) -> Result<DeviceSlot>
         requires { PeeksId (device_state self.old).ids (Ok id) }
         ensures answer { Reserves (device_state self.old) request result (device_state self.new) }
-        ensures depth { ReservesIfLow (height_of self.old.addresses.tree) (device_state self.old) request result }
+        ensures few { ReservesIfFew (device_state self.old) request result }
     {
         let range = self.mmio_allocator.allocate_constraint(alloc, request)?;
         if let Err(refused) = self.slots.insert(alloc, id, range) {

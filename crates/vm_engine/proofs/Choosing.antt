@@ -1,10 +1,5 @@
-pub mod Fits
-pub mod Places
-pub mod PlaceSearch
-pub mod WindowSearch
-pub mod WindowPlaces
-pub mod Searched
 pub mod ExactStart
-pub mod ExactPlaces
 pub mod ExactWindows
-pub mod EdgeSearch
+pub mod Places
+pub mod Searched
+pub mod WindowPlaces

@@ -1,3 +1,3 @@
 pub mod Orders
-pub mod Tilings
 pub mod StateOrders
+pub mod Tilings

@@ -1,3 +1,1 @@
-pub mod BlockCursors
-pub mod Built
 pub mod HeldTrees

@@ -1,5 +1,5 @@
-pub mod ReadNodes
-pub mod OneTree
 pub mod NestedTrees
-pub mod Writing
+pub mod OneTree
+pub mod ReadNodes
 pub mod ReadSpaces
+pub mod Writing

@@ -1,8 +1,8 @@
-pub mod Requests
-pub mod Once
-pub mod Outcomes
-pub mod Filling
 pub mod AddressResults
+pub mod Capacity
+pub mod Filling
 pub mod HeldAndGaps
 pub mod Meeting
-pub mod Capacity
+pub mod Once
+pub mod Outcomes
+pub mod Requests

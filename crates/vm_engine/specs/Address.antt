@@ -8,7 +8,8 @@
 use Rattle.std.specs.Prelude.{◌≡◌, ℕ, ◌+◌, ◌%◌, ◌<◌, ◌≤◌, ◌⊎◌, List, [], ◌∷◌, if◌then◌else◌, nat_lt, nat_eq, refl}
 use Rattle.std.specs.List.{All}
 use Rattle.std.specs.Coded.{Coded, code_by, coded×, coded_list}
-use Rattle.vm_ranges.specs.Range.{Range, range_code, MAX, IsRange, IsIn}
+use Rattle.vm_ranges.specs.Range.{Range, range_code, IsRange, IsIn}
+use Rattle.vm_tree.specs.Building.{AreInOrder}
 
 -- A space and the ranges held in it, from the lowest to the highest.
 pub record AddressState : Type 0 where
@@ -65,12 +66,6 @@ holding r state = record state { held = with_range r state.held }
 -- The state after the range r is freed.
 abbrev pub releasing : Range → AddressState → AddressState
 releasing r state = record state { held = without_range r state.held }
-
--- The ranges are in order from lo to hi, do not overlap, and do not contain MAX.
-abbrev pub AreInOrder : ℕ → List Range → ℕ → Type 0
-AreInOrder lo [] hi = Unit {0}
-AreInOrder lo (r ∷ rs) hi =
-    (lo ≤ r.start) × (r.start ≤ r.end) × (r.end ≤ hi) × (r.end < MAX) × AreInOrder (r.end + 1) rs hi
 
 -- The state is valid: the space is a range, and the held ranges are in it, in order, disjoint and below MAX.
 pub record IsAddressState (state : AddressState) : Type 0 where

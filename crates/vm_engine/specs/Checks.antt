@@ -1,4 +1,3 @@
-pub mod ValueParts
 pub mod NodeChecks
 pub mod KeyChecks
 pub mod Spans

@@ -1,26 +1,16 @@
 -- The orders of blocks, of lists of blocks, and of states.
-use Rattle.std.specs.Prelude.{◌≡◌, ◌↔◌, ℕ, List}
+use Rattle.std.specs.Prelude.{◌≡◌, ◌↔◌, List}
 use Rattle.std.specs.declared.cmp.Ordering.{Ordering}
 use Rattle.std.specs.declared.cmp.Ordering.TheVariants.{Equal}
-use Rattle.std.specs.Ordering.{nat_cmp, on, then_cmp, ordering_reverse}
+use Rattle.std.specs.Ordering.{on, then_cmp, ordering_reverse}
 use Rattle.std.specs.Cmp.{IsTotalOrder}
 use Rattle.std.specs.Cmp.Lexicographic.{slice_cmp}
-use Rattle.std.proofs.lemmas.Cmp.{lists_total, then_total, on_total, nat_cmp_total}
+use Rattle.std.proofs.lemmas.Cmp.{lists_total, then_total, on_total}
 use Rattle.vm_ranges.specs.RangeOrder.{range_cmp, range_cmp-total}
-use Rattle.vm_engine.specs.Tree.Block.{Block}
+use Rattle.vm_leaf.specs.declared.block.Block.{Block}
 use Rattle.vm_engine.specs.Tree.Blocks.{blocks_of}
 use Rattle.vm_engine.specs.Address.{AddressState}
-use Rattle.vm_ranges.specs.declared.state.NodeState.{NodeState}
-use Rattle.vm_ranges.specs.declared.state.NodeState.TheVariants.{Free, Allocated}
-
--- The rank of a state in the order: Free is less than Allocated.
-abbrev pub rank : NodeState → ℕ
-rank Free = 0
-rank Allocated = 1
-
--- The order of blocks: by start, then by end, then by state.
-abbrev pub block_cmp : Block → Block → Ordering
-block_cmp = then_cmp (on (λ b. b.key) range_cmp) (on (λ b. rank b.state) nat_cmp)
+use Rattle.vm_leaf.specs.BlockOrder.{block_cmp, block_cmp-total}
 
 -- The order of lists of blocks: by the first blocks that differ. A proper prefix is less.
 abbrev pub blocks_cmp : List Block → List Block → Ordering
@@ -48,11 +38,6 @@ pub record IsOrder (compare : AddressState → AddressState → Ordering) : Type
 -- The order returns Equal exactly if both states are equal.
 abbrev pub OrderAgreesWithEquality : Type 0
 OrderAgreesWithEquality = (a b : AddressState) → (state_cmp a b ≡ Equal) ↔ AreEqual a b
-
--- The order of blocks is total.
-pub block_cmp-total : IsTotalOrder block_cmp
-block_cmp-total =
-    then_total (on_total (λ (b : Block). b.key) range_cmp-total) (on_total (λ (b : Block). rank b.state) nat_cmp_total)
 
 -- The order of lists of blocks is total.
 pub blocks_cmp-total : IsTotalOrder blocks_cmp

@@ -1,4 +1,3 @@
-pub mod Fibonacci
 pub mod Steps
 pub mod GapSearch
 pub mod NodeCounts

@@ -1,16 +1,2 @@
-pub mod BothEnds
-pub mod Building
-pub mod Changes
-pub mod Place
-pub mod WindowPlace
-pub mod FreedBlocks
-pub mod NeighbourNodes
-pub mod NodeFields
-pub mod NodeUpdate
-pub mod Widening
-pub mod SplitBlocks
+pub mod Allocation
 pub mod CountedTrees
-pub mod Outermost
-pub mod Walks
-pub mod WindowBlocks
-pub mod Choosing

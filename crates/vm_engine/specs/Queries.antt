@@ -1,10 +1,11 @@
 -- The gaps of a state, and the results of queries of addresses.
-use Rattle.std.specs.Prelude.{ℕ, ◌+◌, ◌-◌, ◌&&◌, nat_le, max, Bool, List, [], ◌∷◌, ◌++◌, Option, Some, None}
+use Rattle.std.specs.Prelude.{ℕ, ◌+◌, ◌-◌, max, List, [], ◌∷◌, ◌++◌, Option, Some, None}
 use Rattle.std.specs.List.{All, Contains, filter}
 use Rattle.vm_ranges.specs.Range.{Range, IsIn, address_count}
 use Rattle.vm_engine.specs.Address.{AddressState}
-use Rattle.vm_engine.specs.Windows.{common}
-use Rattle.vm_engine.specs.Tree.Block.{Block}
+use Rattle.vm_leaf.specs.Windows.{common}
+use Rattle.vm_leaf.specs.declared.block.Block.{Block}
+use Rattle.vm_tree.specs.Walks.{meets}
 use Rattle.vm_engine.specs.Tree.Blocks.{blocks_of}
 use Rattle.vm_ranges.specs.declared.state.NodeState.{NodeState}
 use Rattle.vm_ranges.specs.declared.state.NodeState.TheVariants.{Free, Allocated}
@@ -59,10 +60,6 @@ IsHeldAt state x answer = IsRangeAt state.held x answer
 -- The answer is a gap that contains the address x, or None if no gap contains it.
 abbrev pub IsGapAt : AddressState → ℕ → Option Range → Type 0
 IsGapAt state x answer = IsRangeAt (gaps_of state) x answer
-
--- Whether an address is in both ranges, if the ends of each are in order.
-abbrev pub meets : Range → Range → Bool
-meets window r = nat_le window.start r.end && nat_le r.start window.end
 
 -- The ranges of the list that have an address in common with the window, in order.
 abbrev pub meeting : Range → List Range → List Range

@@ -1,11 +1,5 @@
-pub mod Block
 pub mod Multiples
 pub mod Blocks
 pub mod SpaceTree
 pub mod BlockList
-pub mod Shape
-pub mod ShapeCode
 pub mod BlockEdits
-pub mod Fit
-pub mod FreeBeside
-pub mod Removal

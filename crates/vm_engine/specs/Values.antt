@@ -1,3 +1,4 @@
+pub mod NodeTree
 pub mod TreeValues
 pub mod KeyValues
 pub mod SavedTrees

@@ -1,14 +1,10 @@
 -- Windows: ranges of addresses in which the range of a request must lie.
 --
 -- A request sees the state with its space cut to its window. So the definitions of places are those of any state.
-use Rattle.std.specs.Prelude.{max, min, Option, Some, None}
+use Rattle.std.specs.Prelude.{Option, Some, None}
 use Rattle.vm_ranges.specs.Range.{Range}
 use Rattle.vm_engine.specs.Address.{AddressState}
-use Rattle.vm_engine.specs.Tree.Block.{Block}
-
--- The addresses that are in both ranges. If there is none, the start is past the end.
-abbrev pub common : Range → Range → Range
-common r s = record { start = max r.start s.start; end = min r.end s.end }
+use Rattle.vm_leaf.specs.Windows.{common}
 
 -- The part of a range that lies in the window, or the whole range if there is no window.
 abbrev pub part_in : Option Range → Range → Range
@@ -20,6 +16,7 @@ part_in (Some window) r = common window r
 abbrev pub within : Option Range → AddressState → AddressState
 within window state = record state { space = part_in window state.space }
 
--- The part of a block that lies in the window. If it is empty, its start is past its end.
-abbrev pub cut_to : Range → Block → Block
-cut_to window b = record b { key = common window b.key }
+-- The addresses that a request searches: its window, or the whole space if it has none.
+abbrev pub window_in : Option Range → Range → Range
+window_in None space = space
+window_in (Some window) space = window

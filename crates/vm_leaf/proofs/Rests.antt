@@ -1,7 +1,7 @@
 -- The blocks that an iteration over a leaf has left, less one at an end.
 use Rattle.std.proofs.Common.{◌≡◌, ℕ, ◌+◌, ◌-◌, ◌/◌, ◌^◌, ◌<◌, ◌≤◌, List, [], ◌∷◌, ◌++◌, length, get_or, take, drop, refl, ap, ◌∙◌, sym, subst, arith, inl, inr, length-append, length-take-le, take_all}
 use Rattle.std.proofs.lemmas.Bool.{cases_lt}
-use Rattle.std.proofs.lemmas.List.{drop_all, take-take, take_at, get_or-take, get_or_push, drop-take}
+use Rattle.std.proofs.lemmas.List.{take-take, take_at, get_or-take, get_or_push, drop-take}
 use borrow.Rule.Slice.PartMut.{mid_of}
 use Rattle.vm_ranges.specs.Range.{Range, IsRange}
 use Rattle.vm_ranges.specs.declared.state.NodeState.{NodeState}
@@ -15,14 +15,6 @@ use Rattle.vm_leaf.proofs.Tilings.{length-tiling, tiling-append, same_tiling, ta
 use Rattle.vm_leaf.proofs.Masks.{high_states}
 use Rattle.vm_leaf.proofs.Fields.{length_of, end_is}
 use Rattle.vm_leaf.proofs.Tiles.{leaf_range, leaf_low, leaf_high}
-
-pub none_between : (bs : List Block) (i j : ℕ) → i ≡ j → j ≤ length bs → part_of bs i j ≡ []
-none_between bs i j e l = drop_all i (take j bs) (omega (arith, length-take-le j bs l))
-
-pub all_between : (bs : List Block) (j : ℕ) → j ≡ length bs → part_of bs 0 j ≡ bs
-all_between bs j e = take_all j bs (omega arith)
-
-pub ruleset ends = (none_between, all_between)
 
 -- ---- A part of a leaf
 module _ (a : Inside) (bs : List Block) (v : IsInside a) (e : length a.starts ≡ 32) (view : blocks_of a ≡ bs) (i j : ℕ) (order : i < j) (within : j ≤ length bs) (t : ℕ) (end : t ≡ (nth bs (j - 1)).key.end) where

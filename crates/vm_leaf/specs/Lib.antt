@@ -1,4 +1,5 @@
 pub mod Block
+pub mod BlockOrder
 pub mod Blocks
 pub mod Fit
 pub mod Leaf

@@ -30,7 +30,7 @@ pub const CAPACITY: usize = 32;
 pub const MIN_BLOCKS: usize = 12;
 
 /// One to 32 consecutive blocks that cover a range of addresses. Two neighbours are never both free.
-#[derive(Drop)]
+#[derive(Debug, Drop)]
 pub struct Leaf {
     /// The first addresses of the blocks, in ascending order. Only the first `len` are used.
     starts: [u64; CAPACITY],
@@ -164,13 +164,13 @@ fn copy_in(starts: &mut [u64; CAPACITY], at: usize, other: &[u64; CAPACITY], n: 
     starts[at..at + n].copy_from_slice(&other[..n]);
 }
 
-/// Returns the mask of `len` blocks with the states `held`, followed by `more` blocks with the states `other`.
+/// Returns the mask of `len` blocks with the states `held`, followed by `_more` blocks with the states `other`.
 #[inline(always)]
 #[tactic(auto, using(crate::proofs::Masks::appending))]
-fn with_appended(held: u64, len: usize, other: u64, more: usize) -> u64
-    requires fits { len + more ≤ 32 }
+fn with_appended(held: u64, len: usize, other: u64, _more: usize) -> u64
+    requires fits { len + _more ≤ 32 }
     requires mask { held < 2 ^ len }
-    requires other_mask { other < 2 ^ more }
+    requires other_mask { other < 2 ^ _more }
     ensures { result ≡ other * 2 ^ len + held }
 {
     (other << len) + held

@@ -473,16 +473,19 @@ fn fibonacci(n: u64) -> u64 {
     low
 }
 
-/// Returns `true` if the tree is as low as it must be with `held` allocated ranges.
+/// The minimum number of blocks of a leaf that is not the whole tree.
+const LEAST_BLOCKS: u64 = 12;
+
+/// Returns `true` if the tree is as low as it must be with `held` allocated ranges. A balanced tree of
+/// height h has at least F(h + 1) leaves, and `held` ranges are at most 2 * held + 1 blocks.
 fn is_low(space: &AddressAllocator, held: u64) -> bool {
-    fibonacci(space.height().saturating_add(2)) <= held.saturating_mul(2).saturating_add(2)
+    let height = space.height();
+    let leaves = fibonacci(height.saturating_add(1));
+    height == 1 || leaves.saturating_mul(LEAST_BLOCKS) <= held.saturating_mul(2).saturating_add(1)
 }
 
 /// The maximum number of nodes that freeing enters, in heights of the tree.
-const FREE_BOUND: u64 = 5;
-
-/// The maximum number of nodes that an allocation enters after its search, in heights of the tree.
-const SPLIT_BOUND: u64 = 2;
+const FREE_BOUND: u64 = 3;
 
 /// Returns the result of a call and the number of entered nodes. The call is repeated if memory ran
 /// out.
@@ -511,18 +514,12 @@ fn expect_counted(
 
 /// Allocates the lowest single address of 2047, if the `held` addresses below it are allocated.
 ///
-/// The last one fills its gap. Each other one is a split, which enters at least half the height.
+/// The search enters the nodes of one path, which are at least half the height.
 fn take_first_counted(rt: &(impl Abort + AllocGlobal), space: &mut AddressAllocator, held: u64) {
-    let blocks = held.saturating_mul(2).saturating_add(1);
     let height = space.height();
-    let most = blocks.saturating_add(height.saturating_mul(SPLIT_BOUND));
-    let fewest = if held < 2046 {
-        height / 2 + height % 2
-    } else {
-        1
-    };
+    let fewest = height / 2 + height % 2;
     let found = count_again(rt, space, First(1, 1));
-    expect_counted(rt, First(1, 1), &found, Range(held, held), (fewest, most));
+    expect_counted(rt, First(1, 1), &found, Range(held, held), (fewest, height));
     expect_true(
         rt,
         is_low(space, held.saturating_add(1)),
@@ -548,15 +545,16 @@ fn balanced_and_counted(rt: HostRuntime) {
     for i in 0..1023 {
         free_counted_range(&rt, &mut space, 2 * i + 1, 2046 - i);
     }
-    expect_true(&rt, space.height() <= 15, &"a height of 15 at most");
+    // A height of 12 needs 233 leaves, and so 2796 blocks.
+    expect_true(&rt, space.height() <= 11, &"a height of 11 at most");
     expect_eq(&rt, &block_count(&rt, &space), &2047, &"blocks");
     every_second_is_clear(&rt, &mut space);
 }
 
 /// Checks searches in the space from 0 to 2046, in which the odd addresses are free. A search for
-/// two addresses visits no gap. A search for one finds it and visits no block before it.
+/// two addresses enters no node. A search for one enters the nodes of one path.
 fn every_second_is_clear(rt: &(impl Abort + AllocGlobal), space: &mut AddressAllocator) {
-    let most = space.height().saturating_mul(SPLIT_BOUND + 1);
+    let most = space.height();
     let rows = [
         (First(2, 1), NotAvailable, 0),
         (Last(2, 1), NotAvailable, 0),

@@ -138,7 +138,7 @@ pub(crate) fn text_of(rt: &(impl Abort + AllocGlobal), value: &Value) -> String 
     }
 }
 
-/// Returns the saved value of an allocator, with its tree node for node.
+/// Returns the saved value of an allocator, with one object for each block.
 pub(crate) fn saved(rt: &(impl Abort + AllocGlobal), space: &AddressAllocator) -> Value {
     match space.to_value(rt.alloc()) {
         Ok(value) => value,
@@ -158,6 +158,16 @@ pub(crate) fn hold(
         let again = space.allocate(rt.alloc(), size, 1, policy);
         assert!(rt; again.is_ok(), "{FAILED_ONCE}");
     }
+}
+
+/// Returns the allocator of [0, 4095] in which the even addresses up to 30 are allocated. Its 32 blocks
+/// fill one leaf.
+pub(crate) fn full_leaf(rt: &(impl Abort + AllocGlobal)) -> AddressAllocator {
+    let mut space = made(rt, 0, 0x1000);
+    for number in 0..16u64 {
+        hold(rt, &mut space, number.saturating_mul(2), 1);
+    }
+    space
 }
 
 /// Returns the number of blocks in the tree of an allocator.

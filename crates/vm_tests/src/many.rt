@@ -116,15 +116,15 @@ fn created_half_held(rt: &(impl Abort + AllocGlobal), number: u64) -> AddressAll
     space.expect(rt, ENOUGH)
 }
 
-/// A tree of n blocks has the lowest height h with n < 2^h.
+/// A tree of n blocks has the fewest leaves of 32, and the lowest height h with at most 2^(h - 1) leaves.
 #[test]
 fn ranges_created(rt: HostRuntime) {
     let space = created_half_held(&rt, MANY);
-    expect_eq(&rt, &space.height(), &18, &"2^17 <= 200,000 < 2^18");
+    expect_eq(&rt, &space.height(), &14, &"2^12 < 6,250 <= 2^13");
     expect_equal(&rt, &space, &half_held(&rt, true));
     let space = created_half_held(&rt, MILLION);
     let numbers = (space.held_count(), space.height());
-    expect_eq(&rt, &numbers, &(MILLION, 21), &"2^20 <= 2,000,000 < 2^21");
+    expect_eq(&rt, &numbers, &(MILLION, 17), &"2^15 < 62,500 <= 2^16");
 }
 
 #[test]

@@ -69,13 +69,13 @@ fn parsed_again(alloc: Global, value: &Value) -> std::result::Result<Value, Valu
     Ok(again)
 }
 
-/// Returns the allocator that is read from the text of another: the same one, node for node.
+/// Returns the allocator that is read from the text of another, with the same state.
 #[tactic(auto, using(vm_allocator::proofs::Callers::through_text))]
 fn space_through_text(
     alloc: Global,
     mmio: &AddressAllocator,
 ) -> std::result::Result<AddressAllocator, ValueError>
-    ensures { IfOk result (λ again. again ≡ mmio.now) }
+    ensures { IfOk result (λ again. state_of again ≡ state_of mmio.now) }
 {
     let Ok(saved) = mmio.to_value(alloc) else {
         return Err(ValueError::OutOfMemory);

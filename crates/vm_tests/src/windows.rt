@@ -2,6 +2,7 @@
 //! that is not proved.
 ghost use Rattle.std.specs.Prelude.{◌≡◌, IfOk};
 ghost use Rattle.vm_allocator.specs.Range.{Overlaps};
+ghost use Rattle.vm_allocator.specs.Allocator.{state_of};
 
 use std::alloc::Global;
 use vm_allocator::{AddressAllocator, AllocPolicy, RangeInclusive, Result, ValueError};
@@ -17,13 +18,13 @@ pub fn windows(alloc: Global) -> Result<(RangeInclusive, RangeInclusive)>
     Ok((first, second))
 }
 
-/// The allocator that is read from what is written of another: the same one, node for node.
+/// The allocator that is read from what is written of another, with the same state.
 #[tactic(auto, using(vm_allocator::proofs::Callers::callers))]
 pub fn restored(
     alloc: Global,
     mmio: &AddressAllocator,
 ) -> std::result::Result<AddressAllocator, ValueError>
-    ensures { IfOk result (λ again. again ≡ mmio.now) }
+    ensures { IfOk result (λ again. state_of again ≡ state_of mmio.now) }
 {
     let Ok(saved) = mmio.to_value(alloc) else {
         return Err(ValueError::OutOfMemory);

@@ -16,7 +16,7 @@ use Rattle.vm_leaf.specs.declared.block.Block.{Block}
 use Rattle.vm_leaf.specs.Block.{free_length}
 use Rattle.vm_leaf.specs.Blocks.{Tiles, IsRun, start_of, end_of, longest_gap}
 use Rattle.vm_leaf.specs.Windows.{common, cut_to}
-use Rattle.vm_tree.specs.Shape.{Shape, Tip, Fork, blocks, height_of, HasFullLeaves}
+use Rattle.vm_tree.specs.Shape.{Shape, Tip, Fork, blocks, height_of, node_count, HasFullLeaves}
 use Rattle.vm_tree.specs.NodeCounts.{has_aligned, has_fit, has_fit_in, may_fit_in, nodes_of_first, nodes_of_last}
 use Rattle.vm_tree.specs.GapSearch.{is_misaligned, is_too_short, on_part, parts_passing, gaps_without_place, IsWholeWindow, IsSearchCount}
 use Rattle.vm_tree.proofs.Trees.{full_some}
@@ -31,7 +31,7 @@ one_more m f hx fx wx hy fy wy p q u v s o =
     let both : m * (fx + fy) ≤ m * f = mul-le-mul (omega arith) s in
     omega arith
 
-among_append : (q : Block → Bool) (xs ys : List Block) → length (filter q (xs ++ ys)) ≡ length (filter q xs) + length (filter q ys)
+pub among_append : (q : Block → Bool) (xs ys : List Block) → length (filter q (xs ++ ys)) ≡ length (filter q xs) + length (filter q ys)
 among_append q xs ys = ap length (filter-append q xs ys) ∙ length-append (filter q xs) (filter q ys)
 
 -- ---- 1 if x is below y, otherwise 0
@@ -347,6 +347,33 @@ module _ (w : Range) (n a : ℕ) (q : Block → Bool) where
             let left = if_entered (ltb w.start at) (nodes_of_last w n a l) (height_of l) (parts_passing w q (blocks l)) (1 + upper (at - 1)) x in
             exchanged _ _ _ (step l r _ _ _ _ (1 + upper hi) left right (cuts_to_left lo hi at i.from i.upto) (omega arith))
 
+-- ---- No node is entered twice
+upto_all : (entered : Bool) (x y : ℕ) → x ≤ y → cond entered x 0 ≤ y
+upto_all true x y l = l
+upto_all false x y l = omega arith
+
+upto_rest : (found entered : Bool) (x y : ℕ) → x ≤ y → cond found 0 (cond entered x 0) ≤ y
+upto_rest true entered x y l = omega arith
+upto_rest false entered x y l = upto_all entered x y l
+
+pub first_all : (w : Range) (n a : ℕ) (s : Shape) → nodes_of_first w n a s ≤ node_count s
+unfolding nodes_of_first
+first_all w n a (Tip bs) = upto_all (may_fit_in n a bs) 1 1 (omega arith)
+first_all w n a (Fork l r) =
+    let at = start_of (blocks r) in
+    let left = upto_all (ltb w.start at) (nodes_of_first w n a l) (node_count l) (first_all w n a l) in
+    let right = upto_rest (list_any (has_fit_in w n a) (blocks l)) (leb at w.end) (nodes_of_first w n a r) (node_count r) (first_all w n a r) in
+    upto_all (may_fit_in n a (blocks l ++ blocks r)) _ (node_count (Fork l r)) (omega (arith, left, right))
+
+pub last_all : (w : Range) (n a : ℕ) (s : Shape) → nodes_of_last w n a s ≤ node_count s
+unfolding nodes_of_last
+last_all w n a (Tip bs) = upto_all (may_fit_in n a bs) 1 1 (omega arith)
+last_all w n a (Fork l r) =
+    let at = start_of (blocks r) in
+    let right = upto_all (leb at w.end) (nodes_of_last w n a r) (node_count r) (last_all w n a r) in
+    let left = upto_rest (list_any (has_fit_in w n a) (blocks r)) (ltb w.start at) (nodes_of_last w n a l) (node_count l) (last_all w n a l) in
+    upto_all (may_fit_in n a (blocks l ++ blocks r)) _ (node_count (Fork l r)) (omega (arith, left, right))
+
 -- ---- A whole tree
 last_end : (p : NodeState) (lo hi : ℕ) (bs : List Block) → 0 < length bs → Tiles p lo bs hi → end_of bs ≡ hi
 last_end p lo hi bs z t =
@@ -378,6 +405,7 @@ module _ (w : Range) (n a : ℕ) (q : Block → Bool) (some : HasOneWithoutPlace
         );
     whole = λ c. exact _ 1 _ (omega (arith, cut_below c)) (first_in_most w n a q some Allocated h.lo h.hi s f h.tiles);
     most = widened (height_of s) (parts_passing w q (blocks s)) (below h.lo w.start + 1) _ (omega (arith, below_most h.lo w.start)) (first_in_most w n a q some Allocated h.lo h.hi s f h.tiles);
+    all = first_all w n a s;
   }
 
   pub last_count : IsSearchCount w n a (parts_passing w q (blocks s)) s (nodes_of_last w n a s)
@@ -389,6 +417,7 @@ module _ (w : Range) (n a : ℕ) (q : Block → Bool) (some : HasOneWithoutPlace
         );
     whole = λ c. exact _ 1 _ (omega (arith, cut_above c)) (last_in_most w n a q some Allocated h.lo h.hi s f h.tiles);
     most = widened (height_of s) (parts_passing w q (blocks s)) (1 + below w.end h.hi) _ (omega (arith, below_most w.end h.hi)) (last_in_most w n a q some Allocated h.lo h.hi s f h.tiles);
+    all = last_all w n a s;
   }
 
 -- The bounds for two numbers are bounds for the lesser one.

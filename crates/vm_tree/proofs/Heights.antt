@@ -129,10 +129,18 @@ height_by_held_all (Fork l r) h c =
     let m = fib_mono (height_of (Fork l r)) (height_of (Fork l r) + 1) (omega arith) in
     omega arith
 
+nodes_by_held : (s : Shape) → IsTree s → IsRun (blocks s) → node_count s ≤ 2 * held_blocks (blocks s) + 1
+nodes_by_held (Tip bs) h c = omega arith
+nodes_by_held (Fork l r) h c =
+    let b = blocks_by_leaves (Fork l r) h.leaves in
+    let d = run_held (blocks (Fork l r)) c in
+    omega (arith, nodes_by_leaves (Fork l r))
+
 pub low_tree : (s : Shape) → IsTree s → IsRun (blocks s) → IsLowTree s
 low_tree s h c = record {
   fewest = nodes_from_height s h.balanced;
   most = omega (arith, nodes_by_height s);
+  few = nodes_by_held s h c;
   low = height_by_held_all s h c;
   full = height_by_held s h c;
 }

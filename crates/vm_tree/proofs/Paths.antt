@@ -160,8 +160,8 @@ module _ (w : Range) (n a : ℕ) (some : 0 < n) where
   one_or_none : (v : ℕ) (bs : List Block) → IsSearchCount w n a v (Tip bs) (if list_any (has_fit_in w n a) bs then 1 else 0)
   one_or_none v bs =
       elim (cases_Bool (list_any (has_fit_in w n a) bs)) [
-        | inl e ↦ rw e (record { none = λ i z. absurd (true≢false (sym e ∙ z)); whole = λ i. omega arith; most = omega arith })
-        | inr e ↦ rw e (record { none = λ i z. omega arith; whole = λ i. omega arith; most = omega arith })
+        | inl e ↦ rw e (record { none = λ i z. absurd (true≢false (sym e ∙ z)); whole = λ i. omega arith; most = omega arith; all = omega arith })
+        | inr e ↦ rw e (record { none = λ i z. omega arith; whole = λ i. omega arith; most = omega arith; all = omega arith })
       ]
 
   pub lowest_searches : (s : Shape) → IsTree s → IsRun (blocks s) → IsSearchCount w n a (gaps_without_place w n a (blocks s)) s (nodes_to_lowest w n a s)

@@ -191,20 +191,20 @@ end_of_run bs h =
     p.last (omega (arith, h.some))
 
 -- ---- The test `has_fit` is exact
-lowest_from : (a x : ℕ) → 0 < a → IsLowestMultiple a x (multiple_from a x)
+pub lowest_from : (a x : ℕ) → 0 < a → IsLowestMultiple a x (multiple_from a x)
 lowest_from a x p = lowest_multiple a x (multiple_from a x) p (highest_multiple a (x + (a - 1)) p)
 
-free_if_true : (s : NodeState) → is_free s ≡ true → s ≡ Free
+pub free_if_true : (s : NodeState) → is_free s ≡ true → s ≡ Free
 free_if_true Free e = refl
 free_if_true Allocated e = absurd (cc)
 
-fit_found : (n a t : ℕ) (b : Block) → 0 < a → IsFit n a b t → has_fit n a b ≡ true
+pub fit_found : (n a t : ℕ) (b : Block) → 0 < a → IsFit n a b t → has_fit n a b ≡ true
 unfolding has_fit IsLowestMultiple
 fit_found n a t b p f =
     let lowest = (lowest_from a b.key.start p).2 t f.1 f.2 in
     rw (f.0, le-leb (multiple_from a b.key.start + n) (b.key.end + 1) (omega (arith, f.3)))
 
-no_fit_missed : (n a : ℕ) (b : Block) → 0 < a → HasNoFit n a b → has_fit n a b ≡ false
+pub no_fit_missed : (n a : ℕ) (b : Block) → 0 < a → HasNoFit n a b → has_fit n a b ≡ false
 unfolding has_fit HasNoFit IsLowestMultiple
 no_fit_missed n a b p h = false_from_ne_true (has_fit n a b) (λ e.
     let parts = and_parts (is_free b.state) (leb (multiple_from a b.key.start + n) (b.key.end + 1)) e in

@@ -6,7 +6,7 @@ use Rattle.vm_leaf.specs.declared.block.Block.{Block}
 use Rattle.vm_leaf.specs.Block.{free_length}
 use Rattle.vm_leaf.specs.Blocks.{start_of, end_of}
 use Rattle.vm_leaf.specs.Windows.{cut_to}
-use Rattle.vm_tree.specs.Shape.{Shape, blocks, height_of}
+use Rattle.vm_tree.specs.Shape.{Shape, blocks, height_of, node_count}
 use Rattle.vm_tree.specs.NodeCounts.{has_aligned, has_fit, has_fit_in}
 
 -- Tests if the block is a gap that is long enough for n addresses, but has no place for them at a multiple of a.
@@ -36,8 +36,10 @@ pub record IsWholeWindow (w : Range) (bs : List Block) : Type 0 where
   pub upto : end_of bs ≤ w.end
 
 -- The bounds on the nodes that a search within the window w enters in a tree with v gaps without a place. They are the
--- height for each of these gaps, for the path to the place that is found, and for a path to an end of the window.
+-- height for each of these gaps, for the path to the place that is found, and for a path to an end of the window. No node is
+-- entered twice.
 pub record IsSearchCount (w : Range) (n a v : ℕ) (s : Shape) (count : ℕ) : Type 0 where
   pub none : IsWholeWindow w (blocks s) → list_any (has_fit_in w n a) (blocks s) ≡ false → count ≤ height_of s * v
   pub whole : IsWholeWindow w (blocks s) → count ≤ height_of s * (v + 1)
   pub most : count ≤ height_of s * (v + 2)
+  pub all : count ≤ node_count s

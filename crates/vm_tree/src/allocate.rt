@@ -35,10 +35,7 @@ pub(crate) fn fits(link: &Link, search: &Search) -> bool
 fn has_no_place(answer: &Result<Taken, Refusal>) -> bool
     ensures { MatchBool result (answer.now ≡ Err Refusal.NoPlace) (answer.now ≢ Err Refusal.NoPlace) }
 {
-    match answer {
-        Err(Refusal::NoPlace) => true,
-        _ => false,
-    }
+    matches!(answer, Err(Refusal::NoPlace))
 }
 
 /// Counts a leaf if a search has found a place in it.

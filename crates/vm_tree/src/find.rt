@@ -12,7 +12,7 @@ use vm_leaf::{Block, Leaf};
 /// Returns the leaf whose blocks contain an address. Below all blocks this is the first leaf, and
 /// above all blocks the last one. It follows one path from the root.
 #[tactic(auto, using(crate::proofs::Lookups::descending))]
-pub(crate) fn leaf_at<'a>(tree: &'a Link, address: u64) -> &'a Leaf
+pub(crate) fn leaf_at(tree: &Link, address: u64) -> &Leaf
     requires tree { IsTree (side tree.now) }
     requires run { IsRun (blocks (side tree.now)) }
     ensures { IsLeafAt address (blocks (side tree.now)) result.now }

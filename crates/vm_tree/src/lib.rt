@@ -1,7 +1,7 @@
 //! A balanced tree of the blocks of an address space, whose leaves hold up to 32 blocks each.
 //!
-//! A block is a range of addresses that is allocated as a whole, or free as a whole. No other crate uses this
-//! tree yet: `vm_engine` has a tree with one node for each block.
+//! A block is a range of addresses that is allocated as a whole, or free as a whole. `IntervalTree` of
+//! `vm_engine` allocates and frees ranges in this tree.
 //!
 //! # How the tree is stated
 //!

@@ -10,7 +10,7 @@ use vm_leaf::{Leaf, Summary};
 
 /// A node with two children.
 #[cycle(tree)]
-#[derive(Drop)]
+#[derive(Debug, Drop)]
 pub(crate) struct Node {
     /// The first address of the right child.
     pub(crate) at: u64,
@@ -20,7 +20,7 @@ pub(crate) struct Node {
 
 /// A link to a subtree, with the summary of its gaps.
 #[cycle(tree)]
-#[derive(Drop)]
+#[derive(Debug, Drop)]
 pub(crate) enum Link {
     /// The subtree is moved elsewhere.
     Hole,

@@ -37,7 +37,7 @@ use vm_leaf::{Block, Leaf};
 use vm_ranges::{NodeState, RangeInclusive};
 
 /// The blocks of a space in a balanced tree.
-#[derive(Drop)]
+#[derive(Debug, Drop)]
 pub struct Tree {
     root: Link,
 }

@@ -263,8 +263,8 @@ impl AddressAllocator {
     ///     already allocated.
     /// - `ResourceNotAvailable` if there is no such range.
     /// - `Overflow` if the chosen range ends at `u64::MAX`, even if another range is free.
-    /// - `Overflow` if the range fills only a part of its gap and the height of the tree is 48 or
-    ///   more. This takes more than 6 * 10^9 ranges.
+    /// - `Overflow` if the range fills only a part of its gap and at least 6,293,134,512 ranges are
+    ///   allocated.
     ///
     /// # Example
     ///
@@ -341,8 +341,8 @@ impl AddressAllocator {
     ///   common.
     /// - `Overflow` if the chosen range ends at `u64::MAX`, even if another range is free. A window
     ///   that ends below `u64::MAX` avoids this.
-    /// - `Overflow` if the range fills only a part of its gap and the height of the tree is 48 or
-    ///   more. This takes more than 6 * 10^9 ranges.
+    /// - `Overflow` if the range fills only a part of its gap and at least 6,293,134,512 ranges are
+    ///   allocated.
     ///
     /// # Example
     ///
@@ -516,8 +516,8 @@ impl AddressAllocator {
     /// - `InvalidStateTransition` if exactly the new range is already allocated.
     /// - `ResourceNotAvailable` if an address of the new range is not free. Those of `key` are not.
     /// - `Overflow` if the new range ends at `u64::MAX`.
-    /// - `Overflow` if the new range fills only a part of its gap and the height of the tree is 48 or
-    ///   more. This takes more than 6 * 10^9 ranges.
+    /// - `Overflow` if the new range fills only a part of its gap and at least 6,293,134,512 ranges are
+    ///   allocated.
     ///
     /// # Example
     ///
@@ -652,8 +652,8 @@ impl AddressAllocator {
     /// Allocates a range like [`allocate`](Self::allocate), and also returns the number of tree
     /// nodes that the call entered.
     ///
-    /// Let h be the [`height`](Self::height) before the call. The count is at most 2h for
-    /// `ExactMatch`, and at most h(v + 2) for `FirstMatch` and `LastMatch`. Here v is the lesser of
+    /// Let h be the [`height`](Self::height) before the call. The count is at most h for
+    /// `ExactMatch`, and at most h(v + 1) for `FirstMatch` and `LastMatch`. Here v is the lesser of
     /// two numbers:
     /// - the gaps that are long enough but misaligned (0 if `alignment` is 1);
     /// - the gaps that have a multiple of `alignment` but are too short after it.
@@ -675,7 +675,7 @@ impl AddressAllocator {
     /// let (height, exact) = (mmio.height(), AllocPolicy::ExactMatch(0xd800_0000));
     /// let (range, entered) = mmio.allocate_counted(0x1000, 0x1000, exact);
     /// assert_eq!(range?.start(), 0xd800_0000);
-    /// assert!(entered <= 2 * height);
+    /// assert!(entered <= height);
     /// # Ok::<(), divsharun::Error>(())
     /// ```
     pub fn allocate_counted(
@@ -694,7 +694,7 @@ impl AddressAllocator {
     /// the number of tree nodes that the call entered.
     ///
     /// Without a window, the bounds are those of [`allocate_counted`](Self::allocate_counted). With a
-    /// window, the count is at most 2h for `ExactMatch`, and at most h(v + 3) for `FirstMatch` and
+    /// window, the count is at most h for `ExactMatch`, and at most h(v + 2) for `FirstMatch` and
     /// `LastMatch`. Here h is the [`height`](Self::height) before the call, and v is the lesser of
     /// two numbers:
     /// - the gaps whose part in the window is long enough but misaligned (0 if the alignment is 1);
@@ -714,9 +714,9 @@ impl AddressAllocator {
     /// let mut ports = AddressAllocator::new(0, 0x1000)?;
     /// let request = Constraint::new(0x10, 1, AllocPolicy::FirstMatch)?.within(0x400..=0x7ff)?;
     /// let (range, entered) = ports.allocate_constraint_counted(request);
-    /// assert_eq!((range?.start(), ports.height()), (0x400, 2));
+    /// assert_eq!((range?.start(), ports.height()), (0x400, 1));
     /// // The space was one gap, so its tree had a height of 1.
-    /// assert!(entered <= 4);
+    /// assert!(entered <= 2);
     /// # Ok::<(), divsharun::Error>(())
     /// ```
     pub fn allocate_constraint_counted(
@@ -755,7 +755,7 @@ impl AddressAllocator {
     }
 
     /// Frees a range like [`free`](Self::free), and also returns the number of tree nodes that the
-    /// call entered. The count is at most 4h, where h is the [`height`](Self::height) before the
+    /// call entered. The count is at most 3h, where h is the [`height`](Self::height) before the
     /// call.
     ///
     /// # Errors
@@ -773,7 +773,7 @@ impl AddressAllocator {
     /// let height = memory.height();
     /// let (freed, entered) = memory.free_counted(&module);
     /// assert_eq!((freed, memory.held_count()), (Ok(()), 0));
-    /// assert!(entered <= 4 * height);
+    /// assert!(entered <= 3 * height);
     /// # Ok::<(), divsharun::Error>(())
     /// ```
     pub fn free_counted(&mut self, key: &RangeInclusive) -> (Result<()>, u64) {
@@ -1077,10 +1077,11 @@ impl AddressAllocator {
         self.0.held_count()
     }
 
-    /// Returns the height of the tree: the number of nodes on its longest path, at most 49.
+    /// Returns the height of the tree: the number of nodes on its longest path, at most 48. A leaf is a
+    /// node, and has up to 32 allocated ranges and gaps.
     ///
-    /// The tree is balanced. With k allocated ranges its height h satisfies F(h + 2) <= 2k + 2,
-    /// where F is the Fibonacci sequence 1, 1, 2, 3, 5.
+    /// The tree is balanced. With k allocated ranges its height h is 1 or satisfies
+    /// 12 F(h + 1) <= 2k + 1, where F is the Fibonacci sequence 1, 1, 2, 3, 5.
     ///
     /// # Example
     ///
@@ -1092,8 +1093,8 @@ impl AddressAllocator {
     /// for _ in 0..1000 {
     ///     mmio.allocate(0x1000, 0x1000, AllocPolicy::FirstMatch)?;
     /// }
-    /// // F(17) is 1597, and F(18) is 2584, which is more than 2002.
-    /// assert!(mmio.height() <= 15);
+    /// // F(12) is 144, and 12 F(13) is 2796, which is more than 2001.
+    /// assert!(mmio.height() <= 11);
     /// # Ok::<(), divsharun::Error>(())
     /// ```
     #[must_use]

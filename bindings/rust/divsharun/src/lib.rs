@@ -101,10 +101,11 @@
 //! `height` and `longest_gap` take constant time. Other calls of allocators and managers take at most
 //! linear time.
 //!
-//! Each allocated range and each gap has a node of 56 bytes. Allocating or moving a range allocates one
-//! for each part of its gap that remains, and `allocate_all` also three lists. A copy allocates all
-//! nodes, `with_held` also a list, and `with_free` two. `reserve` and freeing, skipping or copying ids
-//! can allocate.
+//! The allocated ranges and gaps are in leaves of 280 bytes, with 12 to 32 of them in each leaf, and an
+//! inner node of 56 bytes joins two subtrees. A tree that is one leaf can have fewer. Allocating or moving
+//! a range allocates a leaf and an inner node if its leaf is full, and otherwise nothing, and
+//! `allocate_all` also three lists. A copy allocates all leaves and nodes, `with_held` also a list, and
+//! `with_free` two. `reserve` and freeing, skipping or copying ids can allocate.
 //!
 //! # Threads
 //!

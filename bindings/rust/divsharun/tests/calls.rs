@@ -461,7 +461,7 @@ fn held_ranges_can_be_asked_for() {
     for (start, end) in [(0, 0), (0, 3), (4, 7)] {
         assert!(!space.holds(&RangeInclusive::new(start, end).unwrap()));
     }
-    assert_eq!((space.held_count(), space.height()), (2, 2));
+    assert_eq!((space.held_count(), space.height()), (2, 1));
 }
 
 /// The space has the maximum number of addresses.

@@ -11,6 +11,7 @@ use divsharun::{
     HeldRanges, HeldRangesIn, IdAllocator, ListError, RangeInclusive, TryError,
 };
 use refusing::{blocks, peak_of, refusing};
+use std::array::from_fn;
 use std::cell::RefCell;
 use std::env;
 use std::fmt::Debug;
@@ -28,21 +29,25 @@ type Tried = Result<(), TryError>;
 type TriedCall = fn(&mut AddressAllocator) -> Tried;
 type EndedCall = fn(&mut AddressAllocator);
 
-/// Calls that return an error, each with the number of its allocations on [`two_held`]: one for a
-/// space, one for each free part of a gap that remains, one for each block of a copy or of a space
-/// with ranges. A call with ranges copies the list, and one with requests makes three lists. Holes
-/// between free ranges are a list too.
-const TRIED: [(u64, TriedCall); 36] = [
+/// Calls that return an error, each with the number of its allocations on [`full_leaf`]: one for each
+/// leaf and inner node of a new tree or of a copy, and two for a split of the full leaf. A call with
+/// ranges copies the list, and one with requests makes three lists. Holes between free ranges are a list
+/// too.
+const TRIED: [(u64, TriedCall); 37] = [
     (1, |_| AddressAllocator::try_new(0, 64).map(drop)),
-    (5, |space| space.try_clone().map(drop)),
+    (1, |space| space.try_clone().map(drop)),
     (1, |_| of_list(AddressAllocator::try_with_held(0, 64, &[]))),
-    (1 + 5, |_| {
+    (1 + 1, |_| {
         of_list(AddressAllocator::try_with_held(0, 64, &both()))
     }),
-    (1 + 4, |_| {
+    (1 + 1, |_| {
         of_list(AddressAllocator::try_with_held(16, 48, &both()))
     }),
-    (1 + 1 + 5, |_| {
+    (1 + (3 + 2) + (3 + 2), |_| {
+        let space = AddressAllocator::try_with_held(0, 160, &in_three_leaves())?;
+        space.try_clone().map(drop)
+    }),
+    (1 + 1 + 1, |_| {
         of_list(AddressAllocator::try_with_free(&three_gaps()))
     }),
     (1 + 1, |_| {
@@ -53,15 +58,15 @@ const TRIED: [(u64, TriedCall); 36] = [
         refused(AddressAllocator::try_with_free(&[both()[1], both()[0]]))
     }),
     (0, |_| refused(AddressAllocator::try_with_free(&[]))),
-    (3 + 3, |space| {
+    (3 + 2, |space| {
         of_list(space.try_allocate_all(&three_requests()))
     }),
     (0, |space| of_list(space.try_allocate_all(&[]))),
-    (3 + 1, |space| {
+    (3 + 2, |space| {
         refused(space.try_allocate_all(&[request(4, FirstMatch), request(64, FirstMatch)]))
     }),
-    (1, |space| space.try_allocate(4, 1, FirstMatch).map(drop)),
-    (1, |space| space.try_allocate(4, 1, LastMatch).map(drop)),
+    (2, |space| space.try_allocate(4, 1, FirstMatch).map(drop)),
+    (2, |space| space.try_allocate(4, 1, LastMatch).map(drop)),
     (2, |space| space.try_allocate(4, 1, ExactMatch(4)).map(drop)),
     (0, |space| {
         space.try_allocate(16, 1, ExactMatch(24)).map(drop)
@@ -99,7 +104,7 @@ const TRIED: [(u64, TriedCall); 36] = [
         let request = in_the_middle(16, FirstMatch);
         refused(space.try_move_constraint(&both()[0], request))
     }),
-    (3 + 2 + 1, |space| {
+    (3 + 2, |space| {
         let requests = [in_the_middle(4, LastMatch), request(4, FirstMatch)];
         of_list(space.try_allocate_all(&requests))
     }),
@@ -109,38 +114,38 @@ const TRIED: [(u64, TriedCall); 36] = [
     (0, |_| refused(one_held_id().try_free_id(1))),
     (0, |_| one_held_id().try_clone().map(drop)),
     (1, |_| DeviceManager::try_new(0, 0, 0, 64).map(drop)),
-    (7, |_| {
+    (6, |_| {
         let mut devices = DeviceManager::try_new(0, 0, 0, 64)?;
         devices.try_reserve(1, 1, FirstMatch)?;
         devices.try_release(0)
     }),
-    (8, |_| {
+    (6, |_| {
         let mut devices = DeviceManager::try_new(0, 0, 0, 64)?;
         devices.try_reserve_constraint(in_the_middle(1, FirstMatch))?;
         devices.try_release(0)
     }),
-    (1 + 1 + 3 + 2 + 3, |_| {
+    (1 + 3 + 1 + 3, |_| {
         let mut devices = DeviceManager::try_new(0, 0, 0, 64)?;
         devices.try_reserve(1, 1, FirstMatch)?;
         devices.try_clone().map(drop)
     }),
 ];
 
-/// Calls that end the process, each with the number of its allocations on [`two_held`]. A set or a
+/// Calls that end the process, each with the number of its allocations on [`full_leaf`]. A set or a
 /// map allocates two blocks for a few ids or devices.
 const ENDED: [(u64, EndedCall); 22] = [
     (1, |_| assert!(AddressAllocator::new(0, 64).is_ok())),
-    (5, |space| drop(space.clone())),
-    (1 + 5, |_| {
+    (1, |space| drop(space.clone())),
+    (1 + 1, |_| {
         assert!(AddressAllocator::with_held(0, 64, &both()).is_ok())
     }),
-    (1 + 1 + 5, |_| {
+    (1 + 1 + 1, |_| {
         assert!(AddressAllocator::with_free(&three_gaps()).is_ok())
     }),
-    (3 + 3, |space| {
+    (3 + 2, |space| {
         assert!(space.allocate_all(&three_requests()).is_ok())
     }),
-    (1, |space| assert!(space.allocate(4, 1, FirstMatch).is_ok())),
+    (2, |space| assert!(space.allocate(4, 1, FirstMatch).is_ok())),
     (2, |space| {
         assert!(space.allocate_counted(4, 1, ExactMatch(4)).0.is_ok())
     }),
@@ -170,14 +175,14 @@ const ENDED: [(u64, EndedCall); 22] = [
         assert!(ids.allocate_ids(3).is_ok())
     }),
     (1, |_| assert!(DeviceManager::new(0, 0, 0, 64).is_ok())),
-    (7, |_| {
+    (6, |_| {
         reserve_and_release(|devices| devices.reserve(1, 1, FirstMatch).is_ok())
     }),
-    (8, |_| {
+    (6, |_| {
         let request = in_the_middle(1, FirstMatch);
         reserve_and_release(|devices| devices.reserve_constraint(request).is_ok())
     }),
-    (1 + 1 + 3 + 2 + 3, |_| {
+    (1 + 3 + 1 + 3, |_| {
         let mut devices = DeviceManager::new(0, 0, 0, 64).expect("a manager");
         assert!(devices.reserve(1, 1, FirstMatch).is_ok());
         drop(devices.clone());
@@ -192,7 +197,7 @@ fn main() {
     if let Ok(text) = env::var(ENDING) {
         let (row, number) = text.split_once(' ').expect("two numbers");
         let (_, call) = ENDED[row.parse::<usize>().expect("a number")];
-        let mut space = two_held();
+        let mut space = full_leaf();
         refusing(number.parse().expect("a number"), || call(&mut space));
         return;
     }
@@ -202,6 +207,7 @@ fn main() {
     no_request_is_made();
     items_without_memory();
     lists_have_no_spare_bytes();
+    ranges_take_few_bytes();
     processes_are_ended();
     println!("each allocation is counted, and failed in turn");
 }
@@ -214,6 +220,22 @@ fn two_held() -> AddressAllocator {
         assert_eq!(held.map(|range| range.start()), Ok(start));
     }
     space
+}
+
+/// Returns [`two_held`] with 14 more allocated ranges behind it, so that its leaf has 32 blocks.
+fn full_leaf() -> AddressAllocator {
+    let mut held = both().to_vec();
+    held.extend(
+        (64..91)
+            .step_by(2)
+            .flat_map(|at| RangeInclusive::new(at, at)),
+    );
+    AddressAllocator::with_held(0, 91, &held).expect("a space")
+}
+
+/// Returns the ranges of a space of 160 addresses with 81 blocks.
+fn in_three_leaves() -> [RangeInclusive; 40] {
+    from_fn(|at| RangeInclusive::new(4 * at as u64 + 1, 4 * at as u64 + 2).expect("a range"))
 }
 
 /// Returns the ranges of [`two_held`].
@@ -236,12 +258,12 @@ fn in_the_middle(size: u64, policy: AllocPolicy) -> Constraint {
     request(size, policy).within(26..38).expect("a window")
 }
 
-/// Returns requests that split a gap at its start and another in the middle, and fill the third.
+/// Returns requests that fill a gap, and split another at its start and the third in the middle.
 fn three_requests() -> [Constraint; 3] {
     [
+        request(16, LastMatch),
         request(4, FirstMatch),
         request(4, ExactMatch(28)),
-        request(16, LastMatch),
     ]
 }
 
@@ -271,8 +293,7 @@ fn one_free_id() -> IdAllocator {
     ids
 }
 
-/// Makes one allocation for the space, one for each part of its gap that remains, and one for the
-/// list of devices. The map of devices and the set of freed ids take two each.
+/// Makes one allocation for the space, and one for the list of devices. The map of devices and the set of freed ids take two each.
 fn reserve_and_release(reserve: impl Fn(&mut DeviceManager) -> bool) {
     let mut devices = DeviceManager::new(0, 0, 0, 64).expect("a manager");
     assert!(reserve(&mut devices));
@@ -281,24 +302,24 @@ fn reserve_and_release(reserve: impl Fn(&mut DeviceManager) -> bool) {
 
 fn count_requests() {
     for (row, (requests, call)) in TRIED.iter().enumerate() {
-        let mut space = two_held();
+        let mut space = full_leaf();
         let (answer, made) = refusing(0, || call(&mut space));
         assert_eq!((answer, made), (Ok(()), *requests), "row {row}");
     }
     for (row, (requests, call)) in ENDED.iter().enumerate() {
-        let mut space = two_held();
+        let mut space = full_leaf();
         let before = blocks();
         let ((), made) = refusing(0, || call(&mut space));
         assert_eq!(made, *requests, "row {row}");
         drop(space);
-        assert_eq!(blocks(), before - 5, "row {row}");
+        assert_eq!(blocks(), before - 1, "row {row}");
     }
 }
 
 fn refuse_each_request() {
     for (row, (requests, call)) in TRIED.iter().enumerate() {
         for number in 1..=*requests {
-            let (mut space, unchanged) = (two_held(), two_held());
+            let (mut space, unchanged) = (full_leaf(), full_leaf());
             let before = blocks();
             let (answer, _) = refusing(number, || call(&mut space));
             assert_eq!(answer, Err(TryError::OutOfMemory), "row {row}");
@@ -332,6 +353,7 @@ fn objects_stay_the_same() {
         devices.try_release(0)
     });
     assert_eq!(devices.device_count(), 0);
+    let mut devices = DeviceManager::new(0, 1, 0, 64).expect("a manager");
     unchanged_until_allowed(&mut devices, DeviceManager::clone, |devices| {
         devices.try_reserve_constraint(in_the_middle(1, LastMatch))
     });
@@ -364,8 +386,8 @@ fn items_without_memory() {
         let (answer, _) = refusing(number, call);
         assert_eq!(answer, Err(ListError { index, error }), "{number}");
     };
-    for (number, index) in (1..).zip([None, None, None, Some(0), Some(1), Some(1)]) {
-        let space = RefCell::new(two_held());
+    for (number, index) in (1..).zip([None, None, None, Some(1), Some(1)]) {
+        let space = RefCell::new(full_leaf());
         expect(number, index, &|| {
             space.borrow_mut().try_allocate_all(&three_requests())?;
             Ok(())
@@ -373,10 +395,10 @@ fn items_without_memory() {
     }
     for number in 1..=6 {
         expect(number, None, &|| {
-            AddressAllocator::try_with_held(0, 64, &both()).map(drop)
+            AddressAllocator::try_with_held(0, 160, &in_three_leaves()).map(drop)
         });
         expect(number, None, &|| {
-            AddressAllocator::try_with_free(&three_gaps()).map(drop)
+            AddressAllocator::try_with_free(&in_three_leaves()).map(drop)
         });
     }
 }
@@ -401,7 +423,7 @@ fn no_request_is_made() {
         assert_eq!(at, (Some(held[0]), Some(three_gaps()[0])));
         let gaps = (space.gap_count(), space.longest_gap(), space.free_len());
         assert_eq!(gaps, (3, 16, 48));
-        assert!(space.cmp(&other).is_eq() && space.height() > 1);
+        assert!(space.cmp(&other).is_eq() && space.height() == 1);
         assert_eq!(space.allocate_all(&[]), Ok(Vec::new()));
         assert_eq!(space.free(&held[0]), Ok(()));
         assert_eq!(space.free_counted(&held[1]).0, Ok(()));
@@ -429,26 +451,36 @@ fn no_request_is_made() {
     assert_eq!(requests, 0);
 }
 
+/// The bytes of a leaf and of an inner node.
+const LEAF: usize = 280;
+const NODE: usize = 56;
+
+/// Returns the bytes of the tree that is built of this number of blocks.
+fn built(blocks: usize) -> usize {
+    let leaves = blocks.div_ceil(32);
+    leaves * LEAF + (leaves - 1) * NODE
+}
+
 /// Checks the bytes of calls with lists, of copies and walks, and of a small manager.
 fn lists_have_no_spare_bytes() {
     const COUNT: usize = 1000;
     let size = COUNT as u64;
-    let (_, node) = peak_of(|| AddressAllocator::new(0, 64));
-    assert_eq!(node, 56);
+    let (_, leaf) = peak_of(|| AddressAllocator::new(0, 64));
+    assert_eq!(leaf, LEAF);
     let held = (0..size).map(|number| RangeInclusive::new(2 * number, 2 * number));
     let held: Vec<_> = held.map(|range| range.expect("a range")).collect();
     let (_, bytes) = peak_of(|| AddressAllocator::with_held(0, 2 * size, &held));
     assert_eq!(
         bytes,
-        COUNT * size_of::<RangeInclusive>() + 2 * COUNT * node
+        COUNT * size_of::<RangeInclusive>() + built(2 * COUNT)
     );
     let (copy, bytes) = peak_of(|| AddressAllocator::with_free(&held));
     let holes = (2 * COUNT - 1) * size_of::<RangeInclusive>();
-    assert_eq!(bytes, holes + (2 * COUNT - 1) * node);
+    assert_eq!(bytes, holes + built(2 * COUNT - 1));
     let (_, bytes) = peak_of(|| copy.clone());
-    assert_eq!(bytes, (2 * COUNT - 1) * node);
-    // A walk has two paths of at most 50 nodes, and at most three numbers.
-    let walk = 100 * size_of::<usize>() + 3 * size_of::<u64>();
+    assert_eq!(bytes, built(2 * COUNT - 1));
+    // A walk has the tree, two parts of leaves, the span between them, and a number.
+    let walk = size_of::<usize>() * (1 + 2 * 4 + 3 + 1);
     assert!(size_of::<HeldRanges>() <= walk && size_of::<HeldRangesIn>() <= walk);
     assert!(size_of::<Gaps>() <= walk && size_of::<GapsIn>() <= walk);
     let mut space = AddressAllocator::new(0, size).expect("a space");
@@ -456,7 +488,8 @@ fn lists_have_no_spare_bytes() {
     let (ranges, bytes) = peak_of(|| space.allocate_all(&requests));
     assert_eq!(ranges.map(|ranges| ranges.capacity()), Ok(COUNT));
     let items = 2 * size_of::<RangeInclusive>() + size_of::<Constraint>();
-    assert_eq!(bytes, COUNT * items + (COUNT - 1) * node);
+    // The last leaf is split when it has 32 blocks and gets another one. It then has 13 of them.
+    assert_eq!(bytes, COUNT * items + (COUNT - 13) / 20 * (LEAF + NODE));
     let mut ids = IdAllocator::new(0, 2000).expect("ids");
     let (_, bytes) = peak_of(|| ids.allocate_ids(COUNT));
     assert_eq!(bytes, COUNT * size_of::<u32>());
@@ -470,6 +503,29 @@ fn lists_have_no_spare_bytes() {
     let (_, bytes) =
         peak_of(|| reserve_and_release(|devices| devices.reserve(1, 1, FirstMatch).is_ok()));
     assert!(bytes < 2 * 1024 + 600, "{bytes} bytes");
+}
+
+/// Checks the bytes of a space for each of 10^5 ranges, side by side or with a gap after each, and for each
+/// that is left after nine of ten were freed in a random order.
+fn ranges_take_few_bytes() {
+    const COUNT: usize = 100_000;
+    for (distance, most) in [(1, 18), (2, 36)] {
+        let mut space = AddressAllocator::new(0, 1 << 30).expect("a space");
+        let starts = (0..COUNT as u64).map(|number| distance * number);
+        let held = starts.map(|start| space.allocate(1, 1, ExactMatch(start)).expect("it is free"));
+        let mut held: Vec<_> = held.collect();
+        let (_, bytes) = peak_of(|| space.clone());
+        assert!(bytes <= most * COUNT, "{bytes} bytes");
+        let mut random = 1_u64;
+        for left in (COUNT / 10..COUNT).rev() {
+            random = random.wrapping_mul(6_364_136_223_846_793_005);
+            random = random.wrapping_add(1_442_695_040_888_963_407);
+            let freed = held.swap_remove((random >> 33) as usize % (left + 1));
+            assert_eq!(space.free(&freed), Ok(()));
+        }
+        let (_, bytes) = peak_of(|| space.clone());
+        assert!(bytes <= 40 * held.len(), "{bytes} bytes");
+    }
 }
 
 fn processes_are_ended() {

@@ -48,7 +48,7 @@ first_state : (first : AddressState) → Begins first → IsAddressState first
 first_state first (inl m) = made_state m.base m.size first m.word m.made
 first_state first (inr (inl m)) = held_state m.base m.size m.held first m.word m.ranges m.made
 first_state first (inr (inr (inr n))) = ⊎_elim (tree_read_state n.space n.tree first n.range) (keys_read_state n.space n.tree first n.range) n.nodes
-first_state first (inr (inr (inl r))) = ⊎_elim (λ s. subst IsAddressState s.is (encoded_state r.value s.allocator s.encoded)) (repaired_state r.value first) r.encoded
+first_state first (inr (inr (inl r))) = ⊎_elim (encoded_state r.value first) (repaired_state r.value first) r.encoded
 
 pub reached_state : (old : Reached) → IsAddressState old.state
 reached_state old =

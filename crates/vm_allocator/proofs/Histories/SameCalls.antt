@@ -12,7 +12,7 @@ use Rattle.vm_engine.specs.Answer.{SPLIT_LIMIT_MIN_HELD, Allocates, Frees}
 use Rattle.vm_engine.proofs.Results.AddressResults.{IsAllocation, outcome}
 use Rattle.vm_engine.proofs.Results.Outcomes.{IsRefused}
 use Rattle.vm_engine.proofs.Results.Once.{frees_once}
-use Rattle.vm_engine.proofs.Nodes.CountedTrees.{length_with}
+use Rattle.vm_engine.proofs.Trees.CountedTrees.{length_with}
 use Rattle.vm_allocator.specs.Several.{AllocatesEach}
 use Rattle.vm_allocator.specs.Histories.AddressHistories.{Call, Allocation, Several, Release, Move, Cloning, Asked, Allocate, AllocateAll, Free, MoveTo, Clone, asked_by, RunsOutOfMemory, IsCallFrom, IsHistoryFrom}
 use Rattle.vm_allocator.specs.Laws.HistoryLaws.{IsLimitOfAll, added_at_most, SameCallsSameResults}

@@ -17,12 +17,11 @@ use Rattle.vm_ranges.specs.declared.saved.ValueError.{ValueError}
 use Rattle.vm_ranges.specs.declared.saved.ValueError.TheVariants.{OutOfMemory}
 use Rattle.vm_engine.proofs.Reading.NestedTrees.{tree_nests}
 use Rattle.vm_engine.specs.Address.{AddressState}
-use Rattle.vm_allocator.specs.Allocator.{SpaceInTree}
 use Rattle.vm_allocator.specs.Ids.{IdState}
-use Rattle.vm_allocator.specs.Values.AllocatorValues.{EncodesTree, EncodesAllocator, EncodesAddresses}
+use Rattle.vm_allocator.specs.Values.AllocatorValues.{EncodesTree, EncodesAddresses}
 use Rattle.vm_allocator.specs.Values.IdValues.{EncodesNext, EncodesNumber, EncodesIds}
 use Rattle.vm_allocator.specs.Laws.ValueLaws.{ReadsWritten, ReadsText}
-use Rattle.vm_allocator.proofs.Reading.ReadAllocators.{one_allocator}
+use Rattle.vm_allocator.proofs.Reading.ReadAllocators.{one_addresses}
 use Rattle.vm_allocator.proofs.Ids.ReadIdStates.{one_encoded}
 use Rattle.vm_allocator.proofs.Reading.ReadAgain.{range_again, state_again, allocator_again, ids_again}
 
@@ -30,15 +29,12 @@ use Rattle.vm_allocator.proofs.Reading.ReadAgain.{range_again, state_again, allo
 root_nests : (d : Data) (Root : Data → Type 0) (n : ℕ) → ((v : Data) → Root v → depth v ≤ n) → EncodesTree d Root → depth d ≤ n + 1
 root_nests d Root n f p = let e = object_within n (codes "root" ∷ []) d (tt, tt) p.one_field (field_map (codes "root") d _ _ f p.root, tt) in omega (arith, e)
 
-pub allocator_nests : (d : Data) (a : SpaceInTree) → EncodesAllocator d a → depth d ≤ 52
-allocator_nests d a p =
-    object_within 51 (codes "address_space" ∷ codes "interval_tree" ∷ []) d ((refl, tt), (tt, tt)) p.two_fields (
-      field_map (codes "address_space") d _ _ (λ v k. let e = range_nests v a.space k in omega (arith, e)) p.address_space,
-      (field_map (codes "interval_tree") d _ _ (λ v k. root_nests v _ 50 (λ w t. tree_nests w a.space a.tree t) k) p.interval_tree, tt),
-    )
-
 pub addresses_nest : (d : Data) (state : AddressState) → EncodesAddresses d state → depth d ≤ 52
-addresses_nest d state p = allocator_nests d p.allocator p.encoded
+addresses_nest d state p =
+    object_within 51 (codes "address_space" ∷ codes "interval_tree" ∷ []) d ((refl, tt), (tt, tt)) p.two_fields (
+      field_map (codes "address_space") d _ _ (λ v k. let e = range_nests v state.space k in omega (arith, e)) p.address_space,
+      (field_map (codes "interval_tree") d _ _ (λ v k. root_nests v _ 50 (λ w t. tree_nests w state.space state t) k) p.interval_tree, tt),
+    )
 
 next_nests : (d : Data) (next : Option ℕ) → EncodesNext d next → depth d ≤ 1
 next_nests d None p = let e = ap depth p in omega (arith, e)
@@ -61,16 +57,16 @@ ids_nest d state p =
 
 -- ---- Texts
 -- The allocator that is read from the text of a written value is the allocator that was written.
-pub text_gives_again : (text : List ℕ) (d e : Data) (old new : SpaceInTree) → EncodesAllocator d old → IsTextOf text d → read text ≡ Some e → EncodesAllocator e new → new ≡ old
+pub text_gives_again : (text : List ℕ) (d e : Data) (old new : AddressState) → EncodesAddresses d old → IsTextOf text d → read text ≡ Some e → EncodesAddresses e new → new ≡ old
 text_gives_again text d e old new s t p q =
-    let same : e ≡ d = same_Some e d (sym p ∙ t (let n = allocator_nests d old s in omega (arith, n))) in
-    one_allocator d new old (subst (λ (v : Data). EncodesAllocator v new) same q) s
+    let same : e ≡ d = same_Some e d (sym p ∙ t (let n = addresses_nest d old s in omega (arith, n))) in
+    one_addresses d new old (subst (λ (v : Data). EncodesAddresses v new) same q) s
 
 -- The same, if the text is parsed to the value that was written.
-pub allocator_through_text : (d e : Data) (old new : SpaceInTree) → EncodesAllocator d old → (depth d ≤ max_depth → e ≡ d) → EncodesAllocator e new → new ≡ old
+pub allocator_through_text : (d e : Data) (old new : AddressState) → EncodesAddresses d old → (depth d ≤ max_depth → e ≡ d) → EncodesAddresses e new → new ≡ old
 allocator_through_text d e old new s t q =
-    let same = t (let n = allocator_nests d old s in omega (arith, n)) in
-    one_allocator d new old (subst (λ (v : Data). EncodesAllocator v new) same q) s
+    let same = t (let n = addresses_nest d old s in omega (arith, n)) in
+    one_addresses d new old (subst (λ (v : Data). EncodesAddresses v new) same q) s
 
 pub ids_through_text : (d e : Data) (old new : IdState) → EncodesIds d old → (depth d ≤ max_depth → e ≡ d) → EncodesIds e new → new ≡ old
 ids_through_text d e old new s t q =
@@ -78,8 +74,8 @@ ids_through_text d e old new s t q =
     one_encoded d new old (subst (λ (v : Data). EncodesIds v new) same q) s
 
 -- The text of a written value has a value.
-pub text_has_value : (text : List ℕ) (d : Data) (old : SpaceInTree) → EncodesAllocator d old → IsTextOf text d → read text ≡ None → ⊥
-text_has_value text d old s t p = let f = t (let n = allocator_nests d old s in omega (arith, n)) in cc
+pub text_has_value : (text : List ℕ) (d : Data) (old : AddressState) → EncodesAddresses d old → IsTextOf text d → read text ≡ None → ⊥
+text_has_value text d old s t p = let f = t (let n = addresses_nest d old s in omega (arith, n)) in cc
 
 text_again : {X : Type 0} (States : Data → X → Type 0) → ((d : Data) (x : X) → States d x → depth d ≤ max_depth) → ReadsWritten States → ReadsText States
 text_again {X} States nests again old value text parsed w t p =
@@ -95,8 +91,8 @@ range_text = text_again EncodesRange (λ d r p. let e = range_nests d r p in ome
 pub state_text : ReadsText EncodesState
 state_text = text_again EncodesState (λ d s p. let e = state_nests d s p in omega (arith, e)) state_again
 
-pub allocator_text : ReadsText EncodesAllocator
-allocator_text = text_again EncodesAllocator (λ d a p. let e = allocator_nests d a p in omega (arith, e)) allocator_again
+pub allocator_text : ReadsText EncodesAddresses
+allocator_text = text_again EncodesAddresses (λ d a p. let e = addresses_nest d a p in omega (arith, e)) allocator_again
 
 pub ids_text : ReadsText EncodesIds
 ids_text = text_again EncodesIds (λ d s p. let e = ids_nest d s p in omega (arith, e)) ids_again

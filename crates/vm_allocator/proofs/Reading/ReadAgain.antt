@@ -3,14 +3,14 @@ use Rattle.std.proofs.Common.{ap, inl, inr, refl, Ok, Err}
 use Rattle.serde_json.specs.View.{view}
 use Rattle.serde_json.specs.Data.{Data}
 use Rattle.vm_ranges.specs.RangeValues.{EncodesRange, EncodesState}
-use Rattle.vm_allocator.specs.Values.AllocatorValues.{EncodesAllocator}
+use Rattle.vm_allocator.specs.Values.AllocatorValues.{EncodesAddresses}
 use Rattle.vm_allocator.specs.Values.IdValues.{EncodesIds}
 use Rattle.vm_allocator.specs.Values.RepairedValues.{EncodesRepaired}
 use Rattle.vm_allocator.specs.Laws.ValueLaws.{EncodesAtMostOne, ReadsWritten, ReadersAgree}
 use Rattle.vm_ranges.specs.declared.saved.ValueError.TheVariants.{NotAState, OutOfMemory}
 use Rattle.vm_ranges.proofs.ReadRanges.{one_range}
 use Rattle.vm_ranges.proofs.ReadStates.{one_state}
-use Rattle.vm_allocator.proofs.Reading.ReadAllocators.{one_allocator}
+use Rattle.vm_allocator.proofs.Reading.ReadAllocators.{one_addresses}
 use Rattle.vm_allocator.proofs.Ids.ReadIdStates.{one_encoded}
 use Rattle.vm_allocator.proofs.Reading.ReadRepaired.{one_repaired, strict_repaired}
 
@@ -20,8 +20,8 @@ one_range_encoded = one_range
 pub one_state_encoded : EncodesAtMostOne EncodesState
 one_state_encoded = one_state
 
-pub one_allocator_encoded : EncodesAtMostOne EncodesAllocator
-one_allocator_encoded = one_allocator
+pub one_allocator_encoded : EncodesAtMostOne EncodesAddresses
+one_allocator_encoded = one_addresses
 
 pub one_ids_encoded : EncodesAtMostOne EncodesIds
 one_ids_encoded = one_encoded
@@ -42,8 +42,8 @@ range_again = again EncodesRange one_range
 pub state_again : ReadsWritten EncodesState
 state_again = again EncodesState one_state
 
-pub allocator_again : ReadsWritten EncodesAllocator
-allocator_again = again EncodesAllocator one_allocator
+pub allocator_again : ReadsWritten EncodesAddresses
+allocator_again = again EncodesAddresses one_addresses
 
 pub ids_again : ReadsWritten EncodesIds
 ids_again = again EncodesIds one_encoded

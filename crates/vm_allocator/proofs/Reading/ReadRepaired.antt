@@ -9,18 +9,13 @@ use Rattle.vm_ranges.specs.declared.saved.ValueError.{ValueError}
 use Rattle.vm_ranges.specs.declared.saved.ValueError.TheVariants.{NotAState, OutOfMemory}
 use Rattle.vm_engine.specs.Address.{AddressState, IsAddressState}
 use Rattle.vm_engine.specs.Answer.{SPLIT_LIMIT_MIN_HELD}
-use Rattle.vm_engine.specs.Tree.Blocks.{held_of}
-use Rattle.vm_engine.specs.Tree.Shape.{blocks}
 use Rattle.vm_engine.specs.Values.TreeValues.{EncodesSpaceTree}
 use Rattle.vm_engine.specs.Values.KeyValues.{EncodesKeys}
 use Rattle.vm_engine.proofs.Repairing.RepairedTrees.{one_keys, keys_state, strict_keys}
-use Rattle.vm_engine.proofs.SavedNodes.Roots.{state_with}
-use Rattle.vm_allocator.specs.Allocator.{SpaceInTree}
-use Rattle.vm_allocator.specs.Values.AllocatorValues.{EncodesTree, EncodesAllocator, EncodesAddresses}
+use Rattle.vm_allocator.specs.Values.AllocatorValues.{EncodesTree, EncodesAddresses}
 use Rattle.vm_allocator.specs.Values.RepairedValues.{EncodesRepaired}
 use Rattle.vm_allocator.specs.Checks.AllocatorChecks.{decoded_parts}
 use Rattle.vm_allocator.proofs.Reading.AllocatorParts.{HasParts, parts_encoded, parts_are, one_root}
-use Rattle.vm_allocator.proofs.Reading.ReadAllocators.{encoded_ends}
 
 abbrev RootIs : AddressState → Data → Type 0
 RootIs state v = EncodesKeys v state.space state
@@ -41,25 +36,19 @@ one_repaired d a b p q =
 pub repaired_state : (d : Data) (state : AddressState) → EncodesRepaired d state → IsAddressState state
 repaired_state d state p = let r = root_of d state p in keys_state r.0 state r.3 r.2
 
--- A value that is read without repairs is read with repairs to the same state, if the height never makes a split fail.
-strict_tree : (d : Data) (a : SpaceInTree) → length (held_of (blocks a.tree)) ≤ SPLIT_LIMIT_MIN_HELD → EncodesTree d (λ v. EncodesSpaceTree v a.space a.tree) → EncodesTree d (λ v. EncodesKeys v a.space (state_with a.space (held_of (blocks a.tree))))
-strict_tree d a few t = record {
+-- A value that is read without repairs is read with repairs to the same state, if few enough ranges are held.
+strict_tree : (d : Data) (state : AddressState) → length state.held ≤ SPLIT_LIMIT_MIN_HELD → EncodesTree d (λ v. EncodesSpaceTree v state.space state) → EncodesTree d (λ v. EncodesKeys v state.space state)
+strict_tree d state few t = record {
   one_field = t.one_field;
-  root = field_map (codes "root") d (λ v. EncodesSpaceTree v a.space a.tree) (λ v. EncodesKeys v a.space (state_with a.space (held_of (blocks a.tree)))) (λ v p. strict_keys v a.space a.tree p few) t.root;
-}
-
-strict_with : (d : Data) (a : SpaceInTree) → EncodesAllocator d a → length (held_of (blocks a.tree)) ≤ SPLIT_LIMIT_MIN_HELD → EncodesRepaired d (state_with a.space (held_of (blocks a.tree)))
-strict_with d a p few = record {
-  two_fields = p.two_fields;
-  address_space = p.address_space;
-  interval_tree = field_map (codes "interval_tree") d (λ v. EncodesTree v (λ r. EncodesSpaceTree r a.space a.tree)) (λ v. EncodesTree v (λ r. EncodesKeys r a.space (state_with a.space (held_of (blocks a.tree))))) (λ v. strict_tree v a few) p.interval_tree;
+  root = field_map (codes "root") d (λ v. EncodesSpaceTree v state.space state) (λ v. EncodesKeys v state.space state) (λ v p. strict_keys v state.space state p few) t.root;
 }
 
 pub strict_repaired : (d : Data) (state : AddressState) → EncodesAddresses d state → length state.held ≤ SPLIT_LIMIT_MIN_HELD → EncodesRepaired d state
-strict_repaired d state p few =
-    let a = p.allocator in
-    let same : state_with a.space (held_of (blocks a.tree)) ≡ state = ap (λ (r : Range). state_with r (held_of (blocks a.tree))) (sym (encoded_ends d a p.encoded)) ∙ p.is in
-    subst (EncodesRepaired d) same (strict_with d a p.encoded (subst (λ (v : AddressState). length v.held ≤ SPLIT_LIMIT_MIN_HELD) (sym same) few))
+strict_repaired d state p few = record {
+  two_fields = p.two_fields;
+  address_space = p.address_space;
+  interval_tree = field_map (codes "interval_tree") d (λ v. EncodesTree v (λ r. EncodesSpaceTree r state.space state)) (λ v. EncodesTree v (λ r. EncodesKeys r state.space state)) (λ v. strict_tree v state few) p.interval_tree;
+}
 
 -- The facts that the contracts of the code need.
 

@@ -6,7 +6,8 @@ use Rattle.std.proofs.lemmas.List.Elements.{All-head, All-tail}
 use Rattle.vm_ranges.specs.Range.{Range, MAX, IsRange, IsIn, address_count, span}
 use Rattle.vm_ranges.specs.Alignment.{IsAlignment}
 use Rattle.vm_ranges.specs.Request.{IsRequest, IsStartAligned, request_for}
-use Rattle.vm_engine.specs.Address.{AddressState, AreInOrder}
+use Rattle.vm_engine.specs.Address.{AddressState}
+use Rattle.vm_tree.specs.Building.{AreInOrder}
 use Rattle.vm_engine.specs.Answer.{ByStart, ByExactPolicy, Grants, Allocates}
 use Rattle.vm_engine.specs.Held.{range_fault, or_else, first_fault}
 use Rattle.vm_allocator.specs.Laws.SeveralLaws.{AreAscending, FailsAt, FaultIsThatOfExactMatch}

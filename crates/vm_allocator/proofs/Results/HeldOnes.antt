@@ -10,7 +10,8 @@ use Rattle.vm_ranges.specs.Request.{request_for}
 use Rattle.vm_ranges.specs.declared.constraint.AllocPolicy.TheVariants.{ExactMatch}
 use Rattle.vm_ranges.specs.declared.error.Error.{Error}
 use Rattle.vm_ranges.specs.declared.error.Error.TheVariants.{Overflow, ResourceNotAvailable, OutOfMemory}
-use Rattle.vm_engine.specs.Address.{AddressState, AreInOrder, IsAddressState, with_range}
+use Rattle.vm_engine.specs.Address.{AddressState, IsAddressState, with_range}
+use Rattle.vm_tree.specs.Building.{AreInOrder}
 use Rattle.vm_engine.specs.Answer.{Makes}
 use Rattle.vm_engine.specs.Held.{range_fault, or_else, first_fault, TOO_MANY_BLOCKS, BySpace, MakesHeld, MakesWithHeld}
 use Rattle.vm_engine.specs.Tree.Blocks.{blocks_of}

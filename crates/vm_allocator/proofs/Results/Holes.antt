@@ -8,8 +8,8 @@ use Rattle.vm_ranges.specs.Cases.{Unless}
 use Rattle.vm_ranges.specs.Range.{Range, MAX, IsRange, IsIn, span}
 use Rattle.vm_engine.specs.Address.{AddressState, IsClear}
 use Rattle.vm_engine.specs.Held.{first_fault, fault_index, BySpace, MakesHeld}
-use Rattle.vm_engine.specs.Tree.Block.{held_block}
-use Rattle.vm_engine.specs.Tree.Blocks.{gap_before, blocks_between}
+use Rattle.vm_leaf.specs.Block.{held_block}
+use Rattle.vm_tree.specs.Building.{gap_before, blocks_between}
 use Rattle.vm_ranges.specs.declared.error.Error.{Error}
 use Rattle.vm_ranges.specs.declared.error.Error.TheVariants.{Overflow, OutOfMemory, ResourceNotAvailable, InvalidRange}
 use Rattle.vm_engine.proofs.Making.HeldTrees.{held_made, makes_high, makes_memory}

@@ -4,7 +4,7 @@ use Rattle.vm_ranges.specs.Range.{Range, MAX, span}
 use Rattle.vm_engine.specs.Answer.{Makes}
 use Rattle.vm_engine.specs.Address.{AddressState}
 use Rattle.vm_ranges.specs.declared.error.Error.{Error}
-use Rattle.vm_engine.specs.Tree.Shape.{Shape, blocks}
+use Rattle.vm_tree.specs.Shape.{Shape, blocks}
 use Rattle.vm_engine.specs.Tree.SpaceTree.{space_of, tree_state}
 use Rattle.vm_engine.proofs.Making.HeldTrees.{held_made}
 use Rattle.vm_engine.specs.Held.{BySpace, MakesSpace, MakesHeld, MakesWithHeld, HasFaultIndex, fault_index}

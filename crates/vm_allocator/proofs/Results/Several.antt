@@ -6,8 +6,8 @@ use Rattle.vm_ranges.specs.Range.{Range}
 use Rattle.vm_ranges.specs.Request.{Request, IsRequest, ByConstraint}
 use Rattle.vm_engine.specs.Address.{AddressState, IsAddressState}
 use Rattle.vm_engine.specs.Answer.{Grants, Allocates, Frees}
-use Rattle.vm_engine.specs.Tree.Shape.{Shape, height_of}
-use Rattle.vm_engine.specs.Counts.Steps.{SplitsIfLow}
+use Rattle.vm_tree.specs.Shape.{Shape}
+use Rattle.vm_engine.specs.Counts.Steps.{SplitsIfFew}
 use Rattle.vm_engine.specs.Tree.SpaceTree.{tree_state}
 use Rattle.vm_allocator.specs.Several.{EachBy, FailsBy, FailsAtIndex, AllocatesEach, RefusesOne, AllocatesInTree}
 use Rattle.vm_ranges.specs.declared.error.Error.{Error}
@@ -92,8 +92,8 @@ refused_by step old all i e h = subst (λ (v : List Request). FailsBy step old v
 
 -- ---- One request in a tree
 -- The result of a valid request in a tree.
-pub in_tree : (request : Request) (old new : Shape) (answer : Result Range Error) → IsRequest request → Grants (tree_state old) request answer (tree_state new) → SplitsIfLow (height_of old) (tree_state old) request answer → AllocatesInTree old request answer new
-in_tree request old new answer v g d = record { state = request_allocates request (tree_state old) (tree_state new) answer v g; depth = d }
+pub in_tree : (request : Request) (old new : Shape) (answer : Result Range Error) → IsRequest request → Grants (tree_state old) request answer (tree_state new) → SplitsIfFew (tree_state old) request answer → AllocatesInTree old request answer new
+in_tree request old new answer v g d = record { state = request_allocates request (tree_state old) (tree_state new) answer v g; few = d }
 
 pub failed_in_tree : (all : List Request) (i : ℕ) (rs : List Range) (old mid new : Shape) (q : Request) (e : Error) → i < length all → q ≡ get_or all i q → EachBy AllocatesInTree old (take i all) rs mid → AllocatesInTree mid q (Err e) new → new ≡ mid → FailsAtIndex AllocatesInTree old all i e
 failed_in_tree all i rs old mid new q e l is s a same = record {

@@ -3,7 +3,8 @@ use Rattle.std.proofs.Common.{◌≡◌, ℕ, ◌+◌, ◌-◌, ◌<◌, ◌≤�
 use Rattle.vm_ranges.specs.Cases.{IfElse}
 use Rattle.vm_ranges.specs.Range.{Range, MAX, Covers, span}
 use Rattle.vm_ranges.specs.Request.{Request, ByConstraint}
-use Rattle.vm_engine.specs.Windows.{common, within}
+use Rattle.vm_leaf.specs.Windows.{common}
+use Rattle.vm_engine.specs.Windows.{within}
 use Rattle.vm_engine.specs.Address.{AddressState, IsPlace, IsLowestPlace, IsHighestPlace}
 use Rattle.vm_engine.specs.Answer.{IsChosen, ByStart, ByExactPolicy, ByPlace, AllocatesAt, Grants, Allocates}
 use Rattle.vm_allocator.specs.Laws.WindowLaws.{in_window, anywhere, LiesInWindow, WholeWindowIsNone, KeptInWindow}

@@ -1,21 +1,15 @@
 -- Laws of objects that are restored from their saved values, and of the calls after that.
-use Rattle.std.specs.Prelude.{◌≡◌, ◌↔◌, ℕ, List, Result, Ok}
+use Rattle.std.specs.Prelude.{◌≡◌, ◌↔◌, List, Ok}
 use Rattle.serde_json.specs.Data.{Data}
 use Rattle.serde_json.specs.View.{view}
 use Rattle.serde_json.specs.declared.value.Value.{Value}
-use Rattle.vm_ranges.specs.Range.{Range}
-use Rattle.vm_ranges.specs.Request.{Request}
 use Rattle.vm_ranges.specs.Saving.{Saves, Reads}
-use Rattle.vm_ranges.specs.declared.error.Error.{Error}
 use Rattle.vm_engine.specs.Address.{AddressState}
-use Rattle.vm_engine.specs.Tree.Shape.{Shape, blocks}
+use Rattle.vm_tree.specs.Shape.{Shape, blocks}
 use Rattle.vm_engine.specs.Tree.SpaceTree.{space_of, tree_state, IsSpaceTree}
 use Rattle.vm_engine.specs.Values.SavedTrees.{Saved, HasTreeOf}
 use Rattle.vm_engine.specs.Values.WrittenTrees.{IsWritten}
-use Rattle.vm_allocator.specs.Allocator.{SpaceInTree}
-use Rattle.vm_allocator.specs.Values.AllocatorValues.{EncodesAllocator}
 use Rattle.vm_allocator.specs.Histories.AddressHistories.{Call, IsHistoryFrom}
-use Rattle.vm_allocator.specs.Histories.CountedHistories.{Allocation, Release, IsCountedCallFrom}
 
 -- The object that is restored from the value of a saved object is the saved object. So a list of calls with its results is a
 -- history of the one exactly if it is a history of the other.
@@ -24,19 +18,6 @@ RestoredIsSaved {X} {C} States History =
     (saved restored last : X) (value : Value) (calls : List C) →
     Saves (λ d. States d saved) (Ok value) → Reads (States (view value)) (Ok restored) →
     (restored ≡ saved) × (History restored calls last ↔ History saved calls last)
-
--- A call enters as many nodes in a restored allocator as in the saved one, if it has the same result in both.
-pub record RestoredCountsAgree : Type 0 where
-  pub allocation : (saved restored new later : SpaceInTree) (value : Value) (request : Request) (answer : Result Range Error)
-      (n m : ℕ) →
-      Saves (λ d. EncodesAllocator d saved) (Ok value) → Reads (EncodesAllocator (view value)) (Ok restored) →
-      IsCountedCallFrom saved (Allocation request answer n) new →
-      IsCountedCallFrom restored (Allocation request answer m) later → n ≡ m
-  pub release : (saved restored new later : SpaceInTree) (value : Value) (r : Range) (answer : Result (Unit {0}) Error)
-      (n m : ℕ) →
-      Saves (λ d. EncodesAllocator d saved) (Ok value) → Reads (EncodesAllocator (view value)) (Ok restored) →
-      IsCountedCallFrom saved (Release r answer n) new →
-      IsCountedCallFrom restored (Release r answer m) later → n ≡ m
 
 -- An allocator that is restored node by node, from the tree that is written for the saved one, has the state of the saved
 -- one. So a list of calls with its results is a history of the one exactly if it is a history of the other.

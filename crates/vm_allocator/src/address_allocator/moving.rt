@@ -4,8 +4,8 @@ ghost use Rattle.std.specs.List.{Contains};
 ghost use Rattle.vm_ranges.specs.Cases.{IsTestOf};
 ghost use Rattle.vm_ranges.specs.Range.{Covers, address_count};
 ghost use Rattle.vm_engine.specs.Address.{IsAddressState};
-ghost use Rattle.vm_engine.specs.Tree.Shape.{height_of};
-ghost use Rattle.vm_engine.specs.Counts.Steps.{SplitsIfLow};
+ghost use Rattle.vm_tree.specs.Shape.{height_of};
+ghost use Rattle.vm_engine.specs.Counts.Steps.{SplitsIfFew};
 ghost use Rattle.vm_allocator.specs.Allocator.{state_of};
 ghost use Rattle.vm_allocator.specs.Moves.{IsFor, request_to, replacing, MovesRange};
 
@@ -49,8 +49,8 @@ impl AddressAllocator {
         // Each result under its exact condition. The limit on the height is checked before memory is
         // allocated.
         ensures answer { MovesRange (state_of self.old) key.now request result (state_of self.new) }
-        ensures depth { Contains (state_of self.old).held key.now → ¬ IsFor key.now request
-            → SplitsIfLow (height_of self.old.tree) (state_of self.old) request result }
+        ensures few { Contains (state_of self.old).held key.now → ¬ IsFor key.now request
+            → SplitsIfFew (state_of self.old) request result }
     {
         if !self.interval_tree.holds(key) {
             return Err(Error::ResourceNotAvailable);
@@ -82,8 +82,8 @@ impl AddressAllocator {
     /// - `ResourceNotAvailable` if an address of the new range is not free, as those of `key`.
     /// - `Overflow` if the new range ends at `u64::MAX`.
     /// - Only if the new range splits its gap:
-    ///   - `Overflow` if the height of the tree is 48 or more.
-    ///   - `OutOfMemory` if the allocation of a node fails.
+    ///   - `Overflow` if 6,293,134,512 ranges or more are allocated.
+    ///   - `OutOfMemory` if an allocation fails.
     pub fn move_range(
         &mut self,
         alloc: Global,
@@ -102,9 +102,9 @@ impl AddressAllocator {
         ensures stays { Contains (state_of self.old).held key.now → start ≡ key.now.start
             → (result ≡ Ok key.now) × (self.new ≡ self.old) }
 
-        // The limit on the height is checked before memory is allocated.
-        ensures depth { Contains (state_of self.old).held key.now → start ≢ key.now.start
-            → SplitsIfLow (height_of self.old.tree) (state_of self.old) (request_to key.now start) result }
+        // The limit on the number of ranges is checked before memory is allocated.
+        ensures few { Contains (state_of self.old).held key.now → start ≢ key.now.start
+            → SplitsIfFew (state_of self.old) (request_to key.now start) result }
 
         // Each result under its exact condition.
         ensures answer { MovesRange (state_of self.old) key.now (request_to key.now start) result

@@ -18,8 +18,8 @@ impl AddressAllocator {
     /// # Errors
     ///
     /// An error leaves the same ranges allocated, because the ranges allocated so far are freed again.
-    /// All later calls have the same results. The shape of the tree can differ, and so the height, the
-    /// counts of later calls and `to_value`.
+    /// All later calls have the same results. The shape of the tree can differ, and so the height and the
+    /// counts of later calls.
     /// - `OutOfMemory` without an index if the allocation of the list fails. This is first, and leaves the
     ///   same tree.
     /// - The error of the first request that fails, with its index.
@@ -31,8 +31,8 @@ impl AddressAllocator {
         ensures answer { MatchResult result
             (λ ranges. AllocatesEach (state_of self.old) requests.now ranges.items (state_of self.new))
             (λ failure. FailsAll (state_of self.old) requests.now failure.error (state_of self.new)) }
-        // The limit on the height is checked before memory is allocated.
-        ensures depth { IfOk result (λ ranges.
+        // The limit on the number of ranges is checked before memory is allocated.
+        ensures few { IfOk result (λ ranges.
             EachBy AllocatesInTree self.old.tree requests.now ranges.items self.new.tree) }
         ensures failed { IfErr result (λ failure.
             FailsAsNamed AllocatesInTree self.old.tree requests.now failure self.new.tree) }

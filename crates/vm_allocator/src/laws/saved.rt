@@ -1,13 +1,12 @@
 //! Laws of saved values.
 ghost use Rattle.vm_ranges.specs.RangeValues.{EncodesRange, EncodesState};
-ghost use Rattle.vm_allocator.specs.Values.AllocatorValues.{EncodesAllocator};
+ghost use Rattle.vm_allocator.specs.Values.AllocatorValues.{EncodesAddresses};
 ghost use Rattle.vm_allocator.specs.Values.RepairedValues.{EncodesRepaired};
 ghost use Rattle.vm_allocator.specs.Values.IdValues.{EncodesIds};
-ghost use Rattle.vm_allocator.specs.Histories.CountedHistories.{IsCountedHistoryFrom};
+ghost use Rattle.vm_allocator.specs.Histories.AddressHistories.{IsHistoryFrom};
 ghost use Rattle.vm_allocator.specs.Histories.IdHistories.{IsIdHistoryFrom};
 ghost use Rattle.vm_allocator.specs.Laws.RestoredLaws.{
   RestoredIsSaved,
-  RestoredCountsAgree,
   RestoredNodesHaveState,
 };
 ghost use Rattle.vm_allocator.specs.Laws.ValueLaws.{
@@ -24,43 +23,39 @@ ghost use Rattle.vm_allocator.specs.Laws.ValueLaws.{
 fn values_encode_at_most_one()
     ensures ranges { EncodesAtMostOne EncodesRange }
     ensures node_states { EncodesAtMostOne EncodesState }
-    ensures address_allocators { EncodesAtMostOne EncodesAllocator }
+    ensures address_allocators { EncodesAtMostOne EncodesAddresses }
     ensures id_allocators { EncodesAtMostOne EncodesIds }
     ensures repaired { EncodesAtMostOne EncodesRepaired }
 {}
 
-/// Proves that `from_value` reads the value that `to_value` writes, and returns the same object,
-/// node for node, unless memory runs out.
+/// Proves that `from_value` reads the value that `to_value` writes, and returns an object with the same
+/// state, unless memory runs out.
 #[tactic(auto, using(crate::proofs::Reading::ReadAgain::read_again))]
 fn written_is_read()
     ensures ranges { ReadsWritten EncodesRange }
     ensures node_states { ReadsWritten EncodesState }
-    ensures address_allocators { ReadsWritten EncodesAllocator }
+    ensures address_allocators { ReadsWritten EncodesAddresses }
     ensures id_allocators { ReadsWritten EncodesIds }
 {}
 
-/// Proves that a restored allocator is the saved one: `from_value` of the value that `to_value` wrote
-/// returns the same tree, node for node, and for ids the same state. So the same lists of calls, with
-/// their results and counts, are possible for both, and a call with the same result enters the same
-/// number of nodes.
+/// Proves that a restored allocator has the state of the saved one: `from_value` of the value that
+/// `to_value` wrote returns this state, and so does `from_nodes` of the nodes that are written. So the
+/// same lists of calls with their results are possible for both.
 ///
-/// An allocator that `from_nodes` restores has the state of the saved one, in a tree of the minimum
-/// height. So by the law `StateDecides` its results are those of the saved one, except that a split can
-/// fail for the height of only one of the trees. Its counts can differ.
+/// The tree of a restored allocator has the minimum height, so the counts of both can differ.
 fn restored_are_saved()
-    ensures address_allocators { RestoredIsSaved EncodesAllocator IsCountedHistoryFrom }
+    ensures address_allocators { RestoredIsSaved EncodesAddresses IsHistoryFrom }
     ensures id_allocators { RestoredIsSaved EncodesIds IsIdHistoryFrom }
-    ensures counts { RestoredCountsAgree }
     ensures nodes { RestoredNodesHaveState }
 {}
 
 /// Proves that a saved object survives its JSON text: `to_value`, `to_string`, `from_str` and
-/// `from_value` in turn return the same object, node for node, unless memory runs out.
+/// `from_value` in turn return an object with the same state, unless memory runs out.
 #[tactic(auto, using(crate::proofs::Reading::NestedValues::texts))]
 fn texts_are_read()
     ensures ranges { ReadsText EncodesRange }
     ensures node_states { ReadsText EncodesState }
-    ensures address_allocators { ReadsText EncodesAllocator }
+    ensures address_allocators { ReadsText EncodesAddresses }
     ensures id_allocators { ReadsText EncodesIds }
 {}
 

@@ -1,10 +1,12 @@
 //! The saved value of an address allocator.
 ghost use Rattle.std.specs.Prelude.{◌≡◌, IfOk, option_map};
 ghost use Rattle.serde_json.specs.View.{view};
+ghost use Rattle.vm_tree.specs.Building.{IsLowestHeight};
+ghost use Rattle.vm_tree.specs.Shape.{height_of, node_count};
 ghost use Rattle.vm_engine.specs.Address.{IsAddressState};
 ghost use Rattle.vm_ranges.specs.Saving.{Saves, Reads};
 ghost use Rattle.vm_allocator.specs.Allocator.{state_of, made_state};
-ghost use Rattle.vm_allocator.specs.Values.AllocatorValues.{EncodesAllocator, EncodesAddresses};
+ghost use Rattle.vm_allocator.specs.Values.AllocatorValues.{EncodesAddresses};
 ghost use Rattle.vm_allocator.specs.Values.RepairedValues.{EncodesRepaired};
 ghost use Rattle.vm_allocator.specs.Checks.AllocatorChecks.{AllocatorParts, decoded_parts, decoded_root};
 
@@ -15,22 +17,22 @@ use vm_engine::IntervalTree;
 use vm_ranges::{RangeInclusive, Result, ValueError, has_fields, range_in};
 
 impl AddressAllocator {
-    /// Encodes the allocator as a value: its space, and its tree node by node.
+    /// Encodes the allocator as a value: its space, and a balanced tree of its blocks.
     ///
     /// # Errors
     ///
     /// - `OutOfMemory` if an allocation fails.
     #[tactic(auto, using(crate::proofs::Reading::WrittenAllocators::allocators))]
     pub fn to_value(&self, alloc: Global) -> Result<Value>
-        ensures { Saves (λ d. EncodesAllocator d self.now) result }
+        ensures { Saves (λ d. EncodesAddresses d (state_of self.now)) result }
     {
         let root = self.interval_tree.to_root_value(alloc)?;
         let space = self.address_space.to_value(alloc)?;
         Ok(allocator_object(alloc, space, root)?)
     }
 
-    /// Decodes an allocator from a value: its space and its allocated ranges, in a tree with the
-    /// same nodes.
+    /// Decodes an allocator from a value: its space and its allocated ranges. Its tree has the minimum
+    /// height.
     ///
     /// The value can be untrusted input. All of it is checked before anything is allocated, and the
     /// check descends at most 50 levels.
@@ -42,7 +44,8 @@ impl AddressAllocator {
     /// - `OutOfMemory` if an allocation fails.
     pub fn from_value(alloc: Global, value: &Value) -> std::result::Result<Self, ValueError>
         ensures answer { Reads (EncodesAddresses (view value.now)) (made_state result) }
-        ensures nodes { Reads (EncodesAllocator (view value.now)) result }
+        ensures low { IfOk result (λ allocator.
+            IsLowestHeight (node_count allocator.tree) (height_of allocator.tree)) }
         ensures state { IfOk result (λ allocator. IsAddressState (state_of allocator)) }
     {
         let Some(parts) = decode_parts(value) else {
@@ -60,7 +63,7 @@ impl AddressAllocator {
     ///
     /// The keys that are `Allocated` are the allocated ranges, and all other addresses of the space
     /// are free. The tree can have no nodes, gaps between keys, free neighbours, no balance and any
-    /// heights.
+    /// heights. The allocator's tree has the minimum height.
     ///
     /// A value that [`from_value`](Self::from_value) reads is read to an equal allocator, if at
     /// most 6,293,134,512 ranges are allocated.
@@ -77,12 +80,14 @@ impl AddressAllocator {
     ///   - The keys are not in ascending order, overlap, or are not in the space.
     ///   - An allocated key ends at `u64::MAX`.
     ///   - More than 6,293,134,512 keys are allocated.
-    /// - `OutOfMemory` if the allocation of a node fails.
+    /// - `OutOfMemory` if an allocation fails.
     pub fn from_value_repaired(
         alloc: Global,
         value: &Value,
     ) -> std::result::Result<Self, ValueError>
         ensures answer { Reads (EncodesRepaired (view value.now)) (made_state result) }
+        ensures low { IfOk result (λ allocator.
+            IsLowestHeight (node_count allocator.tree) (height_of allocator.tree)) }
         ensures state { IfOk result (λ allocator. IsAddressState (state_of allocator)) }
     {
         let Some(parts) = decode_parts(value) else {

@@ -5,7 +5,8 @@ ghost use Rattle.vm_ranges.specs.declared.saved.Condition.TheVariants.{Inside, T
 ghost use Rattle.vm_engine.specs.Address.{IsAddressState};
 ghost use Rattle.vm_ranges.specs.declared.saved.SavedError.TheVariants.{OutOfMemory};
 ghost use Rattle.vm_engine.specs.Checks.HeldKeys.{CanBeHeld};
-ghost use Rattle.vm_engine.specs.Tree.Shape.{blocks, height_of, node_count, IsLowestHeight};
+ghost use Rattle.vm_tree.specs.Shape.{blocks, height_of, node_count};
+ghost use Rattle.vm_tree.specs.Building.{IsLowestHeight};
 ghost use Rattle.vm_engine.specs.Values.NodesRead.{AreNodesOf};
 ghost use Rattle.vm_engine.specs.Values.SavedTrees.{Saved, HasHeldKeys, HasTreeOf};
 ghost use Rattle.vm_allocator.specs.Allocator.{state_of, made_state};

@@ -2,18 +2,19 @@
 use Rattle.std.proofs.Common.{◌≡◌, ℕ, ◌+◌, ◌-◌, ◌<◌, ◌≤◌, List, [], ◌∷◌, length, length-append, refl, sym, ap, ◌∙◌, arith, inl, inr, ⊎_elim, subst, eq-eqb, Ok}
 use Rattle.std.proofs.lemmas.Bool.{cases_lt, lt-ltb, le-ltb, cases_eq, ne_eqb}
 use Rattle.vm_ranges.specs.Range.{Range, IsIn, span}
-use Rattle.vm_engine.specs.Address.{AddressState, IsClear, with_range, without_range, holding, releasing, AreInOrder}
-use Rattle.vm_engine.specs.Tree.Blocks.{gap_before, blocks_between, blocks_of}
+use Rattle.vm_engine.specs.Address.{AddressState, IsClear, with_range, without_range, holding, releasing}
+use Rattle.vm_tree.specs.Building.{AreInOrder}
+use Rattle.vm_tree.specs.Building.{gap_before, blocks_between}
+use Rattle.vm_engine.specs.Tree.Blocks.{blocks_of}
 use Rattle.vm_ranges.specs.declared.state.NodeState.TheVariants.{Allocated}
-use Rattle.vm_engine.specs.Laws.MemoryLaws.{block_count, IsOneIf, AreClearBeside, OneNodeForEachBlock, AllocationAddsParts, FreeingRemovesGaps, BlocksAreFew}
+use Rattle.vm_engine.specs.Laws.MemoryLaws.{block_count, IsOneIf, AreClearBeside, AllocationAddsParts, FreeingRemovesGaps, BlocksAreFew}
 use Rattle.vm_engine.proofs.Results.AddressResults.{gets, lies_clear, freed_held}
 use Rattle.vm_engine.proofs.Blocks.PlainWords.{IsHeldAddress, IsHeld, all_miss, none_holds}
 use Rattle.vm_engine.proofs.Blocks.HeldChanges.{Misses, beside, misses_later, in_order_without, with_without}
 use Rattle.vm_engine.proofs.Blocks.HeldSets.{one_start, later_above, held_lies}
 use Rattle.vm_engine.proofs.Blocks.OneList.{few_blocks}
-use Rattle.vm_engine.proofs.Comparing.Tilings.{tree_blocks, held_of-blocks_of}
-use Rattle.vm_engine.proofs.Making.BlockCursors.{between_tiles}
-use Rattle.vm_engine.proofs.Nodes.MinNodes.{node_count-blocks}
+use Rattle.vm_engine.proofs.Comparing.Tilings.{held_of-blocks_of}
+use Rattle.vm_tree.proofs.BlockCursors.{between_tiles}
 
 -- ---- Counts of gaps
 abbrev count : ℕ → List Range → ℕ → ℕ
@@ -238,7 +239,4 @@ blocks_are_few state i =
     let tiles = between_tiles state.space.start state.space.end state.held (omega (arith, i.space.0)) i.in_order in
     few_blocks state (blocks_of state) (record { tiles = tiles; held = held_of-blocks_of state })
 
-pub one_node : OneNodeForEachBlock
-one_node s t = node_count-blocks s ∙ sym (ap length (tree_blocks s t))
-
-pub ruleset memory = (allocation_adds, freeing_removes, blocks_are_few, one_node)
+pub ruleset memory = (allocation_adds, freeing_removes, blocks_are_few)

@@ -1,9 +1,11 @@
 -- The state of a list of blocks is a valid state of an allocator.
 use Rattle.std.proofs.Common.{ℕ, ◌+◌, ◌≤◌, List, [], ◌∷◌, ◌++◌, arith, cond, eqb, true, false}
 use Rattle.vm_ranges.specs.Range.{Range, IsRange}
-use Rattle.vm_engine.specs.Tree.Block.{Block}
-use Rattle.vm_engine.specs.Address.{without_range, AreInOrder, IsAddressState}
-use Rattle.vm_engine.specs.Tree.Blocks.{Tiles, range_if_held, held_of, blocks_state, TilesSpace, AreKeysIn, IsTiling, AreBelowMax}
+use Rattle.vm_leaf.specs.declared.block.Block.{Block}
+use Rattle.vm_engine.specs.Address.{without_range, IsAddressState}
+use Rattle.vm_tree.specs.Building.{AreInOrder}
+use Rattle.vm_leaf.specs.Blocks.{Tiles}
+use Rattle.vm_engine.specs.Tree.Blocks.{range_if_held, held_of, blocks_state, TilesSpace, AreKeysIn, IsTiling, AreBelowMax}
 use Rattle.vm_ranges.specs.declared.state.NodeState.{NodeState}
 use Rattle.vm_ranges.specs.declared.state.NodeState.TheVariants.{Free, Allocated}
 use Rattle.vm_engine.proofs.Blocks.Gaps.{tiles_end}

@@ -2,8 +2,9 @@
 use Rattle.std.proofs.Common.{◌≡◌, ℕ, ◌+◌, ◌<◌, ◌≤◌, ◌⊎◌, List, [], ◌∷◌, refl, sym, ap, ◌∙◌, arith, inl, inr, ⊎_elim, subst}
 use Rattle.std.proofs.lemmas.Bool.{cases_lt}
 use Rattle.vm_ranges.specs.Range.{Range, IsIn, address_count}
-use Rattle.vm_engine.specs.Tree.Block.{Block}
-use Rattle.vm_engine.specs.Tree.Blocks.{Tiles, held_of}
+use Rattle.vm_leaf.specs.declared.block.Block.{Block}
+use Rattle.vm_leaf.specs.Blocks.{Tiles}
+use Rattle.vm_engine.specs.Tree.Blocks.{held_of}
 use Rattle.vm_engine.specs.Queries.{free_of, longest_of, common_count, longest_part, count_of}
 use Rattle.vm_ranges.specs.declared.state.NodeState.{NodeState}
 use Rattle.vm_ranges.specs.declared.state.NodeState.TheVariants.{Free, Allocated}

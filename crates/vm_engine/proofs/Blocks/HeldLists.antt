@@ -11,7 +11,7 @@ use Rattle.std.specs.List.{Contains}
 use Rattle.std.specs.Ordering.{eq_by_cmp}
 use Rattle.vm_ranges.specs.Range.{Range}
 use Rattle.vm_ranges.specs.RangeOrder.{range_cmp, range_cmp-total}
-use Rattle.vm_engine.specs.Address.{AreInOrder}
+use Rattle.vm_tree.specs.Building.{AreInOrder}
 use Rattle.vm_engine.specs.Laws.AddressLaws.{CountFindsAll}
 use Rattle.vm_ranges.proofs.Listed.{Differ, AreAtMost, listed_is, each_listed}
 use Rattle.vm_engine.proofs.Blocks.PlainWords.{held_contains}

@@ -1,7 +1,7 @@
 -- An ordered list of held ranges is determined by its set of ranges.
 use Rattle.std.proofs.Common.{◌≡◌, ℕ, ◌+◌, ◌<◌, ◌≤◌, ◌↔◌, List, [], ◌∷◌, refl, sym, ap, ◌∙◌, arith, inl, inr, ⊎_elim, subst}
 use Rattle.vm_ranges.specs.Range.{Range, MAX, IsIn}
-use Rattle.vm_engine.specs.Address.{AreInOrder}
+use Rattle.vm_tree.specs.Building.{AreInOrder}
 use Rattle.vm_engine.proofs.Blocks.PlainWords.{IsHeld}
 
 -- ---- The position of a held range

@@ -1,9 +1,10 @@
 -- A state has exactly one list of blocks.
 use Rattle.std.proofs.Common.{◌≡◌, ℕ, ◌+◌, ◌*◌, ◌≤◌, List, [], ◌∷◌, ◌++◌, length, ap, ◌∙◌, arith, ⊎_elim}
 use Rattle.vm_ranges.specs.Range.{Range}
-use Rattle.vm_engine.specs.Tree.Block.{Block}
+use Rattle.vm_leaf.specs.declared.block.Block.{Block}
 use Rattle.vm_engine.specs.Address.{AddressState}
-use Rattle.vm_engine.specs.Tree.Blocks.{Tiles, range_if_held, held_of, IsBlocksOf}
+use Rattle.vm_leaf.specs.Blocks.{Tiles}
+use Rattle.vm_engine.specs.Tree.Blocks.{range_if_held, held_of, IsBlocksOf}
 use Rattle.vm_ranges.specs.declared.state.NodeState.{NodeState}
 use Rattle.vm_ranges.specs.declared.state.NodeState.TheVariants.{Free, Allocated}
 use Rattle.vm_engine.proofs.Blocks.Gaps.{state_cases, not_both}

@@ -2,17 +2,18 @@
 use Rattle.std.proofs.Common.{◌≡◌, ℕ, ◌+◌, ◌<◌, ◌⊎◌, true, false, cond, List, [], ◌∷◌, Some, None, refl, sym, ap, ◌∙◌, arith, inl, inr, ⊎_elim, subst}
 use Rattle.vm_ranges.specs.Range.{Range, IsIn, at_address}
 use Rattle.vm_ranges.specs.RangeOrder.{covers}
-use Rattle.vm_engine.specs.Tree.Block.{Block}
+use Rattle.vm_leaf.specs.declared.block.Block.{Block}
 use Rattle.vm_engine.specs.Tree.Blocks.{held_of}
-use Rattle.vm_engine.specs.Tree.BlockList.{IsOrderedFrom, find_superset}
-use Rattle.vm_engine.specs.Queries.{free_of, IsRangeAt, meets, meeting}
-use Rattle.vm_engine.specs.Engine.WindowBlocks.{meeting_blocks}
+use Rattle.vm_tree.specs.Lookups.{find_superset}
+use Rattle.vm_engine.specs.Tree.BlockList.{IsOrderedFrom}
+use Rattle.vm_engine.specs.Queries.{free_of, IsRangeAt, meeting}
+use Rattle.vm_tree.specs.Walks.{meets, meeting_blocks}
 use Rattle.vm_ranges.specs.declared.state.NodeState.{NodeState}
 use Rattle.vm_ranges.specs.declared.state.NodeState.TheVariants.{Free, Allocated}
 use Rattle.vm_engine.proofs.Blocks.Gaps.{state_cases}
 use Rattle.vm_engine.proofs.Blocks.OneList.{held_of-free, held_of-held}
 use Rattle.vm_engine.proofs.Blocks.PlainWords.{IsHeldAddress, IsHeld, contains_held, all_miss}
-use Rattle.vm_engine.proofs.Nodes.TreeEdits.{some_same, covers_in, in_covers}
+use Rattle.vm_engine.proofs.Blocks.BlockOrder.{some_same, covers_in, in_covers}
 use Rattle.vm_engine.proofs.Walking.GapsInTrees.{free_of-free, free_of-held}
 
 -- The ranges of a list of blocks are those of the blocks in the state `kept`, in order.

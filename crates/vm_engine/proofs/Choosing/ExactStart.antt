@@ -5,15 +5,17 @@ use Rattle.std.proofs.lemmas.List.Elements.{All-head, All-tail}
 use Rattle.std.proofs.lemmas.Bool.{cases_lt}
 use Rattle.vm_ranges.specs.Cases.{IfElse, Unless}
 use Rattle.vm_ranges.specs.Range.{Range, MAX, IsIn, span}
-use Rattle.vm_engine.specs.Tree.Block.{Block}
+use Rattle.vm_leaf.specs.declared.block.Block.{Block}
 use Rattle.vm_engine.specs.Address.{AddressState, AreClear, IsPlace}
-use Rattle.vm_ranges.specs.Request.{Request, request_for}
+use Rattle.vm_ranges.specs.Request.{Request, request_for, IsStartAligned}
 use Rattle.vm_engine.specs.Answer.{IsChosen, ByStart, ByExactPolicy, ByPlace, AllocatesAt, Grants}
-use Rattle.vm_engine.specs.Tree.Blocks.{Tiles, held_of, blocks_state, TilesSpace}
+use Rattle.vm_leaf.specs.Blocks.{Tiles}
+use Rattle.vm_engine.specs.Tree.Blocks.{held_of, blocks_state, TilesSpace}
 use Rattle.vm_ranges.specs.declared.error.Error.{Error}
 use Rattle.vm_ranges.specs.declared.error.Error.TheVariants.{Overflow, ResourceNotAvailable, InvalidStateTransition}
 use Rattle.vm_ranges.specs.declared.state.NodeState.{NodeState}
 use Rattle.vm_ranges.specs.declared.state.NodeState.TheVariants.{Free, Allocated}
+use Rattle.vm_ranges.specs.declared.constraint.AllocPolicy.{AllocPolicy}
 use Rattle.vm_ranges.specs.declared.constraint.AllocPolicy.TheVariants.{ExactMatch}
 use Rattle.vm_engine.proofs.Blocks.PlainWords.{IsHeld, contains_held, held_contains, held_address, all_miss, none_holds}
 use Rattle.vm_engine.proofs.Blocks.Gaps.{InFreeBlock, free_is_clear, in_free_block, state_cases, held_within, tiles_end}
@@ -163,3 +165,8 @@ exact_taken sp bs b n a t new answer w s l m d g =
     let c = block_clear sp bs b n t w s l in
     past sp bs b n a t new answer w (omega arith) (free_not_held sp bs b n t w s)
     (inr (c, inr (λ e. omega arith, inr (t, (refl, (d, c)), inr (λ e. omega arith, g)))))
+
+-- The start of the request is a multiple of its alignment.
+pub aligned_if : (a t : ℕ) (p : AllocPolicy) → p ≡ ExactMatch t → IsStartAligned a p → t % a ≡ 0
+unfolding IsStartAligned
+aligned_if a t p e h = let g : IsStartAligned a (ExactMatch t) = subst (IsStartAligned a) e h in g

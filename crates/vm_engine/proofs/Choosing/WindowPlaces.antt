@@ -3,12 +3,14 @@ use Rattle.std.proofs.Common.{◌≡◌, ℕ, ◌+◌, ◌-◌, ◌%◌, ◌<◌
 use Rattle.std.specs.List.{All}
 use Rattle.std.proofs.lemmas.List.Elements.{All-head, All-tail}
 use Rattle.vm_ranges.specs.Range.{Range}
-use Rattle.vm_engine.specs.Windows.{within, cut_to}
-use Rattle.vm_engine.specs.Tree.Block.{Block}
+use Rattle.vm_engine.specs.Windows.{within}
+use Rattle.vm_leaf.specs.Windows.{cut_to}
+use Rattle.vm_leaf.specs.declared.block.Block.{Block}
 use Rattle.vm_engine.specs.Address.{AddressState, IsPlace, IsLowestPlace, IsHighestPlace}
-use Rattle.vm_engine.specs.Tree.Blocks.{Tiles, IsBlocksOf}
-use Rattle.vm_engine.specs.Tree.Fit.{IsFit, HasNoFit, IsLowestFit, IsHighestFit}
-use Rattle.vm_engine.specs.Engine.WindowPlace.{HasNoFitIn}
+use Rattle.vm_leaf.specs.Blocks.{Tiles}
+use Rattle.vm_engine.specs.Tree.Blocks.{IsBlocksOf}
+use Rattle.vm_leaf.specs.Fit.{IsFit, HasNoFit, IsLowestFit, IsHighestFit}
+use Rattle.vm_tree.specs.Allocation.{HasNoFitIn}
 use Rattle.vm_ranges.specs.declared.state.NodeState.{NodeState}
 use Rattle.vm_ranges.specs.declared.state.NodeState.TheVariants.{Free, Allocated}
 use Rattle.vm_engine.proofs.Blocks.Gaps.{InFreeBlock}

@@ -7,7 +7,8 @@ use Rattle.std.specs.Cmp.{IsTotalOrder}
 use Rattle.std.proofs.lemmas.Map.Lookups.{CmpEqualImpliesEq, exact_unsigned}
 use Rattle.vm_ranges.specs.RangeOrder.{range_cmp}
 use Rattle.vm_engine.specs.Address.{AddressState}
-use Rattle.vm_engine.specs.Comparison.{rank, block_cmp, blocks_cmp, IsOrder}
+use Rattle.vm_leaf.specs.BlockOrder.{rank, block_cmp}
+use Rattle.vm_engine.specs.Comparison.{blocks_cmp, IsOrder}
 use Rattle.vm_ranges.specs.declared.state.NodeState.{NodeState}
 use Rattle.vm_ranges.specs.declared.state.NodeState.TheVariants.{Free, Allocated}
 use Rattle.vm_ranges.proofs.RangeOrders.{both_equal, range_cmp-exact}

@@ -8,10 +8,10 @@ use Rattle.std.specs.Cmp.{Equal-is}
 use Rattle.std.proofs.lemmas.Cmp.{tied_itself}
 use Rattle.std.proofs.lemmas.Bool.Decides.{same_from_decides}
 use Rattle.vm_ranges.specs.RangeOrder.{range_cmp}
-use Rattle.vm_engine.specs.Tree.Block.{Block}
+use Rattle.vm_leaf.specs.declared.block.Block.{Block}
 use Rattle.vm_engine.specs.Tree.Blocks.{held_of, blocks_state, blocks_of}
 use Rattle.vm_engine.specs.Address.{AddressState}
-use Rattle.vm_engine.specs.Tree.Shape.{Shape, blocks}
+use Rattle.vm_tree.specs.Shape.{Shape, blocks}
 use Rattle.vm_engine.specs.Tree.SpaceTree.{space_of, tree_state, IsSpaceTree}
 use Rattle.vm_engine.specs.Comparison.{blocks_cmp, layout_cmp, layout_cmp-total, state_cmp, state_cmp-total, AreEqual, IsOrder}
 use Rattle.vm_engine.proofs.Comparing.Orders.{order_of_total, blocks_cmp-exact}

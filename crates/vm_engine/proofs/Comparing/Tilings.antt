@@ -3,10 +3,13 @@ use Rattle.std.proofs.Common.{◌≡◌, ℕ, ◌+◌, ◌-◌, ◌≤◌, ◌<�
 use Rattle.std.proofs.lemmas.Bool.{lt-ltb, le-ltb}
 use Rattle.std.proofs.lemmas.List.{append-nil}
 use Rattle.vm_ranges.specs.Range.{Range}
-use Rattle.vm_engine.specs.Tree.Block.{Block, free_block}
+use Rattle.vm_leaf.specs.declared.block.Block.{Block}
+use Rattle.vm_leaf.specs.Block.{free_block}
 use Rattle.vm_engine.specs.Address.{AddressState}
-use Rattle.vm_engine.specs.Tree.Blocks.{Tiles, TilesSpace, held_of, gap_before, blocks_between, blocks_of}
-use Rattle.vm_engine.specs.Tree.Shape.{Shape, blocks}
+use Rattle.vm_leaf.specs.Blocks.{Tiles}
+use Rattle.vm_engine.specs.Tree.Blocks.{TilesSpace, held_of, blocks_of}
+use Rattle.vm_tree.specs.Building.{gap_before, blocks_between}
+use Rattle.vm_tree.specs.Shape.{Shape, blocks}
 use Rattle.vm_engine.specs.Tree.SpaceTree.{space_of, tree_state, IsSpaceTree}
 use Rattle.vm_ranges.specs.declared.state.NodeState.{NodeState}
 use Rattle.vm_ranges.specs.declared.state.NodeState.TheVariants.{Free, Allocated}

@@ -1,20 +1,22 @@
 -- The balanced tree of a state's blocks.
 use Rattle.std.proofs.Common.{arith}
-use Rattle.vm_engine.specs.Tree.Shape.{Shape, blocks, IsTree}
-use Rattle.vm_engine.specs.Tree.SpaceTree.{space_of, tree_state, IsSpaceTree}
+use Rattle.vm_tree.specs.Roots.{IsBlockTree}
+use Rattle.vm_tree.specs.Shape.{Shape, blocks}
 use Rattle.vm_engine.specs.Counts.Steps.{IsBalancedTreeOf}
+use Rattle.vm_engine.specs.Tree.SpaceTree.{space_of, tree_state, IsSpaceTree}
+use Rattle.vm_engine.proofs.Placing.Requests.{held_blocks_are}
 use Rattle.vm_engine.proofs.Splitting.TakenRanges.{as_blocks}
-use Rattle.vm_engine.proofs.Nodes.MinNodes.{fewest_nodes, most_nodes}
-use Rattle.vm_engine.proofs.Counts.Granting.{few_in}
 
--- ---- The shape of the tree
-pub balanced_tree : (s : Shape) → IsSpaceTree s → IsTree s → IsBalancedTreeOf (tree_state s) s
+pub balanced_tree : (s : Shape) → IsSpaceTree s → IsBlockTree s → IsBalancedTreeOf (tree_state s) s
 balanced_tree s h t = record {
   blocks = as_blocks (space_of (blocks s)) (blocks s) h.tiling.tiles;
-  balanced = t.balanced;
-  fewest = fewest_nodes s t.balanced;
-  most = omega (arith, most_nodes s);
-  few = few_in s h;
-  low = omega (arith, fewest_nodes s t.balanced, few_in s h);
-  height = h.height;
+  tree = t.tree;
+  fewest = t.low.fewest;
+  most = t.low.most;
+  few = omega (arith, t.low.few, held_blocks_are (blocks s));
+  low = omega (arith, t.low.low, held_blocks_are (blocks s));
+  full = λ k. omega (arith, t.low.full k, held_blocks_are (blocks s));
+  height = t.height;
 }
+
+pub ruleset balanced = (balanced_tree)

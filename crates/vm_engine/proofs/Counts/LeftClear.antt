@@ -2,10 +2,12 @@
 use Rattle.std.proofs.Common.{◌≡◌, ℕ, ◌+◌, ◌<◌, ◌≤◌, List, [], ◌∷◌, ◌++◌, sym, subst, arith, inl, inr, ⊎_elim}
 use Rattle.std.proofs.lemmas.Bool.{cases_lt}
 use Rattle.vm_ranges.specs.Range.{Range}
-use Rattle.vm_engine.specs.Tree.Block.{Block}
+use Rattle.vm_leaf.specs.declared.block.Block.{Block}
 use Rattle.vm_engine.specs.Address.{SplitsGap}
-use Rattle.vm_engine.specs.Tree.Blocks.{Tiles, TilesSpace, held_of, blocks_state}
-use Rattle.vm_engine.specs.Tree.BlockEdits.{IsTakenFrom, NeedsSplit}
+use Rattle.vm_leaf.specs.Blocks.{Tiles}
+use Rattle.vm_engine.specs.Tree.Blocks.{TilesSpace, held_of, blocks_state}
+use Rattle.vm_leaf.specs.Blocks.{IsTakenFrom}
+use Rattle.vm_engine.specs.Tree.BlockEdits.{NeedsSplit}
 use Rattle.vm_ranges.specs.declared.state.NodeState.{NodeState}
 use Rattle.vm_ranges.specs.declared.state.NodeState.TheVariants.{Free, Allocated}
 use Rattle.vm_engine.proofs.Blocks.PlainWords.{IsHeldAddress, none_holds}

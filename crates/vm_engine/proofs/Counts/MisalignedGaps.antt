@@ -5,18 +5,21 @@ use Rattle.std.specs.List.{filter}
 use Rattle.std.proofs.Math.Nat.{mod-one}
 use Rattle.std.proofs.lemmas.Bool.{and_parts, leb-true, le-leb, lt-ltb, le-ltb, cases_lt, false_from_ne_true}
 use Rattle.vm_ranges.specs.Range.{Range}
-use Rattle.vm_engine.specs.Tree.Block.{Block, free_length, free_block, held_block}
+use Rattle.vm_leaf.specs.declared.block.Block.{Block}
+use Rattle.vm_leaf.specs.Block.{free_length, free_block, held_block}
 use Rattle.vm_ranges.specs.declared.state.NodeState.{NodeState}
 use Rattle.vm_ranges.specs.declared.state.NodeState.TheVariants.{Free, Allocated}
-use Rattle.vm_engine.specs.Tree.Blocks.{gap_before, blocks_between, blocks_of}
-use Rattle.vm_engine.specs.Tree.Fit.{HasNoFit}
+use Rattle.vm_tree.specs.Building.{gap_before, blocks_between}
+use Rattle.vm_engine.specs.Tree.Blocks.{blocks_of}
+use Rattle.vm_leaf.specs.Fit.{HasNoFit}
 use Rattle.vm_engine.specs.Address.{AddressState}
-use Rattle.vm_engine.specs.Windows.{cut_to}
-use Rattle.vm_engine.specs.Counts.GapSearch.{is_misaligned, misaligned_among, on_part, passing, misaligned_gaps}
+use Rattle.vm_leaf.specs.Windows.{cut_to}
+use Rattle.vm_tree.specs.GapSearch.{is_misaligned, on_part}
+use Rattle.vm_engine.specs.Counts.GapSearch.{misaligned_among, passing, misaligned_gaps}
 use Rattle.vm_engine.specs.Laws.AddressLaws.{MisalignedIsExact, NoneIsMisalignedAtOne}
-use Rattle.vm_engine.specs.Counts.NodeCounts.{has_fit}
-use Rattle.vm_engine.proofs.Counts.SearchedGaps.{among_append}
-use Rattle.vm_engine.proofs.Counts.Searching.{fit_found, no_fit_missed}
+use Rattle.vm_tree.specs.NodeCounts.{has_fit}
+use Rattle.vm_tree.proofs.GapBounds.{among_append}
+use Rattle.vm_tree.proofs.SearchedBlocks.{fit_found, no_fit_missed}
 
 not_true : (t : Bool) → not t ≡ true → t ≡ false
 not_true true e = sym e

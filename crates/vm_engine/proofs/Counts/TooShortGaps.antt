@@ -4,18 +4,25 @@ use Rattle.std.specs.List.{filter}
 use Rattle.std.proofs.Common.{◌≡◌, ℕ, ◌+◌, ◌-◌, ◌%◌, ◌<◌, ◌≤◌, max, min, zero, suc, Bool, true, false, cond, leb, List, [], ◌∷◌, length, Option, Some, None, refl, sym, ap, ◌∙◌, arith, ⊎_elim, eq-eqb}
 use Rattle.std.proofs.lemmas.Bool.{and_parts, and_right, leb-true, lt-ltb, le-ltb, cases_lt, not-true}
 use Rattle.vm_ranges.specs.Range.{Range}
-use Rattle.vm_engine.specs.Address.{AddressState, AreInOrder, IsAddressState}
-use Rattle.vm_engine.specs.Windows.{common, within}
-use Rattle.vm_engine.specs.Tree.Block.{Block, is_free, free_block, held_block}
-use Rattle.vm_engine.specs.Tree.Blocks.{gap_before, blocks_between, blocks_of}
-use Rattle.vm_engine.specs.Tree.Fit.{HasNoFit}
-use Rattle.vm_engine.specs.Counts.GapSearch.{is_too_short, on_part, passing, too_short_gaps}
+use Rattle.vm_engine.specs.Address.{AddressState, IsAddressState}
+use Rattle.vm_tree.specs.Building.{AreInOrder}
+use Rattle.vm_leaf.specs.Windows.{common}
+use Rattle.vm_engine.specs.Windows.{within}
+use Rattle.vm_leaf.specs.declared.block.Block.{Block}
+use Rattle.vm_leaf.specs.Block.{is_free, free_block, held_block}
+use Rattle.vm_tree.specs.Building.{gap_before, blocks_between}
+use Rattle.vm_engine.specs.Tree.Blocks.{blocks_of}
+use Rattle.vm_leaf.specs.Fit.{HasNoFit}
+use Rattle.vm_tree.specs.GapSearch.{is_too_short, on_part}
+use Rattle.vm_engine.specs.Counts.GapSearch.{passing, too_short_gaps}
 use Rattle.vm_engine.specs.Laws.AddressLaws.{TooShortIsExact, TooShortAreFew}
-use Rattle.vm_engine.specs.Tree.Multiples.{HasMultiple, has_multiple, has_aligned, multiples_below, multiples_in}
-use Rattle.vm_engine.specs.Counts.NodeCounts.{has_fit}
-use Rattle.vm_engine.proofs.Counts.SearchedGaps.{among_append}
-use Rattle.vm_engine.proofs.Counts.Searching.{fit_found, no_fit_missed, free_if_true}
-use Rattle.vm_engine.proofs.Numbers.MultiplesBetween.{multiple_is_exact}
+use Rattle.vm_leaf.specs.Multiples.{HasMultiple, has_multiple}
+use Rattle.vm_tree.specs.NodeCounts.{has_aligned}
+use Rattle.vm_engine.specs.Tree.Multiples.{multiples_below, multiples_in}
+use Rattle.vm_tree.specs.NodeCounts.{has_fit}
+use Rattle.vm_tree.proofs.GapBounds.{among_append}
+use Rattle.vm_tree.proofs.SearchedBlocks.{fit_found, no_fit_missed, free_if_true}
+use Rattle.vm_leaf.proofs.MultiplesBetween.{multiple_is_exact}
 use Rattle.vm_ranges.proofs.Power.{alignment_pos}
 
 pub too_short_is_exact : TooShortIsExact

@@ -1,17 +1,16 @@
 -- The tree of the blocks of a space with some ranges held.
-use Rattle.std.proofs.Common.{◌≡◌, ℕ, ◌+◌, ◌-◌, ◌^◌, ◌≤◌, ◌<◌, List, [], ◌∷◌, ◌++◌, length, Some, None, Option, MatchOption, ◌⊎◌, Result, Ok, Err, refl, sym, ap, ◌∙◌, arith, subst, ⊎_elim, inl, inr}
-use Rattle.std.proofs.lemmas.Bool.{cases_lt}
-use Rattle.std.proofs.lemmas.List.{append-nil}
+use Rattle.std.proofs.Common.{◌≡◌, ℕ, ◌+◌, ◌-◌, ◌^◌, ◌≤◌, ◌<◌, List, [], ◌∷◌, length, Some, None, Option, MatchOption, ◌⊎◌, Result, Ok, Err, refl, sym, ap, ◌∙◌, arith, subst, ⊎_elim, inl, inr}
 use Rattle.vm_ranges.specs.Range.{Range, IsRange, address_count}
-use Rattle.vm_engine.specs.Tree.Block.{Block}
-use Rattle.vm_engine.specs.Address.{AddressState, AreInOrder, IsAddressState}
-use Rattle.vm_engine.specs.Tree.Blocks.{blocks_between, blocks_of, held_of, AreBelowMax, IsTiling, TilesSpace}
-use Rattle.vm_engine.specs.Tree.Shape.{Shape, blocks, height_of}
+use Rattle.vm_engine.specs.Address.{AddressState, IsAddressState}
+use Rattle.vm_tree.specs.Building.{AreInOrder}
+use Rattle.vm_tree.specs.Building.{blocks_between}
+use Rattle.vm_engine.specs.Tree.Blocks.{blocks_of, held_of, AreBelowMax, IsTiling, TilesSpace}
+use Rattle.vm_tree.specs.Shape.{Shape, blocks}
 use Rattle.vm_engine.specs.Tree.SpaceTree.{tree_state, IsSpaceTree}
 use Rattle.vm_engine.specs.Queries.{count_of}
 use Rattle.vm_ranges.specs.Cases.{IfElse}
 use Rattle.vm_engine.specs.Held.{first_fault, MakesHeld, TOO_MANY_BLOCKS}
-use Rattle.vm_engine.specs.Engine.Building.{IsBuilt}
+use Rattle.vm_tree.specs.Building.{IsBuiltTree}
 use Rattle.vm_engine.specs.Engine.CountedTrees.{IsCountedTree}
 use Rattle.vm_ranges.specs.declared.state.NodeState.TheVariants.{Allocated}
 use Rattle.vm_ranges.specs.declared.error.Error.{Error}
@@ -19,32 +18,20 @@ use Rattle.vm_ranges.specs.declared.error.Error.TheVariants.{Overflow, OutOfMemo
 use Rattle.vm_engine.proofs.Blocks.GapLists.{all_counted}
 use Rattle.vm_engine.proofs.Comparing.Tilings.{held_of-blocks_of}
 use Rattle.vm_engine.proofs.Walking.HeldInTrees.{all_blocks}
-use Rattle.vm_engine.proofs.Nodes.MinNodes.{power_grows}
-use Rattle.vm_engine.proofs.Nodes.Spaces.{space_tiled, space_tree}
-use Rattle.vm_engine.proofs.Making.BlockCursors.{between_tiles}
-use Rattle.vm_engine.proofs.Making.Built.{left_over}
+use Rattle.vm_engine.proofs.Trees.Spaces.{space_tiled, space_tree}
+use Rattle.vm_tree.proofs.BlockCursors.{between_tiles}
 
 below_max : (lo hi : ℕ) (rs : List Range) → AreInOrder lo rs hi → AreBelowMax rs
 below_max lo hi [] s = tt
 below_max lo hi (r ∷ rs) s = (s.3, below_max (r.end + 1) hi rs s.4)
 
-nothing : (bs : List Block) → length bs ≡ 0 → bs ≡ []
-nothing [] e = refl
-nothing (b ∷ bs) e = absurd (omega arith)
-
-module _ (space : Range) (held : List Range) (range : IsRange space.start space.end) (order : AreInOrder space.start held space.end) (n : ℕ) (count : n ≡ length (blocks_between space.start held space.end)) (few : n < 2 ^ 49) (s : Shape) (new : List Block) (built : IsBuilt n (blocks_between space.start held space.end) s new) where
+module _ (space : Range) (held : List Range) (range : IsRange space.start space.end) (order : AreInOrder space.start held space.end) (n : ℕ) (count : n ≡ length (blocks_between space.start held space.end)) (few : n < 2 ^ 49) (s : Shape) (built : IsBuiltTree (blocks_between space.start held space.end) s) where
   abbrev state : AddressState
   state = record { space = space; held = held }
 
-  blocks_are : blocks s ≡ blocks_between space.start held space.end
-  blocks_are =
-      let e = left_over n (blocks_between space.start held space.end) new s built in
-      let z = nothing new (omega arith) in
-      sym (built.cut ∙ ap (λ (v : List Block). blocks s ++ v) z ∙ append-nil (blocks s))
-
   held_are : held_of (blocks s) ≡ held
   unfolding blocks_of
-  held_are = ap held_of blocks_are ∙ held_of-blocks_of state
+  held_are = ap held_of built.blocks ∙ held_of-blocks_of state
 
   tiling : IsTiling space (blocks s)
   unfolding TilesSpace
@@ -52,31 +39,25 @@ module _ (space : Range) (held : List Range) (range : IsRange space.start space.
       let l = range.0 in
       let tiles = between_tiles space.start space.end held (omega arith) order in
       record {
-        tiles = subst (TilesSpace space) (sym blocks_are) tiles;
+        tiles = subst (TilesSpace space) (sym built.blocks) tiles;
         below = subst AreBelowMax (sym held_are) (below_max space.start space.end held order);
       }
 
-  low : height_of s ≤ 49
-  low =
-      ⊎_elim
-      (λ (c : 49 < height_of s). let f = power_grows 50 (height_of s) (omega arith) in let h = built.height.1 in absurd (omega arith))
-      (λ (c : height_of s ≤ 49). c)
-      (cases_lt 49 (height_of s))
-
   pub built_tree : IsSpaceTree s
-  built_tree = space_tree space s tiling range low
+  built_tree = space_tree space s tiling range (omega (arith, few, count, ap length built.blocks))
 
   pub held_counted : length held ≤ n
-  held_counted = omega (arith, count, all_blocks (blocks s), ap length held_are, ap length blocks_are)
+  held_counted = omega (arith, count, all_blocks (blocks s), ap length held_are, ap length built.blocks)
 
-  pub built_counted : (clear : ℕ) → clear + count_of held ≡ address_count space → IsCountedTree s (length held) (n - length held) clear
+  pub built_counted : (clear : ℕ) → clear + count_of held ≡ address_count space → IsCountedTree s space (length held) (n - length held) clear
   unfolding TilesSpace
   built_counted clear f =
       let all = all_counted Allocated space.start space.end (blocks s) tiling.tiles in
       record {
         tree = built_tree;
+        is_space = sym (space_tiled space (blocks s) tiling.tiles range.0);
         held_count = ap length (sym held_are);
-        gap_count = omega (arith, count, all_blocks (blocks s), ap length held_are, ap length blocks_are);
+        gap_count = omega (arith, count, all_blocks (blocks s), ap length held_are, ap length built.blocks);
         free_len = omega (arith, f, all, ap count_of held_are, range.0);
       }
 

@@ -4,11 +4,12 @@ use Rattle.serde_json.specs.Data.{Data, depth}
 use Rattle.vm_ranges.proofs.FieldSteps.{field_map}
 use Rattle.vm_ranges.proofs.Nesting.{object_within, number_within, range_nests, state_nests}
 use Rattle.vm_ranges.specs.Range.{Range}
-use Rattle.vm_engine.specs.Tree.Shape.{Shape, Tip, Fork, MAX_HEIGHT, height_of}
+use Rattle.vm_engine.specs.Address.{AddressState}
+use Rattle.vm_engine.specs.Values.NodeTree.{NodeTree, Tip, Fork, MAX_HEIGHT, height_of}
 use Rattle.vm_engine.specs.Values.TreeValues.{EncodesShape, EncodesSpaceTree}
 
 -- The value of a tree nests at most one deeper than its nodes.
-pub shape_nests : (s : Shape) (d : Data) → EncodesShape d s → depth d ≤ height_of s + 1
+pub shape_nests : (s : NodeTree) (d : Data) → EncodesShape d s → depth d ≤ height_of s + 1
 shape_nests Tip d p = let e = ap depth p in omega (arith, e)
 shape_nests (Fork l b r) d p =
     let n = max (height_of l) (height_of r) + 1 in
@@ -31,5 +32,5 @@ shape_nests (Fork l b r) d p =
     omega (arith, e)
 
 -- The value of an allocator's tree nests at most MAX_HEIGHT + 1 deep.
-pub tree_nests : (d : Data) (space : Range) (s : Shape) → EncodesSpaceTree d space s → depth d ≤ MAX_HEIGHT + 1
-tree_nests d space s p = let e = shape_nests s d p.encoded in let h = p.nested in omega (arith, e, h)
+pub tree_nests : (d : Data) (space : Range) (state : AddressState) → EncodesSpaceTree d space state → depth d ≤ MAX_HEIGHT + 1
+tree_nests d space state p = let e = shape_nests p.tree d p.encoded in let h = p.nested in omega (arith, e, h)

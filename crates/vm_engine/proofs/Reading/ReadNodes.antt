@@ -7,8 +7,8 @@ use Rattle.vm_ranges.proofs.FieldSteps.{count-true, true-count, in_field, field_
 use Rattle.vm_ranges.proofs.Steps.{and_then_some, map_some, if_some}
 use Rattle.vm_ranges.specs.Fields.{field_count, is_count}
 use Rattle.vm_ranges.specs.Numbers.{number_in}
-use Rattle.vm_engine.specs.Tree.Block.{Block}
-use Rattle.vm_engine.specs.Tree.Shape.{Shape, Tip, Fork, height_of}
+use Rattle.vm_leaf.specs.declared.block.Block.{Block}
+use Rattle.vm_engine.specs.Values.NodeTree.{NodeTree, Tip, Fork, height_of}
 use Rattle.vm_ranges.specs.RangeValues.{EncodesRange, EncodesState, decoded_range, decoded_state}
 use Rattle.vm_engine.specs.Values.TreeValues.{EncodesNode, EncodesShape, HasNodes}
 use Rattle.vm_engine.specs.Checks.NodeChecks.{NodeData, decoded_node}
@@ -70,7 +70,7 @@ node_is d b L R h n =
 -- The nodes of a value.
 
 -- A tree with correct heights is a tree with any heights.
-pub shape_nodes : (s : Shape) (d : Data) → EncodesShape d s → HasNodes d s
+pub shape_nodes : (s : NodeTree) (d : Data) → EncodesShape d s → HasNodes d s
 shape_nodes Tip d p = p
 shape_nodes (Fork l b r) d p = (
   max (height_of l) (height_of r) + 1,
@@ -81,12 +81,12 @@ pub no_data : (d : Data) (n : NodeData) → d ≡ null → decoded_node d ≡ So
 no_data d n z e = let f : decoded_node null ≡ Some n = subst (λ (v : Data). decoded_node v ≡ Some n) z e in cc
 
 -- The fields of a node of a value.
-pub fork_is : (d : Data) (l r : Shape) (b : Block) → HasNodes d (Fork l b r) → (n : NodeData) × (decoded_node d ≡ Some n) × (n.block ≡ b) × HasNodes n.left l × HasNodes n.right r
+pub fork_is : (d : Data) (l r : NodeTree) (b : Block) → HasNodes d (Fork l b r) → (n : NodeData) × (decoded_node d ≡ Some n) × (n.block ≡ b) × HasNodes n.left l × HasNodes n.right r
 fork_is d l r b p =
     let n = node_is d b (λ v. HasNodes v l) (λ v. HasNodes v r) p.0 p.1 in
     (data_of b p.0 n.0 n.1, n.2, refl, n.3, n.4)
 
-pub one_tree : (s t : Shape) (d : Data) → HasNodes d s → HasNodes d t → s ≡ t
+pub one_tree : (s t : NodeTree) (d : Data) → HasNodes d s → HasNodes d t → s ≡ t
 one_tree Tip Tip d p q = refl
 one_tree Tip (Fork l b r) d p q = let n = fork_is d l r b q in absurd (no_data d n.0 p n.1)
 one_tree (Fork l b r) Tip d p q = let n = fork_is d l r b p in absurd (no_data d n.0 q n.1)
@@ -100,6 +100,6 @@ one_tree (Fork l x r) (Fork m y n) d p q =
     cc
 
 -- A value without the fields of a node has no nodes.
-pub none_tip : (s : Shape) (d : Data) → HasNodes d s → decoded_node d ≡ None → s ≡ Tip
+pub none_tip : (s : NodeTree) (d : Data) → HasNodes d s → decoded_node d ≡ None → s ≡ Tip
 none_tip Tip d p e = refl
 none_tip (Fork l b r) d p e = let n = fork_is d l r b p in absurd (let f = n.1 in cc)

@@ -1,105 +1,91 @@
 -- The check of a value accepts exactly the values that encode a tree of the space.
-use Rattle.std.proofs.Common.{◌≡◌, ◌≤◌, Bool, true, Some, None, Option, refl, sym, ap, ◌∙◌, subst, arith, true≢false, false}
+use Rattle.std.proofs.Common.{◌≡◌, ◌≤◌, true, false, Some, None, Option, [], refl, sym, ap, ◌∙◌, subst, arith, true≢false, List, Result, Ok, Err}
+use Rattle.std.proofs.lemmas.Option.{same_Some}
 use Rattle.serde_json.specs.Data.{Data}
 use Rattle.vm_ranges.specs.Range.{Range, MAX, IsRange}
-use Rattle.vm_engine.specs.Tree.Blocks.{TilesSpace}
-use Rattle.vm_engine.specs.Tree.Shape.{Shape, Tip, MAX_HEIGHT, blocks, height_of}
-use Rattle.vm_engine.specs.Tree.SpaceTree.{IsSpaceTree}
-use Rattle.vm_engine.specs.Values.KeyValues.{MAX_NESTING_REPAIRED}
-use Rattle.vm_engine.specs.Values.TreeValues.{EncodesShape, EncodesSpaceTree}
-use Rattle.vm_engine.specs.Values.SavedTrees.{Absent, shape_of, IsReadable, IsSavedTree}
-use Rattle.vm_engine.specs.Checks.ValueParts.{IsShapeWithin, HasShapeWithin}
-use Rattle.vm_engine.specs.Checks.Spans.{is_tree_of}
-use Rattle.vm_engine.specs.Checks.ValueSpans.{checked_nodes, found_with, has_tree_of}
-use Rattle.vm_engine.specs.declared.saved.span.Span.{Span}
 use Rattle.vm_ranges.specs.declared.state.NodeState.TheVariants.{Allocated}
-use Rattle.vm_engine.proofs.Blocks.BlockOrder.{ordered_weaken}
-use Rattle.vm_engine.proofs.Blocks.BlockStates.{tiles_keys}
-use Rattle.vm_engine.proofs.Nodes.Spaces.{space_tree}
-use Rattle.vm_engine.proofs.Nodes.TreeEdits.{tiles_ordered}
+use Rattle.vm_engine.specs.Address.{AddressState, IsAddressState}
+use Rattle.vm_ranges.specs.Saving.{Reads}
+use Rattle.vm_ranges.specs.declared.saved.ValueError.{ValueError}
+use Rattle.vm_ranges.specs.declared.saved.ValueError.TheVariants.{NotAState, OutOfMemory}
+use Rattle.vm_engine.specs.Checks.KeyChecks.{HasNodesWithin, CollectsKeys, HoldsNodes}
+use Rattle.vm_engine.specs.Checks.Spans.{is_tree_of}
+use Rattle.vm_engine.specs.Checks.ValueSpans.{checked_nodes}
+use Rattle.vm_engine.specs.Held.{MakesHeld}
+use Rattle.vm_engine.specs.Tree.Blocks.{TilesSpace, held_of}
+use Rattle.vm_engine.specs.Values.KeyValues.{MAX_NESTING_REPAIRED}
+use Rattle.vm_engine.specs.Values.NodeTree.{NodeTree, MAX_HEIGHT, blocks, height_of}
+use Rattle.vm_engine.specs.Values.SavedTrees.{shape_of, held_keys, saved_blocks, IsReadable}
+use Rattle.vm_engine.specs.Values.TreeValues.{HasNodes, EncodesSpaceTree}
+use Rattle.vm_engine.specs.declared.saved.span.Span.{Span}
+use Rattle.vm_engine.proofs.Blocks.BlockStates.{tiles_keys, is_state}
+use Rattle.vm_engine.proofs.Making.HeldTrees.{held_made}
 use Rattle.vm_engine.proofs.Reading.OneTree.{one_shape}
+use Rattle.vm_engine.proofs.Reading.ReadNodes.{one_tree}
 use Rattle.vm_engine.proofs.SavedNodes.KeyLists.{keys_within}
+use Rattle.vm_engine.proofs.SavedNodes.Roots.{state_with, strict_tree, strict_passes}
 use Rattle.vm_engine.proofs.SavedNodes.Spans.{complete}
-use Rattle.vm_engine.proofs.SavedNodes.Roots.{strict_tree, strict_passes}
-use Rattle.vm_engine.proofs.SavedNodes.ValueTrees.{saved_shape, saved_of, shape_of-saved_of, saved_of-heights, shape_saved, ranges_saved, found, finds}
+use Rattle.vm_engine.proofs.SavedNodes.ValueLaws.{strict_nodes, strict_value}
+use Rattle.vm_engine.proofs.SavedNodes.ValueTrees.{saved_nodes, ranges_saved, found, finds}
 
--- The value encodes a tree of the space, of height at most MAX_HEIGHT.
-record IsChecked (d : Data) (space : Range) (s : Shape) : Type 0 where
-  encoded : EncodesSpaceTree d space s
-  within : IsShapeWithin MAX_HEIGHT d s
-
-not_empty : (space : Range) (s : Shape) → IsRange space.start space.end → TilesSpace space (blocks s) → s ≡ Tip → ⊥
-unfolding TilesSpace
-not_empty space s r t e =
-    let none = subst (λ (x : Shape). TilesSpace space (blocks x)) e t in
-    let end = r.0 in
-    omega arith
-
--- A test of a span that was found.
-pub found_test : (test : Option Span → Bool) (found : Option (Option Span)) → found_with test found ≡ true → (o : Option Span) × (found ≡ Some o) × (test o ≡ true)
-found_test test None e = absurd (cc)
-found_test test (Some o) e = (o, refl, e)
-
-checks : (d : Data) (space : Range) → IsRange space.start space.end → has_tree_of space d ≡ true → (s : Shape) × IsChecked d space s
-unfolding TilesSpace
-checks d space range e =
-    let o = found_test (is_tree_of space) (checked_nodes MAX_HEIGHT d) e in
-    let f = found MAX_HEIGHT d o.0 o.1 in
-    let t = strict_tree space o.0 f.0 f.1.stands o.2 in
-    let s = shape_of f.0 in
-    let encoded = saved_shape f.0 d t.heights f.1.nodes in
-    let ordered = ordered_weaken 0 space.start (blocks s) (omega arith) (tiles_ordered Allocated space.start space.end (blocks s) t.blocks.tiles) in (
-      s,
-      record {
-        encoded = record { encoded = encoded; some_node = not_empty space s range t.blocks.tiles; nested = t.nested; ordered = ordered; balanced = t.balanced; blocks = t.blocks };
-        within = record { encoded = encoded; tree = record { ordered = ordered; balanced = t.balanced }; height = t.nested };
-      },
-    )
+-- The tree that the check finds.
+tree_found : (d : Data) (space : Range) (o : Option Span) → checked_nodes MAX_HEIGHT d ≡ Some o → is_tree_of space o ≡ true → (s : NodeTree) × HasNodes d s × (height_of s ≤ MAX_HEIGHT) × EncodesSpaceTree d space (state_with space (held_of (blocks s)))
+tree_found d space o e is =
+    let f = found MAX_HEIGHT d o e in
+    let t = strict_tree space o f.0 f.1.stands is in
+    (shape_of f.0, saved_nodes f.0 d f.1.nodes, f.1.within, strict_value d space (state_with space (held_keys f.0)) f.0 f.1.nodes (record { tree = t; held = refl; is_space = refl }))
 
 -- A value that encodes a tree of the space is accepted.
-passes : (d : Data) (space : Range) (s : Shape) → IsRange space.start space.end → EncodesSpaceTree d space s → has_tree_of space d ≡ true
+passes : (d : Data) (space : Range) (state : AddressState) → IsRange space.start space.end → EncodesSpaceTree d space state → (o : Option Span) × (checked_nodes MAX_HEIGHT d ≡ Some o) × (is_tree_of space o ≡ true)
 unfolding TilesSpace
-passes d space s range p =
-    let t = saved_of s in
-    let is = shape_of-saved_of s in
-    let nodes = shape_saved s d p.encoded in
-    let nested = p.nested in
-    let some : t ≡ Absent → ⊥ = λ e. p.some_node (sym is ∙ ap shape_of e) in
-    let whole : IsSavedTree space t = record {
-      some_node = some;
-      heights = saved_of-heights s;
-      nested = rw is nested;
-      balanced = rw is p.balanced;
-      blocks = rw is p.blocks;
-    } in
-    let top = range.1 in
-    let keys = keys_within space.start 0 space.end MAX (blocks s) (omega arith) top (tiles_keys Allocated space.start space.end (blocks s) p.blocks.tiles) in
-    let deep : height_of s ≤ MAX_NESTING_REPAIRED = omega arith in
-    let readable : IsReadable t = record { nested = rw is deep; keys = rw is keys; below = rw is p.blocks.below } in
-    let ranges = ranges_saved t d nodes in
-    let o = complete t ranges readable in
-    let checked = finds t MAX_HEIGHT d o.0 nodes (rw is nested) o.1 in
-    let test = strict_passes space o.0 t (record { is_span = o.1; ranges = ranges }) whole in
-    rw checked test
+passes d space state range p =
+    let t = strict_nodes d space state p in
+    let whole = t.2.tree in
+    let nested = whole.nested in
+    let keys = keys_within space.start 0 space.end MAX (saved_blocks t.0) (omega arith) range.1 (tiles_keys Allocated space.start space.end (saved_blocks t.0) whole.blocks.tiles) in
+    let readable : IsReadable t.0 = record { nested = omega arith; keys = keys; below = whole.blocks.below } in
+    let ranges = ranges_saved t.0 d t.1 in
+    let o = complete t.0 ranges readable in
+    (o.0, finds t.0 MAX_HEIGHT d o.0 t.1 nested o.1, strict_passes space o.0 t.0 (record { is_span = o.1; ranges = ranges }) whole)
 
--- The clauses of the code.
+-- A value encodes at most one state of a space.
+pub one_encoded : (d : Data) (space : Range) (a b : AddressState) → EncodesSpaceTree d space a → EncodesSpaceTree d space b → a ≡ b
+one_encoded d space a b p q =
+    let tree : p.tree ≡ q.tree = one_shape p.tree q.tree d p.encoded q.encoded in
+    let held : a.held ≡ b.held = sym p.held ∙ ap (λ (s : NodeTree). held_of (blocks s)) tree ∙ q.held in
+    ap (λ (v : Range). state_with v a.held) (p.is_space ∙ sym q.is_space) ∙ ap (state_with b.space) held
 
-pub none_encoded : (d : Data) (space : Range) → IsRange space.start space.end → has_tree_of space d ≡ false → ((s : Shape) × EncodesSpaceTree d space s) → ⊥
-none_encoded d space range e p = true≢false (sym (passes d space p.0 range p.1) ∙ e)
+-- The state that a value encodes is valid.
+pub tree_state_valid : (d : Data) (state : AddressState) → IsRange state.space.start state.space.end → EncodesSpaceTree d state.space state → IsAddressState state
+tree_state_valid d state range p =
+    let i = is_state state.space (blocks p.tree) p.blocks range in
+    subst (λ (hs : List Range). IsAddressState (state_with state.space hs)) p.held i
 
-pub has_shape : (d : Data) (space : Range) → IsRange space.start space.end → has_tree_of space d ≡ true → HasShapeWithin MAX_HEIGHT d
-has_shape d space range e = let c = checks d space range e in (c.0, c.1.within)
+-- ---- The clauses of the code
+pub no_tree_span : (d : Data) (space : Range) → IsRange space.start space.end → checked_nodes MAX_HEIGHT d ≡ None → ((state : AddressState) × EncodesSpaceTree d space state) → ⊥
+no_tree_span d space range e p = let f = (passes d space p.0 range p.1).1 in absurd (cc (f, e))
 
-pub some_encoded : (d : Data) (space : Range) → IsRange space.start space.end → has_tree_of space d ≡ true → (s : Shape) × EncodesSpaceTree d space s
-some_encoded d space range e = let c = checks d space range e in (c.0, c.1.encoded)
+pub not_tree : (d : Data) (space : Range) (o : Option Span) → IsRange space.start space.end → checked_nodes MAX_HEIGHT d ≡ Some o → is_tree_of space o ≡ false → ((state : AddressState) × EncodesSpaceTree d space state) → ⊥
+not_tree d space o range e i p =
+    let f = passes d space p.0 range p.1 in
+    let same : f.0 ≡ o = same_Some f.0 o (sym f.1 ∙ e) in
+    true≢false (sym f.2 ∙ ap (is_tree_of space) same ∙ i)
 
-pub built_states : (d : Data) (space : Range) (s : Shape) → IsRange space.start space.end → has_tree_of space d ≡ true → EncodesShape d s → EncodesSpaceTree d space s
-built_states d space s range e p =
-    let c = checks d space range e in
-    subst (EncodesSpaceTree d space) (one_shape c.0 s d c.1.within.encoded p) c.1.encoded
+pub some_tree : (d : Data) (space : Range) (o : Option Span) → checked_nodes MAX_HEIGHT d ≡ Some o → is_tree_of space o ≡ true → (state : AddressState) × EncodesSpaceTree d space state
+some_tree d space o e i = let f = tree_found d space o e i in (state_with space (held_of (blocks f.0)), f.3)
 
-pub encoded_tree : (d : Data) (space : Range) (s : Shape) → IsRange space.start space.end → EncodesSpaceTree d space s → IsSpaceTree s
-encoded_tree d space s range p = space_tree space s p.blocks range p.nested
+pub tree_nested : (d : Data) (space : Range) (o : Option Span) → checked_nodes MAX_HEIGHT d ≡ Some o → is_tree_of space o ≡ true → HasNodesWithin MAX_NESTING_REPAIRED d
+tree_nested d space o e i = let f = tree_found d space o e i in let h = f.2 in (f.0, f.1, omega arith)
 
-pub built_tree : (d : Data) (space : Range) (s : Shape) → IsRange space.start space.end → has_tree_of space d ≡ true → EncodesShape d s → IsSpaceTree s
-built_tree d space s range e p = encoded_tree d space s range (built_states d space s range e p)
+-- The state that is made with the collected keys held is the state that the value encodes.
+pub tree_read : (d : Data) (space : Range) (o : Option Span) (held : List Range) (made : AddressState) → checked_nodes MAX_HEIGHT d ≡ Some o → is_tree_of space o ≡ true → CollectsKeys d [] held → MakesHeld space held (Ok made) → EncodesSpaceTree d space made
+tree_read d space o held made e i c m =
+    let f = tree_found d space o e i in
+    let tree : c.0 ≡ f.0 = one_tree c.0 f.0 d c.1 f.1 in
+    let is : made ≡ state_with space (held_of (blocks f.0)) = held_made space held made m ∙ ap (state_with space) (c.2 ∙ ap (λ (s : NodeTree). held_of (blocks s)) tree) in
+    subst (EncodesSpaceTree d space) (sym is) f.3
+
+pub tree_reads : (d : Data) (space : Range) (o : Option Span) (answer : Result AddressState ValueError) → checked_nodes MAX_HEIGHT d ≡ Some o → is_tree_of space o ≡ true → HoldsNodes d space answer → Reads (EncodesSpaceTree d space) answer
+tree_reads d space o (Ok made) e i h = tree_read d space o h.0 made e i h.1 h.2
+tree_reads d space o (Err NotAState) e i h = absurd (cc h)
+tree_reads d space o (Err OutOfMemory) e i h = some_tree d space o e i

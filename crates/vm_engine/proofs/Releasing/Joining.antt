@@ -2,25 +2,16 @@
 use Rattle.std.proofs.Common.{◌≡◌, ℕ, ◌+◌, ◌<◌, ◌≤◌, List, [], ◌∷◌, ◌++◌, refl, sym, ap, ◌∙◌, arith, inl, inr, ◌⊎◌, ⊎_elim, subst, eq-eqb}
 use Rattle.std.proofs.lemmas.Bool.{ne_eqb}
 use Rattle.vm_ranges.specs.Range.{Range}
-use Rattle.vm_engine.specs.Tree.Block.{Block, free_block}
+use Rattle.vm_leaf.specs.declared.block.Block.{Block}
 use Rattle.vm_engine.specs.Address.{AddressState, without_range, releasing}
-use Rattle.vm_engine.specs.Tree.Blocks.{NotBothFree, Tiles, range_if_held, held_of, IsBlocksOf}
+use Rattle.vm_leaf.specs.Blocks.{NotBothFree, Tiles, join_if, with_free}
+use Rattle.vm_engine.specs.Tree.Blocks.{range_if_held, held_of, IsBlocksOf}
 use Rattle.vm_engine.proofs.Blocks.PlainWords.{IsHeld}
 use Rattle.vm_ranges.specs.declared.state.NodeState.{NodeState}
 use Rattle.vm_ranges.specs.declared.state.NodeState.TheVariants.{Free, Allocated}
 use Rattle.vm_engine.proofs.Blocks.Gaps.{state_cases}
 use Rattle.vm_engine.proofs.Blocks.OneList.{held_of-free, held_of-held}
 use Rattle.vm_engine.proofs.Splitting.TakenRanges.{starts_after}
-
--- The blocks with a free block before them, which is joined with the first block if that is free.
-abbrev pub join_if : NodeState → Range → Block → List Block → List Block
-join_if Free k b bs = free_block (record { start = k.start; end = b.key.end }) ∷ bs
-join_if Allocated k b bs = free_block k ∷ b ∷ bs
-
--- The same for any list, even if it is empty.
-abbrev pub with_free : Range → List Block → List Block
-with_free k [] = free_block k ∷ []
-with_free k (b ∷ bs) = join_if b.state k b bs
 
 -- The last block is not free. If the list is empty, the state before it is not Free.
 abbrev pub EndsHeld : NodeState → List Block → Type 0
@@ -110,7 +101,7 @@ blocks_freed_before state bs xs ys f b h e i g =
       held = held_freed_before Allocated state.space.start state.space.end (record { start = f.key.start; end = b.key.end }) f b xs ys i g t ∙ ap (without_range b.key) (ap held_of (sym e) ∙ h.held);
     }
 
-held_or_later : (r : Range) (b : Block) (bs : List Block) → IsHeld (held_of (b ∷ bs)) r → IsHeldBlock r b ⊎ IsHeld (held_of bs) r
+pub held_or_later : (r : Range) (b : Block) (bs : List Block) → IsHeld (held_of (b ∷ bs)) r → IsHeldBlock r b ⊎ IsHeld (held_of bs) r
 unfolding IsHeldBlock
 held_or_later r b bs h =
     ⊎_elim

@@ -4,9 +4,9 @@ use Rattle.std.proofs.lemmas.List.{append_assoc, append-nil}
 use Rattle.std.proofs.lemmas.Option.{same_Some}
 use Rattle.serde_json.specs.Data.{Data}
 use Rattle.vm_ranges.specs.Range.{Range}
-use Rattle.vm_engine.specs.Tree.Block.{Block}
+use Rattle.vm_leaf.specs.declared.block.Block.{Block}
 use Rattle.vm_engine.specs.Tree.Blocks.{range_if_held, held_of}
-use Rattle.vm_engine.specs.Tree.Shape.{Shape, Tip, Fork, blocks, height_of}
+use Rattle.vm_engine.specs.Values.NodeTree.{NodeTree, Tip, Fork, blocks, height_of}
 use Rattle.vm_engine.specs.Checks.NodeChecks.{NodeData, decoded_node}
 use Rattle.vm_engine.specs.Checks.KeyChecks.{HasNodesWithin, CollectsKeys}
 use Rattle.vm_engine.specs.Values.TreeValues.{HasNodes}
@@ -24,8 +24,8 @@ own n = range_if_held n.block.state n.block.key
 
 -- The trees of the children of a node.
 pub record Children (depth : ℕ) (d : Data) (n : NodeData) : Type 0 where
-  pub left : Shape
-  pub right : Shape
+  pub left : NodeTree
+  pub right : NodeTree
   pub some_depth : 1 ≤ depth
   pub left_nodes : HasNodes n.left left
   pub right_nodes : HasNodes n.right right
@@ -33,7 +33,7 @@ pub record Children (depth : ℕ) (d : Data) (n : NodeData) : Type 0 where
   pub right_height : height_of right ≤ depth - 1
   pub nodes : HasNodes d (Fork left n.block right)
 
-children_of : (depth : ℕ) (d : Data) (n : NodeData) (s : Shape) → HasNodes d s → height_of s ≤ depth → decoded_node d ≡ Some n → Children depth d n
+children_of : (depth : ℕ) (d : Data) (n : NodeData) (s : NodeTree) → HasNodes d s → height_of s ≤ depth → decoded_node d ≡ Some n → Children depth d n
 children_of depth d n Tip p h e = absurd (no_data d n p e)
 children_of depth d n (Fork l b r) p h e =
     let m = fork_is d l r b p in
@@ -65,8 +65,8 @@ right_within depth d n p = (p.right, p.right_nodes, p.right_height)
 -- The keys of the left child, of the node and of the right child are the keys of the value.
 pub all_collected : (depth : ℕ) (d : Data) (n : NodeData) (first second third last : List Range) → Children depth d n → CollectsKeys n.left first second → third ≡ second ++ own n → CollectsKeys n.right third last → CollectsKeys d first last
 all_collected depth d n first second third last p a b c =
-    let left : second ≡ first ++ held_of (blocks p.left) = a.2 ∙ ap (λ (s : Shape). first ++ held_of (blocks s)) (one_tree a.0 p.left n.left a.1 p.left_nodes) in
-    let right : last ≡ third ++ held_of (blocks p.right) = c.2 ∙ ap (λ (s : Shape). third ++ held_of (blocks s)) (one_tree c.0 p.right n.right c.1 p.right_nodes) in
+    let left : second ≡ first ++ held_of (blocks p.left) = a.2 ∙ ap (λ (s : NodeTree). first ++ held_of (blocks s)) (one_tree a.0 p.left n.left a.1 p.left_nodes) in
+    let right : last ≡ third ++ held_of (blocks p.right) = c.2 ∙ ap (λ (s : NodeTree). third ++ held_of (blocks s)) (one_tree c.0 p.right n.right c.1 p.right_nodes) in
     let middle : third ≡ (first ++ held_of (blocks p.left)) ++ own n = b ∙ ap (λ (v : List Range). v ++ own n) left in (
       Fork p.left n.block p.right,
       p.nodes,

@@ -1,17 +1,21 @@
 -- The check of keys accepts exactly the values that encode the held ranges of a space.
-use Rattle.std.proofs.Common.{◌≡◌, ◌≤◌, true, false, List, [], length, Some, None, Option, refl, sym, ap, ◌∙◌, subst, arith, true≢false, Ok}
+use Rattle.std.proofs.Common.{◌≡◌, ◌≤◌, true, false, List, [], length, Some, None, Option, refl, sym, ap, ◌∙◌, subst, arith, true≢false, Ok, Result, Err}
 use Rattle.std.proofs.lemmas.Option.{same_Some}
 use Rattle.serde_json.specs.Data.{Data}
 use Rattle.vm_ranges.specs.Range.{Range, MAX, IsRange}
-use Rattle.vm_engine.specs.Address.{AddressState, AreInOrder, IsAddressState}
+use Rattle.vm_engine.specs.Address.{AddressState, IsAddressState}
+use Rattle.vm_tree.specs.Building.{AreInOrder}
 use Rattle.vm_engine.specs.Answer.{SPLIT_LIMIT_MIN_HELD}
 use Rattle.vm_engine.specs.Held.{MakesHeld}
 use Rattle.vm_engine.specs.Tree.Blocks.{held_of, TilesSpace}
-use Rattle.vm_engine.specs.Tree.Shape.{Shape, blocks}
+use Rattle.vm_engine.specs.Values.NodeTree.{NodeTree, blocks}
 use Rattle.vm_engine.specs.Values.TreeValues.{EncodesSpaceTree, HasNodes}
 use Rattle.vm_engine.specs.Values.KeyValues.{MAX_NESTING_REPAIRED, EncodesKeys}
 use Rattle.vm_engine.specs.Values.SavedTrees.{shape_of, IsReadable, HasHeldKeys}
-use Rattle.vm_engine.specs.Checks.KeyChecks.{HasNodesWithin, CollectsKeys}
+use Rattle.vm_ranges.specs.Saving.{Reads}
+use Rattle.vm_ranges.specs.declared.saved.ValueError.{ValueError}
+use Rattle.vm_ranges.specs.declared.saved.ValueError.TheVariants.{NotAState, OutOfMemory}
+use Rattle.vm_engine.specs.Checks.KeyChecks.{HasNodesWithin, CollectsKeys, HoldsNodes}
 use Rattle.vm_engine.specs.Checks.Spans.{is_inside}
 use Rattle.vm_engine.specs.Checks.ValueSpans.{checked_nodes}
 use Rattle.vm_engine.specs.declared.saved.span.Span.{Span}
@@ -25,7 +29,7 @@ use Rattle.vm_engine.proofs.SavedNodes.Roots.{state_with, repaired_keys, repaire
 use Rattle.vm_engine.proofs.SavedNodes.ValueTrees.{saved_nodes, nodes_saved, ranges_saved, found, finds}
 
 -- The keys that the check finds.
-keys_found : (d : Data) (space : Range) (o : Option Span) → space.end ≤ MAX → checked_nodes MAX_NESTING_REPAIRED d ≡ Some o → is_inside space o ≡ true → (s : Shape) × HasNodes d s × EncodesKeys d space (state_with space (held_of (blocks s)))
+keys_found : (d : Data) (space : Range) (o : Option Span) → space.end ≤ MAX → checked_nodes MAX_NESTING_REPAIRED d ≡ Some o → is_inside space o ≡ true → (s : NodeTree) × HasNodes d s × EncodesKeys d space (state_with space (held_of (blocks s)))
 keys_found d space o v e i =
     let f = found MAX_NESTING_REPAIRED d o e in
     let k = repaired_keys space o f.0 v f.1.stands i in
@@ -46,7 +50,7 @@ passes d space state v p =
 pub one_keys : (d : Data) (space : Range) (a b : AddressState) → EncodesKeys d space a → EncodesKeys d space b → a ≡ b
 one_keys d space a b p q =
     let tree : p.tree ≡ q.tree = one_tree p.tree q.tree d p.nodes q.nodes in
-    let held : a.held ≡ b.held = sym p.held ∙ ap (λ (s : Shape). held_of (blocks s)) tree ∙ q.held in
+    let held : a.held ≡ b.held = sym p.held ∙ ap (λ (s : NodeTree). held_of (blocks s)) tree ∙ q.held in
     ap (λ (v : Range). state_with v a.held) (p.is_space ∙ sym q.is_space) ∙ ap (state_with b.space) held
 
 -- The state that a value encodes is valid.
@@ -56,19 +60,19 @@ keys_state d state range p =
     record { space = range; in_order = subst (λ (hs : List Range). AreInOrder state.space.start hs state.space.end) p.held in_order }
 
 -- A value that is read without repairs is read with repairs to the same state, if the height never makes a split fail.
-pub strict_keys : (d : Data) (space : Range) (tree : Shape) → EncodesSpaceTree d space tree → length (held_of (blocks tree)) ≤ SPLIT_LIMIT_MIN_HELD → EncodesKeys d space (state_with space (held_of (blocks tree)))
+pub strict_keys : (d : Data) (space : Range) (state : AddressState) → EncodesSpaceTree d space state → length state.held ≤ SPLIT_LIMIT_MIN_HELD → EncodesKeys d space state
 unfolding TilesSpace
-strict_keys d space tree p few =
+strict_keys d space state p few =
     let nested = p.nested in
     record {
-      tree = tree;
-      nodes = shape_nodes tree d p.encoded;
+      tree = p.tree;
+      nodes = shape_nodes p.tree d p.encoded;
       nested = omega arith;
-      keys = tiles_keys Allocated space.start space.end (blocks tree) p.blocks.tiles;
+      keys = tiles_keys Allocated space.start space.end (blocks p.tree) p.blocks.tiles;
       below = p.blocks.below;
-      few = few;
-      held = refl;
-      is_space = refl;
+      few = omega (arith, few, ap length p.held);
+      held = p.held;
+      is_space = p.is_space;
     }
 
 -- The facts that the contracts of the code need.
@@ -93,5 +97,10 @@ pub keys_read : (d : Data) (space : Range) (o : Option Span) (held : List Range)
 keys_read d space o held made v e i c m =
     let f = keys_found d space o v e i in
     let tree : c.0 ≡ f.0 = one_tree c.0 f.0 d c.1 f.1 in
-    let is : made ≡ state_with space (held_of (blocks f.0)) = held_made space held made m ∙ ap (state_with space) (c.2 ∙ ap (λ (s : Shape). held_of (blocks s)) tree) in
+    let is : made ≡ state_with space (held_of (blocks f.0)) = held_made space held made m ∙ ap (state_with space) (c.2 ∙ ap (λ (s : NodeTree). held_of (blocks s)) tree) in
     subst (EncodesKeys d space) (sym is) f.2
+
+pub keys_reads : (d : Data) (space : Range) (o : Option Span) (answer : Result AddressState ValueError) → space.end ≤ MAX → checked_nodes MAX_NESTING_REPAIRED d ≡ Some o → is_inside space o ≡ true → HoldsNodes d space answer → Reads (EncodesKeys d space) answer
+keys_reads d space o (Ok made) v e i h = keys_read d space o h.0 made v e i h.1 h.2
+keys_reads d space o (Err NotAState) v e i h = absurd (cc h)
+keys_reads d space o (Err OutOfMemory) v e i h = some_keys d space o v e i

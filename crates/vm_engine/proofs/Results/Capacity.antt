@@ -4,14 +4,15 @@ use Rattle.std.proofs.Math.Nat.{mul-le-mul}
 use Rattle.vm_ranges.specs.Range.{Range}
 use Rattle.vm_ranges.specs.Alignment.{IsLowestMultiple}
 use Rattle.vm_engine.specs.Address.{IsPlace}
-use Rattle.vm_engine.specs.Tree.Blocks.{blocks_between, blocks_of}
+use Rattle.vm_tree.specs.Building.{blocks_between}
+use Rattle.vm_engine.specs.Tree.Blocks.{blocks_of}
 use Rattle.vm_engine.specs.Queries.{free_of, gaps_of, longest_of, count_of}
-use Rattle.vm_engine.specs.Counts.NodeCounts.{multiple_from}
+use Rattle.vm_tree.specs.NodeCounts.{multiple_from}
 use Rattle.vm_engine.specs.Laws.QueryLaws.{LongGapFits, ClearAreFew}
 use Rattle.vm_engine.proofs.Results.HeldAndGaps.{longest_fits}
-use Rattle.vm_engine.proofs.Counts.Searching.{lowest_from}
+use Rattle.vm_tree.proofs.SearchedBlocks.{lowest_from}
 use Rattle.vm_ranges.specs.declared.state.NodeState.TheVariants.{Free, Allocated}
-use Rattle.vm_engine.specs.Tree.Block.{Block}
+use Rattle.vm_leaf.specs.declared.block.Block.{Block}
 
 -- Among n + a - 1 clear addresses, n start at a multiple of a.
 pub long_gap_fits : LongGapFits

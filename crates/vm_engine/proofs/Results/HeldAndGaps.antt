@@ -4,7 +4,8 @@ use Rattle.std.proofs.lemmas.Bool.{cases_lt}
 use Rattle.vm_ranges.specs.Range.{Range, IsIn, address_count}
 use Rattle.vm_ranges.proofs.RangeCalls.{same_range}
 use Rattle.vm_engine.specs.Address.{AddressState, IsAddressState, IsClear, IsPlace}
-use Rattle.vm_engine.specs.Tree.Blocks.{Tiles, held_of, blocks_of}
+use Rattle.vm_leaf.specs.Blocks.{Tiles}
+use Rattle.vm_engine.specs.Tree.Blocks.{held_of, blocks_of}
 use Rattle.vm_engine.specs.Windows.{within}
 use Rattle.vm_engine.specs.Queries.{gaps_of, longest_of, longest_part, longest_in, count_of, IsRangeAt}
 use Rattle.vm_engine.specs.Laws.QueryLaws.{IsInOne, IsInNone, EachAddressIsInOne, AgreesWithLists, HeldAtAgrees, AgreesWithGaps, GapAtAgrees, IsGap, GapsAreLongest, HeldAndGapsAreBlocks, LongestIsZero, LongestFits, CountsAddUp}
@@ -14,7 +15,7 @@ use Rattle.vm_engine.proofs.Blocks.Gaps.{in_free_block, free_is_clear}
 use Rattle.vm_engine.proofs.Blocks.HeldSets.{held_lies, one_held}
 use Rattle.vm_engine.proofs.Blocks.GapLists.{FreeOver, free_lies, one_free, in_free, free_over, held_after, held_before, held_or_free, longest_over, one_is_longest, longest_part_over, one_has_longest_part, all_counted}
 use Rattle.vm_engine.proofs.Comparing.Tilings.{held_of-blocks_of}
-use Rattle.vm_engine.proofs.Making.BlockCursors.{between_tiles}
+use Rattle.vm_tree.proofs.BlockCursors.{between_tiles}
 
 -- A held address is in a held range.
 pub held_range : (rs : List Range) (x : ℕ) → IsHeldAddress rs x → (r : Range) × IsHeld rs r × IsIn r x

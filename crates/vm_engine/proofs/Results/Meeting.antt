@@ -5,7 +5,8 @@ use Rattle.std.specs.List.{Contains}
 use Rattle.vm_ranges.specs.Range.{Range, IsIn, Overlaps, Covers}
 use Rattle.vm_ranges.proofs.RangeCalls.{meet}
 use Rattle.vm_engine.specs.Address.{AddressState, IsAddressState}
-use Rattle.vm_engine.specs.Queries.{gaps_of, meets, meeting}
+use Rattle.vm_tree.specs.Walks.{meets}
+use Rattle.vm_engine.specs.Queries.{gaps_of, meeting}
 use Rattle.vm_engine.specs.Tree.Blocks.{blocks_of}
 use Rattle.vm_engine.specs.Laws.QueryLaws.{ListsOverlaps, MeetingIsOverlap, IsClearIfNoneMeets, ClearIfNoneMeets}
 use Rattle.vm_ranges.specs.declared.state.NodeState.TheVariants.{Allocated}

@@ -4,7 +4,7 @@ use Rattle.std.proofs.lemmas.List.{append_assoc, take_at, drop_at}
 use Rattle.vm_ranges.specs.Range.{Range, MAX, IsRange}
 use Rattle.vm_ranges.specs.declared.saved.SavedError.TheVariants.{Violated, OutOfMemory}
 use Rattle.vm_ranges.specs.declared.saved.Condition.TheVariants.{Keys}
-use Rattle.vm_engine.specs.Tree.Block.{Block}
+use Rattle.vm_leaf.specs.declared.block.Block.{Block}
 use Rattle.vm_engine.specs.Tree.Blocks.{range_if_held, held_of, AreKeysIn}
 use Rattle.vm_engine.specs.Values.SavedTrees.{Saved, Node, saved_blocks, held_keys}
 use Rattle.vm_engine.specs.Checks.Spans.{StandsFor, span_of, span_over, held_in, EndsWithKeys, StartBelow, StartAbove, AreAround, Arranges, EndsNode}

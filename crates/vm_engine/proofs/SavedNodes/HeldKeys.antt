@@ -3,10 +3,11 @@ use Rattle.std.proofs.Common.{◌≡◌, ◌≢◌, ℕ, ◌+◌, ◌≤◌, ◌
 use Rattle.std.proofs.lemmas.Bool.{le-ltb, ne_eqb}
 use Rattle.vm_ranges.specs.Cases.{IfElse}
 use Rattle.vm_ranges.specs.Range.{Range, MAX, IsRange}
-use Rattle.vm_engine.specs.Address.{AddressState, AreInOrder}
+use Rattle.vm_engine.specs.Address.{AddressState}
+use Rattle.vm_tree.specs.Building.{AreInOrder}
 use Rattle.vm_engine.specs.Held.{range_fault, or_else, first_fault, MakesHeld, TOO_MANY_BLOCKS}
 use Rattle.vm_engine.specs.Tree.Blocks.{blocks_of}
-use Rattle.vm_engine.specs.Tree.Shape.{Shape}
+use Rattle.vm_tree.specs.Shape.{Shape}
 use Rattle.vm_engine.specs.Tree.SpaceTree.{tree_state, made_tree}
 use Rattle.vm_engine.specs.Checks.HeldKeys.{CanBeHeld, HoldsKeys}
 use Rattle.vm_engine.specs.Checks.Spans.{StandsFor, is_inside, is_tree_of}
@@ -22,7 +23,7 @@ use Rattle.vm_ranges.specs.declared.error.Error.TheVariants.{Overflow, ResourceN
 use Rattle.vm_engine.proofs.Blocks.BlockCounts.{blocks_are_few}
 use Rattle.vm_engine.proofs.Blocks.BlockStates.{keys_in_order, is_state}
 use Rattle.vm_engine.proofs.Comparing.Tilings.{tiling_blocks}
-use Rattle.vm_engine.proofs.Walking.HeldInTrees.{few_in_tree}
+use Rattle.vm_engine.proofs.SavedNodes.Heights.{few_in_tree}
 use Rattle.vm_engine.proofs.SavedNodes.Roots.{made_space, strict_state, strict_made, repaired_state, repaired_made}
 
 -- ---- The error of keys that cannot be held

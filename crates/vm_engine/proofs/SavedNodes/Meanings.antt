@@ -1,8 +1,8 @@
 -- The meaning of a span for the subtree that it stands for.
 use Rattle.std.proofs.Common.{◌≡◌, ℕ, true, List, [], ◌∷◌, ◌++◌, length, Option, Some, None}
-use Rattle.vm_engine.specs.Tree.Block.{Block}
-use Rattle.vm_engine.specs.Tree.Blocks.{Tiles}
-use Rattle.vm_engine.specs.Tree.Shape.{height_of, IsBalanced}
+use Rattle.vm_leaf.specs.declared.block.Block.{Block}
+use Rattle.vm_leaf.specs.Blocks.{Tiles}
+use Rattle.vm_engine.specs.Values.NodeTree.{height_of, IsBalanced}
 use Rattle.vm_engine.specs.Values.SavedTrees.{Saved, Absent, shape_of, saved_blocks, held_keys, HasHeights, IsReadable}
 use Rattle.vm_engine.specs.declared.saved.span.Span.{Span}
 use Rattle.vm_ranges.specs.declared.state.NodeState.TheVariants.{Allocated}

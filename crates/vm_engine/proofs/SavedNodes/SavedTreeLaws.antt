@@ -1,16 +1,15 @@
 -- The laws of saved trees.
-use Rattle.std.proofs.Common.{◌≡◌, ◌≢◌, List, [], length, Option, Some, None, sym, ap, ◌∙◌, subst, arith, refl}
-use Rattle.vm_engine.specs.Tree.Block.{Block}
-use Rattle.vm_engine.specs.Tree.Blocks.{blocks_of, held_of}
-use Rattle.vm_engine.specs.Tree.Shape.{Shape, Tip, Fork, blocks, height_of}
-use Rattle.vm_engine.specs.Tree.SpaceTree.{space_of, IsSpaceTree}
+use Rattle.std.proofs.Common.{◌≡◌, ◌≢◌, ◌≤◌, List, [], ◌∷◌, Option, Some, None, sym, ap, ◌∙◌, subst, arith, refl}
+use Rattle.vm_leaf.specs.declared.block.Block.{Block}
+use Rattle.vm_ranges.specs.Range.{Range}
+use Rattle.vm_engine.specs.Tree.Blocks.{TilesSpace, blocks_of, held_of}
+use Rattle.vm_tree.specs.Shape.{blocks}
+use Rattle.vm_engine.specs.Tree.SpaceTree.{space_of}
 use Rattle.vm_engine.specs.Values.SavedTrees.{Saved, IsReadable}
 use Rattle.vm_engine.specs.Values.WrittenTrees.{IsWritten}
 use Rattle.vm_engine.specs.Laws.SavedLaws.{SpansAreExact, NodesAreWritten, WrittenIsRead, EqualAreWrittenEqually}
 use Rattle.vm_engine.specs.declared.saved.span.Span.{Span}
 use Rattle.vm_engine.proofs.Comparing.Tilings.{tree_blocks}
-use Rattle.vm_engine.proofs.Nodes.MinNodes.{power_grows, most_nodes, node_count-blocks}
-use Rattle.vm_engine.proofs.Nodes.Spaces.{no_empty_tree}
 use Rattle.vm_engine.proofs.SavedNodes.Meanings.{MeansAll}
 use Rattle.vm_engine.proofs.SavedNodes.Spans.{sound, complete}
 use Rattle.vm_engine.proofs.SavedNodes.Written.{written_blocks, written_tree, one_written}
@@ -34,23 +33,17 @@ nodes_are_written = λ bs n l r w p q.
       rw b q,
     )
 
-some_block : (s : Shape) → IsSpaceTree s → blocks s ≢ []
-some_block s t e = let f = ap length e in let n = node_count-blocks s in no_empty_tree (subst IsSpaceTree (empty s e) t) where
-  empty : (s : Shape) → blocks s ≡ [] → s ≡ Tip
-  empty Tip e = refl
-  empty (Fork l b r) e = let f = ap length e in let g = node_count-blocks (Fork l b r) in absurd (omega arith)
+some_block : (sp : Range) (bs : List Block) → TilesSpace sp bs → sp.start ≤ sp.end → bs ≢ []
+unfolding TilesSpace
+some_block sp [] t l = absurd (omega (arith, t))
+some_block sp (b ∷ bs) t l = λ e. cc e
 
 pub written_is_read : WrittenIsRead
-written_is_read = λ s t tree w.
-    let h = tree.height in
-    let n = node_count-blocks s in
-    let m = most_nodes s in
-    let p = power_grows (height_of s) 49 h in
-    record {
-      tree = written_tree (space_of (blocks s)) (blocks s) t tree.tiling (some_block s tree) (omega arith) w;
-      held = ap held_of (written_blocks (blocks s) t w);
-      is_space = refl;
-    }
+written_is_read = λ s t tree w. record {
+  tree = written_tree (space_of (blocks s)) (blocks s) t tree.tiling (some_block (space_of (blocks s)) (blocks s) tree.tiling.tiles tree.space.0) tree.few w;
+  held = ap held_of (written_blocks (blocks s) t w);
+  is_space = refl;
+}
 
 pub equal_are_written_equally : EqualAreWrittenEqually
 equal_are_written_equally = λ s other t u p q e w x.

@@ -5,9 +5,11 @@ use Rattle.std.proofs.lemmas.List.{append_assoc, length-append}
 use Rattle.std.proofs.lemmas.Option.{same_Some}
 use Rattle.vm_ranges.proofs.Steps.{and_then_some, if_some}
 use Rattle.vm_ranges.specs.Range.{Range, MAX, IsRange}
-use Rattle.vm_engine.specs.Tree.Block.{Block, is_free}
-use Rattle.vm_engine.specs.Tree.Blocks.{NotBothFree, Tiles, range_if_held, AreKeysIn, AreBelowMax}
-use Rattle.vm_engine.specs.Tree.Shape.{height_of, IsBalanced}
+use Rattle.vm_leaf.specs.declared.block.Block.{Block}
+use Rattle.vm_leaf.specs.Block.{is_free}
+use Rattle.vm_leaf.specs.Blocks.{NotBothFree, Tiles}
+use Rattle.vm_engine.specs.Tree.Blocks.{range_if_held, AreKeysIn, AreBelowMax}
+use Rattle.vm_engine.specs.Values.NodeTree.{height_of, IsBalanced}
 use Rattle.vm_engine.specs.Values.KeyValues.{MAX_NESTING_REPAIRED}
 use Rattle.vm_engine.specs.Values.SavedTrees.{Saved, Absent, Node, shape_of, saved_blocks, held_keys, HasHeights, HasRanges, IsReadable}
 use Rattle.vm_engine.specs.Checks.NodeChecks.{is_correct_height}
@@ -15,7 +17,7 @@ use Rattle.vm_engine.specs.Checks.Spans.{nesting_of, held_in, ends_below, starts
 use Rattle.vm_engine.specs.declared.saved.span.Span.{Span}
 use Rattle.vm_ranges.specs.declared.state.NodeState.{NodeState}
 use Rattle.vm_ranges.specs.declared.state.NodeState.TheVariants.{Free, Allocated}
-use Rattle.vm_engine.proofs.Nodes.MinNodes.{power_grows, most_nodes, node_count-blocks}
+use Rattle.vm_engine.proofs.SavedNodes.Heights.{power_grows, most_nodes, node_count-blocks}
 use Rattle.vm_engine.proofs.SavedNodes.KeyLists.{keys_within, keys_from, keys_join, keys_left, keys_right, keys_next, tiles_join, tiles_cut, held_node, below_both, below_left, below_right, held_few}
 use Rattle.vm_engine.proofs.SavedNodes.Meanings.{HasEnds, IsExact, Means, MeansAll}
 

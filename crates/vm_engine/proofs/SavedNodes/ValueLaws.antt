@@ -1,47 +1,62 @@
 -- Values encode exactly the saved trees that readers of other formats accept.
-use Rattle.std.proofs.Common.{◌≡◌, sym, ap, ◌∙◌, subst, arith}
-use Rattle.vm_ranges.specs.Range.{Range, IsRange}
-use Rattle.vm_engine.specs.Tree.Blocks.{TilesSpace}
-use Rattle.vm_engine.specs.Tree.Shape.{Shape, Tip, blocks}
-use Rattle.vm_engine.specs.Values.SavedTrees.{shape_of}
+use Rattle.std.proofs.Common.{◌≡◌, ◌≢◌, List, Some, refl, sym, ap, ◌∙◌, Result, Ok, Err}
+use Rattle.serde_json.specs.Data.{Data}
+use Rattle.serde_json.specs.View.{view}
+use Rattle.serde_json.specs.declared.value.Value.{Value}
+use Rattle.vm_ranges.specs.Range.{Range}
+use Rattle.vm_ranges.specs.Saving.{Saves}
+use Rattle.vm_ranges.specs.declared.error.Error.{Error}
+use Rattle.vm_tree.specs.Shape.{Shape, blocks}
+use Rattle.vm_engine.specs.Address.{AddressState}
+use Rattle.vm_engine.specs.Checks.ValueSpans.{EncodesSaved}
 use Rattle.vm_engine.specs.Laws.SavedLaws.{ValuesAreSavedTrees, ValuesHaveHeldKeys}
-use Rattle.vm_ranges.specs.declared.state.NodeState.TheVariants.{Allocated}
-use Rattle.vm_engine.proofs.Blocks.BlockOrder.{ordered_weaken}
-use Rattle.vm_engine.proofs.Nodes.TreeEdits.{tiles_ordered}
+use Rattle.vm_engine.specs.Tree.SpaceTree.{tree_state, IsSpaceTree}
+use Rattle.vm_engine.specs.Values.NodeTree.{Tip}
+use Rattle.vm_engine.specs.Values.SavedTrees.{Saved, Absent, Node, shape_of, HasTreeOf}
+use Rattle.vm_engine.specs.Values.TreeValues.{EncodesNode, EncodesSpaceTree}
+use Rattle.vm_engine.specs.Values.WrittenTrees.{IsWritten, WritesNode}
+use Rattle.vm_engine.specs.declared.saved.written.WrittenNode.{WrittenNode}
+use Rattle.vm_leaf.specs.declared.block.Block.{Block}
+use Rattle.vm_engine.proofs.SavedNodes.SavedTreeLaws.{nodes_are_written, written_is_read}
+use Rattle.vm_engine.proofs.Reading.Writing.{encodes_fork}
 use Rattle.vm_engine.proofs.SavedNodes.ValueTrees.{saved_nodes, nodes_saved, saved_shape, saved_of, shape_of-saved_of, saved_of-heights, shape_saved}
 
-not_empty : (space : Range) (s : Shape) → IsRange space.start space.end → TilesSpace space (blocks s) → s ≡ Tip → ⊥
-unfolding TilesSpace
-not_empty space s r t e =
-    let none = subst (λ (x : Shape). TilesSpace space (blocks x)) e t in
-    let end = r.0 in
-    omega arith
-
-pub values_are_saved_trees : ValuesAreSavedTrees
-unfolding TilesSpace
-values_are_saved_trees = record {
-  nodes = λ d space s p.
-      let is = shape_of-saved_of s in (
-        saved_of s,
-        shape_saved s d p.encoded,
-        record {
+pub strict_nodes : (d : Data) (space : Range) (state : AddressState) → EncodesSpaceTree d space state → (t : Saved) × EncodesSaved d t × HasTreeOf space t state
+strict_nodes d space state p =
+    let is = shape_of-saved_of p.tree in (
+      saved_of p.tree,
+      shape_saved p.tree d p.encoded,
+      record {
+        tree = record {
           some_node = λ e. p.some_node (sym is ∙ ap shape_of e);
-          heights = saved_of-heights s;
+          heights = saved_of-heights p.tree;
           nested = rw is p.nested;
           balanced = rw is p.balanced;
           blocks = rw is p.blocks;
-        },
-        is,
-      );
-  tree = λ d space t range nodes p. record {
-    encoded = saved_shape t d p.heights nodes;
-    some_node = not_empty space (shape_of t) range p.blocks.tiles;
-    nested = p.nested;
-    ordered = ordered_weaken 0 space.start (blocks (shape_of t)) (omega arith) (tiles_ordered Allocated space.start space.end (blocks (shape_of t)) p.blocks.tiles);
-    balanced = p.balanced;
-    blocks = p.blocks;
-  };
+        };
+        held = rw is p.held;
+        is_space = p.is_space;
+      },
+    )
+
+not_absent : (t : Saved) → t ≢ Absent → shape_of t ≢ Tip
+not_absent Absent n = absurd (n refl)
+not_absent (Node l b r h) n = λ e. cc e
+
+pub strict_value : (d : Data) (space : Range) (state : AddressState) (t : Saved) → EncodesSaved d t → HasTreeOf space t state → EncodesSpaceTree d space state
+strict_value d space state t nodes p = record {
+  tree = shape_of t;
+  encoded = saved_shape t d p.tree.heights nodes;
+  some_node = not_absent t p.tree.some_node;
+  nested = p.tree.nested;
+  balanced = p.tree.balanced;
+  blocks = p.tree.blocks;
+  held = p.held;
+  is_space = p.is_space;
 }
+
+pub values_are_saved_trees : ValuesAreSavedTrees
+values_are_saved_trees = record { nodes = strict_nodes; tree = strict_value }
 
 pub values_have_held_keys : ValuesHaveHeldKeys
 values_have_held_keys = record {
@@ -61,3 +76,16 @@ values_have_held_keys = record {
 }
 
 pub ruleset values = (values_are_saved_trees, values_have_held_keys)
+
+-- ---- The value that is written
+pub value_written : (s : Shape) (answer : Result Value Error) → IsSpaceTree s → Saves (λ d. (t : Saved) × IsWritten (blocks s) t × EncodesSaved d t) answer → Saves (λ d. EncodesSpaceTree d (tree_state s).space (tree_state s)) answer
+value_written s (Ok v) h w = strict_value (view v) (tree_state s).space (tree_state s) w.0 w.2 (written_is_read s w.0 h w.1)
+value_written s (Err e) h w = w
+
+-- The value of a node, by the values of its children.
+pub node_written : (bs : List Block) (n : WrittenNode) (left right : Data) (answer : Result Value Error) → WritesNode bs (Some n) → ((x : Saved) × IsWritten n.left.blocks.now x × EncodesSaved left x) → ((x : Saved) × IsWritten n.right.blocks.now x × EncodesSaved right x)
+    → Saves (λ d. EncodesNode d (record { key = n.key; state = n.state }) (λ v. v ≡ left) (λ v. v ≡ right) n.height) answer → Saves (λ d. (x : Saved) × IsWritten bs x × EncodesSaved d x) answer
+node_written bs n left right (Ok v) w l r e =
+    let b : Block = record { key = n.key; state = n.state } in
+    (Node l.0 b r.0 n.height, nodes_are_written bs n l.0 r.0 w l.1 r.1, encodes_fork (view v) left right n.height b l.0 r.0 e l.2 r.2)
+node_written bs n left right (Err x) w l r e = e

@@ -6,7 +6,7 @@ use Rattle.vm_ranges.proofs.FieldSteps.{in_field}
 use Rattle.vm_ranges.proofs.Nulls.{null_of, not_null}
 use Rattle.vm_ranges.proofs.Steps.{and_then_some, if_some}
 use Rattle.vm_ranges.specs.RangeValues.{EncodesRange}
-use Rattle.vm_engine.specs.Tree.Shape.{Shape, Tip, Fork, height_of}
+use Rattle.vm_engine.specs.Values.NodeTree.{NodeTree, Tip, Fork, height_of}
 use Rattle.vm_engine.specs.Values.TreeValues.{EncodesNode, EncodesShape, HasNodes}
 use Rattle.vm_engine.specs.Values.SavedTrees.{Saved, Absent, Node, shape_of, HasRanges, HasHeights}
 use Rattle.vm_engine.specs.Checks.NodeChecks.{NodeData, decoded_node}
@@ -29,20 +29,20 @@ saved_shape (Node l b r h) d g p =
     subst (EncodesNode d b (λ v. EncodesShape v (shape_of l)) (λ v. EncodesShape v (shape_of r))) g.2 mapped
 
 -- The saved tree of a shape, with its heights.
-abbrev pub saved_of : Shape → Saved
+abbrev pub saved_of : NodeTree → Saved
 saved_of Tip = Absent
 saved_of (Fork l b r) = Node (saved_of l) b (saved_of r) (max (height_of l) (height_of r) + 1)
 
-pub shape_of-saved_of : (s : Shape) → shape_of (saved_of s) ≡ s
+pub shape_of-saved_of : (s : NodeTree) → shape_of (saved_of s) ≡ s
 shape_of-saved_of Tip = refl
 shape_of-saved_of (Fork l b r) = rw (shape_of-saved_of l, shape_of-saved_of r) refl
 
-pub saved_of-heights : (s : Shape) → HasHeights (saved_of s)
+pub saved_of-heights : (s : NodeTree) → HasHeights (saved_of s)
 saved_of-heights Tip = tt
 saved_of-heights (Fork l b r) =
     (saved_of-heights l, saved_of-heights r, rw (shape_of-saved_of l, shape_of-saved_of r) refl)
 
-pub shape_saved : (s : Shape) (d : Data) → EncodesShape d s → EncodesSaved d (saved_of s)
+pub shape_saved : (s : NodeTree) (d : Data) → EncodesShape d s → EncodesSaved d (saved_of s)
 shape_saved Tip d p = p
 shape_saved (Fork l b r) d p =
     sides_map d b (λ v. EncodesShape v l) (λ v. EncodesShape v r) (λ v. EncodesSaved v (saved_of l)) (λ v. EncodesSaved v (saved_of r)) (max (height_of l) (height_of r) + 1) (λ v. shape_saved l v) (λ v. shape_saved r v) p
@@ -55,7 +55,7 @@ ranges_saved (Node l b r h) d p =
     (ranges_saved l n.0 n.3, ranges_saved r n.1 n.4, key_at.2.range)
 
 -- The nodes of a value are those of a saved tree.
-pub nodes_saved : (s : Shape) (d : Data) → HasNodes d s → (t : Saved) × EncodesSaved d t × (shape_of t ≡ s)
+pub nodes_saved : (s : NodeTree) (d : Data) → HasNodes d s → (t : Saved) × EncodesSaved d t × (shape_of t ≡ s)
 nodes_saved Tip d p = (Absent, p, refl)
 nodes_saved (Fork l b r) d p =
     let n = node_is d b (λ v. HasNodes v l) (λ v. HasNodes v r) p.0 p.1 in

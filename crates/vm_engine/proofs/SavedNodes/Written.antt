@@ -3,13 +3,14 @@ use Rattle.std.proofs.Common.{◌≡◌, ◌≢◌, ℕ, suc, ◌+◌, ◌/◌, 
 use Rattle.std.proofs.lemmas.Bool.{cases_lt}
 use Rattle.std.proofs.lemmas.List.{take_at, drop_at}
 use Rattle.vm_ranges.specs.Range.{Range}
-use Rattle.vm_engine.specs.Tree.Block.{Block}
+use Rattle.vm_leaf.specs.declared.block.Block.{Block}
 use Rattle.vm_engine.specs.Tree.Blocks.{IsTiling}
-use Rattle.vm_engine.specs.Tree.Shape.{height_of, IsLowestHeight, IsBalanced}
+use Rattle.vm_tree.specs.Building.{IsLowestHeight}
+use Rattle.vm_engine.specs.Values.NodeTree.{height_of, IsBalanced}
 use Rattle.vm_engine.specs.Values.SavedTrees.{Saved, Absent, Node, shape_of, saved_blocks, HasHeights, IsSavedTree}
 use Rattle.vm_engine.specs.Values.WrittenTrees.{IsMiddle, IsWritten}
-use Rattle.vm_engine.proofs.Making.Built.{not_above, at_most_one, height_above}
-use Rattle.vm_engine.proofs.Nodes.MinNodes.{power_grows}
+use Rattle.vm_engine.proofs.SavedNodes.Heights.{not_above, at_most_one, height_above}
+use Rattle.vm_engine.proofs.SavedNodes.Heights.{power_grows}
 
 -- The blocks of the tree that is written are those that it is written for.
 pub written_blocks : (bs : List Block) (t : Saved) → IsWritten bs t → saved_blocks t ≡ bs

@@ -2,10 +2,12 @@
 use Rattle.std.proofs.Common.{◌≡◌, ℕ, ◌+◌, ◌-◌, ◌<◌, ◌≤◌, List, [], ◌∷◌, ◌++◌, true, false, cond, ltb, refl, sym, ap, ◌∙◌, arith, ⊎_elim, subst, inl, inr}
 use Rattle.std.proofs.lemmas.Bool.{cases_lt, lt-ltb, le-ltb}
 use Rattle.vm_ranges.specs.Range.{Range, MAX}
-use Rattle.vm_engine.specs.Tree.Block.{Block}
+use Rattle.vm_leaf.specs.declared.block.Block.{Block}
 use Rattle.vm_engine.specs.Address.{AddressState, with_range, holding, SplitsGap}
-use Rattle.vm_engine.specs.Tree.Blocks.{NotBothFree, Tiles, held_of, IsBlocksOf, blocks_state, TilesSpace, AreBelowMax}
-use Rattle.vm_engine.specs.Tree.BlockEdits.{after_part, parts, IsTakenFrom, NeedsSplit}
+use Rattle.vm_leaf.specs.Blocks.{NotBothFree, Tiles}
+use Rattle.vm_engine.specs.Tree.Blocks.{held_of, IsBlocksOf, blocks_state, TilesSpace, AreBelowMax}
+use Rattle.vm_leaf.specs.Blocks.{after_part, parts, IsTakenFrom}
+use Rattle.vm_engine.specs.Tree.BlockEdits.{NeedsSplit}
 use Rattle.vm_ranges.specs.declared.state.NodeState.{NodeState}
 use Rattle.vm_ranges.specs.declared.state.NodeState.TheVariants.{Free, Allocated}
 use Rattle.vm_engine.proofs.Blocks.Gaps.{state_cases, InFreeBlock, free_is_clear}

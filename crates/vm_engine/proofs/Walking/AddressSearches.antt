@@ -1,34 +1,22 @@
 -- The search for the block that contains an address.
-use Rattle.std.proofs.Common.{◌≡◌, ℕ, ◌<◌, ◌≤◌, Some, None, subst, arith, List}
-use Rattle.vm_ranges.specs.Range.{Range, Covers, at_address}
-use Rattle.vm_ranges.specs.RangeOrder.{EndsBefore, EndsAtOrAfterStartOf, IsInOrder}
-use Rattle.vm_engine.specs.Tree.Block.{Block}
+use Rattle.std.proofs.Common.{◌≡◌, ℕ, Option, Some, None, subst, arith, List}
+use Rattle.std.specs.List.{Contains}
+use Rattle.vm_engine.proofs.Blocks.HeldSets.{held_lies}
+use Rattle.vm_ranges.specs.Range.{Range, at_address}
+use Rattle.vm_leaf.specs.declared.block.Block.{Block}
 use Rattle.vm_engine.specs.Tree.Blocks.{TilesSpace, held_of}
-use Rattle.vm_engine.specs.Tree.BlockList.{IsOrderedFrom, find_superset}
-use Rattle.vm_engine.specs.Tree.Shape.{Shape, Fork, blocks, IsTree}
+use Rattle.vm_tree.specs.Lookups.{find_superset}
+use Rattle.vm_engine.specs.Tree.BlockList.{IsOrderedFrom}
+use Rattle.vm_tree.specs.Shape.{Shape, blocks}
 use Rattle.vm_engine.specs.Tree.SpaceTree.{space_of, tree_state, IsSpaceTree}
 use Rattle.vm_engine.specs.Queries.{free_of, IsRangeAt, IsHeldAt, IsGapAt}
 use Rattle.vm_ranges.specs.declared.state.NodeState.TheVariants.{Free, Allocated}
 use Rattle.vm_engine.proofs.Blocks.PickedRanges.{held_picked, free_picked, range_at, other_at, none_at}
-use Rattle.vm_engine.proofs.Nodes.Supersets.{superset_in_left, superset_in_right, superset_here}
-use Rattle.vm_engine.proofs.Nodes.TreeEdits.{tiles_ordered}
+use Rattle.vm_engine.proofs.Blocks.BlockOrder.{tiles_ordered}
+use Rattle.vm_engine.proofs.Blocks.PlainWords.{held_contains}
+use Rattle.vm_engine.proofs.Results.HeldAndGaps.{held_at_agrees}
+use Rattle.vm_engine.proofs.Trees.Spaces.{state_of_tree}
 use Rattle.vm_engine.proofs.Walking.GapsInTrees.{gaps_in_tree}
-
--- ---- The path to the block
-module _ (s l : Shape) (b : Block) (r : Shape) (x : ℕ) (e : s ≡ Fork l b r) (t : IsTree s) where
-  pub block_left : x < b.key.start → find_superset (at_address x) (blocks s) ≡ find_superset (at_address x) (blocks l)
-  unfolding IsInOrder EndsBefore
-  block_left p = superset_in_left s l b r (at_address x) e (omega arith) p t
-
-  pub block_right : b.key.end < x → find_superset (at_address x) (blocks s) ≡ find_superset (at_address x) (blocks r)
-  unfolding IsInOrder EndsBefore
-  block_right p = superset_in_right s l b r (at_address x) e (omega arith) p t
-
-  pub block_here : b.key.start ≤ x → x ≤ b.key.end → find_superset (at_address x) (blocks s) ≡ Some b
-  unfolding IsInOrder EndsAtOrAfterStartOf Covers
-  block_here p q = superset_here s l b r (at_address x) e (omega arith) p (λ y i. (omega (arith, i.0), omega (arith, i.1))) t
-
-pub ruleset block_at_address = (block_left, block_right, block_here)
 
 -- The blocks of a tree are in order.
 order : (s : Shape) → IsSpaceTree s → IsOrderedFrom (space_of (blocks s)).start (blocks s)
@@ -59,3 +47,24 @@ module _ (s : Shape) (x : ℕ) (h : IsSpaceTree s) where
 pub ruleset held_at_address = (held_none, held_free, held_found)
 
 pub ruleset gap_at_address = (gap_none, gap_held, gap_found)
+
+-- ---- A range by its start
+module _ (s : Shape) (k : Range) (h : IsSpaceTree s) where
+  only_at : (found : Option Range) → IsHeldAt (tree_state s) k.start found → Contains (tree_state s).held k → found ≡ Some k
+  only_at found at c =
+      let order = (held_lies (space_of (blocks s)).start (space_of (blocks s)).end (held_of (blocks s)) k (state_of_tree s h).in_order (held_contains (held_of (blocks s)) k c)).1 in
+      (held_at_agrees (tree_state s) k.start found (state_of_tree s h) at).held k c (omega arith, order)
+
+  pub key_none : find_superset (at_address k.start) (blocks s) ≡ None → ¬ Contains (tree_state s).held k
+  key_none e c = let f = only_at None (held_none s k.start h e) c in cc f
+
+  pub key_free : (b : Block) → find_superset (at_address k.start) (blocks s) ≡ Some b → b.state ≡ Free → ¬ Contains (tree_state s).held k
+  key_free b e f c = let g = only_at None (held_free s k.start h b e f) c in cc g
+
+  pub key_other : (b : Block) → find_superset (at_address k.start) (blocks s) ≡ Some b → b.state ≡ Allocated → (b.key ≡ k → ⊥) → ¬ Contains (tree_state s).held k
+  key_other b e f n c = let g = only_at (Some b.key) (held_found s k.start h b e f) c in n (cc g)
+
+  pub key_same : (b : Block) → find_superset (at_address k.start) (blocks s) ≡ Some b → b.state ≡ Allocated → b.key ≡ k → Contains (tree_state s).held k
+  key_same b e f g = subst (λ (v : Range). Contains (tree_state s).held v) g (held_found s k.start h b e f).0
+
+pub ruleset held_by_key = (key_none, key_free, key_other, key_same)

@@ -3,9 +3,11 @@ use Rattle.std.proofs.Common.{◌≡◌, ℕ, ◌+◌, ◌<◌, ◌≤◌, max, 
 use Rattle.std.proofs.lemmas.Bool.{cases_lt}
 use Rattle.std.proofs.lemmas.List.{append-nil}
 use Rattle.vm_ranges.specs.Range.{Range, MAX, address_count}
-use Rattle.vm_engine.specs.Tree.Block.{Block, free_length}
-use Rattle.vm_engine.specs.Tree.Blocks.{Tiles, TilesSpace}
-use Rattle.vm_engine.specs.Tree.Shape.{Shape, Tip, Fork, blocks, max_free_of}
+use Rattle.vm_leaf.specs.declared.block.Block.{Block}
+use Rattle.vm_leaf.specs.Block.{free_length}
+use Rattle.vm_leaf.specs.Blocks.{Tiles, longest_gap}
+use Rattle.vm_engine.specs.Tree.Blocks.{TilesSpace}
+use Rattle.vm_tree.specs.Shape.{Shape, blocks}
 use Rattle.vm_engine.specs.Tree.SpaceTree.{space_of, tree_state, IsSpaceTree}
 use Rattle.vm_engine.specs.Queries.{range_if_free, free_of, gaps_of, longest_of, count_of}
 use Rattle.vm_ranges.specs.declared.state.NodeState.{NodeState}
@@ -38,12 +40,6 @@ pub ruleset free_of_last = (free_of-last_held, free_of-last_free)
 pub length-free_of : (xs ys : List Block) → length (free_of (xs ++ ys)) ≡ length (free_of xs) + length (free_of ys)
 length-free_of xs ys = ap length (free_of-append xs ys) ∙ length-append (free_of xs) (free_of ys)
 
-pub free_fork-free : (l : Shape) (b : Block) (r : Shape) → b.state ≡ Free → length (free_of (blocks (Fork l b r))) ≡ length (free_of (blocks l)) + length (free_of (blocks r)) + 1
-free_fork-free l b r e = omega (arith, length-free_of (blocks l) (b ∷ blocks r), ap length (free_of-free b (blocks r) e))
-
-pub free_fork-held : (l : Shape) (b : Block) (r : Shape) → b.state ≡ Allocated → length (free_of (blocks (Fork l b r))) ≡ length (free_of (blocks l)) + length (free_of (blocks r))
-free_fork-held l b r e = omega (arith, length-free_of (blocks l) (b ∷ blocks r), ap length (free_of-held b (blocks r) e))
-
 -- ---- The number of their addresses
 count_of-append : (xs ys : List Range) → count_of (xs ++ ys) ≡ count_of xs + count_of ys
 count_of-append [] ys = omega arith
@@ -56,26 +52,6 @@ own_count Allocated k rs = omega arith
 own_few : (s : NodeState) (k : Range) → free_length (record { key = k; state = s }) ≤ address_count k
 own_few Free k = omega arith
 own_few Allocated k = omega arith
-
-clear_fork : (l : Shape) (b : Block) (r : Shape) → count_of (free_of (blocks (Fork l b r))) ≡ count_of (free_of (blocks l)) + count_of (free_of (blocks r)) + free_length b
-clear_fork l b r =
-    let both = ap count_of (free_of-append (blocks l) (b ∷ blocks r)) ∙ count_of-append (free_of (blocks l)) (free_of (b ∷ blocks r)) in
-    omega (arith, both, own_count b.state b.key (free_of (blocks r)))
-
-pub clear_fork-free : (l : Shape) (b : Block) (r : Shape) → b.state ≡ Free → count_of (free_of (blocks (Fork l b r))) ≡ count_of (free_of (blocks l)) + count_of (free_of (blocks r)) + address_count b.key
-clear_fork-free l b r e =
-    let own : free_length b ≡ address_count b.key = ap (λ (s : NodeState). free_length (record { key = b.key; state = s })) e in
-    omega (arith, clear_fork l b r, own)
-
-pub clear_fork-held : (l : Shape) (b : Block) (r : Shape) → b.state ≡ Allocated → count_of (free_of (blocks (Fork l b r))) ≡ count_of (free_of (blocks l)) + count_of (free_of (blocks r))
-clear_fork-held l b r e =
-    let own : free_length b ≡ 0 = ap (λ (s : NodeState). free_length (record { key = b.key; state = s })) e in
-    omega (arith, clear_fork l b r, own)
-
-pub clear_children : (l : Shape) (b : Block) (r : Shape) → count_of (free_of (blocks l)) + count_of (free_of (blocks r)) ≤ count_of (free_of (blocks (Fork l b r)))
-clear_children l b r = omega (arith, clear_fork l b r)
-
-pub ruleset clear_numbers = (clear_fork-free, clear_fork-held, clear_children)
 
 -- The addresses of a free block are among the free addresses.
 pub clear_middle : (before after : List Block) (b : Block) → b.state ≡ Free → address_count b.key ≤ count_of (free_of (before ++ b ∷ after))
@@ -98,18 +74,16 @@ own_longest : (s : NodeState) (k : Range) (rs : List Range) → longest_of (rang
 own_longest Free k rs = refl
 own_longest Allocated k rs = omega arith
 
-max_free_is_longest : (s : Shape) → max_free_of s ≡ longest_of (free_of (blocks s))
-max_free_is_longest Tip = refl
-max_free_is_longest (Fork l b r) =
-    let both = ap longest_of (free_of-append (blocks l) (b ∷ blocks r)) ∙ longest_of-append (free_of (blocks l)) (free_of (b ∷ blocks r)) in
-    omega (arith, max_free_is_longest l, max_free_is_longest r, both, own_longest b.state b.key (free_of (blocks r)))
+longest_gap_is : (bs : List Block) → longest_gap bs ≡ longest_of (free_of bs)
+longest_gap_is [] = refl
+longest_gap_is (b ∷ bs) = omega (arith, longest_gap_is bs, own_longest b.state b.key (free_of bs))
 
 -- ---- The gaps of a tree are its free blocks
 pub gaps_in_tree : (s : Shape) → IsSpaceTree s → free_of (blocks s) ≡ gaps_of (tree_state s)
 gaps_in_tree s h = ap free_of (sym (tree_blocks s h))
 
-pub longest_in_tree : (s : Shape) → IsSpaceTree s → max_free_of s ≡ longest_of (gaps_of (tree_state s))
-longest_in_tree s h = max_free_is_longest s ∙ ap longest_of (gaps_in_tree s h)
+pub longest_in_tree : (s : Shape) → IsSpaceTree s → longest_gap (blocks s) ≡ longest_of (gaps_of (tree_state s))
+longest_in_tree s h = longest_gap_is (blocks s) ∙ ap longest_of (gaps_in_tree s h)
 
 pub clear_in_tree : (s : Shape) → IsSpaceTree s → count_of (free_of (blocks s)) ≤ MAX
 unfolding TilesSpace

@@ -4,7 +4,7 @@ use Rattle.std.specs.Prelude.{◌≡◌, ℕ, zero, suc, Bool, false, if◌then�
 use Rattle.serde_json.specs.Data.{Data, null}
 use Rattle.serde_json.specs.Find.{as_null}
 use Rattle.vm_ranges.specs.Range.{Range}
-use Rattle.vm_engine.specs.Tree.Shape.{MAX_HEIGHT}
+use Rattle.vm_engine.specs.Values.NodeTree.{MAX_HEIGHT}
 use Rattle.vm_engine.specs.Values.TreeValues.{EncodesNode}
 use Rattle.vm_engine.specs.Values.KeyValues.{MAX_NESTING_REPAIRED}
 use Rattle.vm_engine.specs.Values.SavedTrees.{Saved, Absent, Node}

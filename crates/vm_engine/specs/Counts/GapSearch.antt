@@ -1,30 +1,20 @@
 -- The number of nodes that a search enters, by the number of gaps that look suitable but have no place.
 --
 -- Gaps are counted by tests over the blocks of the state. A law in specs/Laws shows that each test is exact.
-use Rattle.std.specs.Prelude.{◌≡◌, ℕ, ◌+◌, ◌*◌, ◌≤◌, ◌&&◌, not, min, nat_le, Bool, List, length, Option, Some, None, MatchOption, Result, Err, OnErr}
+use Rattle.std.specs.Prelude.{◌≡◌, ℕ, ◌+◌, ◌*◌, ◌≤◌, min, Bool, List, length, Option, Some, None, MatchOption, Result, Err}
 use Rattle.std.specs.List.{filter}
 use Rattle.vm_ranges.specs.Range.{Range}
-use Rattle.vm_engine.specs.Tree.Block.{Block, free_length}
-use Rattle.vm_engine.specs.Tree.Multiples.{has_aligned}
+use Rattle.vm_leaf.specs.declared.block.Block.{Block}
 use Rattle.vm_engine.specs.Address.{AddressState}
-use Rattle.vm_engine.specs.Windows.{cut_to}
 use Rattle.vm_engine.specs.Tree.Blocks.{blocks_of}
 use Rattle.vm_ranges.specs.Request.{Request, ByPolicy}
-use Rattle.vm_engine.specs.Counts.NodeCounts.{has_fit}
 use Rattle.vm_ranges.specs.declared.error.Error.{Error}
 use Rattle.vm_ranges.specs.declared.error.Error.TheVariants.{ResourceNotAvailable}
-
--- Tests if the block is a gap that is long enough for n addresses, but has no place for them at a multiple of a.
-unfoldable pub is_misaligned : ℕ → ℕ → Block → Bool
-is_misaligned n a b = nat_le n (free_length b) && not (has_fit n a b)
+use Rattle.vm_tree.specs.GapSearch.{is_misaligned, is_too_short, on_part}
 
 -- The number of misaligned gaps in a list of blocks.
 abbrev pub misaligned_among : ℕ → ℕ → List Block → ℕ
 misaligned_among n a bs = length (filter (is_misaligned n a) bs)
-
--- Tests if the block has a part in the window w, and this part passes the test.
-abbrev pub on_part : Range → (Block → Bool) → Block → Bool
-on_part w test b = nat_le (cut_to w b).key.start (cut_to w b).key.end && test (cut_to w b)
 
 -- The number of blocks that pass the test, or whose parts in the window do if there is a window.
 abbrev pub passing : Option Range → (Block → Bool) → List Block → ℕ
@@ -36,10 +26,6 @@ passing (Some w) test bs = length (filter (on_part w test) bs)
 unfoldable pub misaligned_gaps : AddressState → Request → ℕ
 misaligned_gaps state request = passing request.window (is_misaligned request.size request.align) (blocks_of state)
 
--- Tests if the block is a gap that has a multiple of a, but no place for n addresses at a multiple of a.
-unfoldable pub is_too_short : ℕ → ℕ → Block → Bool
-is_too_short n a b = has_aligned a b && not (has_fit n a b)
-
 -- The number of gaps in a list of blocks that are too short.
 abbrev pub too_short_among : ℕ → ℕ → List Block → ℕ
 too_short_among n a bs = length (filter (is_too_short n a) bs)
@@ -49,24 +35,20 @@ too_short_among n a bs = length (filter (is_too_short n a) bs)
 unfoldable pub too_short_gaps : AddressState → Request → ℕ
 too_short_gaps state request = passing request.window (is_too_short request.size request.align) (blocks_of state)
 
--- The bound on the nodes that an allocation enters in a tree of height h if the search looks at v gaps without a place.
--- An allocation that fails enters only the nodes of its search. A search that finds no place enters at most h nodes for each
--- of these gaps. A success enters at most 2h nodes more: the path to the place, and the split there.
+-- The bound on the nodes that a request enters in a tree of height h with v gaps without a place: at most h nodes for each of
+-- these gaps, and the path to the place that is found.
 pub record IsGapSearchCount (h v : ℕ) (answer : Result Range Error) (count : ℕ) : Type 0 where
-  pub most : count ≤ h * (v + 2)
-  pub refused : OnErr answer (count ≤ h * (v + 1))
+  pub most : count ≤ h * (v + 1)
   pub none : answer ≡ Err ResourceNotAvailable → count ≤ h * v
 
--- The bound for a search within a window. It can also enter the path to one end of the window, or to both ends if it finds no
--- place.
-pub record IsWindowSearchCount (h v : ℕ) (answer : Result Range Error) (count : ℕ) : Type 0 where
-  pub most : count ≤ h * (v + 3)
-  pub refused : OnErr answer (count ≤ h * (v + 2))
+-- The bound for a search within a window. It can also enter the path to an end of the window.
+abbrev pub IsWindowSearchCount : ℕ → ℕ → ℕ → Type 0
+IsWindowSearchCount h v count = count ≤ h * (v + 2)
 
 -- The bound for v gaps is true if the policy is FirstMatch or LastMatch.
 abbrev pub SearchesAmongGaps : ℕ → ℕ → Request → Result Range Error → ℕ → Type 0
 SearchesAmongGaps h v request answer count =
-    let by_gaps : Type 0 = MatchOption request.window (IsGapSearchCount h v answer count) (λ window. IsWindowSearchCount h v answer count) in
+    let by_gaps : Type 0 = MatchOption request.window (IsGapSearchCount h v answer count) (λ window. IsWindowSearchCount h v count) in
     ByPolicy request.policy by_gaps by_gaps (λ start. Unit {0})
 
 -- The bound is true for the number of misaligned gaps.

@@ -3,11 +3,14 @@ use Rattle.std.specs.Prelude.{◌≡◌, ◌≢◌, ℕ, ◌<◌, ◌≤◌, ◌
 use Rattle.std.specs.List.{All, AllPairs, Contains}
 use Rattle.vm_ranges.specs.Range.{Range, MAX, Overlaps, Covers}
 use Rattle.vm_engine.specs.Address.{AddressState, IsClear, SplitsGap, IsAddressState}
-use Rattle.vm_engine.specs.Tree.Block.{Block, free_length}
-use Rattle.vm_engine.specs.Tree.Fit.{HasNoFit}
+use Rattle.vm_leaf.specs.declared.block.Block.{Block}
+use Rattle.vm_leaf.specs.Block.{free_length}
+use Rattle.vm_leaf.specs.Fit.{HasNoFit}
 use Rattle.vm_ranges.specs.Alignment.{IsAlignment}
-use Rattle.vm_engine.specs.Counts.GapSearch.{is_misaligned, misaligned_gaps, is_too_short, too_short_gaps}
-use Rattle.vm_engine.specs.Tree.Multiples.{HasMultiple, multiples_in}
+use Rattle.vm_tree.specs.GapSearch.{is_misaligned, is_too_short}
+use Rattle.vm_engine.specs.Counts.GapSearch.{misaligned_gaps, too_short_gaps}
+use Rattle.vm_leaf.specs.Multiples.{HasMultiple}
+use Rattle.vm_engine.specs.Tree.Multiples.{multiples_in}
 use Rattle.vm_ranges.specs.Request.{Request}
 use Rattle.vm_engine.specs.Windows.{within}
 use Rattle.vm_engine.specs.Answer.{IsSplitRefusal, AllocatesAt, Allocates, Frees, Makes}

@@ -1,4 +1,4 @@
--- Laws of the memory of an address allocator. Its tree has one node for each block.
+-- Laws of the blocks of an address allocator.
 use Rattle.std.specs.Prelude.{◌≡◌, ℕ, ◌+◌, ◌*◌, ◌≤◌, Ok, length}
 use Rattle.vm_ranges.specs.Cases.{IfElse}
 use Rattle.vm_ranges.specs.Range.{Range}
@@ -6,8 +6,6 @@ use Rattle.vm_ranges.specs.Request.{Request}
 use Rattle.vm_engine.specs.Address.{AddressState, IsClear, IsAddressState}
 use Rattle.vm_engine.specs.Answer.{Allocates, Frees}
 use Rattle.vm_engine.specs.Tree.Blocks.{blocks_of}
-use Rattle.vm_engine.specs.Tree.Shape.{Shape, node_count}
-use Rattle.vm_engine.specs.Tree.SpaceTree.{tree_state, IsSpaceTree}
 
 -- The number of blocks of a state.
 abbrev pub block_count : AddressState → ℕ
@@ -24,10 +22,6 @@ pub record AreClearBeside (state : AddressState) (r : Range) (n : ℕ) : Type 0 
   pub before : IsOneIf ((x : ℕ) × IsClear state x × (x + 1 ≡ r.start)) below
   pub after : IsOneIf (IsClear state (r.end + 1)) above
   pub both : n ≡ below + above
-
--- A tree has one node for each block of its state.
-abbrev pub OneNodeForEachBlock : Type 0
-OneNodeForEachBlock = (s : Shape) → IsSpaceTree s → node_count s ≡ block_count (tree_state s)
 
 -- An allocation adds one block for each part of the gap that is left: two, one, or none if the range fills its gap.
 abbrev pub AllocationAddsParts : Type 0

@@ -3,7 +3,8 @@ use Rattle.std.specs.Prelude.{◌≡◌, ◌↔◌, ℕ, ◌+◌, ◌<◌, ◌�
 use Rattle.std.specs.List.{All, Contains}
 use Rattle.vm_ranges.specs.Range.{Range, IsIn, Overlaps, Covers, address_count}
 use Rattle.vm_engine.specs.Address.{AddressState, IsAddressState, IsClear, AreClear, IsPlace}
-use Rattle.vm_engine.specs.Tree.Blocks.{Tiles, held_of, blocks_of}
+use Rattle.vm_leaf.specs.Blocks.{Tiles}
+use Rattle.vm_engine.specs.Tree.Blocks.{held_of, blocks_of}
 use Rattle.vm_engine.specs.Queries.{free_of, gaps_of, longest_of, longest_in, count_of, IsHeldAt, IsGapAt, meeting}
 use Rattle.vm_engine.specs.Windows.{within}
 use Rattle.vm_ranges.specs.declared.state.NodeState.TheVariants.{Allocated}

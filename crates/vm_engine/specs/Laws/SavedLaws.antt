@@ -1,12 +1,12 @@
 -- Laws of saved trees.
 use Rattle.std.specs.Prelude.{◌≡◌, List, Option, Some}
 use Rattle.serde_json.specs.Data.{Data}
-use Rattle.vm_ranges.specs.Range.{Range, IsRange}
+use Rattle.vm_ranges.specs.Range.{Range}
 use Rattle.vm_engine.specs.Address.{AddressState}
-use Rattle.vm_engine.specs.Tree.Block.{Block}
-use Rattle.vm_engine.specs.Tree.Shape.{Shape, blocks}
+use Rattle.vm_leaf.specs.declared.block.Block.{Block}
+use Rattle.vm_tree.specs.Shape.{Shape, blocks}
 use Rattle.vm_engine.specs.Tree.SpaceTree.{space_of, tree_state, IsSpaceTree}
-use Rattle.vm_engine.specs.Values.SavedTrees.{Saved, Node, shape_of, HasRanges, IsReadable, IsSavedTree, HasHeldKeys, HasTreeOf}
+use Rattle.vm_engine.specs.Values.SavedTrees.{Saved, Node, HasRanges, IsReadable, HasHeldKeys, HasTreeOf}
 use Rattle.vm_engine.specs.Values.TreeValues.{EncodesSpaceTree}
 use Rattle.vm_engine.specs.Values.KeyValues.{EncodesKeys}
 use Rattle.vm_engine.specs.Checks.ValueSpans.{EncodesSaved}
@@ -40,10 +40,10 @@ EqualAreWrittenEqually =
 
 -- A value encodes a tree of a space exactly if it has the nodes of a saved tree of the space.
 pub record ValuesAreSavedTrees : Type 0 where
-  pub nodes : (d : Data) (space : Range) (s : Shape) → EncodesSpaceTree d space s →
-      (t : Saved) × EncodesSaved d t × IsSavedTree space t × (shape_of t ≡ s)
-  pub tree : (d : Data) (space : Range) (t : Saved) → IsRange space.start space.end → EncodesSaved d t → IsSavedTree space t →
-      EncodesSpaceTree d space (shape_of t)
+  pub nodes : (d : Data) (space : Range) (state : AddressState) → EncodesSpaceTree d space state →
+      (t : Saved) × EncodesSaved d t × HasTreeOf space t state
+  pub tree : (d : Data) (space : Range) (state : AddressState) (t : Saved) → EncodesSaved d t → HasTreeOf space t state →
+      EncodesSpaceTree d space state
 
 -- A value encodes the held keys of a space exactly if it has the nodes of a saved tree with these keys.
 pub record ValuesHaveHeldKeys : Type 0 where

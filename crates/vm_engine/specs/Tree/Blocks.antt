@@ -1,22 +1,12 @@
 -- The blocks of a space: its gaps and its held ranges, from the lowest to the highest.
-use Rattle.std.specs.Prelude.{◌≡◌, ℕ, ◌+◌, ◌-◌, ◌≤◌, ◌<◌, List, [], ◌∷◌, ◌++◌, if◌then◌else◌, nat_lt}
+use Rattle.std.specs.Prelude.{◌≡◌, ℕ, ◌+◌, ◌≤◌, ◌<◌, List, [], ◌∷◌, ◌++◌}
 use Rattle.vm_ranges.specs.Range.{Range, MAX}
-use Rattle.vm_engine.specs.Tree.Block.{Block}
+use Rattle.vm_leaf.specs.declared.block.Block.{Block}
 use Rattle.vm_engine.specs.Address.{AddressState}
 use Rattle.vm_ranges.specs.declared.state.NodeState.{NodeState}
 use Rattle.vm_ranges.specs.declared.state.NodeState.TheVariants.{Free, Allocated}
-
--- At most one of both states is Free.
-abbrev pub NotBothFree : NodeState → NodeState → Type 0
-NotBothFree Free Free = ⊥
-NotBothFree Free Allocated = Unit {0}
-NotBothFree Allocated t = Unit {0}
-
--- The blocks cover lo to hi without gaps between them, and two neighbours are never both free. The block before lo has
--- the state `before`.
-abbrev pub Tiles : NodeState → ℕ → List Block → ℕ → Type 0
-Tiles before lo [] hi = lo ≡ hi + 1
-Tiles before lo (b ∷ bs) hi = (b.key.start ≡ lo) × (lo ≤ b.key.end) × NotBothFree before b.state × Tiles b.state (b.key.end + 1) bs hi
+use Rattle.vm_leaf.specs.Blocks.{Tiles}
+use Rattle.vm_tree.specs.Building.{blocks_between}
 
 -- The range of a block if it is held, otherwise no range.
 abbrev pub range_if_held : NodeState → Range → List Range
@@ -32,17 +22,6 @@ held_of (b ∷ bs) = range_if_held b.state b.key ++ held_of bs
 pub record IsBlocksOf (state : AddressState) (bs : List Block) : Type 0 where
   pub tiles : Tiles Allocated state.space.start bs state.space.end
   pub held : held_of bs ≡ state.held
-
--- The free block from lo to next - 1, if it is not empty.
-abbrev pub gap_before : ℕ → ℕ → List Block
-gap_before lo next =
-    if nat_lt lo next then record { key = record { start = lo; end = next - 1 }; state = Free } ∷ [] else []
-
--- The blocks from lo to hi if these ranges are held: the gaps and the ranges, in order.
-abbrev pub blocks_between : ℕ → List Range → ℕ → List Block
-blocks_between lo [] hi = gap_before lo (hi + 1)
-blocks_between lo (r ∷ rs) hi =
-    gap_before lo r.start ++ record { key = r; state = Allocated } ∷ blocks_between (r.end + 1) rs hi
 
 -- The blocks of a state.
 unfoldable pub blocks_of : AddressState → List Block

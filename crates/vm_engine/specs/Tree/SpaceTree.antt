@@ -1,12 +1,13 @@
 -- Trees of the blocks of a space.
-use Rattle.std.specs.Prelude.{◌≡◌, ℕ, ◌≤◌, List, [], ◌∷◌, Result, Ok, Err, MatchResult}
+use Rattle.std.specs.Prelude.{◌≡◌, ℕ, ◌<◌, List, [], ◌∷◌, length, Result, Ok, Err, MatchResult}
 use Rattle.vm_ranges.specs.Range.{Range, IsRange}
-use Rattle.vm_engine.specs.Tree.Block.{Block}
-use Rattle.vm_engine.specs.Address.{AddressState}
-use Rattle.vm_engine.specs.Tree.Blocks.{blocks_state, IsTiling}
-use Rattle.vm_engine.specs.Tree.Shape.{Shape, MAX_HEIGHT, blocks, height_of}
 use Rattle.vm_ranges.specs.declared.error.Error.{Error}
 use Rattle.vm_ranges.specs.declared.error.Error.TheVariants.{OutOfMemory}
+use Rattle.vm_leaf.specs.declared.block.Block.{Block}
+use Rattle.vm_tree.specs.Shape.{Shape, blocks}
+use Rattle.vm_engine.specs.Address.{AddressState}
+use Rattle.vm_engine.specs.Held.{TOO_MANY_BLOCKS}
+use Rattle.vm_engine.specs.Tree.Blocks.{blocks_state, IsTiling}
 
 -- The end of the last block.
 abbrev pub last_end : ℕ → List Block → ℕ
@@ -22,11 +23,11 @@ space_of (b ∷ bs) = record { start = b.key.start; end = last_end b.key.end bs 
 abbrev pub tree_state : Shape → AddressState
 tree_state s = blocks_state (space_of (blocks s)) (blocks s)
 
--- The tree is valid: its blocks are valid for a space, and its height is at most MAX_HEIGHT.
+-- The tree is valid: its blocks are valid for a space, and there are fewer than TOO_MANY_BLOCKS.
 pub record IsSpaceTree (s : Shape) : Type 0 where
   pub tiling : IsTiling (space_of (blocks s)) (blocks s)
   pub space : IsRange (space_of (blocks s)).start (space_of (blocks s)).end
-  pub height : height_of s ≤ MAX_HEIGHT
+  pub few : length (blocks s) < TOO_MANY_BLOCKS
 
 -- The result of `new`: a tree of the space without held ranges, or OutOfMemory.
 abbrev pub MakesTree : Range → Result Shape Error → Type 0

@@ -6,7 +6,7 @@ use Rattle.vm_ranges.specs.Range.{Range}
 use Rattle.vm_engine.specs.Address.{AddressState}
 use Rattle.vm_engine.specs.Answer.{SPLIT_LIMIT_MIN_HELD}
 use Rattle.vm_engine.specs.Tree.Blocks.{held_of, AreKeysIn, AreBelowMax}
-use Rattle.vm_engine.specs.Tree.Shape.{Shape, blocks, height_of}
+use Rattle.vm_engine.specs.Values.NodeTree.{NodeTree, blocks, height_of}
 use Rattle.vm_engine.specs.Values.TreeValues.{HasNodes}
 
 -- The maximum nesting of nodes: no tree that the Rust crate saves is higher.
@@ -17,7 +17,7 @@ MAX_NESTING_REPAIRED = 50
 -- Held keys end below MAX. At most SPLIT_LIMIT_MIN_HELD keys are held, so the height never makes a split fail. They are
 -- the held ranges of the state, and all other addresses of the space are clear.
 pub record EncodesKeys (d : Data) (space : Range) (state : AddressState) : Type 0 where
-  pub tree : Shape
+  pub tree : NodeTree
   pub nodes : HasNodes d tree
   pub nested : height_of tree ≤ MAX_NESTING_REPAIRED
   pub keys : AreKeysIn space.start (blocks tree) space.end

@@ -3,9 +3,9 @@ use Rattle.std.specs.Prelude.{◌≡◌, ◌≢◌, ℕ, ◌+◌, ◌≤◌, max
 use Rattle.vm_ranges.specs.Range.{Range, MAX, IsRange}
 use Rattle.vm_engine.specs.Address.{AddressState}
 use Rattle.vm_engine.specs.Answer.{SPLIT_LIMIT_MIN_HELD}
-use Rattle.vm_engine.specs.Tree.Block.{Block}
+use Rattle.vm_leaf.specs.declared.block.Block.{Block}
 use Rattle.vm_engine.specs.Tree.Blocks.{held_of, AreKeysIn, AreBelowMax, IsTiling}
-use Rattle.vm_engine.specs.Tree.Shape.{Shape, Tip, Fork, MAX_HEIGHT, blocks, height_of, IsBalanced}
+use Rattle.vm_engine.specs.Values.NodeTree.{NodeTree, Tip, Fork, MAX_HEIGHT, blocks, height_of, IsBalanced}
 use Rattle.vm_engine.specs.Values.KeyValues.{MAX_NESTING_REPAIRED}
 
 -- A saved tree: no node, or a node with its block, both children and the height that is saved for it.
@@ -14,7 +14,7 @@ pub data Saved : Type 0 where
   Node : Saved → Block → Saved → ℕ → Saved
 
 -- The nodes of a saved tree without the saved heights.
-abbrev pub shape_of : Saved → Shape
+abbrev pub shape_of : Saved → NodeTree
 shape_of Absent = Tip
 shape_of (Node l b r h) = Fork (shape_of l) b (shape_of r)
 

@@ -4,10 +4,10 @@ use Rattle.serde_json.specs.Data.{Data, null}
 use Rattle.vm_ranges.specs.Fields.{field_count, FieldIs}
 use Rattle.vm_ranges.specs.Numbers.{number_in}
 use Rattle.vm_ranges.specs.Range.{Range}
-use Rattle.vm_engine.specs.Tree.Block.{Block}
-use Rattle.vm_engine.specs.Tree.Blocks.{IsTiling}
-use Rattle.vm_engine.specs.Tree.BlockList.{IsOrderedFrom}
-use Rattle.vm_engine.specs.Tree.Shape.{Shape, Tip, Fork, MAX_HEIGHT, blocks, height_of, IsBalanced}
+use Rattle.vm_leaf.specs.declared.block.Block.{Block}
+use Rattle.vm_engine.specs.Address.{AddressState}
+use Rattle.vm_engine.specs.Tree.Blocks.{held_of, IsTiling}
+use Rattle.vm_engine.specs.Values.NodeTree.{NodeTree, Tip, Fork, MAX_HEIGHT, blocks, height_of, IsBalanced}
 use Rattle.vm_ranges.specs.RangeValues.{EncodesRange, EncodesState}
 
 -- The value d is an object with exactly the five fields of a node: its block, both children, and its height h. `Left`
@@ -21,22 +21,24 @@ pub record EncodesNode (d : Data) (block : Block) (Left Right : Data → Type 0)
   pub height : number_in (codes "height") d ≡ Some h
 
 -- The value d encodes the tree, with an object for each node and correct heights. An absent child is null.
-abbrev pub EncodesShape : Data → Shape → Type 0
+abbrev pub EncodesShape : Data → NodeTree → Type 0
 EncodesShape d Tip = d ≡ null
 EncodesShape d (Fork l b r) =
     EncodesNode d b (λ v. EncodesShape v l) (λ v. EncodesShape v r) (max (height_of l) (height_of r) + 1)
 
--- The value d encodes a valid tree of the space: it is not empty, not too high, in order and balanced, and its blocks
--- are valid for the space.
-pub record EncodesSpaceTree (d : Data) (space : Range) (tree : Shape) : Type 0 where
+-- The value d encodes a valid tree of the space, whose held ranges are those of the state: it is not empty, not too high and
+-- balanced, and its blocks are valid for the space.
+pub record EncodesSpaceTree (d : Data) (space : Range) (state : AddressState) : Type 0 where
+  pub tree : NodeTree
   pub encoded : EncodesShape d tree
   pub some_node : tree ≢ Tip
   pub nested : height_of tree ≤ MAX_HEIGHT
-  pub ordered : IsOrderedFrom 0 (blocks tree)
   pub balanced : IsBalanced tree
+  pub held : held_of (blocks tree) ≡ state.held
+  pub is_space : state.space ≡ space
   pub blocks : IsTiling space (blocks tree)
 
 -- The value d has the nodes of the tree, with any whole numbers as heights. An absent child is null.
-abbrev pub HasNodes : Data → Shape → Type 0
+abbrev pub HasNodes : Data → NodeTree → Type 0
 HasNodes d Tip = d ≡ null
 HasNodes d (Fork l b r) = (h : ℕ) × EncodesNode d b (λ v. HasNodes v l) (λ v. HasNodes v r) h

@@ -1,7 +1,7 @@
 -- The saved tree that is written for a list of blocks. The list decides it.
 use Rattle.std.specs.Prelude.{◌≡◌, ℕ, ◌/◌, List, [], ◌∷◌, ◌++◌, length, Option, Some, None}
-use Rattle.vm_engine.specs.Tree.Block.{Block}
-use Rattle.vm_engine.specs.Tree.Shape.{IsLowestHeight}
+use Rattle.vm_leaf.specs.declared.block.Block.{Block}
+use Rattle.vm_tree.specs.Building.{IsLowestHeight}
 use Rattle.vm_engine.specs.Values.SavedTrees.{Saved, Absent, Node, saved_blocks}
 use Rattle.vm_engine.specs.declared.saved.written.WrittenNode.{WrittenNode}
 

@@ -1,155 +1,193 @@
-//! Allocates a chosen range.
-//!
-//! A range that fills its free block only changes the state of the block. Any other range splits
-//! the block. All memory for a split is allocated before the first change, so an error changes
-//! nothing.
-ghost use Rattle.std.specs.Prelude.{◌≡◌, ◌+◌, ◌*◌, ◌<◌, ◌≤◌, Err, IfOk, IfErr, IfSome, OnErr, OnOk};
-ghost use Rattle.vm_ranges.specs.Range.{MAX};
-ghost use Rattle.vm_engine.specs.Answer.{AllocatesAt};
-ghost use Rattle.vm_engine.specs.Tree.Block.{free_block};
-ghost use Rattle.vm_engine.specs.Tree.BlockEdits.{IsTakenFrom, NeedsSplit, before_part, after_part};
+//! Allocates the range of a request.
+ghost use Rattle.std.specs.Prelude.{◌≡◌, ◌<◌, OnErr, length};
 ghost use Rattle.vm_ranges.specs.Cases.{IsTestOf};
-ghost use Rattle.vm_engine.specs.Engine.SplitBlocks.{IsRest};
-ghost use Rattle.vm_engine.specs.Tree.Shape.{blocks, height_of, single, leaf_of};
-ghost use Rattle.vm_engine.specs.Engine.Changes.{IsLeaf};
-ghost use Rattle.vm_engine.specs.Engine.CountedTrees.{one_if_some};
-ghost use Rattle.vm_engine.specs.Engine.NodeFields.{side};
-ghost use Rattle.vm_engine.specs.Engine.Choosing.{IsChosenPlace};
-ghost use Rattle.vm_engine.specs.Engine.Outermost.{KnowsPlace};
-ghost use Rattle.vm_engine.specs.Tree.SpaceTree.{tree_state};
-ghost use Rattle.vm_engine.specs.Counts.Steps.{SPLIT_HEIGHT_LIMIT};
-ghost use Rattle.vm_engine.specs.Counts.NodeCounts.{nodes_if_allocated};
+ghost use Rattle.vm_ranges.specs.Request.{Request, IsRequest};
+ghost use Rattle.vm_ranges.specs.declared.constraint.AllocPolicy.TheVariants.{ExactMatch};
+ghost use Rattle.vm_tree.specs.Allocation.{IsSearch};
+ghost use Rattle.vm_tree.specs.Roots.{IsBlockTree};
+ghost use Rattle.vm_tree.specs.Shape.{blocks, height_of};
+ghost use Rattle.vm_engine.specs.Address.{IsAddressState};
+ghost use Rattle.vm_engine.specs.Answer.{SPLIT_LIMIT_MIN_HELD, Grants};
+ghost use Rattle.vm_engine.specs.Counts.GapSearch.{SearchesGaps, SearchesAligned};
+ghost use Rattle.vm_engine.specs.Counts.NodeCounts.{nodes_of_request};
+ghost use Rattle.vm_engine.specs.Counts.Steps.{IsGrantCount, SplitsIfFew};
+ghost use Rattle.vm_engine.specs.Engine.Allocation.{error_of, with_error, IsSearchOf, IsAllocation};
+ghost use Rattle.vm_engine.specs.Tree.Blocks.{IsTiling, held_of};
+ghost use Rattle.vm_engine.specs.Tree.SpaceTree.{space_of, tree_state};
 
 use super::IntervalTree;
-use crate::Steps;
-use crate::block::Block;
-use crate::node::edge::Edge;
-use crate::node::outermost::split_gap;
-use crate::node::places::Place;
-use crate::node::rewrite::rewrite_at;
-use crate::node::split::{Rest, Split};
-use crate::node::{Child, InnerNode};
 use crate::ordering::valid_range;
 use std::alloc::Global;
-use vm_ranges::{Error, NodeState, RangeInclusive, Result};
+use vm_ranges::{AllocPolicy, Constraint, Error, NodeState, RangeInclusive, Result};
+use vm_tree::{Refusal, Search, Steps, Taken, Tree};
 
-/// Trees of this height or more are not split, so a split never makes a tree higher than 49.
-const SPLIT_HEIGHT_LIMIT: u64 = 48;
+/// If this many ranges are allocated, no gap is split. So no tree gets too high.
+pub(crate) const SPLIT_LIMIT: u64 = 6_293_134_512;
 
 impl IntervalTree {
-    /// Allocates a range within a free block.
-    ///
-    /// If the range does not fill the block, it returns `Overflow` for a tree of height 48 or more,
-    /// and `OutOfMemory` if the allocation of a leaf fails.
-    #[tactic(auto, using(crate::proofs::Splitting::SplitStates::takings, crate::proofs::Splitting::SplitStates::split_states, crate::proofs::Nodes::Spaces::rooted, crate::proofs::Counts::SplitCounts::holdings))]
-    pub(super) fn allocate_at(
+    /// Allocates like [`allocate`](Self::allocate), and also returns the number of nodes that it
+    /// entered.
+    pub fn allocate_counted(
         &mut self,
         alloc: Global,
-        place: Place,
-        edge: &Edge,
+        constraint: Constraint,
+    ) -> (Result<RangeInclusive>, u64)
+        ensures valid { IsRequest constraint }
+        ensures answer { Grants (tree_state self.old) constraint result.0 (tree_state self.new) }
+        ensures unchanged { OnErr result.0 (self.new ≡ self.old) }
+        ensures few { SplitsIfFew (tree_state self.old) constraint result.0 }
+        ensures count { result.1 ≡ nodes_of_request constraint (space_of (blocks self.old)) self.old }
+        ensures steps { IsGrantCount (height_of self.old) (tree_state self.old) constraint result.0 result.1 }
+        ensures search { SearchesGaps (height_of self.old) (tree_state self.old) constraint result.0 result.1
+            × SearchesAligned (height_of self.old) (tree_state self.old) constraint result.0 result.1 }
+        ensures state { IsAddressState (tree_state self.new) }
+    {
+        let mut count = Steps::new();
+        let answer = self.allocate_entering(alloc, constraint, &mut count);
+        (answer, count.entered())
+    }
+
+    /// Allocates the range of a request. The counter starts at 0, and gets the number of nodes entered.
+    fn allocate_entering(
+        &mut self,
+        alloc: Global,
+        constraint: Constraint,
         count: &mut Steps,
     ) -> Result<RangeInclusive>
-        requires place { IsChosenPlace (blocks self.old) place }
-        requires gap { KnowsPlace edge.now place self.old }
-        requires count_fits { count.old + 2 * height_of self.old < MAX }
-        ensures answer { AllocatesAt (tree_state self.old) place.range result (tree_state self.new) }
+        requires { count.old ≡ 0 }
+        ensures valid { IsRequest constraint }
+        ensures answer { Grants (tree_state self.old) constraint result (tree_state self.new) }
         ensures unchanged { OnErr result (self.new ≡ self.old) }
-        ensures low { NeedsSplit place.key place.range → OnOk result (height_of self.old < SPLIT_HEIGHT_LIMIT) }
-        ensures errors { (result ≡ Err Error.OutOfMemory → height_of self.old < SPLIT_HEIGHT_LIMIT)
-            × (result ≡ Err Error.Overflow → SPLIT_HEIGHT_LIMIT ≤ height_of self.old) }
-        ensures count { count.new ≡ count.old + nodes_if_allocated place.key result self.old }
+        ensures few { SplitsIfFew (tree_state self.old) constraint result }
+        ensures count { (count.new ≡ nodes_of_request constraint (space_of (blocks self.old)) self.old)
+            × IsGrantCount (height_of self.old) (tree_state self.old) constraint result count.new }
+        ensures search { SearchesGaps (height_of self.old) (tree_state self.old) constraint result count.new
+            × SearchesAligned (height_of self.old) (tree_state self.old) constraint result count.new }
+        ensures state { IsAddressState (tree_state self.new) }
     {
-        if !needs_split(&place) {
-            rewrite_at(
-                &mut self.root,
-                &place.key,
-                place.range,
-                NodeState::Allocated,
-                count,
-            );
-            self.held_count += 1;
-            self.gap_count -= 1;
-            self.free_len -= place.range.len();
-            return Ok(place.range);
-        }
-        if self.height() >= SPLIT_HEIGHT_LIMIT {
-            return Err(Error::Overflow);
-        }
-        let rest = rest_of(alloc, &place)?;
-        let mut split = Split { place, rest };
+        let can_split = self.held_count < SPLIT_LIMIT;
+        let taken = allocate_in(
+            &mut self.tree,
+            &self.space,
+            &constraint,
+            can_split,
+            alloc,
+            count,
+        )?;
         self.held_count += 1;
-        count_rest(&mut self.gap_count, &split.rest);
-        self.free_len -= place.range.len();
-        split_gap(&mut self.root, &mut split, edge, count);
-        Ok(place.range)
+        self.gap_count += u64::from(taken.added);
+        self.gap_count -= 1;
+        self.free_len -= constraint.size();
+        Ok(valid_range(taken.start, taken.start + (constraint.size() - 1)))
     }
 }
 
-/// Returns `true` if the range does not fill its free block.
-fn needs_split(place: &Place) -> bool
-    ensures { IsTestOf result (NeedsSplit place.now.key place.now.range) }
+/// Allocates the range of a request in the tree of a space.
+#[tactic(auto, using(crate::proofs::Placing::Requests::allocating))]
+fn allocate_in(
+    tree: &mut Tree,
+    space: &RangeInclusive,
+    constraint: &Constraint,
+    can_split: bool,
+    alloc: Global,
+    count: &mut Steps,
+) -> Result<Taken>
+    requires tiling { IsTiling space.now (blocks tree.old) }
+    requires few { IsTestOf can_split (length (held_of (blocks tree.old)) < SPLIT_LIMIT_MIN_HELD) }
+    requires count { count.old ≡ 0 }
+    ensures valid { IsRequest constraint.now }
+    ensures answer { IsAllocation constraint.now space.now can_split tree.old tree.new result count.new }
 {
-    place.key.start() < place.range.start() || place.range.end() < place.key.end()
-}
-
-/// Replaces the free block of a split by its parts in the number of gaps.
-fn count_rest(gaps: &mut u64, rest: &Rest)
-    requires some { 0 < one_if_some rest.now.before + one_if_some rest.now.after }
-    requires fits { gaps.old < MAX }
-    ensures { gaps.new + 1 ≡ gaps.old + one_if_some rest.now.before + one_if_some rest.now.after }
-{
-    if rest.before.is_some() && rest.after.is_some() {
-        *gaps += 1;
+    // Proof: `height` gives the bounds of the tree.
+    let _height = tree.height();
+    let search = search_of(constraint, space, can_split);
+    match constraint.policy() {
+        AllocPolicy::FirstMatch => with_error(tree.allocate_lowest(&search, alloc, count), space),
+        AllocPolicy::LastMatch => with_error(tree.allocate_highest(&search, alloc, count), space),
+        AllocPolicy::ExactMatch(start) => {
+            allocate_exact(tree, space, start, &search, alloc, count)
+        }
     }
 }
 
-/// Allocates the leaves for the parts of the free block before and after the range.
+/// Allocates the range of a search that starts at `start`.
 ///
-/// It returns `OutOfMemory` if the allocation of a leaf fails.
-fn rest_of(alloc: Global, place: &Place) -> Result<Rest>
-    requires { IsTakenFrom place.now.key place.now.range }
-    ensures rest { IfOk result (λ rest. IsRest place.now.key place.now.range rest) }
-    ensures error { IfErr result (λ error. error ≡ Error.OutOfMemory) }
+/// The errors are, in this order:
+/// - `Overflow` if `start` is `u64::MAX`.
+/// - `ResourceNotAvailable` if `start` is outside the space or outside the window.
+/// - `Overflow` if the range would end past `u64::MAX`.
+/// - The error of the tree.
+#[tactic(auto, using(crate::proofs::Placing::Requests::allocating_exact))]
+fn allocate_exact(
+    tree: &mut Tree,
+    space: &RangeInclusive,
+    start: u64,
+    search: &Search,
+    alloc: Global,
+    count: &mut Steps,
+) -> Result<Taken>
+    requires tiling { IsTiling space.now (blocks tree.old) }
+    requires few { IsTestOf search.now.can_split (length (held_of (blocks tree.old)) < SPLIT_LIMIT_MIN_HELD) }
+    requires low { IsBlockTree tree.old }
+    requires search { IsSearch search.now }
+    requires count { count.old ≡ 0 }
+    ensures { (request : Request) → IsRequest request → request.policy ≡ ExactMatch start
+        → IsSearchOf request space.now search.now
+        → IsAllocation request space.now search.now.can_split tree.old tree.new result count.new }
 {
-    let before = leaf_before(alloc, place)?;
-    let after = leaf_after(alloc, place)?;
-    Ok(Rest { before, after })
-}
-
-/// Allocates a leaf for the part of the free block before the range, if that part is not empty.
-fn leaf_before(alloc: Global, place: &Place) -> Result<Child>
-    requires { IsTakenFrom place.now.key place.now.range }
-    ensures part { IfOk result (λ leaf. side leaf ≡ leaf_of (before_part place.now.key place.now.range)) }
-    ensures leaf { IfOk result (λ leaf. IfSome leaf (λ n. IsLeaf n.value)) }
-    ensures error { IfErr result (λ error. error ≡ Error.OutOfMemory) }
-{
-    if place.key.start() >= place.range.start() {
-        return Ok(None);
+    if start == u64::MAX {
+        return Err(Error::Overflow);
     }
-    let key = valid_range(place.key.start(), place.range.start() - 1);
-    free_leaf(alloc, key)
-}
-
-/// Allocates a leaf for the part of the free block after the range, if that part is not empty.
-fn leaf_after(alloc: Global, place: &Place) -> Result<Child>
-    requires { IsTakenFrom place.now.key place.now.range }
-    ensures part { IfOk result (λ leaf. side leaf ≡ leaf_of (after_part place.now.key place.now.range)) }
-    ensures leaf { IfOk result (λ leaf. IfSome leaf (λ n. IsLeaf n.value)) }
-    ensures error { IfErr result (λ error. error ≡ Error.OutOfMemory) }
-{
-    if place.range.end() >= place.key.end() {
-        return Ok(None);
+    let (from, to) = (search.low.max(space.start()), search.high.min(space.end()));
+    if start < from || to < start {
+        return Err(Error::ResourceNotAvailable);
     }
-    let key = valid_range(place.range.end() + 1, place.key.end());
-    free_leaf(alloc, key)
+    let Some(last) = start.checked_add(search.size - 1) else {
+        return Err(Error::Overflow);
+    };
+    let range = valid_range(start, last);
+    with_error(tree.allocate_exact(start, search, alloc, count), &range)
 }
 
-/// Allocates a leaf with a free block.
-fn free_leaf(alloc: Global, key: RangeInclusive) -> Result<Child>
-    ensures leaf { IfOk result (λ leaf. IfSome leaf (λ n. n.value ≡ single (free_block key))) }
-    ensures shape { IfOk result (λ leaf. side leaf ≡ single (free_block key)) }
-    ensures error { IfErr result (λ error. error ≡ Error.OutOfMemory) }
+/// Returns the search of a request in a space.
+fn search_of(constraint: &Constraint, space: &RangeInclusive, can_split: bool) -> Search
+    ensures search { IsSearchOf constraint.now space.now result }
+    ensures valid { IsSearch result }
+    ensures request { IsRequest constraint.now }
+    ensures split { result.can_split ≡ can_split }
 {
-    let leaf = Box::new(alloc, InnerNode::new(Block::free(key)))?;
-    Ok(Some(leaf))
+    let window = match constraint.window() {
+        None => *space,
+        Some(window) => window,
+    };
+    Search {
+        size: constraint.size(),
+        alignment: constraint.align(),
+        low: window.start(),
+        high: window.end(),
+        can_split,
+    }
+}
+
+/// Returns what a search found, with the error of its refusal. A search for `range` alone can find that
+/// it is allocated.
+fn with_error(found: std::result::Result<Taken, Refusal>, range: &RangeInclusive) -> Result<Taken>
+    ensures { result ≡ with_error range.now found }
+{
+    match found {
+        Ok(taken) => Ok(taken),
+        Err(refusal) => Err(error_of(refusal, range)),
+    }
+}
+
+/// Returns the error of a refusal. A search for `range` alone can find that it is allocated.
+fn error_of(refusal: Refusal, range: &RangeInclusive) -> Error
+    ensures { result ≡ error_of range.now refusal }
+{
+    match refusal {
+        Refusal::NoPlace => Error::ResourceNotAvailable,
+        Refusal::Held => Error::InvalidStateTransition(*range, NodeState::Allocated),
+        Refusal::PastMax | Refusal::TooHigh => Error::Overflow,
+        Refusal::OutOfMemory => Error::OutOfMemory,
+    }
 }

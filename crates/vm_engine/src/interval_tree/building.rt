@@ -1,24 +1,20 @@
 //! Builds the tree of a space in which some ranges are allocated.
 //!
-//! A first pass checks and counts without allocating. A second pass builds the blocks into a tree
-//! from the middle, so no rotation is needed.
-ghost use Rattle.std.specs.Prelude.{◌≡◌, ◌≢◌, ◌+◌, ◌<◌, ◌≤◌, ◌∷◌, [], Some, None, length, IfOk, IfErr, MatchResult};
-ghost use Rattle.vm_ranges.specs.Range.{address_count};
+//! A first pass checks and counts without allocating. A second pass builds the blocks into leaves.
+ghost use Rattle.std.specs.Prelude.{◌≡◌, ◌+◌, ◌≤◌, Some, None, IfOk, IfErr, MatchResult};
 ghost use Rattle.vm_ranges.specs.ListErrors.{by_error};
-ghost use Rattle.vm_engine.specs.Address.{AreInOrder, IsAddressState};
-ghost use Rattle.vm_engine.specs.Tree.Shape.{height_of, node_count, IsLowestHeight};
-ghost use Rattle.vm_engine.specs.Tree.SpaceTree.{tree_state, made_tree};
+ghost use Rattle.vm_ranges.specs.Range.{IsRange, address_count};
+ghost use Rattle.vm_tree.specs.Building.{AreInOrder, IsLowestHeight};
+ghost use Rattle.vm_tree.specs.Shape.{height_of, node_count};
+ghost use Rattle.vm_engine.specs.Address.{IsAddressState};
+ghost use Rattle.vm_engine.specs.Held.{MakesHeld, CountsBlocks, range_fault, fault_index};
 ghost use Rattle.vm_engine.specs.Queries.{count_of};
-ghost use Rattle.vm_engine.specs.Held.{TOO_MANY_BLOCKS, MakesHeld, range_fault, fault_index};
-ghost use Rattle.vm_engine.specs.Engine.NodeFields.{side};
-ghost use Rattle.vm_engine.specs.Engine.Building.{remaining_blocks, IsBlockCursor, IsBuilt, CountsBlocks};
+ghost use Rattle.vm_engine.specs.Tree.SpaceTree.{tree_state, made_tree};
 
 use super::IntervalTree;
-use crate::block::Block;
-use crate::node::{Child, InnerNode};
-use crate::ordering::valid_range;
-use std::alloc::{AllocError, Global};
-use vm_ranges::{Error, ListError, NodeState, RangeInclusive, Result};
+use std::alloc::Global;
+use vm_ranges::{Error, ListError, RangeInclusive, Result};
+use vm_tree::Tree;
 
 /// A tree of this many blocks or more is too high.
 const TOO_MANY_BLOCKS: u64 = 1 << 49;
@@ -43,14 +39,9 @@ impl IntervalTree {
         if count >= TOO_MANY_BLOCKS {
             return Err(Error::Overflow.into());
         }
-        let mut cursor = BlockCursor {
-            next: key.start().into(),
-            held,
-            end: key.end(),
-        };
-        let root = build(alloc, count, &mut cursor)?;
         Ok(IntervalTree {
-            root,
+            tree: Tree::with_held(alloc, count, key, held)?,
+            space: key,
             held_count: held.len() as u64,
             gap_count: count - held.len() as u64,
             free_len: count_left(&key, held),
@@ -65,6 +56,7 @@ fn count_blocks(
     held: &[RangeInclusive],
 ) -> std::result::Result<u64, ListError>
     ensures checked { CountsBlocks space.now held.now result }
+    ensures space { IsRange space.now.start space.now.end }
 {
     let end = space.end();
     let mut next = space.start();
@@ -119,62 +111,4 @@ fn check_next(next: u64, end: u64, range: &RangeInclusive) -> Result<()>
         return Err(Error::Overflow);
     }
     Ok(())
-}
-
-/// A cursor at the blocks that are not built yet: the gaps and the allocated ranges from `next` to
-/// `end`.
-#[derive(Drop)]
-struct BlockCursor<'a> {
-    next: u128,
-    held: &'a [RangeInclusive],
-    end: u64,
-}
-
-impl BlockCursor<'_> {
-    /// Returns the next block, and advances.
-    #[tactic(auto, using(crate::proofs::Making::BlockCursors::firsts))]
-    fn take_first(&mut self) -> Block
-        requires cursor { IsBlockCursor self.old }
-        requires some { remaining_blocks self.old ≢ [] }
-        ensures first { remaining_blocks self.old ≡ result ∷ remaining_blocks self.new }
-        ensures cursor { IsBlockCursor self.new }
-    {
-        let start = self.next as u64;
-        let Some((range, others)) = self.held.split_first() else {
-            self.next = u128::from(self.end) + 1;
-            return Block::free(valid_range(start, self.end));
-        };
-        if start < range.start() {
-            self.next = range.start().into();
-            return Block::free(valid_range(start, range.start() - 1));
-        }
-        self.next = u128::from(range.end()) + 1;
-        self.held = others;
-        Block::held(*range)
-    }
-}
-
-/// Builds a tree of the next `count` blocks. It has the minimum height for its nodes.
-///
-/// It returns an error if the allocation of a node fails. The nodes built so far are freed.
-fn build(
-    alloc: Global,
-    count: u64,
-    cursor: &mut BlockCursor<'_>,
-) -> std::result::Result<Child, AllocError>
-    requires cursor { IsBlockCursor cursor.old }
-    requires enough { count ≤ length (remaining_blocks cursor.old) }
-    requires few { count < TOO_MANY_BLOCKS }
-    ensures built { IfOk result (λ tree.
-        IsBuilt count (remaining_blocks cursor.old) (side tree) (remaining_blocks cursor.new)) }
-    ensures cursor { IfOk result (λ tree. IsBlockCursor cursor.new) }
-{
-    if count == 0 {
-        return Ok(None);
-    }
-    let left = build(alloc, count / 2, cursor)?;
-    let block = cursor.take_first();
-    let right = build(alloc, (count - 1) / 2, cursor)?;
-    let node = InnerNode::with_children(alloc, left, block, right)?;
-    Ok(Some(node))
 }

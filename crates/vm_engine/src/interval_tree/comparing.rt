@@ -1,19 +1,17 @@
 //! Equality and order of trees. Both compare the blocks, so the shape of a tree does not matter.
-ghost use Rattle.std.specs.Prelude.{◌≡◌, ◌≤◌, ◌↔◌, IsTrue, Some};
+ghost use Rattle.std.specs.Prelude.{◌≡◌, ◌↔◌, IsTrue, Some};
 ghost use Rattle.std.proofs.Common.{rules};
 ghost use Rattle.std.specs.Cmp.Rules.{comparing};
 ghost use Rattle.std.specs.Ordering.{on, eq_by_cmp, as_partial_cmp};
 ghost use Rattle.std.specs.declared.cmp.Ordering.TheVariants.{Equal};
 ghost use Rattle.std.proofs.lemmas.Cmp.{on_total};
-ghost use Rattle.vm_engine.specs.Tree.Shape.{MAX_HEIGHT, blocks, height_of};
+ghost use Rattle.vm_tree.specs.Shape.{blocks};
 ghost use Rattle.vm_engine.specs.Tree.SpaceTree.{tree_state};
-ghost use Rattle.vm_engine.specs.Engine.NodeFields.{side};
 ghost use Rattle.vm_engine.specs.Comparison.{blocks_cmp, layout_cmp, layout_cmp-total, AreEqual};
 
 use super::IntervalTree;
-use crate::node::Child;
-use crate::node::walks::Walk;
 use std::cmp::Ordering;
+use vm_tree::Walk;
 
 impl PartialEq for IntervalTree {
     ghost eq = { eq_by_cmp (on tree_state layout_cmp) };
@@ -27,7 +25,7 @@ impl PartialEq for IntervalTree {
         ensures equal { IsTrue result ↔ AreEqual (tree_state self.now) (tree_state other.now) }
         ensures order { result ≡ eq_by_cmp layout_cmp (tree_state self.now) (tree_state other.now) }
     {
-        same_blocks(&self.root, &other.root)
+        same_blocks(self.blocks(), other.blocks())
     }
 }
 
@@ -64,17 +62,14 @@ impl Ord for IntervalTree {
         ensures order { result ≡ layout_cmp (tree_state self.now) (tree_state other.now) }
         ensures equal { (result ≡ Equal) ↔ AreEqual (tree_state self.now) (tree_state other.now) }
     {
-        compare_blocks(&self.root, &other.root)
+        compare_blocks(self.blocks(), other.blocks())
     }
 }
 
-/// Returns `true` if two trees have the same blocks. It stops at the first difference.
-fn same_blocks(a: &Child, b: &Child) -> bool
-    requires a { height_of (side a.now) ≤ MAX_HEIGHT }
-    requires b { height_of (side b.now) ≤ MAX_HEIGHT }
-    ensures { IsTrue result ↔ (blocks (side a.now) ≡ blocks (side b.now)) }
+/// Returns `true` if two walks return the same blocks. It stops at the first difference.
+fn same_blocks(mut left: Walk<'_>, mut right: Walk<'_>) -> bool
+    ensures { IsTrue result ↔ (left.entry ≡ right.entry) }
 {
-    let (mut left, mut right) = (Walk::new(a), Walk::new(b));
     while let Some(x) = left.next() {
         let Some(y) = right.next() else {
             return false;
@@ -86,14 +81,11 @@ fn same_blocks(a: &Child, b: &Child) -> bool
     right.next().is_none()
 }
 
-/// Compares two trees by the first blocks that differ. If the blocks of one tree are a prefix of
-/// the other's, the tree with fewer blocks is less.
-fn compare_blocks(a: &Child, b: &Child) -> Ordering
-    requires a { height_of (side a.now) ≤ MAX_HEIGHT }
-    requires b { height_of (side b.now) ≤ MAX_HEIGHT }
-    ensures { result ≡ blocks_cmp (blocks (side a.now)) (blocks (side b.now)) }
+/// Compares two walks by the first blocks that differ. If the blocks of one walk are a prefix of the
+/// other's, the walk with fewer blocks is less.
+fn compare_blocks(mut left: Walk<'_>, mut right: Walk<'_>) -> Ordering
+    ensures { result ≡ blocks_cmp left.entry right.entry }
 {
-    let (mut left, mut right) = (Walk::new(a), Walk::new(b));
     while let Some(x) = left.next() {
         let Some(y) = right.next() else {
             return Ordering::Greater;

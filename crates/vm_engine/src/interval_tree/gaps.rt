@@ -9,10 +9,9 @@ ghost use Rattle.vm_engine.specs.Queries.{gaps_of, longest_of, count_of, IsGapAt
 ghost use Rattle.vm_engine.specs.Tree.SpaceTree.{tree_state};
 
 use super::IntervalTree;
-use crate::node::walks::addresses::block_at;
-use crate::node::walks::both_ends::WalkBothEnds;
 use std::marker::Model;
 use vm_ranges::{NodeState, RangeInclusive};
+use vm_tree::Walk;
 
 /// An iterator over the gaps in a window, from the lowest to the highest, or backwards. It does not
 /// allocate.
@@ -20,7 +19,7 @@ use vm_ranges::{NodeState, RangeInclusive};
 /// Its model is the list of the gaps that it has not returned yet.
 #[derive(Clone, Drop)]
 pub struct GapsIn<'a> {
-    blocks: WalkBothEnds<'a>,
+    blocks: Walk<'a>,
 }
 
 impl<'a> Model for GapsIn<'a> {
@@ -161,7 +160,7 @@ impl IntervalTree {
     pub fn gap_at(&self, address: u64) -> Option<RangeInclusive>
         ensures { IsGapAt (tree_state self.now) address result }
     {
-        let block = block_at(&self.root, address)?;
+        let block = self.tree.block_at(address)?;
         match block.state {
             NodeState::Free => Some(block.key),
             NodeState::Allocated => None,
@@ -173,7 +172,7 @@ impl IntervalTree {
     pub fn longest_gap(&self) -> u64
         ensures { result ≡ longest_of (gaps_of (tree_state self.now)) }
     {
-        self.root().max_free()
+        self.tree.longest_gap()
     }
 
     /// Returns the number of gaps. It takes constant time and does not allocate.

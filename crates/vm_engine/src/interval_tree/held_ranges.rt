@@ -7,11 +7,9 @@ ghost use Rattle.vm_engine.specs.Queries.{IsHeldAt, meeting};
 ghost use Rattle.vm_engine.specs.Tree.SpaceTree.{tree_state};
 
 use super::IntervalTree;
-use crate::node::walks::addresses::block_at;
-use crate::node::walks::both_ends::WalkBothEnds;
-use crate::node::walks::held::has_held;
 use std::marker::Model;
 use vm_ranges::{NodeState, RangeInclusive};
+use vm_tree::Walk;
 
 /// An iterator over the allocated ranges in a window, from the lowest to the highest, or backwards.
 /// It does not allocate.
@@ -19,7 +17,7 @@ use vm_ranges::{NodeState, RangeInclusive};
 /// Its model is the list of the ranges that it has not returned yet.
 #[derive(Clone, Drop)]
 pub struct HeldRangesIn<'a> {
-    blocks: WalkBothEnds<'a>,
+    blocks: Walk<'a>,
 }
 
 impl<'a> Model for HeldRangesIn<'a> {
@@ -155,11 +153,14 @@ impl IntervalTree {
     }
 
     /// Returns `true` if exactly this range is allocated.
-    #[tactic(auto, using(crate::proofs::Releasing::Finding::held_by_key))]
+    #[tactic(auto, using(crate::proofs::Walking::AddressSearches::held_by_key))]
     pub fn holds(&self, key: &RangeInclusive) -> bool
         ensures { IsTrue result ↔ Contains (tree_state self.now).held key.now }
     {
-        has_held(&self.root, key)
+        let Some(block) = self.tree.block_at(key.start()) else {
+            return false;
+        };
+        block.state == NodeState::Allocated && block.key == *key
     }
 
     /// Returns the allocated range that contains an address, or `None` if the address is free or
@@ -168,7 +169,7 @@ impl IntervalTree {
     pub fn held_at(&self, address: u64) -> Option<RangeInclusive>
         ensures { IsHeldAt (tree_state self.now) address result }
     {
-        let block = block_at(&self.root, address)?;
+        let block = self.tree.block_at(address)?;
         match block.state {
             NodeState::Free => None,
             NodeState::Allocated => Some(block.key),

@@ -13,7 +13,7 @@ ghost use Rattle.vm_engine.specs.Laws.AddressLaws.{
   TooShortIsExact,
   TooShortAreFew,
 };
-ghost use Rattle.vm_engine.specs.Laws.CountLaws.{EntersFew, CountsAreDecided, RemovalIsExact, PathsSinkLittle};
+ghost use Rattle.vm_engine.specs.Laws.CountLaws.{EntersFew, CountsAreDecided};
 
 /// States that an allocation has one result and one next state, except that a split may fail.
 ///
@@ -77,16 +77,8 @@ fn calls_enter_few()
     ensures { EntersFew }
 {}
 
-/// States that the tree, a call and its result decide the number of nodes that the call enters.
-#[tactic(auto, using(crate::proofs::Counts::OneCount::counts_are_decided))]
+/// States that the tree and a request decide the number of nodes that an allocation enters.
+#[tactic(auto, using(crate::proofs::Counts::SimpleBounds::decided))]
 fn counts_are_decided()
     ensures { CountsAreDecided }
-{}
-
-/// States that the tree without a block is balanced, has the other blocks, and is at most one lower.
-/// The removal and a later path to another block enter at most h nodes more than that path before, in
-/// a tree of height h.
-fn removals_keep_paths_short()
-    ensures removal { RemovalIsExact }
-    ensures paths { PathsSinkLittle }
 {}

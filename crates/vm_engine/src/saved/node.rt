@@ -6,9 +6,9 @@ ghost use Rattle.vm_ranges.specs.Saving.{Saves};
 ghost use Rattle.vm_engine.specs.Values.TreeValues.{EncodesNode};
 ghost use Rattle.vm_engine.specs.Checks.NodeChecks.{NodeParts, decoded_node};
 
-use crate::block::Block;
 use serde_json::{Value, json};
 use std::alloc::{AllocError, Global};
+use vm_leaf::Block;
 use vm_ranges::{NodeState, RangeInclusive, Result, has_fields, number_in, range_in, state_in};
 
 const KEY: &str = "key";

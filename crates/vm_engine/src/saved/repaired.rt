@@ -4,12 +4,14 @@
 //! keys, and a new tree is built of them.
 ghost use Rattle.std.specs.Prelude.{◌≡◌, ◌≤◌, ◌++◌, IfOk, OnOk};
 ghost use Rattle.serde_json.specs.View.{view};
+ghost use Rattle.vm_tree.specs.Building.{IsLowestHeight};
+ghost use Rattle.vm_tree.specs.Shape.{height_of, node_count};
 ghost use Rattle.vm_engine.specs.Address.{IsAddressState};
 ghost use Rattle.vm_engine.specs.Tree.Blocks.{range_if_held};
 ghost use Rattle.vm_engine.specs.Tree.SpaceTree.{tree_state, made_tree};
 ghost use Rattle.vm_ranges.specs.Saving.{Reads};
 ghost use Rattle.vm_engine.specs.Values.KeyValues.{MAX_NESTING_REPAIRED, EncodesKeys};
-ghost use Rattle.vm_engine.specs.Checks.KeyChecks.{HasNodesWithin, CollectsKeys};
+ghost use Rattle.vm_engine.specs.Checks.KeyChecks.{HasNodesWithin, CollectsKeys, HoldsNodes};
 
 use super::check::check_nodes;
 use super::node::decode_node;
@@ -20,7 +22,8 @@ use std::alloc::{AllocError, Global};
 use vm_ranges::{NodeState, RangeInclusive, ValueError};
 
 impl IntervalTree {
-    /// Returns a tree of the space in which the allocated keys of a value are allocated.
+    /// Returns a tree of the space in which the allocated keys of a value are allocated. It has the minimum
+    /// height for its nodes.
     ///
     /// The tree in the value can have no nodes, gaps between keys, free neighbours, no balance and
     /// any heights. All of the value is checked before anything is allocated, and the check descends
@@ -42,6 +45,7 @@ impl IntervalTree {
         value: &Value,
     ) -> std::result::Result<Self, ValueError>
         ensures answer { Reads (EncodesKeys (view value.now) space.now) (made_tree result) }
+        ensures low { IfOk result (λ tree. IsLowestHeight (node_count tree) (height_of tree)) }
         ensures state { IfOk result (λ tree. IsAddressState (tree_state tree)) }
     {
         // Proof: this shows that the space is a range.
@@ -52,13 +56,30 @@ impl IntervalTree {
         if !is_inside(space, &root) {
             return Err(ValueError::NotAState);
         }
-        let mut held = Vec::with_capacity(alloc, held_in(&root) as usize)?;
-        collect_keys(value, MAX_NESTING, &mut held)?;
-        let Ok(tree) = IntervalTree::with_held(alloc, *space, &held) else {
-            return Err(ValueError::OutOfMemory);
-        };
-        Ok(tree)
+        tree_of_keys(alloc, space, value, held_in(&root))
     }
+}
+
+/// Returns the tree of a space with the allocated keys of a checked value. `count` is their number.
+///
+/// It returns `OutOfMemory` if an allocation fails.
+pub(super) fn tree_of_keys(
+    alloc: Global,
+    space: &RangeInclusive,
+    value: &Value,
+    count: u64,
+) -> std::result::Result<IntervalTree, ValueError>
+    requires nodes { HasNodesWithin MAX_NESTING_REPAIRED (view value.now) }
+    ensures answer { HoldsNodes (view value.now) space.now (made_tree result) }
+    ensures low { IfOk result (λ tree. IsLowestHeight (node_count tree) (height_of tree)) }
+    ensures state { IfOk result (λ tree. IsAddressState (tree_state tree)) }
+{
+    let mut held = Vec::with_capacity(alloc, count as usize)?;
+    collect_keys(value, MAX_NESTING, &mut held)?;
+    let Ok(tree) = IntervalTree::with_held(alloc, *space, &held) else {
+        return Err(ValueError::OutOfMemory);
+    };
+    Ok(tree)
 }
 
 /// Appends the allocated keys of a checked value to a list, in order.

@@ -7,14 +7,14 @@ ghost use Rattle.vm_ranges.specs.Range.{IsRange};
 ghost use Rattle.vm_engine.specs.Checks.NodeChecks.{is_correct_height};
 ghost use Rattle.vm_engine.specs.Checks.Spans.{nesting_of, held_in, ends_below, starts_above, can_join, joins_left, joins_right, is_exact_over, joined, span_over, is_inside, is_tree_of, held_over, first_of, last_of};
 
-use crate::node::MAX_HEIGHT;
+use crate::interval_tree::SPLIT_LIMIT;
 use vm_ranges::{NodeState, RangeInclusive};
 
 /// The maximum nesting of nodes. No tree of the Rust crate is higher.
 pub(super) const MAX_NESTING: u64 = 50;
 
-/// The maximum number of allocated keys. Up to this number, the height never makes a split fail.
-const MAX_HELD: u64 = 6_293_134_512;
+/// The maximum height of a tree that is read node for node.
+pub(super) const MAX_HEIGHT: u64 = 49;
 
 /// A subtree of a saved tree that was read, without its nodes.
 ///
@@ -220,7 +220,7 @@ pub(super) fn is_inside(space: &RangeInclusive, root: &Option<Span>) -> bool
     let (start, end) = (space.start(), space.end());
     match root {
         None => true,
-        Some(root) => start <= root.first && root.last <= end && root.held <= MAX_HELD,
+        Some(root) => start <= root.first && root.last <= end && root.held <= SPLIT_LIMIT,
     }
 }
 

@@ -1,41 +1,44 @@
-//! Encodes a tree as a value, and decodes it. A value is checked completely before nodes are built.
-ghost use Rattle.std.specs.Prelude.{◌≡◌, ◌≤◌, IfOk};
-ghost use Rattle.vm_ranges.specs.Range.{IsRange};
-ghost use Rattle.vm_engine.specs.Checks.ValueSpans.{has_tree_of};
+//! Encodes a tree as a value, and decodes it.
+ghost use Rattle.std.specs.Prelude.{◌≡◌, IfOk};
 ghost use Rattle.serde_json.specs.View.{view};
-ghost use Rattle.vm_engine.specs.Engine.NodeFields.{side};
 ghost use Rattle.vm_ranges.specs.Saving.{Saves, Reads};
-ghost use Rattle.vm_engine.specs.Tree.Shape.{MAX_HEIGHT, blocks};
-ghost use Rattle.vm_engine.specs.Tree.SpaceTree.{space_of};
-ghost use Rattle.vm_engine.specs.Values.TreeValues.{EncodesShape, EncodesSpaceTree};
-ghost use Rattle.vm_engine.specs.Checks.ValueParts.{HasShapeWithin};
+ghost use Rattle.vm_tree.specs.Building.{IsLowestHeight};
+ghost use Rattle.vm_tree.specs.Shape.{height_of, node_count};
+ghost use Rattle.vm_engine.specs.Address.{IsAddressState};
+ghost use Rattle.vm_engine.specs.Checks.ValueSpans.{EncodesSaved};
+ghost use Rattle.vm_engine.specs.Tree.SpaceTree.{tree_state, made_tree};
+ghost use Rattle.vm_engine.specs.Values.SavedTrees.{Saved};
+ghost use Rattle.vm_engine.specs.Values.TreeValues.{EncodesSpaceTree};
+ghost use Rattle.vm_engine.specs.Values.WrittenTrees.{IsWritten};
 
+use super::check::check_nodes;
+use super::node::encode_node;
+use super::repaired::tree_of_keys;
+use super::span::{MAX_HEIGHT, held_in, is_tree_of};
+use super::written::{WrittenBlocks, WrittenTree};
 use crate::IntervalTree;
-use crate::block::Block;
-use crate::node::walks::counts::count_tree;
-use crate::node::walks::encoding::encode;
-use crate::node::{Child, InnerNode, MAX_HEIGHT};
-use crate::saved::check::check_nodes;
-use crate::saved::node::decode_node;
-use crate::saved::span::is_tree_of;
 use serde_json::Value;
-use std::alloc::{AllocError, Global};
+use std::alloc::Global;
+use vm_leaf::Block;
 use vm_ranges::{RangeInclusive, Result, ValueError};
 
 impl IntervalTree {
-    /// Returns the value that encodes the tree, with one object for each node.
+    /// Returns the value that encodes the tree, with one object for each block.
     ///
     /// # Errors
     ///
     /// - `OutOfMemory` if an allocation fails.
-    #[tactic(auto, using(crate::proofs::Reading::Writing::trees))]
     pub fn to_root_value(&self, alloc: Global) -> Result<Value>
-        ensures { Saves (λ d. EncodesSpaceTree d (space_of (blocks self.now)) self.now) result }
+        ensures { Saves (λ d. EncodesSpaceTree d (tree_state self.now).space (tree_state self.now)) result }
     {
-        encode(&self.root, alloc)
+        // Proof: this shows that the tree is valid.
+        let _tree = &self.tree;
+        let written = WrittenBlocks::new(alloc, self)?;
+        encode(written.tree(), alloc)
     }
 
-    /// Returns the tree of the space that a value encodes, with the same nodes.
+    /// Returns a tree of the space that a value encodes, with the same allocated ranges. It has the minimum
+    /// height for its nodes.
     ///
     /// The check of the value does not allocate, and descends at most 50 levels of the value.
     ///
@@ -43,58 +46,42 @@ impl IntervalTree {
     ///
     /// In this order:
     /// - `NotAState` if the value does not encode a tree of this space.
-    /// - `OutOfMemory` if the allocation of a node fails.
+    /// - `OutOfMemory` if an allocation fails.
     pub fn from_root_value(
         alloc: Global,
         space: &RangeInclusive,
         value: &Value,
     ) -> std::result::Result<Self, ValueError>
-        ensures { Reads (EncodesSpaceTree (view value.now) space.now) result }
+        ensures answer { Reads (EncodesSpaceTree (view value.now) space.now) (made_tree result) }
+        ensures low { IfOk result (λ tree. IsLowestHeight (node_count tree) (height_of tree)) }
+        ensures state { IfOk result (λ tree. IsAddressState (tree_state tree)) }
     {
-        if !has_tree_of(space, value) {
+        // Proof: this shows that the space is a range.
+        let _end = space.end();
+        let Some(root) = check_nodes(value, MAX_HEIGHT) else {
+            return Err(ValueError::NotAState);
+        };
+        if !is_tree_of(space, &root) {
             return Err(ValueError::NotAState);
         }
-        let root = build(value, MAX_HEIGHT, alloc)?;
-        let counts = count_tree(&root);
-        Ok(IntervalTree {
-            root,
-            held_count: counts.held,
-            gap_count: counts.gaps,
-            free_len: counts.clear,
-        })
+        tree_of_keys(alloc, space, value, held_in(&root))
     }
 }
 
-/// Returns `true` if a value encodes a tree of the space, node for node.
-fn has_tree_of(space: &RangeInclusive, value: &Value) -> bool
-    ensures value { result ≡ has_tree_of space.now (view value.now) }
-    ensures space { IsRange space.now.start space.now.end }
-{
-    // Proof: this shows that the space is a range.
-    let _start = space.start();
-    match check_nodes(value, MAX_HEIGHT) {
-        None => false,
-        Some(root) => is_tree_of(space, &root),
-    }
-}
-
-/// Builds the tree that a checked value encodes, with the same nodes.
+/// Returns the value that encodes a saved tree.
 ///
-/// It returns an error if the allocation of a node fails. The nodes built so far are freed.
-fn build(value: &Value, depth: u64, alloc: Global) -> std::result::Result<Child, AllocError>
-    requires shape { HasShapeWithin depth (view value.now) }
-    requires depth { depth ≤ MAX_HEIGHT }
-    ensures { IfOk result (λ tree. EncodesShape (view value.now) (side tree)) }
+/// It returns `OutOfMemory` if an allocation fails.
+fn encode(tree: WrittenTree<'_>, alloc: Global) -> Result<Value>
+    ensures { Saves (λ d. (t : Saved) × IsWritten tree.entry.blocks.now t × EncodesSaved d t) result }
 {
-    let Some(node) = decode_node(value) else {
-        return Ok(None);
+    let Some(node) = tree.root() else {
+        return Ok(Value::Null);
     };
-    let left = build(node.left, depth - 1, alloc)?;
-    let right = build(node.right, depth - 1, alloc)?;
     let block = Block {
         key: node.key,
         state: node.state,
     };
-    let node = InnerNode::with_children(alloc, left, block, right)?;
-    Ok(Some(node))
+    let left = encode(node.left, alloc)?;
+    let right = encode(node.right, alloc)?;
+    encode_node(left, &block, right, node.height, alloc)
 }

@@ -2,13 +2,12 @@
 //!
 //! The blocks decide its shape, so trees with the same blocks are written in the same way.
 ghost use Rattle.std.specs.Prelude.{◌≡◌, IfOk};
-ghost use Rattle.vm_engine.specs.Tree.Shape.{blocks};
+ghost use Rattle.vm_tree.specs.Shape.{blocks};
 ghost use Rattle.vm_engine.specs.Values.WrittenTrees.{WritesNode};
 
 use crate::IntervalTree;
-use crate::block::Block;
-use crate::node::walks::Walk;
 use std::alloc::{AllocError, Global};
+use vm_leaf::Block;
 use vm_ranges::{NodeState, RangeInclusive};
 
 /// The blocks of a space in ascending order.
@@ -19,12 +18,12 @@ pub struct WrittenBlocks {
 
 impl WrittenBlocks {
     /// Returns the blocks of a tree, or an error if the allocation of the list fails.
-    #[tactic(auto, using(crate::proofs::Nodes::CountedTrees::blocks_fit))]
+    #[tactic(auto, using(crate::proofs::Trees::CountedTrees::blocks_fit))]
     pub fn new(alloc: Global, tree: &IntervalTree) -> std::result::Result<Self, AllocError>
         ensures { IfOk result (λ written. written.list.items ≡ blocks tree.now) }
     {
         let mut list = Vec::with_capacity(alloc, (tree.held_count + tree.gap_count) as usize)?;
-        let mut rest = Walk::new(&tree.root);
+        let mut rest = tree.blocks();
         while let Some(block) = rest.next() {
             list.push(block)?;
         }

@@ -39,7 +39,7 @@ impl Leaf {
     {
         let len = self.len;
         remove_between(&mut self.starts, len, 0, 1);
-        self.held = self.held >> 1;
+        self.held >>= 1;
         self.len = len - 1;
     }
 

@@ -44,14 +44,6 @@ fn end_of_first(starts: &[u64], end: u64) -> u64
 }
 
 impl Leaf {
-    /// Returns an iterator over all blocks of the leaf.
-    #[tactic(auto, using(crate::proofs::Rests::ends))]
-    pub fn blocks<'a>(&'a self) -> Blocks<'a>
-        ensures { result ≡ self.now }
-    {
-        self.part(0, self.len())
-    }
-
     /// Returns an iterator over the blocks with the indices `from..to`.
     pub fn part<'a>(&'a self, from: usize, to: usize) -> Blocks<'a>
         requires order { from ≤ to }

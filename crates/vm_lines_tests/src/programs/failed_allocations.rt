@@ -12,7 +12,6 @@ type Columns = &'static [&'static str];
 const TWO_REQUESTS: Columns = &[
     "done\nrange 16 16\nrange 17 19\ndone\n",
     "error memory\nerror no-space\nerror no-space\nerror no-space\n",
-    "done\nerror memory\nrange 16 18\nerror not-available\n",
 ];
 
 const REQUEST_OF_AN_ID: Columns = &[
@@ -25,7 +24,6 @@ const REQUESTS_OF_DEVICES: Columns = &[
     "error memory\nerror no-manager\nerror no-manager\nerror no-manager\nerror no-manager\nerror no-manager\n",
     "done\nerror memory\ndevice 0 16 18\ndone\nerror never-allocated 0\ndevice 0 16 16\n",
     "done\nerror memory\ndevice 0 16 18\ndone\nerror never-allocated 0\ndevice 0 16 16\n",
-    "done\nerror memory\ndevice 0 16 18\ndone\nerror never-allocated 0\ndevice 0 16 16\n",
     "done\ndevice 0 16 16\ndevice 1 17 19\nerror memory\ndone\ndevice 0 16 16\n",
 ];
 
@@ -34,24 +32,19 @@ const SPACES_AGAIN: Columns = &[
     "done\ndone\nrange 16 16\nerror state 16 16\ndone\nrange 32 32\ndone\nrange 32 32\n",
     "error memory\ndone\nrange 16 16\nerror state 16 16\ndone\nrange 32 32\ndone\nrange 32 32\n",
     "done\nerror memory\nrange 16 16\nerror state 16 16\ndone\nrange 32 32\ndone\nrange 32 32\n",
-    "done\ndone\nerror memory\nrange 16 16\ndone\nrange 32 32\ndone\nrange 32 32\n",
     "done\ndone\nrange 16 16\nerror state 16 16\nerror memory\nrange 17 17\ndone\nrange 32 32\n",
-    "done\ndone\nrange 16 16\nerror state 16 16\ndone\nerror memory\ndone\nrange 32 32\n",
     "done\ndone\nrange 16 16\nerror state 16 16\ndone\nrange 32 32\nerror memory\nrange 33 33\n",
-    "done\ndone\nrange 16 16\nerror state 16 16\ndone\nrange 32 32\ndone\nerror memory\n",
 ];
 
-/// The same for managers, whose devices allocate three times.
+/// The same for managers. A first device allocates twice, for the table of devices.
 const MANAGERS_AGAIN: Columns = &[
     "done\ndone\ndevice 0 16 16\ndone\nerror never-allocated 0\ndone\ndevice 0 32 32\n",
     "error memory\ndone\ndevice 0 16 16\ndone\nerror never-allocated 0\ndone\ndevice 0 32 32\n",
     "done\nerror memory\ndevice 0 16 16\ndone\nerror never-allocated 0\ndone\ndevice 0 32 32\n",
     "done\ndone\nerror memory\nerror never-allocated 0\nerror never-allocated 0\ndone\ndevice 0 32 32\n",
     "done\ndone\nerror memory\nerror never-allocated 0\nerror never-allocated 0\ndone\ndevice 0 32 32\n",
-    "done\ndone\nerror memory\nerror never-allocated 0\nerror never-allocated 0\ndone\ndevice 0 32 32\n",
     "done\ndone\ndevice 0 16 16\nerror memory\ndone\ndone\ndevice 0 32 32\n",
     "done\ndone\ndevice 0 16 16\ndone\nerror never-allocated 0\nerror memory\ndevice 0 16 16\n",
-    "done\ndone\ndevice 0 16 16\ndone\nerror never-allocated 0\ndone\nerror memory\n",
     "done\ndone\ndevice 0 16 16\ndone\nerror never-allocated 0\ndone\nerror memory\n",
     "done\ndone\ndevice 0 16 16\ndone\nerror never-allocated 0\ndone\nerror memory\n",
 ];

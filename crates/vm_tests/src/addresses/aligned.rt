@@ -80,7 +80,7 @@ impl Row {
 #[test]
 fn aligned_places_are_found_at_once(rt: HostRuntime) {
     let rows = &[
-        // No address of the space is a multiple, so no gap is visited.
+        // No address of the space is a multiple, so no node is entered.
         Row {
             space: (1, 0x1000),
             held: [
@@ -100,9 +100,10 @@ fn aligned_places_are_found_at_once(rt: HostRuntime) {
             last: NotAvailable,
             most: (0, 0),
         },
-        // One gap is long enough. The two gaps that have a multiple are too short.
+        // One gap is long enough. The two gaps that have a multiple are too short. The third stretch makes the
+        // tree higher.
         Row {
-            space: (1, 48),
+            space: (1, 176),
             held: [
                 Stretch {
                     start: 15,
@@ -116,7 +117,12 @@ fn aligned_places_are_found_at_once(rt: HostRuntime) {
                     apart: 16,
                     size: 15,
                 },
-                NONE,
+                Stretch {
+                    start: 50,
+                    number: 64,
+                    apart: 2,
+                    size: 1,
+                },
             ],
             freed: NONE,
             size: 2,
@@ -125,7 +131,7 @@ fn aligned_places_are_found_at_once(rt: HostRuntime) {
             last: NotAvailable,
             most: (1, 0),
         },
-        // The 127 gaps below are long enough and have no multiple.
+        // The 127 gaps below are long enough and have no multiple, and none of them looks suitable.
         Row {
             space: (0, 0x1000),
             held: [
@@ -148,7 +154,7 @@ fn aligned_places_are_found_at_once(rt: HostRuntime) {
             alignment: 2,
             first: Range(0x100, 0x100),
             last: Range(0xFFE, 0xFFE),
-            most: (9, 8),
+            most: (1, 0),
         },
     ];
     for row in rows {

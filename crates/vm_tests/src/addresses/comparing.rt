@@ -82,17 +82,17 @@ fn equal_ones_answer_alike(rt: HostRuntime) {
     expect_two_held(&rt, &ALL_BUT_TWO);
 }
 
-/// Returns `true` if two allocators are the same, node for node.
+/// Returns `true` if two allocators are equal, are written alike, and have trees of the same height.
 fn are_same(
     rt: &(impl Abort + AllocGlobal),
     one: &AddressAllocator,
     other: &AddressAllocator,
 ) -> bool {
-    one == other && saved(rt, one) == saved(rt, other)
+    let same_height = one.height() == other.height();
+    same_height && one == other && saved(rt, one) == saved(rt, other)
 }
 
-/// Clones an allocator. Checks that the clone is the same, node for node, or that nothing changed
-/// since `before`.
+/// Clones an allocator. Checks that the clone is the same, or that nothing changed since `before`.
 fn clone_or_refuse(
     rt: &(impl Abort + AllocGlobal),
     space: &AddressAllocator,

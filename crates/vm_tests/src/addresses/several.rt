@@ -14,11 +14,10 @@ use vm_allocator::{Constraint, ListError};
 /// In the space [0, 63], [16, 23] and [40, 47] are allocated before.
 type Several<'a> = (u64, u64, &'a [(Call, Expected)], usize);
 
-/// The call allocates the list of its ranges. A split allocates a node for each part of its gap that
-/// stays free.
-const ALLOCATED: [Several<'static>; 7] = [
+/// The call allocates the list of its ranges. A split of a leaf without room allocates a leaf and a node.
+const ALLOCATED: [Several<'static>; 8] = [
     (0, 64, &[], 0),
-    (0, 64, &[(Exact(4, 1, 4), Range(4, 7))], 3),
+    (0, 64, &[(Exact(4, 1, 4), Range(4, 7))], 1),
     (
         0,
         64,
@@ -29,7 +28,7 @@ const ALLOCATED: [Several<'static>; 7] = [
             (Exact(8, 8, 32), Range(32, 39)),
             (First(8, 1), Range(8, 15)),
         ],
-        5,
+        1,
     ),
     // Each range is placed after the ranges before it.
     (
@@ -42,7 +41,7 @@ const ALLOCATED: [Several<'static>; 7] = [
             (First(16, 8), Range(0, 15)),
             (First(16, 8), Range(24, 39)),
         ],
-        4,
+        1,
     ),
     // Each request in its own window, after the ranges before it.
     (
@@ -55,7 +54,7 @@ const ALLOCATED: [Several<'static>; 7] = [
             (FirstIn(8, 8, (32, MAX)), Range(32, 39)),
             (ExactIn(8, 1, 0, (0, 7)), Range(0, 7)),
         ],
-        4,
+        1,
     ),
     // All of the space.
     (
@@ -75,6 +74,29 @@ const ALLOCATED: [Several<'static>; 7] = [
         &[
             (First(HALF - 1, 1), Range(1, HALF - 1)),
             (Exact(HALF - 1, HALF, HALF), Range(HALF, LAST)),
+        ],
+        1,
+    ),
+    // The tree has 5 blocks, and then 6, 8, .. 20, 21, 23, .. 31. The last range makes 33, so it splits the leaf.
+    (
+        0,
+        64,
+        &[
+            (First(1, 2), Range(0, 0)),
+            (First(1, 2), Range(2, 2)),
+            (First(1, 2), Range(4, 4)),
+            (First(1, 2), Range(6, 6)),
+            (First(1, 2), Range(8, 8)),
+            (First(1, 2), Range(10, 10)),
+            (First(1, 2), Range(12, 12)),
+            (First(1, 2), Range(14, 14)),
+            (First(1, 2), Range(24, 24)),
+            (First(1, 2), Range(26, 26)),
+            (First(1, 2), Range(28, 28)),
+            (First(1, 2), Range(30, 30)),
+            (First(1, 2), Range(32, 32)),
+            (First(1, 2), Range(34, 34)),
+            (First(1, 2), Range(36, 36)),
         ],
         3,
     ),
@@ -98,7 +120,7 @@ const REFUSED: [Several<'static>; 10] = [
             (Exact(4, 1, 16), NotAvailable),
             (First(4, 1), Range(4, 7)),
         ],
-        2,
+        1,
     ),
     (
         0,
@@ -109,7 +131,7 @@ const REFUSED: [Several<'static>; 10] = [
             (Exact(8, 8, 16), Held(16, 23)),
             (First(1, 1), Range(24, 24)),
         ],
-        2,
+        1,
     ),
     // A request that fails only because of the requests before it.
     (
@@ -127,7 +149,7 @@ const REFUSED: [Several<'static>; 10] = [
         0,
         64,
         &[(Exact(4, 4, 4), Range(4, 7)), (Exact(4, 4, 4), Held(4, 7))],
-        3,
+        1,
     ),
     // A request whose window the requests before it fill.
     (
@@ -139,20 +161,20 @@ const REFUSED: [Several<'static>; 10] = [
             (FirstIn(1, 1, (24, 39)), NotAvailable),
             (First(1, 1), Range(0, 0)),
         ],
-        2,
+        1,
     ),
     // The last request, at both ends of the addresses outside the space.
     (
         0,
         64,
         &[(Last(1, 1), Range(63, 63)), (Exact(1, 1, 64), NotAvailable)],
-        2,
+        1,
     ),
     (
         0,
         64,
         &[(Last(1, 1), Range(63, 63)), (Exact(1, 1, MAX), Overflow)],
-        2,
+        1,
     ),
     // A range that would end at the highest address.
     (
@@ -163,7 +185,7 @@ const REFUSED: [Several<'static>; 10] = [
             (Last(1, 1), Overflow),
             (First(1, 1), Range(MAX - 14, MAX - 14)),
         ],
-        2,
+        1,
     ),
     (
         1,
@@ -172,7 +194,7 @@ const REFUSED: [Several<'static>; 10] = [
             (First(1, 1), Range(1, 1)),
             (Exact(HALF, HALF, HALF), Overflow),
         ],
-        2,
+        1,
     ),
 ];
 

@@ -1,23 +1,24 @@
-//! Guards against a split that changes the tree and then runs out of memory. Splits allocate one node
-//! and two nodes, by each policy.
+//! Guards against a split that changes the tree and then runs out of memory. A split of a leaf without
+//! room allocates a leaf and a node, by each policy.
 use super::*;
+use crate::fixtures::full_leaf;
 
 #[test]
 fn splits_by_each_policy(rt: HostRuntime) {
-    let mut space = made(&rt, 0, 16);
-    let rows = &[
-        // One node: the part that stays free is after the range, before it, after it.
-        (First(4, 1), Range(0, 3)),
-        (Last(4, 1), Range(12, 15)),
-        (Exact(2, 1, 4), Range(4, 5)),
-        // Two nodes: the free addresses are [6, 11], then [6, 7] and [9, 11].
-        (First(1, 4), Range(8, 8)),
-        (Last(1, 2), Range(10, 10)),
-        (Space(0, 0x1000), Range(0, 0xFFF)),
-        (Exact(0x100, 0x100, 0x500), Range(0x500, 0x5FF)),
+    // The last gap is [31, 4095]. The part that stays free is after the range, before it, on both sides.
+    let rows = [
+        (First(4, 1), Range(31, 34), 33),
+        (Last(4, 1), Range(0xFFC, 0xFFF), 33),
+        (Exact(0x100, 0x100, 0x500), Range(0x500, 0x5FF), 34),
+        (First(1, 64), Range(64, 64), 34),
+        (Last(1, 0x800), Range(0x800, 0x800), 34),
     ];
-    replay(&rt, &mut space, rows);
-    let is_split = space.height() == 2 && block_count(&rt, &space) == 3;
-    let one_held = space.held_count() == 1 && is_low(&space, 1);
-    expect_true(&rt, is_split && one_held, &"one is held, in three blocks");
+    for (call, want, blocks) in rows {
+        let mut space = full_leaf(&rt);
+        expect_true(&rt, space.height() == 1, &"one leaf");
+        replay(&rt, &mut space, &[(call, want)]);
+        let is_split = space.height() == 2 && block_count(&rt, &space) == blocks;
+        let one_more = space.held_count() == 17 && is_low(&space, 17);
+        expect_true(&rt, is_split && one_more, &call);
+    }
 }

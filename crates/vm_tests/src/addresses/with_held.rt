@@ -83,37 +83,31 @@ fn refused_without_memory(rt: HostRuntime) {
     expect_true(&rt, is_true, &"two are held");
 }
 
-/// A space by its base and its size, its allocated ranges, the number of its blocks, and the height of
-/// its tree. The blocks are the ranges and the gaps, and the height is the minimum.
-type Created<'a> = (u64, u64, &'a [(u64, u64)], usize, u64);
+/// A space by its base and its size, and its allocated ranges. It has at most 32 blocks, so its tree is
+/// one leaf.
+type Created<'a> = (u64, u64, &'a [(u64, u64)]);
 
 const CREATED: [Created<'static>; 15] = [
     // Nothing is allocated.
-    (16, 16, &[], 1, 1),
-    (1, MAX, &[], 1, 1),
-    (MAX, 1, &[], 1, 1),
+    (16, 16, &[]),
+    (1, MAX, &[]),
+    (MAX, 1, &[]),
     // All is allocated.
-    (16, 16, &[(16, 31)], 1, 1),
-    (0, MAX, &[(0, LAST)], 1, 1),
-    (16, 16, &[(16, 16), (17, 23), (24, 31)], 3, 2),
-    (0, 4, &[(0, 0), (1, 1), (2, 2), (3, 3)], 4, 3),
+    (16, 16, &[(16, 31)]),
+    (0, MAX, &[(0, LAST)]),
+    (16, 16, &[(16, 16), (17, 23), (24, 31)]),
+    (0, 4, &[(0, 0), (1, 1), (2, 2), (3, 3)]),
     // Gaps are between the ranges, before the first and after the last.
-    (16, 16, &[(16, 20), (25, 31)], 3, 2),
-    (16, 16, &[(17, 18), (20, 20), (25, 30)], 7, 3),
-    (16, 16, &[(17, 18), (20, 20), (25, 31)], 6, 3),
-    (16, 16, &[(18, 19)], 3, 2),
+    (16, 16, &[(16, 20), (25, 31)]),
+    (16, 16, &[(17, 18), (20, 20), (25, 30)]),
+    (16, 16, &[(17, 18), (20, 20), (25, 31)]),
+    (16, 16, &[(18, 19)]),
     // Ranges touch.
-    (
-        0,
-        64,
-        &[(8, 15), (16, 17), (18, 31), (40, 40), (41, 47)],
-        8,
-        4,
-    ),
+    (0, 64, &[(8, 15), (16, 17), (18, 31), (40, 40), (41, 47)]),
     // The space ends at the highest address.
-    (MAX - 15, 16, &[(MAX - 15, LAST)], 2, 2),
-    (MAX - 15, 16, &[(MAX - 7, MAX - 6), (LAST, LAST)], 5, 3),
-    (1, MAX, &[(1, 1), (HALF, HALF), (HALF + 1, LAST)], 5, 3),
+    (MAX - 15, 16, &[(MAX - 15, LAST)]),
+    (MAX - 15, 16, &[(MAX - 7, MAX - 6), (LAST, LAST)]),
+    (1, MAX, &[(1, 1), (HALF, HALF), (HALF + 1, LAST)]),
 ];
 
 /// Returns the ranges from one address to another.
@@ -126,22 +120,32 @@ fn ranges(rt: &(impl Abort + AllocGlobal), ends: &[(u64, u64)]) -> Vec<RangeIncl
     list
 }
 
-/// Creates the allocator of a row, with one allocation for each block.
+/// Creates the allocator of a row, with one allocation.
 fn created(rt: &(impl Abort + AllocGlobal), row: &Created<'_>) -> AddressAllocator {
-    let (base, size, held, blocks, _) = *row;
-    let held = ranges(rt, held);
+    let (base, size, held) = *row;
+    created_counting(rt, base, size, &ranges(rt, held), 1)
+}
+
+/// Creates an allocator, and checks the number of allocations.
+fn created_counting(
+    rt: &(impl Abort + AllocGlobal),
+    base: u64,
+    size: u64,
+    held: &[RangeInclusive],
+    allocations: usize,
+) -> AddressAllocator {
     count_allocations(rt.alloc());
-    let mut answer = AddressAllocator::with_held(rt.alloc(), base, size, &held);
-    expect_allocations(rt.alloc(), blocks);
+    let mut answer = AddressAllocator::with_held(rt.alloc(), base, size, held);
+    expect_allocations(rt.alloc(), allocations);
     if answer.is_err() {
-        answer = AddressAllocator::with_held(rt.alloc(), base, size, &held);
+        answer = AddressAllocator::with_held(rt.alloc(), base, size, held);
     }
     answer.expect(rt, "only memory is refused")
 }
 
 /// Returns the allocator of a row, by allocating its ranges one by one.
 fn one_by_one(rt: &(impl Abort + AllocGlobal), row: &Created<'_>) -> AddressAllocator {
-    let (base, size, held, _, _) = *row;
+    let (base, size, held) = *row;
     let mut space = made(rt, base, size);
     for (start, end) in held {
         hold(rt, &mut space, *start, range(rt, *start, *end).len());
@@ -152,7 +156,7 @@ fn one_by_one(rt: &(impl Abort + AllocGlobal), row: &Created<'_>) -> AddressAllo
 /// Frees the ranges of a row, the first or the last one first. Checks that this leads back to the
 /// space without allocated ranges.
 fn free_each(rt: &(impl Abort + AllocGlobal), row: &Created<'_>, increases: bool) {
-    let (base, size, held, _, _) = *row;
+    let (base, size, held) = *row;
     let mut space = created(rt, row);
     for number in 0..held.len() {
         let from_end = held.len().saturating_sub(number).saturating_sub(1);
@@ -170,15 +174,45 @@ fn created_as_allocated(rt: HostRuntime) {
     for row in &CREATED {
         let space = created(&rt, row);
         let other = one_by_one(&rt, row);
-        let (base, size, held, _, height) = *row;
+        let (base, size, held) = *row;
         let is_same = space == other && holds_exactly(&space, held);
         expect_true(&rt, is_same, &held);
         let ends = (space.base(), space.end());
         expect_eq(&rt, &ends, &(base, base.saturating_add(size - 1)), &held);
-        expect_eq(&rt, &space.height(), &height, &held);
-        expect_true(&rt, space.height() <= other.height(), &held);
+        expect_eq(&rt, &(space.height(), other.height()), &(1, 1), &held);
         free_each(&rt, row, true);
         free_each(&rt, row, false);
+    }
+}
+
+/// Returns a number of even addresses from 0, each as a range.
+fn even_addresses(rt: &(impl Abort + AllocGlobal), number: u64) -> Vec<RangeInclusive> {
+    let mut list = list_for(rt, number as usize);
+    for index in 0..number {
+        let start = index.saturating_mul(2);
+        let pushed = list.push(range(rt, start, start));
+        assert!(rt; pushed.is_ok());
+    }
+    list
+}
+
+/// Creates allocators in which each even address is allocated. Their blocks are in the fewest leaves of
+/// 32, with one node less than leaves, at the minimum height.
+#[test]
+fn created_in_leaves(rt: HostRuntime) {
+    // The number of ranges, of which each makes two blocks, the number of leaves and nodes, and the height.
+    for (number, allocations, height) in [
+        (16, 1, 1),
+        (17, 3, 2),
+        (48, 5, 3),
+        (64, 7, 3),
+        (65, 9, 4),
+    ] {
+        let held = even_addresses(&rt, number);
+        let size = number.saturating_mul(2);
+        let space = created_counting(&rt, 0, size, &held, allocations);
+        let counts = (space.height(), space.held_count(), space.gap_count());
+        expect_eq(&rt, &counts, &(height, number, number), &number);
     }
 }
 

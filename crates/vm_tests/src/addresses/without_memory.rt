@@ -30,15 +30,13 @@ fn three_held(rt: &(impl Abort + AllocGlobal)) -> AddressAllocator {
     space
 }
 
-/// Makes a split, which allocates once. Its result shows whether the run is without memory.
-fn split(rt: &(impl Abort + AllocGlobal), space: &mut AddressAllocator) {
-    let answer = First(1, 1).ask(space, rt.alloc(), Plain);
-    let is_true = match &answer {
-        Ok(ends) => *ends == (0, 0),
-        Err(Error::OutOfMemory) => true,
-        Err(_) => false,
+/// Makes a clone, which allocates once. Its result shows whether the run is without memory.
+fn clone_once(rt: &(impl Abort + AllocGlobal), space: &AddressAllocator) {
+    let is_true = match space.try_clone(rt.alloc()) {
+        Ok(clone) => clone == *space,
+        Err(error) => error == Error::OutOfMemory,
     };
-    expect_true(rt, is_true, &answer);
+    expect_true(rt, is_true, &"a clone, or no memory for it");
 }
 
 /// Makes the calls that only read: two allocators are equal, and have these three ranges allocated.
@@ -95,6 +93,13 @@ fn fill(rt: &(impl Abort + AllocGlobal), space: &mut AddressAllocator, form: For
         (Free(8, 9), Range(8, 9)),
         (First(16, 1), Range(0, 15)),
         (Free(0, 15), Range(0, 15)),
+        // Splits of a leaf that has room.
+        (First(1, 1), Range(0, 0)),
+        (Last(1, 1), Range(15, 15)),
+        (Exact(1, 1, 7), Range(7, 7)),
+        (Free(0, 0), Range(0, 0)),
+        (Free(15, 15), Range(15, 15)),
+        (Free(7, 7), Range(7, 7)),
     ];
     replay(rt, space, form, rows);
     let is_whole = space.base() == 0 && space.end() == 15 && space.height() == 1;
@@ -109,7 +114,7 @@ fn filled_and_given_back(rt: HostRuntime) {
     look_up(&rt, &plain, &counted);
     fill(&rt, &mut plain, Plain);
     fill(&rt, &mut counted, Counted);
-    split(&rt, &mut plain);
+    clone_once(&rt, &plain);
 }
 
 #[test]
@@ -150,5 +155,5 @@ fn refused(rt: HostRuntime) {
     replay(&rt, &mut highest, Plain, ending_at_max);
     replay(&rt, &mut space, Counted, rows);
     replay(&rt, &mut highest, Counted, ending_at_max);
-    split(&rt, &mut space);
+    clone_once(&rt, &space);
 }

@@ -12,31 +12,35 @@ mod hostile;
 const ONE_DEVICE: &str = r#"{"version":1,
     "id_allocator":{"range_base":0,"next_id":1,"range_end":1,"freed_ids":[]},
     "mmio_allocator":{"address_space":{"start":4096,"end":8191},"interval_tree":{"root":{
-    "key":{"start":4096,"end":6143},"node_state":"Allocated","left":null,
-    "right":{"key":{"start":6144,"end":8191},"node_state":"Free","left":null,"right":null,"height":1},"height":2}}},
+    "key":{"start":6144,"end":8191},"node_state":"Free",
+    "left":{"key":{"start":4096,"end":6143},"node_state":"Allocated","left":null,"right":null,"height":1},
+    "right":null,"height":2}}},
     "slots":[{"id":0,"mmio_range":{"start":4096,"end":6143}}]}"#;
 
 /// The same, with a second device that has the rest.
 const TWO_DEVICES: &str = r#"{"version":1,
     "id_allocator":{"range_base":0,"next_id":2,"range_end":1,"freed_ids":[]},
     "mmio_allocator":{"address_space":{"start":4096,"end":8191},"interval_tree":{"root":{
-    "key":{"start":4096,"end":6143},"node_state":"Allocated","left":null,
-    "right":{"key":{"start":6144,"end":8191},"node_state":"Allocated","left":null,"right":null,"height":1},"height":2}}},
+    "key":{"start":6144,"end":8191},"node_state":"Allocated",
+    "left":{"key":{"start":4096,"end":6143},"node_state":"Allocated","left":null,"right":null,"height":1},
+    "right":null,"height":2}}},
     "slots":[{"id":0,"mmio_range":{"start":4096,"end":6143}},{"id":1,"mmio_range":{"start":6144,"end":8191}}]}"#;
 
 /// The same two devices, with exchanged ranges.
 const TWO_CROSSED: &str = r#"{"version":1,
     "id_allocator":{"range_base":0,"next_id":2,"range_end":1,"freed_ids":[]},
     "mmio_allocator":{"address_space":{"start":4096,"end":8191},"interval_tree":{"root":{
-    "key":{"start":4096,"end":6143},"node_state":"Allocated","left":null,
-    "right":{"key":{"start":6144,"end":8191},"node_state":"Allocated","left":null,"right":null,"height":1},"height":2}}},
+    "key":{"start":6144,"end":8191},"node_state":"Allocated",
+    "left":{"key":{"start":4096,"end":6143},"node_state":"Allocated","left":null,"right":null,"height":1},
+    "right":null,"height":2}}},
     "slots":[{"id":0,"mmio_range":{"start":6144,"end":8191}},{"id":1,"mmio_range":{"start":4096,"end":6143}}]}"#;
 
 /// One device again. The fields of every object are in another order.
 const OTHER_ORDER: &str = r#"{"slots":[{"mmio_range":{"end":6143,"start":4096},"id":0}],
     "mmio_allocator":{"interval_tree":{"root":{"height":2,
-    "right":{"height":1,"right":null,"left":null,"node_state":"Free","key":{"end":8191,"start":6144}},
-    "left":null,"node_state":"Allocated","key":{"end":6143,"start":4096}}},"address_space":{"end":8191,"start":4096}},
+    "right":null,
+    "left":{"height":1,"right":null,"left":null,"node_state":"Allocated","key":{"end":6143,"start":4096}},
+    "node_state":"Free","key":{"end":8191,"start":6144}}},"address_space":{"end":8191,"start":4096}},
     "id_allocator":{"freed_ids":[],"range_end":1,"next_id":1,"range_base":0},"version":1}"#;
 
 /// No device, after id 0 was freed.

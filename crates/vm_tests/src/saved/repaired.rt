@@ -101,7 +101,7 @@ fn repaired_to_blocks(rt: HostRuntime) {
     let space = read_repaired(&rt, &parsed(&rt, ONE_BETWEEN_GAPS));
     let space = space.expect(&rt, ONE_BETWEEN_GAPS);
     let counts = (block_count(&rt, &space), space.height());
-    expect_eq(&rt, &counts, &(3, 2), &"blocks and height");
+    expect_eq(&rt, &counts, &(3, 1), &"blocks and height");
 }
 
 /// An allocated node with a wrong height.

@@ -44,9 +44,9 @@ fn refused(
     )
 }
 
-/// Checks the height of a tree of at most 11 nodes, which is at most 4 if the tree is balanced.
+/// Checks the height of a tree of at most 32 blocks, which is one leaf.
 fn expect_balanced(rt: &impl Abort, space: &AddressAllocator) {
-    expect_true(rt, space.height() <= 4, &space.height());
+    expect_eq(rt, &space.height(), &1, &"one leaf");
 }
 
 #[test]

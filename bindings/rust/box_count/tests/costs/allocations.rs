@@ -1,7 +1,7 @@
 //! Guards against needless allocations of calls on large objects, and of lines of the replay language.
 //!
-//! A tree has one block for each node. Sets, maps and lists count as the same operations on such an
-//! object do.
+//! A tree has a box for each leaf of up to 32 blocks, and one for each inner node. Sets, maps and lists
+//! count as the same operations on such an object do.
 use crate::objects::{
     damaged, freed_ids, ids, manager, refusing, space, BASE, FIRST_ID, LAST_ID, SIZE,
 };
@@ -15,7 +15,19 @@ use std::io::{sink, Write};
 
 const HELD: u64 = 10_000;
 /// The blocks of the tree of [`space`].
-const NODES: u64 = 2 * HELD;
+const BLOCKS: u64 = 2 * HELD;
+/// Its leaves. The last leaf is split when two blocks are added to 32. It keeps 20, and 14 are in a new leaf.
+const LEAVES: u64 = 1 + (BLOCKS - 14) / 20;
+
+/// Returns the number of boxes of a tree with this number of leaves.
+const fn boxes(leaves: u64) -> u64 {
+    leaves + (leaves - 1)
+}
+
+/// Returns the number of boxes of a tree that is built of this number of blocks.
+const fn built(blocks: u64) -> u64 {
+    boxes(blocks.div_ceil(32))
+}
 
 /// Checks the number of allocations of a call, and returns its result.
 fn expect<T>(name: &str, want: u64, call: impl FnOnce() -> T) -> T {
@@ -56,18 +68,19 @@ fn request(size: u64, start: u64) -> Constraint {
 fn spaces() {
     let (mut space, mut other) = (space(HELD), space(HELD));
     let held: Vec<_> = space.held_ranges().collect();
-    expect("clone", NODES, || space.try_clone(Global)).unwrap();
+    expect("clone", boxes(LEAVES), || space.try_clone(Global)).unwrap();
     let create = || AddressAllocator::with_held(Global, BASE, SIZE, &held);
-    assert!(expect("ranges given", NODES, create).unwrap() == space);
-    // The list of the holes between the gaps, and one node for each gap and hole. No hole is after the last.
+    assert!(expect("ranges given", built(BLOCKS), create).unwrap() == space);
+    // The list of the holes between the gaps, and the tree of gaps and holes. No hole is after the last.
     let gaps: Vec<_> = space.gaps().collect();
     let create = || AddressAllocator::with_free(Global, &gaps);
-    expect("gaps given", 1 + (NODES - 1), create).unwrap();
+    expect("gaps given", 1 + built(BLOCKS - 1), create).unwrap();
     let value = space.to_value(Global).unwrap();
+    // The list of the ranges, and their tree.
     let read = || AddressAllocator::from_value(Global, &value);
-    expect("read", NODES, read).unwrap();
+    expect("read", 1 + built(BLOCKS), read).unwrap();
     let repair = || AddressAllocator::from_value_repaired(Global, &value);
-    expect("repaired", NODES + 1, repair).unwrap();
+    expect("repaired", 1 + built(BLOCKS), repair).unwrap();
     // A reader allocates after it has checked the whole value.
     let wrong = damaged(value, "/interval_tree/root/right/height");
     let read = || AddressAllocator::from_value(Global, &wrong);
@@ -85,17 +98,18 @@ fn spaces() {
         assert_eq!(space.gaps().count() as u64, HELD);
         assert!(space.longest_gap() < space.free_len());
     });
-    // Several ranges in one call: their list, and one node for each part of a gap that remains.
+    // Several ranges in one call: their list, and a leaf and a node for each leaf, which is full after six
+    // splits of its ten gaps.
     let splits: Vec<_> = (1..HELD).map(|gap| request(1, 16 * gap - 6)).collect();
     let fillings: Vec<_> = (1..HELD).map(|gap| request(12, 16 * gap - 12)).collect();
     let allocate = || space.allocate_all(Global, &splits);
-    expect("splits", 1 + 2 * (HELD - 1), allocate).unwrap();
+    expect("splits", 1 + 2 * LEAVES, allocate).unwrap();
     let allocate = || other.allocate_all(Global, &fillings);
     expect("fillings", 1, allocate).unwrap();
     let allocate = || other.allocate(Global, 4, 1, ExactMatch(BASE + 16 * HELD));
-    let range = expect("a split", 2, allocate).unwrap();
+    let range = expect("a split", 0, allocate).unwrap();
     let move_up = || other.move_constraint(Global, &range, request(4, 16 * HELD + 64));
-    expect("a move", 2, move_up).unwrap();
+    expect("a move", 0, move_up).unwrap();
     let free = || held.iter().all(|range| other.free(range).is_ok());
     assert!(expect("freed", 0, free));
 }
@@ -165,9 +179,9 @@ fn lists_and_maps_of_devices() {
 /// lines before it. They are those of its call.
 const LINES: [(&str, &str, u64); 12] = [
     ("", "space 0 64", 1),
-    ("space 0 64", "first 4 1", 1),
-    ("space 0 64", "last 4 1", 1),
-    ("space 0 64", "exact 4 1 8", 2),
+    ("space 0 64", "first 4 1", 0),
+    ("space 0 64", "last 4 1", 0),
+    ("space 0 64", "exact 4 1 8", 0),
     ("space 0 64", "first 65 1", 0),
     ("space 0 64\nfirst 4 1", "free 0 3", 0),
     ("", "ids 0 9", 0),
@@ -180,7 +194,10 @@ const LINES: [(&str, &str, u64); 12] = [
 
 #[test]
 fn lines() {
-    for (before, line, want) in LINES {
+    // A leaf with 31 ranges and a gap is full.
+    let full = "space 0 64".to_owned() + &"\nfirst 1 1".repeat(31);
+    let split = (full.as_str(), "first 1 1", 2);
+    for (before, line, want) in LINES.into_iter().chain([split]) {
         let cost = |text: String| allocations(|| run(Global, &mut text.as_bytes(), &mut sink()));
         let [without, with] = ["", line].map(|line| cost(format!("{before}\n{line}\n")));
         assert_eq!(with - without, want, "{line}");

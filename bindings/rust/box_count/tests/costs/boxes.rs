@@ -10,13 +10,10 @@ use box_count::rattle::Global;
 
 /// The maximum number of boxes that a call follows: per node that it counts, and in addition.
 ///
-/// A free that fails only descends. An allocation that fails reads both children of each node. A
-/// change takes nodes out of their boxes, rotates them and puts them back.
-const REFUSED_RELEASE: (u64, u64) = (1, 2);
-const REFUSED_REQUEST: (u64, u64) = (2, 5);
+/// A call that fails only descends. A change takes nodes out of their boxes, rotates them and puts them
+/// back.
+const REFUSED: (u64, u64) = (1, 2);
 const CHANGE: (u64, u64) = (12, 12);
-/// The maximum number of additional boxes that a plain call follows, to read the root.
-const LOOKS: u64 = 2;
 const MANY: u64 = 100_000;
 
 /// Pseudo-random numbers, the same in every run.
@@ -109,13 +106,8 @@ impl Pair {
         let ((answer, nodes), followed) = boxes(|| call.counted(&mut self.counted));
         let (same, followed_plainly) = boxes(|| call.plain(&mut self.plain));
         assert_eq!(answer, same, "{call:?}");
-        let looks = followed_plainly.checked_sub(followed);
-        assert!(looks.is_some_and(|looks| looks <= LOOKS), "{call:?}");
-        let (of_a_node, besides) = match (call, &answer) {
-            (_, Ok(_)) => CHANGE,
-            (Free(_), Err(_)) => REFUSED_RELEASE,
-            (_, Err(_)) => REFUSED_REQUEST,
-        };
+        assert_eq!(followed, followed_plainly, "{call:?}");
+        let (of_a_node, besides) = if answer.is_ok() { CHANGE } else { REFUSED };
         let most = of_a_node * nodes + besides;
         assert!(followed <= most, "{call:?}: {followed} boxes");
         match (call, answer) {

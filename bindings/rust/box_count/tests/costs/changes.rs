@@ -6,8 +6,10 @@ use box_count::proved::vm_allocator::{AddressAllocator, Conflict, Constraint, Ra
 use box_count::rattle::Global;
 use std::fmt::Debug;
 
-const LOW: u32 = 6;
-const HIGH: u32 = 14;
+const LOW: u32 = 3;
+const HIGH: u32 = 10;
+/// The leaves of the high tree.
+const LEAVES: u64 = 1 << (HIGH - 1);
 
 /// A change near the middle of a space, with its distance from an address there.
 #[derive(Clone, Copy, Debug)]
@@ -20,31 +22,46 @@ enum Change {
 
 use Change::*;
 
-/// Changes, of which only the last is measured. Each row also has whether the leaves of the tree are
-/// gaps, and the number of additional boxes at each level.
+/// The boxes that a level follows to mend a node below which a leaf was split: those of the node and of its
+/// children, to read their heights and to move them.
+const MENDED: u64 = 10;
+/// The box that a level follows to update its summary, if a change makes the longest gap.
+const REFRESHED: u64 = 1;
+
+/// Changes, of which only the last is measured. Each row also has whether the leaves start with a gap, and
+/// the number of additional boxes at each level.
 ///
-/// The gaps are at 1, 33, 65 and 97. If the leaves are gaps, the root is the range at 48. Otherwise it
-/// is the gap at 65. Each level follows the box of a new leaf, to compare its key.
+/// A leaf starts at the middle, with the gap at 1 or the range at 16. Each leaf is full.
 const CHANGES: [(bool, u64, &[Change]); 10] = [
-    (true, 0, &[Allocate(33, 15)]),
-    (true, 0, &[Allocate(1, 7), Allocate(33, 7)]),
-    (true, 0, &[Allocate(7, 2), Allocate(39, 2)]),
-    (true, 0, &[Free(48)]),
-    (true, 0, &[Free(16)]),
-    (true, 0, &[Allocate(33, 15), Allocate(65, 15), Free(48)]),
-    (false, 0, &[Free(48)]),
-    (false, 0, &[Free(80)]),
-    (false, 1, &[Allocate(41, 7), Allocate(73, 7)]),
-    (false, 1, &[Allocate(97, 7), Allocate(65, 7)]),
+    (false, 0, &[Allocate(33, 15)]),
+    (false, 0, &[Allocate(1, 15)]),
+    (false, MENDED, &[Allocate(41, 7)]),
+    (false, 0, &[Allocate(41, 7), Allocate(73, 7)]),
+    (false, REFRESHED, &[Free(48)]),
+    (false, REFRESHED, &[Free(16)]),
+    (false, 0, &[Free(176), Free(48)]),
+    (true, REFRESHED, &[Free(16)]),
+    (true, 0, &[Free(176), Free(48)]),
+    (false, REFRESHED, &emptied()),
 ];
 
-/// Returns a space of this height with as many blocks as possible. Gaps of 15 addresses and ranges
-/// of 17 alternate, so each gap has the same length and alignments.
-fn full(height: u32, leaves_are_gaps: bool) -> AddressAllocator {
-    let leaves = 1 << (height - 1);
-    let (base, end, ranges) = match leaves_are_gaps {
-        true => (1, 32 * leaves - 17, leaves - 1),
-        false => (16, 32 * leaves, leaves),
+/// Frees ranges of a leaf until it has 10 blocks, so that it gets some of the next one.
+const fn emptied() -> [Change; 11] {
+    let (mut changes, mut at) = ([Free(48); 11], 1);
+    while at < 11 {
+        changes[at] = Free(48 + 32 * at as u64);
+        at += 1;
+    }
+    changes
+}
+
+/// Returns a space of this height whose leaves have 32 blocks each. Gaps of 15 addresses and ranges of 17
+/// alternate, so each gap has the same length and alignments.
+fn full(height: u32, starts_with_gap: bool) -> AddressAllocator {
+    let ranges = 16 << (height - 1);
+    let (base, end) = match starts_with_gap {
+        true => (1, 32 * ranges),
+        false => (16, 32 * ranges + 15),
     };
     let held = (0..ranges).map(|number| range(32 * number + 16, 32 * number + 32));
     let held: Vec<_> = held.collect();
@@ -55,7 +72,7 @@ fn full(height: u32, leaves_are_gaps: bool) -> AddressAllocator {
 
 /// Returns the address from which the distances of changes count.
 fn middle(height: u32) -> u64 {
-    32 * (1 << (height - 2)) - 64
+    512 << (height - 2)
 }
 
 /// Makes a change. Returns the number of boxes that it follows in addition to the nodes that it enters.
@@ -85,9 +102,9 @@ fn expect_same(name: &dyn Debug, of_a_level: u64, boxes: impl Fn(u32) -> u64) {
 
 #[test]
 fn changes() {
-    for (leaves_are_gaps, of_a_level, changes) in CHANGES {
-        expect_same(&(leaves_are_gaps, changes), of_a_level, |height| {
-            let mut space = full(height, leaves_are_gaps);
+    for (starts_with_gap, of_a_level, changes) in CHANGES {
+        expect_same(&(starts_with_gap, changes), of_a_level, |height| {
+            let mut space = full(height, starts_with_gap);
             let make = |change: &Change| additional_boxes(&mut space, middle(height), *change);
             changes.iter().map(make).last().unwrap()
         });
@@ -107,8 +124,8 @@ fn both() -> RangeInclusive {
     range(32, 48)
 }
 
-/// A walk descends once for each end of a tree, and once in each of two trees. Numbers of the whole
-/// tree are stored in its root.
+/// A walk descends once to the end that it starts at, and once in each of two trees. Numbers of the whole
+/// tree are stored at its root.
 const WALKS: [(&str, u64, Walk); 23] = [
     ("==", 2, |a, b| a != b),
     ("<", 2, |a, b| a < b),
@@ -119,16 +136,16 @@ const WALKS: [(&str, u64, Walk); 23] = [
     ("not held_at", 1, |_, b| b.held_at(16).is_none()),
     ("gap_at", 1, |_, b| b.gap_at(16).is_some()),
     ("not gap_at", 1, |a, _| a.gap_at(16).is_none()),
-    ("first", 2, |a, _| a.held_ranges().next().is_some()),
-    ("last", 2, |a, _| a.held_ranges().next_back().is_some()),
-    ("first gap", 2, |a, _| a.gaps().next().is_some()),
-    ("first range within", 2, |a, _| {
+    ("first", 1, |a, _| a.held_ranges().next().is_some()),
+    ("last", 1, |a, _| a.held_ranges().next_back().is_some()),
+    ("first gap", 1, |a, _| a.gaps().next().is_some()),
+    ("first range within", 1, |a, _| {
         a.held_ranges_in(&both()).next() == Some(first())
     }),
-    ("last range within", 2, |a, _| {
+    ("last range within", 1, |a, _| {
         a.held_ranges_in(&both()).next_back() == Some(range(48, 64))
     }),
-    ("conflict", 2, |a, _| {
+    ("conflict", 1, |a, _| {
         let request = Constraint::new(17, 1, ExactMatch(32)).unwrap();
         a.conflict(request) == Some(Conflict::Allocated(first()))
     }),
@@ -136,10 +153,10 @@ const WALKS: [(&str, u64, Walk); 23] = [
         let request = Constraint::new(17, 1, ExactMatch(15)).unwrap();
         a.conflict(request).is_some()
     }),
-    ("first gap within", 2, |a, _| {
+    ("first gap within", 1, |a, _| {
         a.gaps_in(&both()).next() == Some(range(33, 47))
     }),
-    ("no gap within", 2, |a, _| {
+    ("no gap within", 1, |a, _| {
         a.gaps_in(&first()).next().is_none()
     }),
     ("ends", 0, |a, _| a.base() < a.end()),
@@ -162,7 +179,7 @@ fn walks_that_stop_early() {
     }
 }
 
-/// A walk through a whole tree follows at most three boxes for each of its nodes.
+/// A walk through a whole tree descends once to each leaf, and once to find that no leaf is left.
 #[test]
 fn whole_walks() {
     let walks: [(&str, Walk); 4] = [
@@ -174,6 +191,7 @@ fn whole_walks() {
     for (name, walk) in walks {
         let (space, other) = (full(HIGH, false), full(HIGH, false));
         let (is_true, followed) = boxes(|| walk(&space, &other));
-        assert!(is_true && followed <= 6 << HIGH, "{name}: {followed} boxes");
+        let most = 2 * (LEAVES + 1) * u64::from(HIGH);
+        assert!(is_true && followed <= most, "{name}: {followed} boxes");
     }
 }

@@ -181,7 +181,7 @@ fn compare_pair(spaces: &Spaces, other: &divsharun::AddressAllocator, tally: &mu
         return;
     }
     match value_of(&spaces.rust) != value_of(&rust_other) {
-        true => tally.named_difference(14),
+        true => tally.named_difference(12),
         false => tally.unnamed_difference(&format!("{rust:?} and {port:?} for the same trees")),
     }
 }

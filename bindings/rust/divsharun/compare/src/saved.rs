@@ -83,7 +83,7 @@ pub fn compare_damaged(tally: &mut Tally) {
         let rust: Result<vm_allocator::IdAllocator, _> = serde_json::from_str(text);
         let port: Result<divsharun::IdAllocator, _> = serde_json::from_str(text);
         match (rust.is_ok(), port.is_ok()) {
-            (true, false) => tally.named_difference(15),
+            (true, false) => tally.named_difference(13),
             _ => tally.unnamed_difference(text),
         }
     }

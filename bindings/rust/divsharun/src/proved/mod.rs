@@ -11,6 +11,8 @@
 pub mod vm_allocator;
 pub mod vm_devices;
 pub mod vm_engine;
+mod vm_leaf;
 #[cfg(feature = "std")]
 pub mod vm_lines;
 pub mod vm_ranges;
+mod vm_tree;

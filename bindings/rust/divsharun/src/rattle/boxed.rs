@@ -21,13 +21,6 @@ impl<T> Box<T> {
             Err(_) => unreachable!(),
         }
     }
-
-    /// Returns the value in the box.
-    #[must_use]
-    pub fn into_inner(boxed: Self) -> T {
-        let [value] = *boxed.0;
-        value
-    }
 }
 
 impl<T> Deref for Box<T> {

@@ -5,7 +5,7 @@ use Rattle.vm_tree.specs.Links.{side, IsSummed}
 use Rattle.vm_tree.specs.Changes.{CanChange}
 use Rattle.vm_tree.proofs.Updates.{updated_blocks, can_update, update_reduces}
 use Rattle.vm_tree.proofs.FreesTrees.{same_start, same_end, node_frees}
-use Rattle.vm_tree.proofs.FreesEdges.{can_l, can_r, edge_is, under_left, under_right, right_start}
+use Rattle.vm_tree.proofs.FreesEdges.{can_l, edge_is, under_left, under_right, right_start}
 use Rattle.vm_tree.proofs.free.+free_at.Goals as goal
 
 pub free_at-free_under-requires : goal.free_at-free_under-requires

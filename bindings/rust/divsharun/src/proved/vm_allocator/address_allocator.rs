@@ -37,7 +37,7 @@ pub struct AddressAllocator {
 impl AddressAllocator {
     /// Creates an allocator for the `size` addresses starting at `base`. All of them are free.
     ///
-    /// It allocates one node.
+    /// It allocates one leaf.
     ///
     /// # Errors
     ///
@@ -70,7 +70,7 @@ impl AddressAllocator {
     ///   - `ResourceNotAvailable` if it is outside the space.
     ///   - `Overflow` if it ends at `u64::MAX`.
     /// - `Overflow` if the ranges and the gaps together are 2^49 or more.
-    /// - `OutOfMemory` if the allocation of a node fails.
+    /// - `OutOfMemory` if an allocation fails.
     pub fn with_held(
         alloc: Global,
         base: u64,
@@ -103,7 +103,7 @@ impl AddressAllocator {
     ///
     /// A gap is a run of free addresses with no free address next to it. A range that fills its gap
     /// needs no memory, and always succeeds if it ends below `u64::MAX`. Any other range splits its
-    /// gap, which allocates one or two nodes.
+    /// gap, which allocates nothing, or one leaf and one node.
     ///
     /// # Errors
     ///
@@ -119,8 +119,8 @@ impl AddressAllocator {
     /// - `ResourceNotAvailable` if there is no such range.
     /// - `Overflow` if the chosen range ends at `u64::MAX`, even if another range is free.
     /// - Only if the range splits its gap:
-    ///   - `Overflow` if the height of the tree is 48 or more, with more than 6 * 10^9 ranges.
-    ///   - `OutOfMemory` if the allocation of a node fails.
+    ///   - `Overflow` if 6,293,134,512 ranges or more are allocated.
+    ///   - `OutOfMemory` if an allocation fails.
     pub fn allocate(
         &mut self,
         alloc: Global,
@@ -159,15 +159,14 @@ impl AddressAllocator {
     ///
     /// Let h be the [`height`](Self::height) and k the number of allocated ranges before the call.
     /// The count is
-    /// - at most 2h for `ExactMatch`.
-    /// - at most 2k + 1 + h for `FirstMatch` and `LastMatch`.
-    /// - at least 1 for a success, and at least h / 2 for a success that splits its gap.
+    /// - at most h for `ExactMatch`.
+    /// - at most 2k + 1 for `FirstMatch` and `LastMatch`.
+    /// - at least 1 and at least h / 2 for a success.
     /// - 0 for `InvalidSize`, `InvalidAlignment` and `UnalignedAddress`.
     ///
     /// A search enters a subtree only if one of its gaps is long enough and one has a multiple of
-    /// `alignment`. So `FirstMatch` and `LastMatch` enter at most h(v + 2) nodes, at most h(v + 1) if
-    /// they fail, and at most hv if they return `ResourceNotAvailable`. Here v is the lesser of two
-    /// numbers:
+    /// `alignment`. So `FirstMatch` and `LastMatch` enter at most h(v + 1) nodes, and at most hv if they
+    /// return `ResourceNotAvailable`. Here v is the lesser of two numbers:
     /// - The gaps that are long enough but misaligned. This number is 0 if `alignment` is 1.
     /// - The gaps that have a multiple of `alignment` but are too short after it. There are at most
     ///   as many as multiples of `alignment` in the space.
@@ -194,10 +193,10 @@ impl AddressAllocator {
     /// A request without a window has the bounds of [`allocate_counted`](Self::allocate_counted). Let
     /// h be the [`height`](Self::height) and k the number of allocated ranges before the call. With a
     /// window, the count is
-    /// - at most 2h for `ExactMatch`.
-    /// - at most 2k + 1 + h for `FirstMatch` and `LastMatch`.
-    /// - at most h(v + 3) for these two, and at most h(v + 2) if they fail. Here v is the lesser of
-    ///   the two numbers of `allocate_counted`, of the parts of the gaps in the window.
+    /// - at most h for `ExactMatch`.
+    /// - at most 2k + 1 for `FirstMatch` and `LastMatch`.
+    /// - at most h(v + 2) for these two. Here v is the lesser of the two numbers of `allocate_counted`,
+    ///   of the parts of the gaps in the window.
     ///
     /// # Errors
     ///
@@ -226,8 +225,8 @@ impl AddressAllocator {
     /// Frees like [`free`](Self::free), and also returns the number of tree nodes that the call
     /// entered.
     ///
-    /// The count is at least 1, and at most 4h if h is the [`height`](Self::height) before the
-    /// call.
+    /// The count is at most 3h if h is the [`height`](Self::height) before the call, and at least 1 for a
+    /// success.
     ///
     /// # Errors
     ///
@@ -236,10 +235,11 @@ impl AddressAllocator {
         self.interval_tree.free_counted(key)
     }
 
-    /// Returns the height of the tree: the number of nodes on its longest path, at most 49.
+    /// Returns the height of the tree: the number of nodes on its longest path, at most 48.
     ///
-    /// The tree is balanced. With k allocated ranges its height h satisfies F(h + 2) <= 2k + 2,
-    /// where F is the Fibonacci sequence 1, 1, 2, 3, 5.
+    /// A leaf is a node, and has up to 32 blocks. The tree is balanced. With k allocated ranges its height h
+    /// satisfies F(h + 2) <= 2k + 2, and 12 F(h + 1) <= 2k + 1 if h is above 1, where F is the Fibonacci
+    /// sequence 1, 1, 2, 3, 5.
     pub fn height(&self) -> u64 {
         self.interval_tree.height()
     }

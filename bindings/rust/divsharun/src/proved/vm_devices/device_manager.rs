@@ -85,8 +85,8 @@ impl DeviceManager {
     /// - `ResourceNotAvailable` if all ids are allocated and their range ends below `u32::MAX`.
     /// - The errors of `AddressAllocator::allocate`, in the order of its documentation.
     /// - `OutOfMemory` if an allocation for the table of devices fails. The range is freed again, and the
-    ///   tree of [`addresses`](Self::addresses) can have another shape. Then its height, its later counts
-    ///   and `to_value` can differ.
+    ///   tree of [`addresses`](Self::addresses) can have another shape. Then its height and its later
+    ///   counts can differ.
     pub fn reserve(
         &mut self,
         alloc: Global,

@@ -2,63 +2,56 @@
 
 //! The blocks of an address space in a balanced tree.
 //!
-//! - `placement` chooses the range of a request.
-//! - `allocation` allocates the chosen range.
+//! - `allocation` allocates the range of a request.
 //! - `deallocation` frees an allocated range.
 //! - `held_ranges` has queries about the allocated ranges.
 //! - `gaps` has queries about the free addresses.
 //! - `comparing` compares two trees.
-//! - `counted` has the calls that count the nodes that they enter.
 //!
 //! `AddressAllocator` has the same calls, and documents them.
 //!
-//! A counted call passes on a counter at 0, and returns the final count. A plain call makes the
-//! counted call and drops the count. A tree of height 49 has fewer than 2^49 nodes, so a counter
-//! that starts at 0 never overflows. This is proved once, so callers have no condition on it.
+//! A counted call also returns the number of nodes that it entered. A plain call makes the counted call and
+//! drops the count.
 
-use crate::rattle::Box;
-use crate::proved::vm_engine::Steps;
-use crate::proved::vm_engine::block::Block;
-use crate::proved::vm_engine::node::edge::Edge;
-use crate::proved::vm_engine::node::walks::both_ends::WalkBothEnds;
-use crate::proved::vm_engine::node::walks::copying::copy;
-use crate::proved::vm_engine::node::{Child, InnerNode};
 use crate::rattle::Global;
 use crate::proved::vm_ranges::{Constraint, RangeInclusive, Result};
+use crate::proved::vm_tree::{Tree, Walk};
 
 mod allocation;
 mod building;
 mod comparing;
-pub(in crate::proved::vm_engine) mod counted;
 mod deallocation;
 pub(in crate::proved::vm_engine) mod gaps;
 pub(in crate::proved::vm_engine) mod held_ranges;
-pub(in crate::proved::vm_engine) mod placement;
+
+pub(in crate::proved::vm_engine) use allocation::SPLIT_LIMIT;
 
 /// The blocks of an address space, in a balanced tree.
 #[derive(Debug)]
 pub struct IntervalTree {
+    pub(in crate::proved::vm_engine) tree: Tree,
+    /// The addresses of all blocks.
+    space: RangeInclusive,
     /// The number of allocated ranges.
     pub(in crate::proved::vm_engine) held_count: u64,
     /// The number of gaps.
     pub(in crate::proved::vm_engine) gap_count: u64,
-    pub(in crate::proved::vm_engine) root: Child,
     /// The number of free addresses.
-    pub(in crate::proved::vm_engine) free_len: u64,
+    free_len: u64,
 }
 
 impl IntervalTree {
     /// Creates the tree of the space `key`. The whole space is free.
     ///
-    /// It allocates one node.
+    /// It allocates one leaf.
     ///
     /// # Errors
     ///
-    /// - `OutOfMemory` if the allocation of the node fails.
+    /// - `OutOfMemory` if the allocation of the leaf fails.
     pub fn new(alloc: Global, key: RangeInclusive) -> Result<Self> {
-        let node = Box::new(alloc, InnerNode::new(Block::free(key)))?;
         Ok(IntervalTree {
-            root: Some(node),
+            tree: Tree::new(alloc, key)?,
+            space: key,
             held_count: 0,
             gap_count: 1,
             free_len: key.len(),
@@ -72,7 +65,8 @@ impl IntervalTree {
     /// - `OutOfMemory` if the allocation of a node fails. The nodes copied so far are freed.
     pub fn try_clone(&self, alloc: Global) -> Result<Self> {
         Ok(IntervalTree {
-            root: Some(copy(self.root(), alloc)?),
+            tree: self.tree.try_clone(alloc)?,
+            space: self.space,
             held_count: self.held_count,
             gap_count: self.gap_count,
             free_len: self.free_len,
@@ -80,27 +74,19 @@ impl IntervalTree {
     }
 
     /// Returns an iterator over the blocks, from both ends.
-    pub(in crate::proved::vm_engine) fn blocks(&self) -> WalkBothEnds<'_> {
-        WalkBothEnds::new(&self.root)
+    pub(in crate::proved::vm_engine) fn blocks(&self) -> Walk<'_> {
+        self.tree.blocks()
     }
 
     /// Returns an iterator over the blocks that have an address in common with `window`, from both
     /// ends.
-    pub(in crate::proved::vm_engine) fn blocks_in(&self, window: &RangeInclusive) -> WalkBothEnds<'_> {
-        WalkBothEnds::within(&self.root, window)
+    fn blocks_in(&self, window: &RangeInclusive) -> Walk<'_> {
+        self.tree.blocks_in(window)
     }
 
-    /// Returns the root. A tree is never empty.
-    pub(in crate::proved::vm_engine) fn root(&self) -> &InnerNode {
-        let Some(root) = &self.root else {
-            unreachable!()
-        };
-        root
-    }
-
-    /// Returns the height of the tree: the number of nodes on its longest path. It is at most 49.
+    /// Returns the height of the tree: the number of nodes on its longest path. A leaf is a node.
     pub fn height(&self) -> u64 {
-        self.root().height()
+        self.tree.height()
     }
 
     /// Allocates the range of a request, and returns it.

@@ -1,6 +1,6 @@
 // Written by bindings/erase from crates/vm_engine/src/lib.rt: do not edit.
 
-//! A balanced tree of the blocks of an address space.
+//! The blocks of an address space, in a balanced tree.
 //!
 //! A block is a range of addresses that is allocated as a whole, or free as a whole. The blocks of
 //! a tree cover the whole space, and two neighbours are never both free.
@@ -9,14 +9,11 @@
 //! - [`HeldRanges`] iterates over the allocated ranges, and [`Gaps`] over the gaps between them.
 //!   [`HeldRangesIn`] and [`GapsIn`] iterate over those in a window.
 
-mod block;
 mod interval_tree;
-mod node;
 mod ordering;
 mod saved;
 
 pub use interval_tree::IntervalTree;
-use interval_tree::counted::Steps;
 pub use interval_tree::gaps::{Gaps, GapsIn};
 pub use interval_tree::held_ranges::{HeldRanges, HeldRangesIn};
 pub use saved::nodes::ReadNodes;

@@ -19,7 +19,7 @@ failed_at c =
     let l = c.loop-index in
     let e = c.in-Err.ensures in
     failed_in_tree c.args.requests.now l.index l.ranges.items c.self.inside.interval_tree l.tree c.allocate.new.self c.index-requests-index.result c.in-Err.error c.loop-index-test.true c.index-requests-index.is l.invariant.each
-    (in_tree _ l.tree c.allocate.new.self _ e.valid e.answer e.depth) e.unchanged
+    (in_tree _ l.tree c.allocate.new.self _ e.valid e.answer e.few) e.unchanged
 
 pub invariant_of-self-in-Err : goal.invariant_of-self-in-Err
 invariant_of-self-in-Err c = record {
@@ -47,7 +47,7 @@ loop-index-preserved c =
     let first = c.self.inside.interval_tree in
     let mid = c.loop-index.tree in
     let new = c.allocate.new.self in
-    let answer = in_tree c.index-requests-index.result mid new (Ok c.in-Ok.range) c.in-Ok.ensures.valid c.in-Ok.ensures.answer c.in-Ok.ensures.depth in
+    let answer = in_tree c.index-requests-index.result mid new (Ok c.in-Ok.range) c.in-Ok.ensures.valid c.in-Ok.ensures.answer c.in-Ok.ensures.few in
     let each = one_more AllocatesInTree c.args.requests.now i c.loop-index.ranges.items first mid new c.index-requests-index.result c.in-Ok.range c.loop-index-test.true c.index-requests-index.is c.loop-index.invariant.each answer in
     record {
       each = subst (λ v. EachBy AllocatesInTree first (take (i + 1) c.args.requests.now) v new) (sym c.in-Ok-push.ensures.items) each;

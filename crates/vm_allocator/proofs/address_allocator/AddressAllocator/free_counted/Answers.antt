@@ -3,6 +3,3 @@ use Rattle.vm_allocator.proofs.address_allocator.AddressAllocator.free_counted.G
 
 pub invariant_of-self : goal.invariant_of-self
 invariant_of-self c = tree_freed _ c.self.inside.interval_tree c.free_counted.new.self c.args.key.now _ c.self.invariant c.free_counted.ensures.answer c.free_counted.ensures.state
-
-pub returns-clause-count : goal.returns-clause-count
-returns-clause-count c = rw (← c.self.view_is) c.free_counted.ensures.count

@@ -1,7 +1,6 @@
 use Rattle.std.proofs.Common.{◌≡◌, sym, subst, arith}
 use Rattle.vm_ranges.specs.Request.{Request}
-use Rattle.vm_engine.specs.Tree.Shape.{height_of}
-use Rattle.vm_engine.specs.Counts.Steps.{SplitsIfLow}
+use Rattle.vm_engine.specs.Counts.Steps.{SplitsIfFew}
 use Rattle.vm_allocator.specs.Allocator.{state_of}
 use Rattle.vm_allocator.specs.Moves.{IsFor, request_to, MovesRange}
 use Rattle.vm_allocator.proofs.Results.Moves.{start_is_valid, own_start, other_start, made_to, move_to_fits}
@@ -28,7 +27,7 @@ pub returns-clause-stays : goal.returns-clause-stays
 returns-clause-stays c = λ held e.
     c.move_constraint.ensures.stays held (subst (IsFor c.args.key.now) (sym (made c)) (own_start c.args.key.now c.args.start e))
 
-pub returns-clause-depth : goal.returns-clause-depth
-returns-clause-depth c = λ held d.
-    subst (λ (v : Request). SplitsIfLow (height_of c.args.self.now.tree) (state_of c.args.self.now) v c.move_constraint.result) (made c)
-    (c.move_constraint.ensures.depth held (λ f. other_start c.args.key.now c.args.start d (subst (IsFor c.args.key.now) (made c) f)))
+pub returns-clause-few : goal.returns-clause-few
+returns-clause-few c = λ held d.
+    subst (λ (v : Request). SplitsIfFew (state_of c.args.self.now) v c.move_constraint.result) (made c)
+    (c.move_constraint.ensures.few held (λ f. other_start c.args.key.now c.args.start d (subst (IsFor c.args.key.now) (made c) f)))

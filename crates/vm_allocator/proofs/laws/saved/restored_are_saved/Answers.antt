@@ -1,4 +1,4 @@
-use Rattle.vm_allocator.proofs.Reading.Restored.{allocator_restored, ids_restored, counts_restored, nodes_restored}
+use Rattle.vm_allocator.proofs.Reading.Restored.{allocator_restored, ids_restored, nodes_restored}
 use Rattle.vm_allocator.proofs.laws.saved.restored_are_saved.Goals as goal
 
 pub returns-clause-address_allocators : goal.returns-clause-address_allocators
@@ -6,9 +6,6 @@ returns-clause-address_allocators c = allocator_restored
 
 pub returns-clause-id_allocators : goal.returns-clause-id_allocators
 returns-clause-id_allocators c = ids_restored
-
-pub returns-clause-counts : goal.returns-clause-counts
-returns-clause-counts c = counts_restored
 
 pub returns-clause-nodes : goal.returns-clause-nodes
 returns-clause-nodes c = nodes_restored

@@ -1,15 +1,15 @@
 use Rattle.std.proofs.Common.{◌≡◌, Err, rules}
-use Rattle.vm_devices.proofs.Depths.{low_without_id, low_if_invalid}
+use Rattle.vm_devices.proofs.FewDevices.{few_without_id, few_if_invalid}
 use Rattle.vm_devices.proofs.device_manager.DeviceManager.reserve.Goals as goal
 
-pub returns-in_err-id-clause-depth : goal.returns-in_err-id-clause-depth
-returns-in_err-id-clause-depth c =
+pub returns-in_err-id-clause-few : goal.returns-in_err-id-clause-few
+returns-in_err-id-clause-few c =
     let e = c.in_err-id.field-0.0 in
     let is : c.from_residual.result ≡ Err e = search rules in
-    rw (← c.self.view_is, is) (low_without_id _ _ _ e c.in_err-id.ensures.answer)
+    rw (← c.self.view_is, is) (few_without_id _ _ e c.in_err-id.ensures.answer)
 
-pub returns-in_err-request-clause-depth : goal.returns-in_err-request-clause-depth
-returns-in_err-request-clause-depth c =
+pub returns-in_err-request-clause-few : goal.returns-in_err-request-clause-few
+returns-in_err-request-clause-few c =
     let e = c.in_err-request.field-0.0 in
     let is : c.from_residual-in_err-request.result ≡ Err e = search rules in
-    rw is (low_if_invalid _ _ _ e c.in_err-request.ensures)
+    rw is (few_if_invalid _ _ e c.in_err-request.ensures)

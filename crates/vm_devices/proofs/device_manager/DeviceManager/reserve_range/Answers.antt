@@ -4,7 +4,7 @@ use Rattle.vm_allocator.specs.Allocator.{state_of}
 use Rattle.vm_devices.specs.Devices.{devices_of}
 use Rattle.vm_devices.proofs.DeviceCalls.{id_peeked, entered, entered_state, undone, undone_state}
 use Rattle.vm_devices.proofs.DeviceStarts.{new_device}
-use Rattle.vm_devices.proofs.Depths.{low_without_range, low_without_table}
+use Rattle.vm_devices.proofs.FewDevices.{few_without_range, few_without_table}
 use Rattle.vm_devices.proofs.device_manager.DeviceManager.reserve_range.Goals as goal
 
 pub returns-in_err-range-clause-answer : goal.returns-in_err-range-clause-answer
@@ -15,11 +15,11 @@ returns-in_err-range-clause-answer c =
     rw (← c.self.view_is, is)
     (id_peeked _ _ c.args.request c.args.id (state_of c.allocate_constraint.new.self) (Err e) _ (rw (← c.self.view_is) at c.requires) c.in_err-range.ensures.answer (refl, same))
 
-pub returns-in_err-range-clause-depth : goal.returns-in_err-range-clause-depth
-returns-in_err-range-clause-depth c =
+pub returns-in_err-range-clause-few : goal.returns-in_err-range-clause-few
+returns-in_err-range-clause-few c =
     let e = c.in_err-range.field-0.0 in
     let is : c.from_residual.result ≡ Err e = search rules in
-    rw (← c.self.view_is, is) (low_without_range _ _ c.args.request e c.in_err-range.ensures.depth)
+    rw (← c.self.view_is, is) (few_without_range _ c.args.request e c.in_err-range.ensures.few)
 
 pub insert-requires : goal.insert-requires
 insert-requires c =
@@ -37,10 +37,10 @@ returns-in-Err-clause-answer c =
     (undone _ c.args.request c.args.id c.in_ok-range.range _ c.self.invariant (rw (← c.self.view_is) at c.requires) c.in_ok-range.ensures.answer _ _ _ c.free.result
     c.free.ensures.answer c.in-Err.ensures.err refl)
 
-pub returns-in-Err-clause-depth : goal.returns-in-Err-clause-depth
-returns-in-Err-clause-depth c =
+pub returns-in-Err-clause-few : goal.returns-in-Err-clause-few
+returns-in-Err-clause-few c =
     let is : c.into.result ≡ OutOfMemory = search rules in
-    rw (← c.self.view_is, is) (low_without_table _ _ c.args.request c.in_ok-range.range _ c.in_ok-range.ensures.answer c.in_ok-range.ensures.depth)
+    rw (← c.self.view_is, is) (few_without_table _ c.args.request c.in_ok-range.range _ c.in_ok-range.ensures.answer c.in_ok-range.ensures.few)
 
 pub invariant_of-self-2 : goal.invariant_of-self-2
 invariant_of-self-2 c =

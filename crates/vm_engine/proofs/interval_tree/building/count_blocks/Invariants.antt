@@ -1,6 +1,6 @@
 use Rattle.std.proofs.Common.{◌≡◌, ◌≤◌, ◌+◌, ◌*◌, length, drop}
-use Rattle.vm_engine.specs.Address.{AreInOrder}
-use Rattle.vm_engine.specs.Tree.Blocks.{blocks_between}
+use Rattle.vm_tree.specs.Building.{AreInOrder}
+use Rattle.vm_tree.specs.Building.{blocks_between}
 use Rattle.vm_engine.specs.Held.{first_fault, fault_index}
 use Rattle.vm_engine.proofs.interval_tree.building.count_blocks.Given as goal
 

@@ -1,5 +1,5 @@
 use Rattle.std.proofs.Common.{arith}
-use Rattle.vm_engine.proofs.Nodes.CountedTrees.{count_rest, count_within}
+use Rattle.vm_engine.proofs.Trees.CountedTrees.{count_rest, count_within}
 use Rattle.vm_engine.proofs.interval_tree.building.count_left.Goals as goal
 
 pub overflow_sub-left : goal.overflow_sub-left

@@ -1,6 +1,6 @@
 use Rattle.std.proofs.Common.{◌≡◌, Err, sym, ◌∙◌, rules}
 use Rattle.vm_ranges.specs.declared.saved.SavedError.TheVariants.{OutOfMemory}
-use Rattle.vm_engine.specs.Tree.Block.{Block}
+use Rattle.vm_leaf.specs.declared.block.Block.{Block}
 use Rattle.vm_engine.specs.Checks.Spans.{Arranges, held_in}
 use Rattle.vm_engine.proofs.SavedNodes.Ending.{end_none, end_lost, end_memory, end_free, end_held}
 use Rattle.vm_engine.proofs.saved.nodes.end_in.Goals as goal

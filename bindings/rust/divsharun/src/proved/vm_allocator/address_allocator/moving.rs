@@ -55,8 +55,8 @@ impl AddressAllocator {
     /// - `ResourceNotAvailable` if an address of the new range is not free, as those of `key`.
     /// - `Overflow` if the new range ends at `u64::MAX`.
     /// - Only if the new range splits its gap:
-    ///   - `Overflow` if the height of the tree is 48 or more.
-    ///   - `OutOfMemory` if the allocation of a node fails.
+    ///   - `Overflow` if 6,293,134,512 ranges or more are allocated.
+    ///   - `OutOfMemory` if an allocation fails.
     pub fn move_range(
         &mut self,
         alloc: Global,

@@ -15,8 +15,8 @@ impl AddressAllocator {
     /// # Errors
     ///
     /// An error leaves the same ranges allocated, because the ranges allocated so far are freed again.
-    /// All later calls have the same results. The shape of the tree can differ, and so the height, the
-    /// counts of later calls and `to_value`.
+    /// All later calls have the same results. The shape of the tree can differ, and so the height and the
+    /// counts of later calls.
     /// - `OutOfMemory` without an index if the allocation of the list fails. This is first, and leaves the
     ///   same tree.
     /// - The error of the first request that fails, with its index.

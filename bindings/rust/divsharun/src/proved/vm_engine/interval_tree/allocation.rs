@@ -1,107 +1,133 @@
 // Written by bindings/erase from crates/vm_engine/src/interval_tree/allocation.rt: do not edit.
 
-//! Allocates a chosen range.
-//!
-//! A range that fills its free block only changes the state of the block. Any other range splits
-//! the block. All memory for a split is allocated before the first change, so an error changes
-//! nothing.
+//! Allocates the range of a request.
 
-use crate::rattle::Box;
 use super::IntervalTree;
-use crate::proved::vm_engine::Steps;
-use crate::proved::vm_engine::block::Block;
-use crate::proved::vm_engine::node::edge::Edge;
-use crate::proved::vm_engine::node::outermost::split_gap;
-use crate::proved::vm_engine::node::places::Place;
-use crate::proved::vm_engine::node::rewrite::rewrite_at;
-use crate::proved::vm_engine::node::split::{Rest, Split};
-use crate::proved::vm_engine::node::{Child, InnerNode};
 use crate::proved::vm_engine::ordering::valid_range;
 use crate::rattle::Global;
-use crate::proved::vm_ranges::{Error, NodeState, RangeInclusive, Result};
+use crate::proved::vm_ranges::{AllocPolicy, Constraint, Error, NodeState, RangeInclusive, Result};
+use crate::proved::vm_tree::{Refusal, Search, Steps, Taken, Tree};
 
-/// Trees of this height or more are not split, so a split never makes a tree higher than 49.
-const SPLIT_HEIGHT_LIMIT: u64 = 48;
+/// If this many ranges are allocated, no gap is split. So no tree gets too high.
+pub(in crate::proved::vm_engine) const SPLIT_LIMIT: u64 = 6_293_134_512;
 
 impl IntervalTree {
-    /// Allocates a range within a free block.
-    ///
-    /// If the range does not fill the block, it returns `Overflow` for a tree of height 48 or more,
-    /// and `OutOfMemory` if the allocation of a leaf fails.
-    pub(super) fn allocate_at(
+    /// Allocates like [`allocate`](Self::allocate), and also returns the number of nodes that it
+    /// entered.
+    pub fn allocate_counted(
         &mut self,
         alloc: Global,
-        place: Place,
-        edge: &Edge,
+        constraint: Constraint,
+    ) -> (Result<RangeInclusive>, u64) {
+        let mut count = Steps::new();
+        let answer = self.allocate_entering(alloc, constraint, &mut count);
+        (answer, count.entered())
+    }
+
+    /// Allocates the range of a request. The counter starts at 0, and gets the number of nodes entered.
+    fn allocate_entering(
+        &mut self,
+        alloc: Global,
+        constraint: Constraint,
         count: &mut Steps,
     ) -> Result<RangeInclusive> {
-        if !needs_split(&place) {
-            rewrite_at(
-                &mut self.root,
-                &place.key,
-                place.range,
-                NodeState::Allocated,
-                count,
-            );
-            self.held_count += 1;
-            self.gap_count -= 1;
-            self.free_len -= place.range.len();
-            return Ok(place.range);
-        }
-        if self.height() >= SPLIT_HEIGHT_LIMIT {
-            return Err(Error::Overflow);
-        }
-        let rest = rest_of(alloc, &place)?;
-        let mut split = Split { place, rest };
+        let can_split = self.held_count < SPLIT_LIMIT;
+        let taken = allocate_in(
+            &mut self.tree,
+            &self.space,
+            &constraint,
+            can_split,
+            alloc,
+            count,
+        )?;
         self.held_count += 1;
-        count_rest(&mut self.gap_count, &split.rest);
-        self.free_len -= place.range.len();
-        split_gap(&mut self.root, &mut split, edge, count);
-        Ok(place.range)
+        self.gap_count += u64::from(taken.added);
+        self.gap_count -= 1;
+        self.free_len -= constraint.size();
+        Ok(valid_range(taken.start, taken.start + (constraint.size() - 1)))
     }
 }
 
-/// Returns `true` if the range does not fill its free block.
-fn needs_split(place: &Place) -> bool {
-    place.key.start() < place.range.start() || place.range.end() < place.key.end()
-}
-
-/// Replaces the free block of a split by its parts in the number of gaps.
-fn count_rest(gaps: &mut u64, rest: &Rest) {
-    if rest.before.is_some() && rest.after.is_some() {
-        *gaps += 1;
+/// Allocates the range of a request in the tree of a space.
+fn allocate_in(
+    tree: &mut Tree,
+    space: &RangeInclusive,
+    constraint: &Constraint,
+    can_split: bool,
+    alloc: Global,
+    count: &mut Steps,
+) -> Result<Taken> {
+    // Proof: `height` gives the bounds of the tree.
+    let _height = tree.height();
+    let search = search_of(constraint, space, can_split);
+    match constraint.policy() {
+        AllocPolicy::FirstMatch => with_error(tree.allocate_lowest(&search, alloc, count), space),
+        AllocPolicy::LastMatch => with_error(tree.allocate_highest(&search, alloc, count), space),
+        AllocPolicy::ExactMatch(start) => {
+            allocate_exact(tree, space, start, &search, alloc, count)
+        }
     }
 }
 
-/// Allocates the leaves for the parts of the free block before and after the range.
+/// Allocates the range of a search that starts at `start`.
 ///
-/// It returns `OutOfMemory` if the allocation of a leaf fails.
-fn rest_of(alloc: Global, place: &Place) -> Result<Rest> {
-    let before = leaf_before(alloc, place)?;
-    let after = leaf_after(alloc, place)?;
-    Ok(Rest { before, after })
-}
-
-/// Allocates a leaf for the part of the free block before the range, if that part is not empty.
-fn leaf_before(alloc: Global, place: &Place) -> Result<Child> {
-    if place.key.start() >= place.range.start() {
-        return Ok(None);
+/// The errors are, in this order:
+/// - `Overflow` if `start` is `u64::MAX`.
+/// - `ResourceNotAvailable` if `start` is outside the space or outside the window.
+/// - `Overflow` if the range would end past `u64::MAX`.
+/// - The error of the tree.
+fn allocate_exact(
+    tree: &mut Tree,
+    space: &RangeInclusive,
+    start: u64,
+    search: &Search,
+    alloc: Global,
+    count: &mut Steps,
+) -> Result<Taken> {
+    if start == u64::MAX {
+        return Err(Error::Overflow);
     }
-    let key = valid_range(place.key.start(), place.range.start() - 1);
-    free_leaf(alloc, key)
-}
-
-/// Allocates a leaf for the part of the free block after the range, if that part is not empty.
-fn leaf_after(alloc: Global, place: &Place) -> Result<Child> {
-    if place.range.end() >= place.key.end() {
-        return Ok(None);
+    let (from, to) = (search.low.max(space.start()), search.high.min(space.end()));
+    if start < from || to < start {
+        return Err(Error::ResourceNotAvailable);
     }
-    let key = valid_range(place.range.end() + 1, place.key.end());
-    free_leaf(alloc, key)
+    let Some(last) = start.checked_add(search.size - 1) else {
+        return Err(Error::Overflow);
+    };
+    let range = valid_range(start, last);
+    with_error(tree.allocate_exact(start, search, alloc, count), &range)
 }
 
-/// Allocates a leaf with a free block.
-fn free_leaf(alloc: Global, key: RangeInclusive) -> Result<Child> {
-    let leaf = Box::new(alloc, InnerNode::new(Block::free(key)))?;
-    Ok(Some(leaf))
+/// Returns the search of a request in a space.
+fn search_of(constraint: &Constraint, space: &RangeInclusive, can_split: bool) -> Search {
+    let window = match constraint.window() {
+        None => *space,
+        Some(window) => window,
+    };
+    Search {
+        size: constraint.size(),
+        alignment: constraint.align(),
+        low: window.start(),
+        high: window.end(),
+        can_split,
+    }
+}
+
+/// Returns what a search found, with the error of its refusal. A search for `range` alone can find that
+/// it is allocated.
+fn with_error(found: core::result::Result<Taken, Refusal>, range: &RangeInclusive) -> Result<Taken> {
+    match found {
+        Ok(taken) => Ok(taken),
+        Err(refusal) => Err(error_of(refusal, range)),
+    }
+}
+
+/// Returns the error of a refusal. A search for `range` alone can find that it is allocated.
+fn error_of(refusal: Refusal, range: &RangeInclusive) -> Error {
+    match refusal {
+        Refusal::NoPlace => Error::ResourceNotAvailable,
+        Refusal::Held => Error::InvalidStateTransition(*range, NodeState::Allocated),
+        Refusal::PastMax | Refusal::TooHigh => Error::Overflow,
+        Refusal::OutOfMemory => Error::OutOfMemory,
+    }
 }

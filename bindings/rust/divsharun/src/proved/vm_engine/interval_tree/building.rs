@@ -2,15 +2,12 @@
 
 //! Builds the tree of a space in which some ranges are allocated.
 //!
-//! A first pass checks and counts without allocating. A second pass builds the blocks into a tree
-//! from the middle, so no rotation is needed.
+//! A first pass checks and counts without allocating. A second pass builds the blocks into leaves.
 
 use super::IntervalTree;
-use crate::proved::vm_engine::block::Block;
-use crate::proved::vm_engine::node::{Child, InnerNode};
-use crate::proved::vm_engine::ordering::valid_range;
-use crate::rattle::{AllocError, Global};
+use crate::rattle::Global;
 use crate::proved::vm_ranges::{Error, ListError, RangeInclusive, Result};
+use crate::proved::vm_tree::Tree;
 
 /// A tree of this many blocks or more is too high.
 const TOO_MANY_BLOCKS: u64 = 1 << 49;
@@ -29,14 +26,9 @@ impl IntervalTree {
         if count >= TOO_MANY_BLOCKS {
             return Err(Error::Overflow.into());
         }
-        let mut cursor = BlockCursor {
-            next: key.start().into(),
-            held,
-            end: key.end(),
-        };
-        let root = build(alloc, count, &mut cursor)?;
         Ok(IntervalTree {
-            root,
+            tree: Tree::with_held(alloc, count, key, held)?,
+            space: key,
             held_count: held.len() as u64,
             gap_count: count - held.len() as u64,
             free_len: count_left(&key, held),
@@ -95,48 +87,4 @@ fn check_next(next: u64, end: u64, range: &RangeInclusive) -> Result<()> {
         return Err(Error::Overflow);
     }
     Ok(())
-}
-
-/// A cursor at the blocks that are not built yet: the gaps and the allocated ranges from `next` to
-/// `end`.
-struct BlockCursor<'a> {
-    next: u128,
-    held: &'a [RangeInclusive],
-    end: u64,
-}
-
-impl BlockCursor<'_> {
-    /// Returns the next block, and advances.
-    fn take_first(&mut self) -> Block {
-        let start = self.next as u64;
-        let Some((range, others)) = self.held.split_first() else {
-            self.next = u128::from(self.end) + 1;
-            return Block::free(valid_range(start, self.end));
-        };
-        if start < range.start() {
-            self.next = range.start().into();
-            return Block::free(valid_range(start, range.start() - 1));
-        }
-        self.next = u128::from(range.end()) + 1;
-        self.held = others;
-        Block::held(*range)
-    }
-}
-
-/// Builds a tree of the next `count` blocks. It has the minimum height for its nodes.
-///
-/// It returns an error if the allocation of a node fails. The nodes built so far are freed.
-fn build(
-    alloc: Global,
-    count: u64,
-    cursor: &mut BlockCursor<'_>,
-) -> core::result::Result<Child, AllocError> {
-    if count == 0 {
-        return Ok(None);
-    }
-    let left = build(alloc, count / 2, cursor)?;
-    let block = cursor.take_first();
-    let right = build(alloc, (count - 1) / 2, cursor)?;
-    let node = InnerNode::with_children(alloc, left, block, right)?;
-    Ok(Some(node))
 }

@@ -3,14 +3,13 @@
 //! Equality and order of trees. Both compare the blocks, so the shape of a tree does not matter.
 
 use super::IntervalTree;
-use crate::proved::vm_engine::node::Child;
-use crate::proved::vm_engine::node::walks::Walk;
 use core::cmp::Ordering;
+use crate::proved::vm_tree::Walk;
 
 impl PartialEq for IntervalTree {
     /// Returns `true` if both trees have the same blocks. It stops at the first difference.
     fn eq(&self, other: &IntervalTree) -> bool {
-        same_blocks(&self.root, &other.root)
+        same_blocks(self.blocks(), other.blocks())
     }
 }
 
@@ -28,13 +27,12 @@ impl Ord for IntervalTree {
     /// Compares the first blocks that differ, by start, then by end, then by state. If the blocks
     /// of one tree are a prefix of the other's, the tree with fewer blocks is less.
     fn cmp(&self, other: &IntervalTree) -> Ordering {
-        compare_blocks(&self.root, &other.root)
+        compare_blocks(self.blocks(), other.blocks())
     }
 }
 
-/// Returns `true` if two trees have the same blocks. It stops at the first difference.
-fn same_blocks(a: &Child, b: &Child) -> bool {
-    let (mut left, mut right) = (Walk::new(a), Walk::new(b));
+/// Returns `true` if two walks return the same blocks. It stops at the first difference.
+fn same_blocks(mut left: Walk<'_>, mut right: Walk<'_>) -> bool {
     while let Some(x) = left.next() {
         let Some(y) = right.next() else {
             return false;
@@ -46,10 +44,9 @@ fn same_blocks(a: &Child, b: &Child) -> bool {
     right.next().is_none()
 }
 
-/// Compares two trees by the first blocks that differ. If the blocks of one tree are a prefix of
-/// the other's, the tree with fewer blocks is less.
-fn compare_blocks(a: &Child, b: &Child) -> Ordering {
-    let (mut left, mut right) = (Walk::new(a), Walk::new(b));
+/// Compares two walks by the first blocks that differ. If the blocks of one walk are a prefix of the
+/// other's, the walk with fewer blocks is less.
+fn compare_blocks(mut left: Walk<'_>, mut right: Walk<'_>) -> Ordering {
     while let Some(x) = left.next() {
         let Some(y) = right.next() else {
             return Ordering::Greater;

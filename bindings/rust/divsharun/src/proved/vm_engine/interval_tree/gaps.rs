@@ -6,9 +6,8 @@
 //! A gap is a run of free addresses with no free address next to it. Each free block is a gap.
 
 use super::IntervalTree;
-use crate::proved::vm_engine::node::walks::addresses::block_at;
-use crate::proved::vm_engine::node::walks::both_ends::WalkBothEnds;
 use crate::proved::vm_ranges::{NodeState, RangeInclusive};
+use crate::proved::vm_tree::Walk;
 
 /// An iterator over the gaps in a window, from the lowest to the highest, or backwards. It does not
 /// allocate.
@@ -16,7 +15,7 @@ use crate::proved::vm_ranges::{NodeState, RangeInclusive};
 /// Its model is the list of the gaps that it has not returned yet.
 #[derive(Clone)]
 pub struct GapsIn<'a> {
-    blocks: WalkBothEnds<'a>,
+    blocks: Walk<'a>,
 }
 
 impl<'a> Iterator for GapsIn<'a> {
@@ -109,7 +108,7 @@ impl IntervalTree {
     /// Returns the gap that contains an address, or `None` if the address is allocated or outside
     /// the space.
     pub fn gap_at(&self, address: u64) -> Option<RangeInclusive> {
-        let block = block_at(&self.root, address)?;
+        let block = self.tree.block_at(address)?;
         match block.state {
             NodeState::Free => Some(block.key),
             NodeState::Allocated => None,
@@ -118,7 +117,7 @@ impl IntervalTree {
 
     /// Returns the length of the longest gap in addresses, or 0 if no address is free.
     pub fn longest_gap(&self) -> u64 {
-        self.root().max_free()
+        self.tree.longest_gap()
     }
 
     /// Returns the number of gaps. It takes constant time and does not allocate.

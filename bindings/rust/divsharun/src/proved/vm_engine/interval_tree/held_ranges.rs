@@ -3,10 +3,8 @@
 //! Queries about the allocated ranges.
 
 use super::IntervalTree;
-use crate::proved::vm_engine::node::walks::addresses::block_at;
-use crate::proved::vm_engine::node::walks::both_ends::WalkBothEnds;
-use crate::proved::vm_engine::node::walks::held::has_held;
 use crate::proved::vm_ranges::{NodeState, RangeInclusive};
+use crate::proved::vm_tree::Walk;
 
 /// An iterator over the allocated ranges in a window, from the lowest to the highest, or backwards.
 /// It does not allocate.
@@ -14,7 +12,7 @@ use crate::proved::vm_ranges::{NodeState, RangeInclusive};
 /// Its model is the list of the ranges that it has not returned yet.
 #[derive(Clone)]
 pub struct HeldRangesIn<'a> {
-    blocks: WalkBothEnds<'a>,
+    blocks: Walk<'a>,
 }
 
 impl<'a> Iterator for HeldRangesIn<'a> {
@@ -107,13 +105,16 @@ impl IntervalTree {
 
     /// Returns `true` if exactly this range is allocated.
     pub fn holds(&self, key: &RangeInclusive) -> bool {
-        has_held(&self.root, key)
+        let Some(block) = self.tree.block_at(key.start()) else {
+            return false;
+        };
+        block.state == NodeState::Allocated && block.key == *key
     }
 
     /// Returns the allocated range that contains an address, or `None` if the address is free or
     /// outside the space.
     pub fn held_at(&self, address: u64) -> Option<RangeInclusive> {
-        let block = block_at(&self.root, address)?;
+        let block = self.tree.block_at(address)?;
         match block.state {
             NodeState::Free => None,
             NodeState::Allocated => Some(block.key),

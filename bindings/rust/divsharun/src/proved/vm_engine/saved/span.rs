@@ -5,14 +5,14 @@
 //! A node can be checked if its block and the spans of its children are known. So no tree is needed
 //! to decide whether a saved tree is valid.
 
-use crate::proved::vm_engine::node::MAX_HEIGHT;
+use crate::proved::vm_engine::interval_tree::SPLIT_LIMIT;
 use crate::proved::vm_ranges::{NodeState, RangeInclusive};
 
 /// The maximum nesting of nodes. No tree of the Rust crate is higher.
 pub(super) const MAX_NESTING: u64 = 50;
 
-/// The maximum number of allocated keys. Up to this number, the height never makes a split fail.
-const MAX_HELD: u64 = 6_293_134_512;
+/// The maximum height of a tree that is read node for node.
+pub(super) const MAX_HEIGHT: u64 = 49;
 
 /// A subtree of a saved tree that was read, without its nodes.
 ///
@@ -183,7 +183,7 @@ pub(super) fn is_inside(space: &RangeInclusive, root: &Option<Span>) -> bool {
     let (start, end) = (space.start(), space.end());
     match root {
         None => true,
-        Some(root) => start <= root.first && root.last <= end && root.held <= MAX_HELD,
+        Some(root) => start <= root.first && root.last <= end && root.held <= SPLIT_LIMIT,
     }
 }
 

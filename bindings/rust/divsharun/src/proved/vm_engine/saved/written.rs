@@ -6,9 +6,8 @@
 
 use crate::rattle::Vec;
 use crate::proved::vm_engine::IntervalTree;
-use crate::proved::vm_engine::block::Block;
-use crate::proved::vm_engine::node::walks::Walk;
 use crate::rattle::{AllocError, Global};
+use crate::proved::vm_leaf::Block;
 use crate::proved::vm_ranges::{NodeState, RangeInclusive};
 
 /// The blocks of a space in ascending order.
@@ -20,7 +19,7 @@ impl WrittenBlocks {
     /// Returns the blocks of a tree, or an error if the allocation of the list fails.
     pub fn new(alloc: Global, tree: &IntervalTree) -> core::result::Result<Self, AllocError> {
         let mut list = Vec::with_capacity(alloc, (tree.held_count + tree.gap_count) as usize)?;
-        let mut rest = Walk::new(&tree.root);
+        let mut rest = tree.blocks();
         while let Some(block) = rest.next() {
             list.push(block)?;
         }

@@ -1,10 +1,15 @@
+use Rattle.std.proofs.Common.{◌≡◌, ◌↔◌}
+use Rattle.std.specs.Prelude.{IsTrue}
+use Rattle.vm_tree.specs.Shape.{blocks}
 use Rattle.vm_engine.proofs.Comparing.StateOrders.{tested_state, tested_by_layout}
 use Rattle.vm_engine.proofs.interval_tree.comparing.IntervalTreePartialEq.eq.Goals as goal
 
+-- The result of the test.
+same : (c : goal.After-same_blocks) → IsTrue c.same_blocks.result ↔ (blocks c.args.self.now ≡ blocks c.args.other.now)
+same c = rw (← c.blocks-2.ensures.value, ← c.blocks-3.ensures.value) c.same_blocks.ensures
+
 pub returns-clause-equal : goal.returns-clause-equal
-returns-clause-equal c =
-    rw (← c.self.view_is, ← c.other.view_is) (tested_state _ _ _ c.self.invariant.tree c.other.invariant.tree c.same_blocks.ensures)
+returns-clause-equal c = tested_state _ _ _ c.blocks-2.ensures.space c.blocks-3.ensures.space (same c)
 
 pub returns-clause-order : goal.returns-clause-order
-returns-clause-order c =
-    rw (← c.self.view_is, ← c.other.view_is) (tested_by_layout _ _ _ c.self.invariant.tree c.other.invariant.tree c.same_blocks.ensures)
+returns-clause-order c = tested_by_layout _ _ _ c.blocks-2.ensures.space c.blocks-3.ensures.space (same c)

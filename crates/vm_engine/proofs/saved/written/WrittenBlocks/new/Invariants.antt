@@ -1,5 +1,5 @@
 use Rattle.std.proofs.Common.{◌≡◌, ◌++◌}
-use Rattle.vm_engine.specs.Tree.Shape.{blocks}
+use Rattle.vm_tree.specs.Shape.{blocks}
 use Rattle.vm_engine.proofs.saved.written.WrittenBlocks.new.Given as goal
 
 -- The blocks so far and the blocks that are left are those of the tree.

@@ -1,0 +1,338 @@
+// Written by bindings/erase from crates/vm_leaf/src/leaf.rt: do not edit.
+
+//! A leaf: up to 32 consecutive blocks, with their first addresses in one array.
+
+mod ends;
+mod fits;
+mod gaps;
+mod left;
+mod moves;
+mod summary;
+mod walk;
+
+pub(in crate::proved) use self::left::Left;
+pub(in crate::proved) use self::summary::Summary;
+pub(in crate::proved) use self::walk::Blocks;
+use crate::proved::vm_leaf::block::Block;
+use crate::proved::vm_ranges::{NodeState, RangeInclusive};
+
+/// The maximum number of blocks of a leaf.
+pub(in crate::proved) const CAPACITY: usize = 32;
+
+/// The minimum number of blocks of a leaf, unless the leaf is the whole tree.
+pub(in crate::proved) const MIN_BLOCKS: usize = 12;
+
+/// One to 32 consecutive blocks that cover a range of addresses. Two neighbours are never both free.
+#[derive(Debug)]
+pub(in crate::proved) struct Leaf {
+    /// The first addresses of the blocks, in ascending order. Only the first `len` are used.
+    starts: [u64; CAPACITY],
+    /// The last address of the last block.
+    end: u64,
+    /// The states: bit `i` is 1 if block `i` is allocated. The bits at or above `len` are 0.
+    held: u64,
+    /// The number of blocks.
+    len: usize,
+}
+
+/// A place in a leaf: the index of a block and an address in it.
+#[derive(Clone, Copy, Debug)]
+pub(in crate::proved) struct Place {
+    /// The index of the block.
+    pub(in crate::proved) index: usize,
+    /// The address, which is the first one of the range to allocate.
+    pub(in crate::proved) start: u64,
+}
+
+/// Returns the range from `start` to `end`, which must be the ends of a range.
+#[inline(always)]
+fn valid_range(start: u64, end: u64) -> RangeInclusive {
+    let Ok(range) = RangeInclusive::new(start, end) else {
+        unreachable!()
+    };
+    range
+}
+
+/// Returns the state of block `i`, which is bit `i` of the mask `held`.
+#[inline(always)]
+fn state_in(held: u64, i: usize) -> NodeState {
+    if (held >> i) & 1 == 0 {
+        NodeState::Free
+    } else {
+        NodeState::Allocated
+    }
+}
+
+/// Returns the mask `held` with bit `i` set.
+#[inline(always)]
+fn with_held(held: u64, i: usize) -> u64 {
+    held | 1 << i
+}
+
+/// Returns the bits of `held` below `keep`, and the bits starting at `from`, moved so that they start at `to`.
+#[inline(always)]
+fn with_moved(held: u64, keep: usize, from: usize, to: usize) -> u64 {
+    ((held >> from) << to) + held % (1 << keep)
+}
+
+/// Inserts `first` at the index `at` of the first `len` numbers.
+#[inline(always)]
+fn insert_one(starts: &mut [u64; CAPACITY], len: usize, at: usize, first: u64) {
+    starts.copy_within(at..len, at + 1);
+    starts[at] = first;
+}
+
+/// Inserts `first` and `second` at the index `at` of the first `len` numbers.
+#[inline(always)]
+fn insert_two(starts: &mut [u64; CAPACITY], len: usize, at: usize, first: u64, second: u64) {
+    starts.copy_within(at..len, at + 2);
+    starts[at] = first;
+    starts[at + 1] = second;
+}
+
+/// Removes the numbers with the indices `to..from` from the first `len` numbers.
+#[inline(always)]
+fn remove_between(starts: &mut [u64; CAPACITY], len: usize, to: usize, from: usize) {
+    starts.copy_within(from..len, to);
+}
+
+/// Writes the first `n` numbers of `other` to the indices `at..at + n`.
+#[inline(always)]
+fn copy_in(starts: &mut [u64; CAPACITY], at: usize, other: &[u64; CAPACITY], n: usize) {
+    starts[at..at + n].copy_from_slice(&other[..n]);
+}
+
+/// Returns the mask of `len` blocks with the states `held`, followed by `_more` blocks with the states `other`.
+#[inline(always)]
+fn with_appended(held: u64, len: usize, other: u64, _more: usize) -> u64 {
+    (other << len) + held
+}
+
+/// Returns the bits of the mask `held` below `at`.
+#[inline(always)]
+fn low_part(held: u64, at: usize) -> u64 {
+    held % (1 << at)
+}
+
+impl Leaf {
+    /// Creates a leaf that has only this block.
+    pub(in crate::proved) fn single(block: Block) -> Leaf {
+        let mut starts = [0; CAPACITY];
+        starts[0] = block.key.start();
+        let held = match block.state {
+            NodeState::Free => 0,
+            NodeState::Allocated => 1,
+        };
+        Leaf {
+            starts,
+            end: block.key.end(),
+            held,
+            len: 1,
+        }
+    }
+
+    /// Returns the number of blocks.
+    #[inline(always)]
+    pub(in crate::proved) fn len(&self) -> usize {
+        self.len
+    }
+
+    /// Returns the first address of block `i`.
+    #[inline(always)]
+    fn start_at(&self, i: usize) -> u64 {
+        // Proof: a field is read before the index is checked.
+        let _len = self.len;
+        self.starts[i]
+    }
+
+    /// Returns the last address of block `i`.
+    #[inline(always)]
+    fn end_at(&self, i: usize) -> u64 {
+        let len = self.len;
+        if i + 1 < len {
+            self.starts[i + 1] - 1
+        } else {
+            self.end
+        }
+    }
+
+    /// Returns the state of block `i`.
+    #[inline(always)]
+    fn state_at(&self, i: usize) -> NodeState {
+        state_in(self.held, i)
+    }
+
+    /// Returns block `i`, which must exist.
+    pub(in crate::proved) fn block_at(&self, i: usize) -> Block {
+        Block {
+            key: self.key_at(i),
+            state: self.state_at(i),
+        }
+    }
+
+    /// Returns `low + half` if that block exists and starts at or below `address`, otherwise `low`.
+    ///
+    /// The block with the address must be one of the `2 * half` blocks starting at `low`.
+    #[inline(always)]
+    fn narrow(&self, low: usize, half: usize, address: u64) -> usize {
+        let len = self.len;
+        let middle = low + half;
+        let first = self.starts[middle];
+        if (middle < len) & (first <= address) {
+            middle
+        } else {
+            low
+        }
+    }
+
+    /// Returns the index of the block with `address`, which must be in the leaf.
+    ///
+    /// The search has five steps, and no branch of them depends on the address. It also
+    /// reads entries of the array behind the last block, which have no effect.
+    pub(in crate::proved) fn index_of(&self, address: u64) -> usize {
+        // Proof: `len` gives the facts of a leaf.
+        let _len = self.len();
+        let low = self.narrow(0, 16, address);
+        let low = self.narrow(low, 8, address);
+        let low = self.narrow(low, 4, address);
+        let low = self.narrow(low, 2, address);
+        self.narrow(low, 1, address)
+    }
+
+    /// Allocates the whole gap `i`.
+    pub(in crate::proved) fn take(&mut self, i: usize) {
+        self.held = with_held(self.held, i);
+    }
+
+    /// Splits the gap `i` into a free part and an allocated part, which starts at `first`.
+    #[inline(always)]
+    fn split_upper(&mut self, i: usize, first: u64) {
+        let len = self.len;
+        insert_one(&mut self.starts, len, i + 1, first);
+        self.held = with_held(with_moved(self.held, i + 1, i + 1, i + 2), i + 1);
+        self.len = len + 1;
+    }
+
+    /// Splits the gap `i` into an allocated part and a free part, which starts at `next`.
+    #[inline(always)]
+    fn split_lower(&mut self, i: usize, next: u64) {
+        let len = self.len;
+        insert_one(&mut self.starts, len, i + 1, next);
+        self.held = with_held(with_moved(self.held, i + 1, i + 1, i + 2), i);
+        self.len = len + 1;
+    }
+
+    /// Splits the gap `i` into a free part, an allocated part that starts at `first`, and a free part that starts
+    /// at `next`.
+    #[inline(always)]
+    fn split_middle(&mut self, i: usize, first: u64, next: u64) {
+        let len = self.len;
+        insert_two(&mut self.starts, len, i + 1, first, next);
+        self.held = with_held(with_moved(self.held, i + 1, i + 1, i + 3), i + 1);
+        self.len = len + 2;
+    }
+
+    /// Replaces the `n` blocks starting at `i` with one gap. Their neighbours must be allocated.
+    #[inline(always)]
+    fn merge(&mut self, i: usize, n: usize) {
+        let len = self.len;
+        remove_between(&mut self.starts, len, i + 1, i + n);
+        self.held = with_moved(self.held, i, i + n, i + 1);
+        self.len = len - n + 1;
+    }
+
+    /// Allocates `range`, which must be in the gap `i`. `left` is the parts of the gap that stay free.
+    ///
+    /// The leaf must have room for these parts. If it has not, [`Leaf::split_full`] allocates the range.
+    pub(in crate::proved) fn split(&mut self, i: usize, range: RangeInclusive, left: Left) {
+        // Proof: `len` gives the facts of a leaf.
+        let _len = self.len();
+        let (start, end) = (range.start(), range.end());
+        match left {
+            Left::Nothing => self.take(i),
+            Left::Before => self.split_upper(i, start),
+            Left::After => self.split_lower(i, end + 1),
+            Left::Both => self.split_middle(i, start, end + 1),
+        }
+    }
+
+    /// Returns `true` if there is a block before block `i` and it is free.
+    #[inline(always)]
+    fn is_free_before(&self, i: usize) -> bool {
+        if i == 0 {
+            return false;
+        }
+        match self.state_at(i - 1) {
+            NodeState::Free => true,
+            NodeState::Allocated => false,
+        }
+    }
+
+    /// Returns `true` if there is a block after block `i` and it is free.
+    #[inline(always)]
+    fn is_free_after(&self, i: usize) -> bool {
+        let len = self.len();
+        if i + 1 == len {
+            return false;
+        }
+        match self.state_at(i + 1) {
+            NodeState::Free => true,
+            NodeState::Allocated => false,
+        }
+    }
+
+    /// Replaces the `n` blocks starting at `i` with one gap, and returns its range.
+    #[inline(always)]
+    fn join_blocks(&mut self, i: usize, n: usize) -> RangeInclusive {
+        // Proof: `len` gives the facts of a leaf.
+        let _len = self.len();
+        let gap = valid_range(self.start_at(i), self.end_at(i + n - 1));
+        self.merge(i, n);
+        gap
+    }
+
+    /// Frees the allocated block `i`, joins it with its free neighbours, and returns the range of the gap.
+    #[inline(always)]
+    pub(in crate::proved) fn join(&mut self, i: usize) -> RangeInclusive {
+        // Proof: `len` gives the facts of a leaf.
+        let _len = self.len();
+        let after = self.is_free_after(i);
+        if self.is_free_before(i) {
+            if after {
+                return self.join_blocks(i - 1, 3);
+            }
+            return self.join_blocks(i - 1, 2);
+        }
+        if after {
+            return self.join_blocks(i, 2);
+        }
+        self.join_blocks(i, 1)
+    }
+
+    /// Removes the blocks starting at index `at`, and returns a leaf of them.
+    #[inline(always)]
+    fn split_off(&mut self, at: usize) -> Leaf {
+        let len = self.len;
+        let mut starts = self.starts;
+        remove_between(&mut starts, len, 0, at);
+        let upper = Leaf {
+            starts,
+            end: self.end,
+            held: self.held >> at,
+            len: len - at,
+        };
+        self.end = self.starts[at] - 1;
+        self.held = low_part(self.held, at);
+        self.len = at;
+        upper
+    }
+
+    /// Appends the blocks of the next leaf. The leaf must have room for them.
+    pub(in crate::proved) fn append(&mut self, other: &Leaf) {
+        let (len, more) = (self.len, other.len);
+        copy_in(&mut self.starts, len, &other.starts, more);
+        self.held = with_appended(self.held, len, other.held, more);
+        self.end = other.end;
+        self.len = len + more;
+    }
+}

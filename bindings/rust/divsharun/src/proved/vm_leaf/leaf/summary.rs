@@ -1,0 +1,63 @@
+// Written by bindings/erase from crates/vm_leaf/src/leaf/summary.rt: do not edit.
+
+//! The summary of the gaps of a leaf: how long they are, and which alignments have a multiple in them.
+
+use super::Leaf;
+use crate::proved::vm_ranges::RangeInclusive;
+
+/// The summary of some gaps. Both fields are 0 if there is no gap.
+#[derive(Clone, Copy, Debug)]
+pub(in crate::proved) struct Summary {
+    /// The length of the longest gap, in addresses.
+    pub(in crate::proved) longest: u64,
+    /// The number of the 64 alignments that have a multiple in a gap.
+    pub(in crate::proved) alignments: u32,
+}
+
+/// Returns a number whose highest bit is the largest alignment that has a multiple in the range.
+///
+/// Smaller alignments also have a multiple there, so the number of binary digits is that of the alignments.
+#[inline(always)]
+fn reach(start: u64, end: u64) -> u64 {
+    if start == 0 {
+        return u64::MAX;
+    }
+    (start - 1) ^ end
+}
+
+/// Returns the number of binary digits of `number`, or 0 if it is 0.
+#[inline(always)]
+fn bit_length(number: u64) -> u32 {
+    if number == 0 { 0 } else { number.ilog2() + 1 }
+}
+
+impl Summary {
+    /// Returns the summary of only this gap.
+    #[inline(always)]
+    pub(in crate::proved) fn of_gap(gap: &RangeInclusive) -> Summary {
+        Summary {
+            longest: gap.len(),
+            alignments: bit_length(reach(gap.start(), gap.end())),
+        }
+    }
+}
+
+impl Leaf {
+    /// Returns the summary of the gaps of the leaf.
+    #[inline(never)]
+    pub(in crate::proved) fn summary(&self) -> Summary {
+        let len = self.len();
+        let (mut longest, mut reached) = (0, 0);
+        let mut i = self.next_gap(0);
+        while i < len {
+            let (start, end) = (self.start_at(i), self.end_at(i));
+            longest = longest.max(1 + (end - start));
+            reached |= reach(start, end);
+            i = self.next_gap(i + 1);
+        }
+        Summary {
+            longest,
+            alignments: bit_length(reached),
+        }
+    }
+}

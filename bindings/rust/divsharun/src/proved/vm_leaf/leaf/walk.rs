@@ -1,0 +1,98 @@
+// Written by bindings/erase from crates/vm_leaf/src/leaf/walk.rt: do not edit.
+
+//! Iteration over the blocks of a leaf from both ends.
+
+use super::{Leaf, state_in, valid_range};
+use crate::proved::vm_leaf::block::Block;
+
+/// An iterator over consecutive blocks of a leaf, from both ends.
+#[derive(Clone)]
+pub(in crate::proved) struct Blocks<'a> {
+    /// The first addresses of the blocks that are left.
+    starts: &'a [u64],
+    /// The last address of the last block that is left.
+    end: u64,
+    /// The states of the blocks that are left. The lowest bit is that of the first one.
+    held: u64,
+}
+
+/// Returns the last address before the first of these starts, or `end` if there is no start.
+#[inline(always)]
+fn end_of_first(starts: &[u64], end: u64) -> u64 {
+    match starts.first() {
+        None => end,
+        Some(next) => *next - 1,
+    }
+}
+
+impl Leaf {
+    /// Returns an iterator over the blocks with the indices `from..to`.
+    pub(in crate::proved) fn part<'a>(&'a self, from: usize, to: usize) -> Blocks<'a> {
+        if from == to {
+            return Blocks::none();
+        }
+        // Proof: a field is read before the index is checked.
+        let _len = self.len;
+        Blocks {
+            starts: &self.starts[from..to],
+            end: self.end_at(to - 1),
+            held: self.held >> from,
+        }
+    }
+}
+
+impl<'a> Blocks<'a> {
+    /// Returns an iterator over no blocks.
+    #[inline(always)]
+    pub(in crate::proved) fn none() -> Blocks<'a> {
+        Blocks {
+            starts: &[],
+            end: 0,
+            held: 0,
+        }
+    }
+
+    /// Removes and returns the lowest block that is left.
+    #[inline(always)]
+    fn take_first(&mut self) -> Option<Block> {
+        let Some((start, others)) = self.starts.split_first() else {
+            return None;
+        };
+        let key = valid_range(*start, end_of_first(others, self.end));
+        let state = state_in(self.held, 0);
+        self.starts = others;
+        self.held >>= 1;
+        Some(Block { key, state })
+    }
+
+    /// Removes and returns the highest block that is left.
+    #[inline(always)]
+    fn take_last(&mut self) -> Option<Block> {
+        let Some((start, rest)) = self.starts.split_last() else {
+            return None;
+        };
+        let key = valid_range(*start, self.end);
+        let state = state_in(self.held, rest.len());
+        self.starts = rest;
+        self.end = start.saturating_sub(1);
+        Some(Block { key, state })
+    }
+}
+
+impl<'a> Iterator for Blocks<'a> {
+    type Item = Block;
+
+    /// Returns the lowest block that is left.
+    #[inline(always)]
+    fn next(&mut self) -> Option<Block> {
+        self.take_first()
+    }
+}
+
+impl<'a> DoubleEndedIterator for Blocks<'a> {
+    /// Returns the highest block that is left.
+    #[inline(always)]
+    fn next_back(&mut self) -> Option<Block> {
+        self.take_last()
+    }
+}

@@ -1,0 +1,9 @@
+// Written by bindings/erase from crates/vm_leaf/src/lib.rt: do not edit.
+
+//! A leaf of a tree of blocks: up to 32 consecutive blocks of an address space in one array.
+
+mod block;
+mod leaf;
+
+pub(in crate::proved) use block::Block;
+pub(in crate::proved) use leaf::{Blocks, CAPACITY, Leaf, Left, MIN_BLOCKS, Place, Summary};

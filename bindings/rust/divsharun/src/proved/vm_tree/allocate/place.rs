@@ -1,0 +1,213 @@
+// Written by bindings/erase from crates/vm_tree/src/allocate/place.rt: do not edit.
+
+//! The allocation of a range at a place in a leaf, which may split the leaf in two.
+
+use crate::rattle::Box;
+use crate::proved::vm_tree::change::Change;
+use crate::proved::vm_tree::link::{Link, Node, fork_link, into_leaf, leaf_link};
+use crate::proved::vm_tree::search::{Refusal, Search, Taken};
+use crate::rattle::Global;
+use core::mem;
+use crate::proved::vm_leaf::{Block, CAPACITY, Leaf, Left, Place, Summary};
+use crate::proved::vm_ranges::{NodeState, RangeInclusive};
+
+/// A range that is to be allocated in a gap of a leaf.
+#[derive(Clone, Copy)]
+pub(in crate::proved::vm_tree) struct Claim {
+    /// The index of the gap.
+    index: usize,
+    gap: RangeInclusive,
+    range: RangeInclusive,
+    /// The parts of the gap that stay free.
+    left: Left,
+}
+
+/// Returns the claim of the range of a search at a place, or the reason why it cannot be allocated.
+#[inline(always)]
+fn claim_at(leaf: &Leaf, place: Place, search: &Search) -> Result<Claim, Refusal> {
+    let gap = leaf.key_at(place.index);
+    let end = place.start + (search.size - 1);
+    if end == u64::MAX {
+        return Err(Refusal::PastMax);
+    }
+    let Ok(range) = RangeInclusive::new(place.start, end) else {
+        unreachable!()
+    };
+    let left = Left::of(&gap, &range);
+    if left.added() > 0 && !search.can_split {
+        return Err(Refusal::TooHigh);
+    }
+    Ok(Claim {
+        index: place.index,
+        gap,
+        range,
+        left,
+    })
+}
+
+/// Returns the leaf of a link to a leaf.
+#[inline(always)]
+pub(super) fn leaf_of(tree: &Link) -> &Leaf {
+    match tree {
+        Link::Leaf { leaf, .. } => leaf,
+        Link::Fork { node, .. } => {
+            // Proof: a node that is read has two children.
+            let node: &Node = node;
+            let _at = node.at;
+            unreachable!()
+        }
+        Link::Hole => unreachable!(),
+    }
+}
+
+/// Returns `true` if the leaf has room for the parts that stay free.
+#[inline(always)]
+fn has_room(leaf: &Leaf, left: Left) -> bool {
+    leaf.len() + usize::from(left.added()) <= CAPACITY
+}
+
+/// Allocates the range of a claim in a leaf that has room for it, and updates what is stored beside the
+/// link. Returns the change.
+///
+/// A gap that is neither the longest nor has the most alignments does not count for the summary.
+#[inline(always)]
+fn take(tree: &mut Link, claim: &Claim) -> Change {
+    match tree {
+        Link::Leaf {
+            longest,
+            alignments,
+            leaf,
+        } => {
+            let leaf: &mut Leaf = leaf;
+            leaf.split(claim.index, claim.range, claim.left);
+            let gap = Summary::of_gap(&claim.gap);
+            if gap.longest < *longest && gap.alignments < *alignments {
+                return Change::Nothing;
+            }
+            let new = leaf.summary();
+            if new.longest == *longest && new.alignments == *alignments {
+                return Change::Nothing;
+            }
+            *longest = new.longest;
+            *alignments = new.alignments;
+            Change::FreeOnly
+        }
+        Link::Fork { node, .. } => {
+            // Proof: a node that is read has two children.
+            let node: &Node = node;
+            let _at = node.at;
+            unreachable!()
+        }
+        Link::Hole => unreachable!(),
+    }
+}
+
+/// Allocates a box for a leaf and one for a node.
+fn spare_boxes(claim: &Claim, alloc: Global) -> Result<(Box<Leaf>, Box<Node>), Refusal> {
+    let block = Block {
+        key: claim.range,
+        state: NodeState::Allocated,
+    };
+    let leaf = Box::new(alloc, Leaf::single(block))?;
+    let empty = Node {
+        at: 0,
+        left: Link::Hole,
+        right: Link::Hole,
+    };
+    let node = Box::new(alloc, empty)?;
+    Ok((leaf, node))
+}
+
+/// Allocates the range of a claim in a leaf that has no room for it, which is split in two. Returns the
+/// link to the node over both leaves.
+fn halve(mut lower: Box<Leaf>, claim: &Claim, mut upper: Box<Leaf>, spare: Box<Node>) -> Link {
+    let low: &mut Leaf = &mut lower;
+    let high: &mut Leaf = &mut upper;
+    low.split_full(claim.index, claim.range, claim.left, high);
+    let at = high.key_at(0).start();
+    fork_link(leaf_link(lower), at, spare, leaf_link(upper))
+}
+
+/// Allocates the range of a claim in a leaf that has no room for it. The link becomes one to a node.
+///
+/// All memory is allocated before the first change.
+#[inline(never)]
+fn split_leaf(tree: &mut Link, claim: &Claim, alloc: Global) -> Result<(), Refusal> {
+    let (upper, node) = spare_boxes(claim, alloc)?;
+    let lower = into_leaf(mem::replace(tree, Link::Hole));
+    *tree = halve(lower, claim, upper, node);
+    Ok(())
+}
+
+/// Allocates the range of a search at a place in a leaf, and updates what is stored beside the link. The
+/// leaf may become a node with two leaves.
+#[inline(always)]
+pub(super) fn place_at(
+    tree: &mut Link,
+    place: Place,
+    search: &Search,
+    alloc: Global,
+) -> Result<Taken, Refusal> {
+    let leaf = leaf_of(tree);
+    let claim = claim_at(leaf, place, search)?;
+    let (start, added) = (place.start, claim.left.added());
+    if has_room(leaf, claim.left) {
+        let change = take(tree, &claim);
+        return Ok(Taken {
+            start,
+            added,
+            change,
+        });
+    }
+    split_leaf(tree, &claim, alloc)?;
+    Ok(Taken {
+        start,
+        added,
+        change: Change::Structure,
+    })
+}
+
+/// Allocates the range of a claim in a leaf that has room for it, and does not update what is stored
+/// beside the link.
+#[inline(always)]
+fn take_alone(root: &mut Link, claim: &Claim) {
+    match root {
+        Link::Leaf { leaf, .. } => {
+            let leaf: &mut Leaf = leaf;
+            leaf.split(claim.index, claim.range, claim.left);
+            // Proof: `len` gives the facts of a leaf.
+            let _len = leaf.len();
+        }
+        Link::Fork { node, .. } => {
+            // Proof: a node that is read has two children.
+            let node: &Node = node;
+            let _at = node.at;
+            unreachable!()
+        }
+        Link::Hole => unreachable!(),
+    }
+}
+
+/// Allocates the range of a search at a place in a leaf that is the whole tree, and of which nothing
+/// correct is stored beside the link. The leaf may become a node with two leaves.
+#[inline(always)]
+pub(super) fn place_in_root(
+    root: &mut Link,
+    place: Place,
+    search: &Search,
+    alloc: Global,
+) -> Result<Taken, Refusal> {
+    let leaf = leaf_of(root);
+    let claim = claim_at(leaf, place, search)?;
+    let taken = Taken {
+        start: place.start,
+        added: claim.left.added(),
+        change: Change::Structure,
+    };
+    if has_room(leaf, claim.left) {
+        take_alone(root, &claim);
+        return Ok(taken);
+    }
+    split_leaf(root, &claim, alloc)?;
+    Ok(taken)
+}

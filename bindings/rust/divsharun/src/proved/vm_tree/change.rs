@@ -1,0 +1,84 @@
+// Written by bindings/erase from crates/vm_tree/src/change.rt: do not edit.
+
+//! The update of the links above a change.
+
+use crate::proved::vm_tree::link::{Link, Node, height, into_fork, summary};
+use crate::proved::vm_tree::mend::mend;
+use core::mem;
+use crate::proved::vm_leaf::Summary;
+
+/// The parts of the summary of a subtree that a change has changed.
+#[derive(Clone, Copy, Debug)]
+pub(in crate::proved::vm_tree) enum Change {
+    /// The summary is the same, so no link above changes either.
+    Nothing,
+    /// The summary of the gaps may have changed. The height is the same.
+    FreeOnly,
+    /// Any part may have changed. If the subtree is a leaf, it can have too few blocks.
+    Structure,
+}
+
+/// Mends the node at a link, and updates the link.
+fn mend_at(tree: &mut Link) {
+    let mut node = into_fork(mem::replace(tree, Link::Hole));
+    let (left, at, right) = node.take_children();
+    *tree = mend(left, at, node, right);
+}
+
+/// Returns the summary of the gaps of a node's subtree, from those of its children.
+pub(in crate::proved::vm_tree) fn free_summary(node: &Node) -> Summary {
+    let (first, second) = (summary(&node.left), summary(&node.right));
+    Summary {
+        longest: first.longest.max(second.longest),
+        alignments: first.alignments.max(second.alignments),
+    }
+}
+
+/// Updates the summary of the gaps beside a link to a node, of which a child has changed. Returns the
+/// change.
+#[inline(always)]
+fn refresh(tree: &mut Link) -> Change {
+    match tree {
+        Link::Hole => unreachable!(),
+        Link::Leaf { .. } => unreachable!(),
+        Link::Fork {
+            longest,
+            alignments,
+            node,
+            ..
+        } => {
+            let new = free_summary(node);
+            if new.longest == *longest && new.alignments == *alignments {
+                return Change::Nothing;
+            }
+            *longest = new.longest;
+            *alignments = new.alignments;
+            Change::FreeOnly
+        }
+    }
+}
+
+/// Mends the node at a link, of which a child has changed, and updates the link. Returns the change.
+#[inline(never)]
+fn restructure(tree: &mut Link) -> Change {
+    let (free, before) = (summary(tree), height(tree));
+    mend_at(tree);
+    let new = summary(tree);
+    if height(tree) != before {
+        return Change::Structure;
+    }
+    if new.longest != free.longest || new.alignments != free.alignments {
+        return Change::FreeOnly;
+    }
+    Change::Nothing
+}
+
+/// Updates the link to a node, of which a child has changed. Returns the change of the subtree.
+#[inline(always)]
+pub(in crate::proved::vm_tree) fn update(tree: &mut Link, change: Change) -> Change {
+    match change {
+        Change::Nothing => Change::Nothing,
+        Change::FreeOnly => refresh(tree),
+        Change::Structure => restructure(tree),
+    }
+}

@@ -1,0 +1,74 @@
+// Written by bindings/erase from crates/vm_tree/src/mend.rt: do not edit.
+
+//! Repairs a node after blocks were removed below it. It does not allocate.
+//!
+//! A leaf that has too few blocks is filled from the next leaf, or merged with it. If its sibling is a
+//! node, the next leaf is a child of that node.
+
+use crate::rattle::Box;
+use crate::proved::vm_tree::balance::balance;
+use crate::proved::vm_tree::link::{Link, Node, fork_link, height, into_fork, into_leaf, leaf_link};
+use crate::proved::vm_leaf::{CAPACITY, Leaf, MIN_BLOCKS};
+
+/// Returns `true` if a tree is a leaf with too few blocks.
+fn is_short(link: &Link) -> bool {
+    match link {
+        Link::Hole => true,
+        Link::Leaf { leaf, .. } => {
+            let leaf: &Leaf = leaf;
+            leaf.len() < MIN_BLOCKS
+        }
+        Link::Fork { node, .. } => {
+            // Proof: a node that is read has two children.
+            let node: &Node = node;
+            let _at = node.at;
+            false
+        }
+    }
+}
+
+/// Returns one leaf with the blocks of two, or a node with two leaves.
+fn join_leaves(mut left: Box<Leaf>, spare: Box<Node>, mut right: Box<Leaf>) -> Link {
+    let low: &mut Leaf = &mut left;
+    let high: &mut Leaf = &mut right;
+    if low.len() + high.len() <= CAPACITY {
+        low.append(high);
+        return leaf_link(left);
+    }
+    low.even(high);
+    let at = high.key_at(0).start();
+    fork_link(leaf_link(left), at, spare, leaf_link(right))
+}
+
+/// Fills the left leaf, which has too few blocks, from the next leaf, or merges both.
+fn fill_left(left: Box<Leaf>, spare: Box<Node>, right: Link) -> Link {
+    if height(&right) < 2 {
+        return join_leaves(left, spare, into_leaf(right));
+    }
+    let mut right = into_fork(right);
+    let (middle, at, last) = right.take_children();
+    let low = join_leaves(left, spare, into_leaf(middle));
+    fork_link(low, at, right, last)
+}
+
+/// Fills the right leaf, which has too few blocks, from the leaf before it, or merges both.
+fn fill_right(left: Link, spare: Box<Node>, right: Box<Leaf>) -> Link {
+    if height(&left) < 2 {
+        return join_leaves(into_leaf(left), spare, right);
+    }
+    let mut left = into_fork(left);
+    let (first, at, middle) = left.take_children();
+    let high = join_leaves(into_leaf(middle), spare, right);
+    fork_link(first, at, left, high)
+}
+
+/// Mends a node: fills or merges a child that is a leaf with too few blocks, or balances the node.
+pub(in crate::proved::vm_tree) fn mend(left: Link, at: u64, spare: Box<Node>, right: Link) -> Link {
+    if is_short(&left) {
+        return fill_left(into_leaf(left), spare, right);
+    }
+    if is_short(&right) {
+        return fill_right(left, spare, into_leaf(right));
+    }
+    balance(left, at, spare, right)
+}

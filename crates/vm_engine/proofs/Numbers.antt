@@ -1,2 +1,0 @@
-pub mod Highest
-pub mod MultiplesBetween

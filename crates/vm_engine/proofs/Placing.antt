@@ -1,0 +1,4 @@
+pub mod Counted
+pub mod ExactSpots
+pub mod Requests
+pub mod Spots

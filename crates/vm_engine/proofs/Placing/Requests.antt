@@ -1,0 +1,369 @@
+-- All about the result of a request, from the result of its search.
+use Rattle.std.proofs.Common.{◌≡◌, ◌≢◌, ℕ, ◌+◌, ◌-◌, ◌*◌, ◌<◌, ◌≤◌, true, false, Bool, List, [], ◌∷◌, ◌++◌, length, refl, sym, ap, ◌∙◌, subst, arith, inl, inr, ⊎_elim, Result, Ok, Err, OnErr, IfOk, IsOk, Option, Some, None, ltb, leb}
+use Rattle.std.specs.Prelude.{◌&&◌}
+use Rattle.std.specs.List.{list_any}
+use Rattle.std.proofs.lemmas.Bool.{cases_lt, lt-ltb, le-leb, ltb-true, leb-true, and_parts, false_from_ne_true}
+use Rattle.vm_ranges.specs.Cases.{IsTestOf}
+use Rattle.vm_ranges.specs.Range.{Range, MAX, IsIn, span}
+use Rattle.vm_ranges.specs.Request.{Request, IsRequest}
+use Rattle.vm_ranges.specs.declared.error.Error.{Error}
+use Rattle.vm_ranges.specs.declared.error.Error.TheVariants.{Overflow, ResourceNotAvailable, OutOfMemory}
+use Rattle.vm_ranges.specs.declared.constraint.AllocPolicy.TheVariants.{FirstMatch, LastMatch, ExactMatch}
+use Rattle.vm_ranges.specs.declared.state.NodeState.TheVariants.{Free, Allocated}
+use Rattle.vm_ranges.specs.declared.state.NodeState.{NodeState}
+use Rattle.vm_leaf.specs.declared.block.Block.{Block}
+use Rattle.vm_leaf.specs.Block.{free_block}
+use Rattle.vm_leaf.specs.Windows.{common}
+use Rattle.vm_tree.specs.Allocation.{Spot, window_of, IsSpotIn, IsTakenAt, SplitsAt, SettlesAt, SettlesIn, range_at, IsSearch, AllocatesExact, AllocatesLowest, AllocatesHighest, HasNoPlace}
+use Rattle.vm_tree.specs.GapSearch.{IsSearchCount, gaps_without_place}
+use Rattle.vm_tree.specs.Heights.{held_blocks, one_if_held}
+use Rattle.vm_tree.specs.NodeCounts.{has_fit_in, nodes_to_address, nodes_to_lowest, nodes_to_highest}
+use Rattle.vm_tree.specs.Placing.{IsStartIn}
+use Rattle.vm_tree.specs.Roots.{IsBlockTree, IsPathLength}
+use Rattle.vm_tree.specs.Shape.{Shape, blocks, height_of, node_count}
+use Rattle.vm_tree.specs.declared.search.Search.{Search}
+use Rattle.vm_tree.specs.declared.search.Taken.{Taken}
+use Rattle.vm_tree.specs.declared.search.Refusal.{Refusal}
+use Rattle.vm_tree.specs.declared.search.Refusal.TheVariants.{NoPlace, Held, PastMax, OutOfMemory as NoMemory, TooHigh}
+use Rattle.vm_tree.proofs.SearchedFirst.{lowest_missed, none_lowest}
+use Rattle.vm_tree.proofs.SearchedLast.{highest_missed, none_highest}
+use Rattle.vm_tree.proofs.Heights.{high_tree_held}
+use Rattle.vm_engine.specs.Address.{AddressState, SplitsGap}
+use Rattle.vm_engine.specs.Answer.{SPLIT_LIMIT_MIN_HELD, ByStart, ByExactPolicy, IsChosen, Grants}
+use Rattle.vm_engine.specs.Counts.GapSearch.{SearchesAligned}
+use Rattle.vm_engine.specs.Counts.NodeCounts.{nodes_of_request, is_looked_for, has_address}
+use Rattle.vm_engine.specs.Counts.Steps.{max_entered, IsGrantCount, SplitsIfFew, NoneEndsBelowMax}
+use Rattle.vm_engine.specs.Engine.Allocation.{error_of, with_error, taken_range, IsSearchOf, Takes, IsAllocation}
+use Rattle.vm_engine.specs.Tree.Blocks.{range_if_held, held_of, blocks_state, TilesSpace}
+use Rattle.vm_engine.specs.Windows.{part_in, window_in}
+use Rattle.vm_engine.proofs.Blocks.OneList.{same_block}
+use Rattle.vm_engine.proofs.Counts.GapBounds.{searches, exact_searches}
+use Rattle.vm_engine.proofs.Counts.LeftClear.{needs_split}
+use Rattle.vm_engine.proofs.Placing.Spots.{lowest_grants, highest_grants, spot_lowest, spot_highest, taken_from}
+use Rattle.vm_engine.proofs.Placing.ExactSpots.{exact_grants}
+use Rattle.vm_engine.proofs.Results.Once.{chosen_once}
+use Rattle.vm_engine.proofs.Results.Requests.{request_in, with_policy}
+use Rattle.vm_engine.proofs.Trees.Ends.{ends}
+
+-- ---- The number of held blocks
+one_of : (s : NodeState) (k : Range) (n : ℕ) (rs : List Range) → n ≡ length rs → one_if_held s + n ≡ length (range_if_held s k ++ rs)
+one_of Free k n rs e = omega (arith, e)
+one_of Allocated k n rs e = omega (arith, e)
+
+pub held_blocks_are : (bs : List Block) → held_blocks bs ≡ length (held_of bs)
+held_blocks_are [] = refl
+held_blocks_are (b ∷ bs) = one_of b.state b.key (held_blocks bs) (held_of bs) (held_blocks_are bs)
+
+-- A tree in which gaps are split is low.
+pub low_if_few : (s : Shape) (can_split : Bool) → IsBlockTree s → IsTestOf can_split (length (held_of (blocks s)) < SPLIT_LIMIT_MIN_HELD) → can_split ≡ true → height_of s < 48
+low_if_few s true h t e =
+    ⊎_elim
+    (λ (l : height_of s < 48). l)
+    (λ (l : 48 ≤ height_of s). absurd (omega (arith, high_tree_held s h.tree h.run l, held_blocks_are (blocks s), t)))
+    (cases_lt (height_of s) 48)
+low_if_few s false h t e = absurd (cc e)
+
+few_if : (can_split : Bool) (k : ℕ) → IsTestOf can_split (k < SPLIT_LIMIT_MIN_HELD) → can_split ≡ true → k < SPLIT_LIMIT_MIN_HELD
+few_if true k t e = t
+few_if false k t e = absurd (cc e)
+
+many_if : (can_split : Bool) (k : ℕ) → IsTestOf can_split (k < SPLIT_LIMIT_MIN_HELD) → can_split ≡ false → SPLIT_LIMIT_MIN_HELD ≤ k
+many_if true k t e = absurd (cc e)
+many_if false k t e = omega (arith, t)
+
+-- ---- What a refusal or a range tells
+-- Only the start of the spot can be chosen.
+record IsSpotOf (request : Request) (search : Search) (sp : Range) (old : List Block) (spot : Spot) : Type 0 where
+  cut : IsSpotIn old spot
+  in_gap : (spot.key.start ≤ spot.start) × (spot.start + search.size ≤ spot.key.end + 1)
+  only : (t : ℕ) → IsChosen request (blocks_state sp old) t → t ≡ spot.start
+
+module _ (sp : Range) (old new : List Block) (tiles : TilesSpace sp old) (request : Request) (search : Search) (valid : IsRequest request) (is : IsSearchOf request sp search) (few : IsTestOf search.can_split (length (held_of old) < SPLIT_LIMIT_MIN_HELD)) where
+  some : 0 < search.size
+  some = omega (arith, valid.some, is.size)
+
+  spot_takes : (spot : Spot) (taken : Taken) → IsSpotOf request search sp old spot → IsTakenAt search spot new taken → Takes search.can_split request.size old new taken
+  spot_takes spot taken s t = record { search = search; size = is.size; split = refl; range = record { spot = spot; cut = s.cut; in_gap = s.in_gap; at = t } }
+
+  -- A range that splits its gap in the state does not fill its block.
+  splits_at : (spot : Spot) → IsSpotOf request search sp old spot → SplitsGap (blocks_state sp old) (span spot.start request.size) → SplitsAt search spot
+  splits_at spot s g =
+      needs_split sp old spot.lower spot.upper (free_block spot.key) (range_at search spot) tiles s.cut refl
+      (taken_from sp old tiles search some spot s.cut s.in_gap)
+      (subst (λ (n : ℕ). SplitsGap (blocks_state sp old) (span spot.start n)) (sym is.size) g)
+
+  no_error : (e : Error) → e ≢ OutOfMemory → e ≢ Overflow → SplitsIfFew (blocks_state sp old) request (Err e)
+  no_error e m o = record { split = tt; memory = λ k. absurd (m (cc k)); high = λ v k. absurd (o (cc k)) }
+
+  settled_few : (range : Range) (spot : Spot) (found : Result Taken Refusal) → IsSpotOf request search sp old spot → SettlesAt search spot new found → SplitsIfFew (blocks_state sp old) request (taken_range request.size (with_error range found))
+  unfolding NoneEndsBelowMax
+  settled_few range spot (Ok taken) s h = record {
+    split = λ g. few_if search.can_split _ few (h.low (splits_at spot s (subst (λ (x : ℕ). SplitsGap (blocks_state sp old) (span x request.size)) h.start g)));
+    memory = λ k. absurd (cc k);
+    high = λ v k. absurd (cc k);
+  }
+  settled_few range spot (Err NoPlace) s h = absurd h
+  settled_few range spot (Err Held) s h = absurd h
+  settled_few range spot (Err PastMax) s h = record {
+    split = tt;
+    memory = λ k. absurd (cc k);
+    high = λ v k. inr (λ t c. omega (arith, s.only t c, h, is.size));
+  }
+  settled_few range spot (Err NoMemory) s h = record { split = tt; memory = λ k. few_if search.can_split _ few h.1; high = λ v k. absurd (cc k) }
+  settled_few range spot (Err TooHigh) s h = record { split = tt; memory = λ k. absurd (cc k); high = λ v k. inl (many_if search.can_split _ few h.1) }
+
+  settled_takes : (range : Range) (spot : Spot) (found : Result Taken Refusal) → IsSpotOf request search sp old spot → SettlesAt search spot new found → IfOk (with_error range found) (λ taken. Takes search.can_split request.size old new taken)
+  settled_takes range spot (Ok taken) s h = spot_takes spot taken s h
+  settled_takes range spot (Err e) s h = tt
+
+-- ---- The parts that do not depend on the policy
+unchanged_if : (range : Range) (old new : Shape) (found : Result Taken Refusal) → OnErr found (new ≡ old) → OnErr (with_error range found) (new ≡ old)
+unchanged_if range old new (Ok taken) u = u
+unchanged_if range old new (Err e) u = u
+
+blocks_unchanged : (old new : Shape) (found : Result Taken Refusal) → OnErr found (new ≡ old) → OnErr found (blocks new ≡ blocks old)
+blocks_unchanged old new (Ok taken) u = u
+blocks_unchanged old new (Err e) u = ap blocks u
+
+no_place_if : (n : ℕ) (range : Range) (found : Result Taken Refusal) → taken_range n (with_error range found) ≡ Err ResourceNotAvailable → found ≡ Err NoPlace
+no_place_if n range (Ok taken) e = absurd (cc e)
+no_place_if n range (Err NoPlace) e = refl
+no_place_if n range (Err Held) e = absurd (cc e)
+no_place_if n range (Err PastMax) e = absurd (cc e)
+no_place_if n range (Err NoMemory) e = absurd (cc e)
+no_place_if n range (Err TooHigh) e = absurd (cc e)
+
+success_path : (n h count : ℕ) (range : Range) (found : Result Taken Refusal) → (found ≢ Err NoPlace → h ≤ 2 * count) → IsOk (taken_range n (with_error range found)) → h ≤ 2 * count
+success_path n h count range (Ok taken) p o = p (λ e. absurd (cc e))
+success_path n h count range (Err e) p o = absurd (cc o)
+
+high_tree : (s : Shape) → 1 ≤ height_of s
+high_tree (Rattle.vm_tree.specs.Shape.Tip bs) = omega arith
+high_tree (Rattle.vm_tree.specs.Shape.Fork l r) = omega arith
+
+steps_of : (request : Request) (state : AddressState) (s : Shape) (answer : Result Range Error) (count : ℕ) → count ≤ max_entered request.policy (height_of s) (length state.held) → (IsOk answer → height_of s ≤ 2 * count) → IsGrantCount (height_of s) state request answer count
+steps_of request state s answer count m p = record { most = m; success = λ o. omega (arith, p o, high_tree s); path = p }
+
+-- ---- The lowest place, and the highest place
+module _ (sp : Range) (old new : Shape) (tiles : TilesSpace sp (blocks old)) (range : sp.start ≤ sp.end) (tree : IsBlockTree old) (request : Request) (search : Search) (valid : IsRequest request) (is : IsSearchOf request sp search) (few : IsTestOf search.can_split (length (held_of (blocks old)) < SPLIT_LIMIT_MIN_HELD))
+    (searched : IsSearch search) (r : Range) (found : Result Taken Refusal) (u : OnErr found (new ≡ old)) (count : ℕ) where
+  abbrev bounds : Type 0
+  bounds = IsSearchCount (window_of search) search.size search.alignment (gaps_without_place (window_of search) search.size search.alignment (blocks old)) old count
+
+  same_bounds : bounds → IsSearchCount (window_in request.window sp) request.size request.align (gaps_without_place (window_in request.window sp) request.size request.align (blocks old)) old count
+  same_bounds b = rw (← is.window, ← is.size, ← is.align) b
+
+  same_none : list_any (has_fit_in (window_of search) search.size search.alignment) (blocks old) ≡ false → list_any (has_fit_in (window_in request.window sp) request.size request.align) (blocks old) ≡ false
+  same_none e = rw (← is.window, ← is.size, ← is.align) e
+
+  upto_held : bounds → count ≤ 2 * length (held_of (blocks old)) + 1
+  upto_held b = omega (arith, b.all, tree.low.few, held_blocks_are (blocks old))
+
+  few_none : found ≡ Err NoPlace → SplitsIfFew (blocks_state sp (blocks old)) request (taken_range request.size (with_error r found))
+  few_none e = rw e (record { split = tt; memory = λ k. absurd (cc k); high = λ v k. absurd (cc k) })
+
+  takes_none : found ≡ Err NoPlace → IfOk (with_error r found) (λ taken. Takes search.can_split request.size (blocks old) (blocks new) taken)
+  takes_none e = rw e tt
+
+  all_of : Grants (blocks_state sp (blocks old)) request (taken_range search.size (with_error r found)) (blocks_state sp (blocks new)) → IfOk (with_error r found) (λ taken. Takes search.can_split request.size (blocks old) (blocks new) taken)
+      → SplitsIfFew (blocks_state sp (blocks old)) request (taken_range request.size (with_error r found)) → count ≡ nodes_of_request request sp old → IsGrantCount (height_of old) (blocks_state sp (blocks old)) request (taken_range request.size (with_error r found)) count
+      → SearchesAligned (height_of old) (blocks_state sp (blocks old)) request (taken_range request.size (with_error r found)) count → IsAllocation request sp search.can_split old new (with_error r found) count
+  all_of g t f e s a = record {
+    granted = subst (λ (n : ℕ). Grants (blocks_state sp (blocks old)) request (taken_range n (with_error r found)) (blocks_state sp (blocks new))) is.size g;
+    taken = t;
+    unchanged = unchanged_if r old new found u;
+    few = f;
+    exact = e;
+    steps = s;
+    search = a;
+  }
+
+  module _ (policy : request.policy ≡ FirstMatch) (h : AllocatesLowest search (blocks old) (blocks new) found) (exact : count ≡ nodes_to_lowest (window_of search) search.size search.alignment old) (b : bounds) (path : found ≢ Err NoPlace → height_of old ≤ 2 * count) where
+    lowest_exact : count ≡ nodes_of_request request sp old
+    unfolding nodes_of_request
+    lowest_exact = rw (policy, ← is.window, ← is.size, ← is.align) exact
+
+    lowest_most : count ≤ max_entered request.policy (height_of old) (length (held_of (blocks old)))
+    lowest_most = rw policy (upto_held b)
+
+    pub lowest_allocation : IsAllocation request sp search.can_split old new (with_error r found) count
+    lowest_allocation =
+        all_of
+        (lowest_grants sp (blocks old) tiles request search valid is (many_if search.can_split _ few) r (blocks new) found policy (blocks_unchanged old new found u) h)
+        (⊎_elim (λ n. takes_none n.1) (λ s. settled_takes sp (blocks old) (blocks new) tiles request search valid is few r s.0 found (spot_of s.0 s.1) s.2) h)
+        (⊎_elim (λ n. few_none n.1) (λ s. settled_few sp (blocks old) (blocks new) tiles request search valid is few r s.0 found (spot_of s.0 s.1) s.2) h)
+        lowest_exact
+        (steps_of request (blocks_state sp (blocks old)) old (taken_range request.size (with_error r found)) count lowest_most (success_path request.size (height_of old) count r found path))
+        (searches request sp old (taken_range request.size (with_error r found)) count tiles range (same_bounds b) (λ e. same_none (lowest_missed search searched (blocks old) (none_lowest search (blocks old) (blocks new) (subst (AllocatesLowest search (blocks old) (blocks new)) (no_place_if request.size r found e) h)))))
+      where
+        spot_of : (spot : Spot) → Rattle.vm_tree.specs.Allocation.IsLowestSpot search (blocks old) spot → IsSpotOf request search sp (blocks old) spot
+        spot_of spot s = let k = spot_lowest sp (blocks old) tiles request search valid is (many_if search.can_split _ few) policy spot s in record { cut = s.cut; in_gap = k.0; only = λ t c. chosen_once request t spot.start (blocks_state sp (blocks old)) c k.1 }
+
+  module _ (policy : request.policy ≡ LastMatch) (h : AllocatesHighest search (blocks old) (blocks new) found) (exact : count ≡ nodes_to_highest (window_of search) search.size search.alignment old) (b : bounds) (path : found ≢ Err NoPlace → height_of old ≤ 2 * count) where
+    highest_exact : count ≡ nodes_of_request request sp old
+    unfolding nodes_of_request
+    highest_exact = rw (policy, ← is.window, ← is.size, ← is.align) exact
+
+    highest_most : count ≤ max_entered request.policy (height_of old) (length (held_of (blocks old)))
+    highest_most = rw policy (upto_held b)
+
+    pub highest_allocation : IsAllocation request sp search.can_split old new (with_error r found) count
+    highest_allocation =
+        all_of
+        (highest_grants sp (blocks old) tiles request search valid is (many_if search.can_split _ few) r (blocks new) found policy (blocks_unchanged old new found u) h)
+        (⊎_elim (λ n. takes_none n.1) (λ s. settled_takes sp (blocks old) (blocks new) tiles request search valid is few r s.0 found (spot_of s.0 s.1) s.2) h)
+        (⊎_elim (λ n. few_none n.1) (λ s. settled_few sp (blocks old) (blocks new) tiles request search valid is few r s.0 found (spot_of s.0 s.1) s.2) h)
+        highest_exact
+        (steps_of request (blocks_state sp (blocks old)) old (taken_range request.size (with_error r found)) count highest_most (success_path request.size (height_of old) count r found path))
+        (searches request sp old (taken_range request.size (with_error r found)) count tiles range (same_bounds b) (λ e. same_none (highest_missed search searched (blocks old) (none_highest search (blocks old) (blocks new) (subst (AllocatesHighest search (blocks old) (blocks new)) (no_place_if request.size r found e) h)))))
+      where
+        spot_of : (spot : Spot) → Rattle.vm_tree.specs.Allocation.IsHighestSpot search (blocks old) spot → IsSpotOf request search sp (blocks old) spot
+        spot_of spot s = let k = spot_highest sp (blocks old) tiles request search valid is (many_if search.can_split _ few) policy spot s in record { cut = s.cut; in_gap = k.0; only = λ t c. chosen_once request t spot.start (blocks_state sp (blocks old)) c k.1 }
+
+-- ---- The named place
+-- Is looked for if it is in the space and in the window, and its range does not pass MAX.
+looked_for : (r : Range) (n t : ℕ) → IsIn r t → t < MAX → t + n ≤ MAX + 1 → is_looked_for r n t ≡ true
+unfolding is_looked_for
+looked_for r n t i m u = rw (le-leb r.start t i.0, le-leb t r.end i.1, lt-ltb t MAX m, le-leb (t + n) (MAX + 1) u) refl
+
+not_looked_for : (r : Range) (n t : ℕ) → (IsIn r t → t < MAX → t + n ≤ MAX + 1 → ⊥) → is_looked_for r n t ≡ false
+unfolding is_looked_for
+not_looked_for r n t out = false_from_ne_true _ (λ e.
+    let p = and_parts (has_address r t) (ltb t MAX && leb (t + n) (MAX + 1)) e in
+    let q = and_parts (leb r.start t) (leb t r.end) p.0 in
+    let m = and_parts (ltb t MAX) (leb (t + n) (MAX + 1)) p.1 in
+    out (leb-true _ _ q.0, leb-true _ _ q.1) (ltb-true _ _ m.0) (leb-true _ _ m.1))
+
+-- The addresses of the window in the space.
+seen_space : (w : Option Range) (sp : Range) (t : ℕ) → IsIn (part_in w sp) t → IsIn (common (window_in w sp) sp) t
+seen_space None sp t i = (omega (arith, i.0), omega (arith, i.1))
+seen_space (Some w) sp t i = i
+
+space_seen : (w : Option Range) (sp : Range) (t : ℕ) → IsIn (common (window_in w sp) sp) t → IsIn (part_in w sp) t
+space_seen None sp t i = (omega (arith, i.0), omega (arith, i.1))
+space_seen (Some w) sp t i = i
+
+module _ (sp : Range) (old : Shape) (request : Request) (search : Search) (t : ℕ) (valid : IsRequest request) (is : IsSearchOf request sp search) (policy : request.policy ≡ ExactMatch t) where
+  abbrev seen : Range
+  seen = common (window_of search) sp
+
+  as_seen : IsIn seen t → IsIn (part_in request.window sp) t
+  as_seen i = space_seen request.window sp t (subst (λ (w : Range). IsIn (common w sp) t) is.window i)
+
+  not_seen : (IsIn seen t → ⊥) → IsIn (part_in request.window sp) t → ⊥
+  not_seen out i = out (subst (λ (w : Range). IsIn (common w sp) t) (sym is.window) (seen_space request.window sp t i))
+
+  none_entered : (IsIn seen t → t < MAX → t + search.size ≤ MAX + 1 → ⊥) → 0 ≡ nodes_of_request request sp old
+  unfolding nodes_of_request
+  none_entered out = rw (policy, ← is.window, ← is.size, not_looked_for seen search.size t out) refl
+
+  some_entered : (count : ℕ) → IsIn seen t → t < MAX → t + search.size ≤ MAX + 1 → count ≡ nodes_to_address t old → count ≡ nodes_of_request request sp old
+  unfolding nodes_of_request
+  some_entered count i m u e = rw (policy, ← is.window, ← is.size, looked_for seen search.size t i m u) e
+
+  chosen_is : (s : ℕ) → IsChosen request (blocks_state sp (blocks old)) s → s ≡ t
+  unfolding IsChosen
+  chosen_is s c = (subst (λ (v : Request). IsChosen v (blocks_state sp (blocks old)) s) (sym (with_policy request (ExactMatch t) policy)) c).0
+
+  past : MAX ≤ t + (search.size - 1) → NoneEndsBelowMax (blocks_state sp (blocks old)) request
+  unfolding NoneEndsBelowMax
+  past m s c = omega (arith, chosen_is s c, m, is.size, valid.some)
+
+  -- An error before the search.
+  refused : (can_split : Bool) (e : Error) → Grants (blocks_state sp (blocks old)) request (Err e) (blocks_state sp (blocks old)) → SplitsIfFew (blocks_state sp (blocks old)) request (Err e) → 0 ≡ nodes_of_request request sp old → IsAllocation request sp can_split old old (Err e) 0
+  refused can_split e g f c = record {
+    granted = g;
+    taken = tt;
+    unchanged = refl;
+    few = f;
+    exact = c;
+    steps = record { most = omega arith; success = λ o. absurd (cc o); path = λ o. absurd (cc o) };
+    search = exact_searches request t (height_of old) (blocks_state sp (blocks old)) (Err e) 0 policy;
+  }
+
+  overflow_few : MAX ≤ t + (search.size - 1) → SplitsIfFew (blocks_state sp (blocks old)) request (Err Overflow)
+  overflow_few m = record { split = tt; memory = λ k. absurd (cc k); high = λ v k. inr (past m) }
+
+  other_few : SplitsIfFew (blocks_state sp (blocks old)) request (Err ResourceNotAvailable)
+  other_few = record { split = tt; memory = λ k. absurd (cc k); high = λ v k. absurd (cc k) }
+
+  by_start : (e : Error) → Grants (blocks_state sp (blocks old)) (request_in request.window request.size request.align (ExactMatch t)) (Err e) (blocks_state sp (blocks old)) → Grants (blocks_state sp (blocks old)) request (Err e) (blocks_state sp (blocks old))
+  by_start e g = subst (λ (v : Request). Grants (blocks_state sp (blocks old)) v (Err e) (blocks_state sp (blocks old))) (with_policy request (ExactMatch t) policy) g
+
+  at_max_grants : t ≡ MAX → Grants (blocks_state sp (blocks old)) (request_in request.window request.size request.align (ExactMatch t)) (Err Overflow) (blocks_state sp (blocks old))
+  unfolding Grants ByExactPolicy ByStart
+  at_max_grants e = inl (e, (refl, refl))
+
+  outside_grants : t < MAX → (IsIn (part_in request.window sp) t → ⊥) → Grants (blocks_state sp (blocks old)) (request_in request.window request.size request.align (ExactMatch t)) (Err ResourceNotAvailable) (blocks_state sp (blocks old))
+  unfolding Grants ByExactPolicy ByStart
+  outside_grants m out = inr (λ e. omega arith, inl (out, (refl, refl)))
+
+  over_grants : t < MAX → IsIn (part_in request.window sp) t → MAX < t + request.size - 1 → Grants (blocks_state sp (blocks old)) (request_in request.window request.size request.align (ExactMatch t)) (Err Overflow) (blocks_state sp (blocks old))
+  unfolding Grants ByExactPolicy ByStart
+  over_grants m i o = inr (λ e. omega arith, inr (i, inl (o, (refl, refl))))
+
+  pub exact_at_max : (can_split : Bool) → t ≡ MAX → IsAllocation request sp can_split old old (Err Overflow) 0
+  exact_at_max can_split e = refused can_split Overflow (by_start Overflow (at_max_grants e)) (overflow_few (omega arith)) (none_entered (λ i m u. omega (arith, e, m)))
+
+  pub exact_outside : (can_split : Bool) → t < MAX → (IsIn seen t → ⊥) → IsAllocation request sp can_split old old (Err ResourceNotAvailable) 0
+  exact_outside can_split m out = refused can_split ResourceNotAvailable (by_start ResourceNotAvailable (outside_grants m (not_seen out))) other_few (none_entered (λ i m u. out i))
+
+  pub exact_over : (can_split : Bool) → t < MAX → IsIn seen t → MAX < t + (search.size - 1) → IsAllocation request sp can_split old old (Err Overflow) 0
+  exact_over can_split m i o = refused can_split Overflow (by_start Overflow (over_grants m (as_seen i) (omega (arith, o, is.size, valid.some)))) (overflow_few (omega arith)) (none_entered (λ i m u. omega (arith, u, o)))
+
+module _ (sp : Range) (old new : Shape) (tiles : TilesSpace sp (blocks old)) (request : Request) (search : Search) (t : ℕ) (valid : IsRequest request) (is : IsSearchOf request sp search) (policy : request.policy ≡ ExactMatch t) (few : IsTestOf search.can_split (length (held_of (blocks old)) < SPLIT_LIMIT_MIN_HELD))
+    (found : Result Taken Refusal) (u : OnErr found (new ≡ old)) (count : ℕ) (h : AllocatesExact search t (blocks old) (blocks new) found) (m : t < MAX) (i : IsIn (common (window_of search) sp) t) (upto : t + search.size ≤ MAX + 1) where
+  abbrev range : Range
+  range = span t search.size
+
+  free_is : h.block.state ≡ Free → h.block ≡ free_block h.block.key
+  free_is e = same_block h.block (free_block h.block.key) refl e
+
+  spot_at : h.block.state ≡ Free → range.end ≤ h.block.key.end → IsSpotOf request search sp (blocks old) (record { lower = h.lower; key = h.block.key; upper = h.upper; start = t })
+  spot_at e l = record {
+    cut = h.at.cut ∙ ap (λ (v : Block). h.lower ++ v ∷ h.upper) (free_is e);
+    in_gap = (h.at.inside.0, omega (arith, l, valid.some, is.size));
+    only = chosen_is sp old request search t valid is policy;
+  }
+
+  abbrev Facts : Type 0
+  Facts = (IfOk (with_error range found) (λ taken. Takes search.can_split request.size (blocks old) (blocks new) taken)) × SplitsIfFew (blocks_state sp (blocks old)) request (taken_range request.size (with_error range found))
+
+  other_facts : (e : Refusal) → found ≡ Err e → error_of range e ≢ OutOfMemory → error_of range e ≢ Overflow → Facts
+  other_facts e is_e n o = rw is_e (tt, record { split = tt; memory = λ k. absurd (n (cc k)); high = λ v k. absurd (o (cc k)) })
+
+  facts_by : (s : NodeState) → s ≡ h.block.state → SettlesIn search t h.lower s h.block.key h.upper (blocks new) found → Facts
+  facts_by Allocated e k = ⊎_elim (λ l. other_facts Held l.1 (λ x. cc x) (λ x. cc x)) (λ l. other_facts NoPlace l.1 (λ x. cc x) (λ x. cc x)) k
+  facts_by Free e k =
+      ⊎_elim
+      (λ l. other_facts NoPlace l.1 (λ x. cc x) (λ x. cc x))
+      (λ l.
+      let fits : range.end ≤ h.block.key.end = ⊎_elim (λ (x : h.block.key.end < range.end). absurd (l.0 (inl x))) (λ (x : range.end ≤ h.block.key.end). x) (cases_lt h.block.key.end range.end) in
+      let spot = spot_at (sym e) fits in (
+        settled_takes sp (blocks old) (blocks new) tiles request search valid is few range (record { lower = h.lower; key = h.block.key; upper = h.upper; start = t }) found spot l.1,
+        settled_few sp (blocks old) (blocks new) tiles request search valid is few range (record { lower = h.lower; key = h.block.key; upper = h.upper; start = t }) found spot l.1,
+      ))
+      k
+
+  facts : Facts
+  facts = facts_by h.block.state refl h.settles
+
+  pub exact_allocation : count ≡ nodes_to_address t old → IsPathLength old count → IsAllocation request sp search.can_split old new (with_error range found) count
+  exact_allocation exact path = record {
+    granted = subst (λ (n : ℕ). Grants (blocks_state sp (blocks old)) request (taken_range n (with_error range found)) (blocks_state sp (blocks new))) is.size
+        (exact_grants sp (blocks old) tiles request search valid is (many_if search.can_split _ few) t policy m (omega arith) (omega (arith, i.0), omega (arith, i.1)) (blocks new) found (blocks_unchanged old new found u) h);
+    taken = facts.0;
+    unchanged = unchanged_if range old new found u;
+    few = facts.1;
+    exact = some_entered sp old request search t valid is policy count i m upto exact;
+    steps = steps_of request (blocks_state sp (blocks old)) old (taken_range request.size (with_error range found)) count (rw policy path.upto) (λ o. path.least);
+    search = exact_searches request t (height_of old) (blocks_state sp (blocks old)) (taken_range request.size (with_error range found)) count policy;
+  }
+
+-- A start in the space is in the blocks.
+pub start_in : (sp : Range) (bs : List Block) (search : Search) (t : ℕ) → TilesSpace sp bs → sp.start ≤ sp.end → sp.start ≤ t → t ≤ sp.end → search.low ≤ t → t ≤ search.high → t + search.size ≤ MAX + 1 → IsStartIn search t bs
+start_in sp bs search t tiles r from upto low high fits = let e = ends sp bs tiles r in record { from = omega (arith, e.start); upto = omega (arith, e.end); low = low; high = high; fits = fits }
+
+pub ruleset allocating = (lowest_allocation, highest_allocation, low_if_few)
+
+pub ruleset allocating_exact = (exact_at_max, exact_outside, exact_over, exact_allocation, start_in, low_if_few)

@@ -1,0 +1,121 @@
+-- From the spot that a search finds to the result of a request.
+use Rattle.std.proofs.Common.{Option, Some, None, ◌≡◌, ℕ, ◌+◌, ◌<◌, ◌≤◌, List, length, false, refl, sym, ap, ◌∙◌, arith, inl, inr, ⊎_elim, subst, Result, Ok, Err, OnErr}
+use Rattle.vm_ranges.specs.Range.{Range, MAX, span}
+use Rattle.vm_ranges.specs.Request.{Request, IsRequest}
+use Rattle.vm_ranges.proofs.RangeCalls.{same_range}
+use Rattle.vm_ranges.specs.declared.error.Error.{Error}
+use Rattle.vm_ranges.specs.declared.error.Error.TheVariants.{Overflow, OutOfMemory}
+use Rattle.vm_ranges.specs.declared.constraint.AllocPolicy.TheVariants.{FirstMatch, LastMatch}
+use Rattle.vm_leaf.specs.declared.block.Block.{Block}
+use Rattle.vm_leaf.specs.Block.{free_block}
+use Rattle.vm_leaf.specs.Blocks.{IsTakenFrom}
+use Rattle.vm_leaf.specs.Fit.{IsFit, IsLowestFit, IsHighestFit}
+use Rattle.vm_leaf.specs.Windows.{common, cut_to}
+use Rattle.vm_engine.specs.Address.{AddressState, SplitsGap, holding}
+use Rattle.vm_engine.specs.Answer.{SPLIT_LIMIT_MIN_HELD, IsChosen, AllocatesAt, Grants}
+use Rattle.vm_engine.specs.Windows.{within, window_in}
+use Rattle.vm_engine.specs.Tree.Blocks.{held_of, blocks_state, TilesSpace}
+use Rattle.vm_engine.specs.Tree.BlockEdits.{NeedsSplit}
+use Rattle.vm_tree.specs.Allocation.{Spot, IsSpotIn, IsLowestSpot, IsHighestSpot, range_at, window_of, HasNoPlace, SettlesAt, IsTakenAt, IsSplitAt, AllocatesLowest, AllocatesHighest}
+use Rattle.vm_tree.specs.declared.search.Search.{Search}
+use Rattle.vm_tree.specs.declared.search.Taken.{Taken}
+use Rattle.vm_tree.specs.declared.search.Refusal.{Refusal}
+use Rattle.vm_tree.specs.declared.search.Refusal.TheVariants.{NoPlace, Held, PastMax, TooHigh, OutOfMemory as NoMemory}
+use Rattle.vm_engine.proofs.Splitting.TakenRanges.{blocks_split, leaves_clear, as_blocks}
+use Rattle.vm_engine.proofs.Choosing.WindowPlaces.{lowest_place_in, highest_place_in, no_place_in}
+use Rattle.vm_engine.proofs.Choosing.Searched.{IsNotExact, none_grants, chosen_grants, over_grants, lowest_chosen, highest_chosen}
+use Rattle.vm_engine.specs.Engine.Allocation.{with_error, taken_range, IsSearchOf}
+
+-- ---- A range at a spot of a space
+module _ (sp : Range) (old : List Block) (tiles : TilesSpace sp old) (search : Search) (z : 0 < search.size) (spot : Spot) (cut : IsSpotIn old spot) (in_gap : (spot.key.start ≤ spot.start) × (spot.start + search.size ≤ spot.key.end + 1)) where
+  pub taken_from : IsTakenFrom spot.key (range_at search spot)
+  taken_from = record { from = in_gap.0; some = omega arith; upto = omega (arith, in_gap.1) }
+
+  pub taken_state : (new : List Block) (taken : Taken) → IsTakenAt search spot new taken → blocks_state sp new ≡ holding (range_at search spot) (blocks_state sp old)
+  taken_state new taken h =
+      let k = blocks_split (blocks_state sp old) old spot.lower spot.upper (free_block spot.key) (range_at search spot) (as_blocks sp old tiles) cut refl taken_from in
+      ap (λ (v : List Range). record { space = sp; held = v }) (ap held_of h.blocks ∙ k.held)
+
+  pub allocated : (new : List Block) (taken : Taken) → IsTakenAt search spot new taken → AllocatesAt (blocks_state sp old) (range_at search spot) (Ok (span taken.start search.size)) (blocks_state sp new)
+  unfolding AllocatesAt
+  allocated new taken h = inl (ap (λ (s : ℕ). Ok (span s search.size)) h.start, taken_state new taken h)
+
+  splits : NeedsSplit spot.key (range_at search spot) → SplitsGap (blocks_state sp old) (range_at search spot)
+  splits n = leaves_clear sp old spot.lower spot.upper (free_block spot.key) (range_at search spot) tiles cut refl taken_from n
+
+  pub no_memory : IsSplitAt search spot → AllocatesAt (blocks_state sp old) (range_at search spot) (Err OutOfMemory) (blocks_state sp old)
+  unfolding AllocatesAt
+  no_memory h = inr (splits h.splits, refl, inl refl)
+
+  pub too_high : IsSplitAt search spot → SPLIT_LIMIT_MIN_HELD ≤ length (held_of old) → AllocatesAt (blocks_state sp old) (range_at search spot) (Err Overflow) (blocks_state sp old)
+  unfolding AllocatesAt
+  too_high h many = inr (splits h.splits, refl, inr (many, refl))
+
+  -- The result at the spot, if it is the chosen place of the request.
+  module _ (request : Request) (same : request.size ≡ search.size) (policy : IsNotExact request.policy) (chosen : IsChosen request (blocks_state sp old) spot.start) (many : search.can_split ≡ false → SPLIT_LIMIT_MIN_HELD ≤ length (held_of old)) where
+    at_range : (answer : Result Range Error) (new : AddressState) → (range_at search spot).end < MAX → AllocatesAt (blocks_state sp old) (range_at search spot) answer new → Grants (blocks_state sp old) request answer new
+    at_range answer new below h =
+        chosen_grants request (blocks_state sp old) policy spot.start new answer chosen (omega (arith, same))
+        (subst (λ (n : ℕ). AllocatesAt (blocks_state sp old) (span spot.start n) answer new) (sym same) h)
+
+    pub settled : (r : Range) (new : List Block) (answer : Result Taken Refusal) → OnErr answer (new ≡ old) → SettlesAt search spot new answer → Grants (blocks_state sp old) request (taken_range search.size (with_error r answer)) (blocks_state sp new)
+    settled r new (Ok taken) u h = at_range (Ok (span taken.start search.size)) (blocks_state sp new) h.below (allocated new taken h)
+    settled r new (Err NoPlace) u h = absurd h
+    settled r new (Err Held) u h = absurd h
+    settled r new (Err PastMax) u h = rw u (over_grants request (blocks_state sp old) policy spot.start chosen (omega (arith, same, h)))
+    settled r new (Err NoMemory) u h = rw u (at_range (Err OutOfMemory) (blocks_state sp old) h.0.below (no_memory h.0))
+    settled r new (Err TooHigh) u h = rw u (at_range (Err Overflow) (blocks_state sp old) h.0.below (too_high h.0 (many h.1)))
+
+-- ---- The window of a search is that of its request
+seen_by : (w : Option Range) (sp : Range) (held : List Range) (search : Search) → window_of search ≡ window_in w sp
+    → within (Some (window_of search)) (record { space = sp; held = held }) ≡ within w (record { space = sp; held = held })
+seen_by None sp held search h = ap (λ (v : Range). record { space = common v sp; held = held }) h ∙ ap (λ (r : Range). record { space = r; held = held }) (same_range (common sp sp) sp (omega arith) (omega arith))
+seen_by (Some w) sp held search h = ap (λ (v : Range). record { space = common v sp; held = held }) h
+
+-- ---- The result of a search
+module _ (sp : Range) (old : List Block) (tiles : TilesSpace sp old) (request : Request) (search : Search) (valid : IsRequest request) (is : IsSearchOf request sp search)
+    (many : search.can_split ≡ false → SPLIT_LIMIT_MIN_HELD ≤ length (held_of old)) where
+  some : 0 < search.size
+  some = omega (arith, valid.some, is.size)
+
+  seen : within (Some (window_of search)) (blocks_state sp old) ≡ within request.window (blocks_state sp old)
+  seen = seen_by request.window sp (held_of old) search is.window
+
+  none_granted : (r : Range) (new : List Block) (answer : Result Taken Refusal) → IsNotExact request.policy → OnErr answer (new ≡ old) → HasNoPlace search old → answer ≡ Err NoPlace → Grants (blocks_state sp old) request (taken_range search.size (with_error r answer)) (blocks_state sp new)
+  none_granted r new answer policy u none e =
+      let u2 : new ≡ old = subst (λ (v : Result Taken Refusal). OnErr v (new ≡ old)) e u in
+      let p = no_place_in (window_of search) search.size search.alignment (blocks_state sp old) old (as_blocks sp old tiles) some none in
+      rw (e, u2) (none_grants request (blocks_state sp old) policy (rw (← seen, ← is.size, ← is.align) p))
+
+  fit_in_gap : (spot : Spot) → IsFit search.size search.alignment (cut_to (window_of search) (free_block spot.key)) spot.start → (spot.key.start ≤ spot.start) × (spot.start + search.size ≤ spot.key.end + 1)
+  fit_in_gap spot f = (omega (arith, f.2), omega (arith, f.3))
+
+  pub spot_lowest : request.policy ≡ FirstMatch → (spot : Spot) → IsLowestSpot search old spot → ((spot.key.start ≤ spot.start) × (spot.start + search.size ≤ spot.key.end + 1)) × IsChosen request (blocks_state sp old) spot.start
+  unfolding IsLowestFit
+  spot_lowest policy spot s =
+      let l = lowest_place_in (window_of search) search.size search.alignment (blocks_state sp old) old (as_blocks sp old tiles) some spot.lower spot.upper (free_block spot.key) spot.start s.cut s.none s.fit in
+      (fit_in_gap spot s.fit.0, lowest_chosen request spot.start (blocks_state sp old) policy (rw (← seen, ← is.size, ← is.align) l))
+
+  pub spot_highest : request.policy ≡ LastMatch → (spot : Spot) → IsHighestSpot search old spot → ((spot.key.start ≤ spot.start) × (spot.start + search.size ≤ spot.key.end + 1)) × IsChosen request (blocks_state sp old) spot.start
+  unfolding IsHighestFit
+  spot_highest policy spot s =
+      let l = highest_place_in (window_of search) search.size search.alignment (blocks_state sp old) old (as_blocks sp old tiles) some spot.lower spot.upper (free_block spot.key) spot.start s.cut s.none s.fit in
+      (fit_in_gap spot s.fit.0, highest_chosen request spot.start (blocks_state sp old) policy (rw (← seen, ← is.size, ← is.align) l))
+
+  pub lowest_grants : (r : Range) (new : List Block) (answer : Result Taken Refusal) → request.policy ≡ FirstMatch → OnErr answer (new ≡ old) → AllocatesLowest search old new answer → Grants (blocks_state sp old) request (taken_range search.size (with_error r answer)) (blocks_state sp new)
+  lowest_grants r new answer policy u h =
+      ⊎_elim
+      (λ n. none_granted r new answer (inl policy) u n.0 n.1)
+      (λ s.
+      let k = spot_lowest policy s.0 s.1 in
+      settled sp old tiles search some s.0 s.1.cut k.0 request (sym is.size) (inl policy) k.1 many r new answer u s.2)
+      h
+
+  pub highest_grants : (r : Range) (new : List Block) (answer : Result Taken Refusal) → request.policy ≡ LastMatch → OnErr answer (new ≡ old) → AllocatesHighest search old new answer → Grants (blocks_state sp old) request (taken_range search.size (with_error r answer)) (blocks_state sp new)
+  highest_grants r new answer policy u h =
+      ⊎_elim
+      (λ n. none_granted r new answer (inr policy) u n.0 n.1)
+      (λ s.
+      let k = spot_highest policy s.0 s.1 in
+      settled sp old tiles search some s.0 s.1.cut k.0 request (sym is.size) (inr policy) k.1 many r new answer u s.2)
+      h

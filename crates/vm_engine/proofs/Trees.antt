@@ -1,0 +1,4 @@
+pub mod CountedTrees
+pub mod Ends
+pub mod Freeing
+pub mod Spaces

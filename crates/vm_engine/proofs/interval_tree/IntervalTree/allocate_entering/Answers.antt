@@ -1,0 +1,59 @@
+use Rattle.std.proofs.Common.{rules, ◌≡◌, ℕ, ◌+◌, ◌-◌, Ok, Err, arith, ap, ◌∙◌}
+use Rattle.vm_ranges.specs.Range.{span}
+use Rattle.vm_engine.proofs.Placing.Counted.{refused_state, search_tree, taken_new, taken_gaps, taken_clear, granted_state, granted_tree, range_is}
+use Rattle.vm_engine.proofs.Trees.CountedTrees.{held_fits}
+use Rattle.vm_engine.proofs.interval_tree.IntervalTree.allocate_entering.Goals as goal
+
+pub returns-in_err-taken-clause-state : goal.returns-in_err-taken-clause-state
+returns-in_err-taken-clause-state c =
+    refused_state c.self.inside.tree c.allocate_in.new.tree c.self.inside.space c.self.inside.held_count c.self.inside.gap_count c.self.inside.free_len c.args.constraint c.allocate_in.new.count c.self.invariant c.in_err-taken.field-0.0 c.in_err-taken.ensures.answer
+
+pub overflow_add-self : goal.overflow_add-self
+overflow_add-self c = omega (arith, held_fits c.self.inside.tree c.self.inside.space c.self.inside.held_count c.self.inside.gap_count c.self.inside.free_len c.self.invariant)
+
+pub overflow_add-self-2 : goal.overflow_add-self-2
+overflow_add-self-2 c =
+    let valid = c.in_ok-taken.ensures.valid in
+    let k = taken_gaps c.self.inside.tree c.allocate_in.new.tree c.self.inside.space c.self.inside.held_count c.self.inside.gap_count c.self.inside.free_len c.args.constraint c.allocate_in.new.count c.self.invariant c.in_ok-taken.taken valid.some c.in_ok-taken.ensures.answer c.from.result c.from.ensures in
+    omega (arith, k.1)
+
+pub overflow_sub-self : goal.overflow_sub-self
+overflow_sub-self c =
+    let valid = c.in_ok-taken.ensures.valid in
+    (taken_gaps c.self.inside.tree c.allocate_in.new.tree c.self.inside.space c.self.inside.held_count c.self.inside.gap_count c.self.inside.free_len c.args.constraint c.allocate_in.new.count c.self.invariant c.in_ok-taken.taken valid.some c.in_ok-taken.ensures.answer c.from.result c.from.ensures).0
+
+pub overflow_sub-self-2 : goal.overflow_sub-self-2
+overflow_sub-self-2 c =
+    let valid = c.in_ok-taken.ensures.valid in
+    taken_clear c.self.inside.tree c.allocate_in.new.tree c.self.inside.space c.self.inside.held_count c.self.inside.gap_count c.self.inside.free_len c.args.constraint c.allocate_in.new.count c.self.invariant c.in_ok-taken.taken valid.some c.in_ok-taken.ensures.answer c.size.result c.size.ensures.value
+
+pub invariant_of-self-2 : goal.invariant_of-self-2
+invariant_of-self-2 c =
+    let valid = c.in_ok-taken.ensures.valid in
+    taken_new c.self.inside.tree c.allocate_in.new.tree c.self.inside.space c.self.inside.held_count c.self.inside.gap_count c.self.inside.free_len c.args.constraint c.allocate_in.new.count c.self.invariant c.in_ok-taken.taken valid.some c.in_ok-taken.ensures.answer c.from.result c.size.result c.from.ensures c.size.ensures.value
+
+-- The range that is returned.
+range : (c : goal.After-valid_range) → c.valid_range.result ≡ span c.in_ok-taken.taken.start c.args.constraint.size
+range c =
+    let valid = c.in_ok-taken.ensures.valid in
+    c.valid_range.ensures ∙ ap (λ (n : ℕ). record { start = c.in_ok-taken.taken.start; end = c.in_ok-taken.taken.start + (n - 1) }) c.size-2.ensures.value
+    ∙ range_is c.in_ok-taken.taken.start c.args.constraint.size valid.some
+
+pub returns-clause-answer : goal.returns-clause-answer
+returns-clause-answer c =
+    let valid = c.in_ok-taken.ensures.valid in
+    rw (← c.self.view_is, range c) (granted_tree c.self.inside.tree c.allocate_in.new.tree c.self.inside.space c.self.inside.held_count c.self.inside.gap_count c.self.inside.free_len c.args.constraint c.allocate_in.new.count c.self.invariant c.in_ok-taken.taken valid.some c.in_ok-taken.ensures.answer)
+
+pub returns-clause-search : goal.returns-clause-search
+returns-clause-search c =
+    rw (← c.self.view_is, range c) (search_tree c.self.inside.tree c.allocate_in.new.tree c.self.inside.space c.self.inside.held_count c.self.inside.gap_count c.self.inside.free_len c.args.constraint c.allocate_in.new.count c.self.invariant (Ok c.in_ok-taken.taken) c.in_ok-taken.ensures.answer)
+
+pub returns-clause-state : goal.returns-clause-state
+returns-clause-state c =
+    let valid = c.in_ok-taken.ensures.valid in
+    granted_state c.self.inside.tree c.allocate_in.new.tree c.self.inside.space c.self.inside.held_count c.self.inside.gap_count c.self.inside.free_len c.args.constraint c.allocate_in.new.count c.self.invariant c.in_ok-taken.taken valid.some c.in_ok-taken.ensures.answer
+
+pub returns-in_err-taken-clause-search : goal.returns-in_err-taken-clause-search
+returns-in_err-taken-clause-search c =
+    let is : c.from_residual.result ≡ Err c.in_err-taken.field-0.0 = search rules in
+    rw (← c.self.view_is, is) (search_tree c.self.inside.tree c.allocate_in.new.tree c.self.inside.space c.self.inside.held_count c.self.inside.gap_count c.self.inside.free_len c.args.constraint c.allocate_in.new.count c.self.invariant (Err c.in_err-taken.field-0.0) c.in_err-taken.ensures.answer)

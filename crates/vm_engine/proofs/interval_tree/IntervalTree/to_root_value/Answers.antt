@@ -1,0 +1,9 @@
+use Rattle.std.proofs.Common.{◌≡◌, ◌∙◌}
+use Rattle.vm_tree.specs.Shape.{blocks}
+use Rattle.vm_engine.proofs.SavedNodes.ValueLaws.{value_written}
+use Rattle.vm_engine.proofs.interval_tree.IntervalTree.to_root_value.Goals as goal
+
+pub returns : goal.returns
+returns c =
+    let listed : c.tree.result.blocks.now ≡ blocks c.args.self.now = c.tree.ensures ∙ c.in_ok-written.ensures in
+    value_written c.args.self.now c.encode.result (rw (← c.self.view_is) c.self.invariant.tree) (rw (← listed) c.encode.ensures)
