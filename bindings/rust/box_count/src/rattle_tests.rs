@@ -185,7 +185,7 @@ fn memory_of_sets() {
         let ((_, bytes), requests) = refusing(0, || peak_of(fill));
         assert!(requests as i64 <= blocks() - before + 16);
         let copied = peak_of(|| set.clone().map(drop)).1 as i64;
-        assert_eq!(copied, (blocks() - before - 2) * (1024 + 24 + 4) - 4);
+        assert_eq!(copied, (blocks() - before - 2) * (1024 + 24 + 4) - 24 - 4);
         let most_bytes = most * set.len();
         assert!(bytes <= most_bytes, "{bytes} bytes instead of {most_bytes}");
         for value in (1..2 * VALUES as u32).step_by(101) {

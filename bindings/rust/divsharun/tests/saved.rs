@@ -706,11 +706,11 @@ fn lists_are_refused_at_their_first_fault() {
     assert!(packed::from_bytes::<IdAllocator>(counted(bytes, &asked)).is_err());
     assert_eq!(asked.get(), 21 + 8);
 
-    // The announced length allocates nothing. The first ids need a block of 1 KiB.
+    // The announced length allocates nothing. The first ids need a small block.
     asked.set(0);
     let bytes = counted(ids_freed(u64::MAX, 0..3), &asked);
     let (read, most) = peak_of(|| packed::from_bytes::<IdAllocator>(bytes).map(drop));
-    assert!(read.is_err() && most < 1200, "{most}");
+    assert!(read.is_err() && most < 200, "{most}");
     assert_eq!(asked.get(), 21 + 12);
 }
 

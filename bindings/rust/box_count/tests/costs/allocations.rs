@@ -187,7 +187,7 @@ const LINES: [(&str, &str, u64); 12] = [
     ("", "ids 0 9", 0),
     ("ids 0 9", "id", 0),
     ("ids 0 9\nid", "has 0", 0),
-    ("ids 0 9\nid", "unid 0", 2),
+    ("ids 0 9\nid", "unid 0", 1),
     ("", "manager 0 9 0 64", 1),
     ("manager 0 0 0 8\ndevice 8 1\nundevice 0", "device 8 1", 0),
 ];

@@ -1,8 +1,8 @@
 //! An ordered set and an ordered map that report a failed allocation. Those of Rust end the process.
 //!
-//! The entries are in chunks of 1 KiB, and the chunks in a list. A look-up finds the chunk in
-//! a list of bounds, and then the entry in the chunk, so it takes logarithmic time. A change also moves
-//! at most 1 KiB, and a few changes in a hundred create or remove a chunk.
+//! The entries are in chunks of 1 KiB. A look-up finds the chunk in a list of bounds, and then the entry
+//! in the chunk, so it takes logarithmic time. A change also moves at most 1 KiB, and a few changes in a
+//! hundred create or remove a chunk. The first chunk begins smaller.
 //!
 //! Keys descend along a chunk and from chunk to chunk. So the lowest key is at an end, and removing it
 //! moves nothing.
@@ -24,17 +24,22 @@ const fn max_entries<E>() -> usize {
     }
 }
 
+/// The number of entries for which the first chunk begins with memory.
+const FIRST_ENTRIES: usize = 16;
+
 /// An ordered map.
 pub struct BTreeMap<K, V> {
-    // Each has capacity for `MAX_ENTRIES`. If there are several chunks, none of them is empty.
-    chunks: Vec<Vec<(K, V)>>,
+    // The chunk with the lowest keys. Only an empty map has an empty chunk.
+    lowest: Vec<(K, V)>,
+    // The other chunks. If there are any, each chunk has capacity for `MAX_ENTRIES`.
+    upper: Vec<Vec<(K, V)>>,
     // A bound for each chunk but the first: no key of the chunk is greater, and all keys of the chunk
     // before it are greater.
     bounds: Vec<K>,
     len: usize,
 }
 
-/// The place of a key: the index of its chunk, and its index there.
+/// The place of a key: the index of its chunk, and its index there. The last chunk is `lowest`.
 #[derive(Clone, Copy)]
 struct Place {
     chunk: usize,
@@ -48,7 +53,8 @@ impl<K: Ord + Copy, V> BTreeMap<K, V> {
     #[must_use]
     pub fn new(_alloc: Global) -> Self {
         BTreeMap {
-            chunks: Vec::new(),
+            lowest: Vec::new(),
+            upper: Vec::new(),
             bounds: Vec::new(),
             len: 0,
         }
@@ -61,36 +67,36 @@ impl<K: Ord + Copy, V> BTreeMap<K, V> {
         V: Copy,
     {
         let mut copy = BTreeMap::new(Global);
-        reserve(&mut copy.chunks, self.chunks.len())?;
+        reserve(&mut copy.upper, self.upper.len())?;
         reserve(&mut copy.bounds, self.bounds.len())?;
-        for chunk in &self.chunks {
-            let mut entries = Vec::new();
-            reserve(&mut entries, Self::MAX_ENTRIES)?;
-            entries.extend_from_slice(chunk);
-            copy.chunks.push(entries);
+        copy.lowest = copy_of(&self.lowest)?;
+        for chunk in &self.upper {
+            copy.upper.push(copy_of(chunk)?);
         }
         copy.bounds.extend_from_slice(&self.bounds);
         copy.len = self.len;
         Ok(copy)
     }
 
+    fn chunk(&self, at: usize) -> &Vec<(K, V)> {
+        self.upper.get(at).unwrap_or(&self.lowest)
+    }
+
+    fn chunk_mut(&mut self, at: usize) -> &mut Vec<(K, V)> {
+        self.upper.get_mut(at).unwrap_or(&mut self.lowest)
+    }
+
     /// Returns the place of a key, or the place where it would be inserted.
     fn place_of(&self, key: &K) -> Result<Place, Place> {
         let at = self.bounds.partition_point(|bound| bound >= key);
-        let Some(chunk) = self.chunks.get(at) else {
-            return Err(Place {
-                chunk: at,
-                entry: 0,
-            });
-        };
         let in_chunk = |entry| Place { chunk: at, entry };
-        let found = chunk.binary_search_by(|entry| key.cmp(&entry.0));
+        let found = self.chunk(at).binary_search_by(|entry| key.cmp(&entry.0));
         found.map(in_chunk).map_err(in_chunk)
     }
 
     fn find(&self, key: &K) -> Option<&(K, V)> {
         let place = self.place_of(key).ok()?;
-        self.chunks.get(place.chunk)?.get(place.entry)
+        self.chunk(place.chunk).get(place.entry)
     }
 
     /// Inserts an entry, and returns the previous value of the key. Only a new key allocates. An error
@@ -98,14 +104,15 @@ impl<K: Ord + Copy, V> BTreeMap<K, V> {
     pub fn insert(&mut self, key: K, value: V) -> Result<Option<V>, AllocFailed<(K, V)>> {
         match self.place_of(&key) {
             Ok(place) => {
-                let entry = &mut self.chunks[place.chunk][place.entry];
+                let entry = &mut self.chunk_mut(place.chunk)[place.entry];
                 Ok(Some(core::mem::replace(&mut entry.1, value)))
             }
             Err(place) => {
                 let Ok(place) = self.make_room(place, key) else {
                     return Err(AllocFailed((key, value)));
                 };
-                self.chunks[place.chunk].insert(place.entry, (key, value));
+                let chunk = self.chunk_mut(place.chunk);
+                chunk.insert(place.entry, (key, value));
                 self.len += 1;
                 Ok(None)
             }
@@ -115,17 +122,20 @@ impl<K: Ord + Copy, V> BTreeMap<K, V> {
     /// Makes room for a new key at a place, and returns the place that it has then. An error changes no
     /// entry.
     fn make_room(&mut self, place: Place, key: K) -> Result<Place, AllocError> {
-        let Some(chunk) = self.chunks.get(place.chunk) else {
-            let mut chunk = Vec::new();
-            reserve(&mut chunk, Self::MAX_ENTRIES)?;
-            try_reserve(&mut self.chunks)?;
-            self.chunks.push(chunk);
-            return Ok(place);
-        };
-        if chunk.len() < Self::MAX_ENTRIES {
+        let chunk = self.chunk_mut(place.chunk);
+        let len = chunk.len();
+        if len < chunk.capacity() {
             return Ok(place);
         }
-        self.split(place, key)
+        if len == Self::MAX_ENTRIES {
+            return self.split(place, key);
+        }
+        let capacity = match len {
+            0 => FIRST_ENTRIES.min(Self::MAX_ENTRIES),
+            _ => Self::MAX_ENTRIES,
+        };
+        reserve(chunk, capacity - len)?;
+        Ok(place)
     }
 
     /// Moves a part of a full chunk to a new chunk after it, and returns the place of the new key.
@@ -135,10 +145,10 @@ impl<K: Ord + Copy, V> BTreeMap<K, V> {
     fn split(&mut self, place: Place, key: K) -> Result<Place, AllocError> {
         let mut lower = Vec::new();
         reserve(&mut lower, Self::MAX_ENTRIES)?;
-        try_reserve(&mut self.chunks)?;
+        try_reserve(&mut self.upper)?;
         try_reserve(&mut self.bounds)?;
-        let is_last = place.chunk + 1 == self.chunks.len();
-        let chunk = &mut self.chunks[place.chunk];
+        let is_last = place.chunk == self.upper.len();
+        let chunk = self.chunk_mut(place.chunk);
         let kept = match place {
             Place { chunk: 0, entry: 0 } => 0,
             _ if is_last && place.entry == chunk.len() => chunk.len(),
@@ -147,7 +157,8 @@ impl<K: Ord + Copy, V> BTreeMap<K, V> {
         let goes_lower = place.entry > kept || kept == chunk.len();
         lower.extend(chunk.drain(kept..));
         let bound = lower.first().map_or(key, |entry: &(K, V)| entry.0);
-        self.chunks.insert(place.chunk + 1, lower);
+        let higher = core::mem::replace(chunk, lower);
+        self.upper.insert(place.chunk, higher);
         self.bounds.insert(place.chunk, bound);
         if !goes_lower {
             return Ok(place);
@@ -161,7 +172,7 @@ impl<K: Ord + Copy, V> BTreeMap<K, V> {
     /// Removes a key, and returns its value. It does not allocate.
     pub fn remove(&mut self, key: &K) -> Option<V> {
         let place = self.place_of(key).ok()?;
-        let (_, value) = self.chunks[place.chunk].remove(place.entry);
+        let (_, value) = self.chunk_mut(place.chunk).remove(place.entry);
         self.len -= 1;
         self.join(place.chunk);
         Some(value)
@@ -170,27 +181,31 @@ impl<K: Ord + Copy, V> BTreeMap<K, V> {
     /// Joins a chunk with one next to it, if both are small or one is empty. It does not allocate,
     /// because each chunk has the capacity for it.
     fn join(&mut self, at: usize) {
-        let Some(last) = self.chunks.len().checked_sub(2) else {
+        let Some(last) = self.upper.len().checked_sub(1) else {
             return;
         };
         let at = at.min(last);
-        let (before, after) = self.chunks.split_at_mut(at + 1);
-        let (upper, lower) = (&mut before[at], &mut after[0]);
+        let (before, after) = self.upper.split_at_mut(at + 1);
+        let upper = &mut before[at];
+        let lower = after.first_mut().unwrap_or(&mut self.lowest);
         let are_small = upper.len() + lower.len() <= Self::MAX_ENTRIES / 2;
         if are_small || upper.is_empty() || lower.is_empty() {
             upper.append(lower);
-            self.chunks.remove(at + 1);
+            core::mem::swap(upper, lower);
+            self.upper.remove(at);
             self.bounds.remove(at);
         }
     }
 
     /// Removes and returns the entry with the lowest key. It does not allocate.
     fn pop_first(&mut self) -> Option<(K, V)> {
-        let chunk = self.chunks.last_mut()?;
-        let entry = chunk.pop()?;
+        let entry = self.lowest.pop()?;
         self.len -= 1;
-        if chunk.is_empty() && self.bounds.pop().is_some() {
-            self.chunks.pop();
+        if self.lowest.is_empty() {
+            if let Some(chunk) = self.upper.pop() {
+                self.lowest = chunk;
+                self.bounds.pop();
+            }
         }
         Some(entry)
     }
@@ -211,8 +226,8 @@ impl<K: Ord + Copy, V> BTreeMap<K, V> {
     #[must_use]
     pub fn iter(&self) -> btree_map::Iter<'_, K, V> {
         btree_map::Iter {
-            chunks: &self.chunks,
-            lowest: &[],
+            chunks: &self.upper,
+            lowest: &self.lowest,
             highest: &[],
         }
     }
@@ -224,19 +239,24 @@ impl<K: Ord + Copy, V> BTreeMap<K, V> {
             Err(place) => (place.chunk, place.entry),
         };
         btree_map::Iter {
-            chunks: &self.chunks[..chunk],
-            lowest: self
-                .chunks
-                .get(chunk)
-                .map_or(&[], |entries| &entries[..count]),
+            chunks: &self.upper[..chunk],
+            lowest: &self.chunk(chunk)[..count],
             highest: &[],
         }
     }
 }
 
-/// Allocates capacity for exactly this number of values in an empty list.
-fn reserve<T>(list: &mut Vec<T>, length: usize) -> Result<(), AllocError> {
-    list.try_reserve_exact(length).map_err(|_| AllocError)
+/// Returns a copy of a chunk, with the same capacity.
+fn copy_of<E: Copy>(chunk: &Vec<E>) -> Result<Vec<E>, AllocError> {
+    let mut copy = Vec::new();
+    reserve(&mut copy, chunk.capacity())?;
+    copy.extend_from_slice(chunk);
+    Ok(copy)
+}
+
+/// Allocates capacity for exactly this number of further values.
+fn reserve<T>(list: &mut Vec<T>, more: usize) -> Result<(), AllocError> {
+    list.try_reserve_exact(more).map_err(|_| AllocError)
 }
 
 /// Allocates capacity for one more value.
@@ -348,7 +368,7 @@ impl<T: Ord + Copy> BTreeSet<T> {
     /// Returns the lowest value.
     #[must_use]
     pub fn first(&self) -> Option<&T> {
-        self.0.chunks.last()?.last().map(|(value, ())| value)
+        self.0.lowest.last().map(|(value, ())| value)
     }
 
     /// Returns `true` if the set has the value.
