@@ -506,8 +506,8 @@ fn lists_have_no_spare_bytes() {
     assert!(bytes < 1024, "{bytes} bytes");
 }
 
-/// Checks the bytes of a space for each of 10^5 ranges, side by side or with a gap after each, and for each
-/// that is left after nine of ten were freed in a random order.
+/// Checks the bytes of a space for each of 10^5 ranges, side by side or with a gap after each. Then nine of
+/// ten are freed in a random order, and the bytes for each range that is left are checked.
 fn ranges_take_few_bytes() {
     const COUNT: usize = 100_000;
     for (distance, most) in [(1, 18), (2, 36)] {
