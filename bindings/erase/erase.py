@@ -43,7 +43,8 @@ FOLDERS_OF_TESTS = {
     "std::str": ("core::str", {"from_utf8"}),
 }
 LIBRARIES = {folder.split("::")[0] for folder in FOLDERS}
-# Libraries whose public functions have preconditions. Only proved modules can use their items.
+# Libraries of which only proved modules can use the items. Of the others these are the public functions with a
+# precondition.
 INNER = {"vm_leaf", "vm_tree"}
 # Names of Rattle's prelude that Rust's prelude does not have or defines differently. `rattle` has them.
 PRELUDE = {"Box", "Vec"}
@@ -54,7 +55,7 @@ ASSOCIATED = {
     "BTreeMap::new", "BTreeSet::new", "Box::new", "Ord::cmp",
     "Ordering::Equal", "Ordering::Greater", "Ordering::Less", "Value::Null", "Value::as_u64", "Value::from",
     "Value::try_from_str", "Vec::new", "Vec::with_capacity", "mem::replace", "u128::from", "u32::MAX", "u32::try_from",
-    "u64::MAX", "u64::from", "u8x16::from_slice", "u8x16::splat", "usize::from",
+    "u64::MAX", "u64::from", "u8x16::from_slice", "u8x16::splat",
 }
 # Methods of types of other crates. Each was compared with the method of Rust.
 METHODS = {
@@ -62,7 +63,7 @@ METHODS = {
     "checked_sub", "clone", "cmp", "contains", "copied", "copy_from_slice", "copy_within", "enumerate", "first", "first_chunk", "flush", "get",
     "get_mut", "ilog2", "insert", "into", "is_ascii_digit", "is_empty", "is_none", "is_null", "is_power_of_two",
     "is_some", "iter", "last", "len", "max", "min", "next", "next_back", "ok", "ok_or", "pop", "pop_first", "push", "range", "read", "remove", "rotate_left",
-    "saturating_add", "saturating_sub", "simd_eq", "split_at", "split_first", "split_last", "take", "to_bitmask", "trailing_ones", "trailing_zeros", "unwrap", "write_all",
+    "saturating_add", "saturating_sub", "simd_eq", "split_at", "split_first", "split_last", "take", "to_bitmask", "trailing_zeros", "unwrap", "write_all",
 }
 MACROS = {"json", "matches", "unreachable"}
 DERIVES = {"Clone", "Copy", "Debug", "Default", "Drop", "Eq", "Error", "Hash", "Ord", "PartialEq", "PartialOrd"}
@@ -474,8 +475,7 @@ class File(Tokens):
         if nothing and not (item.public or item.is_test or item.owner):
             return behind, False  # a law: only its clauses matter
         name = self.define(item.keyword + 1, self.crate.functions)
-        anyone = item.public and self.crate.name not in INNER or item.owner not in (None, "impl")
-        if anyone and item.keyword in self.asking and not self.of_tests:
+        if item.owner not in (None, "impl") and item.keyword in self.asking and not self.of_tests:
             self.fail(f"a 'requires' of {name!r}, which anyone may call", self.asking[item.keyword])
         if item.is_test:
             self.take_runtime(index, body)
@@ -646,8 +646,12 @@ class File(Tokens):
                 yield token.start, token.end, f"{'' if begins_path else 'in '}crate::proved::{self.crate.name}"
             elif begins_path and token.text in self.crate.stands_on:
                 yield token.start, token.start, "crate::proved::"
-            elif token.text == "pub" and self.crate.name in INNER and not self.at(index + 1, "("):
+            elif token.text == "pub" and not self.at(index + 1, "(") and self.is_inner(index):
                 yield token.start, token.end, "pub(in crate::proved)"
+
+    def is_inner(self, index):
+        """Returns `True` if only proved modules can use the item of this `pub`."""
+        return self.crate.name in INNER or index + 1 in self.asking or index + 2 in self.asking
 
     def outer_cuts(self):
         """Returns the cuts that are not inside another one."""

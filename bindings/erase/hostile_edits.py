@@ -16,7 +16,7 @@ import erase
 sys.path.append(os.path.join(os.path.dirname(os.path.abspath(__file__)), "..", "..", "tests"))
 import mutants  # noqa: E402
 
-RANGE, CONSTRAINT = "vm_ranges/src/range.rt", "vm_ranges/src/constraint.rt"
+RANGE = "vm_ranges/src/range.rt"
 CLAUSE, BODY = "ensures { result ≡ address_count self.now }", "        1 + (self.end - self.start)"
 IMPL, IMPORT, HEAD = "impl RangeInclusive {", "use std::cmp::Ordering;", "`cmp` names it: by start, then by end."
 # A description of the edit, its file, the old text, the new text, and a part of the reason.
@@ -58,7 +58,6 @@ EDITS = [
     ("an import of all names", RANGE, IMPORT, f"{IMPORT}\nuse super::*;", "a definition of '*'"),
     ("a call of a law", RANGE, BODY, f"        law();\n{BODY}\n    }}\n}}\nfn law() {{}}\nimpl RangeInclusive {{\n    fn f() {{",
      "a function 'law'"),
-    ("a public requires", CONSTRAINT, "const fn is_start_aligned(", "pub const fn is_start_aligned(", "a 'requires' of 'is_start_aligned'"),
     ("a public field", RANGE, "    start: u64,\n    end", "    pub start: u64,\n    end", "a public field of 'RangeInclusive'"),
 ]
 

@@ -34,7 +34,8 @@ ADDED = re.compile(
     r"|impl core::fmt::Display for \w+ \{\s+fn fmt\(&self, f: &mut core::fmt::Formatter<'_>\) -> core::fmt::Result \{\s+"
     r"match self \{\s+(?:\w+::\w+(?:\(field_0(?:, field_1)?\))? => write!\(f, \".*\"\),\s+)+\}\s+\}\s+\}\s+"
     r"impl core::error::Error for \w+ \{\}")
-# Crates whose items only proved modules can use.
+# Crates of which only proved modules can use the items. Of the others these are the public functions with a
+# precondition.
 INNER = {"vm_leaf", "vm_tree"}
 # Imports that only the first eraser writes.
 PRELUDE = {"crate::rattle::Box", "crate::rattle::Vec"}
@@ -124,6 +125,7 @@ def compare(source, plain, crate):
         text = re.sub(old, new.replace("NAME", crate), text)
     if crate in INNER:
         text = re.sub(r"\bpub (?!\()", "pub(in crate::proved) ", text)
+    text = re.sub(r"\bpub (?=(?:const )?fn \w+[^{}]*\brequires\b)", "pub(in crate::proved) ", text)
     want, wanted = parted(tokens_of(text), is_of_values)
     have, named = parted(tokens_of(ADDED.sub("", plain.read_text(encoding="utf-8"))))
     if want == have and named <= wanted | PRELUDE:

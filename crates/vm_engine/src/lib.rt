@@ -10,7 +10,6 @@
 
 mod interval_tree;
 mod laws;
-mod ordering;
 mod saved;
 
 pub use interval_tree::IntervalTree;

@@ -1,34 +1,13 @@
 -- The next gap above an index and below it, by the bits of the mask.
-use Rattle.std.proofs.Common.{◌≡◌, ℕ, ◌+◌, ◌-◌, ◌*◌, ◌/◌, ◌%◌, ◌^◌, ◌<◌, ◌≤◌, w64, refl, ap, ◌∙◌, sym, arith, add-one, pow_mono, inl, inr}
+use Rattle.std.proofs.Common.{◌≡◌, ℕ, ◌+◌, ◌-◌, ◌*◌, ◌/◌, ◌%◌, ◌^◌, ◌<◌, ◌≤◌, w64, refl, ap, ◌∙◌, arith, add-one, pow_mono, inl, inr}
 use Rattle.std.proofs.lemmas.Bool.{cases_lt}
-use Rattle.std.specs.Int.{bit_at, trailing_ones}
-use Rattle.std.proofs.lemmas.Nat.Bits.{bit_at-trailing_ones, bit_at_above, bit_at_not, bit_at-lt}
+use Rattle.std.specs.Int.{bit_at}
+use Rattle.std.proofs.lemmas.Nat.Bits.{bit_at_above, bit_at_not, bit_at-lt}
 use Rattle.std.proofs.lemmas.Nat.{pow_pos, div_below, le-div}
-use Rattle.std.proofs.Math.Nat.{pow-suc, mod-lt, div-le_self}
+use Rattle.std.proofs.Math.Nat.{pow-suc, mod-lt}
 use Rattle.vm_ranges.specs.declared.state.NodeState.TheVariants.{Free, Allocated}
 use Rattle.vm_leaf.specs.States.{states_in, state_of}
-use Rattle.vm_leaf.proofs.Masks.{high_states, bit_of_mod}
-
--- The number of trailing ones of the mask, shifted by `from`, leads to the next gap.
-module _ (m from : ℕ) (fits : m < 2 ^ 32) where
-  small : m / 2 ^ from + 1 < 2 ^ 64
-  small = omega (arith, div-le_self m (2 ^ from))
-
-  pub gap_found : states_in m (from + trailing_ones w64 (m / 2 ^ from)) ≡ Free
-  gap_found =
-      let h = bit_at-trailing_ones w64 (m / 2 ^ from) small in
-      sym (high_states m from (trailing_ones w64 (m / 2 ^ from))) ∙ ap state_of h.1
-
-  pub held_before_gap : (k : ℕ) → from ≤ k → k < from + trailing_ones w64 (m / 2 ^ from) → states_in m k ≡ Allocated
-  held_before_gap k l u =
-      let h = bit_at-trailing_ones w64 (m / 2 ^ from) small in
-      let e : from + (k - from) ≡ k = omega arith in
-      ap (states_in m) (sym e) ∙ sym (high_states m from (k - from)) ∙ ap state_of (h.2 (k - from) (omega arith))
-
-  pub few_ones : trailing_ones w64 (m / 2 ^ from) < 64
-  few_ones = (bit_at-trailing_ones w64 (m / 2 ^ from) small).0
-
-pub ruleset next_gaps = (gap_found, held_before_gap, few_ones)
+use Rattle.vm_leaf.proofs.Masks.{bit_of_mod}
 
 -- The highest one of the mask of the gaps below `upto` is the last gap there.
 held_if : (x : ℕ) → x ≡ 1 → state_of x ≡ Allocated

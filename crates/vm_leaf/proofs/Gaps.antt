@@ -1,5 +1,5 @@
 -- The gaps of a leaf by its mask.
-use Rattle.std.proofs.Common.{◌≡◌, ℕ, ◌<◌, ◌≤◌, List, length, Option, Some, None, ap, ◌∙◌, sym, arith, inl, inr}
+use Rattle.std.proofs.Common.{◌≡◌, ℕ, ◌-◌, ◌%◌, ◌^◌, ◌<◌, ◌≤◌, List, length, Option, Some, None, ap, ◌∙◌, sym, arith, pow_mono, inl, inr}
 use Rattle.std.specs.Prelude.{MatchOption}
 use Rattle.std.proofs.lemmas.Bool.{cases_lt}
 use Rattle.std.proofs.lemmas.Nat.Bits.{bit_at_above}
@@ -10,7 +10,9 @@ use Rattle.vm_leaf.specs.Blocks.{nth}
 use Rattle.vm_leaf.specs.Leaf.{blocks_of, IsInside}
 use Rattle.vm_leaf.specs.States.{states_in, state_of}
 use Rattle.vm_leaf.specs.declared.leaf.Leaf.TheInside.{Inside}
+use Rattle.vm_leaf.specs.GapMasks.{AreGapsFrom}
 use Rattle.vm_leaf.proofs.Fields.{length_of, state_is}
+use Rattle.vm_leaf.proofs.GapMasks.{gaps_from}
 
 not_both : (s : NodeState) → s ≡ Free → s ≡ Allocated → ⊥
 not_both s e f = cc
@@ -45,3 +47,11 @@ module _ (a : Inside) (bs : List Block) (v : IsInside a) (e : length a.starts �
 
   pub gap_last : (upto : ℕ) (r : Option ℕ) → upto ≤ length bs → FindsBefore (states_in a.held) upto r → FindsBefore (λ k. (nth bs k).state) upto r
   gap_last upto r l h = same_finds (states_in a.held) (λ k. (nth bs k).state) upto (λ k u. sym (state_is a bs k v e view (omega arith))) r h
+
+  pub gap_mask : (x : ℕ) → x ≡ (18446744073709551615 - a.held) % 2 ^ a.len → AreGapsFrom 0 bs x
+  gap_mask x q =
+      let n : length bs ≡ a.len = ap length (sym view) ∙ length_of a v e in
+      let long : length bs ≤ 32 = omega (arith, v.fits) in
+      let up : 2 ^ length bs ≤ 2 ^ 32 = pow_mono long in
+      let mask : a.held < 2 ^ length bs = rw n v.mask in
+      gaps_from bs a.held x long mask (omega arith) (λ k l. sym (state_is a bs k v e view l)) (rw n q)

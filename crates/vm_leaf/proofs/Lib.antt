@@ -1,6 +1,7 @@
 pub mod Tilings
 pub mod Fields
 pub mod Tiles
+pub mod Starts
 pub mod Masks
 pub mod Arrays
 pub mod Splices
@@ -17,6 +18,7 @@ pub mod Reaches
 pub mod WindowFits
 pub mod Rests
 pub mod GapBits
+pub mod GapMasks
 pub mod Gaps
 pub mod Edges
 pub mod Pushes

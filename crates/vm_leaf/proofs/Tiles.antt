@@ -61,6 +61,14 @@ leaf_part bs i h l = tiles_part Allocated h.lo h.hi bs i h.tiles l
 pub leaf_range : (bs : List Block) (i : ℕ) → IsLeaf bs → i < length bs → IsRange (nth bs i).key.start (nth bs i).key.end
 leaf_range bs i h l = let p = leaf_part bs i h l in (p.some, omega (arith, h.range.1), λ e. omega (arith, h.range.2))
 
+-- The starts of blocks ascend.
+pub starts_ascend : (bs : List Block) (i d : ℕ) → IsLeaf bs → i + d < length bs → (nth bs i).key.start ≤ (nth bs (i + d)).key.start
+starts_ascend bs i zero h l = let e : i + 0 ≡ i = omega arith in rw e (omega arith)
+starts_ascend bs i (suc d) h l =
+    let e : i + suc d ≡ i + d + 1 = omega arith in
+    let p = leaf_part bs (i + d) h (omega arith) in
+    rw e (omega (arith, starts_ascend bs i d h (omega arith), p.some, p.next (omega arith)))
+
 -- The block in which a search ends has the address.
 pub found_in : (bs : List Block) (i x : ℕ) → IsLeaf bs → i < length bs → (nth bs i).key.start ≤ x → x ≤ end_of bs
     → (i + 1 < length bs → x < (nth bs (i + 1)).key.start) → x ≤ (nth bs i).key.end

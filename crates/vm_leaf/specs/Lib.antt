@@ -2,10 +2,12 @@ pub mod Block
 pub mod BlockOrder
 pub mod Blocks
 pub mod Fit
+pub mod GapMasks
 pub mod Leaf
 pub mod Left
 pub mod Multiples
 pub mod Raises
 pub mod Rest
+pub mod Starts
 pub mod States
 pub mod Windows

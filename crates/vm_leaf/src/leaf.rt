@@ -1,12 +1,13 @@
 //! A leaf: up to 32 consecutive blocks, with their first addresses in one array.
 ghost use Rattle.std.specs.Prelude.{◌≡◌, ◌≢◌, ℕ, ◌+◌, ◌-◌, ◌*◌, ◌%◌, ◌^◌, ◌<◌, ◌≤◌, [], ◌∷◌, ◌++◌, length, take, drop, MatchBool};
 ghost use Rattle.vm_ranges.specs.declared.state.NodeState.TheVariants.{Free, Allocated};
-ghost use Rattle.vm_ranges.specs.Range.{IsRange, IsIn};
+ghost use Rattle.vm_ranges.specs.Range.{IsIn};
 ghost use Rattle.vm_leaf.specs.States.{states_in, moved};
 ghost use Rattle.vm_leaf.specs.Block.{held_block};
 ghost use Rattle.vm_leaf.specs.Left.{IsLeft, added_by};
 ghost use Rattle.vm_leaf.specs.Blocks.{nth, start_of, end_of, with_parts, upper_held, lower_held, middle_held, gap_over, parts, freed_at, IsJoined, IsLeaf};
 ghost use Rattle.vm_leaf.specs.Raises.{Raises};
+ghost use Rattle.vm_leaf.specs.Starts.{IsCountUpTo};
 
 mod ends;
 mod fits;
@@ -64,18 +65,6 @@ impl Model for Leaf {
     ghost view = { blocks_of };
 
     ghost invariant = { IsInside };
-}
-
-/// Returns the range from `start` to `end`, which must be the ends of a range.
-#[inline(always)]
-fn valid_range(start: u64, end: u64) -> RangeInclusive
-    requires { IsRange start end }
-    ensures { result ≡ record { start = start; end = end } }
-{
-    let Ok(range) = RangeInclusive::new(start, end) else {
-        unreachable!()
-    };
-    range
 }
 
 /// Returns the state of block `i`, which is bit `i` of the mask `held`.
@@ -264,35 +253,45 @@ impl Leaf {
         }
     }
 
-    /// Returns `low + half` if that block exists and starts at or below `address`, otherwise `low`.
-    ///
-    /// The block with the address must be one of the `2 * half` blocks starting at `low`.
+    /// Returns 1 if block `i` exists and starts at or below `address`, otherwise 0.
     #[inline(always)]
     #[tactic(auto, using(crate::proofs::Fields::length_of))]
-    fn narrow(&self, low: usize, half: usize, address: u64) -> usize
-        requires within { low < length self.now }
-        requires from { (nth self.now low).key.start ≤ address }
-        requires fits { low + half < 32 }
-        requires upto { low + 2 * half < length self.now → address < (nth self.now (low + 2 * half)).key.start }
-        ensures within { result < length self.now }
-        ensures from { (nth self.now result).key.start ≤ address }
-        ensures upto { result + half < length self.now → address < (nth self.now (result + half)).key.start }
-        ensures bound { result ≤ low + half }
+    fn count_up_to(&self, i: usize, address: u64) -> usize
+        requires { i < 32 }
+        ensures { IsCountUpTo self.now i address result }
     {
         let len = self.len;
-        let middle = low + half;
-        let first = self.starts[middle];
-        if (middle < len) & (first <= address) {
-            middle
-        } else {
-            low
-        }
+        let first = self.starts[i];
+        if (i < len) & (first <= address) { 1 } else { 0 }
+    }
+
+    /// Returns the last of the indices `low`, `low + step`, `low + 2 * step` and `low + 3 * step` whose
+    /// block exists and starts at or below `address`.
+    ///
+    /// The block with the address must be one of the `4 * step` blocks starting at `low`.
+    #[inline(always)]
+    fn narrow(&self, low: usize, step: usize, address: u64) -> usize
+        requires within { low < length self.now }
+        requires from { (nth self.now low).key.start ≤ address }
+        requires fits { low + 3 * step < 32 }
+        requires upto { low + 4 * step < length self.now → address < (nth self.now (low + 4 * step)).key.start }
+        ensures within { result < length self.now }
+        ensures from { (nth self.now result).key.start ≤ address }
+        ensures upto { result + step < length self.now → address < (nth self.now (result + step)).key.start }
+        ensures bound { result ≤ low + 3 * step }
+    {
+        // Proof: `len` gives the facts of a leaf.
+        let _len = self.len();
+        let first = self.count_up_to(low + step, address);
+        let second = self.count_up_to(low + 2 * step, address);
+        let third = self.count_up_to(low + 3 * step, address);
+        low + step * (first + second + third)
     }
 
     /// Returns the index of the block with `address`, which must be in the leaf.
     ///
-    /// The search has five steps, and no branch of them depends on the address. It also
-    /// reads entries of the array behind the last block, which have no effect.
+    /// The search compares the address with three starts, with three more and with one. No branch
+    /// depends on it. It also reads entries of the array behind the last block, which have no effect.
     pub fn index_of(&self, address: u64) -> usize
         requires from { start_of self.now ≤ address }
         requires upto { address ≤ end_of self.now }
@@ -301,11 +300,9 @@ impl Leaf {
     {
         // Proof: `len` gives the facts of a leaf.
         let _len = self.len();
-        let low = self.narrow(0, 16, address);
-        let low = self.narrow(low, 8, address);
-        let low = self.narrow(low, 4, address);
+        let low = self.narrow(0, 8, address);
         let low = self.narrow(low, 2, address);
-        self.narrow(low, 1, address)
+        low + self.count_up_to(low + 1, address)
     }
 
     /// Allocates the whole gap `i`.
@@ -390,6 +387,7 @@ impl Leaf {
     /// Allocates `range`, which must be in the gap `i`. `left` is the parts of the gap that stay free.
     ///
     /// The leaf must have room for these parts. If it has not, [`Leaf::split_full`] allocates the range.
+    #[inline(always)]
     #[tactic(auto, using(crate::proofs::Parts::parting, crate::proofs::Tiles::leaf_range))]
     pub fn split(&mut self, i: usize, range: RangeInclusive, left: Left)
         requires within { i < length self.old }
@@ -458,7 +456,7 @@ impl Leaf {
     {
         // Proof: `len` gives the facts of a leaf.
         let _len = self.len();
-        let gap = valid_range(self.start_at(i), self.end_at(i + n - 1));
+        let gap = RangeInclusive::between(self.start_at(i), self.end_at(i + n - 1));
         self.merge(i, n);
         gap
     }

@@ -54,6 +54,15 @@ impl RangeInclusive {
         Ok(RangeInclusive { start, end })
     }
 
+    /// Returns the range from `start` to `end`, which must be the ends of a range.
+    #[inline(always)]
+    pub const fn between(start: u64, end: u64) -> Self
+        requires { IsRange start end }
+        ensures { result ≡ record { start = start; end = end } }
+    {
+        RangeInclusive { start, end }
+    }
+
     /// Creates the range of the `len` addresses that start at `start`, such as a BAR by its base and
     /// its size.
     ///

@@ -1,16 +1,17 @@
 -- A range that is to be allocated in a gap of a leaf.
-use Rattle.std.specs.Prelude.{◌≡◌, ℕ, ◌+◌, ◌≤◌, ◌<◌, List, length, take, drop, true, Result, Ok, Err}
+use Rattle.std.specs.Prelude.{◌≡◌, ℕ, ◌+◌, ◌≤◌, ◌<◌, List, length, take, drop, true, false, Option, Some, None, Result, Ok, Err}
 use Rattle.vm_ranges.specs.Range.{MAX, span}
 use Rattle.vm_ranges.specs.declared.state.NodeState.TheVariants.{Free}
 use Rattle.vm_leaf.specs.declared.block.Block.{Block}
 use Rattle.vm_leaf.specs.Block.{free_block}
 use Rattle.vm_leaf.specs.Blocks.{nth, start_of, end_of, IsTakenFrom}
-use Rattle.vm_leaf.specs.Left.{IsLeft}
+use Rattle.vm_leaf.specs.Left.{IsLeft, added_by}
 use Rattle.vm_leaf.specs.declared.leaf.Place.{Place}
-use Rattle.vm_tree.specs.Allocation.{Spot, SplitsAt, SettlesAt, AllocatesExact}
+use Rattle.vm_tree.specs.Allocation.{Spot, AllocatesExact}
 use Rattle.vm_tree.specs.declared.allocate.place.Claim.{Claim}
 use Rattle.vm_tree.specs.declared.search.Search.{Search}
 use Rattle.vm_tree.specs.declared.search.Refusal.{Refusal}
+use Rattle.vm_tree.specs.declared.search.Refusal.TheVariants.{NoPlace, Held, PastMax, OutOfMemory, TooHigh}
 
 -- The spot of a place in these blocks.
 abbrev pub spot_at : List Block → Place → Spot
@@ -35,13 +36,15 @@ pub record IsClaimAt (search : Search) (bs : List Block) (place : Place) (claim 
   pub claim_in : IsClaimIn bs claim
   pub index : claim.index ≡ place.index
   pub range : claim.range ≡ span place.start search.size
-  pub below : claim.range.end < MAX
-  pub low : SplitsAt search (spot_at bs place) → search.can_split ≡ true
 
--- The result of a claim of the range of the search at the place.
-abbrev pub ClaimsAt : Search → List Block → Place → Result Claim Refusal → Type 0
-ClaimsAt search bs place (Ok claim) = IsClaimAt search bs place claim
-ClaimsAt search bs place (Err refusal) = SettlesAt search (spot_at bs place) bs (Err refusal)
+-- Why the claim cannot be granted, or None if it can: its range ends below MAX, and gaps can be split if it splits one.
+abbrev pub RefusesClaim : Search → Claim → Option Refusal → Type 0
+RefusesClaim search claim None = (claim.range.end < MAX) × (0 < added_by claim.left → search.can_split ≡ true)
+RefusesClaim search claim (Some NoPlace) = ⊥
+RefusesClaim search claim (Some Held) = ⊥
+RefusesClaim search claim (Some PastMax) = claim.range.end ≡ MAX
+RefusesClaim search claim (Some OutOfMemory) = ⊥
+RefusesClaim search claim (Some TooHigh) = (claim.range.end < MAX) × (0 < added_by claim.left) × (search.can_split ≡ false)
 
 -- The start t of a search is in the blocks and in the window, and its range ends at most at MAX.
 pub record IsStartIn (search : Search) (t : ℕ) (bs : List Block) : Type 0 where

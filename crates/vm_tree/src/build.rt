@@ -19,11 +19,8 @@ fn free_between(start: u64, end: u64) -> Block
     requires { IsRange start end }
     ensures { result ≡ record { key = record { start = start; end = end }; state = NodeState.Free } }
 {
-    let Ok(key) = RangeInclusive::new(start, end) else {
-        unreachable!()
-    };
     Block {
-        key,
+        key: RangeInclusive::between(start, end),
         state: NodeState::Free,
     }
 }

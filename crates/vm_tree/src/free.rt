@@ -50,6 +50,7 @@ fn join_at(leaf: &mut Leaf, i: usize) -> Gap
 }
 
 /// Frees a held range of a leaf. Returns `None` if the leaf does not hold it.
+#[inline(always)]
 pub(crate) fn free_in(leaf: &mut Leaf, key: &RangeInclusive) -> Option<Gap>
     requires from { start_of leaf.old ≤ key.now.start }
     requires upto { key.now.start ≤ end_of leaf.old }

@@ -26,7 +26,7 @@ pub struct Taken {
     /// The first address.
     pub start: u64,
     /// The number of blocks that the tree has more than before: 0, 1 or 2.
-    pub added: u8,
+    pub added: u64,
     /// The change of the summary of the subtree.
     pub(crate) change: Change,
 }

@@ -16,7 +16,6 @@ ghost use Rattle.vm_engine.specs.Tree.Blocks.{IsTiling, held_of};
 ghost use Rattle.vm_engine.specs.Tree.SpaceTree.{space_of, tree_state};
 
 use super::IntervalTree;
-use crate::ordering::valid_range;
 use std::alloc::Global;
 use vm_ranges::{AllocPolicy, Constraint, Error, NodeState, RangeInclusive, Result};
 use vm_tree::{Refusal, Search, Steps, Taken, Tree};
@@ -75,10 +74,10 @@ impl IntervalTree {
             count,
         )?;
         self.held_count += 1;
-        self.gap_count += u64::from(taken.added);
+        self.gap_count += taken.added;
         self.gap_count -= 1;
         self.free_len -= constraint.size();
-        Ok(valid_range(taken.start, taken.start + (constraint.size() - 1)))
+        Ok(RangeInclusive::between(taken.start, taken.start + (constraint.size() - 1)))
     }
 }
 
@@ -145,7 +144,7 @@ fn allocate_exact(
     let Some(last) = start.checked_add(search.size - 1) else {
         return Err(Error::Overflow);
     };
-    let range = valid_range(start, last);
+    let range = RangeInclusive::between(start, last);
     with_error(tree.allocate_exact(start, search, alloc, count), &range)
 }
 

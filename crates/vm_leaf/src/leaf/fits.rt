@@ -7,6 +7,7 @@ ghost use Rattle.vm_leaf.specs.Blocks.{nth};
 ghost use Rattle.vm_leaf.specs.Fit.{FindsLowestFit, FindsHighestFit};
 ghost use Rattle.vm_leaf.specs.Windows.{cut_to, FindsFirstIn, FindsLastIn};
 
+use super::gaps::{lowest_one, without_lowest};
 use super::{Leaf, Place};
 
 /// Returns the highest multiple of `alignment` that is at most `address`. `alignment` must be a power of two.
@@ -103,13 +104,13 @@ impl Leaf {
         requires aligned { IsAlignment alignment }
         ensures { FindsFirstIn (record { start = low; end = high }) size alignment self.now result }
     {
-        let len = self.len();
-        let mut index = self.next_gap(0);
-        while index < len {
+        let mut gaps = self.gaps();
+        while gaps != 0 {
+            let index = lowest_one(gaps);
             if let Some(start) = self.lowest_fit_at(index, low, high, size, alignment) {
                 return Some(Place { index, start });
             }
-            index = self.next_gap(index + 1);
+            gaps = without_lowest(gaps);
         }
         None
     }

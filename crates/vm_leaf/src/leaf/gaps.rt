@@ -2,23 +2,11 @@
 ghost use Rattle.std.specs.Prelude.{◌≡◌, ℕ, ◌+◌, ◌<◌, ◌≤◌, ◌^◌, length, MatchOption};
 ghost use Rattle.vm_ranges.specs.declared.state.NodeState.TheVariants.{Free, Allocated};
 ghost use Rattle.vm_leaf.specs.Blocks.{nth};
+ghost use Rattle.vm_leaf.specs.GapMasks.{IsLowestOne, IsMaskAbove, AreGapsFrom};
 ghost use Rattle.vm_leaf.specs.States.{states_in};
 
-use super::{Leaf, low_part, valid_range};
+use super::{Leaf, low_part};
 use vm_ranges::RangeInclusive;
-
-/// Returns the index of the lowest 0 bit of `held` at or above `from`.
-#[inline(always)]
-#[tactic(auto, using(crate::proofs::GapBits::next_gaps))]
-fn gap_after(held: u64, from: usize) -> usize
-    requires mask { held < 2 ^ 32 }
-    requires from { from ≤ 32 }
-    ensures from { from ≤ result }
-    ensures found { states_in held result ≡ Free }
-    ensures skipped { (k : ℕ) → from ≤ k → k < result → states_in held k ≡ Allocated }
-{
-    from + (held >> from).trailing_ones() as usize
-}
 
 /// Returns the index of the highest 0 bit of `held` below `upto`.
 #[inline(always)]
@@ -37,7 +25,37 @@ fn gap_before(held: u64, upto: usize) -> Option<usize>
     Some(gaps.ilog2() as usize)
 }
 
+/// Returns the index of the lowest 1 bit of a mask that is not 0.
+#[inline(always)]
+#[tactic(auto, using(crate::proofs::GapMasks::lowest_ones))]
+pub(super) fn lowest_one(mask: u64) -> usize
+    requires { 0 < mask }
+    ensures { IsLowestOne mask result }
+{
+    mask.trailing_zeros() as usize
+}
+
+/// Returns a mask that is not 0, without its lowest 1 bit.
+#[inline(always)]
+#[tactic(auto, using(crate::proofs::GapMasks::lowest_ones))]
+pub(super) fn without_lowest(mask: u64) -> u64
+    requires { 0 < mask }
+    ensures less { result < mask }
+    ensures same { (i : ℕ) → IsLowestOne mask i → IsMaskAbove i mask result }
+{
+    mask & (mask - 1)
+}
+
 impl Leaf {
+    /// Returns a mask: bit `i` is 1 if block `i` is a gap.
+    #[inline(always)]
+    #[tactic(auto, using(crate::proofs::Fields::length_of))]
+    pub(super) fn gaps(&self) -> u64
+        ensures { AreGapsFrom 0 self.now result }
+    {
+        low_part(!self.held, self.len)
+    }
+
     /// Returns the range of block `i`, which must exist.
     #[inline(always)]
     #[tactic(auto, using(crate::proofs::Tiles::leaf_range))]
@@ -47,20 +65,7 @@ impl Leaf {
     {
         // Proof: `len` gives the facts of a leaf.
         let _len = self.len();
-        valid_range(self.start_at(i), self.end_at(i))
-    }
-
-    /// Returns the index of the first gap at or after index `from`, or `len()` if there is none.
-    #[inline(always)]
-    #[tactic(auto, using(crate::proofs::Fields::length_of))]
-    pub fn next_gap(&self, from: usize) -> usize
-        requires { from ≤ length self.now }
-        ensures from { from ≤ result }
-        ensures within { result ≤ length self.now }
-        ensures found { result < length self.now → (nth self.now result).state ≡ Free }
-        ensures skipped { (k : ℕ) → from ≤ k → k < result → (nth self.now k).state ≡ Allocated }
-    {
-        gap_after(self.held, from)
+        RangeInclusive::between(self.start_at(i), self.end_at(i))
     }
 
     /// Returns the index of the last gap before index `upto`.

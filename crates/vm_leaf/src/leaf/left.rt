@@ -37,7 +37,7 @@ impl Left {
 
     /// Returns the number of these parts, which is the number of blocks that the allocation adds.
     #[inline(always)]
-    pub fn added(self) -> u8
+    pub fn added(self) -> u64
         ensures { result ≡ added_by self }
     {
         match self {

@@ -5,6 +5,7 @@ ghost use Rattle.vm_leaf.specs.Blocks.{longest_gap};
 ghost use Rattle.vm_leaf.specs.Multiples.{alignment_count, most_alignments, IsBitLength};
 
 use super::Leaf;
+use super::gaps::{lowest_one, without_lowest};
 use vm_ranges::RangeInclusive;
 
 /// The summary of some gaps. Both fields are 0 if there is no gap.
@@ -61,14 +62,16 @@ impl Leaf {
         ensures longest { result.longest ≡ longest_gap self.now }
         ensures alignments { result.alignments ≡ most_alignments self.now }
     {
-        let len = self.len();
+        // Proof: `len` gives the facts of a leaf.
+        let _len = self.len();
         let (mut longest, mut reached) = (0, 0);
-        let mut i = self.next_gap(0);
-        while i < len {
+        let mut gaps = self.gaps();
+        while gaps != 0 {
+            let i = lowest_one(gaps);
+            gaps = without_lowest(gaps);
             let (start, end) = (self.start_at(i), self.end_at(i));
             longest = longest.max(1 + (end - start));
             reached |= reach(start, end);
-            i = self.next_gap(i + 1);
         }
         Summary {
             longest,

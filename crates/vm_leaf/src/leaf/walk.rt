@@ -4,9 +4,10 @@ ghost use Rattle.std.specs.Iterator.{YieldsFirst, YieldsLast, item_count};
 ghost use Rattle.vm_leaf.specs.Leaf.{end_before};
 ghost use Rattle.vm_leaf.specs.Rest.{part_of};
 
-use super::{Leaf, state_in, valid_range};
+use super::{Leaf, state_in};
 use crate::block::Block;
 use std::marker::Model;
+use vm_ranges::RangeInclusive;
 
 /// An iterator over consecutive blocks of a leaf, from both ends.
 #[derive(Clone, Drop)]
@@ -84,7 +85,7 @@ impl<'a> Blocks<'a> {
         let Some((start, others)) = self.starts.split_first() else {
             return None;
         };
-        let key = valid_range(*start, end_of_first(others, self.end));
+        let key = RangeInclusive::between(*start, end_of_first(others, self.end));
         let state = state_in(self.held, 0);
         self.starts = others;
         self.held >>= 1;
@@ -100,7 +101,7 @@ impl<'a> Blocks<'a> {
         let Some((start, rest)) = self.starts.split_last() else {
             return None;
         };
-        let key = valid_range(*start, self.end);
+        let key = RangeInclusive::between(*start, self.end);
         let state = state_in(self.held, rest.len());
         self.starts = rest;
         self.end = start.saturating_sub(1);

@@ -7,7 +7,7 @@ ghost use Rattle.vm_tree.specs.Links.{side, IsSummed};
 ghost use Rattle.vm_tree.specs.Growth.{Grows, GrowsIfOk};
 ghost use Rattle.vm_tree.specs.Changes.{Keeps};
 ghost use Rattle.vm_tree.specs.Allocation.{IsSearch, SettlesAt};
-ghost use Rattle.vm_tree.specs.Placing.{spot_at, IsPlaceIn, IsClaimIn, ClaimsAt};
+ghost use Rattle.vm_tree.specs.Placing.{spot_at, IsPlaceIn, IsClaimIn, IsClaimAt, RefusesClaim};
 
 use crate::change::Change;
 use crate::link::{Link, Node, fork_link, into_leaf, leaf_link};
@@ -28,31 +28,36 @@ pub(crate) struct Claim {
     left: Left,
 }
 
-/// Returns the claim of the range of a search at a place, or the reason why it cannot be allocated.
+/// Returns the claim of the range of a search at a place.
 #[inline(always)]
-fn claim_at(leaf: &Leaf, place: Place, search: &Search) -> Result<Claim, Refusal>
+fn claim_at(leaf: &Leaf, place: Place, search: &Search) -> Claim
     requires search { IsSearch search.now }
     requires place { IsPlaceIn search.now.size leaf.now place }
-    ensures { ClaimsAt search.now leaf.now place result }
+    ensures { IsClaimAt search.now leaf.now place result }
 {
     let gap = leaf.key_at(place.index);
-    let end = place.start + (search.size - 1);
-    if end == u64::MAX {
-        return Err(Refusal::PastMax);
-    }
-    let Ok(range) = RangeInclusive::new(place.start, end) else {
-        unreachable!()
-    };
+    let range = RangeInclusive::between(place.start, place.start + (search.size - 1));
     let left = Left::of(&gap, &range);
-    if left.added() > 0 && !search.can_split {
-        return Err(Refusal::TooHigh);
-    }
-    Ok(Claim {
+    Claim {
         index: place.index,
         gap,
         range,
         left,
-    })
+    }
+}
+
+/// Returns the reason why a claim of a search cannot be granted, or `None` if it can.
+#[inline(always)]
+fn refusal_of(claim: &Claim, search: &Search) -> Option<Refusal>
+    ensures { RefusesClaim search.now claim.now result }
+{
+    if claim.range.end() == u64::MAX {
+        return Some(Refusal::PastMax);
+    }
+    if claim.left.added() > 0 && !search.can_split {
+        return Some(Refusal::TooHigh);
+    }
+    None
 }
 
 /// Returns the leaf of a link to a leaf.
@@ -80,7 +85,7 @@ pub(super) fn leaf_of(tree: &Link) -> &Leaf
 fn has_room(leaf: &Leaf, left: Left) -> bool
     ensures { MatchBool result (length leaf.now + added_by left ≤ 32) (32 < length leaf.now + added_by left) }
 {
-    leaf.len() + usize::from(left.added()) <= CAPACITY
+    leaf.len() + left.added() as usize <= CAPACITY
 }
 
 /// Allocates the range of a claim in a leaf that has room for it, and updates what is stored beside the
@@ -169,20 +174,20 @@ fn halve(mut lower: Box<Leaf>, claim: &Claim, mut upper: Box<Leaf>, spare: Box<N
 ///
 /// All memory is allocated before the first change.
 #[inline(never)]
-fn split_leaf(tree: &mut Link, claim: &Claim, alloc: Global) -> Result<(), Refusal>
+fn split_leaf(tree: &mut Link, claim: Claim, alloc: Global) -> Result<(), Refusal>
     requires leaf { height_of (side tree.old) < 2 }
     requires some { 0 < length (blocks (side tree.old)) }
-    requires claim { IsClaimIn (blocks (side tree.old)) claim.now }
-    requires full { 32 < length (blocks (side tree.old)) + added_by claim.now.left }
+    requires claim { IsClaimIn (blocks (side tree.old)) claim }
+    requires full { 32 < length (blocks (side tree.old)) + added_by claim.left }
     ensures blocks { IfOk result (λ _. blocks (side tree.new)
-        ≡ with_parts (blocks (side tree.old)) claim.now.index 1 (parts claim.now.gap claim.now.range)) }
+        ≡ with_parts (blocks (side tree.old)) claim.index 1 (parts claim.gap claim.range)) }
     ensures grows { IfOk result (λ _. Grows (side tree.old) (side tree.new) × IsSummed tree.new) }
     ensures error { IfErr result (λ refusal. refusal ≡ Refusal.OutOfMemory) }
     ensures unchanged { OnErr result (tree.new ≡ tree.old) }
 {
-    let (upper, node) = spare_boxes(claim, alloc)?;
+    let (upper, node) = spare_boxes(&claim, alloc)?;
     let lower = into_leaf(mem::replace(tree, Link::Hole));
-    *tree = halve(lower, claim, upper, node);
+    *tree = halve(lower, &claim, upper, node);
     Ok(())
 }
 
@@ -206,7 +211,10 @@ pub(super) fn place_at(
     ensures summed { IsSummed tree.new }
 {
     let leaf = leaf_of(tree);
-    let claim = claim_at(leaf, place, search)?;
+    let claim = claim_at(leaf, place, search);
+    if let Some(refusal) = refusal_of(&claim, search) {
+        return Err(refusal);
+    }
     let (start, added) = (place.start, claim.left.added());
     if has_room(leaf, claim.left) {
         let change = take(tree, &claim);
@@ -216,7 +224,7 @@ pub(super) fn place_at(
             change,
         });
     }
-    split_leaf(tree, &claim, alloc)?;
+    split_leaf(tree, claim, alloc)?;
     Ok(Taken {
         start,
         added,
@@ -274,7 +282,10 @@ pub(super) fn place_in_root(
     ensures summed { 2 ≤ height_of (side root.new) → IsSummed root.new }
 {
     let leaf = leaf_of(root);
-    let claim = claim_at(leaf, place, search)?;
+    let claim = claim_at(leaf, place, search);
+    if let Some(refusal) = refusal_of(&claim, search) {
+        return Err(refusal);
+    }
     let taken = Taken {
         start: place.start,
         added: claim.left.added(),
@@ -284,6 +295,6 @@ pub(super) fn place_in_root(
         take_alone(root, &claim);
         return Ok(taken);
     }
-    split_leaf(root, &claim, alloc)?;
+    split_leaf(root, claim, alloc)?;
     Ok(taken)
 }

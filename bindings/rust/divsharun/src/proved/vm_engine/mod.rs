@@ -10,7 +10,6 @@
 //!   [`HeldRangesIn`] and [`GapsIn`] iterate over those in a window.
 
 mod interval_tree;
-mod ordering;
 mod saved;
 
 pub use interval_tree::IntervalTree;

@@ -44,15 +44,6 @@ pub(in crate::proved) struct Place {
     pub(in crate::proved) start: u64,
 }
 
-/// Returns the range from `start` to `end`, which must be the ends of a range.
-#[inline(always)]
-fn valid_range(start: u64, end: u64) -> RangeInclusive {
-    let Ok(range) = RangeInclusive::new(start, end) else {
-        unreachable!()
-    };
-    range
-}
-
 /// Returns the state of block `i`, which is bit `i` of the mask `held`.
 #[inline(always)]
 fn state_in(held: u64, i: usize) -> NodeState {
@@ -170,33 +161,38 @@ impl Leaf {
         }
     }
 
-    /// Returns `low + half` if that block exists and starts at or below `address`, otherwise `low`.
-    ///
-    /// The block with the address must be one of the `2 * half` blocks starting at `low`.
+    /// Returns 1 if block `i` exists and starts at or below `address`, otherwise 0.
     #[inline(always)]
-    fn narrow(&self, low: usize, half: usize, address: u64) -> usize {
+    fn count_up_to(&self, i: usize, address: u64) -> usize {
         let len = self.len;
-        let middle = low + half;
-        let first = self.starts[middle];
-        if (middle < len) & (first <= address) {
-            middle
-        } else {
-            low
-        }
+        let first = self.starts[i];
+        if (i < len) & (first <= address) { 1 } else { 0 }
+    }
+
+    /// Returns the last of the indices `low`, `low + step`, `low + 2 * step` and `low + 3 * step` whose
+    /// block exists and starts at or below `address`.
+    ///
+    /// The block with the address must be one of the `4 * step` blocks starting at `low`.
+    #[inline(always)]
+    fn narrow(&self, low: usize, step: usize, address: u64) -> usize {
+        // Proof: `len` gives the facts of a leaf.
+        let _len = self.len();
+        let first = self.count_up_to(low + step, address);
+        let second = self.count_up_to(low + 2 * step, address);
+        let third = self.count_up_to(low + 3 * step, address);
+        low + step * (first + second + third)
     }
 
     /// Returns the index of the block with `address`, which must be in the leaf.
     ///
-    /// The search has five steps, and no branch of them depends on the address. It also
-    /// reads entries of the array behind the last block, which have no effect.
+    /// The search compares the address with three starts, with three more and with one. No branch
+    /// depends on it. It also reads entries of the array behind the last block, which have no effect.
     pub(in crate::proved) fn index_of(&self, address: u64) -> usize {
         // Proof: `len` gives the facts of a leaf.
         let _len = self.len();
-        let low = self.narrow(0, 16, address);
-        let low = self.narrow(low, 8, address);
-        let low = self.narrow(low, 4, address);
+        let low = self.narrow(0, 8, address);
         let low = self.narrow(low, 2, address);
-        self.narrow(low, 1, address)
+        low + self.count_up_to(low + 1, address)
     }
 
     /// Allocates the whole gap `i`.
@@ -244,6 +240,7 @@ impl Leaf {
     /// Allocates `range`, which must be in the gap `i`. `left` is the parts of the gap that stay free.
     ///
     /// The leaf must have room for these parts. If it has not, [`Leaf::split_full`] allocates the range.
+    #[inline(always)]
     pub(in crate::proved) fn split(&mut self, i: usize, range: RangeInclusive, left: Left) {
         // Proof: `len` gives the facts of a leaf.
         let _len = self.len();
@@ -286,7 +283,7 @@ impl Leaf {
     fn join_blocks(&mut self, i: usize, n: usize) -> RangeInclusive {
         // Proof: `len` gives the facts of a leaf.
         let _len = self.len();
-        let gap = valid_range(self.start_at(i), self.end_at(i + n - 1));
+        let gap = RangeInclusive::between(self.start_at(i), self.end_at(i + n - 1));
         self.merge(i, n);
         gap
     }

@@ -31,6 +31,12 @@ impl RangeInclusive {
         Ok(RangeInclusive { start, end })
     }
 
+    /// Returns the range from `start` to `end`, which must be the ends of a range.
+    #[inline(always)]
+    pub(in crate::proved) const fn between(start: u64, end: u64) -> Self {
+        RangeInclusive { start, end }
+    }
+
     /// Creates the range of the `len` addresses that start at `start`, such as a BAR by its base and
     /// its size.
     ///

@@ -13,11 +13,8 @@ use crate::proved::vm_ranges::{NodeState, RangeInclusive};
 
 /// Returns the free block from `start` to `end`. The caller proves that these are the ends of a range.
 fn free_between(start: u64, end: u64) -> Block {
-    let Ok(key) = RangeInclusive::new(start, end) else {
-        unreachable!()
-    };
     Block {
-        key,
+        key: RangeInclusive::between(start, end),
         state: NodeState::Free,
     }
 }

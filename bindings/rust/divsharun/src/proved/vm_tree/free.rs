@@ -38,6 +38,7 @@ fn join_at(leaf: &mut Leaf, i: usize) -> Gap {
 }
 
 /// Frees a held range of a leaf. Returns `None` if the leaf does not hold it.
+#[inline(always)]
 pub(in crate::proved::vm_tree) fn free_in(leaf: &mut Leaf, key: &RangeInclusive) -> Option<Gap> {
     // Proof: `len` gives the facts of a leaf.
     let _len = leaf.len();

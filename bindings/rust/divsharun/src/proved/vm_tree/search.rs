@@ -26,7 +26,7 @@ pub(in crate::proved) struct Taken {
     /// The first address.
     pub(in crate::proved) start: u64,
     /// The number of blocks that the tree has more than before: 0, 1 or 2.
-    pub(in crate::proved) added: u8,
+    pub(in crate::proved) added: u64,
     /// The change of the summary of the subtree.
     pub(in crate::proved::vm_tree) change: Change,
 }

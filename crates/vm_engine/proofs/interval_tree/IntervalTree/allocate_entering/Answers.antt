@@ -1,4 +1,4 @@
-use Rattle.std.proofs.Common.{rules, ◌≡◌, ℕ, ◌+◌, ◌-◌, Ok, Err, arith, ap, ◌∙◌}
+use Rattle.std.proofs.Common.{rules, ◌≡◌, ℕ, ◌+◌, ◌-◌, Ok, Err, arith, refl, ap, ◌∙◌}
 use Rattle.vm_ranges.specs.Range.{span}
 use Rattle.vm_engine.proofs.Placing.Counted.{refused_state, search_tree, taken_new, taken_gaps, taken_clear, granted_state, granted_tree, range_is}
 use Rattle.vm_engine.proofs.Trees.CountedTrees.{held_fits}
@@ -14,13 +14,13 @@ overflow_add-self c = omega (arith, held_fits c.self.inside.tree c.self.inside.s
 pub overflow_add-self-2 : goal.overflow_add-self-2
 overflow_add-self-2 c =
     let valid = c.in_ok-taken.ensures.valid in
-    let k = taken_gaps c.self.inside.tree c.allocate_in.new.tree c.self.inside.space c.self.inside.held_count c.self.inside.gap_count c.self.inside.free_len c.args.constraint c.allocate_in.new.count c.self.invariant c.in_ok-taken.taken valid.some c.in_ok-taken.ensures.answer c.from.result c.from.ensures in
+    let k = taken_gaps c.self.inside.tree c.allocate_in.new.tree c.self.inside.space c.self.inside.held_count c.self.inside.gap_count c.self.inside.free_len c.args.constraint c.allocate_in.new.count c.self.invariant c.in_ok-taken.taken valid.some c.in_ok-taken.ensures.answer c.in_ok-taken.taken.added refl in
     omega (arith, k.1)
 
 pub overflow_sub-self : goal.overflow_sub-self
 overflow_sub-self c =
     let valid = c.in_ok-taken.ensures.valid in
-    (taken_gaps c.self.inside.tree c.allocate_in.new.tree c.self.inside.space c.self.inside.held_count c.self.inside.gap_count c.self.inside.free_len c.args.constraint c.allocate_in.new.count c.self.invariant c.in_ok-taken.taken valid.some c.in_ok-taken.ensures.answer c.from.result c.from.ensures).0
+    (taken_gaps c.self.inside.tree c.allocate_in.new.tree c.self.inside.space c.self.inside.held_count c.self.inside.gap_count c.self.inside.free_len c.args.constraint c.allocate_in.new.count c.self.invariant c.in_ok-taken.taken valid.some c.in_ok-taken.ensures.answer c.in_ok-taken.taken.added refl).0
 
 pub overflow_sub-self-2 : goal.overflow_sub-self-2
 overflow_sub-self-2 c =
@@ -30,13 +30,13 @@ overflow_sub-self-2 c =
 pub invariant_of-self-2 : goal.invariant_of-self-2
 invariant_of-self-2 c =
     let valid = c.in_ok-taken.ensures.valid in
-    taken_new c.self.inside.tree c.allocate_in.new.tree c.self.inside.space c.self.inside.held_count c.self.inside.gap_count c.self.inside.free_len c.args.constraint c.allocate_in.new.count c.self.invariant c.in_ok-taken.taken valid.some c.in_ok-taken.ensures.answer c.from.result c.size.result c.from.ensures c.size.ensures.value
+    taken_new c.self.inside.tree c.allocate_in.new.tree c.self.inside.space c.self.inside.held_count c.self.inside.gap_count c.self.inside.free_len c.args.constraint c.allocate_in.new.count c.self.invariant c.in_ok-taken.taken valid.some c.in_ok-taken.ensures.answer c.in_ok-taken.taken.added c.size.result refl c.size.ensures.value
 
 -- The range that is returned.
-range : (c : goal.After-valid_range) → c.valid_range.result ≡ span c.in_ok-taken.taken.start c.args.constraint.size
+range : (c : goal.After-between) → c.between.result ≡ span c.in_ok-taken.taken.start c.args.constraint.size
 range c =
     let valid = c.in_ok-taken.ensures.valid in
-    c.valid_range.ensures ∙ ap (λ (n : ℕ). record { start = c.in_ok-taken.taken.start; end = c.in_ok-taken.taken.start + (n - 1) }) c.size-2.ensures.value
+    c.between.ensures ∙ ap (λ (n : ℕ). record { start = c.in_ok-taken.taken.start; end = c.in_ok-taken.taken.start + (n - 1) }) c.size-2.ensures.value
     ∙ range_is c.in_ok-taken.taken.start c.args.constraint.size valid.some
 
 pub returns-clause-answer : goal.returns-clause-answer

@@ -39,7 +39,7 @@ returns c = λ request valid policy is.
     let some = c.requires.search.some in
     let below = c.if-start-eq18446744073709551615.false in
     let start = c.ranges.start.fits in
-    let range : c.valid_range-range.result ≡ span c.args.start c.args.search.now.size = c.valid_range-range.ensures ∙ same_range _ (span c.args.start c.args.search.now.size) refl (omega (arith, fits.1, some)) in
+    let range : c.between-range.result ≡ span c.args.start c.args.search.now.size = c.between-range.ensures ∙ same_range _ (span c.args.start c.args.search.now.size) refl (omega (arith, fits.1, some)) in
     let h = c.allocate_exact.ensures in
     rw (c.with_error.ensures, range)
     (exact_allocation c.args.space.now c.args.tree.now c.allocate_exact.new.self c.requires.tiling.tiles request c.args.search.now c.args.start valid is policy c.requires.few c.allocate_exact.result h.unchanged c.allocate_exact.new.count h.answer (omega arith)

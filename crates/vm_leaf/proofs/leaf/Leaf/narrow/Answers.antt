@@ -1,29 +1,8 @@
-use Rattle.std.specs.Prelude.{◌&&◌}
-use Rattle.std.proofs.Common.{◌≡◌, ℕ, ◌+◌, ◌<◌, ◌≤◌, true, false, ltb, leb, length, get_or, ap, arith, inl, inr}
-use Rattle.std.proofs.lemmas.Bool.{and_parts, ltb-true, leb-true, lt-ltb, le-leb, cases_lt}
-use Rattle.vm_leaf.proofs.Fields.{length_of, start_is}
+use Rattle.vm_leaf.proofs.Starts.{narrowed}
 use Rattle.vm_leaf.proofs.leaf.Leaf.narrow.Goals as goal
 
-both : (i n x y : ℕ) → (ltb i n && leb x y) ≡ true → (i < n) × (x ≤ y)
-both i n x y e = let p = and_parts (ltb i n) (leb x y) e in (ltb-true i n p.0, leb-true x y p.1)
-
-not_both : (i n x y : ℕ) → (ltb i n && leb x y) ≡ false → i < n → y < x
-not_both i n x y e l =
-    elim (cases_lt y x) [
-      | inl q ↦ q
-      | inr q ↦ (let t : true ≡ false = rw (lt-ltb i n l, le-leb x y q) at e in absurd (cc))
-    ]
-
-pub returns-then-middle-len-clause-from : goal.returns-then-middle-len-clause-from
-returns-then-middle-len-clause-from c =
-    let n = length_of c.self.inside c.self.invariant c.self.told in
-    let m = ap length c.self.view_is in
-    let h = both (c.args.low + c.args.half) c.self.inside.len (get_or c.self.inside.starts (c.args.low + c.args.half) 0) c.args.address c.if-middle-len.true in
-    omega (arith, h.0, h.1, start_is c.self.inside c.args.self.now (c.args.low + c.args.half) c.self.invariant c.self.told c.self.view_is (omega (arith, h.0)))
-
-pub returns-else-middle-len-clause-upto : goal.returns-else-middle-len-clause-upto
-returns-else-middle-len-clause-upto c = λ l.
-    let n = length_of c.self.inside c.self.invariant c.self.told in
-    let m = ap length c.self.view_is in
-    let s = start_is c.self.inside c.args.self.now (c.args.low + c.args.half) c.self.invariant c.self.told c.self.view_is l in
-    omega (arith, not_both (c.args.low + c.args.half) c.self.inside.len (get_or c.self.inside.starts (c.args.low + c.args.half) 0) c.args.address c.if-middle-len.false (omega arith))
+pub returns : goal.returns
+returns c =
+    let s = narrowed c.args.self.now c.args.low c.args.step c.args.address _ _ _ c.len-len.ensures.leaf c.requires.within c.requires.from c.requires.upto
+        c.count_up_to-first.ensures c.count_up_to-second.ensures c.count_up_to-third.ensures in
+    record { within = s.within; from = s.from; upto = s.upto; bound = s.bound }

@@ -1,9 +1,11 @@
-use Rattle.std.proofs.Common.{arith, ◌≡◌, ℕ, ◌+◌, ◌-◌, ◌≤◌, max, refl, inl, inr}
+use Rattle.std.proofs.Common.{arith, ◌≡◌, ℕ, ◌+◌, ◌-◌, ◌≤◌, max, length, refl, inl, inr}
 use Rattle.std.proofs.lemmas.Bool.{cases_lt}
 use Rattle.std.proofs.lemmas.Grind.{common_steps}
 use Rattle.vm_ranges.specs.Range.{MAX, IsRange, address_count}
 use Rattle.vm_leaf.specs.Blocks.{nth}
 use Rattle.vm_leaf.specs.Multiples.{alignment_count, IsBitLength}
+use Rattle.vm_leaf.specs.GapMasks.{IsLowestOne}
+use Rattle.vm_leaf.proofs.GapMasks.{lowest_within, lowest_from, held_between, gaps_behind, no_gap_left}
 use Rattle.vm_leaf.proofs.Tiles.{leaf_range}
 use Rattle.vm_leaf.proofs.Reaches.{none_summed, skipped, summed, all_summed}
 use Rattle.vm_leaf.proofs.leaf.Leaf.summary.Goals as goal
@@ -12,48 +14,54 @@ length_fits : (start end : ℕ) → IsRange start end → 1 + (end - start) ≤ 
 length_fits start end r =
     elim (cases_lt 0 start) [ inl l ↦ omega (arith, r.1) | inr l ↦ omega (arith, r.2 (omega arith)) ]
 
-pub loop-i-init : goal.loop-i-init
-loop-i-init c =
-    let g = c.next_gap-i.ensures in
-    record {
-      within = g.within;
-      gap = g.found;
-      summed = skipped c.args.self.now 0 c.next_gap-i.result 0 0 (omega arith) g.within g.skipped (none_summed c.args.self.now);
-    }
+pub loop-gaps-init : goal.loop-gaps-init
+loop-gaps-init c = record { index = 0; within = omega arith; rest = c.gaps-gaps.ensures; summed = none_summed c.args.self.now }
+
+pub start_at-start-requires : goal.start_at-start-requires
+start_at-start-requires c = lowest_within c.args.self.now c.loop-gaps.invariant.index _ c.loop-gaps.gaps 0 c.loop-gaps.invariant.rest c.lowest_one-i.ensures
+
+pub end_at-end-requires : goal.end_at-end-requires
+end_at-end-requires c = lowest_within c.args.self.now c.loop-gaps.invariant.index _ c.loop-gaps.gaps 0 c.loop-gaps.invariant.rest c.lowest_one-i.ensures
+
+range_at : (c : goal.After-end_at-end) → IsRange c.start_at-start.result c.end_at-end.result
+range_at c =
+    let l = lowest_within c.args.self.now c.loop-gaps.invariant.index _ c.loop-gaps.gaps 0 c.loop-gaps.invariant.rest c.lowest_one-i.ensures in
+    rw (c.start_at-start.ensures, c.end_at-end.ensures) (leaf_range c.args.self.now c.lowest_one-i.result c.len-len.ensures.leaf l)
 
 pub overflow_sub-end : goal.overflow_sub-end
-overflow_sub-end c =
-    let r = leaf_range c.args.self.now c.loop-i.i c.len-len.ensures.leaf (omega (arith, c.len-len.ensures.value)) in
-    omega (arith, r.0, c.start_at-start.ensures, c.end_at-end.ensures)
+overflow_sub-end c = omega (arith, (range_at c).0)
 
 pub overflow_add-end : goal.overflow_add-end
-overflow_add-end c =
-    let r = leaf_range c.args.self.now c.loop-i.i c.len-len.ensures.leaf (omega (arith, c.len-len.ensures.value)) in
-    omega (arith, length_fits (nth c.args.self.now c.loop-i.i).key.start (nth c.args.self.now c.loop-i.i).key.end r, c.start_at-start.ensures, c.end_at-end.ensures)
+overflow_add-end c = omega (arith, length_fits _ _ (range_at c))
 
 pub reach-reached-requires : goal.reach-reached-requires
-reach-reached-requires c =
-    let r = leaf_range c.args.self.now c.loop-i.i c.len-len.ensures.leaf (omega (arith, c.len-len.ensures.value)) in
-    rw (c.start_at-start.ensures, c.end_at-end.ensures) r
+reach-reached-requires c = range_at c.before
 
-pub loop-i-preserved : goal.loop-i-preserved
-loop-i-preserved c =
+pub loop-gaps-preserved : goal.loop-gaps-preserved
+loop-gaps-preserved c =
     let bs = c.args.self.now in
-    let i = c.loop-i.i in
-    let h = c.loop-i.invariant in
-    let g = c.next_gap-i-in-loop-i.ensures in
+    let h = c.loop-gaps.invariant in
+    let j = c.lowest_one-i.result in
+    let low : IsLowestOne c.loop-gaps.gaps j = c.lowest_one-i.ensures in
+    let l = lowest_within bs h.index j c.loop-gaps.gaps 0 h.rest low in
+    let f = lowest_from bs h.index j c.loop-gaps.gaps 0 h.rest low in
     let n : ℕ = 1 + (c.end_at-end.result - c.start_at-start.result) in
-    let m : c.max-longest.result ≡ max c.loop-i.longest n = grind (arith, common_steps) in
-    let long : n ≡ address_count (nth bs i).key = omega (arith, c.start_at-start.ensures, c.end_at-end.ensures) in
-    let reached : IsBitLength c.reach-reached.result (alignment_count (nth bs i).key) = rw (c.start_at-start.ensures, c.end_at-end.ensures) at c.reach-reached.ensures in
-    let one = summed bs i c.loop-i.longest c.loop-i.reached c.reach-reached.result n (nth bs i).key (omega arith) (h.gap (omega arith)) refl long reached h.summed in
+    let m : c.max-longest.result ≡ max c.loop-gaps.longest n = grind (arith, common_steps) in
+    let long : n ≡ address_count (nth bs j).key = omega (arith, c.start_at-start.ensures, c.end_at-end.ensures) in
+    let reached : IsBitLength c.reach-reached.result (alignment_count (nth bs j).key) = rw (c.start_at-start.ensures, c.end_at-end.ensures) at c.reach-reached.ensures in
+    let before = skipped bs h.index j c.loop-gaps.longest c.loop-gaps.reached f (omega (arith, l)) (held_between bs h.index j c.loop-gaps.gaps 0 h.rest low) h.summed in
+    let one = summed bs j c.loop-gaps.longest c.loop-gaps.reached c.reach-reached.result n (nth bs j).key l (h.rest.free j low.one) refl long reached before in
     record {
-      within = g.within;
-      gap = g.found;
-      summed = skipped bs (i + 1) c.next_gap-i-in-loop-i.result c.max-longest.result _ g.from g.within g.skipped (rw m one);
+      index = j + 1;
+      within = omega (arith, l);
+      rest = gaps_behind bs h.index j c.loop-gaps.gaps c.without_lowest-gaps.result h.rest low c.without_lowest-gaps.ensures.less (c.without_lowest-gaps.ensures.same j low);
+      summed = rw m one;
     }
 
 pub returns : goal.returns
 returns c =
-    let all = all_summed c.args.self.now c.loop-i.i c.loop-i.longest c.loop-i.reached c.bit_length.result (omega arith) c.loop-i.invariant.summed c.bit_length.ensures in
+    let bs = c.args.self.now in
+    let h = c.loop-gaps.invariant in
+    let end = skipped bs h.index (length bs) c.loop-gaps.longest c.loop-gaps.reached h.within (omega arith) (no_gap_left bs h.index c.loop-gaps.gaps h.rest (omega arith)) h.summed in
+    let all = all_summed bs (length bs) c.loop-gaps.longest c.loop-gaps.reached c.bit_length.result (omega arith) end c.bit_length.ensures in
     record { longest = all.0; alignments = all.1 }

@@ -3,7 +3,6 @@
 //! Allocates the range of a request.
 
 use super::IntervalTree;
-use crate::proved::vm_engine::ordering::valid_range;
 use crate::rattle::Global;
 use crate::proved::vm_ranges::{AllocPolicy, Constraint, Error, NodeState, RangeInclusive, Result};
 use crate::proved::vm_tree::{Refusal, Search, Steps, Taken, Tree};
@@ -41,10 +40,10 @@ impl IntervalTree {
             count,
         )?;
         self.held_count += 1;
-        self.gap_count += u64::from(taken.added);
+        self.gap_count += taken.added;
         self.gap_count -= 1;
         self.free_len -= constraint.size();
-        Ok(valid_range(taken.start, taken.start + (constraint.size() - 1)))
+        Ok(RangeInclusive::between(taken.start, taken.start + (constraint.size() - 1)))
     }
 }
 
@@ -94,7 +93,7 @@ fn allocate_exact(
     let Some(last) = start.checked_add(search.size - 1) else {
         return Err(Error::Overflow);
     };
-    let range = valid_range(start, last);
+    let range = RangeInclusive::between(start, last);
     with_error(tree.allocate_exact(start, search, alloc, count), &range)
 }
 

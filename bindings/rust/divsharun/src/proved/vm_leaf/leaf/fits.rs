@@ -2,6 +2,7 @@
 
 //! The lowest and the highest place for a request in a leaf, within a window of addresses.
 
+use super::gaps::{lowest_one, without_lowest};
 use super::{Leaf, Place};
 
 /// Returns the highest multiple of `alignment` that is at most `address`. `alignment` must be a power of two.
@@ -66,13 +67,13 @@ impl Leaf {
     ///
     /// `size` must not be 0, and `alignment` must be a power of two.
     pub(in crate::proved) fn first_fit_in(&self, low: u64, high: u64, size: u64, alignment: u64) -> Option<Place> {
-        let len = self.len();
-        let mut index = self.next_gap(0);
-        while index < len {
+        let mut gaps = self.gaps();
+        while gaps != 0 {
+            let index = lowest_one(gaps);
             if let Some(start) = self.lowest_fit_at(index, low, high, size, alignment) {
                 return Some(Place { index, start });
             }
-            index = self.next_gap(index + 1);
+            gaps = without_lowest(gaps);
         }
         None
     }

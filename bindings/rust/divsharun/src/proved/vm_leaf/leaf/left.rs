@@ -33,7 +33,7 @@ impl Left {
 
     /// Returns the number of these parts, which is the number of blocks that the allocation adds.
     #[inline(always)]
-    pub(in crate::proved) fn added(self) -> u8 {
+    pub(in crate::proved) fn added(self) -> u64 {
         match self {
             Left::Nothing => 0,
             Left::Before => 1,

@@ -3,6 +3,7 @@
 //! The summary of the gaps of a leaf: how long they are, and which alignments have a multiple in them.
 
 use super::Leaf;
+use super::gaps::{lowest_one, without_lowest};
 use crate::proved::vm_ranges::RangeInclusive;
 
 /// The summary of some gaps. Both fields are 0 if there is no gap.
@@ -46,14 +47,16 @@ impl Leaf {
     /// Returns the summary of the gaps of the leaf.
     #[inline(never)]
     pub(in crate::proved) fn summary(&self) -> Summary {
-        let len = self.len();
+        // Proof: `len` gives the facts of a leaf.
+        let _len = self.len();
         let (mut longest, mut reached) = (0, 0);
-        let mut i = self.next_gap(0);
-        while i < len {
+        let mut gaps = self.gaps();
+        while gaps != 0 {
+            let i = lowest_one(gaps);
+            gaps = without_lowest(gaps);
             let (start, end) = (self.start_at(i), self.end_at(i));
             longest = longest.max(1 + (end - start));
             reached |= reach(start, end);
-            i = self.next_gap(i + 1);
         }
         Summary {
             longest,

@@ -2,8 +2,9 @@
 
 //! Iteration over the blocks of a leaf from both ends.
 
-use super::{Leaf, state_in, valid_range};
+use super::{Leaf, state_in};
 use crate::proved::vm_leaf::block::Block;
+use crate::proved::vm_ranges::RangeInclusive;
 
 /// An iterator over consecutive blocks of a leaf, from both ends.
 #[derive(Clone)]
@@ -58,7 +59,7 @@ impl<'a> Blocks<'a> {
         let Some((start, others)) = self.starts.split_first() else {
             return None;
         };
-        let key = valid_range(*start, end_of_first(others, self.end));
+        let key = RangeInclusive::between(*start, end_of_first(others, self.end));
         let state = state_in(self.held, 0);
         self.starts = others;
         self.held >>= 1;
@@ -71,7 +72,7 @@ impl<'a> Blocks<'a> {
         let Some((start, rest)) = self.starts.split_last() else {
             return None;
         };
-        let key = valid_range(*start, self.end);
+        let key = RangeInclusive::between(*start, self.end);
         let state = state_in(self.held, rest.len());
         self.starts = rest;
         self.end = start.saturating_sub(1);

@@ -22,27 +22,30 @@ pub(in crate::proved::vm_tree) struct Claim {
     left: Left,
 }
 
-/// Returns the claim of the range of a search at a place, or the reason why it cannot be allocated.
+/// Returns the claim of the range of a search at a place.
 #[inline(always)]
-fn claim_at(leaf: &Leaf, place: Place, search: &Search) -> Result<Claim, Refusal> {
+fn claim_at(leaf: &Leaf, place: Place, search: &Search) -> Claim {
     let gap = leaf.key_at(place.index);
-    let end = place.start + (search.size - 1);
-    if end == u64::MAX {
-        return Err(Refusal::PastMax);
-    }
-    let Ok(range) = RangeInclusive::new(place.start, end) else {
-        unreachable!()
-    };
+    let range = RangeInclusive::between(place.start, place.start + (search.size - 1));
     let left = Left::of(&gap, &range);
-    if left.added() > 0 && !search.can_split {
-        return Err(Refusal::TooHigh);
-    }
-    Ok(Claim {
+    Claim {
         index: place.index,
         gap,
         range,
         left,
-    })
+    }
+}
+
+/// Returns the reason why a claim of a search cannot be granted, or `None` if it can.
+#[inline(always)]
+fn refusal_of(claim: &Claim, search: &Search) -> Option<Refusal> {
+    if claim.range.end() == u64::MAX {
+        return Some(Refusal::PastMax);
+    }
+    if claim.left.added() > 0 && !search.can_split {
+        return Some(Refusal::TooHigh);
+    }
+    None
 }
 
 /// Returns the leaf of a link to a leaf.
@@ -63,7 +66,7 @@ pub(super) fn leaf_of(tree: &Link) -> &Leaf {
 /// Returns `true` if the leaf has room for the parts that stay free.
 #[inline(always)]
 fn has_room(leaf: &Leaf, left: Left) -> bool {
-    leaf.len() + usize::from(left.added()) <= CAPACITY
+    leaf.len() + left.added() as usize <= CAPACITY
 }
 
 /// Allocates the range of a claim in a leaf that has room for it, and updates what is stored beside the
@@ -132,10 +135,10 @@ fn halve(mut lower: Box<Leaf>, claim: &Claim, mut upper: Box<Leaf>, spare: Box<N
 ///
 /// All memory is allocated before the first change.
 #[inline(never)]
-fn split_leaf(tree: &mut Link, claim: &Claim, alloc: Global) -> Result<(), Refusal> {
-    let (upper, node) = spare_boxes(claim, alloc)?;
+fn split_leaf(tree: &mut Link, claim: Claim, alloc: Global) -> Result<(), Refusal> {
+    let (upper, node) = spare_boxes(&claim, alloc)?;
     let lower = into_leaf(mem::replace(tree, Link::Hole));
-    *tree = halve(lower, claim, upper, node);
+    *tree = halve(lower, &claim, upper, node);
     Ok(())
 }
 
@@ -149,7 +152,10 @@ pub(super) fn place_at(
     alloc: Global,
 ) -> Result<Taken, Refusal> {
     let leaf = leaf_of(tree);
-    let claim = claim_at(leaf, place, search)?;
+    let claim = claim_at(leaf, place, search);
+    if let Some(refusal) = refusal_of(&claim, search) {
+        return Err(refusal);
+    }
     let (start, added) = (place.start, claim.left.added());
     if has_room(leaf, claim.left) {
         let change = take(tree, &claim);
@@ -159,7 +165,7 @@ pub(super) fn place_at(
             change,
         });
     }
-    split_leaf(tree, &claim, alloc)?;
+    split_leaf(tree, claim, alloc)?;
     Ok(Taken {
         start,
         added,
@@ -198,7 +204,10 @@ pub(super) fn place_in_root(
     alloc: Global,
 ) -> Result<Taken, Refusal> {
     let leaf = leaf_of(root);
-    let claim = claim_at(leaf, place, search)?;
+    let claim = claim_at(leaf, place, search);
+    if let Some(refusal) = refusal_of(&claim, search) {
+        return Err(refusal);
+    }
     let taken = Taken {
         start: place.start,
         added: claim.left.added(),
@@ -208,6 +217,6 @@ pub(super) fn place_in_root(
         take_alone(root, &claim);
         return Ok(taken);
     }
-    split_leaf(root, &claim, alloc)?;
+    split_leaf(root, claim, alloc)?;
     Ok(taken)
 }

@@ -3,8 +3,8 @@ use Rattle.vm_ranges.specs.Range.{IsRange}
 use Rattle.vm_leaf.proofs.Rests.{first_of_parts, first_range, rest_left}
 use Rattle.vm_leaf.proofs.leaf.walk.Blocks.take_first.Goals as goal
 
-pub valid_range-key-requires : goal.valid_range-key-requires
-valid_range-key-requires c =
+pub between-key-requires : goal.between-key-requires
+between-key-requires c =
     subst (IsRange c.in-Some.start.now) (sym c.end_of_first.ensures)
     (first_range c.self.inside.starts.now c.self.inside.end c.self.inside.held c.in-Some.start.now c.in-Some.others.now c.in-Some.ensures.cases.0 c.self.invariant)
 
@@ -14,5 +14,5 @@ invariant_of-self c =
 
 pub returns : goal.returns
 returns c =
-    first_of_parts c.args.self.now c.self.inside.starts.now c.self.inside.end c.self.inside.held c.in-Some.start.now c.end_of_first.result c.in-Some.others.now c.valid_range-key.result c.state_in-state.result c.self.view_is
-    c.in-Some.ensures.cases.0 c.valid_range-key.ensures c.end_of_first.ensures c.state_in-state.ensures
+    first_of_parts c.args.self.now c.self.inside.starts.now c.self.inside.end c.self.inside.held c.in-Some.start.now c.end_of_first.result c.in-Some.others.now c.between-key.result c.state_in-state.result c.self.view_is
+    c.in-Some.ensures.cases.0 c.between-key.ensures c.end_of_first.ensures c.state_in-state.ensures
