@@ -71,7 +71,7 @@ TRAITS = {"DoubleEndedIterator", "Eq", "ExactSizeIterator", "From", "Iterator", 
 # Names that no item of a crate may have, because the tables mean the items of the libraries.
 TAKEN = (PRELUDE | NAMES | NUMBERS | TRAITS | {path.split("::")[0] for path in ASSOCIATED}) - {"Result"}
 TRAITS_OF_TESTS = {"Read", "Write"}
-ATTRIBUTES = {"allow", "cold", "default", "error", "inline"}
+ATTRIBUTES = {"allow", "cold", "default", "error", "inline", "repr"}
 KEYWORDS = set("_ as bool break else false for if in let match mut pub return str true while Self".split())
 PATHS = {"crate", "self", "super"}
 REFUSED_WORDS = set("""async await become box char decreases dyn extern f32 f64 gen ghost i8 i16 i32 i64

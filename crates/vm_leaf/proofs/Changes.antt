@@ -18,6 +18,12 @@ pub record WithHeld (m : ℕ) (i : ℕ) (r : ℕ) : Type 0 where
   pub others : (k : ℕ) → k ≢ i → states_in r k ≡ states_in m k
   pub bound : (n : ℕ) → i < n → m < 2 ^ n → r < 2 ^ n
 
+-- A mask with the bit i cleared.
+pub record WithFree (m : ℕ) (i : ℕ) (r : ℕ) : Type 0 where
+  pub same : states_in r i ≡ Free
+  pub others : (k : ℕ) → k ≢ i → states_in r k ≡ states_in m k
+  pub bound : (n : ℕ) → m < 2 ^ n → r < 2 ^ n
+
 module _ (a : Inside) (bs : List Block) (i : ℕ) (v : IsInside a) (e : length a.starts ≡ 32) (view : blocks_of a ≡ bs) (within : i < length bs) where
   long : length bs ≡ a.len
   long = ap length (sym view) ∙ length_of a v e
@@ -28,20 +34,33 @@ module _ (a : Inside) (bs : List Block) (i : ℕ) (v : IsInside a) (e : length a
   held_is : states_in a.held i ≡ (nth bs i).state
   held_is = state_is a bs i v e view within
 
+  -- Only the state of the block changes.
+  recoloured : (m : ℕ) → ((k : ℕ) → k ≢ i → states_in m k ≡ states_in a.held k) → m < 2 ^ a.len → Spliced a (record a { held = m }) i 1 []
+  recoloured m others bound =
+      let n = long in
+      record {
+        starts = sym (take-append-drop (i + 1) (take a.len a.starts)) ∙ ap (λ (x : List ℕ). x ++ drop (i + 1) (take a.len a.starts)) (take-take (i + 1) a.len a.starts (omega arith));
+        below = λ k l. others k (λ f. omega arith);
+        above = λ k. others (i + 1 + 0 + k) (λ f. omega arith) ∙ ap (states_in a.held) (omega arith);
+        end = refl;
+        len = omega arith;
+        mask = bound;
+      }
+
   pub taken : (m : ℕ) → WithHeld a.held i m → (nth bs i).state ≡ Free
       → IsInside (record a { held = m }) × (blocks_of (record a { held = m }) ≡ with_parts bs i 1 (held_block (nth bs i).key ∷ []))
   taken m w free =
       let n = long in
       let q : i + 1 - 1 ≡ i = omega arith in
-      let s : Spliced a (record a { held = m }) i 1 [] = record {
-        starts = sym (take-append-drop (i + 1) (take a.len a.starts)) ∙ ap (λ (x : List ℕ). x ++ drop (i + 1) (take a.len a.starts)) (take-take (i + 1) a.len a.starts (omega arith));
-        below = λ k l. w.others k (λ f. omega arith);
-        above = λ k. w.others (i + 1 + 0 + k) (λ f. omega arith) ∙ ap (states_in a.held) (omega arith);
-        end = refl;
-        len = omega arith;
-        mask = w.bound a.len (omega arith) v.mask;
-      } in
+      let s = recoloured m w.others (w.bound a.len (omega arith) v.mask) in
       spliced a (record a { held = m }) i 1 [] bs s v e view (omega arith) (omega arith) (held_block (nth bs i).key ∷ []) (rw (w.same, q) refl) (leaf_held bs i leaf within free)
+
+  pub released : (m : ℕ) → WithFree a.held i m → (0 < i → (nth bs (i - 1)).state ≡ Allocated) → (i + 1 < length bs → (nth bs (i + 1)).state ≡ Allocated)
+      → IsInside (record a { held = m }) × (blocks_of (record a { held = m }) ≡ with_parts bs i 1 (gap_over bs i 1))
+  released m w before after =
+      let n = long in
+      let s = recoloured m w.others (w.bound a.len v.mask) in
+      spliced a (record a { held = m }) i 1 [] bs s v e view (omega arith) (omega arith) (gap_over bs i 1) (rw w.same refl) (leaf_merged bs i 1 leaf (omega arith) (omega arith) before after)
 
   -- The cuts `extra` are inserted after the block, and the bit j is set.
   widened : (extra S : List ℕ) (r to j m : ℕ) → take (a.len + length extra) S ≡ take (i + 1) a.starts ++ (extra ++ drop (i + 1) (take a.len a.starts))

@@ -3,8 +3,9 @@ use Rattle.std.proofs.Common.{◌≡◌, ℕ, ◌+◌, ◌-◌, ◌<◌, ◌≤�
 use Rattle.std.proofs.lemmas.List.{drop_more, drop_all, get_or-take}
 use Rattle.vm_leaf.specs.Block.{Block}
 use Rattle.vm_leaf.specs.Blocks.{nth}
-use Rattle.std.proofs.Common.{inl, inr}
-use Rattle.std.proofs.lemmas.Bool.{cases_lt}
+use Rattle.std.specs.Prelude.{◌&&◌}
+use Rattle.std.proofs.Common.{true, false, ltb, leb, inl, inr}
+use Rattle.std.proofs.lemmas.Bool.{and_parts, ltb-true, leb-true, lt-ltb, le-leb, cases_lt}
 use Rattle.vm_ranges.specs.Range.{IsRange}
 use Rattle.vm_leaf.specs.Leaf.{tiling, blocks_of, IsInside}
 use Rattle.vm_leaf.specs.States.{states_in}
@@ -86,3 +87,14 @@ module _ (a : Inside) (bs : List Block) (i : ℕ) (v : IsInside a) (e : length a
 
 pub next_above : (a : Inside) (i : ℕ) → IsInside a → length a.starts ≡ 32 → i + 1 < a.len → 1 ≤ get_or a.starts (i + 1) 0
 next_above a i v e l = (block_at a (i + 1) v e l).above (omega arith)
+
+-- A block is in the leaf and starts at y or below it, or not.
+pub both_true : (i n x y : ℕ) → (ltb i n && leb x y) ≡ true → (i < n) × (x ≤ y)
+both_true i n x y e = let p = and_parts (ltb i n) (leb x y) e in (ltb-true i n p.0, leb-true x y p.1)
+
+pub not_both_true : (i n x y : ℕ) → (ltb i n && leb x y) ≡ false → i < n → y < x
+not_both_true i n x y e l =
+    elim (cases_lt y x) [
+      | inl q ↦ q
+      | inr q ↦ (let t : true ≡ false = rw (lt-ltb i n l, le-leb x y q) at e in absurd (cc))
+    ]

@@ -1,8 +1,9 @@
 -- The states in a mask.
-use Rattle.std.proofs.Common.{◌≡◌, ℕ, zero, suc, ◌+◌, ◌-◌, ◌*◌, ◌/◌, ◌%◌, ◌^◌, ◌<◌, ◌≤◌, ◌≢◌, bit_and, bit_or, w64, refl, ap, ◌∙◌, sym, arith}
+use Rattle.std.proofs.Common.{◌≡◌, ℕ, zero, suc, ◌+◌, ◌-◌, ◌*◌, ◌/◌, ◌%◌, ◌^◌, ◌<◌, ◌≤◌, ◌≢◌, bit_and, bit_or, w64, refl, ap, ◌∙◌, sym, arith, inl, inr}
 use Rattle.std.specs.Int.{bit_at}
-use Rattle.std.proofs.lemmas.Nat.Bits.{shr_and_one, bit_at_set_same, bit_at_set_other, bit_at_cat_low, bit_at_cat_high, bit_at_above}
-use Rattle.std.proofs.lemmas.Nat.{pow-add, or_lt}
+use Rattle.std.proofs.lemmas.Bool.{cases_lt}
+use Rattle.std.proofs.lemmas.Nat.Bits.{shr_and_one, bit_at_set_same, bit_at_set_other, bit_at_clear_same, bit_at_clear_other, bit_at_cat_low, bit_at_cat_high, bit_at_above}
+use Rattle.std.proofs.lemmas.Nat.{pow-add, or_lt, and_le_l}
 use Rattle.std.proofs.Math.Nat.{mod-lt, div-add-mod', div-div-eq-div-mul, mul-le-mul_right, mod-eq_of_lt}
 use Rattle.std.proofs.Math.Pow.{pow_pos, pow_mono, pow-lt, shr_lt, shl_exact}
 use Rattle.vm_leaf.specs.States.{states_in, state_of, moved}
@@ -72,6 +73,22 @@ set_lt m i n h l u =
     rw e (or_lt n m (2 ^ i) u (pow-lt l))
 
 pub ruleset setting = (set_same, set_other, set_lt)
+
+-- The state after a bit is cleared.
+pub clear_same : (m i : ℕ) → i < 64 → states_in (bit_and m (18446744073709551615 - 1 * 2 ^ i % 2 ^ 64)) i ≡ Free
+clear_same m i h = ap state_of (bit_at_clear_same w64 m i h)
+
+pub clear_lt : (m i n : ℕ) → m < 2 ^ n → bit_and m (18446744073709551615 - 1 * 2 ^ i % 2 ^ 64) < 2 ^ n
+clear_lt m i n h = omega (arith, and_le_l m (18446744073709551615 - 1 * 2 ^ i % 2 ^ 64))
+
+pub clear_other : (m i k : ℕ) → m < 2 ^ 64 → i < 64 → k ≢ i → states_in (bit_and m (18446744073709551615 - 1 * 2 ^ i % 2 ^ 64)) k ≡ states_in m k
+clear_other m i k fits h n =
+    elim (cases_lt k 64) [
+      | inl l ↦ ap state_of (bit_at_clear_other w64 m i h k l n)
+      | inr l ↦ ap state_of (bit_at_above _ 64 k (clear_lt m i 64 fits) l ∙ sym (bit_at_above m 64 k fits l))
+    ]
+
+pub ruleset clearing = (clear_same, clear_other, clear_lt)
 
 pub shifted : (m from to : ℕ) → m < 2 ^ 32 → from ≤ 32 → to ≤ 32 → (m / 2 ^ from * 2 ^ to) % 2 ^ 64 ≡ m / 2 ^ from * 2 ^ to
 shifted m from to u l h = shift_back m from to 32 u l (omega arith)

@@ -3,7 +3,7 @@ use Rattle.std.proofs.Common.{◌≡◌, ℕ, ◌+◌, ◌-◌, ◌*◌, ◌<◌
 use Rattle.std.proofs.lemmas.Bool.{cases_lt}
 use Rattle.vm_leaf.specs.Block.{Block}
 use Rattle.vm_leaf.specs.Blocks.{nth, IsLeaf}
-use Rattle.vm_leaf.specs.Starts.{IsCountUpTo}
+use Rattle.vm_leaf.specs.Starts.{IsCountUpTo, IsNarrowed}
 use Rattle.vm_leaf.proofs.Tiles.{starts_ascend}
 
 -- A later block starts at x or below it only if an earlier one does.
@@ -22,13 +22,6 @@ fewer_later bs i j x a b h l f g =
       ]
       | inr none ↦ omega arith
     ]
-
--- The index y is that of a block that starts at x or below it, and the block `step` behind it does not.
-pub record IsNarrowed (bs : List Block) (low step x y : ℕ) : Type 0 where
-  pub within : y < length bs
-  pub from : (nth bs y).key.start ≤ x
-  pub upto : y + step < length bs → x < (nth bs (y + step)).key.start
-  pub bound : y ≤ low + 3 * step
 
 module _ (bs : List Block) (low step x a b c : ℕ) (h : IsLeaf bs) (here : low < length bs) (from : (nth bs low).key.start ≤ x)
     (upto : low + 4 * step < length bs → x < (nth bs (low + 4 * step)).key.start)
@@ -62,19 +55,3 @@ module _ (bs : List Block) (low step x a b c : ℕ) (h : IsLeaf bs) (here : low 
           ]
         ]
       ]
-
--- The index of the block with x, after the last step.
-pub found_last : (bs : List Block) (low x n : ℕ) → low < length bs → (nth bs low).key.start ≤ x → (low + 2 < length bs → x < (nth bs (low + 2)).key.start)
-    → IsCountUpTo bs (low + 1) x n → IsNarrowed bs low 1 x (low + n)
-found_last bs low x n here from upto h =
-    elim (cases_lt 0 n) [
-      | inl l ↦ (
-          let e : low + n ≡ low + 1 = omega (arith, h.bound) in
-          let f : low + 1 + 1 ≡ low + 2 = omega arith in
-          rw e (record { within = (h.some l).0; from = (h.some l).1; upto = rw f upto; bound = omega arith })
-          )
-      | inr z ↦ (
-          let e : low + n ≡ low = omega arith in
-          rw e (record { within = here; from = from; upto = h.none (omega arith); bound = omega arith })
-          )
-    ]

@@ -7,7 +7,7 @@ ghost use Rattle.vm_leaf.specs.Block.{held_block};
 ghost use Rattle.vm_leaf.specs.Left.{IsLeft, added_by};
 ghost use Rattle.vm_leaf.specs.Blocks.{nth, start_of, end_of, with_parts, upper_held, lower_held, middle_held, gap_over, parts, freed_at, IsJoined, IsLeaf};
 ghost use Rattle.vm_leaf.specs.Raises.{Raises};
-ghost use Rattle.vm_leaf.specs.Starts.{IsCountUpTo};
+ghost use Rattle.vm_leaf.specs.Starts.{IsCountUpTo, IsNarrowed};
 
 mod ends;
 mod fits;
@@ -31,16 +31,19 @@ pub const CAPACITY: usize = 32;
 pub const MIN_BLOCKS: usize = 12;
 
 /// One to 32 consecutive blocks that cover a range of addresses. Two neighbours are never both free.
+///
+/// The fields have this order in memory, so that few blocks are in few cache lines.
 #[derive(Debug, Drop)]
+#[repr(C)]
 pub struct Leaf {
-    /// The first addresses of the blocks, in ascending order. Only the first `len` are used.
-    starts: [u64; CAPACITY],
     /// The last address of the last block.
     end: u64,
     /// The states: bit `i` is 1 if block `i` is allocated. The bits at or above `len` are 0.
     held: u64,
     /// The number of blocks.
     len: usize,
+    /// The first addresses of the blocks, in ascending order. Only the first `len` are used.
+    starts: [u64; CAPACITY],
 }
 
 /// A place in a leaf: the index of a block and an address in it.
@@ -91,6 +94,18 @@ fn with_held(held: u64, i: usize) -> u64
     ensures bound { (n : ℕ) → i < n → held < 2 ^ n → result < 2 ^ n }
 {
     held | 1 << i
+}
+
+/// Returns the mask `held` with bit `i` cleared.
+#[inline(always)]
+#[tactic(auto, using(crate::proofs::Masks::clearing))]
+fn without_held(held: u64, i: usize) -> u64
+    requires within { i < 64 }
+    ensures same { states_in result i ≡ Free }
+    ensures others { (k : ℕ) → k ≢ i → states_in result k ≡ states_in held k }
+    ensures bound { (n : ℕ) → held < 2 ^ n → result < 2 ^ n }
+{
+    held & !(1 << i)
 }
 
 /// Returns the bits of `held` below `keep`, and the bits starting at `from`, moved so that they start at `to`.
@@ -265,20 +280,39 @@ impl Leaf {
         if (i < len) & (first <= address) { 1 } else { 0 }
     }
 
+    /// Returns `low + half` if that block exists and starts at or below `address`, otherwise `low`.
+    ///
+    /// The block with the address must be one of the `2 * half` blocks starting at `low`.
+    #[inline(always)]
+    #[tactic(auto, using(crate::proofs::Fields::length_of))]
+    fn narrow_to_half(&self, low: usize, half: usize, address: u64) -> usize
+        requires within { low < length self.now }
+        requires from { (nth self.now low).key.start ≤ address }
+        requires fits { low + half < 32 }
+        requires upto { low + 2 * half < length self.now → address < (nth self.now (low + 2 * half)).key.start }
+        ensures { IsNarrowed self.now low half address result }
+    {
+        let len = self.len;
+        let middle = low + half;
+        let first = self.starts[middle];
+        if (middle < len) & (first <= address) {
+            middle
+        } else {
+            low
+        }
+    }
+
     /// Returns the last of the indices `low`, `low + step`, `low + 2 * step` and `low + 3 * step` whose
-    /// block exists and starts at or below `address`.
+    /// block exists and starts at or below `address`. The processor can compare the three starts at once.
     ///
     /// The block with the address must be one of the `4 * step` blocks starting at `low`.
     #[inline(always)]
-    fn narrow(&self, low: usize, step: usize, address: u64) -> usize
+    fn narrow_to_quarter(&self, low: usize, step: usize, address: u64) -> usize
         requires within { low < length self.now }
         requires from { (nth self.now low).key.start ≤ address }
         requires fits { low + 3 * step < 32 }
         requires upto { low + 4 * step < length self.now → address < (nth self.now (low + 4 * step)).key.start }
-        ensures within { result < length self.now }
-        ensures from { (nth self.now result).key.start ≤ address }
-        ensures upto { result + step < length self.now → address < (nth self.now (result + step)).key.start }
-        ensures bound { result ≤ low + 3 * step }
+        ensures { IsNarrowed self.now low step address result }
     {
         // Proof: `len` gives the facts of a leaf.
         let _len = self.len();
@@ -290,19 +324,23 @@ impl Leaf {
 
     /// Returns the index of the block with `address`, which must be in the leaf.
     ///
-    /// The search compares the address with three starts, with three more and with one. No branch
-    /// depends on it. It also reads entries of the array behind the last block, which have no effect.
+    /// No branch depends on the address. The search also reads entries of the array behind the last block,
+    /// which have no effect.
     pub fn index_of(&self, address: u64) -> usize
         requires from { start_of self.now ≤ address }
         requires upto { address ≤ end_of self.now }
         ensures within { result < length self.now }
         ensures found { IsIn (nth self.now result).key address }
     {
-        // Proof: `len` gives the facts of a leaf.
-        let _len = self.len();
-        let low = self.narrow(0, 8, address);
-        let low = self.narrow(low, 2, address);
-        low + self.count_up_to(low + 1, address)
+        if self.len() > 16 {
+            let low = self.narrow_to_quarter(0, 8, address);
+            let low = self.narrow_to_quarter(low, 2, address);
+            return self.narrow_to_half(low, 1, address);
+        }
+        let low = self.narrow_to_half(0, 8, address);
+        let low = self.narrow_to_half(low, 4, address);
+        let low = self.narrow_to_half(low, 2, address);
+        self.narrow_to_half(low, 1, address)
     }
 
     /// Allocates the whole gap `i`.
@@ -461,6 +499,36 @@ impl Leaf {
         gap
     }
 
+    /// Frees block `i`. Its neighbours must be allocated.
+    #[inline(always)]
+    #[tactic(auto, using(crate::proofs::Fields::length_of))]
+    fn clear(&mut self, i: usize)
+        requires within { i < length self.old }
+        requires before { 0 < i → (nth self.old (i - 1)).state ≡ Allocated }
+        requires after { i + 1 < length self.old → (nth self.old (i + 1)).state ≡ Allocated }
+        ensures { self.new ≡ with_parts self.old i 1 (gap_over self.old i 1) }
+    {
+        self.held = without_held(self.held, i);
+    }
+
+    /// Frees block `i`, and returns its range. Its neighbours must be allocated.
+    #[inline(always)]
+    #[tactic(auto, using(crate::proofs::Raised::joins))]
+    fn release(&mut self, i: usize) -> RangeInclusive
+        requires within { i < length self.old }
+        requires before { 0 < i → (nth self.old (i - 1)).state ≡ Allocated }
+        requires after { i + 1 < length self.old → (nth self.old (i + 1)).state ≡ Allocated }
+        ensures key { result ≡ (nth self.old i).key }
+        ensures merged { self.new ≡ with_parts self.old i 1 (gap_over self.old i 1) }
+        ensures raised { Raises result self.old self.new }
+    {
+        // Proof: `len` gives the facts of a leaf.
+        let _len = self.len();
+        let gap = self.key_at(i);
+        self.clear(i);
+        gap
+    }
+
     /// Frees the allocated block `i`, joins it with its free neighbours, and returns the range of the gap.
     #[inline(always)]
     pub fn join(&mut self, i: usize) -> RangeInclusive
@@ -482,7 +550,7 @@ impl Leaf {
         if after {
             return self.join_blocks(i, 2);
         }
-        self.join_blocks(i, 1)
+        self.release(i)
     }
 
     /// Removes the blocks starting at index `at`, and returns a leaf of them.

@@ -39,6 +39,7 @@ mod copy;
 mod find;
 mod free;
 mod link;
+mod list;
 mod mend;
 mod search;
 mod steps;

@@ -2,7 +2,7 @@
 //!
 //! A tree that is one leaf stores no summary, because a search of the leaf is as fast without it. All other
 //! calls pass the root to the recursive functions of this crate.
-ghost use Rattle.std.specs.Prelude.{◌≡◌, ◌≢◌, true, Err, OnErr, ◌+◌, ◌*◌, ◌<◌, ◌≤◌, ◌∷◌, [], length, IfOk, IfSome, MatchOption, ◌^◌};
+ghost use Rattle.std.specs.Prelude.{◌≡◌, ◌≢◌, true, Err, OnErr, ◌+◌, ◌*◌, ◌<◌, ◌≤◌, ◌∷◌, [], ◌++◌, length, IfOk, IfSome, MatchOption, ◌^◌};
 ghost use Rattle.vm_ranges.specs.Range.{IsIn, at_address};
 ghost use Rattle.vm_leaf.specs.Block.{free_block};
 ghost use Rattle.vm_leaf.specs.Blocks.{longest_gap};
@@ -28,6 +28,7 @@ use crate::copy::copy;
 use crate::find::block_at;
 use crate::free::{free_at, free_in};
 use crate::link::{Link, Node, height, leaf_link};
+use crate::list::append_blocks;
 use crate::search::{Refusal, Search, Taken};
 use crate::steps::Steps;
 use crate::walk::Walk;
@@ -134,6 +135,13 @@ impl Tree {
         ensures { result ≡ find_superset (at_address address) (blocks self.now) }
     {
         block_at(&self.root, address)
+    }
+
+    /// Appends all blocks to a list, or returns an error if an allocation fails.
+    pub fn append_blocks(&self, list: &mut Vec<Block>) -> Result<(), AllocError>
+        ensures { IfOk result (λ _. list.new.items ≡ list.old.items ++ blocks self.now) }
+    {
+        append_blocks(&self.root, list)
     }
 
     /// Returns an iterator over all blocks, from both ends. It does not allocate.

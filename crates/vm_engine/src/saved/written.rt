@@ -23,10 +23,7 @@ impl WrittenBlocks {
         ensures { IfOk result (λ written. written.list.items ≡ blocks tree.now) }
     {
         let mut list = Vec::with_capacity(alloc, (tree.held_count + tree.gap_count) as usize)?;
-        let mut rest = tree.blocks();
-        while let Some(block) = rest.next() {
-            list.push(block)?;
-        }
+        tree.tree.append_blocks(&mut list)?;
         Ok(WrittenBlocks { list })
     }
 

@@ -23,16 +23,19 @@ pub(in crate::proved) const CAPACITY: usize = 32;
 pub(in crate::proved) const MIN_BLOCKS: usize = 12;
 
 /// One to 32 consecutive blocks that cover a range of addresses. Two neighbours are never both free.
+///
+/// The fields have this order in memory, so that few blocks are in few cache lines.
 #[derive(Debug)]
+#[repr(C)]
 pub(in crate::proved) struct Leaf {
-    /// The first addresses of the blocks, in ascending order. Only the first `len` are used.
-    starts: [u64; CAPACITY],
     /// The last address of the last block.
     end: u64,
     /// The states: bit `i` is 1 if block `i` is allocated. The bits at or above `len` are 0.
     held: u64,
     /// The number of blocks.
     len: usize,
+    /// The first addresses of the blocks, in ascending order. Only the first `len` are used.
+    starts: [u64; CAPACITY],
 }
 
 /// A place in a leaf: the index of a block and an address in it.
@@ -58,6 +61,12 @@ fn state_in(held: u64, i: usize) -> NodeState {
 #[inline(always)]
 fn with_held(held: u64, i: usize) -> u64 {
     held | 1 << i
+}
+
+/// Returns the mask `held` with bit `i` cleared.
+#[inline(always)]
+fn without_held(held: u64, i: usize) -> u64 {
+    held & !(1 << i)
 }
 
 /// Returns the bits of `held` below `keep`, and the bits starting at `from`, moved so that they start at `to`.
@@ -169,12 +178,27 @@ impl Leaf {
         if (i < len) & (first <= address) { 1 } else { 0 }
     }
 
+    /// Returns `low + half` if that block exists and starts at or below `address`, otherwise `low`.
+    ///
+    /// The block with the address must be one of the `2 * half` blocks starting at `low`.
+    #[inline(always)]
+    fn narrow_to_half(&self, low: usize, half: usize, address: u64) -> usize {
+        let len = self.len;
+        let middle = low + half;
+        let first = self.starts[middle];
+        if (middle < len) & (first <= address) {
+            middle
+        } else {
+            low
+        }
+    }
+
     /// Returns the last of the indices `low`, `low + step`, `low + 2 * step` and `low + 3 * step` whose
-    /// block exists and starts at or below `address`.
+    /// block exists and starts at or below `address`. The processor can compare the three starts at once.
     ///
     /// The block with the address must be one of the `4 * step` blocks starting at `low`.
     #[inline(always)]
-    fn narrow(&self, low: usize, step: usize, address: u64) -> usize {
+    fn narrow_to_quarter(&self, low: usize, step: usize, address: u64) -> usize {
         // Proof: `len` gives the facts of a leaf.
         let _len = self.len();
         let first = self.count_up_to(low + step, address);
@@ -185,14 +209,18 @@ impl Leaf {
 
     /// Returns the index of the block with `address`, which must be in the leaf.
     ///
-    /// The search compares the address with three starts, with three more and with one. No branch
-    /// depends on it. It also reads entries of the array behind the last block, which have no effect.
+    /// No branch depends on the address. The search also reads entries of the array behind the last block,
+    /// which have no effect.
     pub(in crate::proved) fn index_of(&self, address: u64) -> usize {
-        // Proof: `len` gives the facts of a leaf.
-        let _len = self.len();
-        let low = self.narrow(0, 8, address);
-        let low = self.narrow(low, 2, address);
-        low + self.count_up_to(low + 1, address)
+        if self.len() > 16 {
+            let low = self.narrow_to_quarter(0, 8, address);
+            let low = self.narrow_to_quarter(low, 2, address);
+            return self.narrow_to_half(low, 1, address);
+        }
+        let low = self.narrow_to_half(0, 8, address);
+        let low = self.narrow_to_half(low, 4, address);
+        let low = self.narrow_to_half(low, 2, address);
+        self.narrow_to_half(low, 1, address)
     }
 
     /// Allocates the whole gap `i`.
@@ -288,6 +316,22 @@ impl Leaf {
         gap
     }
 
+    /// Frees block `i`. Its neighbours must be allocated.
+    #[inline(always)]
+    fn clear(&mut self, i: usize) {
+        self.held = without_held(self.held, i);
+    }
+
+    /// Frees block `i`, and returns its range. Its neighbours must be allocated.
+    #[inline(always)]
+    fn release(&mut self, i: usize) -> RangeInclusive {
+        // Proof: `len` gives the facts of a leaf.
+        let _len = self.len();
+        let gap = self.key_at(i);
+        self.clear(i);
+        gap
+    }
+
     /// Frees the allocated block `i`, joins it with its free neighbours, and returns the range of the gap.
     #[inline(always)]
     pub(in crate::proved) fn join(&mut self, i: usize) -> RangeInclusive {
@@ -303,7 +347,7 @@ impl Leaf {
         if after {
             return self.join_blocks(i, 2);
         }
-        self.join_blocks(i, 1)
+        self.release(i)
     }
 
     /// Removes the blocks starting at index `at`, and returns a leaf of them.

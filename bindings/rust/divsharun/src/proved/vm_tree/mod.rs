@@ -40,6 +40,7 @@ mod copy;
 mod find;
 mod free;
 mod link;
+mod list;
 mod mend;
 mod search;
 mod steps;

@@ -5,7 +5,7 @@
 //! A tree that is one leaf stores no summary, because a search of the leaf is as fast without it. All other
 //! calls pass the root to the recursive functions of this crate.
 
-use crate::rattle::Box;
+use crate::rattle::{Box, Vec};
 use crate::proved::vm_tree::allocate::exact::{exact_at, exact_in_root};
 use crate::proved::vm_tree::allocate::first::{first_at, first_in_root};
 use crate::proved::vm_tree::allocate::last::{last_at, last_in_root};
@@ -16,6 +16,7 @@ use crate::proved::vm_tree::copy::copy;
 use crate::proved::vm_tree::find::block_at;
 use crate::proved::vm_tree::free::{free_at, free_in};
 use crate::proved::vm_tree::link::{Link, Node, height, leaf_link};
+use crate::proved::vm_tree::list::append_blocks;
 use crate::proved::vm_tree::search::{Refusal, Search, Taken};
 use crate::proved::vm_tree::steps::Steps;
 use crate::proved::vm_tree::walk::Walk;
@@ -85,6 +86,11 @@ impl Tree {
     /// Returns the block that contains an address, or `None` outside the space.
     pub(in crate::proved) fn block_at(&self, address: u64) -> Option<Block> {
         block_at(&self.root, address)
+    }
+
+    /// Appends all blocks to a list, or returns an error if an allocation fails.
+    pub(in crate::proved) fn append_blocks(&self, list: &mut Vec<Block>) -> Result<(), AllocError> {
+        append_blocks(&self.root, list)
     }
 
     /// Returns an iterator over all blocks, from both ends. It does not allocate.

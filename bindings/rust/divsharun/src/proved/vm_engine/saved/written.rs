@@ -19,10 +19,7 @@ impl WrittenBlocks {
     /// Returns the blocks of a tree, or an error if the allocation of the list fails.
     pub fn new(alloc: Global, tree: &IntervalTree) -> core::result::Result<Self, AllocError> {
         let mut list = Vec::with_capacity(alloc, (tree.held_count + tree.gap_count) as usize)?;
-        let mut rest = tree.blocks();
-        while let Some(block) = rest.next() {
-            list.push(block)?;
-        }
+        tree.tree.append_blocks(&mut list)?;
         Ok(WrittenBlocks { list })
     }
 
