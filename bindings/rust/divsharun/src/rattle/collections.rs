@@ -88,7 +88,10 @@ impl<K: Ord + Copy, V> BTreeMap<K, V> {
 
     /// Returns the place of a key, or the place where it would be inserted.
     fn place_of(&self, key: &K) -> Result<Place, Place> {
-        let at = self.bounds.partition_point(|bound| bound >= key);
+        let at = match self.bounds.is_empty() {
+            true => 0,
+            false => self.bounds.partition_point(|bound| bound >= key),
+        };
         let in_chunk = |entry| Place { chunk: at, entry };
         let found = self.chunk(at).binary_search_by(|entry| key.cmp(&entry.0));
         found.map(in_chunk).map_err(in_chunk)
@@ -108,25 +111,27 @@ impl<K: Ord + Copy, V> BTreeMap<K, V> {
                 Ok(Some(core::mem::replace(&mut entry.1, value)))
             }
             Err(place) => {
-                let Ok(place) = self.make_room(place, key) else {
-                    return Err(AllocFailed((key, value)));
-                };
                 let chunk = self.chunk_mut(place.chunk);
-                chunk.insert(place.entry, (key, value));
+                if chunk.len() < chunk.capacity() {
+                    chunk.insert(place.entry, (key, value));
+                } else {
+                    let Ok(place) = self.make_room(place, key) else {
+                        return Err(AllocFailed((key, value)));
+                    };
+                    let chunk = self.chunk_mut(place.chunk);
+                    chunk.insert(place.entry, (key, value));
+                }
                 self.len += 1;
                 Ok(None)
             }
         }
     }
 
-    /// Makes room for a new key at a place, and returns the place that it has then. An error changes no
-    /// entry.
+    /// Makes room for a new key at a place of a chunk without room, and returns the place that it has then.
+    /// An error changes no entry.
     fn make_room(&mut self, place: Place, key: K) -> Result<Place, AllocError> {
         let chunk = self.chunk_mut(place.chunk);
         let len = chunk.len();
-        if len < chunk.capacity() {
-            return Ok(place);
-        }
         if len == Self::MAX_ENTRIES {
             return self.split(place, key);
         }
