@@ -1,5 +1,5 @@
 -- A list of blocks in which a range is allocated.
-use Rattle.std.specs.Prelude.{◌⊎◌, Result, Ok, Err, OnErr}
+use Rattle.std.specs.Prelude.{◌⊎◌, Some, Result, Ok, Err, OnErr}
 use Rattle.std.proofs.Common.{◌≡◌, ◌≢◌, ℕ, ◌+◌, ◌-◌, ◌<◌, ◌≤◌, List, [], ◌∷◌, ◌++◌, length, take, drop, refl, ap, ◌∙◌, sym, arith, inl, inr, append_assoc, length-append}
 use Rattle.std.proofs.lemmas.Bool.{cases_lt}
 use Rattle.vm_ranges.specs.Range.{Range, IsIn, span}
@@ -9,14 +9,13 @@ use Rattle.vm_leaf.specs.declared.block.Block.{Block}
 use Rattle.vm_leaf.specs.Block.{free_block}
 use Rattle.vm_leaf.specs.Blocks.{Tiles, nth, start_of, parts, IsRun, IsTakenFrom}
 use Rattle.vm_leaf.specs.Left.{IsLeft}
-use Rattle.vm_leaf.specs.declared.leaf.Place.{Place}
 use Rattle.vm_leaf.specs.declared.leaf.left.Left.{Left}
 use Rattle.vm_leaf.specs.declared.leaf.left.Left.TheVariants.{Nothing, Before, After, Both}
 use Rattle.vm_leaf.proofs.Parts.{parts_all, parts_upper, parts_lower, parts_middle}
 use Rattle.vm_leaf.proofs.Tiles.{tiles_under, tiles_weaken, after_held, last_state}
 use Rattle.vm_tree.specs.Shape.{Shape, blocks}
 use Rattle.vm_tree.specs.Allocation.{Spot, IsSpotIn, SettlesAt, SettlesIn, IsTakenAt, IsBlockAt, AllocatesExact}
-use Rattle.vm_tree.specs.Placing.{spot_at, IsExactPlace}
+use Rattle.vm_tree.specs.Placing.{spot_at, LiesIn, RefusesIn}
 use Rattle.vm_tree.proofs.Lists.{cut_at}
 use Rattle.vm_tree.specs.declared.search.Search.{Search}
 use Rattle.vm_tree.specs.declared.search.Taken.{Taken}
@@ -145,31 +144,31 @@ module _ (seek : Search) (t : ℕ) (bs : List Block) (i : ℕ) where
       → SettlesIn seek t (take i bs) (nth bs i).state (nth bs i).key (drop (i + 1) bs) new answer → AllocatesExact seek t bs new answer
   found new answer l f h = record { lower = take i bs; block = nth bs i; upper = drop (i + 1) bs; at = here l f; settles = h }
 
-  pub exact_held : i < length bs → IsIn (nth bs i).key t → (nth bs i).state ≡ Allocated → (nth bs i).key.start ≡ t → (nth bs i).key.end ≡ t + seek.size - 1
-      → AllocatesExact seek t bs bs (Err Held)
-  exact_held l f state start end = found bs (Err Held) l f (rw state (inl (same_key (nth bs i).key t (t + seek.size - 1) start end, refl)))
+  pub exact_refused : (refusal : Refusal) → i < length bs → IsIn (nth bs i).key t → RefusesIn seek t (nth bs i) (Some refusal) → AllocatesExact seek t bs bs (Err refusal)
+  exact_refused refusal l f h = found bs (Err refusal) l f (h (take i bs) (drop (i + 1) bs) bs)
 
-  pub exact_other_start : i < length bs → IsIn (nth bs i).key t → (nth bs i).state ≡ Allocated → (nth bs i).key.start ≢ t → AllocatesExact seek t bs bs (Err NoPlace)
-  exact_other_start l f state start = found bs (Err NoPlace) l f (rw state (inr (λ e. start (ap (λ (k : Range). k.start) e), refl)))
+  -- A range that lies in a gap and in the window.
+  pub exact_settled : (new : List Block) (answer : Result Taken Refusal) → 0 < seek.size → i < length bs → IsIn (nth bs i).key t → LiesIn seek t (nth bs i)
+      → SettlesAt seek (spot_at bs (record { index = i; start = t })) new answer → AllocatesExact seek t bs new answer
+  exact_settled new answer z l f h s =
+      found new answer l f (rw h.free (inr ((λ e. elim e [ inl l ↦ omega (arith, h.upto) | inr l ↦ omega (arith, h.high) ]), s)))
 
-  pub exact_other_end : i < length bs → IsIn (nth bs i).key t → (nth bs i).state ≡ Allocated → (nth bs i).key.end ≢ t + seek.size - 1 → AllocatesExact seek t bs bs (Err NoPlace)
-  exact_other_end l f state end = found bs (Err NoPlace) l f (rw state (inr (λ e. end (ap (λ (k : Range). k.end) e), refl)))
+-- ---- The reason why an exact range cannot be allocated in a block
+module _ (seek : Search) (t : ℕ) (b : Block) where
+  pub refused_held : b.state ≡ Allocated → b.key.start ≡ t → b.key.end ≡ t + seek.size - 1 → RefusesIn seek t b (Some Held)
+  refused_held state start end = λ lower upper new. rw state (inl (same_key b.key t (t + seek.size - 1) start end, refl))
 
-  pub exact_short : i < length bs → IsIn (nth bs i).key t → (nth bs i).state ≡ Free → (nth bs i).key.end < t + seek.size - 1 → AllocatesExact seek t bs bs (Err NoPlace)
-  exact_short l f state short = found bs (Err NoPlace) l f (rw state (inl (inl short, refl)))
+  pub refused_other_start : b.state ≡ Allocated → b.key.start ≢ t → RefusesIn seek t b (Some NoPlace)
+  refused_other_start state start = λ lower upper new. rw state (inr (λ e. start (ap (λ (k : Range). k.start) e), refl))
 
-  pub exact_past : i < length bs → IsIn (nth bs i).key t → (nth bs i).state ≡ Free → seek.high < t + seek.size - 1 → AllocatesExact seek t bs bs (Err NoPlace)
-  exact_past l f state past = found bs (Err NoPlace) l f (rw state (inl (inr past, refl)))
+  pub refused_other_end : b.state ≡ Allocated → b.key.end ≢ t + seek.size - 1 → RefusesIn seek t b (Some NoPlace)
+  refused_other_end state end = λ lower upper new. rw state (inr (λ e. end (ap (λ (k : Range). k.end) e), refl))
 
--- A range that lies in a gap and in the window.
-pub exact_settled : (seek : Search) (t : ℕ) (bs new : List Block) (place : Place) (answer : Result Taken Refusal) → 0 < seek.size → IsExactPlace seek t bs place
-    → SettlesAt seek (spot_at bs place) new answer → AllocatesExact seek t bs new answer
-exact_settled seek t bs new place answer z h s =
-    let free : (nth bs place.index).state ≡ Free = h.here.free in
-    let q : place.start ≡ t = h.start in
-    let g : SettlesAt seek (record { lower = take place.index bs; key = (nth bs place.index).key; upper = drop (place.index + 1) bs; start = t }) new answer = rw q at s in
-    found seek t bs place.index new answer h.here.within (omega (arith, h.here.from), omega (arith, h.here.upto))
-    (rw free (inr ((λ e. elim e [ inl l ↦ omega (arith, h.here.upto) | inr l ↦ omega (arith, h.high) ]), g)))
+  pub refused_short : b.state ≡ Free → b.key.end < t + seek.size - 1 → RefusesIn seek t b (Some NoPlace)
+  refused_short state short = λ lower upper new. rw state (inl (inl short, refl))
+
+  pub refused_past : b.state ≡ Free → seek.high < t + seek.size - 1 → RefusesIn seek t b (Some NoPlace)
+  refused_past state past = λ lower upper new. rw state (inl (inr past, refl))
 
 -- ---- An exact range in the left part of a list, and in the right part
 in_left : (seek : Search) (t : ℕ) (lower : List Block) (state : NodeState) (key : Range) (upper m r : List Block) (answer : Result Taken Refusal)
@@ -239,4 +238,5 @@ pub exact_start : (seek : Search) (t : ℕ) (old new : Shape) (answer : Result T
 exact_start seek t old new (Ok taken) z run h u = start_allocated seek (blocks old) (blocks new) taken run (exact_allocated seek t (blocks old) (blocks new) taken z h)
 exact_start seek t old new (Err refusal) z run h u = ap (λ (s : Shape). start_of (blocks s)) u
 
-pub ruleset finding_exact = (exact_held, exact_other_start, exact_other_end, exact_short, exact_past)
+pub ruleset refusing = (refused_held, refused_other_start, refused_other_end, refused_short, refused_past)
+pub ruleset settling_exact = (exact_refused, exact_settled)

@@ -1,13 +1,13 @@
 -- A range that is to be allocated in a gap of a leaf.
-use Rattle.std.specs.Prelude.{◌≡◌, ℕ, ◌+◌, ◌≤◌, ◌<◌, List, length, take, drop, true, false, Option, Some, None, Result, Ok, Err}
-use Rattle.vm_ranges.specs.Range.{MAX, span}
+use Rattle.std.specs.Prelude.{◌≡◌, ℕ, ◌+◌, ◌≤◌, ◌<◌, List, length, take, drop, true, false, Option, Some, None, Err}
+use Rattle.vm_ranges.specs.Range.{Range, MAX, span}
 use Rattle.vm_ranges.specs.declared.state.NodeState.TheVariants.{Free}
 use Rattle.vm_leaf.specs.declared.block.Block.{Block}
 use Rattle.vm_leaf.specs.Block.{free_block}
 use Rattle.vm_leaf.specs.Blocks.{nth, start_of, end_of, IsTakenFrom}
 use Rattle.vm_leaf.specs.Left.{IsLeft, added_by}
 use Rattle.vm_leaf.specs.declared.leaf.Place.{Place}
-use Rattle.vm_tree.specs.Allocation.{Spot, AllocatesExact}
+use Rattle.vm_tree.specs.Allocation.{Spot, SettlesIn}
 use Rattle.vm_tree.specs.declared.allocate.place.Claim.{Claim}
 use Rattle.vm_tree.specs.declared.search.Search.{Search}
 use Rattle.vm_tree.specs.declared.search.Refusal.{Refusal}
@@ -31,11 +31,13 @@ pub record IsClaimIn (bs : List Block) (claim : Claim) : Type 0 where
   pub taken : IsTakenFrom claim.gap claim.range
   pub left : IsLeft claim.left claim.gap claim.range
 
--- The claim is that of the range of the search at the place.
-pub record IsClaimAt (search : Search) (bs : List Block) (place : Place) (claim : Claim) : Type 0 where
-  pub claim_in : IsClaimIn bs claim
+-- The claim is that of the range of the search at the place in the gap k.
+pub record IsClaimAt (search : Search) (k : Range) (place : Place) (claim : Claim) : Type 0 where
   pub index : claim.index ≡ place.index
+  pub gap : claim.gap ≡ k
   pub range : claim.range ≡ span place.start search.size
+  pub taken : IsTakenFrom claim.gap claim.range
+  pub left : IsLeft claim.left claim.gap claim.range
 
 -- Why the claim cannot be granted, or None if it can: its range ends below MAX, and gaps can be split if it splits one.
 abbrev pub RefusesClaim : Search → Claim → Option Refusal → Type 0
@@ -54,13 +56,13 @@ pub record IsStartIn (search : Search) (t : ℕ) (bs : List Block) : Type 0 wher
   pub high : t ≤ search.high
   pub fits : t + search.size ≤ MAX + 1
 
--- The range of the search at t lies in a gap of the blocks and in the window. The place is at t.
-pub record IsExactPlace (search : Search) (t : ℕ) (bs : List Block) (place : Place) : Type 0 where
-  pub here : IsPlaceIn search.size bs place
-  pub start : place.start ≡ t
+-- The range of the search at t lies in the block, which is a gap, and in the window.
+pub record LiesIn (search : Search) (t : ℕ) (b : Block) : Type 0 where
+  pub free : b.state ≡ Free
+  pub upto : t + search.size ≤ b.key.end + 1
   pub high : t + search.size ≤ search.high + 1
 
--- The place of the range of the search at t, or its error.
-abbrev pub FindsExact : Search → ℕ → List Block → Result Place Refusal → Type 0
-FindsExact search t bs (Ok place) = IsExactPlace search t bs place
-FindsExact search t bs (Err refusal) = AllocatesExact search t bs bs (Err refusal)
+-- Why the range of the search at t cannot be allocated in the block, or None if it lies there and in the window.
+abbrev pub RefusesIn : Search → ℕ → Block → Option Refusal → Type 0
+RefusesIn search t b None = LiesIn search t b
+RefusesIn search t b (Some refusal) = (lower upper new : List Block) → SettlesIn search t lower b.state b.key upper new (Err refusal)

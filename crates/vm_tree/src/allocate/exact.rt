@@ -6,7 +6,7 @@ ghost use Rattle.vm_tree.specs.Links.{side, IsSummed};
 ghost use Rattle.vm_tree.specs.Growth.{IsSubtree, IsChild, GrowsIfOk, GrowsBelowIfOk};
 ghost use Rattle.vm_tree.specs.Allocation.{IsSearch, AllocatesExact};
 ghost use Rattle.vm_tree.specs.NodeCounts.{nodes_to_address};
-ghost use Rattle.vm_tree.specs.Placing.{IsStartIn, FindsExact};
+ghost use Rattle.vm_tree.specs.Placing.{IsStartIn, RefusesIn};
 
 use super::place::{leaf_of, place_at, place_in_root};
 use crate::change::update;
@@ -14,48 +14,44 @@ use crate::link::{Link, Node};
 use crate::search::{Refusal, Search, Taken};
 use crate::steps::Steps;
 use std::alloc::Global;
-use vm_leaf::{Leaf, Place};
+use vm_leaf::{Block, Place};
 use vm_ranges::NodeState;
 
-/// Returns the place of the range of a search in a leaf, or the reason why it cannot be allocated. The
-/// leaf contains the first address of the range.
+/// Returns the reason why the range of a search that starts at `start` cannot be allocated in the block that
+/// contains `start`, or `None` if it lies in a gap and in the window.
 #[inline(always)]
-#[tactic(auto, using(crate::proofs::Allocating::finding_exact))]
-fn find_exact(leaf: &Leaf, start: u64, search: &Search) -> Result<Place, Refusal>
+#[tactic(auto, using(crate::proofs::Allocating::refusing))]
+fn refusal_in(block: &Block, start: u64, search: &Search) -> Option<Refusal>
     requires search { IsSearch search.now }
-    requires start { IsStartIn search.now start leaf.now }
-    ensures { FindsExact search.now start leaf.now result }
+    requires fits { start + search.now.size ≤ MAX + 1 }
+    ensures { RefusesIn search.now start block.now result }
 {
-    // Proof: `len` gives the facts of a leaf.
-    let _len = leaf.len();
-    let index = leaf.index_of(start);
-    let block = leaf.block_at(index);
     let end = start + (search.size - 1);
     match block.state {
         NodeState::Allocated => {
             if block.key.start() != start {
-                return Err(Refusal::NoPlace);
+                return Some(Refusal::NoPlace);
             }
             if block.key.end() != end {
-                return Err(Refusal::NoPlace);
+                return Some(Refusal::NoPlace);
             }
-            Err(Refusal::Held)
+            Some(Refusal::Held)
         }
         NodeState::Free => {
             if block.key.end() < end {
-                return Err(Refusal::NoPlace);
+                return Some(Refusal::NoPlace);
             }
             if search.high < end {
-                return Err(Refusal::NoPlace);
+                return Some(Refusal::NoPlace);
             }
-            Ok(Place { index, start })
+            None
         }
     }
 }
 
 /// Allocates the range of a search that starts at `start` in a leaf, and updates what is stored beside
 /// the link.
-#[tactic(auto, using(crate::proofs::Allocating::exact_settled, crate::proofs::Trees::sizes))]
+#[tactic(auto, using(crate::proofs::Allocating::settling_exact, crate::proofs::Trees::sizes))]
 #[inline(never)]
 fn exact_in_leaf(
     tree: &mut Link,
@@ -72,15 +68,20 @@ fn exact_in_leaf(
     ensures change { GrowsIfOk result (side tree.old) (side tree.new) }
     ensures summed { IsSummed tree.new }
 {
-    match find_exact(leaf_of(tree), start, search) {
-        Err(refusal) => Err(refusal),
-        Ok(place) => place_at(tree, place, search, alloc),
+    let leaf = leaf_of(tree);
+    // Proof: `len` gives the facts of a leaf.
+    let _len = leaf.len();
+    let index = leaf.index_of(start);
+    let block = leaf.block_at(index);
+    match refusal_in(&block, start, search) {
+        Some(refusal) => Err(refusal),
+        None => place_at(tree, Place { index, start }, block.key, search, alloc),
     }
 }
 
 /// Allocates the range of a search that starts at `start` in a leaf that is the whole tree, and of which
 /// nothing correct is stored beside the link.
-#[tactic(auto, using(crate::proofs::Allocating::exact_settled, crate::proofs::Trees::sizes))]
+#[tactic(auto, using(crate::proofs::Allocating::settling_exact, crate::proofs::Trees::sizes))]
 pub(crate) fn exact_in_root(
     root: &mut Link,
     start: u64,
@@ -96,9 +97,14 @@ pub(crate) fn exact_in_root(
     ensures tree { IfOk result (λ _. IsTree (side root.new) × (height_of (side root.new) ≤ 2)) }
     ensures summed { 2 ≤ height_of (side root.new) → IsSummed root.new }
 {
-    match find_exact(leaf_of(root), start, search) {
-        Err(refusal) => Err(refusal),
-        Ok(place) => place_in_root(root, place, search, alloc),
+    let leaf = leaf_of(root);
+    // Proof: `len` gives the facts of a leaf.
+    let _len = leaf.len();
+    let index = leaf.index_of(start);
+    let block = leaf.block_at(index);
+    match refusal_in(&block, start, search) {
+        Some(refusal) => Err(refusal),
+        None => place_in_root(root, Place { index, start }, block.key, search, alloc),
     }
 }
 

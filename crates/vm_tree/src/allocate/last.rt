@@ -32,7 +32,10 @@ fn last_in_leaf(tree: &mut Link, search: &Search, alloc: Global) -> Result<Taken
     let leaf = leaf_of(tree);
     match leaf.last_fit_in(search.low, search.high, search.size, search.alignment) {
         None => Err(Refusal::NoPlace),
-        Some(place) => place_at(tree, place, search, alloc),
+        Some(place) => {
+            let gap = leaf.key_at(place.index);
+            place_at(tree, place, gap, search, alloc)
+        }
     }
 }
 
@@ -55,7 +58,10 @@ pub(crate) fn last_in_root(
     let leaf = leaf_of(root);
     match leaf.last_fit_in(search.low, search.high, search.size, search.alignment) {
         None => Err(Refusal::NoPlace),
-        Some(place) => place_in_root(root, place, search, alloc),
+        Some(place) => {
+            let gap = leaf.key_at(place.index);
+            place_in_root(root, place, gap, search, alloc)
+        }
     }
 }
 

@@ -1,6 +1,6 @@
 //! The allocation of a range at a place in a leaf, which may split the leaf in two.
 ghost use Rattle.std.specs.Prelude.{◌≡◌, ◌≢◌, ◌+◌, ◌<◌, ◌≤◌, length, OnErr, IfErr, IfOk, MatchBool};
-ghost use Rattle.vm_leaf.specs.Blocks.{with_parts, parts};
+ghost use Rattle.vm_leaf.specs.Blocks.{nth, with_parts, parts};
 ghost use Rattle.vm_leaf.specs.Left.{added_by};
 ghost use Rattle.vm_tree.specs.Shape.{Tip, blocks, height_of, HasFullLeaves, IsTree};
 ghost use Rattle.vm_tree.specs.Links.{side, IsSummed};
@@ -28,14 +28,14 @@ pub(crate) struct Claim {
     left: Left,
 }
 
-/// Returns the claim of the range of a search at a place.
+/// Returns the claim of the range of a search at a place in a gap.
 #[inline(always)]
-fn claim_at(leaf: &Leaf, place: Place, search: &Search) -> Claim
+fn claim_at(place: Place, gap: RangeInclusive, search: &Search) -> Claim
     requires search { IsSearch search.now }
-    requires place { IsPlaceIn search.now.size leaf.now place }
-    ensures { IsClaimAt search.now leaf.now place result }
+    requires from { gap.start ≤ place.start }
+    requires upto { place.start + search.now.size ≤ gap.end + 1 }
+    ensures { IsClaimAt search.now gap place result }
 {
-    let gap = leaf.key_at(place.index);
     let range = RangeInclusive::between(place.start, place.start + (search.size - 1));
     let left = Left::of(&gap, &range);
     Claim {
@@ -191,13 +191,14 @@ fn split_leaf(tree: &mut Link, claim: Claim, alloc: Global) -> Result<(), Refusa
     Ok(())
 }
 
-/// Allocates the range of a search at a place in a leaf, and updates what is stored beside the link. The
+/// Allocates the range of a search at a place in a gap of a leaf, and updates what is stored beside the link. The
 /// leaf may become a node with two leaves.
 #[inline(always)]
 #[tactic(auto)]
 pub(super) fn place_at(
     tree: &mut Link,
     place: Place,
+    gap: RangeInclusive,
     search: &Search,
     alloc: Global,
 ) -> Result<Taken, Refusal>
@@ -205,13 +206,14 @@ pub(super) fn place_at(
     requires leaf { height_of (side tree.old) < 2 }
     requires full { HasFullLeaves (side tree.old) }
     requires place { IsPlaceIn search.now.size (blocks (side tree.old)) place }
+    requires gap { gap ≡ (nth (blocks (side tree.old)) place.index).key }
     requires summed { IsSummed tree.old }
     ensures answer { SettlesAt search.now (spot_at (blocks (side tree.old)) place) (blocks (side tree.new)) result }
     ensures change { GrowsIfOk result (side tree.old) (side tree.new) }
     ensures summed { IsSummed tree.new }
 {
     let leaf = leaf_of(tree);
-    let claim = claim_at(leaf, place, search);
+    let claim = claim_at(place, gap, search);
     if let Some(refusal) = refusal_of(&claim, search) {
         return Err(refusal);
     }
@@ -269,6 +271,7 @@ fn take_alone(root: &mut Link, claim: &Claim)
 pub(super) fn place_in_root(
     root: &mut Link,
     place: Place,
+    gap: RangeInclusive,
     search: &Search,
     alloc: Global,
 ) -> Result<Taken, Refusal>
@@ -276,13 +279,14 @@ pub(super) fn place_in_root(
     requires leaf { height_of (side root.old) < 2 }
     requires tree { IsTree (side root.old) }
     requires place { IsPlaceIn search.now.size (blocks (side root.old)) place }
+    requires gap { gap ≡ (nth (blocks (side root.old)) place.index).key }
     ensures answer { SettlesAt search.now (spot_at (blocks (side root.old)) place) (blocks (side root.new)) result }
     ensures unchanged { OnErr result (root.new ≡ root.old) }
     ensures tree { IfOk result (λ _. IsTree (side root.new) × (height_of (side root.new) ≤ 2)) }
     ensures summed { 2 ≤ height_of (side root.new) → IsSummed root.new }
 {
     let leaf = leaf_of(root);
-    let claim = claim_at(leaf, place, search);
+    let claim = claim_at(place, gap, search);
     if let Some(refusal) = refusal_of(&claim, search) {
         return Err(refusal);
     }

@@ -8,36 +8,32 @@ use crate::proved::vm_tree::link::{Link, Node};
 use crate::proved::vm_tree::search::{Refusal, Search, Taken};
 use crate::proved::vm_tree::steps::Steps;
 use crate::rattle::Global;
-use crate::proved::vm_leaf::{Leaf, Place};
+use crate::proved::vm_leaf::{Block, Place};
 use crate::proved::vm_ranges::NodeState;
 
-/// Returns the place of the range of a search in a leaf, or the reason why it cannot be allocated. The
-/// leaf contains the first address of the range.
+/// Returns the reason why the range of a search that starts at `start` cannot be allocated in the block that
+/// contains `start`, or `None` if it lies in a gap and in the window.
 #[inline(always)]
-fn find_exact(leaf: &Leaf, start: u64, search: &Search) -> Result<Place, Refusal> {
-    // Proof: `len` gives the facts of a leaf.
-    let _len = leaf.len();
-    let index = leaf.index_of(start);
-    let block = leaf.block_at(index);
+fn refusal_in(block: &Block, start: u64, search: &Search) -> Option<Refusal> {
     let end = start + (search.size - 1);
     match block.state {
         NodeState::Allocated => {
             if block.key.start() != start {
-                return Err(Refusal::NoPlace);
+                return Some(Refusal::NoPlace);
             }
             if block.key.end() != end {
-                return Err(Refusal::NoPlace);
+                return Some(Refusal::NoPlace);
             }
-            Err(Refusal::Held)
+            Some(Refusal::Held)
         }
         NodeState::Free => {
             if block.key.end() < end {
-                return Err(Refusal::NoPlace);
+                return Some(Refusal::NoPlace);
             }
             if search.high < end {
-                return Err(Refusal::NoPlace);
+                return Some(Refusal::NoPlace);
             }
-            Ok(Place { index, start })
+            None
         }
     }
 }
@@ -51,9 +47,14 @@ fn exact_in_leaf(
     search: &Search,
     alloc: Global,
 ) -> Result<Taken, Refusal> {
-    match find_exact(leaf_of(tree), start, search) {
-        Err(refusal) => Err(refusal),
-        Ok(place) => place_at(tree, place, search, alloc),
+    let leaf = leaf_of(tree);
+    // Proof: `len` gives the facts of a leaf.
+    let _len = leaf.len();
+    let index = leaf.index_of(start);
+    let block = leaf.block_at(index);
+    match refusal_in(&block, start, search) {
+        Some(refusal) => Err(refusal),
+        None => place_at(tree, Place { index, start }, block.key, search, alloc),
     }
 }
 
@@ -65,9 +66,14 @@ pub(in crate::proved::vm_tree) fn exact_in_root(
     search: &Search,
     alloc: Global,
 ) -> Result<Taken, Refusal> {
-    match find_exact(leaf_of(root), start, search) {
-        Err(refusal) => Err(refusal),
-        Ok(place) => place_in_root(root, place, search, alloc),
+    let leaf = leaf_of(root);
+    // Proof: `len` gives the facts of a leaf.
+    let _len = leaf.len();
+    let index = leaf.index_of(start);
+    let block = leaf.block_at(index);
+    match refusal_in(&block, start, search) {
+        Some(refusal) => Err(refusal),
+        None => place_in_root(root, Place { index, start }, block.key, search, alloc),
     }
 }
 

@@ -16,7 +16,10 @@ fn first_in_leaf(tree: &mut Link, search: &Search, alloc: Global) -> Result<Take
     let leaf = leaf_of(tree);
     match leaf.first_fit_in(search.low, search.high, search.size, search.alignment) {
         None => Err(Refusal::NoPlace),
-        Some(place) => place_at(tree, place, search, alloc),
+        Some(place) => {
+            let gap = leaf.key_at(place.index);
+            place_at(tree, place, gap, search, alloc)
+        }
     }
 }
 
@@ -30,7 +33,10 @@ pub(in crate::proved::vm_tree) fn first_in_root(
     let leaf = leaf_of(root);
     match leaf.first_fit_in(search.low, search.high, search.size, search.alignment) {
         None => Err(Refusal::NoPlace),
-        Some(place) => place_in_root(root, place, search, alloc),
+        Some(place) => {
+            let gap = leaf.key_at(place.index);
+            place_in_root(root, place, gap, search, alloc)
+        }
     }
 }
 

@@ -22,10 +22,9 @@ pub(in crate::proved::vm_tree) struct Claim {
     left: Left,
 }
 
-/// Returns the claim of the range of a search at a place.
+/// Returns the claim of the range of a search at a place in a gap.
 #[inline(always)]
-fn claim_at(leaf: &Leaf, place: Place, search: &Search) -> Claim {
-    let gap = leaf.key_at(place.index);
+fn claim_at(place: Place, gap: RangeInclusive, search: &Search) -> Claim {
     let range = RangeInclusive::between(place.start, place.start + (search.size - 1));
     let left = Left::of(&gap, &range);
     Claim {
@@ -142,17 +141,18 @@ fn split_leaf(tree: &mut Link, claim: Claim, alloc: Global) -> Result<(), Refusa
     Ok(())
 }
 
-/// Allocates the range of a search at a place in a leaf, and updates what is stored beside the link. The
+/// Allocates the range of a search at a place in a gap of a leaf, and updates what is stored beside the link. The
 /// leaf may become a node with two leaves.
 #[inline(always)]
 pub(super) fn place_at(
     tree: &mut Link,
     place: Place,
+    gap: RangeInclusive,
     search: &Search,
     alloc: Global,
 ) -> Result<Taken, Refusal> {
     let leaf = leaf_of(tree);
-    let claim = claim_at(leaf, place, search);
+    let claim = claim_at(place, gap, search);
     if let Some(refusal) = refusal_of(&claim, search) {
         return Err(refusal);
     }
@@ -200,11 +200,12 @@ fn take_alone(root: &mut Link, claim: &Claim) {
 pub(super) fn place_in_root(
     root: &mut Link,
     place: Place,
+    gap: RangeInclusive,
     search: &Search,
     alloc: Global,
 ) -> Result<Taken, Refusal> {
     let leaf = leaf_of(root);
-    let claim = claim_at(leaf, place, search);
+    let claim = claim_at(place, gap, search);
     if let Some(refusal) = refusal_of(&claim, search) {
         return Err(refusal);
     }
