@@ -6,7 +6,7 @@ use Rattle.vm_engine.specs.Address.{AddressState}
 use Rattle.vm_leaf.specs.Windows.{common}
 use Rattle.vm_leaf.specs.declared.block.Block.{Block}
 use Rattle.vm_tree.specs.Walks.{meets}
-use Rattle.vm_engine.specs.Tree.Blocks.{blocks_of}
+use Rattle.vm_engine.specs.Tree.Blocks.{blocks_of, held_of}
 use Rattle.vm_ranges.specs.declared.state.NodeState.{NodeState}
 use Rattle.vm_ranges.specs.declared.state.NodeState.TheVariants.{Free, Allocated}
 
@@ -19,6 +19,11 @@ range_if_free Allocated k = []
 abbrev pub free_of : List Block → List Range
 free_of [] = []
 free_of (b ∷ bs) = range_if_free b.state b.key ++ free_of bs
+
+-- The ranges of the blocks with a state, in order.
+abbrev pub ranges_with : NodeState → List Block → List Range
+ranges_with Allocated bs = held_of bs
+ranges_with Free bs = free_of bs
 
 -- The gaps of a state, from the lowest to the highest.
 abbrev pub gaps_of : AddressState → List Range

@@ -4,6 +4,7 @@
 //! - `deallocation` frees an allocated range.
 //! - `held_ranges` has queries about the allocated ranges.
 //! - `gaps` has queries about the free addresses.
+//! - `ranges` iterates over the allocated ranges, or over the gaps.
 //! - `comparing` compares two trees.
 //!
 //! `AddressAllocator` has the same calls, and documents them.
@@ -29,8 +30,9 @@ mod allocation;
 mod building;
 mod comparing;
 mod deallocation;
-pub(crate) mod gaps;
-pub(crate) mod held_ranges;
+mod gaps;
+mod held_ranges;
+pub(crate) mod ranges;
 
 pub(crate) use allocation::SPLIT_LIMIT;
 

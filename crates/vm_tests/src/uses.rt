@@ -16,7 +16,7 @@ use serde_json::Value;
 use std::alloc::{AllocError, Global};
 use std::process::Abort;
 use vm_allocator::{
-    AddressAllocator, AllocPolicy, Error, Gaps, HeldRanges, IdAllocator, RangeInclusive, Result,
+    AddressAllocator, AllocPolicy, Error, IdAllocator, RangeInclusive, Ranges, Result,
     ValueError,
 };
 use vm_devices::DeviceManager;
@@ -122,18 +122,11 @@ fn use_windows(rt: &(impl Abort + AllocGlobal)) {
     expect_true(rt, are_there, &"both windows");
 }
 
-/// Clones an iterator: the clone returns the ranges that the iterator has left.
-fn held_ranges_again<'a>(ranges: &HeldRanges<'a>) -> std::result::Result<HeldRanges<'a>, AllocError>
+/// Clones an iterator: the clone returns the ranges or gaps that the iterator has left.
+fn ranges_again<'a>(ranges: &Ranges<'a>) -> std::result::Result<Ranges<'a>, AllocError>
     ensures { IfOk result (λ again. again ≡ ranges.now) }
 {
     Clone::clone(ranges)
-}
-
-/// Clones an iterator: the clone returns the gaps that the iterator has left.
-fn gaps_again<'a>(gaps: &Gaps<'a>) -> std::result::Result<Gaps<'a>, AllocError>
-    ensures { IfOk result (λ again. again ≡ gaps.now) }
-{
-    Clone::clone(gaps)
 }
 
 /// Writes and reads a gap.
@@ -164,14 +157,14 @@ fn use_texts(rt: &(impl Abort + AllocGlobal), gap: &AddressAllocator) {
 
 /// Clones iterators over the allocated ranges and the gaps.
 fn use_clones(rt: &(impl Abort + AllocGlobal), gap: &AddressAllocator) {
-    if let Ok(mut again) = held_ranges_again(&gap.held_ranges()) {
+    if let Ok(mut again) = ranges_again(&gap.held_ranges()) {
         expect_true(
             rt,
             again.next() == gap.held_ranges().next(),
             &"the same range",
         );
     }
-    if let Ok(mut again) = gaps_again(&gap.gaps()) {
+    if let Ok(mut again) = ranges_again(&gap.gaps()) {
         expect_true(rt, again.next() == gap.gaps().next(), &"the same gap");
     }
 }

@@ -1217,28 +1217,28 @@ impl fmt::Debug for DebugRanges<'_> {
 /// # Ok::<(), divsharun::Error>(())
 /// ```
 #[derive(Clone)]
-pub struct HeldRanges<'a>(proved::HeldRanges<'a>);
+pub struct HeldRanges<'a>(proved::Ranges<'a>);
 
 /// An iterator over the allocated ranges of an [`AddressAllocator`] that have an address in common
 /// with a range, in ascending order or from both ends.
 ///
 /// It is created by [`held_ranges_in`](AddressAllocator::held_ranges_in).
 #[derive(Clone)]
-pub struct HeldRangesIn<'a>(proved::HeldRangesIn<'a>);
+pub struct HeldRangesIn<'a>(proved::RangesIn<'a>);
 
 /// An iterator over the gaps of an [`AddressAllocator`], in ascending order or from both ends. Its
 /// length is exact.
 ///
 /// It is created by [`gaps`](AddressAllocator::gaps).
 #[derive(Clone)]
-pub struct Gaps<'a>(proved::Gaps<'a>);
+pub struct Gaps<'a>(proved::Ranges<'a>);
 
 /// An iterator over the gaps of an [`AddressAllocator`] that have an address in common with a
 /// range, in ascending order or from both ends.
 ///
 /// It is created by [`gaps_in`](AddressAllocator::gaps_in).
 #[derive(Clone)]
-pub struct GapsIn<'a>(proved::GapsIn<'a>);
+pub struct GapsIn<'a>(proved::RangesIn<'a>);
 
 /// Implements iteration from both ends, and a short `Debug`, for iterators over ranges.
 macro_rules! iterate {

@@ -7,14 +7,14 @@ ghost use Rattle.vm_engine.specs.Queries.{gaps_of, longest_of, count_of, IsGapAt
 ghost use Rattle.vm_allocator.specs.Allocator.{state_of};
 
 use super::AddressAllocator;
-use vm_engine::{Gaps, GapsIn};
+use vm_engine::{Ranges, RangesIn};
 use vm_ranges::RangeInclusive;
 
 impl AddressAllocator {
     /// Returns an iterator over the gaps, from the lowest to the highest. Its length is exact.
     ///
     /// It does not allocate.
-    pub fn gaps(&self) -> Gaps<'_>
+    pub fn gaps(&self) -> Ranges<'_>
         ensures { result ≡ gaps_of (state_of self.now) }
     {
         self.interval_tree.gaps()
@@ -25,7 +25,7 @@ impl AddressAllocator {
     ///
     /// Each gap is returned whole. It descends one path of the tree for each end of `range` and does
     /// not allocate.
-    pub fn gaps_in(&self, range: &RangeInclusive) -> GapsIn<'_>
+    pub fn gaps_in(&self, range: &RangeInclusive) -> RangesIn<'_>
         ensures { result ≡ meeting range.now (gaps_of (state_of self.now)) }
     {
         self.interval_tree.gaps_in(range)

@@ -6,7 +6,7 @@ ghost use Rattle.vm_engine.specs.Queries.{IsHeldAt, meeting};
 ghost use Rattle.vm_allocator.specs.Allocator.{state_of};
 
 use super::AddressAllocator;
-use vm_engine::{HeldRanges, HeldRangesIn};
+use vm_engine::{Ranges, RangesIn};
 use vm_ranges::RangeInclusive;
 
 impl AddressAllocator {
@@ -14,7 +14,7 @@ impl AddressAllocator {
     /// exact.
     ///
     /// It does not allocate.
-    pub fn held_ranges(&self) -> HeldRanges<'_>
+    pub fn held_ranges(&self) -> Ranges<'_>
         ensures { result ≡ (state_of self.now).held }
     {
         self.interval_tree.held_ranges()
@@ -25,7 +25,7 @@ impl AddressAllocator {
     ///
     /// Each range is returned whole. If `range` is in the space, it is free exactly if there is no
     /// item. It descends one path of the tree for each end of `range` and does not allocate.
-    pub fn held_ranges_in(&self, range: &RangeInclusive) -> HeldRangesIn<'_>
+    pub fn held_ranges_in(&self, range: &RangeInclusive) -> RangesIn<'_>
         ensures { result ≡ meeting range.now (state_of self.now).held }
     {
         self.interval_tree.held_ranges_in(range)

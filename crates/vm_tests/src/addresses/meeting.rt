@@ -1,12 +1,11 @@
 //! Tests of the allocated ranges and the gaps that have an address in common with a range.
 //!
-//! They guard against an item that is left out, or is one too many, at either end of the range.
+//! They guard against a range that is left out, or is one too many, at either end of the range.
 use super::*;
 use crate::fixtures::range;
-use Items::{Gaps, Ranges};
 use Row::{Ask, In};
 use std::fmt::Debug;
-use vm_allocator::{GapsIn, HeldRangesIn};
+use vm_allocator::RangesIn;
 
 /// A call with its expected result, or a check between calls.
 #[derive(Clone, Copy)]
@@ -89,30 +88,19 @@ const ROWS: [Row; 41] = [
     In(0, MAX - 16, &[], &[]),
 ];
 
-/// The allocated ranges or the gaps that have an address in a range.
-#[derive(Drop)]
-enum Items<'a> {
-    Ranges(HeldRangesIn<'a>),
-    Gaps(GapsIn<'a>),
+/// Returns the first and the last address of the next range from one end.
+fn next_of(ranges: &mut RangesIn<'_>, is_from_above: bool) -> Option<(u64, u64)> {
+    let range = match is_from_above {
+        false => ranges.next(),
+        true => ranges.next_back(),
+    };
+    range.map(|range| (range.start(), range.end()))
 }
 
-impl<'a> Items<'a> {
-    /// Returns the first and the last address of the next item from one end.
-    fn next(&mut self, is_from_above: bool) -> Option<(u64, u64)> {
-        let item = match (self, is_from_above) {
-            (Ranges(items), false) => items.next(),
-            (Ranges(items), true) => items.next_back(),
-            (Gaps(items), false) => items.next(),
-            (Gaps(items), true) => items.next_back(),
-        };
-        item.map(|item| (item.start(), item.end()))
-    }
-}
-
-/// Takes all items, in turns from these two ends. A turn that is `true` is from above.
-fn expect_items(
+/// Takes all ranges, in turns from these two ends. A turn that is `true` is from above.
+fn expect_ranges(
     rt: &impl Abort,
-    mut items: Items<'_>,
+    mut ranges: RangesIn<'_>,
     want: &[(u64, u64)],
     turns: [bool; 2],
     of: &impl Debug,
@@ -127,9 +115,9 @@ fn expect_items(
             lower = lower.saturating_add(1);
             want.get(lower.saturating_sub(1))
         };
-        expect_eq(rt, &items.next(is_from_above), &due.copied(), of);
+        expect_eq(rt, &next_of(&mut ranges, is_from_above), &due.copied(), of);
     }
-    let is_over = items.next(false).is_none() && items.next(true).is_none();
+    let is_over = ranges.next().is_none() && ranges.next_back().is_none();
     expect_true(rt, is_over, of);
 }
 
@@ -143,8 +131,8 @@ fn ranges_and_gaps_within(rt: HostRuntime) {
                 let within = range(&rt, start, end);
                 for turns in [[false, false], [true, true], [false, true], [true, false]] {
                     let of = (number, turns);
-                    expect_items(&rt, Ranges(space.held_ranges_in(&within)), held, turns, &of);
-                    expect_items(&rt, Gaps(space.gaps_in(&within)), gaps, turns, &of);
+                    expect_ranges(&rt, space.held_ranges_in(&within), held, turns, &of);
+                    expect_ranges(&rt, space.gaps_in(&within), gaps, turns, &of);
                 }
             }
         }

@@ -6,6 +6,7 @@
 //! - `deallocation` frees an allocated range.
 //! - `held_ranges` has queries about the allocated ranges.
 //! - `gaps` has queries about the free addresses.
+//! - `ranges` iterates over the allocated ranges, or over the gaps.
 //! - `comparing` compares two trees.
 //!
 //! `AddressAllocator` has the same calls, and documents them.
@@ -21,8 +22,9 @@ mod allocation;
 mod building;
 mod comparing;
 mod deallocation;
-pub(in crate::proved::vm_engine) mod gaps;
-pub(in crate::proved::vm_engine) mod held_ranges;
+mod gaps;
+mod held_ranges;
+pub(in crate::proved::vm_engine) mod ranges;
 
 pub(in crate::proved::vm_engine) use allocation::SPLIT_LIMIT;
 

@@ -6,15 +6,14 @@
 //! a tree cover the whole space, and two neighbours are never both free.
 //!
 //! - [`IntervalTree`] allocates and frees ranges.
-//! - [`HeldRanges`] iterates over the allocated ranges, and [`Gaps`] over the gaps between them.
-//!   [`HeldRangesIn`] and [`GapsIn`] iterate over those in a window.
+//! - [`Ranges`] iterates over the allocated ranges, or over the gaps between them. [`RangesIn`] iterates
+//!   over those in a window.
 
 mod interval_tree;
 mod saved;
 
 pub use interval_tree::IntervalTree;
-pub use interval_tree::gaps::{Gaps, GapsIn};
-pub use interval_tree::held_ranges::{HeldRanges, HeldRangesIn};
+pub use interval_tree::ranges::{Ranges, RangesIn};
 pub use saved::nodes::ReadNodes;
 pub use saved::span::Span;
 pub use saved::written::{WrittenBlocks, WrittenNode, WrittenTree};

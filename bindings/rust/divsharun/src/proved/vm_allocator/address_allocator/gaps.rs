@@ -6,14 +6,14 @@
 //! A gap is a run of free addresses with no free address next to it.
 
 use super::AddressAllocator;
-use crate::proved::vm_engine::{Gaps, GapsIn};
+use crate::proved::vm_engine::{Ranges, RangesIn};
 use crate::proved::vm_ranges::RangeInclusive;
 
 impl AddressAllocator {
     /// Returns an iterator over the gaps, from the lowest to the highest. Its length is exact.
     ///
     /// It does not allocate.
-    pub fn gaps(&self) -> Gaps<'_> {
+    pub fn gaps(&self) -> Ranges<'_> {
         self.interval_tree.gaps()
     }
 
@@ -22,7 +22,7 @@ impl AddressAllocator {
     ///
     /// Each gap is returned whole. It descends one path of the tree for each end of `range` and does
     /// not allocate.
-    pub fn gaps_in(&self, range: &RangeInclusive) -> GapsIn<'_> {
+    pub fn gaps_in(&self, range: &RangeInclusive) -> RangesIn<'_> {
         self.interval_tree.gaps_in(range)
     }
 

@@ -3,7 +3,7 @@
 //! Queries of the allocated ranges: iterators, a test, a search by an address, and a count.
 
 use super::AddressAllocator;
-use crate::proved::vm_engine::{HeldRanges, HeldRangesIn};
+use crate::proved::vm_engine::{Ranges, RangesIn};
 use crate::proved::vm_ranges::RangeInclusive;
 
 impl AddressAllocator {
@@ -11,7 +11,7 @@ impl AddressAllocator {
     /// exact.
     ///
     /// It does not allocate.
-    pub fn held_ranges(&self) -> HeldRanges<'_> {
+    pub fn held_ranges(&self) -> Ranges<'_> {
         self.interval_tree.held_ranges()
     }
 
@@ -20,7 +20,7 @@ impl AddressAllocator {
     ///
     /// Each range is returned whole. If `range` is in the space, it is free exactly if there is no
     /// item. It descends one path of the tree for each end of `range` and does not allocate.
-    pub fn held_ranges_in(&self, range: &RangeInclusive) -> HeldRangesIn<'_> {
+    pub fn held_ranges_in(&self, range: &RangeInclusive) -> RangesIn<'_> {
         self.interval_tree.held_ranges_in(range)
     }
 

@@ -6,102 +6,28 @@
 //! A gap is a run of free addresses with no free address next to it. Each free block is a gap.
 
 use super::IntervalTree;
+use super::ranges::{Ranges, RangesIn};
 use crate::proved::vm_ranges::{NodeState, RangeInclusive};
-use crate::proved::vm_tree::Walk;
-
-/// An iterator over the gaps in a window, from the lowest to the highest, or backwards. It does not
-/// allocate.
-///
-/// Its model is the list of the gaps that it has not returned yet.
-#[derive(Clone)]
-pub struct GapsIn<'a> {
-    blocks: Walk<'a>,
-}
-
-impl<'a> Iterator for GapsIn<'a> {
-    type Item = RangeInclusive;
-
-    /// Returns the lowest gap that is left.
-    fn next(&mut self) -> Option<RangeInclusive> {
-        while let Some(block) = self.blocks.next() {
-            if block.state == NodeState::Free {
-                return Some(block.key);
-            }
-        }
-        None
-    }
-}
-
-impl<'a> DoubleEndedIterator for GapsIn<'a> {
-    /// Returns the highest gap that is left.
-    fn next_back(&mut self) -> Option<RangeInclusive> {
-        while let Some(block) = self.blocks.next_back() {
-            if block.state == NodeState::Free {
-                return Some(block.key);
-            }
-        }
-        None
-    }
-}
-
-/// An iterator over all gaps, from the lowest to the highest, or backwards. It has an exact length,
-/// and does not allocate.
-///
-/// Its model is the list of the gaps that it has not returned yet.
-#[derive(Clone)]
-pub struct Gaps<'a> {
-    gaps: GapsIn<'a>,
-    /// The number of gaps that are left.
-    left: usize,
-}
-
-impl<'a> Iterator for Gaps<'a> {
-    type Item = RangeInclusive;
-
-    /// Returns the lowest gap that is left.
-    fn next(&mut self) -> Option<RangeInclusive> {
-        let gap = self.gaps.next()?;
-        self.left -= 1;
-        Some(gap)
-    }
-
-    /// Returns the number of gaps that are left, as both bounds.
-    fn size_hint(&self) -> (usize, Option<usize>) {
-        (self.left, Some(self.left))
-    }
-}
-
-impl<'a> DoubleEndedIterator for Gaps<'a> {
-    /// Returns the highest gap that is left.
-    fn next_back(&mut self) -> Option<RangeInclusive> {
-        let gap = self.gaps.next_back()?;
-        self.left -= 1;
-        Some(gap)
-    }
-}
-
-impl<'a> ExactSizeIterator for Gaps<'a> {
-    /// Returns the number of gaps that are left.
-    fn len(&self) -> usize {
-        self.left
-    }
-}
 
 impl IntervalTree {
     /// Returns an iterator over the gaps, from the lowest to the highest. It does not allocate.
-    pub fn gaps(&self) -> Gaps<'_> {
-        let blocks = self.blocks();
-        Gaps {
-            gaps: GapsIn { blocks },
+    pub fn gaps(&self) -> Ranges<'_> {
+        let ranges = RangesIn {
+            blocks: self.blocks(),
+            state: NodeState::Free,
+        };
+        Ranges {
+            ranges,
             left: self.gap_count as usize,
         }
     }
 
     /// Returns an iterator over the gaps that have an address in common with `range`, from the
     /// lowest to the highest.
-    pub fn gaps_in(&self, range: &RangeInclusive) -> GapsIn<'_> {
-        GapsIn {
+    pub fn gaps_in(&self, range: &RangeInclusive) -> RangesIn<'_> {
+        RangesIn {
             blocks: self.blocks_in(range),
+            state: NodeState::Free,
         }
     }
 
