@@ -77,7 +77,7 @@ impl AddressAllocator {
     /// Returns the blocks of which the saved tree of the allocator is made, or an error if an
     /// allocation fails.
     pub fn written_blocks(&self, alloc: Global) -> std::result::Result<WrittenBlocks, AllocError>
-        ensures { IfOk result (λ written. written.list.items ≡ blocks self.now.tree) }
+        ensures { IfOk result (λ written. written ≡ blocks self.now.tree) }
     {
         WrittenBlocks::new(alloc, &self.interval_tree)
     }

@@ -7,6 +7,7 @@ ghost use Rattle.vm_engine.specs.Values.WrittenTrees.{WritesNode};
 
 use crate::IntervalTree;
 use std::alloc::{AllocError, Global};
+use std::marker::Model;
 use vm_leaf::Block;
 use vm_ranges::{NodeState, RangeInclusive};
 
@@ -16,11 +17,20 @@ pub struct WrittenBlocks {
     list: Vec<Block>,
 }
 
+impl Model for WrittenBlocks {
+    ghost use Rattle.std.specs.Prelude.{List};
+    ghost use Rattle.vm_leaf.specs.declared.block.Block.{Block};
+
+    ghost Value = { List Block };
+
+    ghost view = { λ w. w.list.items };
+}
+
 impl WrittenBlocks {
     /// Returns the blocks of a tree, or an error if the allocation of the list fails.
     #[tactic(auto, using(crate::proofs::Trees::CountedTrees::blocks_fit))]
     pub fn new(alloc: Global, tree: &IntervalTree) -> std::result::Result<Self, AllocError>
-        ensures { IfOk result (λ written. written.list.items ≡ blocks tree.now) }
+        ensures { IfOk result (λ written. written ≡ blocks tree.now) }
     {
         let mut list = Vec::with_capacity(alloc, (tree.held_count + tree.gap_count) as usize)?;
         tree.tree.append_blocks(&mut list)?;
@@ -29,7 +39,7 @@ impl WrittenBlocks {
 
     /// Returns the saved tree of all blocks.
     pub fn tree(&self) -> WrittenTree<'_>
-        ensures { result.blocks.now ≡ self.now.list.items }
+        ensures { result.blocks.now ≡ self.now }
     {
         WrittenTree { blocks: &self.list }
     }
