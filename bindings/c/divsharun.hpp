@@ -70,6 +70,14 @@ inline error code(dvs_status status) noexcept {
     return {static_cast<int>(status), category()};
 }
 
+/* The version of the library that runs. */
+inline const char *version_text() noexcept {
+    return dvs_version_text();
+}
+inline uint32_t version_number() noexcept {
+    return dvs_version_number();
+}
+
 /* Why the range at a given start is not available. */
 enum class cause : uint32_t {
     none = DVS_CAUSE_NONE,

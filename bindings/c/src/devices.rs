@@ -1,16 +1,16 @@
 //! The device manager: an id and a range for each device.
 
-use crate::handle::{compare, copy, create, visit, with_mut, with_mut_unit, with_ref, Handle};
+use crate::handle::{create, visit, with_mut, with_mut_unit, with_ref, Handle};
 use crate::ids::write_range;
-use crate::json::dvs_text_limits;
+use crate::objects::{numbers, object_calls};
 use crate::proved::vm_allocator::{AllocPolicy, Constraint, Error};
 use crate::proved::vm_devices::{DeviceManager, DeviceSlot};
 use crate::ranges::space_of;
 use crate::rattle::Global;
 use crate::requests::{dvs_request, refused, with_conflict, with_request};
-use crate::texts::{dvs_text_fault, read, read_devices, save};
+use crate::texts::read_devices;
 use crate::{dvs_range, dvs_refusal, dvs_status, status_of, CallError, Out};
-use core::ffi::{c_char, c_int, c_void};
+use core::ffi::{c_int, c_void};
 
 /// A device manager behind a C pointer.
 pub type dvs_device_manager = Handle<DeviceManager>;
@@ -48,17 +48,6 @@ pub extern "C" fn dvs_device_manager_new(
         DeviceManager::new(Global, first_id, last_id, base, size)
     });
     status_of(made, refusal)
-}
-
-/// # Safety
-///
-/// The manager is null or from a call that creates one, and is not used after `DVS_OK`.
-#[unsafe(no_mangle)]
-pub unsafe extern "C" fn dvs_device_manager_destroy(
-    manager: *mut dvs_device_manager,
-) -> dvs_status {
-    // SAFETY: the caller's contract.
-    status_of(unsafe { Handle::destroy(manager) }, None)
 }
 
 #[unsafe(no_mangle)]
@@ -195,15 +184,6 @@ pub extern "C" fn dvs_device_at(
 }
 
 #[unsafe(no_mangle)]
-pub extern "C" fn dvs_device_count(
-    manager: Option<&dvs_device_manager>,
-    count: Out<u64>,
-) -> dvs_status {
-    let asked = with_ref(manager, count, |manager| Ok(manager.device_count()));
-    status_of(asked, None)
-}
-
-#[unsafe(no_mangle)]
 pub extern "C" fn dvs_device_visit(
     manager: Option<&dvs_device_manager>,
     visitor: Option<dvs_device_visitor>,
@@ -232,57 +212,12 @@ pub extern "C" fn dvs_device_manager_ids(
     status_of(written, None)
 }
 
-#[unsafe(no_mangle)]
-pub extern "C" fn dvs_device_manager_copy(
-    manager: Option<&dvs_device_manager>,
-    copied: Out<*mut dvs_device_manager>,
-) -> dvs_status {
-    let made = copy(manager, copied, |manager| manager.try_clone(Global));
-    status_of(made, None)
+object_calls! {
+    dvs_device_manager: dvs_device_manager_destroy, dvs_device_manager_copy,
+        dvs_device_manager_equal, dvs_device_manager_save,
+        dvs_device_manager_read, dvs_device_manager_read_within by read_devices
 }
 
-#[unsafe(no_mangle)]
-pub extern "C" fn dvs_device_manager_equal(
-    one: Option<&dvs_device_manager>,
-    other: Option<&dvs_device_manager>,
-    are_equal: Out<bool>,
-) -> dvs_status {
-    status_of(compare(one, other, are_equal), None)
-}
-
-#[unsafe(no_mangle)]
-pub extern "C" fn dvs_device_manager_save(
-    manager: Option<&dvs_device_manager>,
-    text: Out<*mut c_char>,
-    length: Out<usize>,
-) -> dvs_status {
-    status_of(save(manager, text, length), None)
-}
-
-/// # Safety
-///
-/// The text is null or points to `length` readable bytes.
-#[unsafe(no_mangle)]
-pub unsafe extern "C" fn dvs_device_manager_read(
-    text: *const c_char,
-    length: usize,
-    manager: Out<*mut dvs_device_manager>,
-) -> dvs_status {
-    // SAFETY: the caller's contract.
-    unsafe { dvs_device_manager_read_within(text, length, None, manager, None) }
-}
-
-/// # Safety
-///
-/// The text is null or points to `length` readable bytes.
-#[unsafe(no_mangle)]
-pub unsafe extern "C" fn dvs_device_manager_read_within(
-    text: *const c_char,
-    length: usize,
-    limits: Option<&dvs_text_limits>,
-    manager: Out<*mut dvs_device_manager>,
-    fault: Out<dvs_text_fault>,
-) -> dvs_status {
-    // SAFETY: the caller's contract.
-    unsafe { read(text, length, limits, manager, fault, read_devices) }
+numbers! {
+    dvs_device_count(dvs_device_manager) -> device_count;
 }

@@ -1,15 +1,13 @@
 //! The id allocator.
 
-use crate::handle::{
-    compare, copy, create, non_null, visit, with_mut, with_mut_unit, with_ref, Handle,
-};
-use crate::json::dvs_text_limits;
+use crate::handle::{create, non_null, visit, with_mut, with_mut_unit, with_ref, Handle};
 use crate::lists::array;
+use crate::objects::{numbers, object_calls};
 use crate::proved::vm_allocator::IdAllocator;
 use crate::rattle::Global;
-use crate::texts::{dvs_text_fault, read, read_ids, save};
+use crate::texts::read_ids;
 use crate::{dvs_refusal, dvs_status, status_of, CallError, Out};
-use core::ffi::{c_char, c_int, c_void};
+use core::ffi::{c_int, c_void};
 
 /// An id allocator behind a C pointer.
 pub type dvs_id_allocator = Handle<IdAllocator>;
@@ -49,15 +47,6 @@ pub unsafe extern "C" fn dvs_id_allocator_with_held(
         })
     };
     status_of(make(), refusal)
-}
-
-/// # Safety
-///
-/// The allocator is null or from a call that creates one, and is not used after `DVS_OK`.
-#[unsafe(no_mangle)]
-pub unsafe extern "C" fn dvs_id_allocator_destroy(allocator: *mut dvs_id_allocator) -> dvs_status {
-    // SAFETY: the caller's contract.
-    status_of(unsafe { Handle::destroy(allocator) }, None)
 }
 
 #[unsafe(no_mangle)]
@@ -157,24 +146,6 @@ pub extern "C" fn dvs_id_is_allocated(
 }
 
 #[unsafe(no_mangle)]
-pub extern "C" fn dvs_id_count(
-    allocator: Option<&dvs_id_allocator>,
-    count: Out<u64>,
-) -> dvs_status {
-    let asked = with_ref(allocator, count, |allocator| Ok(allocator.held_count()));
-    status_of(asked, None)
-}
-
-#[unsafe(no_mangle)]
-pub extern "C" fn dvs_id_free_count(
-    allocator: Option<&dvs_id_allocator>,
-    count: Out<u64>,
-) -> dvs_status {
-    let asked = with_ref(allocator, count, |allocator| Ok(allocator.free_count()));
-    status_of(asked, None)
-}
-
-#[unsafe(no_mangle)]
 pub extern "C" fn dvs_id_visit(
     allocator: Option<&dvs_id_allocator>,
     visitor: Option<dvs_id_visitor>,
@@ -207,57 +178,13 @@ pub(crate) fn write_range<T>(
     Ok(())
 }
 
-#[unsafe(no_mangle)]
-pub extern "C" fn dvs_id_allocator_copy(
-    allocator: Option<&dvs_id_allocator>,
-    copied: Out<*mut dvs_id_allocator>,
-) -> dvs_status {
-    let made = copy(allocator, copied, |allocator| allocator.try_clone(Global));
-    status_of(made, None)
+object_calls! {
+    dvs_id_allocator: dvs_id_allocator_destroy, dvs_id_allocator_copy, dvs_id_allocator_equal,
+        dvs_id_allocator_save,
+        dvs_id_allocator_read, dvs_id_allocator_read_within by read_ids
 }
 
-#[unsafe(no_mangle)]
-pub extern "C" fn dvs_id_allocator_equal(
-    one: Option<&dvs_id_allocator>,
-    other: Option<&dvs_id_allocator>,
-    are_equal: Out<bool>,
-) -> dvs_status {
-    status_of(compare(one, other, are_equal), None)
-}
-
-#[unsafe(no_mangle)]
-pub extern "C" fn dvs_id_allocator_save(
-    allocator: Option<&dvs_id_allocator>,
-    text: Out<*mut c_char>,
-    length: Out<usize>,
-) -> dvs_status {
-    status_of(save(allocator, text, length), None)
-}
-
-/// # Safety
-///
-/// The text is null or points to `length` readable bytes.
-#[unsafe(no_mangle)]
-pub unsafe extern "C" fn dvs_id_allocator_read(
-    text: *const c_char,
-    length: usize,
-    allocator: Out<*mut dvs_id_allocator>,
-) -> dvs_status {
-    // SAFETY: the caller's contract.
-    unsafe { dvs_id_allocator_read_within(text, length, None, allocator, None) }
-}
-
-/// # Safety
-///
-/// The text is null or points to `length` readable bytes.
-#[unsafe(no_mangle)]
-pub unsafe extern "C" fn dvs_id_allocator_read_within(
-    text: *const c_char,
-    length: usize,
-    limits: Option<&dvs_text_limits>,
-    allocator: Out<*mut dvs_id_allocator>,
-    fault: Out<dvs_text_fault>,
-) -> dvs_status {
-    // SAFETY: the caller's contract.
-    unsafe { read(text, length, limits, allocator, fault, read_ids) }
+numbers! {
+    dvs_id_count(dvs_id_allocator) -> held_count;
+    dvs_id_free_count(dvs_id_allocator) -> free_count;
 }

@@ -19,6 +19,7 @@ mod handle;
 mod ids;
 mod json;
 mod lists;
+mod objects;
 // The eraser writes it. The library calls a part of it.
 #[allow(dead_code)]
 #[rustfmt::skip]

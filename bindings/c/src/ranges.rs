@@ -1,17 +1,17 @@
 //! The address allocator.
 
 use crate::handle::{
-    compare, copy, create, visit, visit_some, with_mut, with_mut_unit, with_out, with_ref, Handle,
+    create, visit, visit_some, with_mut, with_mut_unit, with_out, with_ref, Handle,
 };
-use crate::json::dvs_text_limits;
+use crate::objects::{numbers, object_calls};
 use crate::proved::vm_allocator::{
     AddressAllocator, AllocPolicy, Constraint, Error, RangeInclusive, Result as Answer,
 };
 use crate::rattle::Global;
 use crate::requests::{dvs_request, refused, with_conflict, with_request};
-use crate::texts::{dvs_text_fault, read, read_space, save};
+use crate::texts::read_space;
 use crate::{dvs_range, dvs_refusal, dvs_status, status_of, CallError, Out};
-use core::ffi::{c_char, c_int, c_void};
+use core::ffi::{c_int, c_void};
 
 /// An address allocator behind a C pointer.
 pub type dvs_address_allocator = Handle<AddressAllocator>;
@@ -27,17 +27,6 @@ pub extern "C" fn dvs_address_allocator_new(
 ) -> dvs_status {
     let made = create(allocator, || AddressAllocator::new(Global, base, size));
     status_of(made, None)
-}
-
-/// # Safety
-///
-/// The allocator is null or from a call that creates one, and is not used after `DVS_OK`.
-#[unsafe(no_mangle)]
-pub unsafe extern "C" fn dvs_address_allocator_destroy(
-    allocator: *mut dvs_address_allocator,
-) -> dvs_status {
-    // SAFETY: the caller's contract.
-    status_of(unsafe { Handle::destroy(allocator) }, None)
 }
 
 #[unsafe(no_mangle)]
@@ -190,11 +179,13 @@ pub extern "C" fn dvs_range_move(
 ) -> dvs_status {
     let answer = with_mut(allocator, moved, |allocator| {
         let range: RangeInclusive = range.try_into()?;
-        let request = Constraint::new(range.len(), 1, AllocPolicy::ExactMatch(start))?;
         let moved = allocator.move_range(Global, &range, start);
-        moved
-            .map(Into::into)
-            .map_err(|error| refused_move(allocator, &range, request, error, refusal.is_some()))
+        moved.map(Into::into).map_err(|error| {
+            match Constraint::new(range.len(), 1, AllocPolicy::ExactMatch(start)) {
+                Ok(request) => refused_move(allocator, &range, request, error, refusal.is_some()),
+                Err(_) => error.into(),
+            }
+        })
     });
     status_of(answer, refusal)
 }
@@ -244,15 +235,6 @@ pub extern "C" fn dvs_range_is_allocated(
 }
 
 #[unsafe(no_mangle)]
-pub extern "C" fn dvs_range_count(
-    allocator: Option<&dvs_address_allocator>,
-    count: Out<u64>,
-) -> dvs_status {
-    let asked = with_ref(allocator, count, |allocator| Ok(allocator.held_count()));
-    status_of(asked, None)
-}
-
-#[unsafe(no_mangle)]
 pub extern "C" fn dvs_range_at(
     allocator: Option<&dvs_address_allocator>,
     address: u64,
@@ -278,33 +260,6 @@ pub extern "C" fn dvs_gap_at(
     status_of(asked, None)
 }
 
-#[unsafe(no_mangle)]
-pub extern "C" fn dvs_longest_gap(
-    allocator: Option<&dvs_address_allocator>,
-    length: Out<u64>,
-) -> dvs_status {
-    let asked = with_ref(allocator, length, |allocator| Ok(allocator.longest_gap()));
-    status_of(asked, None)
-}
-
-#[unsafe(no_mangle)]
-pub extern "C" fn dvs_gap_count(
-    allocator: Option<&dvs_address_allocator>,
-    count: Out<u64>,
-) -> dvs_status {
-    let asked = with_ref(allocator, count, |allocator| Ok(allocator.gap_count()));
-    status_of(asked, None)
-}
-
-#[unsafe(no_mangle)]
-pub extern "C" fn dvs_free_length(
-    allocator: Option<&dvs_address_allocator>,
-    length: Out<u64>,
-) -> dvs_status {
-    let asked = with_ref(allocator, length, |allocator| Ok(allocator.free_len()));
-    status_of(asked, None)
-}
-
 /// Returns a visitor of ranges or gaps that calls the one that C passes.
 fn calling(
     visitor: Option<dvs_range_visitor>,
@@ -324,209 +279,90 @@ fn at_or_below(space: &AddressAllocator, address: u64) -> Answer<RangeInclusive>
     RangeInclusive::new(space.base().min(address), space.end().min(address))
 }
 
-#[unsafe(no_mangle)]
-pub extern "C" fn dvs_range_visit(
-    allocator: Option<&dvs_address_allocator>,
-    visitor: Option<dvs_range_visitor>,
-    context: *mut c_void,
-) -> dvs_status {
-    let visited = visit(
-        allocator,
-        AddressAllocator::held_ranges,
-        calling(visitor, context),
-    );
-    status_of(visited, None)
+/// Defines the visits of the allocated ranges, or of the gaps: of all, of those in a range, from an address
+/// upwards, and from an address downwards.
+macro_rules! visits {
+    ($all:ident, $within:ident, $from:ident, $back:ident by $items:ident, $items_in:ident) => {
+        #[unsafe(no_mangle)]
+        pub extern "C" fn $all(
+            allocator: Option<&dvs_address_allocator>,
+            visitor: Option<dvs_range_visitor>,
+            context: *mut c_void,
+        ) -> dvs_status {
+            let visitor = calling(visitor, context);
+            let visited = visit(allocator, AddressAllocator::$items, visitor);
+            status_of(visited, None)
+        }
+
+        #[unsafe(no_mangle)]
+        pub extern "C" fn $within(
+            allocator: Option<&dvs_address_allocator>,
+            within: dvs_range,
+            visitor: Option<dvs_range_visitor>,
+            context: *mut c_void,
+            refusal: Out<dvs_refusal>,
+        ) -> dvs_status {
+            let visited = visit_some(
+                allocator,
+                |space| Ok(space.$items_in(&within.try_into()?)),
+                calling(visitor, context),
+            );
+            status_of(visited, refusal)
+        }
+
+        #[unsafe(no_mangle)]
+        pub extern "C" fn $from(
+            allocator: Option<&dvs_address_allocator>,
+            address: u64,
+            visitor: Option<dvs_range_visitor>,
+            context: *mut c_void,
+        ) -> dvs_status {
+            let visited = visit_some(
+                allocator,
+                |space| Ok(space.$items_in(&at_or_above(space, address)?)),
+                calling(visitor, context),
+            );
+            status_of(visited, None)
+        }
+
+        #[unsafe(no_mangle)]
+        pub extern "C" fn $back(
+            allocator: Option<&dvs_address_allocator>,
+            address: u64,
+            visitor: Option<dvs_range_visitor>,
+            context: *mut c_void,
+        ) -> dvs_status {
+            let visited = visit_some(
+                allocator,
+                |space| Ok(space.$items_in(&at_or_below(space, address)?).rev()),
+                calling(visitor, context),
+            );
+            status_of(visited, None)
+        }
+    };
 }
 
-#[unsafe(no_mangle)]
-pub extern "C" fn dvs_gap_visit(
-    allocator: Option<&dvs_address_allocator>,
-    visitor: Option<dvs_range_visitor>,
-    context: *mut c_void,
-) -> dvs_status {
-    let visited = visit(allocator, AddressAllocator::gaps, calling(visitor, context));
-    status_of(visited, None)
+visits! {
+    dvs_range_visit, dvs_range_visit_in, dvs_range_visit_from, dvs_range_visit_back
+        by held_ranges, held_ranges_in
 }
 
-#[unsafe(no_mangle)]
-pub extern "C" fn dvs_range_visit_in(
-    allocator: Option<&dvs_address_allocator>,
-    within: dvs_range,
-    visitor: Option<dvs_range_visitor>,
-    context: *mut c_void,
-    refusal: Out<dvs_refusal>,
-) -> dvs_status {
-    let visited = visit_some(
-        allocator,
-        |space| Ok(space.held_ranges_in(&within.try_into()?)),
-        calling(visitor, context),
-    );
-    status_of(visited, refusal)
+visits! {
+    dvs_gap_visit, dvs_gap_visit_in, dvs_gap_visit_from, dvs_gap_visit_back by gaps, gaps_in
 }
 
-#[unsafe(no_mangle)]
-pub extern "C" fn dvs_gap_visit_in(
-    allocator: Option<&dvs_address_allocator>,
-    within: dvs_range,
-    visitor: Option<dvs_range_visitor>,
-    context: *mut c_void,
-    refusal: Out<dvs_refusal>,
-) -> dvs_status {
-    let visited = visit_some(
-        allocator,
-        |space| Ok(space.gaps_in(&within.try_into()?)),
-        calling(visitor, context),
-    );
-    status_of(visited, refusal)
+object_calls! {
+    dvs_address_allocator: dvs_address_allocator_destroy, dvs_address_allocator_copy,
+        dvs_address_allocator_equal, dvs_address_allocator_save,
+        dvs_address_allocator_read, dvs_address_allocator_read_within
+            by |from| read_space(from, true);
+        dvs_address_allocator_read_repaired, dvs_address_allocator_read_repaired_within
+            by |from| read_space(from, false)
 }
 
-#[unsafe(no_mangle)]
-pub extern "C" fn dvs_range_visit_from(
-    allocator: Option<&dvs_address_allocator>,
-    address: u64,
-    visitor: Option<dvs_range_visitor>,
-    context: *mut c_void,
-) -> dvs_status {
-    let visited = visit_some(
-        allocator,
-        |space| Ok(space.held_ranges_in(&at_or_above(space, address)?)),
-        calling(visitor, context),
-    );
-    status_of(visited, None)
-}
-
-#[unsafe(no_mangle)]
-pub extern "C" fn dvs_range_visit_back(
-    allocator: Option<&dvs_address_allocator>,
-    address: u64,
-    visitor: Option<dvs_range_visitor>,
-    context: *mut c_void,
-) -> dvs_status {
-    let visited = visit_some(
-        allocator,
-        |space| Ok(space.held_ranges_in(&at_or_below(space, address)?).rev()),
-        calling(visitor, context),
-    );
-    status_of(visited, None)
-}
-
-#[unsafe(no_mangle)]
-pub extern "C" fn dvs_gap_visit_from(
-    allocator: Option<&dvs_address_allocator>,
-    address: u64,
-    visitor: Option<dvs_range_visitor>,
-    context: *mut c_void,
-) -> dvs_status {
-    let visited = visit_some(
-        allocator,
-        |space| Ok(space.gaps_in(&at_or_above(space, address)?)),
-        calling(visitor, context),
-    );
-    status_of(visited, None)
-}
-
-#[unsafe(no_mangle)]
-pub extern "C" fn dvs_gap_visit_back(
-    allocator: Option<&dvs_address_allocator>,
-    address: u64,
-    visitor: Option<dvs_range_visitor>,
-    context: *mut c_void,
-) -> dvs_status {
-    let visited = visit_some(
-        allocator,
-        |space| Ok(space.gaps_in(&at_or_below(space, address)?).rev()),
-        calling(visitor, context),
-    );
-    status_of(visited, None)
-}
-
-#[unsafe(no_mangle)]
-pub extern "C" fn dvs_address_allocator_copy(
-    allocator: Option<&dvs_address_allocator>,
-    copied: Out<*mut dvs_address_allocator>,
-) -> dvs_status {
-    let made = copy(allocator, copied, |allocator| allocator.try_clone(Global));
-    status_of(made, None)
-}
-
-#[unsafe(no_mangle)]
-pub extern "C" fn dvs_address_allocator_equal(
-    one: Option<&dvs_address_allocator>,
-    other: Option<&dvs_address_allocator>,
-    are_equal: Out<bool>,
-) -> dvs_status {
-    status_of(compare(one, other, are_equal), None)
-}
-
-#[unsafe(no_mangle)]
-pub extern "C" fn dvs_address_allocator_save(
-    allocator: Option<&dvs_address_allocator>,
-    text: Out<*mut c_char>,
-    length: Out<usize>,
-) -> dvs_status {
-    status_of(save(allocator, text, length), None)
-}
-
-/// # Safety
-///
-/// The text is null or points to `length` readable bytes.
-#[unsafe(no_mangle)]
-pub unsafe extern "C" fn dvs_address_allocator_read(
-    text: *const c_char,
-    length: usize,
-    allocator: Out<*mut dvs_address_allocator>,
-) -> dvs_status {
-    // SAFETY: the caller's contract.
-    unsafe { dvs_address_allocator_read_within(text, length, None, allocator, None) }
-}
-
-/// # Safety
-///
-/// The text is null or points to `length` readable bytes.
-#[unsafe(no_mangle)]
-pub unsafe extern "C" fn dvs_address_allocator_read_within(
-    text: *const c_char,
-    length: usize,
-    limits: Option<&dvs_text_limits>,
-    allocator: Out<*mut dvs_address_allocator>,
-    fault: Out<dvs_text_fault>,
-) -> dvs_status {
-    // SAFETY: the caller's contract.
-    unsafe {
-        read(text, length, limits, allocator, fault, |from| {
-            read_space(from, true)
-        })
-    }
-}
-
-/// # Safety
-///
-/// The text is null or points to `length` readable bytes.
-#[unsafe(no_mangle)]
-pub unsafe extern "C" fn dvs_address_allocator_read_repaired(
-    text: *const c_char,
-    length: usize,
-    allocator: Out<*mut dvs_address_allocator>,
-) -> dvs_status {
-    // SAFETY: the caller's contract.
-    unsafe { dvs_address_allocator_read_repaired_within(text, length, None, allocator, None) }
-}
-
-/// # Safety
-///
-/// The text is null or points to `length` readable bytes.
-#[unsafe(no_mangle)]
-pub unsafe extern "C" fn dvs_address_allocator_read_repaired_within(
-    text: *const c_char,
-    length: usize,
-    limits: Option<&dvs_text_limits>,
-    allocator: Out<*mut dvs_address_allocator>,
-    fault: Out<dvs_text_fault>,
-) -> dvs_status {
-    // SAFETY: the caller's contract.
-    unsafe {
-        read(text, length, limits, allocator, fault, |from| {
-            read_space(from, false)
-        })
-    }
+numbers! {
+    dvs_range_count(dvs_address_allocator) -> held_count;
+    dvs_gap_count(dvs_address_allocator) -> gap_count;
+    dvs_longest_gap(dvs_address_allocator) -> longest_gap;
+    dvs_free_length(dvs_address_allocator) -> free_len;
 }

@@ -76,7 +76,7 @@ pub(crate) fn with_conflict<T>(
     let request = asked.constraint()?;
     out.write(match conflict(handle.get(), request) {
         None => dvs_refusal::default(),
-        Some(conflict) => in_the_way(asked.start, request, Some(conflict)).numbers(),
+        Some(conflict) => in_the_way(asked.start, request, Some(conflict)).parts().1,
     });
     Ok(())
 }

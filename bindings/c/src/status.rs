@@ -88,76 +88,73 @@ impl From<Error> for CallError {
 }
 
 impl CallError {
-    fn status(&self) -> dvs_status {
-        match self {
-            CallError::Null => DVS_NULL,
-            CallError::Busy => DVS_BUSY,
-            CallError::OutOfMemory => DVS_OUT_OF_MEMORY,
-            CallError::InvalidPolicy => DVS_INVALID_POLICY,
-            CallError::Call(error) => status_of_error(error),
-            CallError::InTheWay { .. } => DVS_RESOURCE_NOT_AVAILABLE,
-        }
-    }
-
-    /// Returns the details of the error.
-    pub(crate) fn numbers(&self) -> dvs_refusal {
+    /// Returns the status of the error, and its details.
+    pub(crate) fn parts(&self) -> (dvs_status, dvs_refusal) {
         let none = dvs_refusal::default();
         match self {
-            CallError::Call(error) => numbers_of_error(error),
+            CallError::Null => (DVS_NULL, none),
+            CallError::Busy => (DVS_BUSY, none),
+            CallError::OutOfMemory => (DVS_OUT_OF_MEMORY, none),
+            CallError::InvalidPolicy => (DVS_INVALID_POLICY, none),
+            CallError::Call(error) => parts_of(error),
             CallError::InTheWay {
                 range,
                 cause,
                 other,
-            } => dvs_refusal {
-                range: *range,
-                other: *other,
-                cause: *cause,
-                ..none
-            },
-            _ => none,
+            } => (
+                DVS_RESOURCE_NOT_AVAILABLE,
+                dvs_refusal {
+                    range: *range,
+                    other: *other,
+                    cause: *cause,
+                    ..none
+                },
+            ),
         }
     }
 }
 
-fn status_of_error(error: &Error) -> dvs_status {
-    match error {
+/// Returns the status of an error of the allocators, and its details.
+fn parts_of(error: &Error) -> (dvs_status, dvs_refusal) {
+    let mut details = dvs_refusal::default();
+    let status = match error {
         Error::Overflow => DVS_OVERFLOW,
-        Error::OutOfRange(_) => DVS_OUT_OF_RANGE,
-        Error::AlreadyReleased(_) => DVS_ALREADY_RELEASED,
-        Error::NeverAllocated(_) => DVS_NEVER_ALLOCATED,
+        Error::OutOfRange(id) => {
+            details.id = *id;
+            DVS_OUT_OF_RANGE
+        }
+        Error::AlreadyReleased(id) => {
+            details.id = *id;
+            DVS_ALREADY_RELEASED
+        }
+        Error::NeverAllocated(id) => {
+            details.id = *id;
+            DVS_NEVER_ALLOCATED
+        }
         Error::ResourceNotAvailable => DVS_RESOURCE_NOT_AVAILABLE,
-        Error::InvalidRange(_, _) => DVS_INVALID_RANGE,
+        Error::InvalidRange(start, end) => {
+            let (start, end) = (*start, *end);
+            details.range = dvs_range { start, end };
+            DVS_INVALID_RANGE
+        }
         Error::InvalidAlignment => DVS_INVALID_ALIGNMENT,
-        Error::Overlap(_, _) => DVS_OVERLAP,
-        Error::InvalidStateTransition(_, _) => DVS_INVALID_STATE_TRANSITION,
+        Error::Overlap(range, other) => {
+            (details.range, details.other) = ((*range).into(), (*other).into());
+            DVS_OVERLAP
+        }
+        Error::InvalidStateTransition(range, _) => {
+            details.range = (*range).into();
+            DVS_INVALID_STATE_TRANSITION
+        }
         Error::UnalignedAddress => DVS_UNALIGNED_ADDRESS,
         Error::Underflow => DVS_UNDERFLOW,
-        Error::InvalidSize(_) => DVS_INVALID_SIZE,
+        Error::InvalidSize(size) => {
+            details.size = *size;
+            DVS_INVALID_SIZE
+        }
         Error::OutOfMemory => DVS_OUT_OF_MEMORY,
-    }
-}
-
-fn numbers_of_error(error: &Error) -> dvs_refusal {
-    let mut numbers = dvs_refusal::default();
-    match error {
-        Error::OutOfRange(id) | Error::AlreadyReleased(id) | Error::NeverAllocated(id) => {
-            numbers.id = *id;
-        }
-        Error::InvalidRange(start, end) => {
-            numbers.range = dvs_range {
-                start: *start,
-                end: *end,
-            };
-        }
-        Error::Overlap(range, other) => {
-            numbers.range = (*range).into();
-            numbers.other = (*other).into();
-        }
-        Error::InvalidStateTransition(range, _) => numbers.range = (*range).into(),
-        Error::InvalidSize(size) => numbers.size = *size,
-        _ => {}
-    }
-    numbers
+    };
+    (status, details)
 }
 
 /// Returns the status of a result. If it is an error, also writes its details to `refusal`.
@@ -171,10 +168,11 @@ pub(crate) fn status_of(answer: Result<(), CallError>, refusal: Out<dvs_refusal>
 
 #[cold]
 fn report(refused: &CallError, refusal: Out<dvs_refusal>) -> dvs_status {
+    let (status, details) = refused.parts();
     if let Some(refusal) = refusal {
-        refusal.write(refused.numbers());
+        refusal.write(details);
     }
-    refused.status()
+    status
 }
 
 /// The number is from C, so it can be one that is not a status.

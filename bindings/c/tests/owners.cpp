@@ -390,6 +390,11 @@ static void pass_large_numbers() {
     CHECK(device.range.start == half / 2);
 }
 
+static void compare_versions() {
+    CHECK(std::string(dvs::version_text()) == DVS_VERSION_TEXT);
+    CHECK(dvs::version_number() == DVS_VERSION_NUMBER);
+}
+
 static void compare_errors() {
     dvs::address_allocator space;
     dvs::error failure = space.make(UINT64_MAX, 2);
@@ -713,6 +718,7 @@ int main() {
     loop();
     walk_from_addresses();
     pass_large_numbers();
+    compare_versions();
     compare_errors();
     ask();
     reserve_in_windows();

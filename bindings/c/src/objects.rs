@@ -1,0 +1,91 @@
+//! The calls that each kind of object has.
+
+/// Defines the calls that destroy, copy, compare, save and read objects of one kind.
+macro_rules! object_calls {
+    ($handle:ident: $destroy:ident, $copy:ident, $equal:ident, $save:ident,
+        $($read:ident, $read_within:ident by $reader:expr);+) => {
+        /// # Safety
+        ///
+        /// The object is null or from a call that creates one, and is not used after `DVS_OK`.
+        #[unsafe(no_mangle)]
+        pub unsafe extern "C" fn $destroy(object: *mut $handle) -> $crate::dvs_status {
+            // SAFETY: the caller's contract.
+            $crate::status_of(unsafe { $crate::handle::Handle::destroy(object) }, None)
+        }
+
+        #[unsafe(no_mangle)]
+        pub extern "C" fn $copy(
+            object: Option<&$handle>,
+            copied: $crate::Out<*mut $handle>,
+        ) -> $crate::dvs_status {
+            let made = $crate::handle::copy(object, copied, |object| {
+                object.try_clone($crate::rattle::Global)
+            });
+            $crate::status_of(made, None)
+        }
+
+        #[unsafe(no_mangle)]
+        pub extern "C" fn $equal(
+            one: Option<&$handle>,
+            other: Option<&$handle>,
+            are_equal: $crate::Out<bool>,
+        ) -> $crate::dvs_status {
+            $crate::status_of($crate::handle::compare(one, other, are_equal), None)
+        }
+
+        #[unsafe(no_mangle)]
+        pub extern "C" fn $save(
+            object: Option<&$handle>,
+            text: $crate::Out<*mut core::ffi::c_char>,
+            length: $crate::Out<usize>,
+        ) -> $crate::dvs_status {
+            $crate::status_of($crate::texts::save(object, text, length), None)
+        }
+
+        $(
+            /// # Safety
+            ///
+            /// The text is null or points to `length` readable bytes.
+            #[unsafe(no_mangle)]
+            pub unsafe extern "C" fn $read(
+                text: *const core::ffi::c_char,
+                length: usize,
+                object: $crate::Out<*mut $handle>,
+            ) -> $crate::dvs_status {
+                // SAFETY: the caller's contract.
+                unsafe { $read_within(text, length, None, object, None) }
+            }
+
+            /// # Safety
+            ///
+            /// The text is null or points to `length` readable bytes.
+            #[unsafe(no_mangle)]
+            pub unsafe extern "C" fn $read_within(
+                text: *const core::ffi::c_char,
+                length: usize,
+                limits: Option<&$crate::json::dvs_text_limits>,
+                object: $crate::Out<*mut $handle>,
+                fault: $crate::Out<$crate::texts::dvs_text_fault>,
+            ) -> $crate::dvs_status {
+                // SAFETY: the caller's contract.
+                unsafe { $crate::texts::read(text, length, limits, object, fault, $reader) }
+            }
+        )+
+    };
+}
+
+/// Defines calls that write a number of an object, each by the method of this name.
+macro_rules! numbers {
+    ($($name:ident($handle:ident) -> $method:ident;)+) => {$(
+        #[unsafe(no_mangle)]
+        pub extern "C" fn $name(
+            object: Option<&$handle>,
+            number: $crate::Out<u64>,
+        ) -> $crate::dvs_status {
+            let asked = $crate::handle::with_ref(object, number, |object| Ok(object.$method()));
+            $crate::status_of(asked, None)
+        }
+    )+};
+}
+
+pub(crate) use {numbers, object_calls};
