@@ -16,8 +16,7 @@ use serde_json::Value;
 use std::alloc::{AllocError, Global};
 use std::process::Abort;
 use vm_allocator::{
-    AddressAllocator, AllocPolicy, Error, IdAllocator, RangeInclusive, Ranges, Result,
-    ValueError,
+    AddressAllocator, AllocPolicy, Error, IdAllocator, RangeInclusive, Ranges, Result, ValueError,
 };
 use vm_devices::DeviceManager;
 

@@ -239,4 +239,5 @@ exact_start seek t old new (Ok taken) z run h u = start_allocated seek (blocks o
 exact_start seek t old new (Err refusal) z run h u = ap (λ (s : Shape). start_of (blocks s)) u
 
 pub ruleset refusing = (refused_held, refused_other_start, refused_other_end, refused_short, refused_past)
+
 pub ruleset settling_exact = (exact_refused, exact_settled)

@@ -22,6 +22,6 @@ returns-else-i-len c =
       bound = omega arith;
       some = λ z. absurd (omega arith);
       none = λ _ l.
-      let s = start_is c.self.inside c.args.self.now c.args.i c.self.invariant c.self.told c.self.view_is l in
-      omega (arith, not_both_true c.args.i c.self.inside.len (get_or c.self.inside.starts c.args.i 0) c.args.address c.if-i-len.false (omega arith));
+          let s = start_is c.self.inside c.args.self.now c.args.i c.self.invariant c.self.told c.self.view_is l in
+          omega (arith, not_both_true c.args.i c.self.inside.len (get_or c.self.inside.starts c.args.i 0) c.args.address c.if-i-len.false (omega arith));
     }

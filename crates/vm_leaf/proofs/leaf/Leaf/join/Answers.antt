@@ -71,11 +71,11 @@ returns-then-after-2-clause-gap c = record {
 
 pub returns-clause-gap : goal.returns-clause-gap
 returns-clause-gap c =
-  let last : c.args.i ≡ c.args.i + 1 - 1 = omega arith in
-  record {
-  lower = c.args.i;
-  count = 1;
-  from = omega arith;
-  upto = omega arith;
-  blocks = by_key c.args.self.now _ (c.args.i) 1 _ c.release.ensures.merged (c.release.ensures.key ∙ ap (λ n. record { start = (nth c.args.self.now c.args.i).key.start; end = (nth c.args.self.now n).key.end }) last);
-}
+    let last : c.args.i ≡ c.args.i + 1 - 1 = omega arith in
+    record {
+      lower = c.args.i;
+      count = 1;
+      from = omega arith;
+      upto = omega arith;
+      blocks = by_key c.args.self.now _ (c.args.i) 1 _ c.release.ensures.merged (c.release.ensures.key ∙ ap (λ n. record { start = (nth c.args.self.now c.args.i).key.start; end = (nth c.args.self.now n).key.end }) last);
+    }
