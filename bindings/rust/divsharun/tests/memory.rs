@@ -480,8 +480,8 @@ fn lists_have_no_spare_bytes() {
     assert_eq!(bytes, holes + built(2 * COUNT - 1));
     let (_, bytes) = peak_of(|| copy.clone());
     assert_eq!(bytes, built(2 * COUNT - 1));
-    // A walk has the tree, two parts of leaves, the span between them, and a number.
-    let walk = size_of::<usize>() * (1 + 2 * 4 + 3 + 1);
+    // A walk has the tree, two parts of leaves, the span between them, a state and a number.
+    let walk = size_of::<usize>() * (1 + 2 * 4 + 3 + 1 + 1);
     assert!(size_of::<HeldRanges>() <= walk && size_of::<HeldRangesIn>() <= walk);
     assert!(size_of::<Gaps>() <= walk && size_of::<GapsIn>() <= walk);
     let mut space = AddressAllocator::new(0, size).expect("a space");
