@@ -43,8 +43,8 @@ FOLDERS_OF_TESTS = {
     "std::str": ("core::str", {"from_utf8"}),
 }
 LIBRARIES = {folder.split("::")[0] for folder in FOLDERS}
-# Libraries of which only proved modules can use the items. Of the others these are the public functions with a
-# precondition.
+# Libraries whose items only proved modules can use. They alone can also use a public function of another library
+# that has a precondition.
 INNER = {"vm_leaf", "vm_tree"}
 # Names of Rattle's prelude that Rust's prelude does not have or defines differently. `rattle` has them.
 PRELUDE = {"Box", "Vec"}
@@ -71,7 +71,7 @@ TRAITS = {"DoubleEndedIterator", "Eq", "ExactSizeIterator", "From", "Iterator", 
 # Names that no item of a crate may have, because the tables mean the items of the libraries.
 TAKEN = (PRELUDE | NAMES | NUMBERS | TRAITS | {path.split("::")[0] for path in ASSOCIATED}) - {"Result"}
 TRAITS_OF_TESTS = {"Read", "Write"}
-ATTRIBUTES = {"allow", "cold", "default", "error", "inline", "repr"}
+ATTRIBUTES = {"allow", "cold", "default", "error", "inline"}
 KEYWORDS = set("_ as bool break else false for if in let match mut pub return str true while Self".split())
 PATHS = {"crate", "self", "super"}
 REFUSED_WORDS = set("""async await become box char decreases dyn extern f32 f64 gen ghost i8 i16 i32 i64
@@ -324,7 +324,7 @@ class File(Tokens):
             item.is_test = True
         elif words[:1] == ["derive"]:
             self.derive(item, [word for word in words[1:] if word not in "(),"], index, behind)
-        else:
+        elif words != ["repr", "(", "C", ")"]:
             self.refuse_if(not words or words[0] not in ATTRIBUTES, f"an attribute {''.join(words[:1])!r}", index)
 
     def derive(self, item, names, index, behind):

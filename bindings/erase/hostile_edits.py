@@ -80,7 +80,7 @@ EDITS += [(f"{name} {word}", RANGE, old, new.replace("WORD", word), reason.repla
     ("a cast to", "RangeInclusive _", BODY, "        1 + self.end as WORD", "'as WORD'"),
     ("a derive of", "Add AsRef Deref Display From Serialize", "#[derive(Clone, Copy, Debug,", "#[derive(WORD,", "a derive of 'WORD'"),
     ("an impl of", "AsRef Clone Default Deref DerefMut Drop Hash Not Read Write", "impl PartialOrd for", "impl WORD for", "an impl of 'WORD'"),
-    ("an attribute", 'cfg(any()) cfg(not(test)) cfg_attr(test,inline) deprecated must_use path="x" test track_caller', IMPL,
+    ("an attribute", 'cfg(any()) cfg(not(test)) cfg_attr(test,inline) deprecated must_use path="x" repr(packed) repr(u8) repr(C,packed) test track_caller', IMPL,
      f"#[WORD]\n{IMPL}", "an attribute '"),
     ("in code, an item", "const enum fn impl mod pub static struct type use", BODY, f"        WORD;\n{BODY}", "an item 'WORD' in code"),
     ("an item of the form", "async extern macro_rules trait union unsafe", IMPL, f"WORD X {{}}\n{IMPL}", "an item 'WORD'"),

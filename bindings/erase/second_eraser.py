@@ -34,8 +34,8 @@ ADDED = re.compile(
     r"|impl core::fmt::Display for \w+ \{\s+fn fmt\(&self, f: &mut core::fmt::Formatter<'_>\) -> core::fmt::Result \{\s+"
     r"match self \{\s+(?:\w+::\w+(?:\(field_0(?:, field_1)?\))? => write!\(f, \".*\"\),\s+)+\}\s+\}\s+\}\s+"
     r"impl core::error::Error for \w+ \{\}")
-# Crates of which only proved modules can use the items. Of the others these are the public functions with a
-# precondition.
+# Crates whose items only proved modules can use. They alone can also use a public function of another crate that
+# has a precondition.
 INNER = {"vm_leaf", "vm_tree"}
 # Imports that only the first eraser writes.
 PRELUDE = {"crate::rattle::Box", "crate::rattle::Vec"}

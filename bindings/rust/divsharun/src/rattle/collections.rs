@@ -88,6 +88,7 @@ impl<K: Ord + Copy, V> BTreeMap<K, V> {
 
     /// Returns the place of a key, or the place where it would be inserted.
     fn place_of(&self, key: &K) -> Result<Place, Place> {
+        // A small map has one chunk, and no bound to search.
         let at = match self.bounds.is_empty() {
             true => 0,
             false => self.bounds.partition_point(|bound| bound >= key),
@@ -112,6 +113,7 @@ impl<K: Ord + Copy, V> BTreeMap<K, V> {
             }
             Err(place) => {
                 let chunk = self.chunk_mut(place.chunk);
+                // The chunk that was found is not looked up again, because most chunks have room.
                 if chunk.len() < chunk.capacity() {
                     chunk.insert(place.entry, (key, value));
                 } else {
