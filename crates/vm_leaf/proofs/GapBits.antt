@@ -9,12 +9,13 @@ use Rattle.vm_ranges.specs.declared.state.NodeState.TheVariants.{Free, Allocated
 use Rattle.vm_leaf.specs.States.{states_in, state_of}
 use Rattle.vm_leaf.proofs.Masks.{bit_of_mod}
 
--- The highest one of the mask of the gaps below `upto` is the last gap there.
-held_if : (x : ℕ) → x ≡ 1 → state_of x ≡ Allocated
+-- A 1 is the state of a held block.
+pub held_if : (x : ℕ) → x ≡ 1 → state_of x ≡ Allocated
 held_if x e = rw e refl
 
+-- The highest one of the mask of the gaps below `upto` is the last gap there.
 module _ (m x upto : ℕ) (fits : m < 2 ^ 32) (low : upto ≤ 32) (rest : x ≡ (18446744073709551615 - m) % 2 ^ upto) where
-  opposite : (k : ℕ) → k < upto → bit_at m k ≡ 1 - bit_at x k
+  pub opposite : (k : ℕ) → k < upto → bit_at m k ≡ 1 - bit_at x k
   opposite k l =
       let e : bit_at x k ≡ bit_at (18446744073709551615 - m) k = ap (λ (v : ℕ). bit_at v k) rest ∙ bit_of_mod (18446744073709551615 - m) upto k l in
       let f : bit_at (18446744073709551615 - m) k ≡ 1 - bit_at m k = bit_at_not w64 m k (omega arith) (omega arith) in

@@ -3,7 +3,7 @@ use Rattle.std.proofs.Common.{◌≡◌, ℕ, ◌+◌, ◌-◌, ◌*◌, ◌/◌
 use Rattle.std.specs.Int.{bit_at, trailing_zeros}
 use Rattle.std.proofs.lemmas.Bool.{cases_lt}
 use Rattle.std.proofs.lemmas.Nat.{and_le_r, pow_pos}
-use Rattle.std.proofs.lemmas.Nat.Bits.{bit_at_and, bit_at_above, bit_at-lt, bit_at_not, bit_at-pow_same, bit_at-pow_other, bit_at_ones_above, bit_at_cat_low, bit_at_cat_high, bit_at-trailing_zeros, same_from_bits_below}
+use Rattle.std.proofs.lemmas.Nat.Bits.{bit_at_and, bit_at_above, bit_at-lt, bit_at-pow_same, bit_at-pow_other, bit_at_ones_above, bit_at_cat_low, bit_at_cat_high, bit_at-trailing_zeros, same_from_bits_below}
 use Rattle.std.proofs.Math.Nat.{pow-suc, mod-lt, div-add-mod'}
 use Rattle.vm_ranges.specs.declared.state.NodeState.TheVariants.{Free, Allocated}
 use Rattle.vm_leaf.specs.Block.{Block}
@@ -11,6 +11,7 @@ use Rattle.vm_leaf.specs.Blocks.{nth}
 use Rattle.vm_leaf.specs.GapMasks.{IsLowestOne, IsMaskAbove, AreGapsFrom}
 use Rattle.vm_leaf.specs.States.{states_in, state_of}
 use Rattle.vm_leaf.proofs.Masks.{bit_of_mod}
+use Rattle.vm_leaf.proofs.GapBits.{opposite, held_if}
 
 pub lowest_of : (m : ℕ) → 0 < m → m < 2 ^ 64 → IsLowestOne m (trailing_zeros w64 m)
 lowest_of m z u = let h = bit_at-trailing_zeros w64 m z u in record { one = h.1; below = h.2 }
@@ -65,13 +66,8 @@ pub ruleset lowest_ones = (lowest_of, mask_above, less_without)
 -- The inverted mask of the states has a 1 for each gap.
 module _ (bs : List Block) (m x : ℕ) (long : length bs ≤ 32) (fits : m < 2 ^ length bs) (small : m < 2 ^ 32) (states : (k : ℕ) → k < length bs → (nth bs k).state ≡ states_in m k)
     (rest : x ≡ (18446744073709551615 - m) % 2 ^ length bs) where
-  opposite : (k : ℕ) → k < length bs → bit_at x k ≡ 1 - bit_at m k
-  opposite k l =
-      ap (λ (v : ℕ). bit_at v k) rest ∙ bit_of_mod (18446744073709551615 - m) (length bs) k l
-      ∙ bit_at_not w64 m k (omega arith) (omega arith)
-
-  held_if : (v : ℕ) → v < 2 → 1 - v ≡ 0 → state_of v ≡ Allocated
-  held_if v l e = let f : v ≡ 1 = omega arith in rw f refl
+  inverse : (k : ℕ) → k < length bs → bit_at x k ≡ 1 - bit_at m k
+  inverse k l = omega (arith, opposite m x (length bs) small long rest k l, bit_at-lt m k, bit_at-lt x k)
 
   free_if : (v : ℕ) → v < 2 → 1 - v ≡ 1 → state_of v ≡ Free
   free_if v l e = let f : v ≡ 0 = omega arith in rw f refl
@@ -84,10 +80,10 @@ module _ (bs : List Block) (m x : ℕ) (long : length bs ≤ 32) (fits : m < 2 ^
     fits = size;
     below = λ k l. absurd (omega arith);
     free = λ k e. elim (cases_lt k (length bs)) [
-      | inl l ↦ states k l ∙ free_if (bit_at m k) (bit_at-lt m k) (sym (opposite k l) ∙ e)
+      | inl l ↦ states k l ∙ free_if (bit_at m k) (bit_at-lt m k) (sym (inverse k l) ∙ e)
       | inr l ↦ absurd (omega (arith, bit_at_above x (length bs) k size l))
     ];
-    held = λ k _ l e. states k l ∙ held_if (bit_at m k) (bit_at-lt m k) (sym (opposite k l) ∙ e);
+    held = λ k _ l e. states k l ∙ held_if (bit_at m k) (omega (arith, inverse k l, bit_at-lt m k));
   }
 
 -- The gaps behind the lowest one.

@@ -3,11 +3,11 @@ use Rattle.std.proofs.Common.{◌≡◌, ℕ, ◌+◌, ◌-◌, ◌*◌, ◌<◌
 use Rattle.std.proofs.lemmas.Bool.{cases_lt}
 use Rattle.vm_leaf.specs.Block.{Block}
 use Rattle.vm_leaf.specs.Blocks.{nth, IsLeaf}
-use Rattle.vm_leaf.specs.Starts.{IsCountUpTo, IsNarrowed}
+use Rattle.vm_leaf.specs.Starts.{IsOneIfUpTo, IsNarrowed}
 use Rattle.vm_leaf.proofs.Tiles.{starts_ascend}
 
 -- A later block starts at x or below it only if an earlier one does.
-fewer_later : (bs : List Block) (i j x a b : ℕ) → IsLeaf bs → i ≤ j → IsCountUpTo bs i x a → IsCountUpTo bs j x b → b ≤ a
+fewer_later : (bs : List Block) (i j x a b : ℕ) → IsLeaf bs → i ≤ j → IsOneIfUpTo bs i x a → IsOneIfUpTo bs j x b → b ≤ a
 fewer_later bs i j x a b h l f g =
     elim (cases_lt 0 b) [
       | inl some ↦ elim (cases_lt 0 a) [
@@ -25,7 +25,7 @@ fewer_later bs i j x a b h l f g =
 
 module _ (bs : List Block) (low step x a b c : ℕ) (h : IsLeaf bs) (here : low < length bs) (from : (nth bs low).key.start ≤ x)
     (upto : low + 4 * step < length bs → x < (nth bs (low + 4 * step)).key.start)
-    (first : IsCountUpTo bs (low + step) x a) (second : IsCountUpTo bs (low + 2 * step) x b) (third : IsCountUpTo bs (low + 3 * step) x c) where
+    (first : IsOneIfUpTo bs (low + step) x a) (second : IsOneIfUpTo bs (low + 2 * step) x b) (third : IsOneIfUpTo bs (low + 3 * step) x c) where
   pub narrowed : IsNarrowed bs low step x (low + step * (a + b + c))
   narrowed =
       let ab = fewer_later bs (low + step) (low + 2 * step) x a b h (omega arith) first second in

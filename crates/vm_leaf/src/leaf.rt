@@ -7,7 +7,7 @@ ghost use Rattle.vm_leaf.specs.Block.{held_block};
 ghost use Rattle.vm_leaf.specs.Left.{IsLeft, added_by};
 ghost use Rattle.vm_leaf.specs.Blocks.{nth, start_of, end_of, with_parts, upper_held, lower_held, middle_held, gap_over, parts, freed_at, IsJoined, IsLeaf};
 ghost use Rattle.vm_leaf.specs.Raises.{Raises};
-ghost use Rattle.vm_leaf.specs.Starts.{IsCountUpTo, IsNarrowed};
+ghost use Rattle.vm_leaf.specs.Starts.{IsOneIfUpTo, IsNarrowed};
 
 mod ends;
 mod fits;
@@ -271,9 +271,9 @@ impl Leaf {
     /// Returns 1 if block `i` exists and starts at or below `address`, otherwise 0.
     #[inline(always)]
     #[tactic(auto, using(crate::proofs::Fields::length_of))]
-    fn count_up_to(&self, i: usize, address: u64) -> usize
+    fn one_if_up_to(&self, i: usize, address: u64) -> usize
         requires { i < 32 }
-        ensures { IsCountUpTo self.now i address result }
+        ensures { IsOneIfUpTo self.now i address result }
     {
         let len = self.len;
         let first = self.starts[i];
@@ -316,9 +316,9 @@ impl Leaf {
     {
         // Proof: `len` gives the facts of a leaf.
         let _len = self.len();
-        let first = self.count_up_to(low + step, address);
-        let second = self.count_up_to(low + 2 * step, address);
-        let third = self.count_up_to(low + 3 * step, address);
+        let first = self.one_if_up_to(low + step, address);
+        let second = self.one_if_up_to(low + 2 * step, address);
+        let third = self.one_if_up_to(low + 3 * step, address);
         low + step * (first + second + third)
     }
 
@@ -502,7 +502,7 @@ impl Leaf {
     /// Frees block `i`. Its neighbours must be allocated.
     #[inline(always)]
     #[tactic(auto, using(crate::proofs::Fields::length_of))]
-    fn clear(&mut self, i: usize)
+    fn set_free(&mut self, i: usize)
         requires within { i < length self.old }
         requires before { 0 < i → (nth self.old (i - 1)).state ≡ Allocated }
         requires after { i + 1 < length self.old → (nth self.old (i + 1)).state ≡ Allocated }
@@ -525,7 +525,7 @@ impl Leaf {
         // Proof: `len` gives the facts of a leaf.
         let _len = self.len();
         let gap = self.key_at(i);
-        self.clear(i);
+        self.set_free(i);
         gap
     }
 

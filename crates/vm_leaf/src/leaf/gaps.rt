@@ -41,7 +41,7 @@ pub(super) fn lowest_one(mask: u64) -> usize
 pub(super) fn without_lowest(mask: u64) -> u64
     requires { 0 < mask }
     ensures less { result < mask }
-    ensures same { (i : ℕ) → IsLowestOne mask i → IsMaskAbove i mask result }
+    ensures above { (i : ℕ) → IsLowestOne mask i → IsMaskAbove i mask result }
 {
     mask & (mask - 1)
 }

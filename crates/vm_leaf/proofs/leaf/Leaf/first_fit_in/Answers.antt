@@ -39,7 +39,7 @@ loop-gaps-preserved c =
     record {
       index = j + 1;
       rest = gaps_behind bs h.index j c.loop-gaps.gaps c.without_lowest-gaps.result h.rest c.lowest_one-index.ensures c.without_lowest-gaps.ensures.less
-          (c.without_lowest-gaps.ensures.same j c.lowest_one-index.ensures);
+          (c.without_lowest-gaps.ensures.above j c.lowest_one-index.ensures);
       none = none_joined w c.args.size c.args.alignment bs 0 j (j + 1) (none_before c.before.before.before) (none_at w c.args.size c.args.alignment bs j c.in_default.ensures);
     }
 

@@ -4,4 +4,4 @@ use Rattle.vm_leaf.proofs.leaf.Leaf.narrow_to_quarter.Goals as goal
 pub returns : goal.returns
 returns c =
     narrowed c.args.self.now c.args.low c.args.step c.args.address _ _ _ c.len-len.ensures.leaf c.requires.within c.requires.from c.requires.upto
-    c.count_up_to-first.ensures c.count_up_to-second.ensures c.count_up_to-third.ensures
+    c.one_if_up_to-first.ensures c.one_if_up_to-second.ensures c.one_if_up_to-third.ensures

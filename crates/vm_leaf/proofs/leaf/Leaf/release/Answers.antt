@@ -7,5 +7,5 @@ pub returns-clause-raised : goal.returns-clause-raised
 returns-clause-raised c =
     let bs = c.args.self.now in
     let same : c.args.i ≡ c.args.i + 1 - 1 = omega arith in
-    raised_at bs c.args.i 1 c.len-len.ensures.leaf (omega arith) (omega (arith, c.requires.within)) c.key_at-gap.result c.clear.new.self
-    (c.key_at-gap.ensures ∙ ap (λ n. record { start = (nth bs c.args.i).key.start; end = (nth bs n).key.end }) same) c.clear.ensures
+    raised_at bs c.args.i 1 c.len-len.ensures.leaf (omega arith) (omega (arith, c.requires.within)) c.key_at-gap.result c.set_free.new.self
+    (c.key_at-gap.ensures ∙ ap (λ n. record { start = (nth bs c.args.i).key.start; end = (nth bs n).key.end }) same) c.set_free.ensures

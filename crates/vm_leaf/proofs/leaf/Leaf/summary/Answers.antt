@@ -54,7 +54,7 @@ loop-gaps-preserved c =
     record {
       index = j + 1;
       within = omega (arith, l);
-      rest = gaps_behind bs h.index j c.loop-gaps.gaps c.without_lowest-gaps.result h.rest low c.without_lowest-gaps.ensures.less (c.without_lowest-gaps.ensures.same j low);
+      rest = gaps_behind bs h.index j c.loop-gaps.gaps c.without_lowest-gaps.result h.rest low c.without_lowest-gaps.ensures.less (c.without_lowest-gaps.ensures.above j low);
       summed = rw m one;
     }
 

@@ -1,6 +1,6 @@
 use Rattle.std.proofs.Common.{◌<◌, length, get_or, ap, arith}
 use Rattle.vm_leaf.proofs.Fields.{length_of, start_is, both_true, not_both_true}
-use Rattle.vm_leaf.proofs.leaf.Leaf.count_up_to.Goals as goal
+use Rattle.vm_leaf.proofs.leaf.Leaf.one_if_up_to.Goals as goal
 
 pub returns-then-i-len : goal.returns-then-i-len
 returns-then-i-len c =

@@ -1,5 +1,5 @@
 use Rattle.vm_leaf.proofs.Changes.{released}
-use Rattle.vm_leaf.proofs.leaf.Leaf.clear.Goals as goal
+use Rattle.vm_leaf.proofs.leaf.Leaf.set_free.Goals as goal
 
 pub invariant_of-self : goal.invariant_of-self
 invariant_of-self c =
