@@ -17,8 +17,8 @@ ghost use Rattle.vm_allocator.specs.Allocator.{state_of, made_state};
 ghost use Rattle.vm_engine.specs.Held.{MakesSpace, MakesWithHeld, HasFaultIndex};
 ghost use Rattle.vm_ranges.specs.ListErrors.{by_error};
 ghost use Rattle.vm_ranges.specs.Cloning.{Clones};
-ghost use Rattle.vm_tree.specs.Shape.{height_of, node_count};
-ghost use Rattle.vm_tree.specs.Building.{IsLowestHeight};
+ghost use Rattle.vm_tree.specs.Shape.{height_of};
+ghost use Rattle.vm_tree.specs.Building.{IsLowestTree};
 ghost use Rattle.vm_engine.specs.Counts.GapSearch.{SearchesGaps, SearchesAligned};
 ghost use Rattle.vm_engine.specs.Counts.Steps.{EntersToAllocate, IsAllocationCount, IsFreeCount, IsBalancedTreeOf, SplitsIfFew};
 
@@ -69,7 +69,7 @@ impl AddressAllocator {
     /// In this order:
     /// - `Underflow` if `size` is 0.
     /// - `Overflow` if the last address would be past `u64::MAX`.
-    /// - `OutOfMemory` if the allocation of the node fails.
+    /// - `OutOfMemory` if the allocation of the leaf fails.
     #[tactic(auto, using(crate::proofs::Results::Making::making, crate::proofs::Trees::trees))]
     pub fn new(alloc: Global, base: u64, size: u64) -> Result<Self>
         ensures answer { Makes base size (made_state result) }
@@ -86,7 +86,8 @@ impl AddressAllocator {
     /// Creates an allocator of the `size` addresses that start at `base`, with these ranges allocated.
     /// They must be in ascending order.
     ///
-    /// Its tree has the minimum height for its nodes. It takes time linear in the number of ranges.
+    /// Its tree has the fewest leaves, and the minimum height for its nodes. It takes time linear in the
+    /// number of ranges.
     ///
     /// # Errors
     ///
@@ -109,8 +110,7 @@ impl AddressAllocator {
     ) -> std::result::Result<Self, ListError>
         ensures answer { MakesWithHeld base size held.now (made_state (by_error result)) }
         ensures index { IfErr result (λ failure. HasFaultIndex base size held.now failure.index) }
-        ensures low { IfOk result (λ allocator.
-            IsLowestHeight (node_count allocator.tree) (height_of allocator.tree)) }
+        ensures low { IfOk result (λ allocator. IsLowestTree allocator.tree) }
         ensures state { IfOk result (λ allocator. IsAddressState (state_of allocator)) }
     {
         let address_space = space_from(base, size)?;
@@ -125,7 +125,7 @@ impl AddressAllocator {
     ///
     /// # Errors
     ///
-    /// - `OutOfMemory` if the allocation of a node fails. The nodes copied so far are freed.
+    /// - `OutOfMemory` if an allocation fails. What was copied so far is freed.
     pub fn try_clone(&self, alloc: Global) -> Result<Self>
         ensures answer { Clones (state_of self.now) (made_state result) }
         ensures same { Clones self.now result }
@@ -375,9 +375,9 @@ impl AddressAllocator {
 
     /// Returns the height of the tree: the number of nodes on its longest path, at most 48.
     ///
-    /// A leaf is a node, and has up to 32 blocks. The tree is balanced. With k allocated ranges its height h
-    /// satisfies F(h + 2) <= 2k + 2, and 12 F(h + 1) <= 2k + 1 if h is above 1, where F is the Fibonacci
-    /// sequence 1, 1, 2, 3, 5.
+    /// A leaf is a node, and has up to 32 blocks. The tree is balanced. Let h be its height, and k the number
+    /// of allocated ranges. Then F(h + 2) is at most 2k + 2. If h is above 1, 12 F(h + 1) is at most 2k + 1.
+    /// F is the Fibonacci sequence 1, 1, 2, 3, 5.
     pub fn height(&self) -> u64
         ensures value { result ≡ height_of self.now.tree }
         ensures tree { IsBalancedTreeOf (state_of self.now) self.now.tree }

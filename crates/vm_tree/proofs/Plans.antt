@@ -50,12 +50,15 @@ tree_is n l e m bs old new s same c d f t b =
     let h = b.height in
     let p = nodes_of_leaves s in
     let q = b.leaf_total in
+    let whole : blocks s ≡ bs = sym (b.cut ∙ ap (λ (v : List Block). blocks s ++ v) (nothing new (omega arith)) ∙ append-nil (blocks s)) ∙ same in
     record {
-      blocks = sym (b.cut ∙ ap (λ (v : List Block). blocks s ++ v) (nothing new (omega arith)) ∙ append-nil (blocks s)) ∙ same;
+      blocks = whole;
       tree = record { balanced = b.balanced; leaves = b.rooted };
-      few = omega arith;
       low = (let w = half_low l (height_of s) f b.height in omega arith);
-      lowest = (omega (arith, h.0), omega (arith, h.1));
+      lowest = record {
+        leaves = omega (arith, ap length whole);
+        height = (omega (arith, h.0), omega (arith, h.1));
+      };
     }
   where
     nothing : (bs : List Block) → length bs ≡ 0 → bs ≡ []

@@ -68,10 +68,14 @@ pub record IsBuilt (leaves each more : ℕ) (old : List Block) (tree : Shape) (n
   pub full : 12 ≤ each → HasFullLeaves tree
   pub rooted : IsRooted tree
 
+-- The tree has its blocks in the fewest leaves, and the minimum height for its nodes.
+pub record IsLowestTree (s : Shape) : Type 0 where
+  pub leaves : 32 * leaf_count s < length (blocks s) + 32
+  pub height : IsLowestHeight (node_count s) (height_of s)
+
 -- The tree has these blocks in the fewest leaves, and the minimum height for its nodes.
 pub record IsBuiltTree (bs : List Block) (s : Shape) : Type 0 where
   pub blocks : blocks s ≡ bs
   pub tree : IsTree s
-  pub few : 32 * leaf_count s < length bs + 32
   pub low : height_of s < MAX_HEIGHT
-  pub lowest : IsLowestHeight (node_count s) (height_of s)
+  pub lowest : IsLowestTree s

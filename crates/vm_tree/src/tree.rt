@@ -75,8 +75,8 @@ impl Tree {
         })
     }
 
-    /// Creates the tree of a space in which these ranges are allocated. It has the minimum height for its
-    /// nodes.
+    /// Creates the tree of a space in which these ranges are allocated. It has the fewest leaves, and the
+    /// minimum height for its nodes.
     ///
     /// It returns an error if an allocation fails.
     ///

@@ -4,8 +4,7 @@ ghost use Rattle.std.specs.List.{Contains};
 ghost use Rattle.vm_ranges.specs.ListErrors.{by_error};
 ghost use Rattle.vm_ranges.specs.Range.{Range, IsIn};
 ghost use Rattle.vm_engine.specs.Address.{IsAddressState, IsClear};
-ghost use Rattle.vm_tree.specs.Shape.{height_of, node_count};
-ghost use Rattle.vm_tree.specs.Building.{IsLowestHeight};
+ghost use Rattle.vm_tree.specs.Building.{IsLowestTree};
 ghost use Rattle.vm_allocator.specs.Allocator.{state_of, made_state};
 ghost use Rattle.vm_allocator.specs.Holes.{MakesWithFree, wrong_index, holes_after};
 ghost use Rattle.vm_allocator.specs.Checks.FreeChecks.{ChecksFree};
@@ -26,8 +25,8 @@ impl AddressAllocator {
     /// holes between the ranges are allocated, one range for each hole, and can be freed. Two ranges
     /// without a hole between them are one gap.
     ///
-    /// Its tree has the minimum height for its nodes. It takes time linear in the number of ranges, and
-    /// also allocates a list of the holes.
+    /// Its tree has the fewest leaves, and the minimum height for its nodes. It takes time linear in the
+    /// number of ranges, and also allocates a list of the holes.
     ///
     /// # Errors
     ///
@@ -46,8 +45,7 @@ impl AddressAllocator {
         // An address is clear if and only if it is in one of the ranges.
         ensures clear { IfOk result (λ allocator. (x : ℕ) →
             IsClear (state_of allocator) x ↔ ((r : Range) × Contains free.now r × IsIn r x)) }
-        ensures low { IfOk result (λ allocator.
-            IsLowestHeight (node_count allocator.tree) (height_of allocator.tree)) }
+        ensures low { IfOk result (λ allocator. IsLowestTree allocator.tree) }
         ensures state { IfOk result (λ allocator. IsAddressState (state_of allocator)) }
     {
         let Some((first, others)) = free.split_first() else {

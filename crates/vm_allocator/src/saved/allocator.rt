@@ -1,8 +1,7 @@
 //! The saved value of an address allocator.
 ghost use Rattle.std.specs.Prelude.{◌≡◌, IfOk, option_map};
 ghost use Rattle.serde_json.specs.View.{view};
-ghost use Rattle.vm_tree.specs.Building.{IsLowestHeight};
-ghost use Rattle.vm_tree.specs.Shape.{height_of, node_count};
+ghost use Rattle.vm_tree.specs.Building.{IsLowestTree};
 ghost use Rattle.vm_engine.specs.Address.{IsAddressState};
 ghost use Rattle.vm_ranges.specs.Saving.{Saves, Reads};
 ghost use Rattle.vm_allocator.specs.Allocator.{state_of, made_state};
@@ -44,8 +43,7 @@ impl AddressAllocator {
     /// - `OutOfMemory` if an allocation fails.
     pub fn from_value(alloc: Global, value: &Value) -> std::result::Result<Self, ValueError>
         ensures answer { Reads (EncodesAddresses (view value.now)) (made_state result) }
-        ensures low { IfOk result (λ allocator.
-            IsLowestHeight (node_count allocator.tree) (height_of allocator.tree)) }
+        ensures low { IfOk result (λ allocator. IsLowestTree allocator.tree) }
         ensures state { IfOk result (λ allocator. IsAddressState (state_of allocator)) }
     {
         let Some(parts) = decode_parts(value) else {
@@ -86,8 +84,7 @@ impl AddressAllocator {
         value: &Value,
     ) -> std::result::Result<Self, ValueError>
         ensures answer { Reads (EncodesRepaired (view value.now)) (made_state result) }
-        ensures low { IfOk result (λ allocator.
-            IsLowestHeight (node_count allocator.tree) (height_of allocator.tree)) }
+        ensures low { IfOk result (λ allocator. IsLowestTree allocator.tree) }
         ensures state { IfOk result (λ allocator. IsAddressState (state_of allocator)) }
     {
         let Some(parts) = decode_parts(value) else {

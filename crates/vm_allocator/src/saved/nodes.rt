@@ -5,8 +5,8 @@ ghost use Rattle.vm_ranges.specs.declared.saved.Condition.TheVariants.{Inside, T
 ghost use Rattle.vm_engine.specs.Address.{IsAddressState};
 ghost use Rattle.vm_ranges.specs.declared.saved.SavedError.TheVariants.{OutOfMemory};
 ghost use Rattle.vm_engine.specs.Checks.HeldKeys.{CanBeHeld};
-ghost use Rattle.vm_tree.specs.Shape.{blocks, height_of, node_count};
-ghost use Rattle.vm_tree.specs.Building.{IsLowestHeight};
+ghost use Rattle.vm_tree.specs.Shape.{blocks};
+ghost use Rattle.vm_tree.specs.Building.{IsLowestTree};
 ghost use Rattle.vm_engine.specs.Values.NodesRead.{AreNodesOf};
 ghost use Rattle.vm_engine.specs.Values.SavedTrees.{Saved, HasHeldKeys, HasTreeOf};
 ghost use Rattle.vm_allocator.specs.Allocator.{state_of, made_state};
@@ -33,8 +33,7 @@ impl AddressAllocator {
             → ReadsParts (HasTreeOf address_space t) Tree (made_state result) }
         // Memory can only run out if the keys can be held.
         ensures memory { result ≡ Err OutOfMemory → CanBeHeld address_space nodes.now.held }
-        ensures low { IfOk result (λ allocator.
-            IsLowestHeight (node_count allocator.tree) (height_of allocator.tree)) }
+        ensures low { IfOk result (λ allocator. IsLowestTree allocator.tree) }
         ensures state { IfOk result (λ allocator. IsAddressState (state_of allocator)) }
     {
         let interval_tree = IntervalTree::from_nodes(alloc, address_space, nodes)?;
@@ -63,8 +62,7 @@ impl AddressAllocator {
             → ReadsParts (HasHeldKeys address_space t) Inside (made_state result) }
         // Memory can only run out if the keys can be held.
         ensures memory { result ≡ Err OutOfMemory → CanBeHeld address_space nodes.now.held }
-        ensures low { IfOk result (λ allocator.
-            IsLowestHeight (node_count allocator.tree) (height_of allocator.tree)) }
+        ensures low { IfOk result (λ allocator. IsLowestTree allocator.tree) }
         ensures state { IfOk result (λ allocator. IsAddressState (state_of allocator)) }
     {
         let interval_tree = IntervalTree::from_nodes_repaired(alloc, address_space, nodes)?;

@@ -5,12 +5,12 @@ use Rattle.vm_engine.proofs.Counts.MadeOrNot.{made_or_not}
 
 pub enters_few : EntersFew
 enters_few = record {
-  free = λ h answer count c. let most = c.most in omega arith;
+  free = λ h answer count c. c.most;
   exact = λ h k t. omega arith;
   first = λ h k. omega arith;
   last = λ h k. omega arith;
-  gaps = λ h v answer count c. let most = c.most in omega arith;
-  window = λ h v count c. omega arith;
+  gaps = λ h v answer count c. c.most;
+  window = λ h v count c. c;
 }
 
 pub counts_are_decided : CountsAreDecided

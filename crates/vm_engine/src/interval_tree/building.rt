@@ -4,8 +4,7 @@
 ghost use Rattle.std.specs.Prelude.{◌≡◌, ◌+◌, ◌≤◌, Some, None, IfOk, IfErr, MatchResult};
 ghost use Rattle.vm_ranges.specs.ListErrors.{by_error};
 ghost use Rattle.vm_ranges.specs.Range.{IsRange, address_count};
-ghost use Rattle.vm_tree.specs.Building.{AreInOrder, IsLowestHeight};
-ghost use Rattle.vm_tree.specs.Shape.{height_of, node_count};
+ghost use Rattle.vm_tree.specs.Building.{AreInOrder, IsLowestTree};
 ghost use Rattle.vm_engine.specs.Address.{IsAddressState};
 ghost use Rattle.vm_engine.specs.Held.{MakesHeld, CountsBlocks, range_fault, fault_index};
 ghost use Rattle.vm_engine.specs.Queries.{count_of};
@@ -21,7 +20,7 @@ const TOO_MANY_BLOCKS: u64 = 1 << 49;
 
 impl IntervalTree {
     /// Creates the tree of the space `key` with these ranges allocated. They must be in ascending
-    /// order. The tree has the minimum height for its nodes.
+    /// order. The tree has the fewest leaves, and the minimum height for its nodes.
     ///
     /// `AddressAllocator::with_held` documents the errors.
     #[tactic(auto, using(crate::proofs::Making::HeldTrees::makings))]
@@ -32,7 +31,7 @@ impl IntervalTree {
     ) -> std::result::Result<Self, ListError>
         ensures answer { MakesHeld key held.now (made_tree (by_error result)) }
         ensures index { IfErr result (λ failure. failure.index ≡ fault_index 0 key.start key.end held.now) }
-        ensures low { IfOk result (λ tree. IsLowestHeight (node_count tree) (height_of tree)) }
+        ensures low { IfOk result IsLowestTree }
         ensures state { IfOk result (λ tree. IsAddressState (tree_state tree)) }
     {
         let count = count_blocks(&key, held)?;

@@ -70,8 +70,8 @@ fn too_short_gaps_are_exact()
     ensures few { TooShortAreFew }
 {}
 
-/// States that a call enters at most 8h + 8 nodes in a tree of height h, apart from its search of
-/// gaps.
+/// States the most nodes that a call enters in a tree of height h: 3h for `free`, h for `ExactMatch`, and
+/// h for each gap that a search enters.
 #[tactic(auto, using(crate::proofs::Counts::SimpleBounds::simple_bounds))]
 fn calls_enter_few()
     ensures { EntersFew }

@@ -8,8 +8,7 @@ ghost use Rattle.std.specs.Vec.{vec_len};
 ghost use Rattle.vm_engine.specs.Address.{IsAddressState};
 ghost use Rattle.vm_engine.specs.Checks.Spans.{Arranges, EndsNode};
 ghost use Rattle.vm_engine.specs.Checks.HeldKeys.{CanBeHeld, HoldsKeys};
-ghost use Rattle.vm_tree.specs.Building.{IsLowestHeight};
-ghost use Rattle.vm_tree.specs.Shape.{height_of, node_count};
+ghost use Rattle.vm_tree.specs.Building.{IsLowestTree};
 ghost use Rattle.vm_engine.specs.Values.SavedTrees.{Saved, HasHeldKeys, HasTreeOf};
 ghost use Rattle.vm_engine.specs.Tree.SpaceTree.{tree_state, made_tree};
 ghost use Rattle.vm_ranges.specs.Saving.{ReadsParts};
@@ -186,7 +185,7 @@ impl IntervalTree {
         ensures answer { (t : Saved) → AreNodesOf nodes.now t
             → ReadsParts (HasTreeOf space t) Tree (made_tree result) }
         ensures memory { result ≡ Err OutOfMemory → CanBeHeld space nodes.now.held }
-        ensures low { IfOk result (λ tree. IsLowestHeight (node_count tree) (height_of tree)) }
+        ensures low { IfOk result IsLowestTree }
         ensures space { IfOk result (λ tree. (tree_state tree).space ≡ space) }
         ensures state { IfOk result (λ tree. IsAddressState (tree_state tree)) }
     {
@@ -214,7 +213,7 @@ impl IntervalTree {
         ensures answer { (t : Saved) → AreNodesOf nodes.now t
             → ReadsParts (HasHeldKeys space t) Inside (made_tree result) }
         ensures memory { result ≡ Err OutOfMemory → CanBeHeld space nodes.now.held }
-        ensures low { IfOk result (λ tree. IsLowestHeight (node_count tree) (height_of tree)) }
+        ensures low { IfOk result IsLowestTree }
         ensures space { IfOk result (λ tree. (tree_state tree).space ≡ space) }
         ensures state { IfOk result (λ tree. IsAddressState (tree_state tree)) }
     {
@@ -234,7 +233,7 @@ fn tree_with(
     condition: Condition,
 ) -> std::result::Result<IntervalTree, SavedError>
     ensures held { HoldsKeys space held.now condition (made_tree result) }
-    ensures low { IfOk result (λ tree. IsLowestHeight (node_count tree) (height_of tree)) }
+    ensures low { IfOk result IsLowestTree }
     ensures state { IfOk result (λ tree. IsAddressState (tree_state tree)) }
 {
     match IntervalTree::with_held(alloc, space, held) {

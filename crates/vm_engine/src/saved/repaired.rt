@@ -4,8 +4,7 @@
 //! keys, and a new tree is built of them.
 ghost use Rattle.std.specs.Prelude.{◌≡◌, ◌≤◌, ◌++◌, IfOk, OnOk};
 ghost use Rattle.serde_json.specs.View.{view};
-ghost use Rattle.vm_tree.specs.Building.{IsLowestHeight};
-ghost use Rattle.vm_tree.specs.Shape.{height_of, node_count};
+ghost use Rattle.vm_tree.specs.Building.{IsLowestTree};
 ghost use Rattle.vm_engine.specs.Address.{IsAddressState};
 ghost use Rattle.vm_engine.specs.Tree.Blocks.{range_if_held};
 ghost use Rattle.vm_engine.specs.Tree.SpaceTree.{tree_state, made_tree};
@@ -45,7 +44,7 @@ impl IntervalTree {
         value: &Value,
     ) -> std::result::Result<Self, ValueError>
         ensures answer { Reads (EncodesKeys (view value.now) space.now) (made_tree result) }
-        ensures low { IfOk result (λ tree. IsLowestHeight (node_count tree) (height_of tree)) }
+        ensures low { IfOk result IsLowestTree }
         ensures state { IfOk result (λ tree. IsAddressState (tree_state tree)) }
     {
         // Proof: this shows that the space is a range.
@@ -71,7 +70,7 @@ pub(super) fn tree_of_keys(
 ) -> std::result::Result<IntervalTree, ValueError>
     requires nodes { HasNodesWithin MAX_NESTING_REPAIRED (view value.now) }
     ensures answer { HoldsNodes (view value.now) space.now (made_tree result) }
-    ensures low { IfOk result (λ tree. IsLowestHeight (node_count tree) (height_of tree)) }
+    ensures low { IfOk result IsLowestTree }
     ensures state { IfOk result (λ tree. IsAddressState (tree_state tree)) }
 {
     let mut held = Vec::with_capacity(alloc, count as usize)?;

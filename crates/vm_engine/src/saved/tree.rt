@@ -2,8 +2,7 @@
 ghost use Rattle.std.specs.Prelude.{◌≡◌, IfOk};
 ghost use Rattle.serde_json.specs.View.{view};
 ghost use Rattle.vm_ranges.specs.Saving.{Saves, Reads};
-ghost use Rattle.vm_tree.specs.Building.{IsLowestHeight};
-ghost use Rattle.vm_tree.specs.Shape.{height_of, node_count};
+ghost use Rattle.vm_tree.specs.Building.{IsLowestTree};
 ghost use Rattle.vm_engine.specs.Address.{IsAddressState};
 ghost use Rattle.vm_engine.specs.Checks.ValueSpans.{EncodesSaved};
 ghost use Rattle.vm_engine.specs.Tree.SpaceTree.{tree_state, made_tree};
@@ -53,7 +52,7 @@ impl IntervalTree {
         value: &Value,
     ) -> std::result::Result<Self, ValueError>
         ensures answer { Reads (EncodesSpaceTree (view value.now) space.now) (made_tree result) }
-        ensures low { IfOk result (λ tree. IsLowestHeight (node_count tree) (height_of tree)) }
+        ensures low { IfOk result IsLowestTree }
         ensures state { IfOk result (λ tree. IsAddressState (tree_state tree)) }
     {
         // Proof: this shows that the space is a range.
