@@ -15,8 +15,7 @@ pub mod FreesTrees
 pub mod FreesEdges
 pub mod AllocatedSummaries
 pub mod SearchedBlocks
-pub mod SearchedFirst
-pub mod SearchedLast
+pub mod Searched
 pub mod AllocatedTrees
 pub mod Allocating
 pub mod AllocatedExact

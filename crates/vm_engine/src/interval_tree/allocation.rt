@@ -18,7 +18,7 @@ ghost use Rattle.vm_engine.specs.Tree.SpaceTree.{space_of, tree_state};
 use super::IntervalTree;
 use std::alloc::Global;
 use vm_ranges::{AllocPolicy, Constraint, Error, NodeState, RangeInclusive, Result};
-use vm_tree::{Refusal, Search, Steps, Taken, Tree};
+use vm_tree::{End, Refusal, Search, Steps, Taken, Tree};
 
 /// If this many ranges are allocated, no gap is split. So no tree gets too high.
 pub(crate) const SPLIT_LIMIT: u64 = 6_293_134_512;
@@ -101,8 +101,14 @@ fn allocate_in(
     let _height = tree.height();
     let search = search_of(constraint, space, can_split);
     match constraint.policy() {
-        AllocPolicy::FirstMatch => with_error(tree.allocate_lowest(&search, alloc, count), space),
-        AllocPolicy::LastMatch => with_error(tree.allocate_highest(&search, alloc, count), space),
+        AllocPolicy::FirstMatch => with_error(
+            tree.allocate_fit(End::First, &search, alloc, count),
+            space,
+        ),
+        AllocPolicy::LastMatch => with_error(
+            tree.allocate_fit(End::Last, &search, alloc, count),
+            space,
+        ),
         AllocPolicy::ExactMatch(start) => {
             allocate_exact(tree, space, start, &search, alloc, count)
         }
