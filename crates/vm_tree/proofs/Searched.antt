@@ -14,8 +14,8 @@ use Rattle.vm_leaf.specs.Windows.{cut_to, HaveNoFitIn, IsFirstFitIn, IsLastFitIn
 use Rattle.vm_leaf.specs.declared.leaf.Place.{Place}
 use Rattle.vm_tree.specs.Shape.{Shape, Tip, Fork, blocks, height_of}
 use Rattle.vm_tree.specs.Allocation.{Spot, IsClosestFit, blocks_to, HasNoPlace, HasNoFitIn, window_of, IsSearch, AllocatesFit}
-use Rattle.vm_tree.specs.Placing.{spot_at}
-use Rattle.vm_tree.specs.Searching.{site_of, IsClosestSite, other_end, child_at, reaches_child, may_fit_in_child, nodes_of_child}
+use Rattle.vm_tree.specs.Placing.{spot_at, site_of, IsClosestSite}
+use Rattle.vm_tree.specs.Searching.{other_end, child_at, reaches_child, may_fit_in_child, nodes_of_child}
 use Rattle.vm_tree.specs.NodeCounts.{may_fit_in, has_fit_in, nodes_of_search}
 use Rattle.vm_tree.specs.declared.end.End.{End}
 use Rattle.vm_tree.specs.declared.end.End.TheVariants.{First, Last}

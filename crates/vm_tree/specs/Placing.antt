@@ -6,9 +6,11 @@ use Rattle.vm_leaf.specs.declared.block.Block.{Block}
 use Rattle.vm_leaf.specs.Block.{free_block}
 use Rattle.vm_leaf.specs.Blocks.{nth, start_of, end_of, IsTakenFrom}
 use Rattle.vm_leaf.specs.Left.{IsLeft, added_by}
-use Rattle.vm_tree.specs.Allocation.{Spot, SettlesIn, AllocatesExact}
+use Rattle.vm_leaf.specs.declared.leaf.Place.{Place}
+use Rattle.vm_tree.specs.Allocation.{Spot, IsClosestSpot, SettlesIn, AllocatesExact}
 use Rattle.vm_tree.specs.declared.allocate.place.Claim.{Claim}
 use Rattle.vm_tree.specs.declared.allocate.place.Site.{Site}
+use Rattle.vm_tree.specs.declared.end.End.{End}
 use Rattle.vm_tree.specs.declared.search.Search.{Search}
 use Rattle.vm_tree.specs.declared.search.Refusal.{Refusal}
 use Rattle.vm_tree.specs.declared.search.Refusal.TheVariants.{NoPlace, Held, PastMax, OutOfMemory, TooHigh}
@@ -23,6 +25,15 @@ pub record IsSiteIn (n : ℕ) (bs : List Block) (site : Site) : Type 0 where
   pub gap : nth bs site.index ≡ free_block site.gap
   pub from : site.gap.start ≤ site.start
   pub upto : site.start + n ≤ site.gap.end + 1
+
+-- The site of a place in these blocks.
+abbrev pub site_of : List Block → Place → Site
+site_of bs place = record { index = place.index; gap = (nth bs place.index).key; start = place.start }
+
+-- The site is that of the place of the search in the blocks that is closest to the end.
+pub record IsClosestSite (end : End) (search : Search) (bs : List Block) (site : Site) : Type 0 where
+  pub fits : IsSiteIn search.size bs site
+  pub closest : IsClosestSpot end search bs (spot_at bs site)
 
 -- The claim is one of a range in a gap of the blocks.
 pub record IsClaimIn (bs : List Block) (claim : Claim) : Type 0 where

@@ -1,26 +1,11 @@
 -- The children of a node that a search enters one after the other.
-use Rattle.std.specs.Prelude.{ℕ, ◌&&◌, if◌then◌else◌, nat_lt, nat_le, Bool, List}
+use Rattle.std.specs.Prelude.{ℕ, ◌&&◌, if◌then◌else◌, nat_lt, nat_le, Bool}
 use Rattle.vm_ranges.specs.Range.{Range}
-use Rattle.vm_leaf.specs.declared.block.Block.{Block}
-use Rattle.vm_leaf.specs.declared.leaf.Place.{Place}
-use Rattle.vm_leaf.specs.Blocks.{nth, start_of}
+use Rattle.vm_leaf.specs.Blocks.{start_of}
 use Rattle.vm_tree.specs.Shape.{Shape, Tip, Fork, blocks}
 use Rattle.vm_tree.specs.NodeCounts.{may_fit_in, nodes_of_search}
-use Rattle.vm_tree.specs.Allocation.{IsClosestSpot}
-use Rattle.vm_tree.specs.Placing.{spot_at, IsSiteIn}
-use Rattle.vm_tree.specs.declared.allocate.place.Site.{Site}
-use Rattle.vm_tree.specs.declared.search.Search.{Search}
 use Rattle.vm_tree.specs.declared.end.End.{End}
 use Rattle.vm_tree.specs.declared.end.End.TheVariants.{First, Last}
-
--- The site of a place in these blocks.
-abbrev pub site_of : List Block → Place → Site
-site_of bs place = record { index = place.index; gap = (nth bs place.index).key; start = place.start }
-
--- The site is that of the place of the search in the blocks that is closest to the end.
-pub record IsClosestSite (end : End) (search : Search) (bs : List Block) (site : Site) : Type 0 where
-  pub fits : IsSiteIn search.size bs site
-  pub closest : IsClosestSpot end search bs (spot_at bs site)
 
 -- The other end.
 abbrev pub other_end : End → End

@@ -49,8 +49,8 @@ fn refusal_in(block: &Block, start: u64, search: &Search) -> Option<Refusal>
     }
 }
 
-/// Returns the site of the range of a search that starts at `start` in a leaf, or the reason why the range cannot
-/// be allocated.
+/// Returns the site of the range of a search that starts at `start` in a leaf, or the reason why the range
+/// cannot be allocated.
 #[inline(always)]
 #[tactic(auto, using(crate::proofs::Allocating::finding_exact))]
 fn site_from(leaf: &Leaf, start: u64, search: &Search) -> Result<Site, Refusal>

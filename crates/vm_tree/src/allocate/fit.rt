@@ -9,7 +9,8 @@ ghost use Rattle.vm_tree.specs.Links.{side, IsSummed};
 ghost use Rattle.vm_tree.specs.Growth.{IsSubtree, IsChild, GrowsIfOk, GrowsBelowIfOk};
 ghost use Rattle.vm_tree.specs.Allocation.{window_of, IsSearch, HasNoPlace, AllocatesFit};
 ghost use Rattle.vm_tree.specs.NodeCounts.{may_fit_in, nodes_of_search};
-ghost use Rattle.vm_tree.specs.Searching.{other_end, child_at, may_fit_in_child, nodes_of_child, site_of, IsClosestSite};
+ghost use Rattle.vm_tree.specs.Placing.{site_of, IsClosestSite};
+ghost use Rattle.vm_tree.specs.Searching.{other_end, child_at, may_fit_in_child, nodes_of_child};
 
 use super::place::{Site, leaf_of, place_at, place_in_root};
 use super::{fits, has_no_place};
@@ -120,8 +121,8 @@ fn may_enter(node: &Node, child: End, search: &Search) -> bool
     }
 }
 
-/// Allocates the place of a search that is closest to an end, in a child of a node. A child that is not in the
-/// window, or may have no place, is not entered.
+/// Allocates the place of a search that is closest to an end, in a child of a node. A child that is not in
+/// the window, or may have no place, is not entered.
 #[cycle(fit_at)]
 #[tactic(auto, using(crate::proofs::AllocatedTrees::answering))]
 fn fit_in_child(
@@ -134,14 +135,14 @@ fn fit_in_child(
 ) -> Result<Taken, Refusal>
     requires search { IsSearch search.now }
     requires tree { IsSubtree node.old }
-    requires count_fits { count.old
-        + nodes_of_child child end (window_of search.now) search.now.size search.now.alignment node.old ≤ MAX }
+    requires count_fits { count.old + nodes_of_child child end (window_of search.now) search.now.size
+        search.now.alignment node.old ≤ MAX }
     ensures answer { AllocatesFit end search.now
         (blocks (child_at child node.old)) (blocks (child_at child node.new)) result }
     ensures same { child_at (other_end child) node.new ≡ child_at (other_end child) node.old }
     ensures change { GrowsBelowIfOk result node.old node.new }
-    ensures count { count.new ≡ count.old
-        + nodes_of_child child end (window_of search.now) search.now.size search.now.alignment node.old }
+    ensures count { count.new ≡ count.old + nodes_of_child child end (window_of search.now) search.now.size
+        search.now.alignment node.old }
 {
     if !may_enter(node, child, search) {
         return Err(Refusal::NoPlace);
@@ -165,12 +166,12 @@ fn fit_below(
     requires search { IsSearch search.now }
     requires tree { IsSubtree node.old }
     requires may_fit { may_fit_in search.now.size search.now.alignment (blocks node.old) ≡ true }
-    requires count_fits { count.old
-        + nodes_of_search end (window_of search.now) search.now.size search.now.alignment node.old ≤ MAX + 1 }
+    requires count_fits { count.old + nodes_of_search end (window_of search.now) search.now.size
+        search.now.alignment node.old ≤ MAX + 1 }
     ensures answer { AllocatesFit end search.now (blocks node.old) (blocks node.new) result }
     ensures change { GrowsBelowIfOk result node.old node.new }
-    ensures count { count.new + 1
-        ≡ count.old + nodes_of_search end (window_of search.now) search.now.size search.now.alignment node.old }
+    ensures count { count.new + 1 ≡ count.old + nodes_of_search end (window_of search.now) search.now.size
+        search.now.alignment node.old }
 {
     // Proof: a node that is read has two children.
     let _at = node.at;
@@ -181,8 +182,8 @@ fn fit_below(
     answer
 }
 
-/// Allocates the place of a search that is closest to an end, and updates what is stored beside the link. The
-/// search may find a place.
+/// Allocates the place of a search that is closest to an end, and updates what is stored beside the link.
+/// The search may find a place.
 #[cycle(fit_at)]
 #[tactic(auto, using(crate::proofs::Searched::roots))]
 pub(crate) fn fit_at(
@@ -195,13 +196,13 @@ pub(crate) fn fit_at(
     requires search { IsSearch search.now }
     requires tree { IsChild tree.old }
     requires may_fit { may_fit_in search.now.size search.now.alignment (blocks (side tree.old)) ≡ true }
-    requires count_fits { count.old
-        + nodes_of_search end (window_of search.now) search.now.size search.now.alignment (side tree.old) ≤ MAX }
+    requires count_fits { count.old + nodes_of_search end (window_of search.now) search.now.size
+        search.now.alignment (side tree.old) ≤ MAX }
     ensures answer { AllocatesFit end search.now (blocks (side tree.old)) (blocks (side tree.new)) result }
     ensures change { GrowsIfOk result (side tree.old) (side tree.new) }
     ensures summed { IsSummed tree.new }
-    ensures count { count.new ≡ count.old
-        + nodes_of_search end (window_of search.now) search.now.size search.now.alignment (side tree.old) }
+    ensures count { count.new ≡ count.old + nodes_of_search end (window_of search.now) search.now.size
+        search.now.alignment (side tree.old) }
 {
     count.enter();
     match tree {
