@@ -17,6 +17,7 @@ pub mod AllocatedSummaries
 pub mod SearchedBlocks
 pub mod Searched
 pub mod AllocatedTrees
+pub mod AllocatedLeaves
 pub mod Allocating
 pub mod AllocatedExact
 pub mod Paths

@@ -8,7 +8,7 @@ ghost use Rattle.vm_tree.specs.Allocation.{IsSearch, AllocatesExact};
 ghost use Rattle.vm_tree.specs.NodeCounts.{nodes_to_address};
 ghost use Rattle.vm_tree.specs.Placing.{IsStartIn, RefusesIn, FindsSiteOf};
 
-use super::place::{Site, leaf_of, place_at, place_in_root};
+use super::place::{Site, leaf_of, place_at};
 use crate::change::update;
 use crate::link::{Link, Node};
 use crate::search::{Refusal, Search, Taken};
@@ -87,12 +87,13 @@ fn exact_in_leaf(
     requires leaf { height_of (side tree.old) < 2 }
     requires full { HasFullLeaves (side tree.old) }
     requires summed { IsSummed tree.old }
-    ensures answer { AllocatesExact search.now start (blocks (side tree.old)) (blocks (side tree.new)) result }
+    ensures answer { AllocatesExact search.now start
+        (blocks (side tree.old)) (blocks (side tree.new)) result }
     ensures change { GrowsIfOk result (side tree.old) (side tree.new) }
     ensures summed { IsSummed tree.new }
 {
     let site = site_from(leaf_of(tree), start, search)?;
-    place_at(tree, &site, search, alloc)
+    place_at(tree, false, &site, search, alloc)
 }
 
 /// Allocates the range of a search that starts at `start` in a leaf that is the whole tree, and of which
@@ -108,13 +109,14 @@ pub(crate) fn exact_in_root(
     requires start { IsStartIn search.now start (blocks (side root.old)) }
     requires leaf { height_of (side root.old) < 2 }
     requires tree { IsTree (side root.old) }
-    ensures answer { AllocatesExact search.now start (blocks (side root.old)) (blocks (side root.new)) result }
+    ensures answer { AllocatesExact search.now start
+        (blocks (side root.old)) (blocks (side root.new)) result }
     ensures unchanged { OnErr result (root.new ≡ root.old) }
     ensures tree { IfOk result (λ _. IsTree (side root.new) × (height_of (side root.new) ≤ 2)) }
     ensures summed { 2 ≤ height_of (side root.new) → IsSummed root.new }
 {
     let site = site_from(leaf_of(root), start, search)?;
-    place_in_root(root, &site, search, alloc)
+    place_at(root, true, &site, search, alloc)
 }
 
 /// Allocates the range of a search that starts at `start` below a node.
@@ -155,7 +157,8 @@ pub(crate) fn exact_at(
     requires start { IsStartIn search.now start (blocks (side tree.old)) }
     requires tree { IsChild tree.old }
     requires count_fits { count.old + nodes_to_address start (side tree.old) ≤ MAX }
-    ensures answer { AllocatesExact search.now start (blocks (side tree.old)) (blocks (side tree.new)) result }
+    ensures answer { AllocatesExact search.now start
+        (blocks (side tree.old)) (blocks (side tree.new)) result }
     ensures change { GrowsIfOk result (side tree.old) (side tree.new) }
     ensures summed { IsSummed tree.new }
     ensures count { count.new ≡ count.old + nodes_to_address start (side tree.old) }

@@ -12,7 +12,7 @@ ghost use Rattle.vm_tree.specs.NodeCounts.{may_fit_in, nodes_of_search};
 ghost use Rattle.vm_tree.specs.Placing.{site_of, IsClosestSite};
 ghost use Rattle.vm_tree.specs.Searching.{other_end, child_at, may_fit_in_child, nodes_of_child};
 
-use super::place::{Site, leaf_of, place_at, place_in_root};
+use super::place::{Site, leaf_of, place_at};
 use super::{fits, has_no_place};
 use crate::change::update;
 use crate::end::End;
@@ -69,7 +69,7 @@ fn fit_in_leaf(tree: &mut Link, end: End, search: &Search, alloc: Global) -> Res
 {
     match site_in(leaf_of(tree), end, search) {
         None => Err(Refusal::NoPlace),
-        Some(site) => place_at(tree, &site, search, alloc),
+        Some(site) => place_at(tree, false, &site, search, alloc),
     }
 }
 
@@ -92,7 +92,7 @@ pub(crate) fn fit_in_root(
 {
     match site_in(leaf_of(root), end, search) {
         None => Err(Refusal::NoPlace),
-        Some(site) => place_in_root(root, &site, search, alloc),
+        Some(site) => place_at(root, true, &site, search, alloc),
     }
 }
 
