@@ -100,19 +100,14 @@ fn allocate_in(
     // Proof: `height` gives the bounds of the tree.
     let _height = tree.height();
     let search = search_of(constraint, space, can_split);
-    match constraint.policy() {
-        AllocPolicy::FirstMatch => with_error(
-            tree.allocate_fit(End::First, &search, alloc, count),
-            space,
-        ),
-        AllocPolicy::LastMatch => with_error(
-            tree.allocate_fit(End::Last, &search, alloc, count),
-            space,
-        ),
+    let end = match constraint.policy() {
+        AllocPolicy::FirstMatch => End::First,
+        AllocPolicy::LastMatch => End::Last,
         AllocPolicy::ExactMatch(start) => {
-            allocate_exact(tree, space, start, &search, alloc, count)
+            return allocate_exact(tree, space, start, &search, alloc, count);
         }
-    }
+    };
+    with_error(tree.allocate_fit(end, &search, alloc, count), space)
 }
 
 /// Allocates the range of a search that starts at `start`.

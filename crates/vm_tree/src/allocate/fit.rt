@@ -124,6 +124,7 @@ fn may_enter(node: &Node, child: End, search: &Search) -> bool
 /// Allocates the place of a search that is closest to an end, in a child of a node. A child that is not in
 /// the window, or may have no place, is not entered.
 #[cycle(fit_at)]
+#[inline(always)]
 #[tactic(auto, using(crate::proofs::AllocatedTrees::answering))]
 fn fit_in_child(
     node: &mut Node,
