@@ -133,9 +133,6 @@ settles_other seek spot new other taken more e f g h = record {
 same_key : (k : Range) (start end : ℕ) → k.start ≡ start → k.end ≡ end → k ≡ record { start = start; end = end }
 same_key k start end p q = rw (← p, ← q) refl
 
-same_block : (b : Block) → b ≡ record { key = b.key; state = b.state }
-same_block b = refl
-
 pub gap_of : (b : Block) → b.state ≡ Free → b ≡ free_block b.key
 gap_of b e = rw (← e) refl
 

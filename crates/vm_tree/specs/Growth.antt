@@ -55,18 +55,19 @@ abbrev pub GrowsBelowIfOk : Result Taken Refusal → Shape → Shape → Type 0
 GrowsBelowIfOk (Ok taken) old new = GrowsBelow taken.change old new × FillKeepsStructure taken
 GrowsBelowIfOk (Err refusal) old new = new ≡ old
 
--- The leaf at the link can be changed. If it is the whole tree, it can have few blocks, and any summary beside the link.
+-- The leaf at the link can be changed. Unless it is the whole tree, it has enough blocks, and the summary beside the link is
+-- correct.
 abbrev pub CanTakeFrom : Bool → Link → Type 0
 CanTakeFrom true t = IsTree (side t)
 CanTakeFrom false t = HasFullLeaves (side t) × IsSummed t
 
--- A range was allocated in the leaf, which is still a leaf. If it is not the whole tree, the summary beside the link is correct.
+-- A range was allocated in a leaf that stays one. Unless it is the whole tree, the summary beside the link is correct.
 abbrev pub IsTakenLeaf : Bool → Change → Link → Link → Type 0
 IsTakenLeaf true change old new = IsTree (side new) × (height_of (side new) < 2)
 IsTakenLeaf false change old new = GrowsBy change (side old) (side new) × (change ≢ Structure) × IsSummed new
 
--- What an allocation in the leaf leaves. A leaf that is the whole tree is the same after an error, and otherwise a valid tree.
--- Any other leaf has grown.
+-- What an allocation leaves. A leaf that is the whole tree becomes a balanced tree, or is the same after an error. Any
+-- other leaf has grown.
 abbrev pub LeavesLeaf : Bool → Result Taken Refusal → Link → Link → Type 0
 LeavesLeaf true answer old new =
     OnErr answer (new ≡ old) × IfOk answer (λ _. IsTree (side new) × (height_of (side new) ≤ 2)) × (2 ≤ height_of (side new) → IsSummed new)

@@ -38,9 +38,9 @@ abbrev pub nodes_of_both : End → Bool → Bool → ℕ → ℕ → ℕ
 nodes_of_both First left right x y = x + (if left then 0 else y)
 nodes_of_both Last left right x y = y + (if right then 0 else x)
 
--- The nodes that the search from the end within the window w enters, or 0 if it does not enter the tree. It enters the root. It
--- can enter the left child if the window starts before the right child, and the right child if the window does not end before
--- that.
+-- The nodes that the search from the end within the window w enters, or 0 if it does not enter the tree. It enters the root.
+-- It can enter the left child if the window starts before the right child, and the right child if the window does not end
+-- before that.
 unfoldable pub nodes_of_search : End → Range → ℕ → ℕ → Shape → ℕ
 nodes_of_search end w n a (Tip bs) = if may_fit_in n a bs then 1 else 0
 nodes_of_search end w n a (Fork l r) =
