@@ -37,8 +37,6 @@ pub grew_right : (change : Change) (l r s : Shape) → GrowsBy change r s → Gr
 unfolding GrowsBelow
 grew_right change l r s g = inr (refl, g)
 
-pub ruleset growing = (grew_left, grew_right)
-
 -- A mended node whose children were not lower before.
 mended : (l r m s final : Shape) → IsSubtree (Fork l r) → HasFullLeaves m → HasFullLeaves s → height_of l ≤ height_of m → height_of r ≤ height_of s
     → max (height_of m) (height_of s) ≤ max (height_of l) (height_of r) + 1
@@ -229,3 +227,9 @@ answered_left (Err refusal) l m r h = ap (λ (s : Shape). Fork s r) h
 pub answered_right : (answer : Result Taken Refusal) → (l r s : Shape) → GrowsIfOk answer r s → GrowsBelowIfOk answer (Fork l r) (Fork l s)
 answered_right (Ok taken) l r s h = (grew_right taken.change l r s h.0, h.1)
 answered_right (Err refusal) l r s h = ap (λ (t : Shape). Fork l t) h
+
+pub answered_tall : (answer : Result Taken Refusal) → (old new : Shape) → 2 ≤ height_of old → GrowsBelowIfOk answer old new → 2 ≤ height_of new
+answered_tall (Ok taken) old new t h = (grown_height taken.change old new h.0).0
+answered_tall (Err refusal) old new t h = omega (arith, t, ap height_of h)
+
+pub ruleset answering = (answered_left, answered_right)

@@ -15,8 +15,9 @@ use Rattle.vm_leaf.proofs.Parts.{parts_all, parts_upper, parts_lower, parts_midd
 use Rattle.vm_leaf.proofs.Tiles.{tiles_under, tiles_weaken, after_held, last_state}
 use Rattle.vm_tree.specs.Shape.{Shape, blocks}
 use Rattle.vm_tree.specs.Allocation.{Spot, IsSpotIn, SettlesAt, SettlesIn, IsTakenAt, IsBlockAt, AllocatesExact}
-use Rattle.vm_tree.specs.Placing.{spot_at, LiesIn, RefusesIn}
+use Rattle.vm_tree.specs.Placing.{spot_at, LiesIn, RefusesIn, IsSiteOf}
 use Rattle.vm_tree.proofs.Lists.{cut_at}
+use Rattle.vm_tree.specs.declared.allocate.place.Site.{Site}
 use Rattle.vm_tree.specs.declared.search.Search.{Search}
 use Rattle.vm_tree.specs.declared.search.Taken.{Taken}
 use Rattle.vm_tree.specs.declared.search.Refusal.{Refusal}
@@ -132,8 +133,8 @@ settles_other seek spot new other taken more e f g h = record {
 same_key : (k : Range) (start end : ℕ) → k.start ≡ start → k.end ≡ end → k ≡ record { start = start; end = end }
 same_key k start end p q = rw (← p, ← q) refl
 
-same_block : (b : Block) → b ≡ record { key = b.key; state = b.state }
-same_block b = refl
+pub gap_of : (b : Block) → b.state ≡ Free → b ≡ free_block b.key
+gap_of b e = rw (← e) refl
 
 -- ---- The block of an exact range
 module _ (seek : Search) (t : ℕ) (bs : List Block) (i : ℕ) where
@@ -148,10 +149,20 @@ module _ (seek : Search) (t : ℕ) (bs : List Block) (i : ℕ) where
   exact_refused refusal l f h = found bs (Err refusal) l f (h (take i bs) (drop (i + 1) bs) bs)
 
   -- A range that lies in a gap and in the window.
-  pub exact_settled : (new : List Block) (answer : Result Taken Refusal) → 0 < seek.size → i < length bs → IsIn (nth bs i).key t → LiesIn seek t (nth bs i)
-      → SettlesAt seek (spot_at bs (record { index = i; start = t })) new answer → AllocatesExact seek t bs new answer
-  exact_settled new answer z l f h s =
-      found new answer l f (rw h.free (inr ((λ e. elim e [ inl l ↦ omega (arith, h.upto) | inr l ↦ omega (arith, h.high) ]), s)))
+  pub lies_at : i < length bs → IsIn (nth bs i).key t → LiesIn seek t (nth bs i) → IsSiteOf seek t bs (record { index = i; gap = (nth bs i).key; start = t })
+  lies_at l f h = record { fits = record { within = l; gap = gap_of (nth bs i) h.free; from = f.0; upto = h.upto }; start = refl; high = h.high }
+
+pub exact_settled : (seek : Search) (t : ℕ) (bs : List Block) (site : Site) (new : List Block) (answer : Result Taken Refusal) → 0 < seek.size → IsSiteOf seek t bs site → SettlesAt seek (spot_at bs site) new answer → AllocatesExact seek t bs new answer
+exact_settled seek t bs site new answer z h s = record {
+  lower = take site.index bs;
+  block = free_block site.gap;
+  upper = drop (site.index + 1) bs;
+  at = record {
+    cut = cut_at bs site.index h.fits.within ∙ ap (λ (b : Block). take site.index bs ++ b ∷ drop (site.index + 1) bs) h.fits.gap;
+    inside = (omega (arith, h.fits.from, h.start), omega (arith, h.fits.upto, h.start));
+  };
+  settles = inr ((λ e. elim e [ inl l ↦ omega (arith, h.fits.upto, h.start) | inr l ↦ omega (arith, h.high) ]), rw h.start at s);
+}
 
 -- ---- The reason why an exact range cannot be allocated in a block
 module _ (seek : Search) (t : ℕ) (b : Block) where
@@ -240,4 +251,6 @@ exact_start seek t old new (Err refusal) z run h u = ap (λ (s : Shape). start_o
 
 pub ruleset refusing = (refused_held, refused_other_start, refused_other_end, refused_short, refused_past)
 
-pub ruleset settling_exact = (exact_refused, exact_settled)
+pub ruleset finding_exact = (exact_refused, lies_at)
+
+pub ruleset settling_exact = (exact_settled)

@@ -17,7 +17,9 @@ use Rattle.vm_leaf.specs.Block.{free_length}
 use Rattle.vm_leaf.specs.Blocks.{Tiles, IsRun, start_of, end_of, longest_gap}
 use Rattle.vm_leaf.specs.Windows.{common, cut_to}
 use Rattle.vm_tree.specs.Shape.{Shape, Tip, Fork, blocks, height_of, node_count, HasFullLeaves}
-use Rattle.vm_tree.specs.NodeCounts.{has_aligned, has_fit, has_fit_in, may_fit_in, nodes_of_first, nodes_of_last}
+use Rattle.vm_tree.specs.NodeCounts.{has_aligned, has_fit, has_fit_in, may_fit_in, nodes_of_both, nodes_of_search}
+use Rattle.vm_tree.specs.declared.end.End.{End}
+use Rattle.vm_tree.specs.declared.end.End.TheVariants.{First, Last}
 use Rattle.vm_tree.specs.GapSearch.{is_misaligned, is_too_short, on_part, parts_passing, gaps_without_place, IsWholeWindow, IsSearchCount}
 use Rattle.vm_tree.proofs.Trees.{full_some}
 use Rattle.vm_tree.proofs.Lists.{cut_tiles}
@@ -63,8 +65,12 @@ if_at_most : (t : Bool) (x : ℕ) → cond t x 0 ≤ x
 if_at_most true x = omega arith
 if_at_most false x = omega arith
 
-exchanged : (x y most : ℕ) → x + y + 1 ≤ most → y + x + 1 ≤ most
-exchanged x y most p = omega arith
+-- The far child may be passed.
+both_more : (end : End) (left right : Bool) (x y most : ℕ) → x + y + 1 ≤ most → nodes_of_both end left right x y + 1 ≤ most
+both_more First true right x y most p = omega arith
+both_more First false right x y most p = p
+both_more Last left true x y most p = omega arith
+both_more Last left false x y most p = omega arith
 
 if_may_fit : (test : Bool) (count most : ℕ) → (test ≡ true → count ≤ most) → cond test count 0 ≤ most
 if_may_fit true count most f = f refl
@@ -197,6 +203,19 @@ module _ (w : Range) (n a : ℕ) (q : Block → Bool) where
   abbrev upper : ℕ → ℕ
   upper hi = below w.end hi
 
+  -- The paths that a search from the end enters: one to the place, and one to the cut that it passes before.
+  abbrev paths : End → ℕ → ℕ → ℕ
+  paths First lo hi = lower lo + 1
+  paths Last lo hi = 1 + upper hi
+
+  paths_some : (end : End) (lo hi : ℕ) → 1 ≤ paths end lo hi
+  paths_some First lo hi = omega arith
+  paths_some Last lo hi = omega arith
+
+  paths_most : (end : End) (lo hi : ℕ) → paths end lo hi ≤ 2
+  paths_most First lo hi = omega (arith, below_most lo w.start)
+  paths_most Last lo hi = omega (arith, below_most w.end hi)
+
   module _ (some : HasOneWithoutPlace n a q) where
     one_at_least : (p : NodeState) (lo hi : ℕ) (bs : List Block) → Tiles p lo bs hi → may_fit_in n a bs ≡ true → list_any (has_fit_in w n a) bs ≡ false → 1 ≤ parts_passing w q bs + (lower lo + upper hi)
     one_at_least s lo hi bs k m e =
@@ -276,103 +295,68 @@ module _ (w : Range) (n a : ℕ) (q : Block → Bool) where
   child_sides p lo hi l r f k = sides p lo hi (blocks l) (blocks r) (omega (arith, full_some l f.0)) (omega (arith, full_some r f.1)) k
 
   module _ (some : HasOneWithoutPlace n a q) where
-    -- ---- The search for the lowest place
-    first_in_vain : (p : NodeState) (lo hi : ℕ) (s : Shape) → HasFullLeaves s → Tiles p lo (blocks s) hi → list_any (has_fit_in w n a) (blocks s) ≡ false → nodes_of_first w n a s ≤ height_of s * (parts_passing w q (blocks s) + (lower lo + upper hi))
-    unfolding nodes_of_first
-    first_in_vain p lo hi (Tip bs) f k e = if_may_fit (may_fit_in n a bs) 1 (1 * (parts_passing w q bs + (lower lo + upper hi))) (λ m. omega (arith, one_at_least some p lo hi bs k m e))
-    first_in_vain p lo hi (Fork l r) f k e =
+    search_in_vain : (end : End) (p : NodeState) (lo hi : ℕ) (s : Shape) → HasFullLeaves s → Tiles p lo (blocks s) hi → list_any (has_fit_in w n a) (blocks s) ≡ false → nodes_of_search end w n a s ≤ height_of s * (parts_passing w q (blocks s) + (lower lo + upper hi))
+    unfolding nodes_of_search
+    search_in_vain end p lo hi (Tip bs) f k e = if_may_fit (may_fit_in n a bs) 1 (1 * (parts_passing w q bs + (lower lo + upper hi))) (λ m. omega (arith, one_at_least some p lo hi bs k m e))
+    search_in_vain end p lo hi (Fork l r) f k e =
         let i = child_sides p lo hi l r f k in
         let at = start_of (blocks r) in
         let none = none_split l r e in
-        let left = if_entered (ltb w.start at) (nodes_of_first w n a l) (height_of l) (parts_passing w q (blocks l)) (lower lo + upper (at - 1)) (first_in_vain p lo (at - 1) l f.0 i.left none.0) in
-        let right = if_entered (leb at w.end) (nodes_of_first w n a r) (height_of r) (parts_passing w q (blocks r)) (lower at + upper hi) (first_in_vain i.state at hi r f.1 i.right none.1) in
-        rw none.0
-        (if_may_fit (may_fit_in n a (blocks l ++ blocks r)) _ (height_of (Fork l r) * (parts_passing w q (blocks l ++ blocks r) + (lower lo + upper hi))) (λ m.
-        step l r _ _ _ _ (lower lo + upper hi) left right (cuts_in_vain lo hi at i.from i.upto) (one_at_least some p lo hi (blocks l ++ blocks r) k m e)))
+        let left = if_entered (ltb w.start at) (nodes_of_search end w n a l) (height_of l) (parts_passing w q (blocks l)) (lower lo + upper (at - 1)) (search_in_vain end p lo (at - 1) l f.0 i.left none.0) in
+        let right = if_entered (leb at w.end) (nodes_of_search end w n a r) (height_of r) (parts_passing w q (blocks r)) (lower at + upper hi) (search_in_vain end i.state at hi r f.1 i.right none.1) in
+        if_may_fit (may_fit_in n a (blocks l ++ blocks r)) _ (height_of (Fork l r) * (parts_passing w q (blocks l ++ blocks r) + (lower lo + upper hi)))
+        (λ m. both_more end (list_any (has_fit_in w n a) (blocks l)) (list_any (has_fit_in w n a) (blocks r)) _ _ _
+        (step l r _ _ _ _ (lower lo + upper hi) left right (cuts_in_vain lo hi at i.from i.upto) (one_at_least some p lo hi (blocks l ++ blocks r) k m e)))
 
-    first_in_most : (p : NodeState) (lo hi : ℕ) (s : Shape) → HasFullLeaves s → Tiles p lo (blocks s) hi → nodes_of_first w n a s ≤ height_of s * (parts_passing w q (blocks s) + (lower lo + 1))
-    unfolding nodes_of_first
-    first_in_most p lo hi (Tip bs) f k = one_or_none (may_fit_in n a bs) (1 * (parts_passing w q bs + (lower lo + 1))) (omega arith)
-    first_in_most p lo hi (Fork l r) f k =
-        let i = child_sides p lo hi l r f k in
-        if_may_fit (may_fit_in n a (blocks l ++ blocks r)) _ (height_of (Fork l r) * (parts_passing w q (blocks l ++ blocks r) + (lower lo + 1)))
-        (λ m. by_found (list_any (has_fit_in w n a) (blocks l)) (first_in_most p lo (start_of (blocks r) - 1) l f.0 i.left) (first_in_most i.state (start_of (blocks r)) hi r f.1 i.right) (λ e. e))
+    search_in_most : (end : End) (p : NodeState) (lo hi : ℕ) (s : Shape) → HasFullLeaves s → Tiles p lo (blocks s) hi → nodes_of_search end w n a s ≤ height_of s * (parts_passing w q (blocks s) + paths end lo hi)
+    unfolding nodes_of_search
+    search_in_most end p lo hi (Tip bs) f k = one_or_none (may_fit_in n a bs) (1 * (parts_passing w q bs + paths end lo hi)) (omega (arith, paths_some end lo hi))
+    search_in_most end p lo hi (Fork l r) f k =
+        if_may_fit (may_fit_in n a (blocks l ++ blocks r)) _ (height_of (Fork l r) * (parts_passing w q (blocks l ++ blocks r) + paths end lo hi))
+        (λ m. by_found end (list_any (has_fit_in w n a) (blocks l)) (list_any (has_fit_in w n a) (blocks r)) (search_in_most end p lo (at - 1) l f.0 i.left) (search_in_most end i.state at hi r f.1 i.right) (λ e. e) (λ e. e))
       where
-        by_found : (found : Bool) → nodes_of_first w n a l ≤ height_of l * (parts_passing w q (blocks l) + (lower lo + 1)) → nodes_of_first w n a r ≤ height_of r * (parts_passing w q (blocks r) + (lower (start_of (blocks r)) + 1)) → (found ≡ false → list_any (has_fit_in w n a) (blocks l) ≡ false)
-            → cond (ltb w.start (start_of (blocks r))) (nodes_of_first w n a l) 0 + cond found 0 (cond (leb (start_of (blocks r)) w.end) (nodes_of_first w n a r) 0) + 1 ≤ height_of (Fork l r) * (parts_passing w q (blocks l ++ blocks r) + (lower lo + 1))
-        by_found true x g e =
-            let at = start_of (blocks r) in
-            let left = if_entered (ltb w.start at) (nodes_of_first w n a l) (height_of l) (parts_passing w q (blocks l)) (lower lo + 1) x in
-            step l r _ 0 _ 0 (lower lo + 1) left (omega arith) (omega (arith, if_at_most (ltb w.start at) (lower lo + 1))) (omega arith)
-        by_found false x g e =
-            let i = child_sides p lo hi l r f k in
-            let at = start_of (blocks r) in
-            let left = if_entered (ltb w.start at) (nodes_of_first w n a l) (height_of l) (parts_passing w q (blocks l)) (lower lo + upper (at - 1)) (first_in_vain p lo (at - 1) l f.0 i.left (e refl)) in
-            let right = if_entered (leb at w.end) (nodes_of_first w n a r) (height_of r) (parts_passing w q (blocks r)) (lower at + 1) g in
-            step l r _ _ _ _ (lower lo + 1) left right (cuts_to_right lo hi at i.from i.upto) (omega arith)
+        at : ℕ
+        at = start_of (blocks r)
 
-    -- ---- The search for the highest place
-    last_in_vain : (p : NodeState) (lo hi : ℕ) (s : Shape) → HasFullLeaves s → Tiles p lo (blocks s) hi → list_any (has_fit_in w n a) (blocks s) ≡ false → nodes_of_last w n a s ≤ height_of s * (parts_passing w q (blocks s) + (lower lo + upper hi))
-    unfolding nodes_of_last
-    last_in_vain p lo hi (Tip bs) f k e = if_may_fit (may_fit_in n a bs) 1 (1 * (parts_passing w q bs + (lower lo + upper hi))) (λ m. omega (arith, one_at_least some p lo hi bs k m e))
-    last_in_vain p lo hi (Fork l r) f k e =
-        let i = child_sides p lo hi l r f k in
-        let at = start_of (blocks r) in
-        let none = none_split l r e in
-        let left = if_entered (ltb w.start at) (nodes_of_last w n a l) (height_of l) (parts_passing w q (blocks l)) (lower lo + upper (at - 1)) (last_in_vain p lo (at - 1) l f.0 i.left none.0) in
-        let right = if_entered (leb at w.end) (nodes_of_last w n a r) (height_of r) (parts_passing w q (blocks r)) (lower at + upper hi) (last_in_vain i.state at hi r f.1 i.right none.1) in
-        rw none.1
-        (if_may_fit (may_fit_in n a (blocks l ++ blocks r)) _ (height_of (Fork l r) * (parts_passing w q (blocks l ++ blocks r) + (lower lo + upper hi))) (λ m.
-        let both = step l r _ _ _ _ (lower lo + upper hi) left right (cuts_in_vain lo hi at i.from i.upto) (one_at_least some p lo hi (blocks l ++ blocks r) k m e) in
-        exchanged _ _ _ both))
+        i : AreSides p lo hi (blocks l) (blocks r)
+        i = child_sides p lo hi l r f k
 
-    last_in_most : (p : NodeState) (lo hi : ℕ) (s : Shape) → HasFullLeaves s → Tiles p lo (blocks s) hi → nodes_of_last w n a s ≤ height_of s * (parts_passing w q (blocks s) + (1 + upper hi))
-    unfolding nodes_of_last
-    last_in_most p lo hi (Tip bs) f k = one_or_none (may_fit_in n a bs) (1 * (parts_passing w q bs + (1 + upper hi))) (omega arith)
-    last_in_most p lo hi (Fork l r) f k =
-        let i = child_sides p lo hi l r f k in
-        if_may_fit (may_fit_in n a (blocks l ++ blocks r)) _ (height_of (Fork l r) * (parts_passing w q (blocks l ++ blocks r) + (1 + upper hi)))
-        (λ m. by_found (list_any (has_fit_in w n a) (blocks r)) (last_in_most p lo (start_of (blocks r) - 1) l f.0 i.left) (last_in_most i.state (start_of (blocks r)) hi r f.1 i.right) (λ e. e))
-      where
-        by_found : (found : Bool) → nodes_of_last w n a l ≤ height_of l * (parts_passing w q (blocks l) + (1 + upper (start_of (blocks r) - 1))) → nodes_of_last w n a r ≤ height_of r * (parts_passing w q (blocks r) + (1 + upper hi)) → (found ≡ false → list_any (has_fit_in w n a) (blocks r) ≡ false)
-            → cond (leb (start_of (blocks r)) w.end) (nodes_of_last w n a r) 0 + cond found 0 (cond (ltb w.start (start_of (blocks r))) (nodes_of_last w n a l) 0) + 1 ≤ height_of (Fork l r) * (parts_passing w q (blocks l ++ blocks r) + (1 + upper hi))
-        by_found true x g e =
-            let at = start_of (blocks r) in
-            let right = if_entered (leb at w.end) (nodes_of_last w n a r) (height_of r) (parts_passing w q (blocks r)) (1 + upper hi) g in
-            exchanged _ _ _ (step l r 0 _ 0 _ (1 + upper hi) (omega arith) right (omega (arith, if_at_most (leb at w.end) (1 + upper hi))) (omega arith))
-        by_found false x g e =
-            let i = child_sides p lo hi l r f k in
-            let at = start_of (blocks r) in
-            let right = if_entered (leb at w.end) (nodes_of_last w n a r) (height_of r) (parts_passing w q (blocks r)) (lower at + upper hi) (last_in_vain i.state at hi r f.1 i.right (e refl)) in
-            let left = if_entered (ltb w.start at) (nodes_of_last w n a l) (height_of l) (parts_passing w q (blocks l)) (1 + upper (at - 1)) x in
-            exchanged _ _ _ (step l r _ _ _ _ (1 + upper hi) left right (cuts_to_left lo hi at i.from i.upto) (omega arith))
+        vain_left : (end : End) → list_any (has_fit_in w n a) (blocks l) ≡ false → cond (ltb w.start at) (nodes_of_search end w n a l) 0 ≤ height_of l * (parts_passing w q (blocks l) + cond (ltb w.start at) (lower lo + upper (at - 1)) 0)
+        vain_left end e = if_entered (ltb w.start at) (nodes_of_search end w n a l) (height_of l) (parts_passing w q (blocks l)) (lower lo + upper (at - 1)) (search_in_vain end p lo (at - 1) l f.0 i.left e)
+
+        vain_right : (end : End) → list_any (has_fit_in w n a) (blocks r) ≡ false → cond (leb at w.end) (nodes_of_search end w n a r) 0 ≤ height_of r * (parts_passing w q (blocks r) + cond (leb at w.end) (lower at + upper hi) 0)
+        vain_right end e = if_entered (leb at w.end) (nodes_of_search end w n a r) (height_of r) (parts_passing w q (blocks r)) (lower at + upper hi) (search_in_vain end i.state at hi r f.1 i.right e)
+
+        by_found : (end : End) (left right : Bool) → nodes_of_search end w n a l ≤ height_of l * (parts_passing w q (blocks l) + paths end lo (at - 1)) → nodes_of_search end w n a r ≤ height_of r * (parts_passing w q (blocks r) + paths end at hi)
+            → (left ≡ false → list_any (has_fit_in w n a) (blocks l) ≡ false) → (right ≡ false → list_any (has_fit_in w n a) (blocks r) ≡ false)
+            → nodes_of_both end left right (cond (ltb w.start at) (nodes_of_search end w n a l) 0) (cond (leb at w.end) (nodes_of_search end w n a r) 0) + 1 ≤ height_of (Fork l r) * (parts_passing w q (blocks l ++ blocks r) + paths end lo hi)
+        by_found First true right x y e d =
+            let first = if_entered (ltb w.start at) (nodes_of_search First w n a l) (height_of l) (parts_passing w q (blocks l)) (lower lo + 1) x in
+            step l r _ 0 _ 0 (lower lo + 1) first (omega arith) (omega (arith, if_at_most (ltb w.start at) (lower lo + 1))) (omega arith)
+        by_found First false right x y e d =
+            let last = if_entered (leb at w.end) (nodes_of_search First w n a r) (height_of r) (parts_passing w q (blocks r)) (lower at + 1) y in
+            step l r _ _ _ _ (lower lo + 1) (vain_left First (e refl)) last (cuts_to_right lo hi at i.from i.upto) (omega arith)
+        by_found Last left true x y e d =
+            let last = if_entered (leb at w.end) (nodes_of_search Last w n a r) (height_of r) (parts_passing w q (blocks r)) (1 + upper hi) y in
+            both_more Last left true _ _ _ (step l r 0 _ 0 _ (1 + upper hi) (omega arith) last (omega (arith, if_at_most (leb at w.end) (1 + upper hi))) (omega arith))
+        by_found Last left false x y e d =
+            let first = if_entered (ltb w.start at) (nodes_of_search Last w n a l) (height_of l) (parts_passing w q (blocks l)) (1 + upper (at - 1)) x in
+            both_more Last left false _ _ _ (step l r _ _ _ _ (1 + upper hi) first (vain_right Last (d refl)) (cuts_to_left lo hi at i.from i.upto) (omega arith))
 
 -- ---- No node is entered twice
 upto_all : (entered : Bool) (x y : ℕ) → x ≤ y → cond entered x 0 ≤ y
 upto_all true x y l = l
 upto_all false x y l = omega arith
 
-upto_rest : (found entered : Bool) (x y : ℕ) → x ≤ y → cond found 0 (cond entered x 0) ≤ y
-upto_rest true entered x y l = omega arith
-upto_rest false entered x y l = upto_all entered x y l
-
-pub first_all : (w : Range) (n a : ℕ) (s : Shape) → nodes_of_first w n a s ≤ node_count s
-unfolding nodes_of_first
-first_all w n a (Tip bs) = upto_all (may_fit_in n a bs) 1 1 (omega arith)
-first_all w n a (Fork l r) =
+pub search_all : (end : End) (w : Range) (n a : ℕ) (s : Shape) → nodes_of_search end w n a s ≤ node_count s
+unfolding nodes_of_search
+search_all end w n a (Tip bs) = upto_all (may_fit_in n a bs) 1 1 (omega arith)
+search_all end w n a (Fork l r) =
     let at = start_of (blocks r) in
-    let left = upto_all (ltb w.start at) (nodes_of_first w n a l) (node_count l) (first_all w n a l) in
-    let right = upto_rest (list_any (has_fit_in w n a) (blocks l)) (leb at w.end) (nodes_of_first w n a r) (node_count r) (first_all w n a r) in
-    upto_all (may_fit_in n a (blocks l ++ blocks r)) _ (node_count (Fork l r)) (omega (arith, left, right))
-
-pub last_all : (w : Range) (n a : ℕ) (s : Shape) → nodes_of_last w n a s ≤ node_count s
-unfolding nodes_of_last
-last_all w n a (Tip bs) = upto_all (may_fit_in n a bs) 1 1 (omega arith)
-last_all w n a (Fork l r) =
-    let at = start_of (blocks r) in
-    let right = upto_all (leb at w.end) (nodes_of_last w n a r) (node_count r) (last_all w n a r) in
-    let left = upto_rest (list_any (has_fit_in w n a) (blocks r)) (ltb w.start at) (nodes_of_last w n a l) (node_count l) (last_all w n a l) in
-    upto_all (may_fit_in n a (blocks l ++ blocks r)) _ (node_count (Fork l r)) (omega (arith, left, right))
+    let left = upto_all (ltb w.start at) (nodes_of_search end w n a l) (node_count l) (search_all end w n a l) in
+    let right = upto_all (leb at w.end) (nodes_of_search end w n a r) (node_count r) (search_all end w n a r) in
+    upto_all (may_fit_in n a (blocks l ++ blocks r)) _ (node_count (Fork l r))
+    (both_more end (list_any (has_fit_in w n a) (blocks l)) (list_any (has_fit_in w n a) (blocks r)) _ _ _ (omega (arith, left, right)))
 
 -- ---- A whole tree
 last_end : (p : NodeState) (lo hi : ℕ) (bs : List Block) → 0 < length bs → Tiles p lo bs hi → end_of bs ≡ hi
@@ -396,29 +380,23 @@ module _ (w : Range) (n a : ℕ) (q : Block → Bool) (some : HasOneWithoutPlace
   exact : (c d : ℕ) (count : ℕ) → c ≡ d → count ≤ height_of s * (parts_passing w q (blocks s) + c) → count ≤ height_of s * (parts_passing w q (blocks s) + d)
   exact c d count e p = subst (λ (v : ℕ). count ≤ height_of s * (parts_passing w q (blocks s) + v)) e p
 
-  pub first_count : IsSearchCount w n a (parts_passing w q (blocks s)) s (nodes_of_first w n a s)
-  first_count = record {
-    none = λ c e. (
-        let p = exact _ 0 _ (omega (arith, cut_below c, cut_above c)) (first_in_vain w n a q some Allocated h.lo h.hi s f h.tiles e) in
-        let z : parts_passing w q (blocks s) + 0 ≡ parts_passing w q (blocks s) = omega arith in
-        rw z at p
-        );
-    whole = λ c. exact _ 1 _ (omega (arith, cut_below c)) (first_in_most w n a q some Allocated h.lo h.hi s f h.tiles);
-    most = widened (height_of s) (parts_passing w q (blocks s)) (below h.lo w.start + 1) _ (omega (arith, below_most h.lo w.start)) (first_in_most w n a q some Allocated h.lo h.hi s f h.tiles);
-    all = first_all w n a s;
-  }
+  paths_whole : (end : End) → IsWholeWindow w (blocks s) → paths w n a q end h.lo h.hi ≡ 1
+  paths_whole First c = omega (arith, cut_below c)
+  paths_whole Last c = omega (arith, cut_above c)
 
-  pub last_count : IsSearchCount w n a (parts_passing w q (blocks s)) s (nodes_of_last w n a s)
-  last_count = record {
-    none = λ c e. (
-        let p = exact _ 0 _ (omega (arith, cut_below c, cut_above c)) (last_in_vain w n a q some Allocated h.lo h.hi s f h.tiles e) in
-        let z : parts_passing w q (blocks s) + 0 ≡ parts_passing w q (blocks s) = omega arith in
-        rw z at p
-        );
-    whole = λ c. exact _ 1 _ (omega (arith, cut_above c)) (last_in_most w n a q some Allocated h.lo h.hi s f h.tiles);
-    most = widened (height_of s) (parts_passing w q (blocks s)) (1 + below w.end h.hi) _ (omega (arith, below_most w.end h.hi)) (last_in_most w n a q some Allocated h.lo h.hi s f h.tiles);
-    all = last_all w n a s;
-  }
+  pub search_count : (end : End) → IsSearchCount w n a (parts_passing w q (blocks s)) s (nodes_of_search end w n a s)
+  search_count end =
+      let most = search_in_most w n a q some end Allocated h.lo h.hi s f h.tiles in
+      record {
+        none = λ c e. (
+            let p = exact _ 0 _ (omega (arith, cut_below c, cut_above c)) (search_in_vain w n a q some end Allocated h.lo h.hi s f h.tiles e) in
+            let z : parts_passing w q (blocks s) + 0 ≡ parts_passing w q (blocks s) = omega arith in
+            rw z at p
+            );
+        whole = λ c. exact _ 1 _ (paths_whole end c) most;
+        most = widened (height_of s) (parts_passing w q (blocks s)) (paths w n a q end h.lo h.hi) _ (paths_most w n a q end h.lo h.hi) most;
+        all = search_all end w n a s;
+      }
 
 -- The bounds for two numbers are bounds for the lesser one.
 lesser : (w : Range) (n a u v : ℕ) (s : Shape) (count : ℕ) → IsSearchCount w n a u s count → IsSearchCount w n a v s count → IsSearchCount w n a (min u v) s count
@@ -428,10 +406,6 @@ lesser w n a u v s count g h =
     (λ (l : v ≤ u). let e : v ≡ min u v = omega arith in subst (λ (x : ℕ). IsSearchCount w n a x s count) e h)
     (cases_lt u v)
 
-pub first_searches : (w : Range) (n a : ℕ) (s : Shape) → 0 < n → HasFullLeaves s → IsRun (blocks s) → IsSearchCount w n a (gaps_without_place w n a (blocks s)) s (nodes_of_first w n a s)
-first_searches w n a s z f h =
-    lesser w n a _ _ s _ (first_count w n a (is_misaligned n a) (misaligned_in_vain n a z) s f h) (first_count w n a (is_too_short n a) (too_short_in_vain n a) s f h)
-
-pub last_searches : (w : Range) (n a : ℕ) (s : Shape) → 0 < n → HasFullLeaves s → IsRun (blocks s) → IsSearchCount w n a (gaps_without_place w n a (blocks s)) s (nodes_of_last w n a s)
-last_searches w n a s z f h =
-    lesser w n a _ _ s _ (last_count w n a (is_misaligned n a) (misaligned_in_vain n a z) s f h) (last_count w n a (is_too_short n a) (too_short_in_vain n a) s f h)
+pub all_searches : (end : End) (w : Range) (n a : ℕ) (s : Shape) → 0 < n → HasFullLeaves s → IsRun (blocks s) → IsSearchCount w n a (gaps_without_place w n a (blocks s)) s (nodes_of_search end w n a s)
+all_searches end w n a s z f h =
+    lesser w n a _ _ s _ (search_count w n a (is_misaligned n a) (misaligned_in_vain n a z) s f h end) (search_count w n a (is_too_short n a) (too_short_in_vain n a) s f h end)

@@ -15,9 +15,9 @@ pub mod FreesTrees
 pub mod FreesEdges
 pub mod AllocatedSummaries
 pub mod SearchedBlocks
-pub mod SearchedFirst
-pub mod SearchedLast
+pub mod Searched
 pub mod AllocatedTrees
+pub mod AllocatedLeaves
 pub mod Allocating
 pub mod AllocatedExact
 pub mod Paths

@@ -5,19 +5,19 @@ use Rattle.vm_ranges.specs.Range.{Range, IsRange, MAX}
 use Rattle.vm_leaf.specs.Blocks.{IsRun, IsLeaf, parts}
 use Rattle.vm_leaf.specs.declared.block.Block.{Block}
 use Rattle.vm_tree.specs.Building.{AreInOrder, blocks_between, IsBuiltTree}
-use Rattle.vm_tree.specs.Allocation.{IsSearch, AllocatesExact, AllocatesLowest, AllocatesHighest, SplitsAt, range_at, window_of}
+use Rattle.vm_tree.specs.Allocation.{IsSearch, AllocatesExact, AllocatesFit, SplitsAt, range_at, window_of}
 use Rattle.vm_tree.specs.Growth.{IsSubtree, IsChild, GrowsBy, GrowsIfOk}
-use Rattle.vm_tree.specs.NodeCounts.{may_fit_in, nodes_of_first, nodes_of_last, nodes_to_address, nodes_to_lowest, nodes_to_highest}
+use Rattle.vm_tree.specs.NodeCounts.{may_fit_in, nodes_of_search, nodes_to_address, nodes_to_fit}
 use Rattle.vm_tree.specs.GapSearch.{IsSearchCount, gaps_without_place}
 use Rattle.vm_tree.specs.declared.change.Change.{Change}
+use Rattle.vm_tree.specs.declared.end.End.{End}
 use Rattle.vm_tree.specs.declared.change.Change.TheVariants.{Nothing, FreeOnly, Structure}
 use Rattle.vm_tree.specs.declared.search.Search.{Search}
 use Rattle.vm_tree.specs.declared.search.Taken.{Taken}
 use Rattle.vm_tree.specs.declared.search.Refusal.{Refusal}
 use Rattle.vm_tree.specs.declared.search.Refusal.TheVariants.{NoPlace, Held, PastMax, OutOfMemory, TooHigh}
 use Rattle.vm_tree.proofs.Allocating.{IsAllocated, run_allocated, exact_allocated}
-use Rattle.vm_tree.proofs.Paths.{path_length, first_fits, last_fits, lowest_searches, highest_searches, lowest_path, highest_path}
-use Rattle.vm_tree.proofs.SearchedBlocks.{none_if_passed}
+use Rattle.vm_tree.proofs.Paths.{path_length, search_fits, fit_searches, fit_path}
 use Rattle.vm_tree.specs.Changes.{CanChange}
 use Rattle.vm_tree.specs.Frees.{Frees}
 use Rattle.vm_tree.specs.Roots.{IsBlockTree, IsPathLength, IsRoot}
@@ -28,8 +28,7 @@ use Rattle.vm_tree.proofs.BlockCursors.{between_tiles}
 use Rattle.vm_tree.proofs.Frees.{cover_freed}
 use Rattle.vm_tree.proofs.Heights.{low_tree}
 use Rattle.vm_tree.proofs.Plans.{some_between}
-use Rattle.vm_tree.proofs.SearchedFirst.{lowest_allocated, none_lowest, lowest_found, lowest_missed, first_nodes_passed}
-use Rattle.vm_tree.proofs.SearchedLast.{highest_allocated, none_highest, highest_found, highest_missed, last_nodes_passed}
+use Rattle.vm_tree.proofs.Searched.{closest_allocated, none_closest, closest_found, none_missed, passed, nodes_passed}
 use Rattle.vm_tree.proofs.Trees.{high, full_rooted}
 
 pub valid : (s : Shape) → IsTree s → IsRun (blocks s) → height_of s < 49 → IsBlockTree s
@@ -132,11 +131,8 @@ module _ (seek : Search) (valid : IsSearch seek) (old new : List Block) (answer 
   pub exact_allocates : (t : ℕ) → AllocatesExact seek t old new answer → Allocated seek old new answer
   exact_allocates t h = λ taken e. exact_allocated seek t old new taken valid.some (subst (AllocatesExact seek t old new) e h)
 
-  pub lowest_allocates : AllocatesLowest seek old new answer → Allocated seek old new answer
-  lowest_allocates h = λ taken e. lowest_allocated seek old new taken valid.some (subst (AllocatesLowest seek old new) e h)
-
-  pub highest_allocates : AllocatesHighest seek old new answer → Allocated seek old new answer
-  highest_allocates h = λ taken e. highest_allocated seek old new taken valid.some (subst (AllocatesHighest seek old new) e h)
+  pub fit_allocates : (end : End) → AllocatesFit end seek old new answer → Allocated seek old new answer
+  fit_allocates end h = λ taken e. closest_allocated end seek old new taken valid.some (subst (AllocatesFit end seek old new) e h)
 
 pub ruleset allocating_exact = (child_of, path_fits, path_of)
 
@@ -149,86 +145,41 @@ no_place (Err PastMax) = inr (λ e. absurd (cc))
 no_place (Err OutOfMemory) = inr (λ e. absurd (cc))
 no_place (Err TooHigh) = inr (λ e. absurd (cc))
 
--- ---- The lowest place
-module _ (seek : Search) (valid : IsSearch seek) where
-  lowest_lone_none : (v : Shape) (new : List Block) → height_of v < 2 → AllocatesLowest seek (blocks v) new (Err NoPlace) → nodes_to_lowest (window_of seek) seek.size seek.alignment v ≡ 0
-  unfolding nodes_to_lowest
-  lowest_lone_none (Tip bs) new h a = rw (lowest_missed seek valid bs (none_lowest seek bs new a)) refl
-  lowest_lone_none (Fork l r) new h a = absurd (omega (arith, high l))
+-- ---- The place that is closest to an end
+module _ (end : End) (seek : Search) (valid : IsSearch seek) where
+  fit_lone_none : (v : Shape) (new : List Block) → height_of v < 2 → AllocatesFit end seek (blocks v) new (Err NoPlace) → nodes_to_fit end (window_of seek) seek.size seek.alignment v ≡ 0
+  unfolding nodes_to_fit
+  fit_lone_none (Tip bs) new h a = rw (none_missed seek valid bs (none_closest end seek bs new a)) refl
+  fit_lone_none (Fork l r) new h a = absurd (omega (arith, high l))
 
-  lowest_lone_some : (v : Shape) (new : List Block) (answer : Result Taken Refusal) → height_of v < 2 → AllocatesLowest seek (blocks v) new answer → answer ≢ Err NoPlace
-      → nodes_to_lowest (window_of seek) seek.size seek.alignment v ≡ 1
-  unfolding nodes_to_lowest
-  lowest_lone_some (Tip bs) new answer h a n = rw (lowest_found seek valid bs new answer n a) refl
-  lowest_lone_some (Fork l r) new answer h a n = absurd (omega (arith, high l))
+  fit_lone_some : (v : Shape) (new : List Block) (answer : Result Taken Refusal) → height_of v < 2 → AllocatesFit end seek (blocks v) new answer → answer ≢ Err NoPlace
+      → nodes_to_fit end (window_of seek) seek.size seek.alignment v ≡ 1
+  unfolding nodes_to_fit
+  fit_lone_some (Tip bs) new answer h a n = rw (closest_found end seek valid bs new answer n a) refl
+  fit_lone_some (Fork l r) new answer h a n = absurd (omega (arith, high l))
 
-  pub lowest_lone : (v : Shape) (new : List Block) (answer : Result Taken Refusal) (count : ℕ) → height_of v < 2 → AllocatesLowest seek (blocks v) new answer
-      → (answer ≡ Err NoPlace → count ≡ 0) → (answer ≢ Err NoPlace → count ≡ 1) → count ≡ nodes_to_lowest (window_of seek) seek.size seek.alignment v
-  lowest_lone v new answer count h a none found =
+  pub fit_lone : (v : Shape) (new : List Block) (answer : Result Taken Refusal) (count : ℕ) → height_of v < 2 → AllocatesFit end seek (blocks v) new answer
+      → (answer ≡ Err NoPlace → count ≡ 0) → (answer ≢ Err NoPlace → count ≡ 1) → count ≡ nodes_to_fit end (window_of seek) seek.size seek.alignment v
+  fit_lone v new answer count h a none found =
       elim (no_place answer) [
-        | inl e ↦ none e ∙ sym (lowest_lone_none v new h (subst (AllocatesLowest seek (blocks v) new) e a))
-        | inr n ↦ found n ∙ sym (lowest_lone_some v new answer h a n)
+        | inl e ↦ none e ∙ sym (fit_lone_none v new h (subst (AllocatesFit end seek (blocks v) new) e a))
+        | inr n ↦ found n ∙ sym (fit_lone_some v new answer h a n)
       ]
 
-  pub lowest_tall : (v : Shape) → 2 ≤ height_of v → nodes_to_lowest (window_of seek) seek.size seek.alignment v ≡ nodes_of_first (window_of seek) seek.size seek.alignment v
-  unfolding nodes_to_lowest
-  lowest_tall (Tip bs) h = absurd (omega arith)
-  lowest_tall (Fork l r) h = refl
+  pub fit_tall : (v : Shape) → 2 ≤ height_of v → nodes_to_fit end (window_of seek) seek.size seek.alignment v ≡ nodes_of_search end (window_of seek) seek.size seek.alignment v
+  unfolding nodes_to_fit
+  fit_tall (Tip bs) h = absurd (omega arith)
+  fit_tall (Fork l r) h = refl
 
-  pub lowest_none : (v : Shape) → may_fit_in seek.size seek.alignment (blocks v) ≡ false → AllocatesLowest seek (blocks v) (blocks v) (Err NoPlace)
-  lowest_none v h = inl (none_if_passed (window_of seek) seek.size seek.alignment (blocks v) valid.some valid.aligned h, refl)
-
-  pub lowest_passed : (v : Shape) → 2 ≤ height_of v → may_fit_in seek.size seek.alignment (blocks v) ≡ false → nodes_to_lowest (window_of seek) seek.size seek.alignment v ≡ 0
-  lowest_passed v t h = lowest_tall v t ∙ first_nodes_passed seek valid v h
+  pub fit_passed : (v : Shape) → 2 ≤ height_of v → may_fit_in seek.size seek.alignment (blocks v) ≡ false → nodes_to_fit end (window_of seek) seek.size seek.alignment v ≡ 0
+  fit_passed v t h = fit_tall v t ∙ nodes_passed end seek valid v h
 
   -- The bounds on the nodes that were entered.
-  module _ (v : Shape) (tree : IsTree v) (run : IsRun (blocks v)) (low : height_of v < 49) (count : ℕ) (exact : count ≡ nodes_to_lowest (window_of seek) seek.size seek.alignment v) where
-    pub lowest_bounds : IsSearchCount (window_of seek) seek.size seek.alignment (gaps_without_place (window_of seek) seek.size seek.alignment (blocks v)) v count
-    lowest_bounds = subst (IsSearchCount (window_of seek) seek.size seek.alignment (gaps_without_place (window_of seek) seek.size seek.alignment (blocks v)) v) (sym exact) (lowest_searches (window_of seek) seek.size seek.alignment valid.some v tree run)
+  module _ (v : Shape) (tree : IsTree v) (run : IsRun (blocks v)) (low : height_of v < 49) (count : ℕ) (exact : count ≡ nodes_to_fit end (window_of seek) seek.size seek.alignment v) where
+    pub fit_bounds : IsSearchCount (window_of seek) seek.size seek.alignment (gaps_without_place (window_of seek) seek.size seek.alignment (blocks v)) v count
+    fit_bounds = subst (IsSearchCount (window_of seek) seek.size seek.alignment (gaps_without_place (window_of seek) seek.size seek.alignment (blocks v)) v) (sym exact) (fit_searches (window_of seek) seek.size seek.alignment valid.some end v tree run)
 
-    pub lowest_least : (new : List Block) (answer : Result Taken Refusal) → AllocatesLowest seek (blocks v) new answer → answer ≢ Err NoPlace → height_of v ≤ 2 * count
-    lowest_least new answer a n = omega (arith, exact, lowest_path (window_of seek) seek.size seek.alignment valid.some v valid.aligned tree run low (lowest_found seek valid (blocks v) new answer n a))
+    pub fit_least : (new : List Block) (answer : Result Taken Refusal) → AllocatesFit end seek (blocks v) new answer → answer ≢ Err NoPlace → height_of v ≤ 2 * count
+    fit_least new answer a n = omega (arith, exact, fit_path (window_of seek) seek.size seek.alignment valid.some end v valid.aligned tree run low (closest_found end seek valid (blocks v) new answer n a))
 
-pub ruleset allocating_lowest = (child_of, first_fits, lowest_tall, lowest_none, lowest_passed, lowest_bounds, lowest_least)
-
--- ---- The highest place
-module _ (seek : Search) (valid : IsSearch seek) where
-  highest_lone_none : (v : Shape) (new : List Block) → height_of v < 2 → AllocatesHighest seek (blocks v) new (Err NoPlace) → nodes_to_highest (window_of seek) seek.size seek.alignment v ≡ 0
-  unfolding nodes_to_highest
-  highest_lone_none (Tip bs) new h a = rw (highest_missed seek valid bs (none_highest seek bs new a)) refl
-  highest_lone_none (Fork l r) new h a = absurd (omega (arith, high l))
-
-  highest_lone_some : (v : Shape) (new : List Block) (answer : Result Taken Refusal) → height_of v < 2 → AllocatesHighest seek (blocks v) new answer → answer ≢ Err NoPlace
-      → nodes_to_highest (window_of seek) seek.size seek.alignment v ≡ 1
-  unfolding nodes_to_highest
-  highest_lone_some (Tip bs) new answer h a n = rw (highest_found seek valid bs new answer n a) refl
-  highest_lone_some (Fork l r) new answer h a n = absurd (omega (arith, high l))
-
-  pub highest_lone : (v : Shape) (new : List Block) (answer : Result Taken Refusal) (count : ℕ) → height_of v < 2 → AllocatesHighest seek (blocks v) new answer
-      → (answer ≡ Err NoPlace → count ≡ 0) → (answer ≢ Err NoPlace → count ≡ 1) → count ≡ nodes_to_highest (window_of seek) seek.size seek.alignment v
-  highest_lone v new answer count h a none found =
-      elim (no_place answer) [
-        | inl e ↦ none e ∙ sym (highest_lone_none v new h (subst (AllocatesHighest seek (blocks v) new) e a))
-        | inr n ↦ found n ∙ sym (highest_lone_some v new answer h a n)
-      ]
-
-  pub highest_tall : (v : Shape) → 2 ≤ height_of v → nodes_to_highest (window_of seek) seek.size seek.alignment v ≡ nodes_of_last (window_of seek) seek.size seek.alignment v
-  unfolding nodes_to_highest
-  highest_tall (Tip bs) h = absurd (omega arith)
-  highest_tall (Fork l r) h = refl
-
-  pub highest_none : (v : Shape) → may_fit_in seek.size seek.alignment (blocks v) ≡ false → AllocatesHighest seek (blocks v) (blocks v) (Err NoPlace)
-  highest_none v h = inl (none_if_passed (window_of seek) seek.size seek.alignment (blocks v) valid.some valid.aligned h, refl)
-
-  pub highest_passed : (v : Shape) → 2 ≤ height_of v → may_fit_in seek.size seek.alignment (blocks v) ≡ false → nodes_to_highest (window_of seek) seek.size seek.alignment v ≡ 0
-  highest_passed v t h = highest_tall v t ∙ last_nodes_passed seek valid v h
-
-  -- The bounds on the nodes that were entered.
-  module _ (v : Shape) (tree : IsTree v) (run : IsRun (blocks v)) (low : height_of v < 49) (count : ℕ) (exact : count ≡ nodes_to_highest (window_of seek) seek.size seek.alignment v) where
-    pub highest_bounds : IsSearchCount (window_of seek) seek.size seek.alignment (gaps_without_place (window_of seek) seek.size seek.alignment (blocks v)) v count
-    highest_bounds = subst (IsSearchCount (window_of seek) seek.size seek.alignment (gaps_without_place (window_of seek) seek.size seek.alignment (blocks v)) v) (sym exact) (highest_searches (window_of seek) seek.size seek.alignment valid.some v tree run)
-
-    pub highest_least : (new : List Block) (answer : Result Taken Refusal) → AllocatesHighest seek (blocks v) new answer → answer ≢ Err NoPlace → height_of v ≤ 2 * count
-    highest_least new answer a n = omega (arith, exact, highest_path (window_of seek) seek.size seek.alignment valid.some v valid.aligned tree run low (highest_found seek valid (blocks v) new answer n a))
-
-pub ruleset allocating_highest = (child_of, last_fits, highest_tall, highest_none, highest_passed, highest_bounds, highest_least)
+pub ruleset allocating_fit = (child_of, search_fits, fit_tall, passed, fit_passed, fit_bounds, fit_least)

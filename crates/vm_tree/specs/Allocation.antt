@@ -11,6 +11,8 @@ use Rattle.vm_leaf.specs.Fit.{HasNoFit, IsLowestFit, IsHighestFit}
 use Rattle.vm_leaf.specs.Windows.{cut_to}
 use Rattle.vm_ranges.specs.declared.state.NodeState.{NodeState}
 use Rattle.vm_ranges.specs.declared.state.NodeState.TheVariants.{Free, Allocated}
+use Rattle.vm_tree.specs.declared.end.End.{End}
+use Rattle.vm_tree.specs.declared.end.End.TheVariants.{First, Last}
 use Rattle.vm_tree.specs.declared.search.Search.{Search}
 use Rattle.vm_tree.specs.declared.search.Taken.{Taken}
 use Rattle.vm_tree.specs.declared.search.Refusal.{Refusal}
@@ -39,17 +41,21 @@ pub record Spot : Type 0 where
 abbrev pub IsSpotIn : List Block → Spot → Type 0
 IsSpotIn bs spot = bs ≡ spot.lower ++ free_block spot.key ∷ spot.upper
 
--- The spot is the lowest place of the search in the list.
-pub record IsLowestSpot (search : Search) (bs : List Block) (spot : Spot) : Type 0 where
-  pub cut : IsSpotIn bs spot
-  pub none : HasNoPlace search spot.lower
-  pub fit : IsLowestFit search.size search.alignment (cut_to (window_of search) (free_block spot.key)) spot.start
+-- n addresses that start at t are the fit in the block that is closest to the end: the lowest or the highest one.
+abbrev pub IsClosestFit : End → ℕ → ℕ → Block → ℕ → Type 0
+IsClosestFit First n a b t = IsLowestFit n a b t
+IsClosestFit Last n a b t = IsHighestFit n a b t
 
--- The spot is the highest place of the search in the list.
-pub record IsHighestSpot (search : Search) (bs : List Block) (spot : Spot) : Type 0 where
+-- The blocks between the end of the list and the gap of the spot.
+abbrev pub blocks_to : End → Spot → List Block
+blocks_to First spot = spot.lower
+blocks_to Last spot = spot.upper
+
+-- The spot is the place of the search in the list that is closest to the end.
+pub record IsClosestSpot (end : End) (search : Search) (bs : List Block) (spot : Spot) : Type 0 where
   pub cut : IsSpotIn bs spot
-  pub none : HasNoPlace search spot.upper
-  pub fit : IsHighestFit search.size search.alignment (cut_to (window_of search) (free_block spot.key)) spot.start
+  pub none : HasNoPlace search (blocks_to end spot)
+  pub fit : IsClosestFit end search.size search.alignment (cut_to (window_of search) (free_block spot.key)) spot.start
 
 -- The range of a search at a spot.
 abbrev pub range_at : Search → Spot → Range
@@ -85,15 +91,10 @@ SettlesAt search spot new (Err PastMax) = (range_at search spot).end ≡ MAX
 SettlesAt search spot new (Err OutOfMemory) = IsSplitAt search spot × (search.can_split ≡ true)
 SettlesAt search spot new (Err TooHigh) = IsSplitAt search spot × (search.can_split ≡ false)
 
--- The lowest place of the search is allocated, or its error is returned. NoPlace if there is no place.
-abbrev pub AllocatesLowest : Search → List Block → List Block → Result Taken Refusal → Type 0
-AllocatesLowest search old new answer =
-    (HasNoPlace search old × (answer ≡ Err NoPlace)) ⊎ ((spot : Spot) × IsLowestSpot search old spot × SettlesAt search spot new answer)
-
--- The highest place of the search is allocated, or its error is returned. NoPlace if there is no place.
-abbrev pub AllocatesHighest : Search → List Block → List Block → Result Taken Refusal → Type 0
-AllocatesHighest search old new answer =
-    (HasNoPlace search old × (answer ≡ Err NoPlace)) ⊎ ((spot : Spot) × IsHighestSpot search old spot × SettlesAt search spot new answer)
+-- The place of the search that is closest to the end is allocated, or its error is returned. NoPlace if there is no place.
+abbrev pub AllocatesFit : End → Search → List Block → List Block → Result Taken Refusal → Type 0
+AllocatesFit end search old new answer =
+    (HasNoPlace search old × (answer ≡ Err NoPlace)) ⊎ ((spot : Spot) × IsClosestSpot end search old spot × SettlesAt search spot new answer)
 
 -- The block of a list that contains the address t, with the blocks before and after it.
 pub record IsBlockAt (t : ℕ) (bs lower : List Block) (b : Block) (upper : List Block) : Type 0 where

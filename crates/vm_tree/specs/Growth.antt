@@ -1,7 +1,7 @@
 -- A tree in which a range is allocated.
-use Rattle.std.specs.Prelude.{◌≡◌, ◌≢◌, ◌+◌, ◌<◌, ◌≤◌, ◌⊎◌, Result, Ok, Err}
+use Rattle.std.specs.Prelude.{◌≡◌, ◌≢◌, ◌+◌, ◌<◌, ◌≤◌, ◌⊎◌, Bool, true, false, Result, Ok, Err, OnErr, IfOk}
 use Rattle.vm_leaf.specs.Blocks.{IsRun}
-use Rattle.vm_tree.specs.Shape.{Shape, Tip, Fork, blocks, height_of, IsBalanced, HasFullLeaves, MAX_HEIGHT}
+use Rattle.vm_tree.specs.Shape.{Shape, Tip, Fork, blocks, height_of, IsBalanced, HasFullLeaves, IsTree, MAX_HEIGHT}
 use Rattle.vm_tree.specs.Links.{side, IsSummed}
 use Rattle.vm_tree.specs.Changes.{Keeps}
 use Rattle.vm_tree.specs.declared.change.Change.{Change}
@@ -54,3 +54,21 @@ GrowsIfOk (Err refusal) old new = new ≡ old
 abbrev pub GrowsBelowIfOk : Result Taken Refusal → Shape → Shape → Type 0
 GrowsBelowIfOk (Ok taken) old new = GrowsBelow taken.change old new × FillKeepsStructure taken
 GrowsBelowIfOk (Err refusal) old new = new ≡ old
+
+-- The leaf at the link can be changed. Unless it is the whole tree, it has enough blocks, and the summary beside the link is
+-- correct.
+abbrev pub CanTakeFrom : Bool → Link → Type 0
+CanTakeFrom true t = IsTree (side t)
+CanTakeFrom false t = HasFullLeaves (side t) × IsSummed t
+
+-- A range was allocated in a leaf that stays one. Unless it is the whole tree, the summary beside the link is correct.
+abbrev pub IsTakenLeaf : Bool → Change → Link → Link → Type 0
+IsTakenLeaf true change old new = IsTree (side new) × (height_of (side new) < 2)
+IsTakenLeaf false change old new = GrowsBy change (side old) (side new) × (change ≢ Structure) × IsSummed new
+
+-- What an allocation leaves. A leaf that is the whole tree becomes a balanced tree, or is the same after an error. Any
+-- other leaf has grown.
+abbrev pub LeavesLeaf : Bool → Result Taken Refusal → Link → Link → Type 0
+LeavesLeaf true answer old new =
+    OnErr answer (new ≡ old) × IfOk answer (λ _. IsTree (side new) × (height_of (side new) ≤ 2)) × (2 ≤ height_of (side new) → IsSummed new)
+LeavesLeaf false answer old new = GrowsIfOk answer (side old) (side new) × IsSummed new

@@ -7,6 +7,8 @@ use Rattle.vm_leaf.specs.Block.{is_free}
 use Rattle.vm_leaf.specs.Blocks.{start_of, longest_gap}
 use Rattle.vm_leaf.specs.Multiples.{has_multiple}
 use Rattle.vm_leaf.specs.Windows.{cut_to}
+use Rattle.vm_tree.specs.declared.end.End.{End}
+use Rattle.vm_tree.specs.declared.end.End.TheVariants.{First, Last}
 use Rattle.vm_tree.specs.Shape.{Shape, Tip, Fork, blocks}
 
 -- Tests if the block is free and has a multiple of a.
@@ -30,27 +32,22 @@ has_fit_in w n a b = has_fit n a (cut_to w b)
 unfoldable pub may_fit_in : ℕ → ℕ → List Block → Bool
 may_fit_in n a bs = nat_le n (longest_gap bs) && list_any (has_aligned a) bs
 
--- The nodes that the search for the lowest place within the window w enters, or 0 if it does not enter the tree. It enters
--- the root. It searches the left child if the window starts before the right child. It searches the right child if the
--- window does not end before that, and the left child has no place.
-unfoldable pub nodes_of_first : Range → ℕ → ℕ → Shape → ℕ
-nodes_of_first w n a (Tip bs) = if may_fit_in n a bs then 1 else 0
-nodes_of_first w n a (Fork l r) =
-    if may_fit_in n a (blocks l ++ blocks r)
-    then (if nat_lt w.start (start_of (blocks r)) then nodes_of_first w n a l else 0)
-    + (if list_any (has_fit_in w n a) (blocks l) then 0
-    else if nat_le (start_of (blocks r)) w.end then nodes_of_first w n a r else 0)
-    + 1
-    else 0
+-- The nodes that a search from the end enters in both children of a node: x in the left child, and y in the right child. It
+-- does not enter the far child if the near one has a place. The tests are those of the left and of the right child.
+abbrev pub nodes_of_both : End → Bool → Bool → ℕ → ℕ → ℕ
+nodes_of_both First left right x y = x + (if left then 0 else y)
+nodes_of_both Last left right x y = y + (if right then 0 else x)
 
--- The nodes that the search for the highest place within the window w enters, from the right.
-unfoldable pub nodes_of_last : Range → ℕ → ℕ → Shape → ℕ
-nodes_of_last w n a (Tip bs) = if may_fit_in n a bs then 1 else 0
-nodes_of_last w n a (Fork l r) =
+-- The nodes that the search from the end within the window w enters, or 0 if it does not enter the tree. It enters the root.
+-- It can enter the left child if the window starts before the right child, and the right child if the window does not end
+-- before that.
+unfoldable pub nodes_of_search : End → Range → ℕ → ℕ → Shape → ℕ
+nodes_of_search end w n a (Tip bs) = if may_fit_in n a bs then 1 else 0
+nodes_of_search end w n a (Fork l r) =
     if may_fit_in n a (blocks l ++ blocks r)
-    then (if nat_le (start_of (blocks r)) w.end then nodes_of_last w n a r else 0)
-    + (if list_any (has_fit_in w n a) (blocks r) then 0
-    else if nat_lt w.start (start_of (blocks r)) then nodes_of_last w n a l else 0)
+    then nodes_of_both end (list_any (has_fit_in w n a) (blocks l)) (list_any (has_fit_in w n a) (blocks r))
+    (if nat_lt w.start (start_of (blocks r)) then nodes_of_search end w n a l else 0)
+    (if nat_le (start_of (blocks r)) w.end then nodes_of_search end w n a r else 0)
     + 1
     else 0
 
@@ -60,13 +57,8 @@ nodes_to_address x (Tip bs) = 1
 nodes_to_address x (Fork l r) =
     (if nat_lt x (start_of (blocks r)) then nodes_to_address x l else nodes_to_address x r) + 1
 
--- The nodes that a request for the lowest place within the window w enters. A leaf that is the whole tree is entered only if
--- it has a place.
-unfoldable pub nodes_to_lowest : Range → ℕ → ℕ → Shape → ℕ
-nodes_to_lowest w n a (Tip bs) = if list_any (has_fit_in w n a) bs then 1 else 0
-nodes_to_lowest w n a (Fork l r) = nodes_of_first w n a (Fork l r)
-
--- The nodes that a request for the highest place within the window w enters.
-unfoldable pub nodes_to_highest : Range → ℕ → ℕ → Shape → ℕ
-nodes_to_highest w n a (Tip bs) = if list_any (has_fit_in w n a) bs then 1 else 0
-nodes_to_highest w n a (Fork l r) = nodes_of_last w n a (Fork l r)
+-- The nodes that a request for the place closest to the end enters, within the window w. A leaf that is the whole tree is
+-- entered only if it has a place.
+unfoldable pub nodes_to_fit : End → Range → ℕ → ℕ → Shape → ℕ
+nodes_to_fit end w n a (Tip bs) = if list_any (has_fit_in w n a) bs then 1 else 0
+nodes_to_fit end w n a (Fork l r) = nodes_of_search end w n a (Fork l r)

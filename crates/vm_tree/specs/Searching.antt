@@ -1,36 +1,32 @@
 -- The children of a node that a search enters one after the other.
-use Rattle.std.specs.Prelude.{ℕ, if◌then◌else◌, nat_lt, nat_le}
+use Rattle.std.specs.Prelude.{ℕ, ◌&&◌, if◌then◌else◌, nat_lt, nat_le, Bool}
 use Rattle.vm_ranges.specs.Range.{Range}
 use Rattle.vm_leaf.specs.Blocks.{start_of}
 use Rattle.vm_tree.specs.Shape.{Shape, Tip, Fork, blocks}
-use Rattle.vm_tree.specs.NodeCounts.{nodes_of_first, nodes_of_last}
+use Rattle.vm_tree.specs.NodeCounts.{may_fit_in, nodes_of_search}
+use Rattle.vm_tree.specs.declared.end.End.{End}
+use Rattle.vm_tree.specs.declared.end.End.TheVariants.{First, Last}
 
--- The left child of a node.
-abbrev pub left_of : Shape → Shape
-left_of (Tip bs) = Tip bs
-left_of (Fork l r) = l
+-- The other end.
+abbrev pub other_end : End → End
+other_end First = Last
+other_end Last = First
 
--- The right child of a node.
-abbrev pub right_of : Shape → Shape
-right_of (Tip bs) = Tip bs
-right_of (Fork l r) = r
+-- The child at an end of a node. A leaf is its own child.
+abbrev pub child_at : End → Shape → Shape
+child_at end (Tip bs) = Tip bs
+child_at First (Fork l r) = l
+child_at Last (Fork l r) = r
 
--- The nodes that the search for the lowest place within the window w enters in the left child.
-unfoldable pub nodes_of_first_left : Range → ℕ → ℕ → Shape → ℕ
-nodes_of_first_left w n a s =
-    if nat_lt w.start (start_of (blocks (right_of s))) then nodes_of_first w n a (left_of s) else 0
+-- Tests if the child at an end of a node can have addresses in the window w.
+unfoldable pub reaches_child : End → Range → Shape → Bool
+reaches_child First w s = nat_lt w.start (start_of (blocks (child_at Last s)))
+reaches_child Last w s = nat_le (start_of (blocks (child_at Last s))) w.end
 
--- The nodes that it enters in the right child, if the left child has no place.
-unfoldable pub nodes_of_first_right : Range → ℕ → ℕ → Shape → ℕ
-nodes_of_first_right w n a s =
-    if nat_le (start_of (blocks (right_of s))) w.end then nodes_of_first w n a (right_of s) else 0
+-- Tests if a search within the window w may find a place in the child.
+abbrev pub may_fit_in_child : End → Range → ℕ → ℕ → Shape → Bool
+may_fit_in_child child w n a s = reaches_child child w s && may_fit_in n a (blocks (child_at child s))
 
--- The nodes that the search for the highest place within the window w enters in the right child.
-unfoldable pub nodes_of_last_right : Range → ℕ → ℕ → Shape → ℕ
-nodes_of_last_right w n a s =
-    if nat_le (start_of (blocks (right_of s))) w.end then nodes_of_last w n a (right_of s) else 0
-
--- The nodes that it enters in the left child, if the right child has no place.
-unfoldable pub nodes_of_last_left : Range → ℕ → ℕ → Shape → ℕ
-nodes_of_last_left w n a s =
-    if nat_lt w.start (start_of (blocks (right_of s))) then nodes_of_last w n a (left_of s) else 0
+-- The nodes that the search from the end within the window w enters in the child, if it looks for a place there.
+unfoldable pub nodes_of_child : End → End → Range → ℕ → ℕ → Shape → ℕ
+nodes_of_child child end w n a s = if reaches_child child w s then nodes_of_search end w n a (child_at child s) else 0

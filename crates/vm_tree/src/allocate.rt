@@ -9,8 +9,7 @@ ghost use Rattle.vm_tree.specs.Allocation.{IsSearch};
 ghost use Rattle.vm_tree.specs.NodeCounts.{may_fit_in};
 
 pub(crate) mod exact;
-pub(crate) mod first;
-pub(crate) mod last;
+pub(crate) mod fit;
 mod place;
 
 use crate::link::{Link, summary};

@@ -6,25 +6,25 @@ ghost use Rattle.std.specs.Prelude.{◌≡◌, ◌≢◌, true, Err, OnErr, ◌+
 ghost use Rattle.vm_ranges.specs.Range.{IsIn, at_address};
 ghost use Rattle.vm_leaf.specs.Block.{free_block};
 ghost use Rattle.vm_leaf.specs.Blocks.{longest_gap};
-ghost use Rattle.vm_tree.specs.Allocation.{window_of, IsSearch, AllocatesExact, AllocatesLowest, AllocatesHighest};
+ghost use Rattle.vm_tree.specs.Allocation.{window_of, IsSearch, AllocatesExact, AllocatesFit};
 ghost use Rattle.vm_tree.specs.Building.{AreInOrder, blocks_between, IsBuiltTree};
 ghost use Rattle.vm_tree.specs.Frees.{Frees, Holds};
 ghost use Rattle.vm_tree.specs.GapSearch.{IsSearchCount, gaps_without_place};
 ghost use Rattle.vm_tree.specs.Links.{side};
 ghost use Rattle.vm_tree.specs.Lookups.{find_superset};
-ghost use Rattle.vm_tree.specs.NodeCounts.{nodes_to_address, nodes_to_lowest, nodes_to_highest};
+ghost use Rattle.vm_tree.specs.NodeCounts.{nodes_to_address, nodes_to_fit};
 ghost use Rattle.vm_tree.specs.Placing.{IsStartIn};
 ghost use Rattle.vm_tree.specs.Roots.{IsBlockTree, IsPathLength, range_of};
 ghost use Rattle.vm_tree.specs.Shape.{Tip, blocks, height_of, SPLIT_HEIGHT};
 ghost use Rattle.vm_tree.specs.Walks.{meeting_blocks};
 
 use crate::allocate::exact::{exact_at, exact_in_root};
-use crate::allocate::first::{first_at, first_in_root};
-use crate::allocate::last::{last_at, last_in_root};
+use crate::allocate::fit::{fit_at, fit_in_root};
 use crate::allocate::{count_place, fits};
 use crate::build::build_tree;
 use crate::change::free_summary;
 use crate::copy::copy;
+use crate::end::End;
 use crate::find::block_at;
 use crate::free::{free_at, free_in};
 use crate::link::{Link, Node, height, leaf_link};
@@ -235,16 +235,17 @@ impl Tree {
         }
     }
 
-    /// Allocates the lowest place of a search.
+    /// Allocates the place of a search that is closest to an end: the lowest or the highest place.
     ///
     /// It returns `NoPlace` if there is none, `PastMax` if the range there ends at `u64::MAX`, `TooHigh` if gaps
     /// cannot be split, and `OutOfMemory` if an allocation fails. An error changes nothing. A range that fills
     /// its gap allocates no memory, and any other range allocates nothing or one leaf and one node.
     ///
     /// The search must be valid, `count` must be at 0, and `can_split` must be `false` from height 48 on.
-    #[tactic(auto, using(crate::proofs::Roots::allocating_lowest))]
-    pub fn allocate_lowest(
+    #[tactic(auto, using(crate::proofs::Roots::allocating_fit))]
+    pub fn allocate_fit(
         &mut self,
+        end: End,
         search: &Search,
         alloc: Global,
         count: &mut Steps,
@@ -252,10 +253,10 @@ impl Tree {
         requires search { IsSearch search.now }
         requires low { search.now.can_split ≡ true → height_of self.old < SPLIT_HEIGHT }
         requires count { count.old ≡ 0 }
-        ensures answer { AllocatesLowest search.now (blocks self.old) (blocks self.new) result }
+        ensures answer { AllocatesFit end search.now (blocks self.old) (blocks self.new) result }
         ensures unchanged { OnErr result (self.new ≡ self.old) }
         ensures count { count.new
-            ≡ nodes_to_lowest (window_of search.now) search.now.size search.now.alignment self.old }
+            ≡ nodes_to_fit end (window_of search.now) search.now.size search.now.alignment self.old }
         ensures bounds { IsSearchCount (window_of search.now) search.now.size search.now.alignment
             (gaps_without_place (window_of search.now) search.now.size search.now.alignment (blocks self.old))
             self.old count.new }
@@ -264,7 +265,7 @@ impl Tree {
         match &mut self.root {
             Link::Hole => unreachable!(),
             Link::Leaf { .. } => {
-                let answer = first_in_root(&mut self.root, search, alloc);
+                let answer = fit_in_root(&mut self.root, end, search, alloc);
                 count_place(&answer, count);
                 answer
             }
@@ -275,52 +276,7 @@ impl Tree {
                 if !fits(&self.root, search) {
                     return Err(Refusal::NoPlace);
                 }
-                first_at(&mut self.root, search, alloc, count)
-            }
-        }
-    }
-
-    /// Allocates the highest place of a search.
-    ///
-    /// It returns `NoPlace` if there is none, `PastMax` if the range there ends at `u64::MAX`, `TooHigh` if gaps
-    /// cannot be split, and `OutOfMemory` if an allocation fails. An error changes nothing. A range that fills
-    /// its gap allocates no memory, and any other range allocates nothing or one leaf and one node.
-    ///
-    /// The search must be valid, `count` must be at 0, and `can_split` must be `false` from height 48 on.
-    #[tactic(auto, using(crate::proofs::Roots::allocating_highest))]
-    pub fn allocate_highest(
-        &mut self,
-        search: &Search,
-        alloc: Global,
-        count: &mut Steps,
-    ) -> Result<Taken, Refusal>
-        requires search { IsSearch search.now }
-        requires low { search.now.can_split ≡ true → height_of self.old < SPLIT_HEIGHT }
-        requires count { count.old ≡ 0 }
-        ensures answer { AllocatesHighest search.now (blocks self.old) (blocks self.new) result }
-        ensures unchanged { OnErr result (self.new ≡ self.old) }
-        ensures count { count.new
-            ≡ nodes_to_highest (window_of search.now) search.now.size search.now.alignment self.old }
-        ensures bounds { IsSearchCount (window_of search.now) search.now.size search.now.alignment
-            (gaps_without_place (window_of search.now) search.now.size search.now.alignment (blocks self.old))
-            self.old count.new }
-        ensures path { result ≢ Err Refusal.NoPlace → height_of self.old ≤ 2 * count.new }
-    {
-        match &mut self.root {
-            Link::Hole => unreachable!(),
-            Link::Leaf { .. } => {
-                let answer = last_in_root(&mut self.root, search, alloc);
-                count_place(&answer, count);
-                answer
-            }
-            Link::Fork { node, .. } => {
-                // Proof: a node that is read has two children.
-                let node: &Node = node;
-                let _at = node.at;
-                if !fits(&self.root, search) {
-                    return Err(Refusal::NoPlace);
-                }
-                last_at(&mut self.root, search, alloc, count)
+                fit_at(&mut self.root, end, search, alloc, count)
             }
         }
     }

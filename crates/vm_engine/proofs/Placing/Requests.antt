@@ -8,30 +8,31 @@ use Rattle.vm_ranges.specs.Range.{Range, MAX, IsIn, span}
 use Rattle.vm_ranges.specs.Request.{Request, IsRequest}
 use Rattle.vm_ranges.specs.declared.error.Error.{Error}
 use Rattle.vm_ranges.specs.declared.error.Error.TheVariants.{Overflow, ResourceNotAvailable, OutOfMemory}
-use Rattle.vm_ranges.specs.declared.constraint.AllocPolicy.TheVariants.{FirstMatch, LastMatch, ExactMatch}
+use Rattle.vm_ranges.specs.declared.constraint.AllocPolicy.TheVariants.{ExactMatch}
 use Rattle.vm_ranges.specs.declared.state.NodeState.TheVariants.{Free, Allocated}
 use Rattle.vm_ranges.specs.declared.state.NodeState.{NodeState}
 use Rattle.vm_leaf.specs.declared.block.Block.{Block}
 use Rattle.vm_leaf.specs.Block.{free_block}
 use Rattle.vm_leaf.specs.Windows.{common}
-use Rattle.vm_tree.specs.Allocation.{Spot, window_of, IsSpotIn, IsTakenAt, SplitsAt, SettlesAt, SettlesIn, range_at, IsSearch, AllocatesExact, AllocatesLowest, AllocatesHighest, HasNoPlace}
+use Rattle.vm_tree.specs.Allocation.{Spot, window_of, IsSpotIn, IsTakenAt, SplitsAt, SettlesAt, SettlesIn, range_at, IsSearch, AllocatesExact, AllocatesFit, IsClosestSpot}
 use Rattle.vm_tree.specs.GapSearch.{IsSearchCount, gaps_without_place}
 use Rattle.vm_tree.specs.Heights.{held_blocks, one_if_held}
-use Rattle.vm_tree.specs.NodeCounts.{has_fit_in, nodes_to_address, nodes_to_lowest, nodes_to_highest}
+use Rattle.vm_tree.specs.NodeCounts.{has_fit_in, nodes_to_address, nodes_to_fit}
 use Rattle.vm_tree.specs.Placing.{IsStartIn}
 use Rattle.vm_tree.specs.Roots.{IsBlockTree, IsPathLength}
 use Rattle.vm_tree.specs.Shape.{Shape, blocks, height_of, node_count}
+use Rattle.vm_tree.specs.declared.end.End.{End}
+use Rattle.vm_tree.specs.declared.end.End.TheVariants.{First, Last}
 use Rattle.vm_tree.specs.declared.search.Search.{Search}
 use Rattle.vm_tree.specs.declared.search.Taken.{Taken}
 use Rattle.vm_tree.specs.declared.search.Refusal.{Refusal}
 use Rattle.vm_tree.specs.declared.search.Refusal.TheVariants.{NoPlace, Held, PastMax, OutOfMemory as NoMemory, TooHigh}
-use Rattle.vm_tree.proofs.SearchedFirst.{lowest_missed, none_lowest}
-use Rattle.vm_tree.proofs.SearchedLast.{highest_missed, none_highest}
+use Rattle.vm_tree.proofs.Searched.{none_missed, none_closest}
 use Rattle.vm_tree.proofs.Heights.{high_tree_held}
 use Rattle.vm_engine.specs.Address.{AddressState, SplitsGap}
 use Rattle.vm_engine.specs.Answer.{SPLIT_LIMIT_MIN_HELD, ByStart, ByExactPolicy, IsChosen, Grants}
 use Rattle.vm_engine.specs.Counts.GapSearch.{SearchesAligned}
-use Rattle.vm_engine.specs.Counts.NodeCounts.{nodes_of_request, is_looked_for, has_address}
+use Rattle.vm_engine.specs.Counts.NodeCounts.{nodes_of_request, nodes_by_policy, is_looked_for, has_address}
 use Rattle.vm_engine.specs.Counts.Steps.{max_entered, IsGrantCount, SplitsIfFew, NoneEndsBelowMax}
 use Rattle.vm_engine.specs.Engine.Allocation.{error_of, with_error, taken_range, IsSearchOf, Takes, IsAllocation}
 use Rattle.vm_engine.specs.Tree.Blocks.{range_if_held, held_of, blocks_state, TilesSpace}
@@ -39,7 +40,7 @@ use Rattle.vm_engine.specs.Windows.{part_in, window_in}
 use Rattle.vm_engine.proofs.Blocks.OneList.{same_block}
 use Rattle.vm_engine.proofs.Counts.GapBounds.{searches, exact_searches}
 use Rattle.vm_engine.proofs.Counts.LeftClear.{needs_split}
-use Rattle.vm_engine.proofs.Placing.Spots.{lowest_grants, highest_grants, spot_lowest, spot_highest, taken_from}
+use Rattle.vm_engine.proofs.Placing.Spots.{policy_of, fit_grants, spot_chosen, taken_from}
 use Rattle.vm_engine.proofs.Placing.ExactSpots.{exact_grants}
 use Rattle.vm_engine.proofs.Results.Once.{chosen_once}
 use Rattle.vm_engine.proofs.Results.Requests.{request_in, with_policy}
@@ -144,7 +145,15 @@ high_tree (Rattle.vm_tree.specs.Shape.Fork l r) = omega arith
 steps_of : (request : Request) (state : AddressState) (s : Shape) (answer : Result Range Error) (count : ℕ) → count ≤ max_entered request.policy (height_of s) (length state.held) → (IsOk answer → height_of s ≤ 2 * count) → IsGrantCount (height_of s) state request answer count
 steps_of request state s answer count m p = record { most = m; success = λ o. omega (arith, p o, high_tree s); path = p }
 
--- ---- The lowest place, and the highest place
+-- ---- The place that is closest to an end
+nodes_by_end : (end : End) (sp w : Range) (n a : ℕ) (s : Shape) → nodes_by_policy (policy_of end) sp w n a s ≡ nodes_to_fit end w n a s
+nodes_by_end First sp w n a s = refl
+nodes_by_end Last sp w n a s = refl
+
+upto_end : (end : End) (h n count : ℕ) → count ≤ 2 * n + 1 → count ≤ max_entered (policy_of end) h n
+upto_end First h n count p = p
+upto_end Last h n count p = p
+
 module _ (sp : Range) (old new : Shape) (tiles : TilesSpace sp (blocks old)) (range : sp.start ≤ sp.end) (tree : IsBlockTree old) (request : Request) (search : Search) (valid : IsRequest request) (is : IsSearchOf request sp search) (few : IsTestOf search.can_split (length (held_of (blocks old)) < SPLIT_LIMIT_MIN_HELD))
     (searched : IsSearch search) (r : Range) (found : Result Taken Refusal) (u : OnErr found (new ≡ old)) (count : ℕ) where
   abbrev bounds : Type 0
@@ -178,47 +187,26 @@ module _ (sp : Range) (old new : Shape) (tiles : TilesSpace sp (blocks old)) (ra
     search = a;
   }
 
-  module _ (policy : request.policy ≡ FirstMatch) (h : AllocatesLowest search (blocks old) (blocks new) found) (exact : count ≡ nodes_to_lowest (window_of search) search.size search.alignment old) (b : bounds) (path : found ≢ Err NoPlace → height_of old ≤ 2 * count) where
-    lowest_exact : count ≡ nodes_of_request request sp old
+  module _ (end : End) (policy : request.policy ≡ policy_of end) (h : AllocatesFit end search (blocks old) (blocks new) found) (exact : count ≡ nodes_to_fit end (window_of search) search.size search.alignment old) (b : bounds) (path : found ≢ Err NoPlace → height_of old ≤ 2 * count) where
+    fit_exact : count ≡ nodes_of_request request sp old
     unfolding nodes_of_request
-    lowest_exact = rw (policy, ← is.window, ← is.size, ← is.align) exact
+    fit_exact = rw (policy, ← is.window, ← is.size, ← is.align) (exact ∙ sym (nodes_by_end end sp (window_of search) search.size search.alignment old))
 
-    lowest_most : count ≤ max_entered request.policy (height_of old) (length (held_of (blocks old)))
-    lowest_most = rw policy (upto_held b)
+    fit_most : count ≤ max_entered request.policy (height_of old) (length (held_of (blocks old)))
+    fit_most = rw policy (upto_end end (height_of old) (length (held_of (blocks old))) count (upto_held b))
 
-    pub lowest_allocation : IsAllocation request sp search.can_split old new (with_error r found) count
-    lowest_allocation =
+    pub fit_allocation : IsAllocation request sp search.can_split old new (with_error r found) count
+    fit_allocation =
         all_of
-        (lowest_grants sp (blocks old) tiles request search valid is (many_if search.can_split _ few) r (blocks new) found policy (blocks_unchanged old new found u) h)
+        (fit_grants sp (blocks old) tiles request search valid is (many_if search.can_split _ few) end r (blocks new) found policy (blocks_unchanged old new found u) h)
         (⊎_elim (λ n. takes_none n.1) (λ s. settled_takes sp (blocks old) (blocks new) tiles request search valid is few r s.0 found (spot_of s.0 s.1) s.2) h)
         (⊎_elim (λ n. few_none n.1) (λ s. settled_few sp (blocks old) (blocks new) tiles request search valid is few r s.0 found (spot_of s.0 s.1) s.2) h)
-        lowest_exact
-        (steps_of request (blocks_state sp (blocks old)) old (taken_range request.size (with_error r found)) count lowest_most (success_path request.size (height_of old) count r found path))
-        (searches request sp old (taken_range request.size (with_error r found)) count tiles range (same_bounds b) (λ e. same_none (lowest_missed search searched (blocks old) (none_lowest search (blocks old) (blocks new) (subst (AllocatesLowest search (blocks old) (blocks new)) (no_place_if request.size r found e) h)))))
+        fit_exact
+        (steps_of request (blocks_state sp (blocks old)) old (taken_range request.size (with_error r found)) count fit_most (success_path request.size (height_of old) count r found path))
+        (searches request sp old (taken_range request.size (with_error r found)) count tiles range (same_bounds b) (λ e. same_none (none_missed search searched (blocks old) (none_closest end search (blocks old) (blocks new) (subst (AllocatesFit end search (blocks old) (blocks new)) (no_place_if request.size r found e) h)))))
       where
-        spot_of : (spot : Spot) → Rattle.vm_tree.specs.Allocation.IsLowestSpot search (blocks old) spot → IsSpotOf request search sp (blocks old) spot
-        spot_of spot s = let k = spot_lowest sp (blocks old) tiles request search valid is (many_if search.can_split _ few) policy spot s in record { cut = s.cut; in_gap = k.0; only = λ t c. chosen_once request t spot.start (blocks_state sp (blocks old)) c k.1 }
-
-  module _ (policy : request.policy ≡ LastMatch) (h : AllocatesHighest search (blocks old) (blocks new) found) (exact : count ≡ nodes_to_highest (window_of search) search.size search.alignment old) (b : bounds) (path : found ≢ Err NoPlace → height_of old ≤ 2 * count) where
-    highest_exact : count ≡ nodes_of_request request sp old
-    unfolding nodes_of_request
-    highest_exact = rw (policy, ← is.window, ← is.size, ← is.align) exact
-
-    highest_most : count ≤ max_entered request.policy (height_of old) (length (held_of (blocks old)))
-    highest_most = rw policy (upto_held b)
-
-    pub highest_allocation : IsAllocation request sp search.can_split old new (with_error r found) count
-    highest_allocation =
-        all_of
-        (highest_grants sp (blocks old) tiles request search valid is (many_if search.can_split _ few) r (blocks new) found policy (blocks_unchanged old new found u) h)
-        (⊎_elim (λ n. takes_none n.1) (λ s. settled_takes sp (blocks old) (blocks new) tiles request search valid is few r s.0 found (spot_of s.0 s.1) s.2) h)
-        (⊎_elim (λ n. few_none n.1) (λ s. settled_few sp (blocks old) (blocks new) tiles request search valid is few r s.0 found (spot_of s.0 s.1) s.2) h)
-        highest_exact
-        (steps_of request (blocks_state sp (blocks old)) old (taken_range request.size (with_error r found)) count highest_most (success_path request.size (height_of old) count r found path))
-        (searches request sp old (taken_range request.size (with_error r found)) count tiles range (same_bounds b) (λ e. same_none (highest_missed search searched (blocks old) (none_highest search (blocks old) (blocks new) (subst (AllocatesHighest search (blocks old) (blocks new)) (no_place_if request.size r found e) h)))))
-      where
-        spot_of : (spot : Spot) → Rattle.vm_tree.specs.Allocation.IsHighestSpot search (blocks old) spot → IsSpotOf request search sp (blocks old) spot
-        spot_of spot s = let k = spot_highest sp (blocks old) tiles request search valid is (many_if search.can_split _ few) policy spot s in record { cut = s.cut; in_gap = k.0; only = λ t c. chosen_once request t spot.start (blocks_state sp (blocks old)) c k.1 }
+        spot_of : (spot : Spot) → IsClosestSpot end search (blocks old) spot → IsSpotOf request search sp (blocks old) spot
+        spot_of spot s = let k = spot_chosen sp (blocks old) tiles request search valid is (many_if search.can_split _ few) end policy spot s in record { cut = s.cut; in_gap = k.0; only = λ t c. chosen_once request t spot.start (blocks_state sp (blocks old)) c k.1 }
 
 -- ---- The named place
 -- Is looked for if it is in the space and in the window, and its range does not pass MAX.
@@ -364,6 +352,6 @@ module _ (sp : Range) (old new : Shape) (tiles : TilesSpace sp (blocks old)) (re
 pub start_in : (sp : Range) (bs : List Block) (search : Search) (t : ℕ) → TilesSpace sp bs → sp.start ≤ sp.end → sp.start ≤ t → t ≤ sp.end → search.low ≤ t → t ≤ search.high → t + search.size ≤ MAX + 1 → IsStartIn search t bs
 start_in sp bs search t tiles r from upto low high fits = let e = ends sp bs tiles r in record { from = omega (arith, e.start); upto = omega (arith, e.end); low = low; high = high; fits = fits }
 
-pub ruleset allocating = (lowest_allocation, highest_allocation, low_if_few)
+pub ruleset allocating = (low_if_few)
 
 pub ruleset allocating_exact = (exact_at_max, exact_outside, exact_over, exact_allocation, start_in, low_if_few)

@@ -5,6 +5,7 @@ use Rattle.vm_ranges.specs.Request.{Request, IsRequest}
 use Rattle.vm_ranges.proofs.RangeCalls.{same_range}
 use Rattle.vm_ranges.specs.declared.error.Error.{Error}
 use Rattle.vm_ranges.specs.declared.error.Error.TheVariants.{Overflow, OutOfMemory}
+use Rattle.vm_ranges.specs.declared.constraint.AllocPolicy.{AllocPolicy}
 use Rattle.vm_ranges.specs.declared.constraint.AllocPolicy.TheVariants.{FirstMatch, LastMatch}
 use Rattle.vm_leaf.specs.declared.block.Block.{Block}
 use Rattle.vm_leaf.specs.Block.{free_block}
@@ -16,7 +17,9 @@ use Rattle.vm_engine.specs.Answer.{SPLIT_LIMIT_MIN_HELD, IsChosen, AllocatesAt, 
 use Rattle.vm_engine.specs.Windows.{within, window_in}
 use Rattle.vm_engine.specs.Tree.Blocks.{held_of, blocks_state, TilesSpace}
 use Rattle.vm_engine.specs.Tree.BlockEdits.{NeedsSplit}
-use Rattle.vm_tree.specs.Allocation.{Spot, IsSpotIn, IsLowestSpot, IsHighestSpot, range_at, window_of, HasNoPlace, SettlesAt, IsTakenAt, IsSplitAt, AllocatesLowest, AllocatesHighest}
+use Rattle.vm_tree.specs.Allocation.{Spot, IsSpotIn, IsClosestSpot, range_at, window_of, HasNoPlace, SettlesAt, IsTakenAt, IsSplitAt, AllocatesFit}
+use Rattle.vm_tree.specs.declared.end.End.{End}
+use Rattle.vm_tree.specs.declared.end.End.TheVariants.{First, Last}
 use Rattle.vm_tree.specs.declared.search.Search.{Search}
 use Rattle.vm_tree.specs.declared.search.Taken.{Taken}
 use Rattle.vm_tree.specs.declared.search.Refusal.{Refusal}
@@ -73,6 +76,11 @@ seen_by None sp held search h = ap (λ (v : Range). record { space = common v sp
 seen_by (Some w) sp held search h = ap (λ (v : Range). record { space = common v sp; held = held }) h
 
 -- ---- The result of a search
+-- The policy of a search from the end.
+abbrev pub policy_of : End → AllocPolicy
+policy_of First = FirstMatch
+policy_of Last = LastMatch
+
 module _ (sp : Range) (old : List Block) (tiles : TilesSpace sp old) (request : Request) (search : Search) (valid : IsRequest request) (is : IsSearchOf request sp search)
     (many : search.can_split ≡ false → SPLIT_LIMIT_MIN_HELD ≤ length (held_of old)) where
   some : 0 < search.size
@@ -90,32 +98,24 @@ module _ (sp : Range) (old : List Block) (tiles : TilesSpace sp old) (request : 
   fit_in_gap : (spot : Spot) → IsFit search.size search.alignment (cut_to (window_of search) (free_block spot.key)) spot.start → (spot.key.start ≤ spot.start) × (spot.start + search.size ≤ spot.key.end + 1)
   fit_in_gap spot f = (omega (arith, f.2), omega (arith, f.3))
 
-  pub spot_lowest : request.policy ≡ FirstMatch → (spot : Spot) → IsLowestSpot search old spot → ((spot.key.start ≤ spot.start) × (spot.start + search.size ≤ spot.key.end + 1)) × IsChosen request (blocks_state sp old) spot.start
-  unfolding IsLowestFit
-  spot_lowest policy spot s =
+  pub not_exact : (end : End) → request.policy ≡ policy_of end → IsNotExact request.policy
+  not_exact First policy = inl policy
+  not_exact Last policy = inr policy
+
+  pub spot_chosen : (end : End) → request.policy ≡ policy_of end → (spot : Spot) → IsClosestSpot end search old spot → ((spot.key.start ≤ spot.start) × (spot.start + search.size ≤ spot.key.end + 1)) × IsChosen request (blocks_state sp old) spot.start
+  unfolding IsLowestFit IsHighestFit
+  spot_chosen First policy spot s =
       let l = lowest_place_in (window_of search) search.size search.alignment (blocks_state sp old) old (as_blocks sp old tiles) some spot.lower spot.upper (free_block spot.key) spot.start s.cut s.none s.fit in
       (fit_in_gap spot s.fit.0, lowest_chosen request spot.start (blocks_state sp old) policy (rw (← seen, ← is.size, ← is.align) l))
-
-  pub spot_highest : request.policy ≡ LastMatch → (spot : Spot) → IsHighestSpot search old spot → ((spot.key.start ≤ spot.start) × (spot.start + search.size ≤ spot.key.end + 1)) × IsChosen request (blocks_state sp old) spot.start
-  unfolding IsHighestFit
-  spot_highest policy spot s =
+  spot_chosen Last policy spot s =
       let l = highest_place_in (window_of search) search.size search.alignment (blocks_state sp old) old (as_blocks sp old tiles) some spot.lower spot.upper (free_block spot.key) spot.start s.cut s.none s.fit in
       (fit_in_gap spot s.fit.0, highest_chosen request spot.start (blocks_state sp old) policy (rw (← seen, ← is.size, ← is.align) l))
 
-  pub lowest_grants : (r : Range) (new : List Block) (answer : Result Taken Refusal) → request.policy ≡ FirstMatch → OnErr answer (new ≡ old) → AllocatesLowest search old new answer → Grants (blocks_state sp old) request (taken_range search.size (with_error r answer)) (blocks_state sp new)
-  lowest_grants r new answer policy u h =
+  pub fit_grants : (end : End) (r : Range) (new : List Block) (answer : Result Taken Refusal) → request.policy ≡ policy_of end → OnErr answer (new ≡ old) → AllocatesFit end search old new answer → Grants (blocks_state sp old) request (taken_range search.size (with_error r answer)) (blocks_state sp new)
+  fit_grants end r new answer policy u h =
       ⊎_elim
-      (λ n. none_granted r new answer (inl policy) u n.0 n.1)
+      (λ n. none_granted r new answer (not_exact end policy) u n.0 n.1)
       (λ s.
-      let k = spot_lowest policy s.0 s.1 in
-      settled sp old tiles search some s.0 s.1.cut k.0 request (sym is.size) (inl policy) k.1 many r new answer u s.2)
-      h
-
-  pub highest_grants : (r : Range) (new : List Block) (answer : Result Taken Refusal) → request.policy ≡ LastMatch → OnErr answer (new ≡ old) → AllocatesHighest search old new answer → Grants (blocks_state sp old) request (taken_range search.size (with_error r answer)) (blocks_state sp new)
-  highest_grants r new answer policy u h =
-      ⊎_elim
-      (λ n. none_granted r new answer (inr policy) u n.0 n.1)
-      (λ s.
-      let k = spot_highest policy s.0 s.1 in
-      settled sp old tiles search some s.0 s.1.cut k.0 request (sym is.size) (inr policy) k.1 many r new answer u s.2)
+      let k = spot_chosen end policy s.0 s.1 in
+      settled sp old tiles search some s.0 s.1.cut k.0 request (sym is.size) (not_exact end policy) k.1 many r new answer u s.2)
       h

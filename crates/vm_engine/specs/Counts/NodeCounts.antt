@@ -5,8 +5,9 @@ use Rattle.vm_ranges.specs.Request.{Request}
 use Rattle.vm_ranges.specs.declared.constraint.AllocPolicy.{AllocPolicy}
 use Rattle.vm_ranges.specs.declared.constraint.AllocPolicy.TheVariants.{FirstMatch, LastMatch, ExactMatch}
 use Rattle.vm_leaf.specs.Windows.{common}
-use Rattle.vm_tree.specs.NodeCounts.{nodes_to_address, nodes_to_lowest, nodes_to_highest}
+use Rattle.vm_tree.specs.NodeCounts.{nodes_to_address, nodes_to_fit}
 use Rattle.vm_tree.specs.Shape.{Shape}
+use Rattle.vm_tree.specs.declared.end.End.TheVariants.{First, Last}
 use Rattle.vm_engine.specs.Windows.{window_in}
 
 -- Tests if the address x is in the range.
@@ -20,8 +21,8 @@ is_looked_for r n t = has_address r t && (nat_lt t MAX && nat_le (t + n) (MAX + 
 -- The nodes entered for n addresses at alignment a in the window w of the space. ExactMatch follows the path to the leaf of its
 -- start.
 abbrev pub nodes_by_policy : AllocPolicy → Range → Range → ℕ → ℕ → Shape → ℕ
-nodes_by_policy FirstMatch space w n a s = nodes_to_lowest w n a s
-nodes_by_policy LastMatch space w n a s = nodes_to_highest w n a s
+nodes_by_policy FirstMatch space w n a s = nodes_to_fit First w n a s
+nodes_by_policy LastMatch space w n a s = nodes_to_fit Last w n a s
 nodes_by_policy (ExactMatch t) space w n a s = if is_looked_for (common w space) n t then nodes_to_address t s else 0
 
 -- The nodes that a valid request enters in a tree of the space.

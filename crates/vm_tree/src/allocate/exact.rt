@@ -6,15 +6,15 @@ ghost use Rattle.vm_tree.specs.Links.{side, IsSummed};
 ghost use Rattle.vm_tree.specs.Growth.{IsSubtree, IsChild, GrowsIfOk, GrowsBelowIfOk};
 ghost use Rattle.vm_tree.specs.Allocation.{IsSearch, AllocatesExact};
 ghost use Rattle.vm_tree.specs.NodeCounts.{nodes_to_address};
-ghost use Rattle.vm_tree.specs.Placing.{IsStartIn, RefusesIn};
+ghost use Rattle.vm_tree.specs.Placing.{IsStartIn, RefusesIn, FindsSiteOf};
 
-use super::place::{leaf_of, place_at, place_in_root};
+use super::place::{Site, leaf_of, place_at};
 use crate::change::update;
 use crate::link::{Link, Node};
 use crate::search::{Refusal, Search, Taken};
 use crate::steps::Steps;
 use std::alloc::Global;
-use vm_leaf::{Block, Place};
+use vm_leaf::{Block, Leaf};
 use vm_ranges::NodeState;
 
 /// Returns the reason why the range of a search that starts at `start` cannot be allocated in the block that
@@ -49,6 +49,29 @@ fn refusal_in(block: &Block, start: u64, search: &Search) -> Option<Refusal>
     }
 }
 
+/// Returns the site of the range of a search that starts at `start` in a leaf, or the reason why the range
+/// cannot be allocated.
+#[inline(always)]
+#[tactic(auto, using(crate::proofs::Allocating::finding_exact))]
+fn site_from(leaf: &Leaf, start: u64, search: &Search) -> Result<Site, Refusal>
+    requires search { IsSearch search.now }
+    requires start { IsStartIn search.now start leaf.now }
+    ensures { FindsSiteOf search.now start leaf.now result }
+{
+    // Proof: `len` gives the facts of a leaf.
+    let _len = leaf.len();
+    let index = leaf.index_of(start);
+    let block = leaf.block_at(index);
+    match refusal_in(&block, start, search) {
+        Some(refusal) => Err(refusal),
+        None => Ok(Site {
+            index,
+            gap: block.key,
+            start,
+        }),
+    }
+}
+
 /// Allocates the range of a search that starts at `start` in a leaf, and updates what is stored beside
 /// the link.
 #[tactic(auto, using(crate::proofs::Allocating::settling_exact, crate::proofs::Trees::sizes))]
@@ -64,19 +87,13 @@ fn exact_in_leaf(
     requires leaf { height_of (side tree.old) < 2 }
     requires full { HasFullLeaves (side tree.old) }
     requires summed { IsSummed tree.old }
-    ensures answer { AllocatesExact search.now start (blocks (side tree.old)) (blocks (side tree.new)) result }
+    ensures answer { AllocatesExact search.now start
+        (blocks (side tree.old)) (blocks (side tree.new)) result }
     ensures change { GrowsIfOk result (side tree.old) (side tree.new) }
     ensures summed { IsSummed tree.new }
 {
-    let leaf = leaf_of(tree);
-    // Proof: `len` gives the facts of a leaf.
-    let _len = leaf.len();
-    let index = leaf.index_of(start);
-    let block = leaf.block_at(index);
-    match refusal_in(&block, start, search) {
-        Some(refusal) => Err(refusal),
-        None => place_at(tree, Place { index, start }, block.key, search, alloc),
-    }
+    let site = site_from(leaf_of(tree), start, search)?;
+    place_at(tree, false, &site, search, alloc)
 }
 
 /// Allocates the range of a search that starts at `start` in a leaf that is the whole tree, and of which
@@ -92,20 +109,14 @@ pub(crate) fn exact_in_root(
     requires start { IsStartIn search.now start (blocks (side root.old)) }
     requires leaf { height_of (side root.old) < 2 }
     requires tree { IsTree (side root.old) }
-    ensures answer { AllocatesExact search.now start (blocks (side root.old)) (blocks (side root.new)) result }
+    ensures answer { AllocatesExact search.now start
+        (blocks (side root.old)) (blocks (side root.new)) result }
     ensures unchanged { OnErr result (root.new ≡ root.old) }
     ensures tree { IfOk result (λ _. IsTree (side root.new) × (height_of (side root.new) ≤ 2)) }
     ensures summed { 2 ≤ height_of (side root.new) → IsSummed root.new }
 {
-    let leaf = leaf_of(root);
-    // Proof: `len` gives the facts of a leaf.
-    let _len = leaf.len();
-    let index = leaf.index_of(start);
-    let block = leaf.block_at(index);
-    match refusal_in(&block, start, search) {
-        Some(refusal) => Err(refusal),
-        None => place_in_root(root, Place { index, start }, block.key, search, alloc),
-    }
+    let site = site_from(leaf_of(root), start, search)?;
+    place_at(root, true, &site, search, alloc)
 }
 
 /// Allocates the range of a search that starts at `start` below a node.
@@ -146,7 +157,8 @@ pub(crate) fn exact_at(
     requires start { IsStartIn search.now start (blocks (side tree.old)) }
     requires tree { IsChild tree.old }
     requires count_fits { count.old + nodes_to_address start (side tree.old) ≤ MAX }
-    ensures answer { AllocatesExact search.now start (blocks (side tree.old)) (blocks (side tree.new)) result }
+    ensures answer { AllocatesExact search.now start
+        (blocks (side tree.old)) (blocks (side tree.new)) result }
     ensures change { GrowsIfOk result (side tree.old) (side tree.new) }
     ensures summed { IsSummed tree.new }
     ensures count { count.new ≡ count.old + nodes_to_address start (side tree.old) }

@@ -1,21 +1,29 @@
 //! The allocation of a range at a place in a leaf, which may split the leaf in two.
 ghost use Rattle.std.specs.Prelude.{◌≡◌, ◌≢◌, ◌+◌, ◌<◌, ◌≤◌, length, OnErr, IfErr, IfOk, MatchBool};
-ghost use Rattle.vm_leaf.specs.Blocks.{nth, with_parts, parts};
+ghost use Rattle.vm_leaf.specs.Blocks.{with_parts, parts};
 ghost use Rattle.vm_leaf.specs.Left.{added_by};
-ghost use Rattle.vm_tree.specs.Shape.{Tip, blocks, height_of, HasFullLeaves, IsTree};
+ghost use Rattle.vm_tree.specs.Shape.{Tip, blocks, height_of};
 ghost use Rattle.vm_tree.specs.Links.{side, IsSummed};
-ghost use Rattle.vm_tree.specs.Growth.{Grows, GrowsIfOk};
-ghost use Rattle.vm_tree.specs.Changes.{Keeps};
+ghost use Rattle.vm_tree.specs.Growth.{Grows, CanTakeFrom, IsTakenLeaf, LeavesLeaf};
 ghost use Rattle.vm_tree.specs.Allocation.{IsSearch, SettlesAt};
-ghost use Rattle.vm_tree.specs.Placing.{spot_at, IsPlaceIn, IsClaimIn, IsClaimAt, RefusesClaim};
+ghost use Rattle.vm_tree.specs.Placing.{spot_at, IsSiteIn, IsClaimIn, IsClaimAt, RefusesClaim};
 
 use crate::change::Change;
 use crate::link::{Link, Node, fork_link, into_leaf, leaf_link};
 use crate::search::{Refusal, Search, Taken};
 use std::alloc::Global;
 use std::mem;
-use vm_leaf::{Block, CAPACITY, Leaf, Left, Place, Summary};
+use vm_leaf::{Block, CAPACITY, Leaf, Left, Summary};
 use vm_ranges::{NodeState, RangeInclusive};
+
+/// A start in a gap of a leaf.
+#[derive(Clone, Copy)]
+pub(super) struct Site {
+    /// The index of the gap.
+    pub(super) index: usize,
+    pub(super) gap: RangeInclusive,
+    pub(super) start: u64,
+}
 
 /// A range that is to be allocated in a gap of a leaf.
 #[derive(Clone, Copy)]
@@ -28,18 +36,20 @@ pub(crate) struct Claim {
     left: Left,
 }
 
-/// Returns the claim of the range of a search at a place in a gap.
+/// Returns the claim of the range of a search at a site.
 #[inline(always)]
-fn claim_at(place: Place, gap: RangeInclusive, search: &Search) -> Claim
+fn claim_at(site: &Site, search: &Search) -> Claim
     requires search { IsSearch search.now }
-    requires from { gap.start ≤ place.start }
-    requires upto { place.start + search.now.size ≤ gap.end + 1 }
-    ensures { IsClaimAt search.now gap place result }
+    requires from { site.now.gap.start ≤ site.now.start }
+    requires upto { site.now.start + search.now.size ≤ site.now.gap.end + 1 }
+    ensures { IsClaimAt search.now site.now result }
 {
-    let range = RangeInclusive::between(place.start, place.start + (search.size - 1));
+    // Proof: `end` gives the facts of a range.
+    let (gap, _end) = (site.gap, site.gap.end());
+    let range = RangeInclusive::between(site.start, site.start + (search.size - 1));
     let left = Left::of(&gap, &range);
     Claim {
-        index: place.index,
+        index: site.index,
         gap,
         range,
         left,
@@ -88,22 +98,20 @@ fn has_room(leaf: &Leaf, left: Left) -> bool
     leaf.len() + left.added() as usize <= CAPACITY
 }
 
-/// Allocates the range of a claim in a leaf that has room for it, and updates what is stored beside the
-/// link. Returns the change.
+/// Allocates the range of a claim in a leaf that has room for it. Unless the leaf is the whole tree (`lone`),
+/// it updates what is stored beside the link. Returns the change.
 ///
 /// A gap that is neither the longest nor has the most alignments does not count for the summary.
 #[inline(always)]
-#[tactic(auto, using(crate::proofs::Trees::sizes))]
-fn take(tree: &mut Link, claim: &Claim) -> Change
-    requires leaf { (height_of (side tree.old) < 2) × HasFullLeaves (side tree.old) }
+#[tactic(auto, using(crate::proofs::Trees::sizes, crate::proofs::AllocatedLeaves::taking))]
+fn take(tree: &mut Link, lone: bool, claim: &Claim) -> Change
+    requires leaf { height_of (side tree.old) < 2 }
+    requires can { CanTakeFrom lone tree.old }
     requires claim { IsClaimIn (blocks (side tree.old)) claim.now }
     requires room { length (blocks (side tree.old)) + added_by claim.now.left ≤ 32 }
-    requires summed { IsSummed tree.old }
     ensures blocks { blocks (side tree.new)
         ≡ with_parts (blocks (side tree.old)) claim.now.index 1 (parts claim.now.gap claim.now.range) }
-    ensures grows { Grows (side tree.old) (side tree.new) }
-    ensures kept { Keeps result (side tree.old) (side tree.new) × (result ≢ Change.Structure) }
-    ensures summed { IsSummed tree.new }
+    ensures taken { IsTakenLeaf lone result tree.old tree.new }
 {
     match tree {
         Link::Leaf {
@@ -113,6 +121,11 @@ fn take(tree: &mut Link, claim: &Claim) -> Change
         } => {
             let leaf: &mut Leaf = leaf;
             leaf.split(claim.index, claim.range, claim.left);
+            // Proof: `len` gives the facts of a leaf.
+            let _len = leaf.len();
+            if lone {
+                return Change::Structure;
+            }
             let gap = Summary::of_gap(&claim.gap);
             if gap.longest < *longest && gap.alignments < *alignments {
                 return Change::Nothing;
@@ -191,35 +204,33 @@ fn split_leaf(tree: &mut Link, claim: Claim, alloc: Global) -> Result<(), Refusa
     Ok(())
 }
 
-/// Allocates the range of a search at a place in a gap of a leaf, and updates what is stored beside the link. The
-/// leaf may become a node with two leaves.
+/// Allocates the range of a search at a site in a leaf, which may become a node with two leaves. Unless the
+/// leaf is the whole tree (`lone`), it updates what is stored beside the link.
 #[inline(always)]
-#[tactic(auto)]
+#[tactic(auto, using(crate::proofs::AllocatedLeaves::placing))]
 pub(super) fn place_at(
     tree: &mut Link,
-    place: Place,
-    gap: RangeInclusive,
+    lone: bool,
+    site: &Site,
     search: &Search,
     alloc: Global,
 ) -> Result<Taken, Refusal>
     requires search { IsSearch search.now }
     requires leaf { height_of (side tree.old) < 2 }
-    requires full { HasFullLeaves (side tree.old) }
-    requires place { IsPlaceIn search.now.size (blocks (side tree.old)) place }
-    requires gap { gap ≡ (nth (blocks (side tree.old)) place.index).key }
-    requires summed { IsSummed tree.old }
-    ensures answer { SettlesAt search.now (spot_at (blocks (side tree.old)) place) (blocks (side tree.new)) result }
-    ensures change { GrowsIfOk result (side tree.old) (side tree.new) }
-    ensures summed { IsSummed tree.new }
+    requires can { CanTakeFrom lone tree.old }
+    requires site { IsSiteIn search.now.size (blocks (side tree.old)) site.now }
+    ensures answer { SettlesAt search.now
+        (spot_at (blocks (side tree.old)) site.now) (blocks (side tree.new)) result }
+    ensures left { LeavesLeaf lone result tree.old tree.new }
 {
     let leaf = leaf_of(tree);
-    let claim = claim_at(place, gap, search);
+    let claim = claim_at(site, search);
     if let Some(refusal) = refusal_of(&claim, search) {
         return Err(refusal);
     }
-    let (start, added) = (place.start, claim.left.added());
+    let (start, added) = (site.start, claim.left.added());
     if has_room(leaf, claim.left) {
-        let change = take(tree, &claim);
+        let change = take(tree, lone, &claim);
         return Ok(Taken {
             start,
             added,
@@ -232,73 +243,4 @@ pub(super) fn place_at(
         added,
         change: Change::Structure,
     })
-}
-
-/// Allocates the range of a claim in a leaf that has room for it, and does not update what is stored
-/// beside the link.
-#[inline(always)]
-#[tactic(auto, using(crate::proofs::Trees::sizes))]
-fn take_alone(root: &mut Link, claim: &Claim)
-    requires leaf { height_of (side root.old) < 2 }
-    requires some { 0 < length (blocks (side root.old)) }
-    requires claim { IsClaimIn (blocks (side root.old)) claim.now }
-    requires room { length (blocks (side root.old)) + added_by claim.now.left ≤ 32 }
-    ensures blocks { blocks (side root.new)
-        ≡ with_parts (blocks (side root.old)) claim.now.index 1 (parts claim.now.gap claim.now.range) }
-    ensures tree { IsTree (side root.new) }
-    ensures leaf { height_of (side root.new) < 2 }
-{
-    match root {
-        Link::Leaf { leaf, .. } => {
-            let leaf: &mut Leaf = leaf;
-            leaf.split(claim.index, claim.range, claim.left);
-            // Proof: `len` gives the facts of a leaf.
-            let _len = leaf.len();
-        }
-        Link::Fork { node, .. } => {
-            // Proof: a node that is read has two children.
-            let node: &Node = node;
-            let _at = node.at;
-            unreachable!()
-        }
-        Link::Hole => unreachable!(),
-    }
-}
-
-/// Allocates the range of a search at a place in a leaf that is the whole tree, and of which nothing
-/// correct is stored beside the link. The leaf may become a node with two leaves.
-#[inline(always)]
-pub(super) fn place_in_root(
-    root: &mut Link,
-    place: Place,
-    gap: RangeInclusive,
-    search: &Search,
-    alloc: Global,
-) -> Result<Taken, Refusal>
-    requires search { IsSearch search.now }
-    requires leaf { height_of (side root.old) < 2 }
-    requires tree { IsTree (side root.old) }
-    requires place { IsPlaceIn search.now.size (blocks (side root.old)) place }
-    requires gap { gap ≡ (nth (blocks (side root.old)) place.index).key }
-    ensures answer { SettlesAt search.now (spot_at (blocks (side root.old)) place) (blocks (side root.new)) result }
-    ensures unchanged { OnErr result (root.new ≡ root.old) }
-    ensures tree { IfOk result (λ _. IsTree (side root.new) × (height_of (side root.new) ≤ 2)) }
-    ensures summed { 2 ≤ height_of (side root.new) → IsSummed root.new }
-{
-    let leaf = leaf_of(root);
-    let claim = claim_at(place, gap, search);
-    if let Some(refusal) = refusal_of(&claim, search) {
-        return Err(refusal);
-    }
-    let taken = Taken {
-        start: place.start,
-        added: claim.left.added(),
-        change: Change::Structure,
-    };
-    if has_room(leaf, claim.left) {
-        take_alone(root, &claim);
-        return Ok(taken);
-    }
-    split_leaf(root, claim, alloc)?;
-    Ok(taken)
 }

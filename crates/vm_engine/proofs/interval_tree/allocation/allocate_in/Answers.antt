@@ -1,30 +1,22 @@
-use Rattle.std.proofs.Common.{◌<◌, length, sym}
+use Rattle.std.proofs.Common.{◌≡◌, ◌<◌, length, sym}
 use Rattle.vm_ranges.specs.Cases.{IsTestOf}
 use Rattle.vm_tree.specs.Shape.{blocks}
 use Rattle.vm_engine.specs.Answer.{SPLIT_LIMIT_MIN_HELD}
 use Rattle.vm_engine.specs.Tree.Blocks.{held_of}
-use Rattle.vm_engine.proofs.Placing.Requests.{lowest_allocation, highest_allocation}
+use Rattle.vm_engine.proofs.Placing.Requests.{fit_allocation}
+use Rattle.vm_engine.proofs.Placing.Spots.{policy_of}
 use Rattle.vm_engine.proofs.Trees.Ends.{space_range}
+use Rattle.vm_engine.proofs.interval_tree.allocation.allocate_in.Goals.{in-FirstMatch, in-LastMatch}
 use Rattle.vm_engine.proofs.interval_tree.allocation.allocate_in.Goals as goal
 
-pub returns-in-FirstMatch-clause-answer : goal.returns-in-FirstMatch-clause-answer
-returns-in-FirstMatch-clause-answer c =
+pub returns-clause-answer : goal.returns-clause-answer
+returns-clause-answer c =
     let s = c.search_of-search.ensures in
     let tree = c.height-height.ensures.tree in
     let few : IsTestOf c.search_of-search.result.can_split (length (held_of (blocks c.args.tree.now)) < SPLIT_LIMIT_MIN_HELD) = rw s.split c.requires.few in
-    let h = c.allocate_lowest.ensures in
+    let h = c.allocate_fit.ensures in
+    let policy : c.args.constraint.now.policy ≡ policy_of c.match-policy.end = elim c.match-policy.branch [ in-FirstMatch w ↦ rw w.end-is (sym w.in-FirstMatch.ensures) | in-LastMatch w ↦ rw w.end-is (sym w.in-LastMatch.ensures) ] in
     let range = space_range c.args.space.now (blocks c.args.tree.now) c.requires.tiling.tiles tree.run.some in
     rw (c.with_error.ensures, ← s.split)
-    (lowest_allocation c.args.space.now c.args.tree.now c.allocate_lowest.new.self c.requires.tiling.tiles range tree c.args.constraint.now c.search_of-search.result s.request s.search few s.valid c.args.space.now c.allocate_lowest.result h.unchanged c.allocate_lowest.new.count
-    (sym c.in-FirstMatch.ensures) h.answer h.count h.bounds h.path)
-
-pub returns-in-LastMatch-clause-answer : goal.returns-in-LastMatch-clause-answer
-returns-in-LastMatch-clause-answer c =
-    let s = c.search_of-search.ensures in
-    let tree = c.height-height.ensures.tree in
-    let few : IsTestOf c.search_of-search.result.can_split (length (held_of (blocks c.args.tree.now)) < SPLIT_LIMIT_MIN_HELD) = rw s.split c.requires.few in
-    let h = c.allocate_highest.ensures in
-    let range = space_range c.args.space.now (blocks c.args.tree.now) c.requires.tiling.tiles tree.run.some in
-    rw (c.with_error-in-LastMatch.ensures, ← s.split)
-    (highest_allocation c.args.space.now c.args.tree.now c.allocate_highest.new.self c.requires.tiling.tiles range tree c.args.constraint.now c.search_of-search.result s.request s.search few s.valid c.args.space.now c.allocate_highest.result h.unchanged c.allocate_highest.new.count
-    (sym c.in-LastMatch.ensures) h.answer h.count h.bounds h.path)
+    (fit_allocation c.args.space.now c.args.tree.now c.allocate_fit.new.self c.requires.tiling.tiles range tree c.args.constraint.now c.search_of-search.result s.request s.search few s.valid c.args.space.now c.allocate_fit.result h.unchanged c.allocate_fit.new.count
+    c.match-policy.end policy h.answer h.count h.bounds h.path)

@@ -1,0 +1,272 @@
+-- The place of a tree that is closest to an end, from those of its children.
+use Rattle.std.specs.Prelude.{Result, Ok, Err, OnErr}
+use Rattle.std.proofs.Common.{◌≡◌, ◌≢◌, ℕ, ◌+◌, ◌<◌, ◌≤◌, true, false, List, ◌∷◌, ◌++◌, length, take, drop, refl, ap, ◌∙◌, sym, subst, arith, inl, inr, append_assoc, take_all}
+use Rattle.std.specs.List.{list_any}
+use Rattle.std.proofs.lemmas.List.Elements.{All-append}
+use Rattle.std.proofs.lemmas.Bool.{cases_lt, cases_Bool, lt-ltb, le-ltb, le-leb, lt-leb, and_parts}
+use Rattle.vm_ranges.specs.declared.state.NodeState.TheVariants.{Allocated}
+use Rattle.vm_ranges.proofs.Power.{alignment_pos}
+use Rattle.vm_leaf.specs.declared.block.Block.{Block}
+use Rattle.vm_leaf.specs.Block.{free_block}
+use Rattle.vm_leaf.specs.Blocks.{nth, start_of, IsRun}
+use Rattle.vm_leaf.specs.Fit.{IsFit, IsLowestFit, IsHighestFit}
+use Rattle.vm_leaf.specs.Windows.{cut_to, HaveNoFitIn, IsFirstFitIn, IsLastFitIn}
+use Rattle.vm_leaf.specs.declared.leaf.Place.{Place}
+use Rattle.vm_tree.specs.Shape.{Shape, Tip, Fork, blocks, height_of}
+use Rattle.vm_tree.specs.Allocation.{Spot, IsClosestFit, blocks_to, HasNoPlace, HasNoFitIn, window_of, IsSearch, AllocatesFit}
+use Rattle.vm_tree.specs.Placing.{spot_at, site_of, IsClosestSite}
+use Rattle.vm_tree.specs.Searching.{other_end, child_at, reaches_child, may_fit_in_child, nodes_of_child}
+use Rattle.vm_tree.specs.NodeCounts.{may_fit_in, has_fit_in, nodes_of_search}
+use Rattle.vm_tree.specs.declared.end.End.{End}
+use Rattle.vm_tree.specs.declared.end.End.TheVariants.{First, Last}
+use Rattle.vm_tree.specs.declared.search.Search.{Search}
+use Rattle.vm_tree.specs.declared.search.Taken.{Taken}
+use Rattle.vm_tree.specs.declared.search.Refusal.{Refusal}
+use Rattle.vm_tree.specs.declared.search.Refusal.TheVariants.{NoPlace}
+use Rattle.vm_tree.specs.Growth.{IsSubtree}
+use Rattle.vm_tree.proofs.Lists.{cut_at, end_left}
+use Rattle.vm_tree.proofs.Trees.{full_some}
+use Rattle.vm_tree.proofs.Allocating.{gap_of, IsAllocated, settles_left, settles_right, settles_other, start_allocated}
+use Rattle.vm_tree.proofs.AllocatedTrees.{subtree_left, subtree_right}
+use Rattle.vm_tree.proofs.SearchedBlocks.{none_upto, none_from, none_if_passed, none_below, none_above, one_found, none_found, start_of_run, end_of_run}
+
+is_fit : (end : End) (n a t : ℕ) (b : Block) → IsClosestFit end n a b t → IsFit n a b t
+unfolding IsLowestFit IsHighestFit
+is_fit First n a t b h = h.0
+is_fit Last n a t b h = h.0
+
+-- ---- A leaf
+module _ (seek : Search) (bs : List Block) (place : Place) where
+  closest_site : (end : End) → place.index < length bs → IsClosestFit end seek.size seek.alignment (cut_to (window_of seek) (nth bs place.index)) place.start
+      → HasNoPlace seek (blocks_to end (spot_at bs (site_of bs place))) → IsClosestSite end seek bs (site_of bs place)
+  closest_site end within h none =
+      let f = is_fit end seek.size seek.alignment place.start (cut_to (window_of seek) (nth bs place.index)) h in
+      let gap = gap_of (nth bs place.index) f.0 in
+      record {
+        fits = record { within = within; gap = gap; from = omega (arith, f.2); upto = omega (arith, f.3) };
+        closest = record {
+          cut = cut_at bs place.index within ∙ ap (λ (b : Block). take place.index bs ++ b ∷ drop (place.index + 1) bs) gap;
+          none = none;
+          fit = subst (λ (b : Block). IsClosestFit end seek.size seek.alignment (cut_to (window_of seek) b) place.start) gap h;
+        };
+      }
+
+  pub first_site : IsFirstFitIn (window_of seek) seek.size seek.alignment bs place → IsClosestSite First seek bs (site_of bs place)
+  first_site h = closest_site First h.within h.lowest (none_upto (window_of seek) seek.size seek.alignment bs place.index h.first)
+
+  pub last_site : IsLastFitIn (window_of seek) seek.size seek.alignment bs place → IsClosestSite Last seek bs (site_of bs place)
+  last_site h = closest_site Last h.within h.highest (none_from (window_of seek) seek.size seek.alignment bs (place.index + 1) h.last)
+
+pub no_site : (seek : Search) (bs : List Block) → HaveNoFitIn (window_of seek) seek.size seek.alignment bs 0 (length bs) → HasNoPlace seek bs
+no_site seek bs h = subst (HasNoPlace seek) (take_all (length bs) bs (omega arith)) (none_upto (window_of seek) seek.size seek.alignment bs (length bs) h)
+
+-- ---- The children of a node
+pub none_closest : (end : End) (seek : Search) (old new : List Block) → AllocatesFit end seek old new (Err NoPlace) → HasNoPlace seek old
+none_closest end seek old new h = elim h [ inl x ↦ x.0 | inr x ↦ absurd x.2 ]
+
+module _ (seek : Search) where
+  none_both : (l r : List Block) → HasNoPlace seek l → HasNoPlace seek r → HasNoPlace seek (l ++ r)
+  none_both l r h k = All-append (HasNoFitIn (window_of seek) seek.size seek.alignment) l r h k
+
+  none_to_left : (end : End) (spot : Spot) (r : List Block) → HasNoPlace seek (blocks_to end spot) → (end ≡ Last → HasNoPlace seek r) → HasNoPlace seek (blocks_to end (record spot { upper = spot.upper ++ r }))
+  none_to_left First spot r h k = h
+  none_to_left Last spot r h k = none_both spot.upper r h (k refl)
+
+  none_to_right : (end : End) (spot : Spot) (l : List Block) → HasNoPlace seek (blocks_to end spot) → (end ≡ First → HasNoPlace seek l) → HasNoPlace seek (blocks_to end (record spot { lower = l ++ spot.lower }))
+  none_to_right First spot l h k = none_both l spot.lower (k refl) h
+  none_to_right Last spot l h k = h
+
+  in_left : (end : End) (l m r : List Block) (answer : Result Taken Refusal) → (answer ≡ Err NoPlace → HasNoPlace seek r) → (end ≡ Last → HasNoPlace seek r) → AllocatesFit end seek l m answer → AllocatesFit end seek (l ++ r) (m ++ r) answer
+  in_left end l m r answer n k h =
+      elim h [
+        | inl x ↦ inl (none_both l r x.0 (n x.1), x.1)
+        | inr x ↦ inr (
+          record x.0 { upper = x.0.upper ++ r },
+          record {
+            cut = ap (λ (z : List Block). z ++ r) x.1.cut ∙ append_assoc x.0.lower (free_block x.0.key ∷ x.0.upper) r;
+            none = none_to_left end x.0 r x.1.none k;
+            fit = x.1.fit;
+          },
+          settles_left seek x.0 m r answer x.2,
+        )
+      ]
+
+  in_right : (end : End) (l r m : List Block) (answer : Result Taken Refusal) → (answer ≡ Err NoPlace → HasNoPlace seek l) → (end ≡ First → HasNoPlace seek l) → AllocatesFit end seek r m answer → AllocatesFit end seek (l ++ r) (l ++ m) answer
+  in_right end l r m answer n k h =
+      elim h [
+        | inl x ↦ inl (none_both l r (n x.1) x.0, x.1)
+        | inr x ↦ inr (
+          record x.0 { lower = l ++ x.0.lower },
+          record {
+            cut = ap (λ (z : List Block). l ++ z) x.1.cut ∙ sym (append_assoc l x.0.lower (free_block x.0.key ∷ x.0.upper));
+            none = none_to_right end x.0 l x.1.none k;
+            fit = x.1.fit;
+          },
+          settles_right seek x.0 l m answer x.2,
+        )
+      ]
+
+  -- The near child has a place.
+  pub near_found : (end : End) (old new : Shape) (answer : Result Taken Refusal) → 2 ≤ height_of old → 2 ≤ height_of new → answer ≢ Err NoPlace → child_at (other_end end) new ≡ child_at (other_end end) old
+      → AllocatesFit end seek (blocks (child_at end old)) (blocks (child_at end new)) answer → AllocatesFit end seek (blocks old) (blocks new) answer
+  near_found end (Tip bs) new answer t u n e h = absurd (omega arith)
+  near_found end (Fork l r) (Tip bs) answer t u n e h = absurd (omega arith)
+  near_found First (Fork l r) (Fork m s) answer t u n e h = rw e (in_left First (blocks l) (blocks m) (blocks r) answer (λ p. absurd (n p)) (λ p. absurd (cc p)) h)
+  near_found Last (Fork l r) (Fork m s) answer t u n e h = rw e (in_right Last (blocks l) (blocks r) (blocks s) answer (λ p. absurd (n p)) (λ p. absurd (cc p)) h)
+
+  -- The near child has no place.
+  pub far_searched : (end : End) (old new : Shape) (answer : Result Taken Refusal) → 2 ≤ height_of old → 2 ≤ height_of new → HasNoPlace seek (blocks (child_at end old)) → child_at (other_end (other_end end)) new ≡ child_at (other_end (other_end end)) old
+      → AllocatesFit end seek (blocks (child_at (other_end end) old)) (blocks (child_at (other_end end) new)) answer → AllocatesFit end seek (blocks old) (blocks new) answer
+  far_searched end (Tip bs) new answer t u n e h = absurd (omega arith)
+  far_searched end (Fork l r) (Tip bs) answer t u n e h = absurd (omega arith)
+  far_searched First (Fork l r) (Fork m s) answer t u n e h = rw e (in_right First (blocks l) (blocks r) (blocks s) answer (λ p. n) (λ p. n) h)
+  far_searched Last (Fork l r) (Fork m s) answer t u n e h = rw e (in_left Last (blocks l) (blocks m) (blocks r) answer (λ p. n) (λ p. n) h)
+
+-- ---- What was allocated
+pub closest_allocated : (end : End) (seek : Search) (old new : List Block) (taken : Taken) → 0 < seek.size → AllocatesFit end seek old new (Ok taken) → IsAllocated seek old new taken
+closest_allocated end seek old new taken z h =
+    elim h [
+      | inl x ↦ (let e = x.1 in absurd (cc))
+      | inr x ↦ (
+          let f = is_fit end seek.size seek.alignment x.0.start (cut_to (window_of seek) (free_block x.0.key)) x.1.fit in
+          record {
+            spot = x.0;
+            cut = x.1.cut;
+            inside = record { from = omega (arith, f.2); some = omega arith; upto = omega (arith, f.3) };
+            taken_at = x.2;
+          }
+          )
+    ]
+
+pub closest_start : (end : End) (seek : Search) (old new : Shape) (answer : Result Taken Refusal) → 0 < seek.size → IsRun (blocks old)
+    → AllocatesFit end seek (blocks old) (blocks new) answer → OnErr answer (new ≡ old) → start_of (blocks new) ≡ start_of (blocks old)
+closest_start end seek old new (Ok taken) z run h u = start_allocated seek (blocks old) (blocks new) taken run (closest_allocated end seek (blocks old) (blocks new) taken z h)
+closest_start end seek old new (Err refusal) z run h u = ap (λ (s : Shape). start_of (blocks s)) u
+
+-- The same with another change.
+pub closest_other : (end : End) (seek : Search) (old new other : List Block) (taken more : Taken) → other ≡ new → more.start ≡ taken.start → more.added ≡ taken.added
+    → AllocatesFit end seek old new (Ok taken) → AllocatesFit end seek old other (Ok more)
+closest_other end seek old new other taken more e f g h =
+    elim h [
+      | inl x ↦ (let e = x.1 in absurd (cc))
+      | inr x ↦ inr (x.0, x.1, settles_other seek x.0 new other taken more e f g x.2)
+    ]
+
+-- ---- The number of nodes
+module _ (end : End) (seek : Search) (valid : IsSearch seek) where
+  pub closest_found : (old new : List Block) (answer : Result Taken Refusal) → answer ≢ Err NoPlace → AllocatesFit end seek old new answer
+      → list_any (has_fit_in (window_of seek) seek.size seek.alignment) old ≡ true
+  closest_found old new answer n h =
+      elim h [
+        | inl x ↦ absurd (n x.1)
+        | inr x ↦ (
+            let f = is_fit end seek.size seek.alignment x.0.start (cut_to (window_of seek) (free_block x.0.key)) x.1.fit in
+            rw x.1.cut (one_found (window_of seek) seek.size seek.alignment x.0.lower (free_block x.0.key) x.0.upper x.0.start (alignment_pos seek.alignment valid.aligned) f)
+            )
+      ]
+
+  pub nodes_leaf : (bs : List Block) → may_fit_in seek.size seek.alignment bs ≡ true → nodes_of_search end (window_of seek) seek.size seek.alignment (Tip bs) ≡ 1
+  unfolding nodes_of_search
+  nodes_leaf bs h = rw h refl
+
+  pub nodes_passed : (s : Shape) → may_fit_in seek.size seek.alignment (blocks s) ≡ false → nodes_of_search end (window_of seek) seek.size seek.alignment s ≡ 0
+  unfolding nodes_of_search
+  nodes_passed (Tip bs) h = rw h refl
+  nodes_passed (Fork l r) h = rw h refl
+
+  pub nodes_some : (s : Shape) → may_fit_in seek.size seek.alignment (blocks s) ≡ true → 1 ≤ nodes_of_search end (window_of seek) seek.size seek.alignment s
+  unfolding nodes_of_search
+  nodes_some (Tip bs) h = rw h (omega arith)
+  nodes_some (Fork l r) h = rw h (omega arith)
+
+-- ---- The test of a child
+module _ (seek : Search) (t l r : Shape) (q : Fork l r ≡ t) (at : ℕ) (edge : at ≡ start_of (blocks r)) where
+  pub left_reached : seek.low < at → may_fit_in_child First (window_of seek) seek.size seek.alignment t ≡ may_fit_in seek.size seek.alignment (blocks l)
+  unfolding reaches_child
+  left_reached h = rw (← q, ← edge, lt-ltb seek.low at h) refl
+
+  pub left_outside : at ≤ seek.low → may_fit_in_child First (window_of seek) seek.size seek.alignment t ≡ false
+  unfolding reaches_child
+  left_outside h = rw (← q, ← edge, le-ltb seek.low at h) refl
+
+  pub right_reached : at ≤ seek.high → may_fit_in_child Last (window_of seek) seek.size seek.alignment t ≡ may_fit_in seek.size seek.alignment (blocks r)
+  unfolding reaches_child
+  right_reached h = rw (← q, ← edge, le-leb at seek.high h) refl
+
+  pub right_outside : seek.high < at → may_fit_in_child Last (window_of seek) seek.size seek.alignment t ≡ false
+  unfolding reaches_child
+  right_outside h = rw (← q, ← edge, lt-leb at seek.high h) refl
+
+module _ (seek : Search) (valid : IsSearch seek) where
+  pub none_missed : (bs : List Block) → HasNoPlace seek bs → list_any (has_fit_in (window_of seek) seek.size seek.alignment) bs ≡ false
+  none_missed bs h = none_found (window_of seek) seek.size seek.alignment bs (alignment_pos seek.alignment valid.aligned) h
+
+  -- ---- A child that is not entered
+  pub passed : (s : Shape) → may_fit_in seek.size seek.alignment (blocks s) ≡ false → HasNoPlace seek (blocks s)
+  passed s h = none_if_passed (window_of seek) seek.size seek.alignment (blocks s) valid.some valid.aligned h
+
+  pub child_passed : (child : End) (t : Shape) → 2 ≤ height_of t → IsSubtree t → may_fit_in_child child (window_of seek) seek.size seek.alignment t ≡ false → HasNoPlace seek (blocks (child_at child t))
+  unfolding reaches_child
+  child_passed child (Tip bs) k tree e = absurd (omega arith)
+  child_passed First (Fork l r) k tree e =
+      elim (cases_lt seek.low (start_of (blocks r))) [
+        | inl c ↦ passed l (rw (lt-ltb seek.low (start_of (blocks r)) c) at e)
+        | inr c ↦ (
+            let a = full_some l tree.full.0 in
+            let b = full_some r tree.full.1 in
+            let h = (subtree_left l r tree).run in
+            let f = end_left (blocks l) (blocks r) tree.run (omega arith) (omega arith) in
+            none_below (window_of seek) seek.size seek.alignment Allocated h.lo h.hi (blocks l) valid.some h.tiles (omega (arith, end_of_run (blocks l) h))
+            )
+      ]
+  child_passed Last (Fork l r) k tree e =
+      elim (cases_lt seek.high (start_of (blocks r))) [
+        | inl c ↦ (
+            let h = (subtree_right l r tree).run in
+            none_above (window_of seek) seek.size seek.alignment Allocated h.lo h.hi (blocks r) valid.some h.tiles (omega (arith, start_of_run (blocks r) h))
+            )
+        | inr c ↦ passed r (rw (le-leb (start_of (blocks r)) seek.high c) at e)
+      ]
+
+  pub passed_nodes : (child end : End) (t : Shape) → may_fit_in_child child (window_of seek) seek.size seek.alignment t ≡ false → nodes_of_child child end (window_of seek) seek.size seek.alignment t ≡ 0
+  unfolding nodes_of_child
+  passed_nodes child end t e =
+      elim (cases_Bool (reaches_child child (window_of seek) t)) [
+        | inl r ↦ rw r (nodes_passed end seek valid (child_at child t) (rw r at e))
+        | inr r ↦ rw r refl
+      ]
+
+  -- ---- A child that is entered
+  pub entered : (child end : End) (t : Shape) → may_fit_in_child child (window_of seek) seek.size seek.alignment t ≡ true
+      → (may_fit_in seek.size seek.alignment (blocks (child_at child t)) ≡ true) × (nodes_of_child child end (window_of seek) seek.size seek.alignment t ≡ nodes_of_search end (window_of seek) seek.size seek.alignment (child_at child t))
+  unfolding nodes_of_child
+  entered child end t e =
+      let parts = and_parts (reaches_child child (window_of seek) t) (may_fit_in seek.size seek.alignment (blocks (child_at child t))) e in
+      (parts.1, rw parts.0 refl)
+
+  -- ---- The nodes below a node
+  pub nodes_within : (end : End) (t : Shape) → 2 ≤ height_of t → may_fit_in seek.size seek.alignment (blocks t) ≡ true
+      → nodes_of_child end end (window_of seek) seek.size seek.alignment t + 1 ≤ nodes_of_search end (window_of seek) seek.size seek.alignment t
+  unfolding nodes_of_search nodes_of_child reaches_child
+  nodes_within end (Tip bs) k m = absurd (omega arith)
+  nodes_within First (Fork l r) k m = rw m (omega arith)
+  nodes_within Last (Fork l r) k m = rw m (omega arith)
+
+  pub nodes_found : (end : End) (t : Shape) → 2 ≤ height_of t → may_fit_in seek.size seek.alignment (blocks t) ≡ true → list_any (has_fit_in (window_of seek) seek.size seek.alignment) (blocks (child_at end t)) ≡ true
+      → nodes_of_search end (window_of seek) seek.size seek.alignment t ≡ nodes_of_child end end (window_of seek) seek.size seek.alignment t + 1
+  unfolding nodes_of_search nodes_of_child reaches_child
+  nodes_found end (Tip bs) k m f = absurd (omega arith)
+  nodes_found First (Fork l r) k m f = rw (m, f) (omega arith)
+  nodes_found Last (Fork l r) k m f = rw (m, f) (omega arith)
+
+  pub nodes_missed : (end : End) (t : Shape) → 2 ≤ height_of t → may_fit_in seek.size seek.alignment (blocks t) ≡ true → HasNoPlace seek (blocks (child_at end t))
+      → nodes_of_search end (window_of seek) seek.size seek.alignment t
+      ≡ nodes_of_child end end (window_of seek) seek.size seek.alignment t + nodes_of_child (other_end end) end (window_of seek) seek.size seek.alignment t + 1
+  unfolding nodes_of_search nodes_of_child reaches_child
+  nodes_missed end (Tip bs) k m f = absurd (omega arith)
+  nodes_missed First (Fork l r) k m f = rw (m, none_missed (blocks l) f) refl
+  nodes_missed Last (Fork l r) k m f = rw (m, none_missed (blocks r) f) refl
+
+pub ruleset sites = (no_site)
+
+pub ruleset roots = (nodes_leaf, nodes_some, closest_other)

@@ -1,0 +1,221 @@
+//! The allocation of the lowest or of the highest place of a search.
+//!
+//! Both are one search from an end: from the lowest address up, or from the highest one down. The near child
+//! of a node is the one at that end.
+ghost use Rattle.std.specs.Prelude.{◌≡◌, ◌+◌, ◌<◌, ◌≤◌, true, length, OnErr, IfOk, MatchOption};
+ghost use Rattle.vm_ranges.specs.Range.{MAX};
+ghost use Rattle.vm_tree.specs.Shape.{blocks, height_of, HasFullLeaves, IsTree, MAX_HEIGHT};
+ghost use Rattle.vm_tree.specs.Links.{side, IsSummed};
+ghost use Rattle.vm_tree.specs.Growth.{IsSubtree, IsChild, GrowsIfOk, GrowsBelowIfOk};
+ghost use Rattle.vm_tree.specs.Allocation.{window_of, IsSearch, HasNoPlace, AllocatesFit};
+ghost use Rattle.vm_tree.specs.NodeCounts.{may_fit_in, nodes_of_search};
+ghost use Rattle.vm_tree.specs.Placing.{site_of, IsClosestSite};
+ghost use Rattle.vm_tree.specs.Searching.{other_end, child_at, may_fit_in_child, nodes_of_child};
+
+use super::place::{Site, leaf_of, place_at};
+use super::{fits, has_no_place};
+use crate::change::update;
+use crate::end::End;
+use crate::link::{Link, Node};
+use crate::search::{Refusal, Search, Taken};
+use crate::steps::Steps;
+use std::alloc::Global;
+use vm_leaf::{Leaf, Place};
+
+/// Returns the site of a place in a leaf.
+#[inline(always)]
+fn site_at(leaf: &Leaf, place: Place) -> Site
+    requires { place.index < length leaf.now }
+    ensures { result ≡ site_of leaf.now place }
+{
+    Site {
+        index: place.index,
+        gap: leaf.key_at(place.index),
+        start: place.start,
+    }
+}
+
+/// Returns the site of the place of a search in a leaf that is closest to an end, or `None` if there is none.
+#[inline(always)]
+#[tactic(auto, using(crate::proofs::Searched::sites))]
+fn site_in(leaf: &Leaf, end: End, search: &Search) -> Option<Site>
+    requires search { IsSearch search.now }
+    ensures { MatchOption result (HasNoPlace search.now leaf.now) (IsClosestSite end search.now leaf.now) }
+{
+    match end {
+        End::First => {
+            let place = leaf.first_fit_in(search.low, search.high, search.size, search.alignment)?;
+            Some(site_at(leaf, place))
+        }
+        End::Last => {
+            let place = leaf.last_fit_in(search.low, search.high, search.size, search.alignment)?;
+            Some(site_at(leaf, place))
+        }
+    }
+}
+
+/// Allocates the place of a search in a leaf that is closest to an end, and updates what is stored beside
+/// the link.
+#[tactic(auto, using(crate::proofs::Trees::sizes))]
+#[inline(never)]
+fn fit_in_leaf(tree: &mut Link, end: End, search: &Search, alloc: Global) -> Result<Taken, Refusal>
+    requires search { IsSearch search.now }
+    requires leaf { height_of (side tree.old) < 2 }
+    requires full { HasFullLeaves (side tree.old) }
+    requires summed { IsSummed tree.old }
+    ensures answer { AllocatesFit end search.now (blocks (side tree.old)) (blocks (side tree.new)) result }
+    ensures change { GrowsIfOk result (side tree.old) (side tree.new) }
+    ensures summed { IsSummed tree.new }
+{
+    match site_in(leaf_of(tree), end, search) {
+        None => Err(Refusal::NoPlace),
+        Some(site) => place_at(tree, false, &site, search, alloc),
+    }
+}
+
+/// Allocates the place of a search that is closest to an end, in a leaf that is the whole tree, and of which
+/// nothing correct is stored beside the link.
+#[tactic(auto, using(crate::proofs::Trees::sizes))]
+pub(crate) fn fit_in_root(
+    root: &mut Link,
+    end: End,
+    search: &Search,
+    alloc: Global,
+) -> Result<Taken, Refusal>
+    requires search { IsSearch search.now }
+    requires leaf { height_of (side root.old) < 2 }
+    requires tree { IsTree (side root.old) }
+    ensures answer { AllocatesFit end search.now (blocks (side root.old)) (blocks (side root.new)) result }
+    ensures unchanged { OnErr result (root.new ≡ root.old) }
+    ensures tree { IfOk result (λ _. IsTree (side root.new) × (height_of (side root.new) ≤ 2)) }
+    ensures summed { 2 ≤ height_of (side root.new) → IsSummed root.new }
+{
+    match site_in(leaf_of(root), end, search) {
+        None => Err(Refusal::NoPlace),
+        Some(site) => place_at(root, true, &site, search, alloc),
+    }
+}
+
+/// Returns the other end.
+#[inline(always)]
+fn other_than(end: End) -> End
+    ensures { result ≡ other_end end }
+{
+    match end {
+        End::First => End::Last,
+        End::Last => End::First,
+    }
+}
+
+/// Returns `true` if a search may find a place in a child of a node: the child can have addresses in the
+/// window, and its gaps look suitable.
+#[inline(always)]
+fn may_enter(node: &Node, child: End, search: &Search) -> bool
+    requires search { IsSearch search.now }
+    ensures { result
+        ≡ may_fit_in_child child (window_of search.now) search.now.size search.now.alignment node.now }
+{
+    match child {
+        End::First => search.low < node.at && fits(&node.left, search),
+        End::Last => node.at <= search.high && fits(&node.right, search),
+    }
+}
+
+/// Allocates the place of a search that is closest to an end, in a child of a node. A child that is not in
+/// the window, or may have no place, is not entered.
+#[cycle(fit_at)]
+#[inline(always)]
+#[tactic(auto, using(crate::proofs::AllocatedTrees::answering))]
+fn fit_in_child(
+    node: &mut Node,
+    child: End,
+    end: End,
+    search: &Search,
+    alloc: Global,
+    count: &mut Steps,
+) -> Result<Taken, Refusal>
+    requires search { IsSearch search.now }
+    requires tree { IsSubtree node.old }
+    requires count_fits { count.old + nodes_of_child child end (window_of search.now) search.now.size
+        search.now.alignment node.old ≤ MAX }
+    ensures answer { AllocatesFit end search.now
+        (blocks (child_at child node.old)) (blocks (child_at child node.new)) result }
+    ensures same { child_at (other_end child) node.new ≡ child_at (other_end child) node.old }
+    ensures change { GrowsBelowIfOk result node.old node.new }
+    ensures count { count.new ≡ count.old + nodes_of_child child end (window_of search.now) search.now.size
+        search.now.alignment node.old }
+{
+    if !may_enter(node, child, search) {
+        return Err(Refusal::NoPlace);
+    }
+    match child {
+        End::First => fit_at(&mut node.left, end, search, alloc, count),
+        End::Last => fit_at(&mut node.right, end, search, alloc, count),
+    }
+}
+
+/// Allocates the place of a search that is closest to an end, below a node: in the near child, or in the far
+/// child if the near child has no place.
+#[cycle(fit_at)]
+fn fit_below(
+    node: &mut Node,
+    end: End,
+    search: &Search,
+    alloc: Global,
+    count: &mut Steps,
+) -> Result<Taken, Refusal>
+    requires search { IsSearch search.now }
+    requires tree { IsSubtree node.old }
+    requires may_fit { may_fit_in search.now.size search.now.alignment (blocks node.old) ≡ true }
+    requires count_fits { count.old + nodes_of_search end (window_of search.now) search.now.size
+        search.now.alignment node.old ≤ MAX + 1 }
+    ensures answer { AllocatesFit end search.now (blocks node.old) (blocks node.new) result }
+    ensures change { GrowsBelowIfOk result node.old node.new }
+    ensures count { count.new + 1 ≡ count.old + nodes_of_search end (window_of search.now) search.now.size
+        search.now.alignment node.old }
+{
+    // Proof: a node that is read has two children.
+    let _at = node.at;
+    let answer = fit_in_child(node, end, end, search, alloc, count);
+    if has_no_place(&answer) {
+        return fit_in_child(node, other_than(end), end, search, alloc, count);
+    }
+    answer
+}
+
+/// Allocates the place of a search that is closest to an end, and updates what is stored beside the link.
+/// The search may find a place.
+#[cycle(fit_at)]
+#[tactic(auto, using(crate::proofs::Searched::roots))]
+pub(crate) fn fit_at(
+    tree: &mut Link,
+    end: End,
+    search: &Search,
+    alloc: Global,
+    count: &mut Steps,
+) -> Result<Taken, Refusal>
+    requires search { IsSearch search.now }
+    requires tree { IsChild tree.old }
+    requires may_fit { may_fit_in search.now.size search.now.alignment (blocks (side tree.old)) ≡ true }
+    requires count_fits { count.old + nodes_of_search end (window_of search.now) search.now.size
+        search.now.alignment (side tree.old) ≤ MAX }
+    ensures answer { AllocatesFit end search.now (blocks (side tree.old)) (blocks (side tree.new)) result }
+    ensures change { GrowsIfOk result (side tree.old) (side tree.new) }
+    ensures summed { IsSummed tree.new }
+    ensures count { count.new ≡ count.old + nodes_of_search end (window_of search.now) search.now.size
+        search.now.alignment (side tree.old) }
+{
+    count.enter();
+    match tree {
+        Link::Hole => unreachable!(),
+        Link::Leaf { .. } => fit_in_leaf(tree, end, search, alloc),
+        Link::Fork { node, .. } => {
+            let node: &mut Node = node;
+            let mut answer = fit_below(node, end, search, alloc, count);
+            if let Ok(taken) = &mut answer {
+                taken.change = update(tree, taken.change);
+            }
+            answer
+        }
+    }
+}
