@@ -36,6 +36,7 @@ mod balance;
 mod build;
 mod change;
 mod copy;
+mod end;
 mod find;
 mod free;
 mod link;
@@ -46,6 +47,7 @@ mod steps;
 mod tree;
 mod walk;
 
+pub use end::End;
 pub use search::{Refusal, Search, Taken};
 pub use steps::Steps;
 pub use tree::Tree;
