@@ -65,12 +65,12 @@ inside_right l r b k u f =
     let o = freed_after k k f.lower f.upper r b f.before f.after l (lower_some r k f.lower f.upper f.before (λ z. u (sym z))) in
     record { lower = l ++ f.lower; upper = f.upper; before = o.0; after = o.1 }
 
--- The first address of the right one of two trees.
+-- The edge between the children of a node: the first address of the right one. The child c is at this end.
 abbrev pub edge_of : End → Shape → Shape → ℕ
 edge_of First c x = start_of (blocks x)
 edge_of Last c x = start_of (blocks c)
 
--- The range k and the gap g beside it.
+-- The range k of the child at this end, together with the gap g beside it.
 abbrev pub with_gap : End → Range → Range → Range
 with_gap First k g = span k.start g.end
 with_gap Last k g = span g.start k.end
@@ -126,7 +126,7 @@ gap_extends Last k c x h =
     let o = cover_range (blocks c) (can_r x c h).run in
     (omega (arith, g.1), (omega (arith, g.1, o.0), omega (arith, o.1), λ y. absurd (omega (arith, g.0))))
 
--- The edge after the gap z is joined with the gap of x.
+-- The edge after it moved over the gap of the other child, which z ends or starts with.
 abbrev pub edge_past : End → Range → ℕ
 edge_past First z = z.end + 1
 edge_past Last z = z.start
@@ -149,7 +149,7 @@ held_beside : (end : End) (k : Range) (c x : Shape) → CanChange (fork_at end c
 held_beside First k c x h e f = held_below (blocks c) (blocks x) k h.run (omega (arith, many_l c x h)) (omega (arith, many_r c x h)) e f
 held_beside Last k c x h e f = held_above (blocks x) (blocks c) k h.run (omega (arith, many_l x c h)) (omega (arith, many_r x c h)) e f
 
--- The gap z of one list, and y, are the gap k and x.
+-- The gap z beside y is the same as the gap k beside x, joined with its free neighbour.
 abbrev Seals : End → Range → Range → List Block → List Block → Type 0
 Seals First k z x y = (m : List Block) → freed_between m z [] ++ y ≡ freed_between m k x
 Seals Last k z x y = (us : List Block) → y ++ with_free z us ≡ freed_between x k us
@@ -203,7 +203,7 @@ beside_held end k c x d h e st (Some g) s =
     let m = end_length (opposite end) k (blocks c) (blocks d) s.0 in
     under_child end k c x d h (Some g) (o, omega (arith, s.1.loss), s.1)
 
--- The block beside the edge is a gap: with it the range k is z.
+-- The block of x beside the edge is a gap. The range z is k and this gap.
 pub record Beside (end : End) (k z : Range) (c x : Shape) : Type 0 where
   pub can : CanChange (fork_at end c x)
   pub edge : TouchesEdge end k (edge_of end c x)

@@ -309,7 +309,7 @@ fn opposite(end: End) -> End
 }
 
 /// Frees a range that touches the edge between two children of a node. It is in `near`, the child at the given
-/// end of the node. If the block of `far` on the other side of the edge is a gap, it is dropped there.
+/// end of the node. If the block of `far` at the edge is a gap, it is dropped, and the edge moves over it.
 #[inline(never)]
 #[tactic(auto, using(crate::proofs::FreesEdges::beside))]
 fn free_beside(
