@@ -1,21 +1,23 @@
 -- Blocks that are freed.
 use Rattle.std.proofs.Common.{◌≡◌, ℕ, ◌+◌, ◌-◌, ◌<◌, ◌≤◌, max, List, [], ◌∷◌, ◌++◌, length, take, drop, refl, ap, ◌∙◌, sym, subst, arith, append_assoc, length-append, length-take-le, length-drop}
-use Rattle.std.proofs.lemmas.List.{take_at, drop_at, get_or-append_right}
+use Rattle.std.proofs.lemmas.List.{take_at, drop_at, drop_all, append-nil, get_or-append_right}
 use Rattle.vm_ranges.specs.Range.{Range, address_count}
 use Rattle.vm_ranges.specs.declared.state.NodeState.{NodeState}
 use Rattle.vm_ranges.specs.declared.state.NodeState.TheVariants.{Free, Allocated}
 use Rattle.vm_leaf.specs.declared.block.Block.{Block}
 use Rattle.vm_leaf.specs.Block.{held_block, free_block}
-use Rattle.vm_leaf.specs.Blocks.{Tiles, NotBothFree, nth, blank, start_of, freed_between, freed_on, freed_at, with_free, join_if, upto_end, longest_gap, IsRun, IsLeaf}
+use Rattle.vm_leaf.specs.Blocks.{Tiles, NotBothFree, nth, blank, start_of, freed_between, freed_on, freed_at, from_start, upto_end, with_free, join_if, longest_gap, IsRun, IsLeaf}
 use Rattle.vm_leaf.specs.Multiples.{alignment_count, most_alignments}
 use Rattle.vm_leaf.specs.Raises.{Raises}
 use Rattle.vm_leaf.proofs.Raised.{length_upto, alignments_upto}
-use Rattle.vm_tree.specs.Frees.{Frees, FreesLast, JoinsGap}
+use Rattle.vm_tree.specs.Frees.{Frees, FreesEnd, EndHeld, JoinsGap, beyond, block_at_end, end_index, without_end}
+use Rattle.vm_tree.specs.declared.end.End.{End}
+use Rattle.vm_tree.specs.declared.end.End.TheVariants.{First, Last}
 use Rattle.vm_tree.specs.declared.free.Gap.{Gap}
-use Rattle.vm_tree.proofs.Lists.{cut_at, cut_last, longest_append, alignments_append}
+use Rattle.vm_tree.proofs.Lists.{cut_at, longest_append, alignments_append}
 
 -- A free block in a list that has blocks before it.
-pub freed_under : (l m us : List Block) (k : Range) → 0 < length m → freed_between (l ++ m) k us ≡ l ++ freed_between m k us
+freed_under : (l m us : List Block) (k : Range) → 0 < length m → freed_between (l ++ m) k us ≡ l ++ freed_between m k us
 freed_under [] m us k h = refl
 freed_under (x ∷ []) [] us k h = absurd (omega arith)
 freed_under (x ∷ []) (y ∷ m) us k h = refl
@@ -34,10 +36,24 @@ freed_on_append Free x k us r h = with_free_append (record { start = x.key.start
 freed_on_append Allocated x k us r h = ap (λ (b : List Block). x ∷ b) (with_free_append k us r h)
 
 -- A free block in a list that has blocks after it.
-pub freed_over : (m us r : List Block) (k : Range) → 0 < length us → freed_between m k us ++ r ≡ freed_between m k (us ++ r)
+freed_over : (m us r : List Block) (k : Range) → 0 < length us → freed_between m k us ++ r ≡ freed_between m k (us ++ r)
 freed_over [] us r k h = with_free_append k us r h
 freed_over (x ∷ []) us r k h = freed_on_append x.state x k us r h
 freed_over (x ∷ y ∷ m) us r k h = ap (λ (b : List Block). x ∷ b) (freed_over (y ∷ m) us r k h)
+
+-- The block `was` of a list became the gap k, joined with its free neighbours. The list has other blocks before it, or after it.
+module _ (was k : Range) (m us x y : List Block) (e : x ≡ m ++ held_block was ∷ us) (f : y ≡ freed_between m k us) where
+  pub freed_after : (l : List Block) → 0 < length m → (l ++ x ≡ (l ++ m) ++ held_block was ∷ us) × (l ++ y ≡ freed_between (l ++ m) k us)
+  freed_after l n = (
+    ap (λ (z : List Block). l ++ z) e ∙ sym (append_assoc l m (held_block was ∷ us)),
+    ap (λ (z : List Block). l ++ z) f ∙ sym (freed_under l m us k n),
+  )
+
+  pub freed_before : (r : List Block) → 0 < length us → (x ++ r ≡ m ++ held_block was ∷ (us ++ r)) × (y ++ r ≡ freed_between m k (us ++ r))
+  freed_before r n = (
+    ap (λ (z : List Block). z ++ r) e ∙ append_assoc m (held_block was ∷ us) r,
+    ap (λ (z : List Block). z ++ r) f ∙ freed_over m us r k n,
+  )
 
 join_free : (g : Block) (k : Range) (us : List Block) → g.state ≡ Free → join_if g.state k g us ≡ free_block (record { start = k.start; end = g.key.end }) ∷ us
 join_free g k us e = ap (λ (s : NodeState). join_if s k g us) e
@@ -91,10 +107,11 @@ length-freed_on Free x k us = length-with_free (record { start = x.key.start; en
 length-freed_on Allocated x k us = let h = length-with_free k us in (omega (arith, h.0), omega (arith, h.1))
 
 -- A freed block takes at most its two neighbours away.
-pub length-freed : (m : List Block) (k : Range) (us : List Block) → (length m + length us ≤ length (freed_between m k us) + 1) × (length m ≤ length (freed_between m k us))
-length-freed [] k us = let h = length-with_free k us in (omega (arith, h.0), omega arith)
-length-freed (x ∷ []) k us = let h = length-freed_on x.state x k us in (omega (arith, h.0), omega (arith, h.1))
-length-freed (x ∷ y ∷ m) k us = let h = length-freed (y ∷ m) k us in (omega (arith, h.0), omega (arith, h.1))
+pub length-freed : (m : List Block) (k : Range) (us : List Block)
+    → (length m + length us ≤ length (freed_between m k us) + 1) × (length m ≤ length (freed_between m k us)) × (length us ≤ length (freed_between m k us))
+length-freed [] k us = let h = length-with_free k us in (omega (arith, h.0), omega arith, h.0)
+length-freed (x ∷ []) k us = let h = length-freed_on x.state x k us in (omega (arith, h.0), omega (arith, h.1), h.0)
+length-freed (x ∷ y ∷ m) k us = let h = length-freed (y ∷ m) k us in (omega (arith, h.0), omega (arith, h.1), omega (arith, h.2))
 
 start_join : (s : NodeState) (k : Range) (b : Block) (us : List Block) → start_of (join_if s k b us) ≡ k.start
 start_join Free k b us = refl
@@ -178,8 +195,8 @@ length-freed_upto [] k us = let h = length-with_upto k us in omega arith
 length-freed_upto (x ∷ []) k us = let h = length-on_upto x.state x k us in omega arith
 length-freed_upto (x ∷ y ∷ m) k us = let h = length-freed_upto (y ∷ m) k us in omega arith
 
-block_is : (b : Block) (s : ℕ) → b.key.start ≡ s → b.state ≡ Allocated → b ≡ held_block (record { start = s; end = b.key.end })
-block_is b s q r = ap (λ (v : ℕ). record { key = record { start = v; end = b.key.end }; state = b.state }) q ∙ ap (λ (t : NodeState). record { key = record { start = s; end = b.key.end }; state = t }) r
+held_is : (b : Block) → b.state ≡ Allocated → b ≡ held_block b.key
+held_is b h = ap (λ (s : NodeState). record { key = b.key; state = s }) h
 
 -- The block at an index of a leaf is freed.
 module _ (old new : List Block) (i : ℕ) (within : i < length old) (e : new ≡ freed_at i old) where
@@ -192,7 +209,7 @@ module _ (old new : List Block) (i : ℕ) (within : i < length old) (e : new ≡
 
   pub freed_here : (b : Block) (k : Range) → b ≡ nth old i → b.key.start ≡ k.start → b.key.end ≡ k.end → b.state ≡ Allocated → Frees k old new
   freed_here b k q s z h =
-      let f : b ≡ held_block k = block_is b k.start s h ∙ ap (λ (v : ℕ). held_block (record { start = k.start; end = v })) z in
+      let f : b ≡ held_block k = held_is b h ∙ ap (λ (v : ℕ). held_block (record { start = v; end = b.key.end })) s ∙ ap (λ (v : ℕ). held_block (record { start = k.start; end = v })) z in
       let g : nth old i ≡ held_block k = sym q ∙ f in
       record {
         lower = take i old;
@@ -213,74 +230,87 @@ freed_index m b us i e =
     let h : drop (i + 1) (m ++ b ∷ us) ≡ us = ap (λ (z : List Block). drop (i + 1) z) (sym (append_assoc m (b ∷ []) us)) ∙ drop_at (m ++ b ∷ []) us (i + 1) (omega arith) in
     rw (f, g, h) refl
 
--- A held block does not count for the summary.
-held_longest : (b : Block) (us : List Block) → b.state ≡ Allocated → longest_gap (b ∷ us) ≡ longest_gap us
-held_longest b us e = rw e (omega arith)
+-- The list with the block at an end extended to the end of the range k.
+abbrev pub extended : End → Range → List Block → List Block
+extended First k bs = from_start k.start bs
+extended Last k bs = upto_end k.end bs
 
-held_most : (b : Block) (us : List Block) → b.state ≡ Allocated → most_alignments (b ∷ us) ≡ most_alignments us
-held_most b us e = rw e (omega arith)
+-- The block at an end of a list, and the others.
+end_none : (end : End) (bs : List Block) → 0 < length bs → beyond end (take (end_index end bs) bs) (drop (end_index end bs + 1) bs) ≡ []
+end_none First bs some = refl
+end_none Last bs some = drop_all (length bs - 1 + 1) bs (omega arith)
 
-last_freed : (m : List Block) (b : Block) (s e : ℕ) → b.key.start ≡ s → b.state ≡ Allocated
-    → FreesLast s e (m ++ b ∷ []) (freed_between m (record { start = b.key.start; end = e }) [])
-last_freed m b s e q r = record {
-  lower = m;
-  last = b.key.end;
-  before = ap (λ (z : Block). m ++ z ∷ []) (block_is b s q r);
-  after = ap (λ (v : ℕ). freed_between m (record { start = v; end = e }) []) q;
-}
+without_is : (end : End) (bs : List Block) → 0 < length bs → without_end end bs ≡ take (end_index end bs) bs ++ drop (end_index end bs + 1) bs
+without_is First bs some = refl
+without_is Last bs some = sym (append-nil (take (length bs - 1) bs)) ∙ ap (λ (z : List Block). take (length bs - 1) bs ++ z) (sym (end_none Last bs some))
 
--- The last block of a leaf is moved up, and freed.
-module _ (old mid : List Block) (n s e : ℕ) (b : Block) (some : 0 < length old) (c : n ≡ length old - 1) (q : b ≡ nth old n) (r : b.key.start ≡ s) (h : b.state ≡ Allocated) (w : mid ≡ upto_end e old) where
-  abbrev m : List Block
-  m = take (length old - 1) old
+extended_is : (end : End) (k : Range) (bs : List Block) → 0 < length bs → EndHeld end k bs → extended end k bs ≡ take (end_index end bs) bs ++ held_block k ∷ drop (end_index end bs + 1) bs
+extended_is First k bs some h =
+    ap (λ (v : ℕ). record { key = record { start = k.start; end = v }; state = (nth bs 0).state } ∷ drop 1 bs) h.inner
+    ∙ ap (λ (s : NodeState). record { key = k; state = s } ∷ drop 1 bs) h.held
+extended_is Last k bs some h =
+    ap (λ (v : ℕ). take (length bs - 1) bs ++ record { key = record { start = v; end = k.end }; state = (nth bs (length bs - 1)).state } ∷ []) h.inner
+    ∙ ap (λ (s : NodeState). take (length bs - 1) bs ++ record { key = k; state = s } ∷ []) h.held
+    ∙ ap (λ (z : List Block). take (length bs - 1) bs ++ held_block k ∷ z) (sym (end_none Last bs some))
 
-  abbrev x : Block
-  x = record { key = record { start = b.key.start; end = e }; state = b.state }
+-- The block at an end of a leaf is extended, and freed.
+module _ (end : End) (k : Range) (old mid : List Block) (i : ℕ) (within : i < length old) (v : i ≡ end_index end old) (h : EndHeld end k old) (e : mid ≡ extended end k old) where
+  abbrev lower : List Block
+  lower = take (end_index end old) old
 
-  is_last : nth old (length old - 1) ≡ b
-  is_last = ap (nth old) (sym c) ∙ sym q
+  abbrev upper : List Block
+  upper = drop (end_index end old + 1) old
 
-  old_is : old ≡ m ++ b ∷ []
-  old_is = cut_last old some ∙ ap (λ (z : Block). m ++ z ∷ []) is_last
+  abbrev b : Block
+  b = block_at_end end old
 
-  mid_is : mid ≡ m ++ x ∷ []
-  mid_is = w ∙ ap (λ (z : Block). m ++ record { key = record { start = z.key.start; end = e }; state = z.state } ∷ []) is_last
+  old_is : old ≡ lower ++ held_block b.key ∷ upper
+  old_is = cut_at old (end_index end old) (omega arith) ∙ ap (λ (x : Block). lower ++ x ∷ upper) (held_is b h.held)
 
-  long : n ≡ length m
-  long = omega (arith, length-take-le (length old - 1) old (omega arith))
+  mid_is : mid ≡ lower ++ held_block k ∷ upper
+  mid_is = e ∙ extended_is end k old (omega arith) h
 
-  pub last_done : (out : List Block) → out ≡ freed_at n mid → FreesLast s e old out
-  last_done out o =
-      let f : out ≡ freed_between m (record { start = b.key.start; end = e }) [] = o ∙ ap (freed_at n) mid_is ∙ freed_index m x [] n long in
-      subst (λ (z : List Block). FreesLast s e z out) (sym old_is) (subst (λ (z : List Block). FreesLast s e (m ++ b ∷ []) z) (sym f) (last_freed m b s e r h))
+  pub frees_end : (out : List Block) → out ≡ freed_at i mid → FreesEnd end k old out
+  frees_end out o = record {
+    lower = lower;
+    upper = upper;
+    was = b.key;
+    none = end_none end old (omega arith);
+    inner = h.inner;
+    before = old_is;
+    after = o ∙ ap (freed_at i) mid_is ∙ freed_index lower (held_block k) upper i (omega (arith, length-take-le (end_index end old) old (omega arith)));
+  }
 
-  pub last_joined : (gap : Gap) (out : List Block) → JoinsGap gap mid out → JoinsGap gap old out
-  last_joined gap out j =
-      let a : length mid ≡ length old = ap length mid_is ∙ length-append m (x ∷ []) ∙ sym (ap length old_is ∙ length-append m (b ∷ [])) in
-      let l : longest_gap mid ≡ longest_gap old =
-      ap longest_gap mid_is ∙ longest_append m (x ∷ []) ∙ ap (max (longest_gap m)) (held_longest x [] h ∙ sym (held_longest b [] h)) ∙ sym (ap longest_gap old_is ∙ longest_append m (b ∷ [])) in
-      let y : most_alignments mid ≡ most_alignments old =
-      ap most_alignments mid_is ∙ alignments_append m (x ∷ []) ∙ ap (max (most_alignments m)) (held_most x [] h ∙ sym (held_most b [] h)) ∙ sym (ap most_alignments old_is ∙ alignments_append m (b ∷ [])) in
+  pub joins_end : (gap : Gap) (out : List Block) → JoinsGap gap mid out → JoinsGap gap old out
+  joins_end gap out j =
+      let a = ap length mid_is ∙ length-append lower (held_block k ∷ upper) in
+      let z = ap length old_is ∙ length-append lower (held_block b.key ∷ upper) in
+      let l = ap longest_gap mid_is ∙ longest_append lower (held_block k ∷ upper) in
+      let m = ap longest_gap old_is ∙ longest_append lower (held_block b.key ∷ upper) in
+      let x = ap most_alignments mid_is ∙ alignments_append lower (held_block k ∷ upper) in
+      let y = ap most_alignments old_is ∙ alignments_append lower (held_block b.key ∷ upper) in
       record { leaf = j.leaf; loss = omega (arith, j.loss); raised = record { longest = omega (arith, j.raised.longest); alignments = omega (arith, j.raised.alignments) } }
 
--- The summary of a list whose last block is dropped.
-module _ (old new : List Block) (k : Range) (n : ℕ) (some : 1 < length old) (c : n ≡ length old) (q : k ≡ (nth old (n - 1)).key) (e : new ≡ take (length old - 1) old) where
-  ends_with : old ≡ new ++ nth old (length old - 1) ∷ []
-  ends_with = cut_last old (omega arith) ∙ ap (λ (z : List Block). z ++ nth old (length old - 1) ∷ []) (sym e)
+-- The summary of a list without the block at an end.
+module _ (end : End) (old new : List Block) (i : ℕ) (k : Range) (within : i < length old) (v : i ≡ end_index end old) (q : k ≡ (nth old i).key) (e : new ≡ without_end end old) where
+  old_cut : old ≡ take i old ++ nth old i ∷ drop (i + 1) old
+  old_cut = cut_at old i within
 
-  key_is : k ≡ (nth old (length old - 1)).key
-  key_is = q ∙ ap (λ (v : ℕ). (nth old (v - 1)).key) c
+  new_cut : new ≡ take i old ++ drop (i + 1) old
+  new_cut = e ∙ without_is end old (omega arith) ∙ ap (λ (x : ℕ). take x old ++ drop (x + 1) old) (sym v)
 
   pub longest_without : (longest : ℕ) → longest ≡ longest_gap old → (longest_gap new ≤ longest) × (longest ≤ max (longest_gap new) (address_count k))
   longest_without longest f =
-      let a = f ∙ ap longest_gap ends_with ∙ longest_append new (nth old (length old - 1) ∷ []) in
-      let z = length_upto (nth old (length old - 1)) in
-      let w = ap address_count key_is in
+      let a = f ∙ ap longest_gap old_cut ∙ longest_append (take i old) (nth old i ∷ drop (i + 1) old) in
+      let z = ap longest_gap new_cut ∙ longest_append (take i old) (drop (i + 1) old) in
+      let m = length_upto (nth old i) in
+      let w = ap address_count q in
       (omega arith, omega arith)
 
   pub most_without : (alignments : ℕ) → alignments ≡ most_alignments old → (most_alignments new ≤ alignments) × (alignments ≤ max (most_alignments new) (alignment_count k))
   most_without alignments f =
-      let a = f ∙ ap most_alignments ends_with ∙ alignments_append new (nth old (length old - 1) ∷ []) in
-      let z = alignments_upto (nth old (length old - 1)) in
-      let w = ap alignment_count key_is in
+      let a = f ∙ ap most_alignments old_cut ∙ alignments_append (take i old) (nth old i ∷ drop (i + 1) old) in
+      let z = ap most_alignments new_cut ∙ alignments_append (take i old) (drop (i + 1) old) in
+      let m = alignments_upto (nth old i) in
+      let w = ap alignment_count q in
       (omega arith, omega arith)

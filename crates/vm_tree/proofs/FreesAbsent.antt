@@ -1,5 +1,5 @@
 -- Blocks that are not there.
-use Rattle.std.proofs.Common.{◌≡◌, ◌≢◌, ℕ, zero, suc, ◌+◌, ◌-◌, ◌<◌, ◌≤◌, List, [], ◌∷◌, ◌++◌, length, refl, ap, ◌∙◌, sym, subst, arith, length-append, inl, inr}
+use Rattle.std.proofs.Common.{◌≡◌, ℕ, zero, suc, ◌+◌, ◌-◌, ◌<◌, ◌≤◌, List, [], ◌∷◌, ◌++◌, length, refl, ap, ◌∙◌, sym, arith, length-append, inl, inr}
 use Rattle.std.proofs.lemmas.Bool.{cases_lt}
 use Rattle.std.proofs.lemmas.List.{get_or_append_left, get_or-append_right}
 use Rattle.vm_ranges.specs.Range.{Range}
@@ -9,10 +9,8 @@ use Rattle.vm_leaf.specs.declared.block.Block.{Block}
 use Rattle.vm_leaf.specs.Block.{held_block}
 use Rattle.vm_leaf.specs.Blocks.{Tiles, nth, blank, start_of, IsRun, IsLeaf}
 use Rattle.vm_leaf.proofs.Tiles.{IsPart, tiles_part}
-use Rattle.vm_tree.specs.Frees.{Holds, EndsHeld, StartsHeld}
-use Rattle.vm_tree.specs.Shape.{Shape, Fork, blocks, IsTree}
-use Rattle.vm_tree.proofs.Lists.{first_append, last_append}
-use Rattle.vm_tree.proofs.Trees.{left_some, right_some}
+use Rattle.vm_tree.specs.Frees.{Holds, EndHeld}
+use Rattle.vm_tree.specs.declared.end.End.TheVariants.{First, Last}
 
 order : (p : NodeState) (lo hi : ℕ) (bs : List Block) (i j : ℕ) → Tiles p lo bs hi → i < j → j < length bs → (nth bs i).key.end < (nth bs j).key.start
 order p lo hi [] i j t l m = absurd (omega arith)
@@ -20,47 +18,32 @@ order p lo hi (b ∷ bs) i zero t l m = absurd (omega arith)
 order p lo hi (b ∷ bs) zero (suc j) t l m = let q = tiles_part b.state (b.key.end + 1) hi bs j t.3 (omega arith) in omega (arith, q.from)
 order p lo hi (b ∷ bs) (suc i) (suc j) t l m = order b.state (b.key.end + 1) hi bs i j t.3 (omega arith) (omega arith)
 
--- The block at an index that has the start of a held block is that block.
-pub holds_at : (bs : List Block) (i : ℕ) (k : Range) → IsLeaf bs → i < length bs → (nth bs i).key.start ≤ k.start → k.start ≤ (nth bs i).key.end → Holds k bs → nth bs i ≡ held_block k
-holds_at bs i k h l a b f =
-    let s = ap (λ (x : Block). x.key.start) f.found in
-    let p = tiles_part Allocated h.lo h.hi bs f.index h.tiles f.within in
-    let q = tiles_part Allocated h.lo h.hi bs i h.tiles l in
-    elim (cases_lt i f.index) [
-      | inl m ↦ (let o = order Allocated h.lo h.hi bs i f.index h.tiles m f.within in absurd (omega arith))
-      | inr m ↦ elim (cases_lt f.index i) [
-        | inl n ↦ (
-            let o = order Allocated h.lo h.hi bs f.index i h.tiles n l in
-            absurd (omega (arith, p.some))
-            )
-        | inr n ↦ (let e : i ≡ f.index = omega arith in ap (nth bs) e ∙ f.found)
+-- The block at an index that meets a held block is that block.
+module _ (bs : List Block) (i : ℕ) (k : Range) (lo hi : ℕ) (t : Tiles Allocated lo bs hi) (l : i < length bs) (f : Holds k bs) where
+  holds_at : (nth bs i).key.start ≤ k.end → k.start ≤ (nth bs i).key.end → nth bs i ≡ held_block k
+  holds_at a b =
+      let s = ap (λ (x : Block). x.key.start) f.found in
+      let z = ap (λ (x : Block). x.key.end) f.found in
+      elim (cases_lt i f.index) [
+        | inl m ↦ (let o = order Allocated lo hi bs i f.index t m f.within in absurd (omega arith))
+        | inr m ↦ elim (cases_lt f.index i) [
+          | inl n ↦ (let o = order Allocated lo hi bs f.index i t n l in absurd (omega arith))
+          | inr n ↦ (let e : i ≡ f.index = omega arith in ap (nth bs) e ∙ f.found)
+        ]
       ]
-    ]
 
--- What is not held.
-pub other_start : (bs : List Block) (i : ℕ) (k : Range) → IsLeaf bs → i < length bs → (nth bs i).key.start ≤ k.start → k.start ≤ (nth bs i).key.end → (nth bs i).key.start ≢ k.start → Holds k bs → ⊥
-other_start bs i k h l a b n f = n (ap (λ (x : Block). x.key.start) (holds_at bs i k h l a b f))
+  holds_some : k.start ≤ k.end
+  holds_some =
+      let s = ap (λ (x : Block). x.key.start) f.found in
+      let z = ap (λ (x : Block). x.key.end) f.found in
+      let p = tiles_part Allocated lo hi bs f.index t f.within in
+      omega (arith, p.some)
 
-pub other_end : (bs : List Block) (i : ℕ) (k : Range) → IsLeaf bs → i < length bs → (nth bs i).key.start ≤ k.start → k.start ≤ (nth bs i).key.end → (nth bs i).key.end ≢ k.end → Holds k bs → ⊥
-other_end bs i k h l a b n f = n (ap (λ (x : Block). x.key.end) (holds_at bs i k h l a b f))
+pub not_held : (b : Block) (k : Range) → b.state ≡ Free → b ≡ held_block k → ⊥
+not_held b k n e = let h = ap (λ (x : Block). x.state) e in absurd (cc)
 
-not_both : (s : NodeState) → s ≡ Free → s ≡ Allocated → ⊥
-not_both s a b = absurd (cc)
-
-pub other_state : (bs : List Block) (i : ℕ) (k : Range) → IsLeaf bs → i < length bs → (nth bs i).key.start ≤ k.start → k.start ≤ (nth bs i).key.end → (nth bs i).state ≡ Free → Holds k bs → ⊥
-other_state bs i k h l a b n f = not_both (nth bs i).state n (ap (λ (x : Block). x.state) (holds_at bs i k h l a b f))
-
-pub ends_up : (t l r : Shape) (s : ℕ) → t ≡ Fork l r → IsTree t → EndsHeld s (blocks t) → EndsHeld s (blocks r)
-ends_up t l r s q h f =
-    let g : EndsHeld s (blocks l ++ blocks r) = subst (λ (x : Shape). EndsHeld s (blocks x)) q f in
-    let e = last_append (blocks l) (blocks r) (omega (arith, right_some l r (subst IsTree q h))) in
-    record { held = ap (λ (b : Block). b.state) (sym e) ∙ g.held; start = ap (λ (b : Block). b.key.start) (sym e) ∙ g.start }
-
-pub starts_up : (t l r : Shape) (s : ℕ) → t ≡ Fork l r → IsTree t → StartsHeld s (blocks t) → StartsHeld s (blocks l)
-starts_up t l r s q h f =
-    let g : StartsHeld s (blocks l ++ blocks r) = subst (λ (x : Shape). StartsHeld s (blocks x)) q f in
-    let e = first_append (blocks l) (blocks r) (omega (arith, left_some l r (subst IsTree q h))) in
-    record { held = ap (λ (b : Block). b.state) (sym e) ∙ g.held; end = ap (λ (b : Block). b.key.end) (sym e) ∙ g.end }
+pub held_at : (bs : List Block) (i : ℕ) (k : Range) (x : ℕ) → IsLeaf bs → i < length bs → (nth bs i).key.start ≤ x → x ≤ (nth bs i).key.end → x ≡ k.start → Holds k bs → nth bs i ≡ held_block k
+held_at bs i k x h l a b e f = let s = holds_some bs i k h.lo h.hi h.tiles l f in holds_at bs i k h.lo h.hi h.tiles l f (omega arith) (omega arith)
 
 module _ (l r : List Block) (k : Range) (c : IsRun (l ++ r)) (n : 0 < length l) (m : 0 < length r) where
   long : length (l ++ r) ≡ length l + length r
@@ -114,44 +97,23 @@ module _ (l r : List Block) (k : Range) (c : IsRun (l ++ r)) (n : 0 < length l) 
         | inr i ↦ in_right f i
       ]
 
-  -- A held block up to the edge is the last of the left part.
-  pub held_below : k.end + 1 ≡ start_of r → Holds k (l ++ r) → EndsHeld k.start l
+  -- A held block at the edge is the last of the left part, or the first of the right part.
+  pub held_below : k.end + 1 ≡ start_of r → Holds k (l ++ r) → EndHeld Last k l
   held_below h f =
-      let s = ap (λ (x : Block). x.key.start) f.found in
-      let t = ap (λ (x : Block). x.key.end) f.found in
-      let e = ap (λ (x : Block). x.key.start) at_edge in
       let z = long in
-      let p = part f.index f.within in
-      let g = held_left (omega (arith, p.some)) f in
+      let e = ap (λ (x : Block). x.key.start) at_edge in
       let o = part (length l - 1) (omega arith) in
       let y : length l - 1 + 1 ≡ length l = omega arith in
       let next : (nth (l ++ r) (length l)).key.start ≡ (nth (l ++ r) (length l - 1)).key.end + 1 = rw y at (o.next (omega arith)) in
-      let same : f.index ≡ length l - 1 =
-      elim (cases_lt f.index (length l - 1)) [
-        | inl i ↦ (let u = order Allocated c.lo c.hi (l ++ r) f.index (length l - 1) c.tiles i (omega arith) in absurd (omega (arith, o.some)))
-        | inr i ↦ elim (cases_lt (length l - 1) f.index) [
-          | inl j ↦ (let u = order Allocated c.lo c.hi (l ++ r) (length l - 1) f.index c.tiles j f.within in absurd (omega (arith, p.some)))
-          | inr j ↦ omega arith
-        ]
-      ] in
-      let w : nth l (length l - 1) ≡ held_block k = sym before_edge ∙ ap (nth (l ++ r)) (sym same) ∙ f.found in
-      record { held = ap (λ (x : Block). x.state) w; start = ap (λ (x : Block). x.key.start) w }
+      let s = holds_some (l ++ r) (length l - 1) k c.lo c.hi c.tiles (omega arith) f in
+      let w : nth l (length l - 1) ≡ held_block k = sym before_edge ∙ holds_at (l ++ r) (length l - 1) k c.lo c.hi c.tiles (omega arith) f (omega (arith, o.some)) (omega arith) in
+      record { held = ap (λ (x : Block). x.state) w; inner = ap (λ (x : Block). x.key.start) w }
 
-  pub held_above : k.start ≡ start_of r → Holds k (l ++ r) → StartsHeld k.end r
+  pub held_above : k.start ≡ start_of r → Holds k (l ++ r) → EndHeld First k r
   held_above h f =
-      let s = ap (λ (x : Block). x.key.start) f.found in
-      let t = ap (λ (x : Block). x.key.end) f.found in
-      let e = ap (λ (x : Block). x.key.start) at_edge in
       let z = long in
-      let p = part f.index f.within in
+      let e = ap (λ (x : Block). x.key.start) at_edge in
       let o = part (length l) (omega arith) in
-      let same : f.index ≡ length l =
-      elim (cases_lt f.index (length l)) [
-        | inl i ↦ (let u = order Allocated c.lo c.hi (l ++ r) f.index (length l) c.tiles i (omega arith) in absurd (omega (arith, p.some)))
-        | inr i ↦ elim (cases_lt (length l) f.index) [
-          | inl j ↦ (let u = order Allocated c.lo c.hi (l ++ r) (length l) f.index c.tiles j f.within in absurd (omega (arith, o.some)))
-          | inr j ↦ omega arith
-        ]
-      ] in
-      let w : nth r 0 ≡ held_block k = sym at_edge ∙ ap (nth (l ++ r)) (sym same) ∙ f.found in
-      record { held = ap (λ (x : Block). x.state) w; end = ap (λ (x : Block). x.key.end) w }
+      let s = holds_some (l ++ r) (length l) k c.lo c.hi c.tiles (omega arith) f in
+      let w : nth r 0 ≡ held_block k = sym at_edge ∙ holds_at (l ++ r) (length l) k c.lo c.hi c.tiles (omega arith) f (omega arith) (omega (arith, o.some)) in
+      record { held = ap (λ (x : Block). x.state) w; inner = ap (λ (x : Block). x.key.end) w }

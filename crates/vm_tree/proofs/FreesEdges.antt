@@ -1,5 +1,5 @@
 -- A freed block at the edge between two trees, or inside one of them.
-use Rattle.std.proofs.Common.{◌≡◌, ◌≢◌, ℕ, ◌+◌, ◌-◌, ◌<◌, ◌≤◌, List, [], ◌∷◌, ◌++◌, length, take, drop, refl, ap, ◌∙◌, sym, subst, arith, append_assoc}
+use Rattle.std.proofs.Common.{◌≡◌, ◌≢◌, ℕ, ◌+◌, ◌-◌, ◌<◌, ◌≤◌, min, max, List, [], ◌∷◌, ◌++◌, length, take, drop, refl, ap, ◌∙◌, sym, subst, arith, append_assoc}
 use Rattle.vm_ranges.specs.Range.{Range, IsRange, MAX}
 use Rattle.vm_ranges.specs.declared.state.NodeState.TheVariants.{Free, Allocated}
 use Rattle.vm_leaf.specs.declared.block.Block.{Block}
@@ -7,296 +7,285 @@ use Rattle.vm_leaf.specs.Block.{held_block}
 use Rattle.vm_leaf.specs.Blocks.{nth, start_of, end_of, freed_between, with_free, IsRun}
 use Rattle.vm_leaf.proofs.Tiles.{tiles_part}
 use Rattle.std.specs.Prelude.{MatchOption, Option, Some, None}
-use Rattle.vm_tree.specs.Frees.{Frees, FreesLast, FreesFirst, Holds, EndsHeld, StartsHeld, FreesUnder}
+use Rattle.vm_tree.specs.Frees.{Frees, FreesEnd, Holds, EndHeld, CanExtend, FreesBeside, TouchesEdge, opposite, inner, span, block_at_end, without_end, fork_at, node_at}
 use Rattle.vm_tree.specs.declared.free.Freed.{Freed}
+use Rattle.vm_tree.specs.declared.end.End.{End}
+use Rattle.vm_tree.specs.declared.end.End.TheVariants.{First, Last}
 use Rattle.vm_tree.proofs.FreesAbsent.{held_left, held_right, held_below, held_above}
-use Rattle.vm_tree.specs.Shape.{Shape, Fork, blocks}
-use Rattle.vm_tree.specs.Changes.{CanChange, Reduces, Loosens}
+use Rattle.vm_tree.specs.Shape.{Shape, blocks}
+use Rattle.vm_tree.specs.Links.{side, IsSummed, IsNode}
+use Rattle.vm_tree.specs.declared.link.Link.{Link}
+use Rattle.vm_tree.specs.Changes.{CanChange, Reduces}
 use Rattle.vm_tree.specs.declared.change.Change.{Change}
 use Rattle.vm_tree.specs.declared.change.Change.TheVariants.{Structure}
-use Rattle.vm_tree.proofs.Lists.{start_append, end_append, end_left, cover_left, cover_right, cut_last, cut_at}
-use Rattle.vm_tree.proofs.Trees.{left_some, right_some, high}
-use Rattle.vm_tree.proofs.Updates.{can_left, can_right, loosens_left, loosens_right, loosens_both}
-use Rattle.vm_tree.proofs.Frees.{freed_over, freed_under, freed_held_after, freed_gap_after, freed_held_before, freed_gap_before, cover_freed, start_free, start_freed}
-use Rattle.vm_tree.proofs.FreesTrees.{cover_start, cover_end, cover_order, last_length, first_length, freed_length}
+use Rattle.vm_tree.proofs.Lists.{start_append, end_append, end_left, cut_last, cut_at}
+use Rattle.vm_tree.proofs.Trees.{high}
+use Rattle.vm_tree.proofs.Updates.{loosens_left, loosens_right, loosens_both}
+use Rattle.vm_tree.proofs.Frees.{freed_after, freed_before, freed_held_after, freed_gap_after, freed_held_before, freed_gap_before, cover_freed, start_free, start_freed}
+use Rattle.vm_tree.proofs.FreesTrees.{cover_start, cover_end, cover_order, end_length, freed_length, can_l, can_r, many_l, many_r, edge_is, child_can, FreesIn}
 
-pub cover_range : (bs : List Block) → IsRun bs → IsRange (start_of bs) (end_of bs)
+cover_range : (bs : List Block) → IsRun bs → IsRange (start_of bs) (end_of bs)
 cover_range bs h = let a = cover_start bs h in let b = cover_end bs h in (omega (arith, h.range.0), omega (arith, h.range.1), λ y. omega (arith, h.range.2))
 
-pub next_start : (bs : List Block) → IsRun bs → 1 < length bs → start_of (drop 1 bs) ≡ (nth bs 0).key.end + 1
+next_start : (bs : List Block) → IsRun bs → 1 < length bs → start_of (drop 1 bs) ≡ (nth bs 0).key.end + 1
 next_start [] h n = absurd (omega arith)
 next_start (b ∷ []) h n = absurd (omega arith)
 next_start (b ∷ c ∷ bs) h n = h.tiles.3.0
 
-pub next_fits : (bs : List Block) → IsRun bs → 1 < length bs → ((nth bs 0).key.end + 1 ≤ MAX) × (start_of bs ≤ (nth bs 0).key.end)
+next_fits : (bs : List Block) → IsRun bs → 1 < length bs → ((nth bs 0).key.end + 1 ≤ MAX) × (start_of bs ≤ (nth bs 0).key.end)
 next_fits bs h n =
     let p = tiles_part Allocated h.lo h.hi bs 0 h.tiles (omega arith) in
     let q = tiles_part Allocated h.lo h.hi bs 1 h.tiles n in
     let e = p.next n in
     (omega (arith, h.range.1, q.some, q.upto), p.some)
 
+last_fits : (bs : List Block) → IsRun bs → 1 < length bs → (0 < (nth bs (length bs - 1)).key.start) × ((nth bs (length bs - 1)).key.start ≤ end_of bs)
+last_fits bs h n = let p = tiles_part Allocated h.lo h.hi bs (length bs - 1) h.tiles (omega arith) in (omega (arith, p.above (omega arith)), p.some)
+
 frees_cover : (k : Range) (xs ys : List Block) → Frees k xs ys → IsRun xs → IsRun ys
 frees_cover k xs ys f h = subst IsRun (sym f.after) (cover_freed f.lower k f.upper (subst IsRun f.before h))
-
-module _ (l r a : List Block) (s e z : ℕ) (c : IsRun (l ++ r)) (n : 0 < length l) (m : 0 < length r) (edge : e + 1 ≡ start_of r) (f : FreesLast s z l a) where
-  last_is : f.last ≡ e
-  last_is =
-      let d = end_left l r c n m in
-      let o : end_of l ≡ f.last = ap end_of f.before ∙ end_append f.lower (held_block (record { start = s; end = f.last }) ∷ []) (omega arith) in
-      omega arith
-
-  below_before : l ++ r ≡ f.lower ++ held_block (record { start = s; end = e }) ∷ r
-  below_before =
-      ap (λ (x : List Block). x ++ r) f.before
-      ∙ append_assoc f.lower (held_block (record { start = s; end = f.last }) ∷ []) r
-      ∙ ap (λ (v : ℕ). f.lower ++ held_block (record { start = s; end = v }) ∷ r) last_is
-
-  pub below_held : z ≡ e → (nth r 0).state ≡ Allocated → Frees (record { start = s; end = e }) (l ++ r) (a ++ r)
-  below_held q h = record {
-    lower = f.lower;
-    upper = r;
-    before = below_before;
-    after =
-        ap (λ (x : List Block). x ++ r) (f.after ∙ ap (λ (v : ℕ). freed_between f.lower (record { start = s; end = v }) []) q)
-        ∙ ap (λ (x : List Block). freed_between f.lower (record { start = s; end = e }) [] ++ x) (cut_at r 0 m)
-        ∙ freed_held_after f.lower (nth r 0) (drop 1 r) (record { start = s; end = e }) h
-        ∙ ap (λ (x : List Block). freed_between f.lower (record { start = s; end = e }) x) (sym (cut_at r 0 m));
-  }
-
-  pub below_gap : z ≡ (nth r 0).key.end → (nth r 0).state ≡ Free → Frees (record { start = s; end = e }) (l ++ r) (a ++ drop 1 r)
-  below_gap q h = record {
-    lower = f.lower;
-    upper = r;
-    before = below_before;
-    after =
-        ap (λ (x : List Block). x ++ drop 1 r) (f.after ∙ ap (λ (v : ℕ). freed_between f.lower (record { start = s; end = v }) []) q)
-        ∙ freed_gap_after f.lower (nth r 0) (drop 1 r) s e h
-        ∙ ap (λ (x : List Block). freed_between f.lower (record { start = s; end = e }) x) (sym (cut_at r 0 m));
-  }
-
-module _ (l r b : List Block) (s e z : ℕ) (n : 0 < length l) (edge : s ≡ start_of r) (f : FreesFirst z e r b) where
-  first_is : f.first ≡ s
-  first_is = let o : start_of r ≡ f.first = ap start_of f.before in omega arith
-
-  above_before : l ++ r ≡ l ++ held_block (record { start = s; end = e }) ∷ f.upper
-  above_before = ap (λ (x : List Block). l ++ x) f.before ∙ ap (λ (v : ℕ). l ++ held_block (record { start = v; end = e }) ∷ f.upper) first_is
-
-  pub above_held : z ≡ s → (nth l (length l - 1)).state ≡ Allocated → Frees (record { start = s; end = e }) (l ++ r) (l ++ b)
-  above_held q h = record {
-    lower = l;
-    upper = f.upper;
-    before = above_before;
-    after =
-        ap (λ (x : List Block). l ++ x) (f.after ∙ ap (λ (v : ℕ). with_free (record { start = v; end = e }) f.upper) q)
-        ∙ ap (λ (x : List Block). x ++ with_free (record { start = s; end = e }) f.upper) (cut_last l n)
-        ∙ freed_held_before (take (length l - 1) l) (nth l (length l - 1)) f.upper (record { start = s; end = e }) h
-        ∙ ap (λ (x : List Block). freed_between x (record { start = s; end = e }) f.upper) (sym (cut_last l n));
-  }
-
-  pub above_gap : z ≡ (nth l (length l - 1)).key.start → (nth l (length l - 1)).state ≡ Free → Frees (record { start = s; end = e }) (l ++ r) (take (length l - 1) l ++ b)
-  above_gap q h = record {
-    lower = l;
-    upper = f.upper;
-    before = above_before;
-    after =
-        ap (λ (x : List Block). take (length l - 1) l ++ x) (f.after ∙ ap (λ (v : ℕ). with_free (record { start = v; end = e }) f.upper) q)
-        ∙ freed_gap_before (take (length l - 1) l) (nth l (length l - 1)) f.upper (record { start = s; end = e }) h
-        ∙ ap (λ (x : List Block). freed_between x (record { start = s; end = e }) f.upper) (sym (cut_last l n));
-  }
 
 upper_some : (l : List Block) (k : Range) (m us : List Block) → l ≡ m ++ held_block k ∷ us → (end_of l ≡ k.end → ⊥) → 0 < length us
 upper_some l k m [] e u = absurd (u (ap end_of e ∙ end_append m (held_block k ∷ []) (omega arith)))
 upper_some l k m (b ∷ us) e u = omega arith
 
--- A block inside the left part.
-pub inside_left : (l r a : List Block) (k : Range) → IsRun (l ++ r) → 0 < length l → 0 < length r → k.end + 1 ≢ start_of r → Frees k l a → Frees k (l ++ r) (a ++ r)
-inside_left l r a k c n m u f =
-    let d = end_left l r c n m in
-    let some : 0 < length f.upper = upper_some l k f.lower f.upper f.before (λ z. u (omega arith)) in
-    record {
-      lower = f.lower;
-      upper = f.upper ++ r;
-      before = ap (λ (x : List Block). x ++ r) f.before ∙ append_assoc f.lower (held_block k ∷ f.upper) r;
-      after = ap (λ (x : List Block). x ++ r) f.after ∙ freed_over f.lower f.upper r k some;
-    }
-
--- A block inside the right part.
 lower_some : (r : List Block) (k : Range) (m us : List Block) → r ≡ m ++ held_block k ∷ us → (start_of r ≡ k.start → ⊥) → 0 < length m
 lower_some r k [] us e u = absurd (u (ap start_of e))
 lower_some r k (b ∷ m) us e u = omega arith
 
-pub inside_right : (l r b : List Block) (k : Range) → k.start ≢ start_of r → Frees k r b → Frees k (l ++ r) (l ++ b)
+-- A block inside the left part, or inside the right part.
+inside_left : (l r a : List Block) (k : Range) → IsRun (l ++ r) → 0 < length l → 0 < length r → k.end + 1 ≢ start_of r → Frees k l a → Frees k (l ++ r) (a ++ r)
+inside_left l r a k c n m u f =
+    let d = end_left l r c n m in
+    let o = freed_before k k f.lower f.upper l a f.before f.after r (upper_some l k f.lower f.upper f.before (λ z. u (omega arith))) in
+    record { lower = f.lower; upper = f.upper ++ r; before = o.0; after = o.1 }
+
+inside_right : (l r b : List Block) (k : Range) → k.start ≢ start_of r → Frees k r b → Frees k (l ++ r) (l ++ b)
 inside_right l r b k u f =
-    let some : 0 < length f.lower = lower_some r k f.lower f.upper f.before (λ z. u (sym z)) in
+    let o = freed_after k k f.lower f.upper r b f.before f.after l (lower_some r k f.lower f.upper f.before (λ z. u (sym z))) in
+    record { lower = l ++ f.lower; upper = f.upper; before = o.0; after = o.1 }
+
+-- The edge between the children of a node: the first address of the right one. The child c is at this end.
+abbrev pub edge_of : End → Shape → Shape → ℕ
+edge_of First c x = start_of (blocks x)
+edge_of Last c x = start_of (blocks c)
+
+-- The range k of the child at this end, together with the gap g beside it.
+abbrev pub with_gap : End → Range → Range → Range
+with_gap First k g = span k.start g.end
+with_gap Last k g = span g.start k.end
+
+same_inner : (end : End) (k g : Range) → inner (opposite end) (with_gap end k g) ≡ inner (opposite end) k
+same_inner First k g = refl
+same_inner Last k g = refl
+
+-- Only the child c of a node changed.
+pub under_child : (end : End) (k : Range) (c x d : Shape) → CanChange (fork_at end c x) → (o : Option Freed)
+    → MatchOption o ((d ≡ c) × ¬ Holds k (blocks (fork_at end c x))) (λ (g : Freed). Frees k (blocks (fork_at end c x)) (blocks (fork_at end d x)) × (g.joined ≤ 2) × Reduces g.change g.joined c d)
+    → FreesBeside end k c x d x o
+under_child First k c x d h None s = (s.0, refl, s.1)
+under_child Last k c x d h None s = (refl, s.0, s.1)
+under_child First k c x d h (Some g) s = (s.0, loosens_left g.change g.joined c x d h.tree s.1 s.2 (frees_cover k (blocks c ++ blocks x) (blocks d ++ blocks x) s.0 h.run))
+under_child Last k c x d h (Some g) s = (s.0, loosens_right g.change g.joined x c d h.tree s.1 s.2 (frees_cover k (blocks x ++ blocks c) (blocks x ++ blocks d) s.0 h.run))
+
+-- Both children changed.
+both_loosened : (end : End) (k : Range) (a b : Change) (n : ℕ) (c x d y : Shape) → CanChange (fork_at end c x) → n ≤ 1 → Reduces a n c d → Reduces b 1 x y
+    → Frees k (blocks (fork_at end c x)) (blocks (fork_at end d y)) → FreesBeside end k c x d y (Some (record { change = Structure; joined = n + 1 }))
+both_loosened First k a b n c x d y h few s t o = (o, loosens_both a b n 1 c x d y h.tree (omega arith) (omega arith) (omega arith) s t (frees_cover k (blocks c ++ blocks x) (blocks d ++ blocks y) o h.run))
+both_loosened Last k a b n c x d y h few s t o =
+    let f : 1 + n ≡ n + 1 = omega arith in
+    (o, rw f at (loosens_both b a 1 n x c y d h.tree (omega arith) (omega arith) (omega arith) t s (frees_cover k (blocks x ++ blocks c) (blocks y ++ blocks d) o h.run)))
+
+-- The child c at an end of a node, and the other child x. The range k in c touches the edge between them.
+pub far_can : (end : End) (c x : Shape) → CanChange (fork_at end c x) → CanChange x
+far_can First c x h = can_r c x h
+far_can Last c x h = can_l x c h
+
+pub far_many : (end : End) (c x : Shape) → CanChange (fork_at end c x) → 1 < length (blocks x)
+far_many First c x h = many_r c x h
+far_many Last c x h = many_l x c h
+
+pub near_extends : (end : End) (k : Range) (c x : Shape) → CanChange (fork_at end c x) → TouchesEdge end k (edge_of end c x) → CanExtend (opposite end) k (blocks c)
+near_extends First k c x h e =
+    let d = edge_is c x h in
+    let g = cover_range (blocks c) (can_l c x h).run in
+    (omega arith, (omega (arith, g.0), omega (arith, g.1), λ y. omega (arith, g.2)))
+near_extends Last k c x h e =
+    let g = cover_range (blocks c) (can_r x c h).run in
+    (omega arith, (omega (arith, g.0), omega (arith, g.1), λ y. omega (arith, g.2)))
+
+pub gap_extends : (end : End) (k : Range) (c x : Shape) → CanChange (fork_at end c x) → CanExtend (opposite end) (with_gap end k (block_at_end end (blocks x)).key) (blocks c)
+gap_extends First k c x h =
+    let d = edge_is c x h in
+    let g = next_fits (blocks x) (can_r c x h).run (many_r c x h) in
+    let o = cover_order (blocks c) (can_l c x h).run in
+    (omega (arith, g.1), (omega (arith, g.1), omega (arith, g.0), λ y. omega (arith, g.0)))
+gap_extends Last k c x h =
+    let d = edge_is x c h in
+    let g = last_fits (blocks x) (can_l x c h).run (many_l x c h) in
+    let o = cover_range (blocks c) (can_r x c h).run in
+    (omega (arith, g.1), (omega (arith, g.1, o.0), omega (arith, o.1), λ y. absurd (omega (arith, g.0))))
+
+-- The edge after it moved over the gap of the other child, which z ends or starts with.
+abbrev pub edge_past : End → Range → ℕ
+edge_past First z = z.end + 1
+edge_past Last z = z.start
+
+hull_is : (end : End) (k : Range) (c x : Shape) → CanChange (fork_at end c x) → TouchesEdge end k (edge_of end c x) → k.start ≤ k.end
+    → span (min k.start (block_at_end end (blocks x)).key.start) (max k.end (block_at_end end (blocks x)).key.end) ≡ with_gap end k (block_at_end end (blocks x)).key
+hull_is First k c x h e o =
+    let g = next_fits (blocks x) (can_r c x h).run (many_r c x h) in
+    let s : min k.start (nth (blocks x) 0).key.start ≡ k.start = omega arith in
+    let z : max k.end (nth (blocks x) 0).key.end ≡ (nth (blocks x) 0).key.end = omega (arith, g.1) in
+    rw (s, z) refl
+hull_is Last k c x h e o =
+    let d = edge_is x c h in
+    let g = last_fits (blocks x) (can_l x c h).run (many_l x c h) in
+    let s : min k.start (nth (blocks x) (length (blocks x) - 1)).key.start ≡ (nth (blocks x) (length (blocks x) - 1)).key.start = omega (arith, g.1) in
+    let z : max k.end (nth (blocks x) (length (blocks x) - 1)).key.end ≡ k.end = omega arith in
+    rw (s, z) refl
+
+held_beside : (end : End) (k : Range) (c x : Shape) → CanChange (fork_at end c x) → TouchesEdge end k (edge_of end c x) → Holds k (blocks (fork_at end c x)) → EndHeld (opposite end) k (blocks c)
+held_beside First k c x h e f = held_below (blocks c) (blocks x) k h.run (omega (arith, many_l c x h)) (omega (arith, many_r c x h)) e f
+held_beside Last k c x h e f = held_above (blocks x) (blocks c) k h.run (omega (arith, many_l x c h)) (omega (arith, many_r x c h)) e f
+
+-- The gap z beside y is the same as the gap k beside x, joined with its free neighbour.
+abbrev Seals : End → Range → Range → List Block → List Block → Type 0
+Seals First k z x y = (m : List Block) → freed_between m z [] ++ y ≡ freed_between m k x
+Seals Last k z x y = (us : List Block) → y ++ with_free z us ≡ freed_between x k us
+
+seals_held : (end : End) (k : Range) (x : List Block) → 0 < length x → (block_at_end end x).state ≡ Allocated → Seals end k k x x
+seals_held First k x n st = λ m.
+    ap (λ (u : List Block). freed_between m k [] ++ u) (cut_at x 0 n) ∙ freed_held_after m (nth x 0) (drop 1 x) k st ∙ ap (freed_between m k) (sym (cut_at x 0 n))
+seals_held Last k x n st = λ us.
+    ap (λ (u : List Block). u ++ with_free k us) (cut_last x n) ∙ freed_held_before (take (length x - 1) x) (nth x (length x - 1)) us k st ∙ ap (λ (u : List Block). freed_between u k us) (sym (cut_last x n))
+
+seals_gap : (end : End) (k : Range) (x : List Block) → 0 < length x → (block_at_end end x).state ≡ Free → Seals end k (with_gap end k (block_at_end end x).key) x (without_end end x)
+seals_gap First k x n st = λ m. freed_gap_after m (nth x 0) (drop 1 x) k.start k.end st ∙ ap (freed_between m k) (sym (cut_at x 0 n))
+seals_gap Last k x n st = λ us. freed_gap_before (take (length x - 1) x) (nth x (length x - 1)) us k st ∙ ap (λ (u : List Block). freed_between u k us) (sym (cut_last x n))
+
+same_range : (k z : Range) → z.start ≡ k.start → z.end ≡ k.end → z ≡ k
+same_range k z s e = ap (λ (v : ℕ). record { start = v; end = z.end }) s ∙ ap (λ (v : ℕ). record { start = k.start; end = v }) e
+
+frees_beside : (end : End) (k z : Range) (c x d y : Shape) → CanChange (fork_at end c x) → TouchesEdge end k (edge_of end c x) → inner (opposite end) z ≡ inner (opposite end) k
+    → FreesEnd (opposite end) z (blocks c) (blocks d) → Seals end k z (blocks x) (blocks y) → Frees k (blocks (fork_at end c x)) (blocks (fork_at end d y))
+frees_beside First k z c x d y h e i f p =
+    let b : blocks c ≡ f.lower ++ held_block f.was ∷ [] = f.before ∙ ap (λ (u : List Block). f.lower ++ held_block f.was ∷ u) f.none in
+    let o : end_of (blocks c) ≡ f.was.end = ap end_of b ∙ end_append f.lower (held_block f.was ∷ []) (omega arith) in
+    let g = edge_is c x h in
+    let was : f.was ≡ k = same_range k f.was (f.inner ∙ i) (omega arith) in
     record {
-      lower = l ++ f.lower;
+      lower = f.lower;
+      upper = blocks x;
+      before = ap (λ (u : List Block). u ++ blocks x) b ∙ append_assoc f.lower (held_block f.was ∷ []) (blocks x) ∙ ap (λ (v : Range). f.lower ++ held_block v ∷ blocks x) was;
+      after = ap (λ (u : List Block). u ++ blocks y) (f.after ∙ ap (freed_between f.lower z) f.none) ∙ p f.lower;
+    }
+frees_beside Last k z c x d y h e i f p =
+    let b : blocks c ≡ held_block f.was ∷ f.upper = f.before ∙ ap (λ (u : List Block). u ++ held_block f.was ∷ f.upper) f.none in
+    let was : f.was ≡ k = same_range k f.was (sym (ap start_of b) ∙ sym e) (f.inner ∙ i) in
+    record {
+      lower = blocks x;
       upper = f.upper;
-      before = ap (λ (x : List Block). l ++ x) f.before ∙ sym (append_assoc l f.lower (held_block k ∷ f.upper));
-      after = ap (λ (x : List Block). l ++ x) f.after ∙ sym (freed_under l f.lower f.upper k some);
+      before = ap (λ (u : List Block). blocks x ++ u) b ∙ ap (λ (v : Range). blocks x ++ held_block v ∷ f.upper) was;
+      after = ap (λ (u : List Block). blocks y ++ u) (f.after ∙ ap (λ (u : List Block). freed_between u z f.upper) f.none) ∙ p f.upper;
     }
 
-pub inside_start : (r b : List Block) (k : Range) → k.start ≢ start_of r → Frees k r b → start_of b ≡ start_of r
-inside_start r b k u f =
-    let some : 0 < length f.lower = lower_some r k f.lower f.upper f.before (λ z. u (sym z)) in
-    ap start_of f.after ∙ start_freed f.lower k f.upper some ∙ sym (ap start_of f.before ∙ start_append f.lower (held_block k ∷ f.upper) some)
+pub beside_edge : (end : End) (k : Range) (at : ℕ) (near far : Link) → IsNode (node_at end at near far) → TouchesEdge end k at → TouchesEdge end k (edge_of end (side near) (side far))
+beside_edge First k at near far n e = e ∙ n.at
+beside_edge Last k at near far n e = e ∙ n.at
 
-pub first_start_is : (r b : List Block) (z e : ℕ) → FreesFirst z e r b → start_of b ≡ z
-first_start_is r b z e f = ap start_of f.after ∙ start_free (record { start = z; end = e }) f.upper
+-- The block beside the edge is held: only the child c changes.
+pub beside_held : (end : End) (k : Range) (c x d : Shape) → CanChange (fork_at end c x) → TouchesEdge end k (edge_of end c x) → (block_at_end end (blocks x)).state ≡ Allocated
+    → (o : Option Freed) → FreesIn (opposite end) k c d o → FreesBeside end k c x d x o
+beside_held end k c x d h e st None s = under_child end k c x d h None (s.0, λ (y : Holds k (blocks (fork_at end c x))). s.1 (held_beside end k c x h e y))
+beside_held end k c x d h e st (Some g) s =
+    let o = frees_beside end k k c x d x h e refl s.0 (seals_held end k (blocks x) (omega (arith, far_many end c x h)) st) in
+    let m = end_length (opposite end) k (blocks c) (blocks d) s.0 in
+    under_child end k c x d h (Some g) (o, omega (arith, s.1.loss), s.1)
 
-module _ (l r : Shape) (h : CanChange (Fork l r)) where
-  pub can_l : CanChange l
-  can_l = can_left (Fork l r) l r refl h
+-- The block of x beside the edge is a gap. The range z is k and this gap.
+pub record Beside (end : End) (k z : Range) (c x : Shape) : Type 0 where
+  pub can : CanChange (fork_at end c x)
+  pub edge : TouchesEdge end k (edge_of end c x)
+  pub gap : z ≡ with_gap end k (block_at_end end (blocks x)).key
 
-  pub can_r : CanChange r
-  can_r = can_right (Fork l r) l r refl h
+pub gap_beside : (end : End) (k : Range) (near far : Link) (b : Block) (s l : ℕ) → CanChange (fork_at end (side near) (side far)) → TouchesEdge end k (edge_of end (side near) (side far)) → k.start ≤ k.end
+    → b ≡ block_at_end end (blocks (side far)) → s ≡ min k.start b.key.start → l ≡ max k.end b.key.end → Beside end k (span s l) (side near) (side far)
+gap_beside end k near far b s l h e o q i j = record { can = h; edge = e; gap = rw (i, j, q) (hull_is end k (side near) (side far) h e o) }
 
-  pub some_l : 0 < length (blocks l)
-  some_l = omega (arith, left_some l r h.tree)
+gap_fits : (end : End) (k z : Range) (c x : Shape) → Beside end k z c x → end ≡ First → z.end + 1 ≤ MAX
+gap_fits First k z c x q e = let f = ap (λ (v : Range). v.end) q.gap in let g = next_fits (blocks x) (can_r c x q.can).run (many_r c x q.can) in omega (arith, g.0)
+gap_fits Last k z c x q e = absurd (cc)
 
-  pub some_r : 0 < length (blocks r)
-  some_r = omega (arith, right_some l r h.tree)
+gap_node : (end : End) (k z : Range) (c x : Shape) → Beside end k z c x → (near far : Link) (at : ℕ) → FreesEnd (opposite end) z (blocks c) (blocks (side near)) → blocks (side far) ≡ without_end end (blocks x)
+    → IsSummed near → IsSummed far → at ≡ edge_past end z → IsNode (node_at end at near far)
+gap_node First k z c x q near far at f w s t a =
+    record {
+      at = a ∙ ap (λ (v : Range). v.end + 1) q.gap ∙ sym (next_start (blocks x) (can_r c x q.can).run (many_r c x q.can)) ∙ ap start_of (sym w);
+      summed = record { left = s; right = t };
+    }
+gap_node Last k z c x q near far at f w s t a =
+    record { at = a ∙ sym (ap start_of (f.after ∙ ap (λ (u : List Block). freed_between u z f.upper) f.none) ∙ start_free z f.upper); summed = record { left = t; right = s } }
 
-  pub many_r : 1 < length (blocks r)
-  many_r = omega (arith, right_some l r h.tree)
+-- The gap is dropped, and c is freed together with it.
+module _ {end : End} {k z : Range} {c x : Shape} (q : Beside end k z c x) where
+  inner_is : inner (opposite end) z ≡ inner (opposite end) k
+  inner_is = ap (inner (opposite end)) q.gap ∙ same_inner end k _
 
-  pub many_l : 1 < length (blocks l)
-  many_l = omega (arith, left_some l r h.tree)
+  pub beside_extends : CanExtend (opposite end) z (blocks c)
+  beside_extends = rw q.gap (gap_extends end k c x q.can)
 
-  run_l : IsRun (blocks l)
-  run_l = cover_left (blocks l) (blocks r) h.run some_l
+  pub beside_fits : end ≡ First → z.end + 1 ≤ MAX
+  beside_fits e = gap_fits end k z c x q e
 
-  run_r : IsRun (blocks r)
-  run_r = cover_right (blocks l) (blocks r) h.run some_l some_r
+  pub beside_none : (d : Shape) → (d ≡ c) × ¬ EndHeld (opposite end) z (blocks c) → FreesBeside end k c x d x None
+  beside_none d s =
+      under_child end k c x d q.can None
+      (s.0, λ (y : Holds k (blocks (fork_at end c x))). (let f = held_beside end k c x q.can q.edge y in s.1 (record { held = f.held; inner = f.inner ∙ sym inner_is })))
 
-  pub edge_is : start_of (blocks r) ≡ end_of (blocks l) + 1
-  edge_is = end_left (blocks l) (blocks r) h.run some_l some_r
+  module _ (near far : Link) (g : Freed) (f : FreesEnd (opposite end) z (blocks c) (blocks (side near)) × Reduces g.change g.joined c (side near)) where
+    pub beside_few : g.joined ≤ 1
+    beside_few = omega (arith, end_length (opposite end) z (blocks c) (blocks (side near)) f.0, f.1.loss)
 
-  -- The left subtree can be freed up to the edge, or up to the end of the gap after it.
-  pub below_up : (e : ℕ) → e + 1 ≡ start_of (blocks r) → end_of (blocks l) ≤ e
-  below_up e q = let d = edge_is in omega arith
+    pub beside_node : (at : ℕ) → blocks (side far) ≡ without_end end (blocks x) → IsSummed near → IsSummed far → at ≡ edge_past end z → IsNode (node_at end at near far)
+    beside_node at w s t a = gap_node end k z c x q near far at f.0 w s t a
 
-  pub below_range : (e : ℕ) → e + 1 ≡ start_of (blocks r) → IsRange (start_of (blocks l)) e
-  below_range e q = let d = edge_is in let g = cover_range (blocks l) run_l in (omega (arith, g.0), omega (arith, g.1), λ y. omega (arith, g.2))
+    pub beside_gap : (ch : Change) → (block_at_end end (blocks x)).state ≡ Free → blocks (side far) ≡ without_end end (blocks x) → Reduces ch 1 x (side far)
+        → FreesBeside end k c x (side near) (side far) (Some (record { change = Structure; joined = g.joined + 1 }))
+    beside_gap ch st w t =
+        let p = seals_gap end k (blocks x) (omega (arith, far_many end c x q.can)) st in
+        let o = frees_beside end k z c x (side near) (side far) q.can q.edge inner_is f.0 (rw (w, q.gap) p) in
+        both_loosened end k g.change ch g.joined c x (side near) (side far) q.can beside_few f.1 t o
 
-  pub gap_up : (e : ℕ) → e ≡ (nth (blocks r) 0).key.end → end_of (blocks l) ≤ e
-  gap_up e q = let d = edge_is in let g = next_fits (blocks r) run_r many_r in omega (arith, g.1)
+-- The range k is in the child c, and does not touch the edge.
+abbrev pub IsInside : End → Range → ℕ → Type 0
+IsInside First k at = (k.start < at) × (k.end + 1 ≢ at)
+IsInside Last k at = at < k.start
 
-  pub gap_range : (e : ℕ) → e ≡ (nth (blocks r) 0).key.end → IsRange (start_of (blocks l)) e
-  gap_range e q =
-      let d = edge_is in
-      let g = next_fits (blocks r) run_r many_r in
-      let o = cover_order (blocks l) run_l in
-      (omega (arith, g.1), omega (arith, g.0), λ y. omega (arith, g.0))
+inside_held : (end : End) (k : Range) (c x : Shape) → CanChange (fork_at end c x) → IsInside end k (edge_of end c x) → Holds k (blocks (fork_at end c x)) → Holds k (blocks c)
+inside_held First k c x h i f = held_left (blocks c) (blocks x) k h.run (omega (arith, many_l c x h)) (omega (arith, many_r c x h)) i.0 f
+inside_held Last k c x h i f = held_right (blocks x) (blocks c) k h.run (omega (arith, many_l x c h)) (omega (arith, many_r x c h)) (omega arith) f
 
-  pub gap_next : (e : ℕ) → e ≡ (nth (blocks r) 0).key.end → e + 1 ≡ start_of (drop 1 (blocks r))
-  gap_next e q = ap (λ (v : ℕ). v + 1) q ∙ sym (next_start (blocks r) run_r many_r)
+inside_frees : (end : End) (k : Range) (c x d : Shape) → CanChange (fork_at end c x) → IsInside end k (edge_of end c x) → Frees k (blocks c) (blocks d) → Frees k (blocks (fork_at end c x)) (blocks (fork_at end d x))
+inside_frees First k c x d h i f = inside_left (blocks c) (blocks x) (blocks d) k h.run (omega (arith, many_l c x h)) (omega (arith, many_r c x h)) i.1 f
+inside_frees Last k c x d h i f = inside_right (blocks x) (blocks c) (blocks d) k (λ z. omega arith) f
 
-  pub gap_fits : (e : ℕ) → e ≡ (nth (blocks r) 0).key.end → e + 1 ≤ MAX
-  gap_fits e q = let g = next_fits (blocks r) run_r many_r in omega (arith, g.0)
-
-  -- The right subtree can be freed from the edge on, or from the start of the gap before it.
-  pub above_range : (s : ℕ) → s ≡ start_of (blocks r) → IsRange s (end_of (blocks r))
-  above_range s q = let g = cover_range (blocks r) run_r in subst (λ (v : ℕ). IsRange v (end_of (blocks r))) (sym q) g
-
-  pub before_down : (s : ℕ) → s ≡ (nth (blocks l) (length (blocks l) - 1)).key.start → s ≤ start_of (blocks r)
-  before_down s q =
-      let d = edge_is in
-      let p = tiles_part Allocated run_l.lo run_l.hi (blocks l) (length (blocks l) - 1) run_l.tiles (omega (arith, many_l)) in
-      omega (arith, p.some)
-
-  pub before_range : (s : ℕ) → s ≡ (nth (blocks l) (length (blocks l) - 1)).key.start → IsRange s (end_of (blocks r))
-  before_range s q =
-      let d = before_down s q in
-      let o = cover_order (blocks r) run_r in
-      let g = cover_range (blocks r) run_r in
-      let p = tiles_part Allocated run_l.lo run_l.hi (blocks l) (length (blocks l) - 1) run_l.tiles (omega (arith, many_l)) in
-      (omega arith, omega (arith, g.1), λ y. absurd (omega (arith, p.above (omega (arith, many_l)))))
-
-  -- One of both subtrees was freed.
-  module _ (c : Change) (n : ℕ) (k : Range) where
-    pub left_loosens : (a : Shape) → n ≤ 2 → Reduces c n l a → Frees k (blocks l ++ blocks r) (blocks a ++ blocks r) → Loosens c n l r a r
-    left_loosens a few g f = loosens_left c n l r a h.tree few g (frees_cover k (blocks l ++ blocks r) (blocks a ++ blocks r) f h.run)
-
-    pub right_loosens : (b : Shape) → n ≤ 2 → Reduces c n r b → Frees k (blocks l ++ blocks r) (blocks l ++ blocks b) → Loosens c n l r l b
-    right_loosens b few g f = loosens_right c n l r b h.tree few g (frees_cover k (blocks l ++ blocks r) (blocks l ++ blocks b) f h.run)
-
-  -- The range k ended at the edge.
-  module _ (k : Range) (edge : k.end + 1 ≡ start_of (blocks r)) (c : Change) (n : ℕ) (a : Shape) where
-    pub few_below : (e : ℕ) → FreesLast k.start e (blocks l) (blocks a) → Reduces c n l a → n ≤ 1
-    few_below e f g = omega (arith, last_length (blocks l) (blocks a) k.start e f, g.loss)
-
-    pub freed_below : (nth (blocks r) 0).state ≡ Allocated → FreesLast k.start k.end (blocks l) (blocks a) → Reduces c n l a
-        → Frees k (blocks l ++ blocks r) (blocks a ++ blocks r) × Loosens c n l r a r
-    freed_below st f g =
-        let o = below_held (blocks l) (blocks r) (blocks a) k.start k.end k.end h.run some_l some_r edge f refl st in
-        let m = few_below k.end f g in
-        (o, left_loosens c n k a (omega arith) g o)
-
-    pub freed_below_gap : (e : ℕ) (d : Change) (b : Shape) → (nth (blocks r) 0).state ≡ Free → e ≡ (nth (blocks r) 0).key.end → FreesLast k.start e (blocks l) (blocks a) → Reduces c n l a
-        → blocks b ≡ drop 1 (blocks r) → Reduces d 1 r b → Frees k (blocks l ++ blocks r) (blocks a ++ blocks b) × Loosens Structure (n + 1) l r a b
-    freed_below_gap e d b st q f g w j =
-        let m = few_below e f g in
-        let o : Frees k (blocks l ++ blocks r) (blocks a ++ blocks b) = subst (λ (x : List Block). Frees k (blocks l ++ blocks r) (blocks a ++ x)) (sym w)
-        (below_gap (blocks l) (blocks r) (blocks a) k.start k.end e h.run some_l some_r edge f q st) in
-        (o, loosens_both c d n 1 l r a b h.tree (omega arith) (omega arith) (omega arith) g j (frees_cover k (blocks l ++ blocks r) (blocks a ++ blocks b) o h.run))
-
-  -- The range k started at the edge.
-  module _ (k : Range) (edge : k.start ≡ start_of (blocks r)) (c : Change) (n : ℕ) (b : Shape) where
-    pub few_above : (s : ℕ) → FreesFirst s k.end (blocks r) (blocks b) → Reduces c n r b → n ≤ 1
-    few_above s f g = omega (arith, first_length (blocks r) (blocks b) s k.end f, g.loss)
-
-    pub freed_above : (nth (blocks l) (length (blocks l) - 1)).state ≡ Allocated → FreesFirst k.start k.end (blocks r) (blocks b) → Reduces c n r b
-        → Frees k (blocks l ++ blocks r) (blocks l ++ blocks b) × Loosens c n l r l b
-    freed_above st f g =
-        let o = above_held (blocks l) (blocks r) (blocks b) k.start k.end k.start some_l edge f refl st in
-        let m = few_above k.start f g in
-        (o, right_loosens c n k b (omega arith) g o)
-
-    pub freed_above_gap : (s : ℕ) (d : Change) (a : Shape) → (nth (blocks l) (length (blocks l) - 1)).state ≡ Free → s ≡ (nth (blocks l) (length (blocks l) - 1)).key.start
-        → FreesFirst s k.end (blocks r) (blocks b) → Reduces c n r b → blocks a ≡ take (length (blocks l) - 1) (blocks l) → Reduces d 1 l a
-        → Frees k (blocks l ++ blocks r) (blocks a ++ blocks b) × Loosens Structure (n + 1) l r a b
-    freed_above_gap s d a st q f g w j =
-        let m = few_above s f g in
-        let o : Frees k (blocks l ++ blocks r) (blocks a ++ blocks b) = subst (λ (x : List Block). Frees k (blocks l ++ blocks r) (x ++ blocks b)) (sym w)
-        (above_gap (blocks l) (blocks r) (blocks b) k.start k.end s some_l edge f q st) in
-        let both = loosens_both d c 1 n l r a b h.tree (omega arith) (omega arith) (omega arith) j g (frees_cover k (blocks l ++ blocks r) (blocks a ++ blocks b) o h.run) in
-        let e : 1 + n ≡ n + 1 = omega arith in
-        (o, subst (λ (x : ℕ). Loosens Structure x l r a b) e both)
-
--- Beside the edge is a held block: only the other subtree changes.
-pub under_below : (l r a : Shape) (h : CanChange (Fork l r)) (k : Range) (o : Option Freed) → k.end + 1 ≡ start_of (blocks r) → (nth (blocks r) 0).state ≡ Allocated
-    → MatchOption o ((a ≡ l) × ¬ EndsHeld k.start (blocks l)) (λ (f : Freed). FreesLast k.start k.end (blocks l) (blocks a) × Reduces f.change f.joined l a) → FreesUnder k l r a r o
-under_below l r a h k None e st f = (f.0, refl, λ (x : Holds k (blocks l ++ blocks r)). f.1 (held_below (blocks l) (blocks r) k h.run (some_l l r h) (some_r l r h) e x))
-under_below l r a h k (Some g) e st f = freed_below l r h k e g.change g.joined a st f.0 f.1
-
-pub under_above : (l r b : Shape) (h : CanChange (Fork l r)) (k : Range) (o : Option Freed) → k.start ≡ start_of (blocks r) → (nth (blocks l) (length (blocks l) - 1)).state ≡ Allocated
-    → MatchOption o ((b ≡ r) × ¬ StartsHeld k.end (blocks r)) (λ (f : Freed). FreesFirst k.start k.end (blocks r) (blocks b) × Reduces f.change f.joined r b) → FreesUnder k l r l b o
-under_above l r b h k None e st f = (refl, f.0, λ (x : Holds k (blocks l ++ blocks r)). f.1 (held_above (blocks l) (blocks r) k h.run (some_l l r h) (some_r l r h) e x))
-under_above l r b h k (Some g) e st f = freed_above l r h k e g.change g.joined b st f.0 f.1
-
--- The range lies in one of both subtrees, and not at the edge.
-pub under_left : (l r a : Shape) (h : CanChange (Fork l r)) (k : Range) (o : Option Freed) → k.start < start_of (blocks r) → k.end + 1 ≢ start_of (blocks r)
-    → MatchOption o ((a ≡ l) × ¬ Holds k (blocks l)) (λ (f : Freed). Frees k (blocks l) (blocks a) × Reduces f.change f.joined l a) → FreesUnder k l r a r o
-under_left l r a h k None s u f = (f.0, refl, λ (x : Holds k (blocks l ++ blocks r)). f.1 (held_left (blocks l) (blocks r) k h.run (some_l l r h) (some_r l r h) s x))
-under_left l r a h k (Some g) s u f =
-    let o = inside_left (blocks l) (blocks r) (blocks a) k h.run (some_l l r h) (some_r l r h) u f.0 in
-    (o, left_loosens l r h g.change g.joined k a (omega (arith, freed_length (blocks l) (blocks a) k f.0, f.1.loss)) f.1 o)
-
-pub under_right : (l r b : Shape) (h : CanChange (Fork l r)) (k : Range) (o : Option Freed) → start_of (blocks r) < k.start
-    → MatchOption o ((b ≡ r) × ¬ Holds k (blocks r)) (λ (f : Freed). Frees k (blocks r) (blocks b) × Reduces f.change f.joined r b) → FreesUnder k l r l b o
-under_right l r b h k None s f = (refl, f.0, λ (x : Holds k (blocks l ++ blocks r)). f.1 (held_right (blocks l) (blocks r) k h.run (some_l l r h) (some_r l r h) (omega arith) x))
-under_right l r b h k (Some g) s f =
-    let o = inside_right (blocks l) (blocks r) (blocks b) k (λ z. omega arith) f.0 in
-    (o, right_loosens l r h g.change g.joined k b (omega (arith, freed_length (blocks r) (blocks b) k f.0, f.1.loss)) f.1 o)
+pub under_inside : (end : End) (k : Range) (c x d : Shape) → CanChange (fork_at end c x) → IsInside end k (edge_of end c x)
+    → (o : Option Freed) → MatchOption o ((d ≡ c) × ¬ Holds k (blocks c)) (λ (g : Freed). Frees k (blocks c) (blocks d) × Reduces g.change g.joined c d) → FreesBeside end k c x d x o
+under_inside end k c x d h i None s = under_child end k c x d h None (s.0, λ (y : Holds k (blocks (fork_at end c x))). s.1 (inside_held end k c x h i y))
+under_inside end k c x d h i (Some g) s =
+    let m = freed_length (blocks c) (blocks d) k s.0 in
+    under_child end k c x d h (Some g) (inside_frees end k c x d h i s.0, omega (arith, s.1.loss), s.1)
 
 -- The first address of the right subtree stays.
 pub right_start : (r b : Shape) (k : Range) (o : Option Freed) → start_of (blocks r) < k.start
     → MatchOption o ((b ≡ r) × ¬ Holds k (blocks r)) (λ (f : Freed). Frees k (blocks r) (blocks b) × Reduces f.change f.joined r b) → start_of (blocks r) ≡ start_of (blocks b)
 right_start r b k None s f = ap (λ (x : Shape). start_of (blocks x)) (sym f.0)
-right_start r b k (Some g) s f = sym (inside_start (blocks r) (blocks b) k (λ z. omega arith) f.0)
+right_start r b k (Some g) s h =
+    let f = h.0 in
+    let some = lower_some (blocks r) k f.lower f.upper f.before (λ z. omega arith) in
+    ap start_of f.before ∙ start_append f.lower (held_block k ∷ f.upper) some ∙ sym (ap start_of f.after ∙ start_freed f.lower k f.upper some)
 
-pub ruleset edges = (can_l, can_r, many_l, many_r, high)
+pub ruleset edges = (can_l, can_r, edge_is, high)
 
-pub ruleset gaps_below = (can_l, can_r, many_r, gap_up, gap_range, gap_next, gap_fits)
-
-pub ruleset gaps_above = (can_l, can_r, many_l, before_down, before_range)
+pub ruleset beside = (child_can, far_can, far_many, near_extends)

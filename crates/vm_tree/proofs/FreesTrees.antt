@@ -1,22 +1,25 @@
--- Trees with a freed block.
-use Rattle.std.proofs.Common.{◌≡◌, ℕ, ◌+◌, ◌-◌, ◌<◌, ◌≤◌, List, [], ◌∷◌, ◌++◌, length, refl, ap, ◌∙◌, sym, subst, arith, append_assoc, length-append}
-use Rattle.vm_ranges.specs.Range.{Range, IsRange}
+-- Trees with a block that is freed or dropped at an end.
+use Rattle.std.proofs.Common.{◌≡◌, ℕ, ◌+◌, ◌-◌, ◌<◌, ◌≤◌, min, List, [], ◌∷◌, ◌++◌, length, refl, ap, ◌∙◌, sym, subst, arith, length-append}
+use Rattle.std.specs.Prelude.{MatchOption, Option, Some, None}
+use Rattle.vm_ranges.specs.Range.{Range}
 use Rattle.vm_ranges.specs.declared.state.NodeState.{NodeState}
 use Rattle.vm_ranges.specs.declared.state.NodeState.TheVariants.{Allocated}
 use Rattle.vm_leaf.specs.declared.block.Block.{Block}
 use Rattle.vm_leaf.specs.Block.{held_block}
 use Rattle.vm_leaf.specs.Blocks.{Tiles, start_of, end_of, IsRun}
 use Rattle.vm_leaf.proofs.Tiles.{tiles_part}
-use Rattle.std.specs.Prelude.{MatchOption, Option, Some, None}
-use Rattle.vm_tree.specs.Changes.{CanChange, Reduces, Loosens}
-use Rattle.vm_tree.specs.Frees.{Frees, FreesLast, FreesFirst, EndsHeld}
+use Rattle.vm_tree.specs.Changes.{CanChange, Reduces}
+use Rattle.vm_tree.specs.Frees.{Frees, FreesEnd, EndHeld, CanExtend, beyond, block_at_end, without_end, inner, fork_at}
 use Rattle.vm_tree.specs.declared.change.Change.{Change}
 use Rattle.vm_tree.specs.declared.free.Freed.{Freed}
-use Rattle.vm_tree.specs.Shape.{Shape, Fork, blocks, IsTree}
-use Rattle.vm_tree.proofs.Lists.{start_append, end_append, end_left, cover_left, cover_right}
+use Rattle.vm_tree.specs.declared.end.End.{End}
+use Rattle.vm_tree.specs.declared.end.End.TheVariants.{First, Last}
+use Rattle.vm_tree.specs.Links.{IsFreeOf}
+use Rattle.vm_tree.specs.Shape.{Shape, Fork, blocks, height_of}
+use Rattle.vm_tree.proofs.Lists.{start_append, end_append, end_left, cover_drop, cover_take, drop_append, take_append, first_append, last_append}
 use Rattle.vm_tree.proofs.Trees.{left_some, right_some}
-use Rattle.vm_tree.proofs.Updates.{loosens_left, loosens_right}
-use Rattle.vm_tree.proofs.Frees.{freed_under, with_free_append, length-freed, length-with_free, start_freed, cover_freed}
+use Rattle.vm_tree.proofs.Updates.{can_left, can_right, loosens_left, loosens_right, Changed, changed}
+use Rattle.vm_tree.proofs.Frees.{freed_after, freed_before, length-freed, start_freed, cover_freed}
 
 pub cover_start : (bs : List Block) (h : IsRun bs) → start_of bs ≡ h.lo
 cover_start [] h = absurd (omega (arith, h.some))
@@ -28,68 +31,56 @@ cover_end bs h = let p = tiles_part Allocated h.lo h.hi bs (length bs - 1) h.til
 pub cover_order : (bs : List Block) → IsRun bs → start_of bs ≤ end_of bs
 cover_order bs h = let a = cover_start bs h in let b = cover_end bs h in omega (arith, h.range.0)
 
-tiles_extended : (p : NodeState) (lo hi a z e : ℕ) (m : List Block) → Tiles p lo (m ++ held_block (record { start = a; end = z }) ∷ []) hi → z ≤ e
-    → Tiles p lo (m ++ held_block (record { start = a; end = e }) ∷ []) e
-tiles_extended p lo hi a z e [] t l = (t.0, omega (arith, t.1), t.2, refl)
-tiles_extended p lo hi a z e (x ∷ m) t l = (t.0, t.1, t.2, tiles_extended x.state (x.key.end + 1) hi a z e m t.3 l)
+tiles_extended : (p : NodeState) (lo hi : ℕ) (was k : Range) (m : List Block) → Tiles p lo (m ++ held_block was ∷ []) hi → was.start ≡ k.start → was.end ≤ k.end → Tiles p lo (m ++ held_block k ∷ []) k.end
+tiles_extended p lo hi was k [] t i l = (sym i ∙ t.0, omega (arith, t.1), t.2, refl)
+tiles_extended p lo hi was k (x ∷ m) t i l = (t.0, t.1, t.2, tiles_extended x.state (x.key.end + 1) hi was k m t.3 i l)
 
--- A cover whose last block is held and is moved up.
-cover_extended : (m : List Block) (a z e : ℕ) → IsRun (m ++ held_block (record { start = a; end = z }) ∷ []) → z ≤ e → IsRange (start_of (m ++ held_block (record { start = a; end = z }) ∷ [])) e
-    → IsRun (m ++ held_block (record { start = a; end = e }) ∷ [])
-cover_extended m a z e h l r =
-    let o = cover_start (m ++ held_block (record { start = a; end = z }) ∷ []) h in
-    let n = length-append m (held_block (record { start = a; end = e }) ∷ []) in
+-- A cover whose block at an end is held and is extended.
+cover_extended : (end : End) (m us : List Block) (was k : Range) → beyond end m us ≡ [] → inner end was ≡ inner end k → IsRun (m ++ held_block was ∷ us) → CanExtend end k (m ++ held_block was ∷ us)
+    → IsRun (m ++ held_block k ∷ us)
+cover_extended First [] us was k n i h x =
+    let o = cover_end (held_block was ∷ us) h in
     record {
-      lo = h.lo;
-      hi = e;
-      some = omega arith;
-      tiles = tiles_extended Allocated h.lo h.hi a z e m h.tiles l;
-      range = (omega (arith, r.0), r.1, λ y. omega (arith, r.2));
-    }
-
--- A cover whose first block is held and is moved down.
-cover_lowered : (us : List Block) (a s e : ℕ) → IsRun (held_block (record { start = a; end = e }) ∷ us) → s ≤ a → IsRange s (end_of (held_block (record { start = a; end = e }) ∷ us))
-    → IsRun (held_block (record { start = s; end = e }) ∷ us)
-cover_lowered us a s e h l r =
-    let o = cover_end (held_block (record { start = a; end = e }) ∷ us) h in
-    record {
-      lo = s;
+      lo = k.start;
       hi = h.hi;
       some = omega arith;
-      tiles = (refl, omega (arith, h.tiles.0, h.tiles.1), tt, h.tiles.3);
-      range = (omega (arith, r.0), omega (arith, r.1), λ y. omega (arith, r.2));
+      tiles = (refl, omega (arith, h.tiles.0, h.tiles.1, x.0), tt, subst (λ (v : ℕ). Tiles Allocated (v + 1) us h.hi) i h.tiles.3);
+      range = (omega (arith, x.1.0), omega (arith, x.1.1), λ y. omega (arith, x.1.2));
     }
+cover_extended First (b ∷ m) us was k n i h x = absurd (cc)
+cover_extended Last m [] was k n i h x =
+    let o = cover_start (m ++ held_block was ∷ []) h in
+    let z = end_append m (held_block was ∷ []) (omega arith) in
+    let y = length-append m (held_block k ∷ []) in
+    record {
+      lo = h.lo;
+      hi = k.end;
+      some = omega arith;
+      tiles = tiles_extended Allocated h.lo h.hi was k m h.tiles i (omega (arith, x.0));
+      range = (omega (arith, x.1.0), x.1.1, λ y. omega (arith, x.1.2));
+    }
+cover_extended Last m (b ∷ us) was k n i h x = absurd (cc)
 
--- The list after its last block is freed.
-pub last_cover : (xs ys : List Block) (s e : ℕ) → FreesLast s e xs ys → IsRun xs → end_of xs ≤ e → IsRange (start_of xs) e → IsRun ys
-last_cover xs ys s e f h u r =
-    let k = held_block (record { start = s; end = f.last }) in
-    let n : end_of xs ≡ f.last = ap end_of f.before ∙ end_append f.lower (k ∷ []) (omega arith) in
-    subst IsRun (sym f.after)
-    (cover_freed f.lower (record { start = s; end = e }) []
-    (cover_extended f.lower s f.last e (subst IsRun f.before h) (omega arith) (subst (λ (z : List Block). IsRange (start_of z) e) f.before r)))
+one_side : (end : End) (m us : List Block) → beyond end m us ≡ [] → min (length m) (length us) ≡ 0
+one_side First m us n = let e = ap length n in omega arith
+one_side Last m us n = let e = ap length n in omega arith
 
-pub first_cover : (xs ys : List Block) (s e : ℕ) → FreesFirst s e xs ys → IsRun xs → s ≤ start_of xs → IsRange s (end_of xs) → IsRun ys
-first_cover xs ys s e f h u r =
-    let n : start_of xs ≡ f.first = ap start_of f.before in
-    subst IsRun (sym f.after)
-    (cover_freed [] (record { start = s; end = e }) f.upper
-    (cover_lowered f.upper f.first s e (subst IsRun f.before h) (omega arith) (subst (λ (z : List Block). IsRange s (end_of z)) f.before r)))
+-- The list after the block at an end is freed.
+module _ (end : End) (k : Range) (xs ys : List Block) (f : FreesEnd end k xs ys) where
+  pub end_cover : IsRun xs → CanExtend end k xs → IsRun ys
+  end_cover h x =
+      subst IsRun (sym f.after) (cover_freed f.lower k f.upper (cover_extended end f.lower f.upper f.was k f.none f.inner (subst IsRun f.before h) (subst (CanExtend end k) f.before x)))
 
-pub last_length : (xs ys : List Block) (s e : ℕ) → FreesLast s e xs ys → length xs ≤ length ys + 1
-last_length xs ys s e f =
-    let k = held_block (record { start = s; end = f.last }) in
-    let a = ap length f.before ∙ length-append f.lower (k ∷ []) in
-    let b = ap length f.after in
-    let n = length-freed f.lower (record { start = s; end = e }) [] in
-    omega (arith, n.1)
+  end_parts : length xs ≡ length f.lower + length f.upper + 1
+  end_parts = let e = ap length f.before ∙ length-append f.lower (held_block f.was ∷ f.upper) in omega arith
 
-pub first_length : (xs ys : List Block) (s e : ℕ) → FreesFirst s e xs ys → length xs ≤ length ys + 1
-first_length xs ys s e f =
-    let a = ap length f.before in
-    let b = ap length f.after in
-    let n = length-with_free (record { start = s; end = e }) f.upper in
-    omega (arith, n.0)
+  pub end_length : length xs ≤ length ys + 1
+  end_length =
+      let a = end_parts in
+      let b = ap length f.after in
+      let n = length-freed f.lower k f.upper in
+      let e = one_side end f.lower f.upper f.none in
+      omega (arith, n.1, n.2)
 
 pub freed_length : (xs ys : List Block) (k : Range) → Frees k xs ys → length xs ≤ length ys + 2
 freed_length xs ys k f =
@@ -98,106 +89,133 @@ freed_length xs ys k f =
     let n = length-freed f.lower k f.upper in
     omega (arith, n.0)
 
--- The last block of the right part of a list is freed.
-pub last_right : (l r b : List Block) (s e : ℕ) → FreesLast s e r b → 1 < length r → FreesLast s e (l ++ r) (l ++ b)
-last_right l r b s e f n =
-    let k = held_block (record { start = s; end = f.last }) in
-    let a = ap length f.before ∙ length-append f.lower (k ∷ []) in
-    record {
-      lower = l ++ f.lower;
-      last = f.last;
-      before = ap (λ (z : List Block). l ++ z) f.before ∙ sym (append_assoc l f.lower (k ∷ []));
-      after = ap (λ (z : List Block). l ++ z) f.after ∙ sym (freed_under l f.lower [] (record { start = s; end = e }) (omega arith));
-    }
+-- The children of a node that can be changed.
+module _ (l r : Shape) (h : CanChange (Fork l r)) where
+  pub can_l : CanChange l
+  can_l = can_left (Fork l r) l r refl h
 
-pub first_left : (l r b : List Block) (s e : ℕ) → FreesFirst s e l b → 1 < length l → FreesFirst s e (l ++ r) (b ++ r)
-first_left l r b s e f n =
-    let a = ap length f.before in
-    record {
-      upper = f.upper ++ r;
-      first = f.first;
-      before = ap (λ (z : List Block). z ++ r) f.before;
-      after = ap (λ (z : List Block). z ++ r) f.after ∙ with_free_append (record { start = s; end = e }) f.upper r (omega arith);
-    }
+  pub can_r : CanChange r
+  can_r = can_right (Fork l r) l r refl h
 
--- The first address stays if the last block is freed.
-pub last_start : (xs ys : List Block) (s e : ℕ) → FreesLast s e xs ys → 1 < length xs → start_of ys ≡ start_of xs
-last_start xs ys s e f n =
-    let k = held_block (record { start = s; end = f.last }) in
-    let a = ap length f.before ∙ length-append f.lower (k ∷ []) in
-    ap start_of f.after ∙ start_freed f.lower (record { start = s; end = e }) [] (omega arith) ∙ sym (ap start_of f.before ∙ start_append f.lower (k ∷ []) (omega arith))
+  pub many_l : 1 < length (blocks l)
+  many_l = omega (arith, left_some l r h.tree)
 
--- The first address of the right subtree stays if its last block is freed, or none.
-pub last_kept : (o : Option Freed) (r b : Shape) (s e : ℕ) → 1 < length (blocks r)
-    → MatchOption o ((b ≡ r) × ¬ EndsHeld s (blocks r)) (λ (f : Freed). FreesLast s e (blocks r) (blocks b) × Reduces f.change f.joined r b) → start_of (blocks r) ≡ start_of (blocks b)
-last_kept None r b s e n h = ap (λ (x : Shape). start_of (blocks x)) (sym h.0)
-last_kept (Some f) r b s e n h = sym (last_start (blocks r) (blocks b) s e h.0 n)
+  pub many_r : 1 < length (blocks r)
+  many_r = omega (arith, right_some l r h.tree)
 
-module _ (t l r : Shape) (q : t ≡ Fork l r) (h : CanChange t) where
-  pub whole : IsTree (Fork l r)
-  whole = subst IsTree q h.tree
+  pub edge_is : start_of (blocks r) ≡ end_of (blocks l) + 1
+  edge_is = end_left (blocks l) (blocks r) h.run (omega (arith, many_l)) (omega (arith, many_r))
 
-  pub whole_run : IsRun (blocks l ++ blocks r)
-  whole_run = subst (λ (z : Shape). IsRun (blocks z)) q h.run
+  pub same_start : start_of (blocks l ++ blocks r) ≡ start_of (blocks l)
+  same_start = start_append (blocks l) (blocks r) (omega (arith, many_l))
 
-  pub same_start : start_of (blocks t) ≡ start_of (blocks l)
-  same_start = ap (λ (z : Shape). start_of (blocks z)) q ∙ start_append (blocks l) (blocks r) (omega (arith, left_some l r whole))
+  pub same_end : end_of (blocks l ++ blocks r) ≡ end_of (blocks r)
+  same_end = end_append (blocks l) (blocks r) (omega (arith, many_r))
 
-  pub same_end : end_of (blocks t) ≡ end_of (blocks r)
-  same_end = ap (λ (z : Shape). end_of (blocks z)) q ∙ end_append (blocks l) (blocks r) (omega (arith, right_some l r whole))
+-- A node whose child at an end is c, and its other child x.
+pub child_can : (end : End) (c x : Shape) → CanChange (fork_at end c x) → CanChange c
+child_can First c x h = can_l c x h
+child_can Last c x h = can_r x c h
 
-  pub seam : start_of (blocks r) ≡ end_of (blocks l) + 1
-  seam = end_left (blocks l) (blocks r) whole_run (omega (arith, left_some l r whole)) (omega (arith, right_some l r whole))
+child_many : (end : End) (c x : Shape) → CanChange (fork_at end c x) → 1 < length (blocks c)
+child_many First c x h = many_l c x h
+child_many Last c x h = many_r x c h
 
-  run_l : IsRun (blocks l)
-  run_l = cover_left (blocks l) (blocks r) whole_run (omega (arith, left_some l r whole))
+child_end : (end : End) (c x : Shape) → 0 < length (blocks c) → block_at_end end (blocks (fork_at end c x)) ≡ block_at_end end (blocks c)
+child_end First c x n = first_append (blocks c) (blocks x) n
+child_end Last c x n = last_append (blocks x) (blocks c) n
 
-  run_r : IsRun (blocks r)
-  run_r = cover_right (blocks l) (blocks r) whole_run (omega (arith, left_some l r whole)) (omega (arith, right_some l r whole))
+child_held : (end : End) (k : Range) (c x : Shape) → CanChange (fork_at end c x) → EndHeld end k (blocks (fork_at end c x)) → EndHeld end k (blocks c)
+child_held end k c x h f =
+    let e = child_end end c x (omega (arith, child_many end c x h)) in
+    record { held = ap (λ (b : Block). b.state) (sym e) ∙ f.held; inner = ap (λ (b : Block). inner end b.key) (sym e) ∙ f.inner }
 
-  pub range_right : (e : ℕ) → end_of (blocks t) ≤ e → IsRange (start_of (blocks t)) e → IsRange (start_of (blocks r)) e
-  range_right e u g = let a = same_end in let b = cover_order (blocks r) run_r in let d = seam in (omega arith, g.1, λ y. absurd (omega arith))
+pub child_extends : (end : End) (k : Range) (c x : Shape) → CanChange (fork_at end c x) → CanExtend end k (blocks (fork_at end c x)) → CanExtend end k (blocks c)
+child_extends First k c x h w =
+    let a = same_start c x h in
+    let z = same_end c x h in
+    let b = cover_order (blocks c) (can_l c x h).run in
+    let d = edge_is c x h in
+    let f = cover_order (blocks x) (can_r c x h).run in
+    (omega (arith, w.0), (omega (arith, w.0), omega (arith, w.1.1), λ y. omega (arith, w.1.1)))
+child_extends Last k c x h w =
+    let z = same_end x c h in
+    let b = cover_order (blocks c) (can_r x c h).run in
+    let d = edge_is x c h in
+    (omega (arith, w.0), (omega (arith, w.0), w.1.1, λ y. absurd (omega arith)))
 
-  pub range_left : (s : ℕ) → s ≤ start_of (blocks t) → IsRange s (end_of (blocks t)) → IsRange s (end_of (blocks l))
-  range_left s u g =
-      let a = same_start in
-      let z = same_end in
-      let b = cover_order (blocks l) run_l in
-      let d = seam in
-      let f = cover_order (blocks r) run_r in
-      (omega arith, omega (arith, g.1), λ y. omega (arith, g.1))
+frees_child : (end : End) (k : Range) (c x d : Shape) → 1 < length (blocks c) → FreesEnd end k (blocks c) (blocks d) → FreesEnd end k (blocks (fork_at end c x)) (blocks (fork_at end d x))
+frees_child First k c x d n f =
+    let a = end_parts First k (blocks c) (blocks d) f in
+    let e = ap length f.none in
+    let o = freed_before f.was k f.lower f.upper (blocks c) (blocks d) f.before f.after (blocks x) (omega arith) in
+    record { lower = f.lower; upper = f.upper ++ blocks x; was = f.was; none = f.none; inner = f.inner; before = o.0; after = o.1 }
+frees_child Last k c x d n f =
+    let a = end_parts Last k (blocks c) (blocks d) f in
+    let e = ap length f.none in
+    let o = freed_after f.was k f.lower f.upper (blocks c) (blocks d) f.before f.after (blocks x) (omega arith) in
+    record { lower = blocks x ++ f.lower; upper = f.upper; was = f.was; none = f.none; inner = f.inner; before = o.0; after = o.1 }
 
-  -- The end of the whole tree is freed by its right subtree.
-  module _ (c : Change) (n s e : ℕ) (b : Shape) (f : FreesLast s e (blocks r) (blocks b)) (g : Reduces c n r b) where
-    pub last_loosened : end_of (blocks t) ≤ e → IsRange (start_of (blocks t)) e → Loosens c n l r l b
-    last_loosened u v =
-        let k = last_length (blocks r) (blocks b) s e f in
-        let m = right_some l r whole in
-        loosens_right c n l r b whole (omega (arith, g.loss)) g
-        (last_cover (blocks l ++ blocks r) (blocks l ++ blocks b) s e (last_right (blocks l) (blocks r) (blocks b) s e f (omega arith)) whole_run
-        (subst (λ (z : Shape). end_of (blocks z) ≤ e) q u) (subst (λ (z : Shape). IsRange (start_of (blocks z)) e) q v))
+drops_child : (end : End) (c x d : Shape) → 0 < length (blocks c) → blocks d ≡ without_end end (blocks c) → blocks (fork_at end d x) ≡ without_end end (blocks (fork_at end c x))
+drops_child First c x d n e = ap (λ (z : List Block). z ++ blocks x) e ∙ sym (drop_append (blocks c) (blocks x) n)
+drops_child Last c x d n e = ap (λ (z : List Block). blocks x ++ z) e ∙ sym (take_append (blocks x) (blocks c) n)
 
-    pub last_frees : (o : Shape) → blocks o ≡ blocks l ++ blocks b → FreesLast s e (blocks t) (blocks o)
-    last_frees o m =
-        subst (λ (z : Shape). FreesLast s e (blocks z) (blocks o)) (sym q)
-        (subst (λ (z : List Block). FreesLast s e (blocks l ++ blocks r) z) (sym m) (last_right (blocks l) (blocks r) (blocks b) s e f (omega (arith, right_some l r whole))))
+-- The list without the block at an end.
+cover_without : (end : End) (bs : List Block) → IsRun bs → 1 < length bs → IsRun (without_end end bs)
+cover_without First bs h n = cover_drop bs h n
+cover_without Last bs h n = cover_take bs h n
 
-  -- The start of the whole tree is freed by its left subtree.
-  module _ (c : Change) (n s e : ℕ) (a : Shape) (f : FreesFirst s e (blocks l) (blocks a)) (g : Reduces c n l a) where
-    pub first_loosened : s ≤ start_of (blocks t) → IsRange s (end_of (blocks t)) → Loosens c n l r a r
-    first_loosened u v =
-        let k = first_length (blocks l) (blocks a) s e f in
-        let m = left_some l r whole in
-        loosens_left c n l r a whole (omega (arith, g.loss)) g
-        (first_cover (blocks l ++ blocks r) (blocks a ++ blocks r) s e (first_left (blocks l) (blocks r) (blocks a) s e f (omega arith)) whole_run
-        (subst (λ (z : Shape). s ≤ start_of (blocks z)) q u) (subst (λ (z : Shape). IsRange s (end_of (blocks z))) q v))
+length_fork : (end : End) (c x : Shape) → 1 < length (blocks c) → 1 < length (blocks (fork_at end c x))
+length_fork First c x n = let e = length-append (blocks c) (blocks x) in omega arith
+length_fork Last c x n = let e = length-append (blocks x) (blocks c) in omega arith
 
-    pub first_frees : (o : Shape) → blocks o ≡ blocks a ++ blocks r → FreesFirst s e (blocks t) (blocks o)
-    first_frees o m =
-        subst (λ (z : Shape). FreesFirst s e (blocks z) (blocks o)) (sym q)
-        (subst (λ (z : List Block). FreesFirst s e (blocks l ++ blocks r) z) (sym m) (first_left (blocks l) (blocks r) (blocks a) s e f (omega (arith, left_some l r whole))))
+-- The child at an end changed, and nothing above it was updated.
+changed_at : (end : End) (ch : Change) (n longest alignments height : ℕ) (t c x d : Shape) → t ≡ fork_at end c x → CanChange (fork_at end c x) → n ≤ 2 → Reduces ch n c d
+    → IsRun (blocks (fork_at end d x)) → IsFreeOf t longest alignments × (height ≡ height_of t) → Changed ch n longest alignments height t (fork_at end d x)
+changed_at First ch n longest alignments height t c x d q h few g run f = changed q (loosens_left ch n c x d h.tree few g run) f
+changed_at Last ch n longest alignments height t c x d q h few g run f = changed q (loosens_right ch n x c d h.tree few g run) f
 
--- The children of the node t were freed, and the node was updated to o.
-pub node_frees : (t l r a b o : Shape) (k : Range) → t ≡ Fork l r → Frees k (blocks l ++ blocks r) (blocks a ++ blocks b) → blocks o ≡ blocks a ++ blocks b → Frees k (blocks t) (blocks o)
-node_frees t l r a b o k q f m =
-    subst (λ (z : Shape). Frees k (blocks z) (blocks o)) (sym q) (subst (λ (z : List Block). Frees k (blocks l ++ blocks r) z) (sym m) f)
+-- The block at an end of the tree c was freed if possible, and c became d.
+abbrev pub FreesIn : End → Range → Shape → Shape → Option Freed → Type 0
+FreesIn end k c d o = MatchOption o ((d ≡ c) × ¬ EndHeld end k (blocks c)) (λ (g : Freed). FreesEnd end k (blocks c) (blocks d) × Reduces g.change g.joined c d)
+
+-- The same of a node t that became v, and of which no summary was updated.
+abbrev pub FreesAbove : End → Range → ℕ → ℕ → ℕ → Shape → Shape → Option Freed → Type 0
+FreesAbove end k longest alignments height t v o =
+    MatchOption o ((v ≡ t) × ¬ EndHeld end k (blocks t)) (λ (g : Freed). FreesEnd end k (blocks t) (blocks v) × Changed g.change g.joined longest alignments height t v)
+
+-- The first address of the right child stays if its last block is freed, or none.
+pub last_kept : (k : Range) (c d : Shape) → 1 < length (blocks c) → (o : Option Freed) → FreesIn Last k c d o → start_of (blocks c) ≡ start_of (blocks d)
+last_kept k c d n None s = ap (λ (z : Shape). start_of (blocks z)) (sym s.0)
+last_kept k c d n (Some g) s =
+    let f = s.0 in
+    let a = end_parts Last k (blocks c) (blocks d) f in
+    let e = ap length f.none in
+    ap start_of f.before ∙ start_append f.lower (held_block f.was ∷ f.upper) (omega arith) ∙ sym (ap start_of f.after ∙ start_freed f.lower k f.upper (omega arith))
+
+-- The block at an end of the node t was dropped, and no summary was updated.
+abbrev pub DropsAbove : End → ℕ → ℕ → ℕ → Shape → Shape → Change → Type 0
+DropsAbove end longest alignments height t v ch = (blocks v ≡ without_end end (blocks t)) × Changed ch 1 longest alignments height t v
+
+-- The child c at an end of the node t became d.
+module _ (end e : End) (same : end ≡ e) (longest alignments height : ℕ) (t c x d : Shape) (q : t ≡ fork_at e c x) (can : CanChange t) (f : IsFreeOf t longest alignments × (height ≡ height_of t)) where
+  h : CanChange (fork_at e c x)
+  h = subst CanChange q can
+
+  many : 1 < length (blocks c)
+  many = child_many e c x h
+
+  pub frees_above : (k : Range) → CanExtend end k (blocks t) → (o : Option Freed) → FreesIn end k c d o → FreesAbove end k longest alignments height t (fork_at e d x) o
+  frees_above k w None s =
+      (ap (λ (z : Shape). fork_at e z x) s.0 ∙ sym q, λ (y : EndHeld end k (blocks t)). s.1 (rw same (child_held e k c x h (rw (q, same) at y))))
+  frees_above k w (Some g) s =
+      let o = frees_child e k c x d many (rw same at s.0) in
+      let m = end_length end k (blocks c) (blocks d) s.0 in
+      let run = end_cover e k (blocks (fork_at e c x)) (blocks (fork_at e d x)) o h.run (rw (q, same) at w) in
+      (rw (q, same) o, changed_at e g.change g.joined longest alignments height t c x d q h (omega (arith, s.1.loss)) s.1 run f)
+
+  pub drops_above : (ch : Change) → blocks d ≡ without_end end (blocks c) → Reduces ch 1 c d → DropsAbove end longest alignments height t (fork_at e d x) ch
+  drops_above ch s g =
+      let o = drops_child e c x d (omega (arith, many)) (rw same at s) in
+      let run = cover_without e (blocks (fork_at e c x)) h.run (length_fork e c x many) in
+      (rw (q, same) o, changed_at e ch 1 longest alignments height t c x d q h (omega arith) g (subst IsRun (sym o) run) f)

@@ -315,62 +315,6 @@ shrunk l r a b s h m =
       ];
     }
 
-pub lost_first : (l r a : Shape) → IsTree (Fork l r) → Shrinks l a → blocks a ≡ drop 1 (blocks l) → Loses l r a r
-lost_first l r a h f e =
-    let n = ap length e ∙ length-drop 1 (blocks l) in
-    record { whole = h; left = f; right = unchanged r (tree_right l r h); left_loss = omega arith; right_loss = omega arith; loss = omega arith }
-
-pub lost_last : (l r b : Shape) → IsTree (Fork l r) → Shrinks r b → blocks b ≡ take (length (blocks r) - 1) (blocks r) → Loses l r l b
-lost_last l r b h f e =
-    let n = ap length e ∙ length-take-le (length (blocks r) - 1) (blocks r) (omega arith) in
-    record { whole = h; left = unchanged l (tree_left l r h); right = f; left_loss = omega arith; right_loss = omega arith; loss = omega arith }
-
--- The first block of the left part is dropped, or the last block of the right part.
-pub cover_lost_first : (l r a : Shape) → IsTree (Fork l r) → IsRun (blocks l ++ blocks r) → blocks a ≡ drop 1 (blocks l) → IsRun (blocks a ++ blocks r)
-cover_lost_first l r a h c e =
-    let n = left_some l r h in
-    subst (λ (z : List Block). IsRun (z ++ blocks r)) (sym e)
-    (subst IsRun (drop_append (blocks l) (blocks r) (omega arith)) (cover_drop (blocks l ++ blocks r) c (omega (arith, length-append (blocks l) (blocks r)))))
-
-pub cover_lost_last : (l r b : Shape) → IsTree (Fork l r) → IsRun (blocks l ++ blocks r) → blocks b ≡ take (length (blocks r) - 1) (blocks r) → IsRun (blocks l ++ blocks b)
-cover_lost_last l r b h c e =
-    let n = right_some l r h in
-    subst (λ (z : List Block). IsRun (blocks l ++ z)) (sym e)
-    (subst IsRun (take_append (blocks l) (blocks r) (omega arith)) (cover_take (blocks l ++ blocks r) c (omega (arith, left_some l r h, length-append (blocks l) (blocks r)))))
-
--- A node whose first block is dropped.
-pub can_drop_first : (t l r a : Shape) → t ≡ Fork l r → IsTree t → IsRun (blocks t) → Shrinks l a → blocks a ≡ drop 1 (blocks l) → CanMend a r
-can_drop_first t l r a q h c f e =
-    let g : IsTree (Fork l r) = subst IsTree q h in
-    can_mend l r a r (lost_first l r a g f e) (cover_lost_first l r a g (subst (λ (z : Shape). IsRun (blocks z)) q c) e)
-
-pub can_drop_last : (t l r b : Shape) → t ≡ Fork l r → IsTree t → IsRun (blocks t) → Shrinks r b → blocks b ≡ take (length (blocks r) - 1) (blocks r) → CanMend l b
-can_drop_last t l r b q h c f e =
-    let g : IsTree (Fork l r) = subst IsTree q h in
-    can_mend l r l b (lost_last l r b g f e) (cover_lost_last l r b g (subst (λ (z : Shape). IsRun (blocks z)) q c) e)
-
-pub dropped_first : (t l r a s : Shape) → t ≡ Fork l r → IsTree t → Shrinks l a → blocks a ≡ drop 1 (blocks l) → Mends a r s → Shrinks t s × (blocks s ≡ drop 1 (blocks t))
-dropped_first t l r a s q h f e m =
-    let g : IsTree (Fork l r) = subst IsTree q h in (
-      subst (λ (z : Shape). Shrinks z s) (sym q) (shrunk l r a r s (lost_first l r a g f e) m),
-      m.blocks ∙ ap (λ (z : List Block). z ++ blocks r) e ∙ sym (drop_append (blocks l) (blocks r) (omega (arith, left_some l r g))) ∙ ap (λ (z : Shape). drop 1 (blocks z)) (sym q),
-    )
-
-pub dropped_last : (t l r b s : Shape) → t ≡ Fork l r → IsTree t → Shrinks r b → blocks b ≡ take (length (blocks r) - 1) (blocks r) → Mends l b s → Shrinks t s × (blocks s ≡ take (length (blocks t) - 1) (blocks t))
-dropped_last t l r b s q h f e m =
-    let g : IsTree (Fork l r) = subst IsTree q h in (
-      subst (λ (z : Shape). Shrinks z s) (sym q) (shrunk l r l b s (lost_last l r b g f e) m),
-      m.blocks ∙ ap (λ (z : List Block). blocks l ++ z) e ∙ sym (take_append (blocks l) (blocks r) (omega (arith, right_some l r g))) ∙ ap (λ (z : Shape). take (length (blocks z) - 1) (blocks z)) (sym q),
-    )
-
-pub tip_first : (bs : List Block) → IsTree (Tip bs) → 1 < length bs → Shrinks (Tip bs) (Tip (drop 1 bs))
-tip_first bs h n = record { tree = record { balanced = tt; leaves = (omega (arith, length-drop 1 bs), omega (arith, h.leaves.1, length-drop 1 bs)) }; upto = omega arith; from = omega arith }
-
-pub tip_last : (bs : List Block) → IsTree (Tip bs) → 1 < length bs → Shrinks (Tip bs) (Tip (take (length bs - 1) bs))
-tip_last bs h n =
-    let k = length-take-le (length bs - 1) bs (omega arith) in
-    record { tree = record { balanced = tt; leaves = (omega arith, omega (arith, h.leaves.1)) }; upto = omega arith; from = omega arith }
-
 pub cover_of_left : (t l r : Shape) → t ≡ Fork l r → IsTree t → IsRun (blocks t) → IsRun (blocks l)
 cover_of_left t l r q h c = let g : IsTree (Fork l r) = subst IsTree q h in cover_left (blocks l) (blocks r) (subst (λ (z : Shape). IsRun (blocks z)) q c) (omega (arith, left_some l r g))
 
@@ -388,8 +332,6 @@ pub ruleset joining = (one_leaf, two_leaves)
 pub ruleset filling = (full_some, start_full, high, filled_leaves, filled_low, filled_high, cover_low, cover_high)
 
 pub ruleset mending = (full_some, tall, rooted_full, high, can_balance)
-
-pub ruleset dropping = (full_some, rooted_some, high, tree_left, tree_right, left_some, right_some, cover_of_left, cover_of_right, can_drop_first, can_drop_last, dropped_first, dropped_last, tip_first, tip_last)
 
 pub ruleset ends = (full_some, rooted_some, high, tree_left, tree_right, left_some, right_some, first_append, last_append)
 

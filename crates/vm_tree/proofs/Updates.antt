@@ -1,9 +1,9 @@
 -- The summary beside a link after a change below it.
-use Rattle.std.proofs.Common.{◌≡◌, ℕ, ◌+◌, ◌-◌, ◌≤◌, ◌++◌, length, take, drop, refl, ap, ◌∙◌, sym, subst, arith, length-append}
-use Rattle.vm_leaf.specs.Blocks.{longest_gap, IsRun}
-use Rattle.vm_leaf.specs.Multiples.{most_alignments}
-use Rattle.vm_tree.specs.Shape.{Shape, Fork, blocks, height_of, IsTree, MAX_HEIGHT}
-use Rattle.vm_tree.specs.Links.{side, IsFreeOf, IsSummed, stored_longest, stored_alignments, stored_height}
+use Rattle.std.proofs.Common.{◌≡◌, ℕ, ◌+◌, ◌≤◌, ◌++◌, length, refl, ap, ◌∙◌, sym, subst, arith, length-append}
+use Rattle.vm_leaf.specs.Blocks.{IsRun}
+use Rattle.vm_tree.specs.Shape.{Shape, Fork, blocks, height_of, IsTree}
+use Rattle.vm_tree.specs.declared.link.Node.TheInside.{Inside}
+use Rattle.vm_tree.specs.Links.{side, shape_of, IsFreeOf, IsSummed, stored_longest, stored_alignments, stored_height}
 use Rattle.vm_tree.specs.Mending.{Shrinks, Loses}
 use Rattle.vm_tree.specs.Changes.{Reports, Keeps, CanUpdate, Updates, CanChange, Reduces, Loosens}
 use Rattle.vm_tree.specs.declared.link.Link.{Link}
@@ -11,13 +11,20 @@ use Rattle.vm_tree.specs.declared.link.Link.TheVariants as link
 use Rattle.vm_tree.specs.declared.change.Change.{Change}
 use Rattle.vm_tree.specs.declared.change.Change.TheVariants.{Nothing, FreeOnly, Structure}
 use Rattle.vm_tree.proofs.Lists.{longest_append, alignments_append}
-use Rattle.vm_tree.proofs.Trees.{full_some, full_rooted, rooted_full, tall, high, left_some, right_some, tree_left, tree_right, cover_of_left, cover_of_right, cover_lost_first, cover_lost_last, unchanged, can_mend, shrunk}
+use Rattle.vm_tree.proofs.Trees.{full_some, full_rooted, rooted_full, tall, high, left_some, right_some, tree_left, tree_right, cover_of_left, cover_of_right, unchanged, can_mend, shrunk}
 
 -- The summary beside a link is correct if its parts are those of the subtree.
 pub summed_by : (t : Link) → IsFreeOf (side t) (stored_longest t) (stored_alignments t) → stored_height t ≡ height_of (side t) → IsSummed t
 summed_by link.Hole f h = tt
 summed_by (link.Leaf longest alignments l) f h = f
 summed_by (link.Fork longest alignments height n) f h = (f, h)
+
+-- The tree of a link to a node, and what is stored beside the link.
+pub node_is : {t : Link} {longest alignments height : ℕ} {n : _} (a : Inside) {v : Shape} → t ≡ link.Fork longest alignments height n → shape_of a ≡ v → v ≡ n.value → side t ≡ Fork (side a.left) (side a.right)
+node_is a e w q = ap side e ∙ sym (w ∙ q)
+
+pub linked : (t : Link) {longest alignments height : ℕ} {n : _} → t ≡ link.Fork longest alignments height n → IsSummed t → IsFreeOf (side t) longest alignments × (height ≡ height_of (side t))
+linked t e s = rw e (subst IsSummed e s)
 
 -- A full subtree that stays keeps its summary.
 keeps_same : (c : Change) (s : Shape) → 12 ≤ length (blocks s) → Keeps c s s
@@ -101,10 +108,10 @@ can_by FreeOnly n longest alignments height l r a b h f e =
 can_by Structure n longest alignments height l r a b h f e = can_mend l r a b h.loses h.run
 
 -- The blocks and the height after an update.
-pub updated_blocks : (c : Change) (a b s : Shape) → Updates c (Fork a b) s → blocks s ≡ blocks a ++ blocks b
-updated_blocks Nothing a b s u = ap blocks u
-updated_blocks FreeOnly a b s u = ap blocks u
-updated_blocks Structure a b s u = u.blocks
+updated_by : (c : Change) (a b s : Shape) → Updates c (Fork a b) s → blocks s ≡ blocks a ++ blocks b
+updated_by Nothing a b s u = ap blocks u
+updated_by FreeOnly a b s u = ap blocks u
+updated_by Structure a b s u = u.blocks
 
 shrinks_same : (l r a b s : Shape) → Loses l r a b → height_of l ≡ height_of a → height_of r ≡ height_of b → 12 ≤ length (blocks a) → 12 ≤ length (blocks b) → s ≡ Fork a b → Shrinks (Fork l r) s
 shrinks_same l r a b s h x y m n e =
@@ -116,42 +123,45 @@ shrinks_by Nothing n l r a b s h u = shrinks_same l r a b s h.loses h.left.1 h.r
 shrinks_by FreeOnly n l r a b s h u = shrinks_same l r a b s h.loses h.left.0 h.right.0 h.left.1 h.right.1 u
 shrinks_by Structure n l r a b s h u = shrunk l r a b s h.loses u
 
--- The link to the node t, whose children l and r became a and b.
-module _ (c : Change) (n : ℕ) (t v l r a b : Shape) (longest alignments height : ℕ) (is : t ≡ v) (w : Fork l r ≡ v) (f : IsFreeOf v longest alignments × (height ≡ height_of v))
-    (h : Loosens c n l r a b) where
-  free_is : IsFreeOf (Fork l r) longest alignments
-  free_is = subst (λ (x : Shape). IsFreeOf x longest alignments) (sym w) f.0
+reported : (d : Change) (longest alignments height : ℕ) (t s : Shape) → IsFreeOf t longest alignments → height ≡ height_of t → Reports d longest alignments height s → Keeps d t s
+reported d longest alignments height t s f e p = rw (← f.0, ← f.1, ← e) p
 
-  height_is : height ≡ height_of (Fork l r)
-  height_is = f.1 ∙ sym (ap height_of w)
+-- The children of the node t changed, and it became the node v. The summary of t is this one.
+pub record Changed (c : Change) (n longest alignments height : ℕ) (t v : Shape) : Type 0 where
+  pub l : Shape
+  pub r : Shape
+  pub a : Shape
+  pub b : Shape
+  pub before : t ≡ Fork l r
+  pub after : v ≡ Fork a b
+  pub loosens : Loosens c n l r a b
+  pub free : IsFreeOf t longest alignments
+  pub height_is : height ≡ height_of t
 
-  pub can_update : CanUpdate c longest alignments height (Fork a b)
-  can_update = can_by c n longest alignments height l r a b h free_is height_is
+pub changed : {c : Change} {n longest alignments height : ℕ} {t l r a b : Shape} → t ≡ Fork l r → Loosens c n l r a b → IsFreeOf t longest alignments × (height ≡ height_of t) → Changed c n longest alignments height t (Fork a b)
+changed {c} {n} {longest} {alignments} {height} {t} {l} {r} {a} {b} q h f = record { l = l; r = r; a = a; b = b; before = q; after = refl; loosens = h; free = f.0; height_is = f.1 }
 
-  pub update_fits : height_of t ≤ MAX_HEIGHT → height_of (Fork a b) ≤ MAX_HEIGHT
-  update_fits k = let e = ap height_of is in let d = ap height_of w in omega (arith, h.loses.left.upto, h.loses.right.upto)
+module _ {c : Change} {n longest alignments height : ℕ} {t v : Shape} (h : Changed c n longest alignments height t v) where
+  pub can_update : CanUpdate c longest alignments height v
+  can_update =
+      subst (CanUpdate c longest alignments height) (sym h.after)
+      (can_by c n longest alignments height h.l h.r h.a h.b h.loosens (subst (λ (x : Shape). IsFreeOf x longest alignments) h.before h.free) (h.height_is ∙ ap height_of h.before))
 
-  module _ (d : Change) (s : Shape) (u : Updates c (Fork a b) s) where
-    pub update_reduces : Reports d longest alignments height s → Reduces d n t s
-    update_reduces p =
-        let m = ap length (updated_blocks c a b s u) ∙ length-append (blocks a) (blocks b) in
-        let o = length-append (blocks l) (blocks r) in
-        let keeps : Keeps d v s =
-        subst (λ (x : ℕ). Reports d (longest_gap (blocks v)) (most_alignments (blocks v)) x s) f.1
-        (subst (λ (x : ℕ). Reports d (longest_gap (blocks v)) x height s) f.0.1 (subst (λ (x : ℕ). Reports d x alignments height s) f.0.0 p)) in
-        let whole : Reduces d n v s =
-        record { shrinks = subst (λ (x : Shape). Shrinks x s) w (shrinks_by c n l r a b s h u); keeps = keeps; loss = omega (arith, h.loss, ap (λ (x : Shape). length (blocks x)) w) } in
-        subst (λ (x : Shape). Reduces d n x s) (sym is) whole
+  module _ (s : Shape) (u : Updates c v s) where
+    is_updated : Updates c (Fork h.a h.b) s
+    is_updated = subst (λ (x : Shape). Updates c x s) h.after u
 
--- A node whose first block or last block is dropped.
-pub first_loosens : (c : Change) (t l r a : Shape) → t ≡ Fork l r → CanChange t → Reduces c 1 l a → blocks a ≡ drop 1 (blocks l) → Loosens c 1 l r a r
-first_loosens c t l r a q h s e =
-    let g = subst IsTree q h.tree in
-    loosens_left c 1 l r a g (omega arith) s (cover_lost_first l r a g (subst (λ (x : Shape). IsRun (blocks x)) q h.run) e)
+    pub updated_blocks : blocks s ≡ blocks v
+    updated_blocks = updated_by c h.a h.b s is_updated ∙ sym (ap blocks h.after)
 
-pub last_loosens : (c : Change) (t l r b : Shape) → t ≡ Fork l r → CanChange t → Reduces c 1 r b → blocks b ≡ take (length (blocks r) - 1) (blocks r) → Loosens c 1 l r l b
-last_loosens c t l r b q h s e =
-    let g = subst IsTree q h.tree in
-    loosens_right c 1 l r b g (omega arith) s (cover_lost_last l r b g (subst (λ (x : Shape). IsRun (blocks x)) q h.run) e)
+    pub update_reduces : (d : Change) → Reports d longest alignments height s → Reduces d n t s
+    update_reduces d p =
+        let m = ap length (updated_by c h.a h.b s is_updated) ∙ length-append (blocks h.a) (blocks h.b) in
+        let o = ap (λ (x : Shape). length (blocks x)) h.before ∙ length-append (blocks h.l) (blocks h.r) in
+        record {
+          shrinks = subst (λ (x : Shape). Shrinks x s) (sym h.before) (shrinks_by c n h.l h.r h.a h.b s h.loosens is_updated);
+          keeps = reported d longest alignments height t s h.free h.height_is p;
+          loss = omega (arith, h.loosens.loss);
+        }
 
 pub ruleset updating = (summed_by, tall)

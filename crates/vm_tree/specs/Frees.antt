@@ -1,12 +1,16 @@
--- A held block that is freed, and joined with its free neighbours.
-use Rattle.std.specs.Prelude.{◌≡◌, ℕ, ◌+◌, ◌-◌, ◌<◌, List, [], ◌∷◌, ◌++◌, length, Option, MatchOption}
-use Rattle.vm_ranges.specs.Range.{Range}
+-- A held block that is freed, and joined with its free neighbours. The ends of a list of blocks, and of a node.
+use Rattle.std.specs.Prelude.{◌≡◌, ℕ, ◌+◌, ◌-◌, ◌<◌, ◌≤◌, List, [], ◌∷◌, ◌++◌, length, take, drop, Option, MatchOption}
+use Rattle.vm_ranges.specs.Range.{Range, IsRange}
 use Rattle.vm_leaf.specs.declared.block.Block.{Block}
 use Rattle.vm_leaf.specs.Block.{held_block}
-use Rattle.vm_leaf.specs.Blocks.{nth, freed_between, with_free, IsLeaf}
+use Rattle.vm_leaf.specs.Blocks.{nth, start_of, end_of, freed_between, IsLeaf}
 use Rattle.vm_leaf.specs.Raises.{Raises}
-use Rattle.vm_tree.specs.Shape.{Shape, blocks}
+use Rattle.vm_tree.specs.Shape.{Shape, Fork, blocks}
 use Rattle.vm_tree.specs.Changes.{Loosens}
+use Rattle.vm_tree.specs.declared.end.End.{End}
+use Rattle.vm_tree.specs.declared.end.End.TheVariants.{First, Last}
+use Rattle.vm_tree.specs.declared.link.Link.{Link}
+use Rattle.vm_tree.specs.declared.link.Node.TheInside.{Inside}
 use Rattle.vm_tree.specs.declared.free.Gap.{Gap}
 use Rattle.vm_tree.specs.declared.free.Freed.{Freed}
 use Rattle.vm_ranges.specs.declared.state.NodeState.TheVariants.{Allocated}
@@ -18,19 +22,53 @@ pub record Frees (k : Range) (old new : List Block) : Type 0 where
   pub before : old ≡ lower ++ held_block k ∷ upper
   pub after : new ≡ freed_between lower k upper
 
--- The last block was held and started at s. It became a gap up to e, joined with a gap before it.
-pub record FreesLast (s e : ℕ) (old new : List Block) : Type 0 where
-  pub lower : List Block
-  pub last : ℕ
-  pub before : old ≡ lower ++ held_block (record { start = s; end = last }) ∷ []
-  pub after : new ≡ freed_between lower (record { start = s; end = e }) []
+-- The other end.
+abbrev pub opposite : End → End
+opposite First = Last
+opposite Last = First
 
--- The first block was held and ended at e. It became a gap from s on, joined with a gap after it.
-pub record FreesFirst (s e : ℕ) (old new : List Block) : Type 0 where
+-- The index of the block at an end of a list.
+abbrev pub end_index : End → List Block → ℕ
+end_index First bs = 0
+end_index Last bs = length bs - 1
+
+-- The block at an end of a list.
+abbrev pub block_at_end : End → List Block → Block
+block_at_end end bs = nth bs (end_index end bs)
+
+-- The list without the block at an end.
+abbrev pub without_end : End → List Block → List Block
+without_end First bs = drop 1 bs
+without_end Last bs = take (length bs - 1) bs
+
+-- The range from s to e.
+abbrev pub span : ℕ → ℕ → Range
+span s e = record { start = s; end = e }
+
+-- The address of the range k at an end of a list that is next to the other blocks.
+abbrev pub inner : End → Range → ℕ
+inner First k = k.end
+inner Last k = k.start
+
+-- The block at an end of the list can be extended outwards, up to the end of the range k.
+abbrev pub CanExtend : End → Range → List Block → Type 0
+CanExtend First k bs = (k.start ≤ start_of bs) × IsRange k.start (end_of bs)
+CanExtend Last k bs = (end_of bs ≤ k.end) × IsRange (start_of bs) k.end
+
+-- Of the blocks before a block and after it, those that are between it and an end of the list.
+abbrev pub beyond : End → List Block → List Block → List Block
+beyond First lower upper = lower
+beyond Last lower upper = upper
+
+-- The block at an end was held, and had the inner address of k. It became the gap k, joined with a gap next to it.
+pub record FreesEnd (end : End) (k : Range) (old new : List Block) : Type 0 where
+  pub lower : List Block
   pub upper : List Block
-  pub first : ℕ
-  pub before : old ≡ held_block (record { start = first; end = e }) ∷ upper
-  pub after : new ≡ with_free (record { start = s; end = e }) upper
+  pub was : Range
+  pub none : beyond end lower upper ≡ []
+  pub inner : inner end was ≡ inner end k
+  pub before : old ≡ lower ++ held_block was ∷ upper
+  pub after : new ≡ freed_between lower k upper
 
 -- The list has the held block of this range.
 pub record Holds (k : Range) (bs : List Block) : Type 0 where
@@ -38,15 +76,10 @@ pub record Holds (k : Range) (bs : List Block) : Type 0 where
   pub within : index < length bs
   pub found : nth bs index ≡ held_block k
 
--- The last block is held and starts at s.
-pub record EndsHeld (s : ℕ) (bs : List Block) : Type 0 where
-  pub held : (nth bs (length bs - 1)).state ≡ Allocated
-  pub start : (nth bs (length bs - 1)).key.start ≡ s
-
--- The first block is held and ends at e.
-pub record StartsHeld (e : ℕ) (bs : List Block) : Type 0 where
-  pub held : (nth bs 0).state ≡ Allocated
-  pub end : (nth bs 0).key.end ≡ e
+-- The block at an end is held, and has the inner address of k.
+pub record EndHeld (end : End) (k : Range) (bs : List Block) : Type 0 where
+  pub held : (block_at_end end bs).state ≡ Allocated
+  pub inner : inner end (block_at_end end bs).key ≡ inner end k
 
 -- Some blocks of a leaf became a gap: there are `joined` fewer blocks, and the summary is raised by that of the gap.
 pub record JoinsGap (gap : Gap) (old new : List Block) : Type 0 where
@@ -59,3 +92,23 @@ pub record JoinsGap (gap : Gap) (old new : List Block) : Type 0 where
 abbrev pub FreesUnder : Range → Shape → Shape → Shape → Shape → Option Freed → Type 0
 FreesUnder k l r a b found =
     MatchOption found ((a ≡ l) × (b ≡ r) × ¬ Holds k (blocks l ++ blocks r)) (λ freed. Frees k (blocks l ++ blocks r) (blocks a ++ blocks b) × Loosens freed.change freed.joined l r a b)
+
+-- The node whose child at this end is `near`, and whose other child is `far`.
+abbrev pub fork_at : End → Shape → Shape → Shape
+fork_at First near far = Fork near far
+fork_at Last near far = Fork far near
+
+-- The fields of the node whose child at this end is `near`, and whose other child is `far`.
+abbrev pub node_at : End → ℕ → Link → Link → Inside
+node_at First at near far = record { at = at; left = near; right = far }
+node_at Last at near far = record { at = at; left = far; right = near }
+
+-- The range k of the child at this end of a node touches `at`, the edge between both children.
+abbrev pub TouchesEdge : End → Range → ℕ → Type 0
+TouchesEdge First k at = k.end + 1 ≡ at
+TouchesEdge Last k at = k.start ≡ at
+
+-- The same as FreesUnder. The child at this end was `near` and became a, and the other one was `far` and became b.
+abbrev pub FreesBeside : End → Range → Shape → Shape → Shape → Shape → Option Freed → Type 0
+FreesBeside First k near far a b found = FreesUnder k near far a b found
+FreesBeside Last k near far a b found = FreesUnder k far near b a found

@@ -3,17 +3,18 @@
 //! The range of a block can end right before the edge between two children of a node, or start at it. Then
 //! the block on the other side of the edge is looked at. If it is a gap, the range is freed together with it.
 //! After that the gap is dropped from its leaf, and the edge moves over it.
-ghost use Rattle.std.specs.Prelude.{◌≡◌, ◌≢◌, ◌+◌, ◌*◌, ◌-◌, ◌<◌, ◌≤◌, length, take, drop, max, MatchOption};
-ghost use Rattle.vm_ranges.specs.Range.{IsRange, MAX, address_count};
-ghost use Rattle.vm_ranges.specs.declared.state.NodeState.TheVariants.{Free, Allocated};
+ghost use Rattle.std.specs.Prelude.{◌≡◌, ◌≢◌, ◌+◌, ◌*◌, ◌-◌, ◌<◌, ◌≤◌, length, max, MatchOption};
+ghost use Rattle.vm_ranges.specs.Range.{MAX, address_count};
+ghost use Rattle.vm_ranges.specs.declared.state.NodeState.TheVariants.{Allocated};
 ghost use Rattle.vm_leaf.specs.Blocks.{nth, start_of, end_of, freed_at, longest_gap};
 ghost use Rattle.vm_leaf.specs.Multiples.{alignment_count, most_alignments};
 ghost use Rattle.vm_tree.specs.Shape.{Tip, Fork, blocks, height_of, IsTree};
 ghost use Rattle.vm_tree.specs.Links.{side, IsFreeOf, IsSummed, IsNode};
 ghost use Rattle.vm_tree.specs.Changes.{Reports, CanChange, Reduces};
-ghost use Rattle.vm_tree.specs.Frees.{Frees, FreesLast, FreesFirst, Holds, EndsHeld, StartsHeld, JoinsGap, FreesUnder};
+ghost use Rattle.vm_tree.specs.Frees.{Frees, Holds, JoinsGap, FreesUnder, FreesBeside, FreesEnd, EndHeld, CanExtend, TouchesEdge, span, end_index, block_at_end, without_end, opposite, fork_at, node_at};
 
 use crate::change::{Change, update};
+use crate::end::End;
 use crate::link::{Link, Node};
 use crate::steps::Steps;
 use vm_leaf::{Block, Leaf, MIN_BLOCKS, Summary};
@@ -74,45 +75,43 @@ pub(crate) fn free_in(leaf: &mut Leaf, key: &RangeInclusive) -> Option<Gap>
     }
 }
 
-/// Frees the last block of a leaf up to `end`, if it is held and starts at `start`.
-fn free_last_in(leaf: &mut Leaf, start: u64, end: u64) -> Option<Gap>
-    requires up { end_of leaf.old ≤ end }
-    requires range { IsRange (start_of leaf.old) end }
-    ensures { MatchOption result ((leaf.new ≡ leaf.old) × ¬ EndsHeld start leaf.old)
-        (λ gap. FreesLast start end leaf.old leaf.new × JoinsGap gap leaf.old leaf.new) }
+/// Returns the index of the block at an end of a leaf.
+#[inline(always)]
+fn index_at(leaf: &Leaf, end: End) -> usize
+    ensures value { result ≡ end_index end leaf.now }
+    ensures within { result < length leaf.now }
 {
-    let last = leaf.len() - 1;
-    let block = leaf.block_at(last);
-    if block.key.start() != start {
-        return None;
-    }
-    match block.state {
-        NodeState::Free => None,
-        NodeState::Allocated => {
-            leaf.move_end(end);
-            Some(join_at(leaf, last))
-        }
+    let len = leaf.len();
+    match end {
+        End::First => 0,
+        End::Last => len - 1,
     }
 }
 
-/// Frees the first block of a leaf from `start` on, if it is held and ends at `end`.
-fn free_first_in(leaf: &mut Leaf, start: u64, end: u64) -> Option<Gap>
-    requires down { start ≤ start_of leaf.old }
-    requires range { IsRange start (end_of leaf.old) }
-    ensures { MatchOption result ((leaf.new ≡ leaf.old) × ¬ StartsHeld end leaf.old)
-        (λ gap. FreesFirst start end leaf.old leaf.new × JoinsGap gap leaf.old leaf.new) }
+/// Extends the block at an end of a leaf to the range from `start` to `last`, and frees it. Returns `None`
+/// unless the block is held and has the other end of this range.
+fn free_end_in(leaf: &mut Leaf, end: End, start: u64, last: u64) -> Option<Gap>
+    requires { CanExtend end (span start last) leaf.old }
+    ensures { MatchOption result ((leaf.new ≡ leaf.old) × ¬ EndHeld end (span start last) leaf.old)
+        (λ gap. FreesEnd end (span start last) leaf.old leaf.new × JoinsGap gap leaf.old leaf.new) }
 {
-    // Proof: `len` gives the facts of a leaf.
-    let _len = leaf.len();
-    let block = leaf.block_at(0);
-    if block.key.end() != end {
+    let i = index_at(leaf, end);
+    let block = leaf.block_at(i);
+    let meets = match end {
+        End::First => block.key.end() == last,
+        End::Last => block.key.start() == start,
+    };
+    if !meets {
         return None;
     }
     match block.state {
         NodeState::Free => None,
         NodeState::Allocated => {
-            leaf.move_start(start);
-            Some(join_at(leaf, 0))
+            match end {
+                End::First => leaf.move_start(start),
+                End::Last => leaf.move_end(last),
+            }
+            Some(join_at(leaf, i))
         }
     }
 }
@@ -183,40 +182,29 @@ fn summary_without(block: &RangeInclusive, longest: u64, alignments: u32, leaf: 
     }
 }
 
-/// Removes the first block of a leaf, and updates the summary beside its link.
-fn drop_first_in(longest: &mut u64, alignments: &mut u32, leaf: &mut Leaf) -> Change
+/// Removes the block at an end of a leaf, and updates the summary beside its link.
+fn drop_end_in(longest: &mut u64, alignments: &mut u32, leaf: &mut Leaf, end: End) -> Change
     requires some { 1 < length leaf.old }
     requires summed { IsFreeOf (Tip leaf.old) longest.old alignments.old }
-    ensures dropped { leaf.new ≡ drop 1 leaf.old }
+    ensures dropped { leaf.new ≡ without_end end leaf.old }
     ensures summed { IsFreeOf (Tip leaf.new) longest.new alignments.new }
     ensures reported { Reports result longest.old alignments.old 1 (Tip leaf.new) }
 {
-    let block = leaf.key_at(0);
-    leaf.drop_first();
+    let block = leaf.key_at(index_at(leaf, end));
+    match end {
+        End::First => leaf.drop_first(),
+        End::Last => leaf.drop_last(),
+    }
     let new = summary_without(&block, *longest, *alignments, leaf);
     write_summary(longest, alignments, leaf, new)
 }
 
-/// Removes the last block of a leaf, and updates the summary beside its link.
-fn drop_last_in(longest: &mut u64, alignments: &mut u32, leaf: &mut Leaf) -> Change
-    requires some { 1 < length leaf.old }
-    requires summed { IsFreeOf (Tip leaf.old) longest.old alignments.old }
-    ensures dropped { leaf.new ≡ take (length leaf.old - 1) leaf.old }
-    ensures summed { IsFreeOf (Tip leaf.new) longest.new alignments.new }
-    ensures reported { Reports result longest.old alignments.old 1 (Tip leaf.new) }
-{
-    let block = leaf.key_at(leaf.len() - 1);
-    leaf.drop_last();
-    let new = summary_without(&block, *longest, *alignments, leaf);
-    write_summary(longest, alignments, leaf, new)
-}
-
-/// Returns the first block of a tree.
+/// Returns the block at an end of a tree.
 #[tactic(auto, using(crate::proofs::Trees::ends))]
-fn first_block(tree: &Link, count: &mut Steps) -> Block
+fn end_block(tree: &Link, end: End, count: &mut Steps) -> Block
     requires tree { IsTree (side tree.now) }
     requires count_fits { count.old + height_of (side tree.now) ≤ MAX }
-    ensures block { result ≡ nth (blocks (side tree.now)) 0 }
+    ensures block { result ≡ block_at_end end (blocks (side tree.now)) }
     ensures count { (count.old < count.new) × (count.new ≤ count.old + height_of (side tree.now)) }
 {
     count.enter();
@@ -224,44 +212,25 @@ fn first_block(tree: &Link, count: &mut Steps) -> Block
         Link::Hole => unreachable!(),
         Link::Leaf { leaf, .. } => {
             let leaf: &Leaf = leaf;
-            leaf.block_at(0)
+            leaf.block_at(index_at(leaf, end))
         }
         Link::Fork { node, .. } => {
             let node: &Node = node;
-            first_block(&node.left, count)
+            match end {
+                End::First => end_block(&node.left, end, count),
+                End::Last => end_block(&node.right, end, count),
+            }
         }
     }
 }
 
-/// Returns the last block of a tree.
-#[tactic(auto, using(crate::proofs::Trees::ends))]
-fn last_block(tree: &Link, count: &mut Steps) -> Block
-    requires tree { IsTree (side tree.now) }
-    requires count_fits { count.old + height_of (side tree.now) ≤ MAX }
-    ensures block { result ≡ nth (blocks (side tree.now)) (length (blocks (side tree.now)) - 1) }
-    ensures count { (count.old < count.new) × (count.new ≤ count.old + height_of (side tree.now)) }
-{
-    count.enter();
-    match tree {
-        Link::Hole => unreachable!(),
-        Link::Leaf { leaf, .. } => {
-            let leaf: &Leaf = leaf;
-            leaf.block_at(leaf.len() - 1)
-        }
-        Link::Fork { node, .. } => {
-            let node: &Node = node;
-            last_block(&node.right, count)
-        }
-    }
-}
-
-/// Drops the first block of a tree.
-fn drop_first(tree: &mut Link, count: &mut Steps) -> Change
+/// Drops the block at an end of a tree.
+fn drop_end(tree: &mut Link, end: End, count: &mut Steps) -> Change
     requires can { CanChange (side tree.old) }
     requires some { 1 < length (blocks (side tree.old)) }
     requires summed { IsSummed tree.old }
     requires count_fits { count.old + height_of (side tree.old) ≤ MAX }
-    ensures dropped { blocks (side tree.new) ≡ drop 1 (blocks (side tree.old)) }
+    ensures dropped { blocks (side tree.new) ≡ without_end end (blocks (side tree.old)) }
     ensures reduces { Reduces result 1 (side tree.old) (side tree.new) }
     ensures summed { IsSummed tree.new }
     ensures count { (count.old < count.new) × (count.new ≤ count.old + height_of (side tree.old)) }
@@ -275,56 +244,29 @@ fn drop_first(tree: &mut Link, count: &mut Steps) -> Change
             leaf,
         } => {
             let leaf: &mut Leaf = leaf;
-            drop_first_in(longest, alignments, leaf)
+            drop_end_in(longest, alignments, leaf, end)
         }
         Link::Fork { node, .. } => {
             let node: &mut Node = node;
-            let change = drop_first(&mut node.left, count);
+            let change = match end {
+                End::First => drop_end(&mut node.left, end, count),
+                End::Last => drop_end(&mut node.right, end, count),
+            };
             update(tree, change)
         }
     }
 }
 
-/// Drops the last block of a tree.
-fn drop_last(tree: &mut Link, count: &mut Steps) -> Change
-    requires can { CanChange (side tree.old) }
-    requires some { 1 < length (blocks (side tree.old)) }
-    requires summed { IsSummed tree.old }
-    requires count_fits { count.old + height_of (side tree.old) ≤ MAX }
-    ensures dropped { blocks (side tree.new) ≡ take (length (blocks (side tree.old)) - 1) (blocks (side tree.old)) }
-    ensures reduces { Reduces result 1 (side tree.old) (side tree.new) }
-    ensures summed { IsSummed tree.new }
-    ensures count { (count.old < count.new) × (count.new ≤ count.old + height_of (side tree.old)) }
-{
-    count.enter();
-    match tree {
-        Link::Hole => unreachable!(),
-        Link::Leaf {
-            longest,
-            alignments,
-            leaf,
-        } => {
-            let leaf: &mut Leaf = leaf;
-            drop_last_in(longest, alignments, leaf)
-        }
-        Link::Fork { node, .. } => {
-            let node: &mut Node = node;
-            let change = drop_last(&mut node.right, count);
-            update(tree, change)
-        }
-    }
-}
-
-/// Frees the last block of a tree up to `end`, if it is held and starts at `start`.
-fn free_last(tree: &mut Link, start: u64, end: u64, count: &mut Steps) -> Option<Freed>
+/// Extends the block at an end of a tree to the range from `start` to `last`, and frees it. Returns `None`
+/// unless the block is held and has the other end of this range.
+fn free_end(tree: &mut Link, end: End, start: u64, last: u64, count: &mut Steps) -> Option<Freed>
     requires can { CanChange (side tree.old) }
     requires summed { IsSummed tree.old }
-    requires up { end_of (blocks (side tree.old)) ≤ end }
-    requires range { IsRange (start_of (blocks (side tree.old))) end }
+    requires extends { CanExtend end (span start last) (blocks (side tree.old)) }
     requires count_fits { count.old + height_of (side tree.old) ≤ MAX }
     ensures freed { MatchOption result
-        ((side tree.new ≡ side tree.old) × ¬ EndsHeld start (blocks (side tree.old)))
-        (λ freed. FreesLast start end (blocks (side tree.old)) (blocks (side tree.new)) × Reduces freed.change freed.joined (side tree.old) (side tree.new)) }
+        ((side tree.new ≡ side tree.old) × ¬ EndHeld end (span start last) (blocks (side tree.old)))
+        (λ freed. FreesEnd end (span start last) (blocks (side tree.old)) (blocks (side tree.new)) × Reduces freed.change freed.joined (side tree.old) (side tree.new)) }
     ensures summed { IsSummed tree.new }
     ensures count { (count.old < count.new) × (count.new ≤ count.old + height_of (side tree.old)) }
 {
@@ -337,12 +279,15 @@ fn free_last(tree: &mut Link, start: u64, end: u64, count: &mut Steps) -> Option
             leaf,
         } => {
             let leaf: &mut Leaf = leaf;
-            let gap = free_last_in(leaf, start, end)?;
+            let gap = free_end_in(leaf, end, start, last)?;
             Some(raise(longest, alignments, leaf, &gap))
         }
         Link::Fork { node, .. } => {
             let node: &mut Node = node;
-            let freed = free_last(&mut node.right, start, end, count)?;
+            let freed = match end {
+                End::First => free_end(&mut node.left, end, start, last, count),
+                End::Last => free_end(&mut node.right, end, start, last, count),
+            }?;
             let change = update(tree, freed.change);
             Some(Freed {
                 change,
@@ -352,152 +297,55 @@ fn free_last(tree: &mut Link, start: u64, end: u64, count: &mut Steps) -> Option
     }
 }
 
-/// Frees the first block of a tree from `start` on, if it is held and ends at `end`.
-fn free_first(tree: &mut Link, start: u64, end: u64, count: &mut Steps) -> Option<Freed>
-    requires can { CanChange (side tree.old) }
-    requires summed { IsSummed tree.old }
-    requires down { start ≤ start_of (blocks (side tree.old)) }
-    requires range { IsRange start (end_of (blocks (side tree.old))) }
-    requires count_fits { count.old + height_of (side tree.old) ≤ MAX }
-    ensures freed { MatchOption result
-        ((side tree.new ≡ side tree.old) × ¬ StartsHeld end (blocks (side tree.old)))
-        (λ freed. FreesFirst start end (blocks (side tree.old)) (blocks (side tree.new)) × Reduces freed.change freed.joined (side tree.old) (side tree.new)) }
-    ensures summed { IsSummed tree.new }
-    ensures count { (count.old < count.new) × (count.new ≤ count.old + height_of (side tree.old)) }
+/// Returns the other end.
+#[inline(always)]
+fn opposite(end: End) -> End
+    ensures { result ≡ opposite end }
 {
-    count.enter();
-    match tree {
-        Link::Hole => unreachable!(),
-        Link::Leaf {
-            longest,
-            alignments,
-            leaf,
-        } => {
-            let leaf: &mut Leaf = leaf;
-            let gap = free_first_in(leaf, start, end)?;
-            Some(raise(longest, alignments, leaf, &gap))
-        }
-        Link::Fork { node, .. } => {
-            let node: &mut Node = node;
-            let freed = free_first(&mut node.left, start, end, count)?;
-            let change = update(tree, freed.change);
-            Some(Freed {
-                change,
-                joined: freed.joined,
-            })
-        }
+    match end {
+        End::First => End::Last,
+        End::Last => End::First,
     }
 }
 
-/// Frees a range that ends right before the edge, up to the end of the gap after it. The gap is dropped.
-#[tactic(auto, using(crate::proofs::FreesEdges::gaps_below))]
-fn free_below_gap(
-    left: &mut Link,
-    at: &mut u64,
-    right: &mut Link,
-    key: &RangeInclusive,
-    end: u64,
-    count: &mut Steps,
-) -> Option<Freed>
-    requires can { CanChange (Fork (side left.old) (side right.old)) }
-    requires node { IsNode (record { at = at.old; left = left.old; right = right.old }) }
-    requires edge { key.now.end + 1 ≡ start_of (blocks (side right.old)) }
-    requires gap { ((nth (blocks (side right.old)) 0).state ≡ Free)
-        × (end ≡ (nth (blocks (side right.old)) 0).key.end) }
-    requires count_fits { count.old + 2 * max (height_of (side left.old)) (height_of (side right.old)) ≤ MAX }
-    ensures node { IsNode (record { at = at.new; left = left.new; right = right.new }) }
-    ensures freed { FreesUnder key.now (side left.old) (side right.old) (side left.new) (side right.new) result }
-    ensures count { (count.old ≤ count.new)
-        × (count.new ≤ count.old + 2 * max (height_of (side left.old)) (height_of (side right.old))) }
-{
-    let freed = free_last(left, key.start(), end, count)?;
-    drop_first(right, count);
-    *at = end + 1;
-    Some(Freed {
-        change: Change::Structure,
-        joined: freed.joined + 1,
-    })
-}
-
-/// Frees a range that starts at the edge, from the start of the gap before it on. The gap is dropped.
-#[tactic(auto, using(crate::proofs::FreesEdges::gaps_above))]
-fn free_above_gap(
-    left: &mut Link,
-    at: &mut u64,
-    right: &mut Link,
-    key: &RangeInclusive,
-    start: u64,
-    count: &mut Steps,
-) -> Option<Freed>
-    requires can { CanChange (Fork (side left.old) (side right.old)) }
-    requires node { IsNode (record { at = at.old; left = left.old; right = right.old }) }
-    requires edge { key.now.start ≡ start_of (blocks (side right.old)) }
-    requires gap { ((nth (blocks (side left.old)) (length (blocks (side left.old)) - 1)).state ≡ Free)
-        × (start ≡ (nth (blocks (side left.old)) (length (blocks (side left.old)) - 1)).key.start) }
-    requires count_fits { count.old + 2 * max (height_of (side left.old)) (height_of (side right.old)) ≤ MAX }
-    ensures node { IsNode (record { at = at.new; left = left.new; right = right.new }) }
-    ensures freed { FreesUnder key.now (side left.old) (side right.old) (side left.new) (side right.new) result }
-    ensures count { (count.old ≤ count.new)
-        × (count.new ≤ count.old + 2 * max (height_of (side left.old)) (height_of (side right.old))) }
-{
-    let freed = free_first(right, start, key.end(), count)?;
-    drop_last(left, count);
-    *at = start;
-    Some(Freed {
-        change: Change::Structure,
-        joined: freed.joined + 1,
-    })
-}
-
-/// Frees a range that ends right before the edge.
+/// Frees a range that touches the edge between two children of a node. It is in `near`, the child at the given
+/// end of the node. If the block of `far` at the edge is a gap, it is dropped, and the edge moves over it.
 #[inline(never)]
-#[tactic(auto, using(crate::proofs::FreesEdges::edges))]
-fn free_below(
-    left: &mut Link,
+#[tactic(auto, using(crate::proofs::FreesEdges::beside))]
+fn free_beside(
+    near: &mut Link,
     at: &mut u64,
-    right: &mut Link,
+    far: &mut Link,
     key: &RangeInclusive,
+    end: End,
     count: &mut Steps,
 ) -> Option<Freed>
-    requires can { CanChange (Fork (side left.old) (side right.old)) }
-    requires node { IsNode (record { at = at.old; left = left.old; right = right.old }) }
-    requires edge { key.now.end + 1 ≡ start_of (blocks (side right.old)) }
-    requires count_fits { count.old + 3 * max (height_of (side left.old)) (height_of (side right.old)) ≤ MAX }
-    ensures node { IsNode (record { at = at.new; left = left.new; right = right.new }) }
-    ensures freed { FreesUnder key.now (side left.old) (side right.old) (side left.new) (side right.new) result }
+    requires can { CanChange (fork_at end (side near.old) (side far.old)) }
+    requires node { IsNode (node_at end at.old near.old far.old) }
+    requires edge { TouchesEdge end key.now at.old }
+    requires count_fits { count.old + 3 * max (height_of (side near.old)) (height_of (side far.old)) ≤ MAX }
+    ensures node { IsNode (node_at end at.new near.new far.new) }
+    ensures freed { FreesBeside end key.now (side near.old) (side far.old) (side near.new) (side far.new) result }
     ensures count { (count.old ≤ count.new)
-        × (count.new ≤ count.old + 3 * max (height_of (side left.old)) (height_of (side right.old))) }
+        × (count.new ≤ count.old + 3 * max (height_of (side near.old)) (height_of (side far.old))) }
 {
-    let next = first_block(right, count);
+    let next = end_block(far, end, count);
     match next.state {
-        NodeState::Allocated => free_last(left, key.start(), key.end(), count),
-        NodeState::Free => free_below_gap(left, at, right, key, next.key.end(), count),
-    }
-}
-
-/// Frees a range that starts at the edge.
-#[inline(never)]
-#[tactic(auto, using(crate::proofs::FreesEdges::edges))]
-fn free_above(
-    left: &mut Link,
-    at: &mut u64,
-    right: &mut Link,
-    key: &RangeInclusive,
-    count: &mut Steps,
-) -> Option<Freed>
-    requires can { CanChange (Fork (side left.old) (side right.old)) }
-    requires node { IsNode (record { at = at.old; left = left.old; right = right.old }) }
-    requires edge { key.now.start ≡ start_of (blocks (side right.old)) }
-    requires count_fits { count.old + 3 * max (height_of (side left.old)) (height_of (side right.old)) ≤ MAX }
-    ensures node { IsNode (record { at = at.new; left = left.new; right = right.new }) }
-    ensures freed { FreesUnder key.now (side left.old) (side right.old) (side left.new) (side right.new) result }
-    ensures count { (count.old ≤ count.new)
-        × (count.new ≤ count.old + 3 * max (height_of (side left.old)) (height_of (side right.old))) }
-{
-    let before = last_block(left, count);
-    match before.state {
-        NodeState::Allocated => free_first(right, key.start(), key.end(), count),
-        NodeState::Free => free_above_gap(left, at, right, key, before.key.start(), count),
+        NodeState::Allocated => free_end(near, opposite(end), key.start(), key.end(), count),
+        NodeState::Free => {
+            let gap = next.key;
+            let (start, last) = (key.start().min(gap.start()), key.end().max(gap.end()));
+            let freed = free_end(near, opposite(end), start, last, count)?;
+            drop_end(far, end, count);
+            *at = match end {
+                End::First => last + 1,
+                End::Last => start,
+            };
+            Some(Freed {
+                change: Change::Structure,
+                joined: freed.joined + 1,
+            })
+        }
     }
 }
 
@@ -555,10 +403,10 @@ fn free_under(
 {
     let edge = *at;
     if key.start() == edge {
-        return free_above(left, at, right, key, count);
+        return free_beside(right, at, left, key, End::Last, count);
     }
     if key.end() == edge - 1 {
-        return free_below(left, at, right, key, count);
+        return free_beside(left, at, right, key, End::First, count);
     }
     free_child(left, edge, right, key, count)
 }

@@ -1,46 +1,27 @@
-use Rattle.std.proofs.Common.{◌≤◌, ◌∙◌, sym, ap, refl, arith}
+use Rattle.std.proofs.Common.{◌∙◌, ap, sym, refl}
 use Rattle.vm_leaf.specs.declared.block.Block.{Block}
-use Rattle.vm_leaf.specs.Blocks.{nth}
 use Rattle.vm_tree.specs.Frees.{Holds}
 use Rattle.vm_tree.proofs.Frees.{freed_here}
-use Rattle.vm_tree.proofs.FreesAbsent.{other_start, other_end, other_state}
+use Rattle.vm_tree.proofs.FreesAbsent.{held_at, not_held}
 use Rattle.vm_tree.proofs.free.free_in.Goals as goal
 
 pub returns-then-start : goal.returns-then-start
 returns-then-start c =
     let bs = c.args.leaf.now in
-    let k = c.args.key.now in
-    let i = c.index_of-i.result in
-    let s = c.start-start.ensures.value in
-    let low : (nth bs i).key.start ≤ k.start = omega (arith, c.index_of-i.ensures.found.0) in
-    let high : k.start ≤ (nth bs i).key.end = omega (arith, c.index_of-i.ensures.found.1) in (
-      refl,
-      λ (h : Holds k bs). other_start bs i k c.len-len.ensures.leaf c.index_of-i.ensures.within low high
-          (λ z. c.if-start.true (c.start.ensures.value ∙ ap (λ (x : Block). x.key.start) c.block_at-block.ensures ∙ z ∙ sym s)) h,
-    )
+    let i = c.index_of-i in
+    (refl, λ (h : Holds c.args.key.now bs). (let e = held_at bs i.result c.args.key.now c.start-start.result c.len-len.ensures.leaf i.ensures.within i.ensures.found.0 i.ensures.found.1 c.start-start.ensures.value h in c.if-start.true (c.start.ensures.value ∙ ap (λ (x : Block). x.key.start) (c.block_at-block.ensures ∙ e) ∙ sym c.start-start.ensures.value)))
 
 pub returns-then-end : goal.returns-then-end
 returns-then-end c =
     let bs = c.args.leaf.now in
-    let k = c.args.key.now in
-    let i = c.index_of-i.result in
-    let s = c.start-start.ensures.value in
-    let low : (nth bs i).key.start ≤ k.start = omega (arith, c.index_of-i.ensures.found.0) in
-    let high : k.start ≤ (nth bs i).key.end = omega (arith, c.index_of-i.ensures.found.1) in (
-      refl,
-      λ (h : Holds k bs). other_end bs i k c.len-len.ensures.leaf c.index_of-i.ensures.within low high
-          (λ z. c.if-end.true (c.end.ensures.value ∙ ap (λ (x : Block). x.key.end) c.block_at-block.ensures ∙ z ∙ sym c.end-end.ensures.value)) h,
-    )
+    let i = c.index_of-i in
+    (refl, λ (h : Holds c.args.key.now bs). (let e = held_at bs i.result c.args.key.now c.start-start.result c.len-len.ensures.leaf i.ensures.within i.ensures.found.0 i.ensures.found.1 c.start-start.ensures.value h in c.if-end.true (c.end.ensures.value ∙ ap (λ (x : Block). x.key.end) (c.block_at-block.ensures ∙ e) ∙ sym c.end-end.ensures.value)))
 
 pub returns-in-Free : goal.returns-in-Free
 returns-in-Free c =
     let bs = c.args.leaf.now in
-    let k = c.args.key.now in
-    let i = c.index_of-i.result in
-    let s = c.start-start.ensures.value in
-    let low : (nth bs i).key.start ≤ k.start = omega (arith, c.index_of-i.ensures.found.0) in
-    let high : k.start ≤ (nth bs i).key.end = omega (arith, c.index_of-i.ensures.found.1) in
-    (refl, λ (h : Holds k bs). other_state bs i k c.len-len.ensures.leaf c.index_of-i.ensures.within low high (ap (λ (x : Block). x.state) (sym c.block_at-block.ensures) ∙ c.in-Free.is) h)
+    let i = c.index_of-i in
+    (refl, λ (h : Holds c.args.key.now bs). (let e = held_at bs i.result c.args.key.now c.start-start.result c.len-len.ensures.leaf i.ensures.within i.ensures.found.0 i.ensures.found.1 c.start-start.ensures.value h in not_held c.block_at-block.result c.args.key.now c.in-Free.is (c.block_at-block.ensures ∙ e)))
 
 pub returns-in-Allocated : goal.returns-in-Allocated
 returns-in-Allocated c =
