@@ -7,7 +7,8 @@ use Rattle.vm_leaf.specs.Block.{held_block}
 use Rattle.vm_leaf.specs.Blocks.{nth, start_of, end_of, freed_between, with_free, IsRun}
 use Rattle.vm_leaf.proofs.Tiles.{tiles_part}
 use Rattle.std.specs.Prelude.{MatchOption, Option, Some, None}
-use Rattle.vm_tree.specs.Frees.{Frees, FreesEnd, Holds, EndHeld, CanExtend, FreesBeside, TouchesEdge, opposite, inner, span, block_at_end, without_end, fork_at, node_at}
+use Rattle.vm_tree.specs.Ends.{opposite}
+use Rattle.vm_tree.specs.Frees.{Frees, FreesEnd, Holds, EndHeld, CanExtend, FreesBeside, TouchesEdge, inner, span, block_at_end, without_end, fork_at, node_at}
 use Rattle.vm_tree.specs.declared.free.Freed.{Freed}
 use Rattle.vm_tree.specs.declared.end.End.{End}
 use Rattle.vm_tree.specs.declared.end.End.TheVariants.{First, Last}

@@ -12,10 +12,11 @@ use Rattle.vm_leaf.specs.Blocks.{nth, start_of, IsRun}
 use Rattle.vm_leaf.specs.Fit.{IsFit, IsLowestFit, IsHighestFit}
 use Rattle.vm_leaf.specs.Windows.{cut_to, HaveNoFitIn, IsFirstFitIn, IsLastFitIn}
 use Rattle.vm_leaf.specs.declared.leaf.Place.{Place}
+use Rattle.vm_tree.specs.Ends.{opposite}
 use Rattle.vm_tree.specs.Shape.{Shape, Tip, Fork, blocks, height_of}
 use Rattle.vm_tree.specs.Allocation.{Spot, IsClosestFit, blocks_to, HasNoPlace, HasNoFitIn, window_of, IsSearch, AllocatesFit}
 use Rattle.vm_tree.specs.Placing.{spot_at, site_of, IsClosestSite}
-use Rattle.vm_tree.specs.Searching.{other_end, child_at, reaches_child, may_fit_in_child, nodes_of_child}
+use Rattle.vm_tree.specs.Searching.{child_at, reaches_child, may_fit_in_child, nodes_of_child}
 use Rattle.vm_tree.specs.NodeCounts.{may_fit_in, has_fit_in, nodes_of_search}
 use Rattle.vm_tree.specs.declared.end.End.{End}
 use Rattle.vm_tree.specs.declared.end.End.TheVariants.{First, Last}
@@ -107,7 +108,7 @@ module _ (seek : Search) where
       ]
 
   -- The near child has a place.
-  pub near_found : (end : End) (old new : Shape) (answer : Result Taken Refusal) → 2 ≤ height_of old → 2 ≤ height_of new → answer ≢ Err NoPlace → child_at (other_end end) new ≡ child_at (other_end end) old
+  pub near_found : (end : End) (old new : Shape) (answer : Result Taken Refusal) → 2 ≤ height_of old → 2 ≤ height_of new → answer ≢ Err NoPlace → child_at (opposite end) new ≡ child_at (opposite end) old
       → AllocatesFit end seek (blocks (child_at end old)) (blocks (child_at end new)) answer → AllocatesFit end seek (blocks old) (blocks new) answer
   near_found end (Tip bs) new answer t u n e h = absurd (omega arith)
   near_found end (Fork l r) (Tip bs) answer t u n e h = absurd (omega arith)
@@ -115,8 +116,8 @@ module _ (seek : Search) where
   near_found Last (Fork l r) (Fork m s) answer t u n e h = rw e (in_right Last (blocks l) (blocks r) (blocks s) answer (λ p. absurd (n p)) (λ p. absurd (cc p)) h)
 
   -- The near child has no place.
-  pub far_searched : (end : End) (old new : Shape) (answer : Result Taken Refusal) → 2 ≤ height_of old → 2 ≤ height_of new → HasNoPlace seek (blocks (child_at end old)) → child_at (other_end (other_end end)) new ≡ child_at (other_end (other_end end)) old
-      → AllocatesFit end seek (blocks (child_at (other_end end) old)) (blocks (child_at (other_end end) new)) answer → AllocatesFit end seek (blocks old) (blocks new) answer
+  pub far_searched : (end : End) (old new : Shape) (answer : Result Taken Refusal) → 2 ≤ height_of old → 2 ≤ height_of new → HasNoPlace seek (blocks (child_at end old)) → child_at (opposite (opposite end)) new ≡ child_at (opposite (opposite end)) old
+      → AllocatesFit end seek (blocks (child_at (opposite end) old)) (blocks (child_at (opposite end) new)) answer → AllocatesFit end seek (blocks old) (blocks new) answer
   far_searched end (Tip bs) new answer t u n e h = absurd (omega arith)
   far_searched end (Fork l r) (Tip bs) answer t u n e h = absurd (omega arith)
   far_searched First (Fork l r) (Fork m s) answer t u n e h = rw e (in_right First (blocks l) (blocks r) (blocks s) answer (λ p. n) (λ p. n) h)
@@ -261,7 +262,7 @@ module _ (seek : Search) (valid : IsSearch seek) where
 
   pub nodes_missed : (end : End) (t : Shape) → 2 ≤ height_of t → may_fit_in seek.size seek.alignment (blocks t) ≡ true → HasNoPlace seek (blocks (child_at end t))
       → nodes_of_search end (window_of seek) seek.size seek.alignment t
-      ≡ nodes_of_child end end (window_of seek) seek.size seek.alignment t + nodes_of_child (other_end end) end (window_of seek) seek.size seek.alignment t + 1
+      ≡ nodes_of_child end end (window_of seek) seek.size seek.alignment t + nodes_of_child (opposite end) end (window_of seek) seek.size seek.alignment t + 1
   unfolding nodes_of_search nodes_of_child reaches_child
   nodes_missed end (Tip bs) k m f = absurd (omega arith)
   nodes_missed First (Fork l r) k m f = rw (m, none_missed (blocks l) f) refl

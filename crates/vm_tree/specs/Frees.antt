@@ -22,11 +22,6 @@ pub record Frees (k : Range) (old new : List Block) : Type 0 where
   pub before : old ≡ lower ++ held_block k ∷ upper
   pub after : new ≡ freed_between lower k upper
 
--- The other end.
-abbrev pub opposite : End → End
-opposite First = Last
-opposite Last = First
-
 -- The index of the block at an end of a list.
 abbrev pub end_index : End → List Block → ℕ
 end_index First bs = 0

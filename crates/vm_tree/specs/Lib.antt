@@ -5,6 +5,7 @@ pub mod Mending
 pub mod Fibonacci
 pub mod Heights
 pub mod Changes
+pub mod Ends
 pub mod Frees
 pub mod Growth
 pub mod Allocation

@@ -7,11 +7,6 @@ use Rattle.vm_tree.specs.NodeCounts.{may_fit_in, nodes_of_search}
 use Rattle.vm_tree.specs.declared.end.End.{End}
 use Rattle.vm_tree.specs.declared.end.End.TheVariants.{First, Last}
 
--- The other end.
-abbrev pub other_end : End → End
-other_end First = Last
-other_end Last = First
-
 -- The child at an end of a node. A leaf is its own child.
 abbrev pub child_at : End → Shape → Shape
 child_at end (Tip bs) = Tip bs

@@ -11,7 +11,7 @@ ghost use Rattle.vm_leaf.specs.Multiples.{alignment_count, most_alignments};
 ghost use Rattle.vm_tree.specs.Shape.{Tip, Fork, blocks, height_of, IsTree};
 ghost use Rattle.vm_tree.specs.Links.{side, IsFreeOf, IsSummed, IsNode};
 ghost use Rattle.vm_tree.specs.Changes.{Reports, CanChange, Reduces};
-ghost use Rattle.vm_tree.specs.Frees.{Frees, Holds, JoinsGap, FreesUnder, FreesBeside, FreesEnd, EndHeld, CanExtend, TouchesEdge, span, end_index, block_at_end, without_end, opposite, fork_at, node_at};
+ghost use Rattle.vm_tree.specs.Frees.{Frees, Holds, JoinsGap, FreesUnder, FreesBeside, FreesEnd, EndHeld, CanExtend, TouchesEdge, span, end_index, block_at_end, without_end, fork_at, node_at};
 
 use crate::change::{Change, update};
 use crate::end::End;
@@ -297,17 +297,6 @@ fn free_end(tree: &mut Link, end: End, start: u64, last: u64, count: &mut Steps)
     }
 }
 
-/// Returns the other end.
-#[inline(always)]
-fn opposite(end: End) -> End
-    ensures { result ≡ opposite end }
-{
-    match end {
-        End::First => End::Last,
-        End::Last => End::First,
-    }
-}
-
 /// Frees a range that touches the edge between two children of a node. It is in `near`, the child at the given
 /// end of the node. If the block of `far` at the edge is a gap, it is dropped, and the edge moves over it.
 #[inline(never)]
@@ -331,11 +320,11 @@ fn free_beside(
 {
     let next = end_block(far, end, count);
     match next.state {
-        NodeState::Allocated => free_end(near, opposite(end), key.start(), key.end(), count),
+        NodeState::Allocated => free_end(near, end.opposite(), key.start(), key.end(), count),
         NodeState::Free => {
             let gap = next.key;
             let (start, last) = (key.start().min(gap.start()), key.end().max(gap.end()));
-            let freed = free_end(near, opposite(end), start, last, count)?;
+            let freed = free_end(near, end.opposite(), start, last, count)?;
             drop_end(far, end, count);
             *at = match end {
                 End::First => last + 1,

@@ -10,7 +10,8 @@ ghost use Rattle.vm_tree.specs.Growth.{IsSubtree, IsChild, GrowsIfOk, GrowsBelow
 ghost use Rattle.vm_tree.specs.Allocation.{window_of, IsSearch, HasNoPlace, AllocatesFit};
 ghost use Rattle.vm_tree.specs.NodeCounts.{may_fit_in, nodes_of_search};
 ghost use Rattle.vm_tree.specs.Placing.{site_of, IsClosestSite};
-ghost use Rattle.vm_tree.specs.Searching.{other_end, child_at, may_fit_in_child, nodes_of_child};
+ghost use Rattle.vm_tree.specs.Ends.{opposite};
+ghost use Rattle.vm_tree.specs.Searching.{child_at, may_fit_in_child, nodes_of_child};
 
 use super::place::{Site, leaf_of, place_at};
 use super::{fits, has_no_place};
@@ -96,17 +97,6 @@ pub(crate) fn fit_in_root(
     }
 }
 
-/// Returns the other end.
-#[inline(always)]
-fn other_than(end: End) -> End
-    ensures { result ≡ other_end end }
-{
-    match end {
-        End::First => End::Last,
-        End::Last => End::First,
-    }
-}
-
 /// Returns `true` if a search may find a place in a child of a node: the child can have addresses in the
 /// window, and its gaps look suitable.
 #[inline(always)]
@@ -140,7 +130,7 @@ fn fit_in_child(
         search.now.alignment node.old ≤ MAX }
     ensures answer { AllocatesFit end search.now
         (blocks (child_at child node.old)) (blocks (child_at child node.new)) result }
-    ensures same { child_at (other_end child) node.new ≡ child_at (other_end child) node.old }
+    ensures same { child_at (opposite child) node.new ≡ child_at (opposite child) node.old }
     ensures change { GrowsBelowIfOk result node.old node.new }
     ensures count { count.new ≡ count.old + nodes_of_child child end (window_of search.now) search.now.size
         search.now.alignment node.old }
@@ -178,7 +168,7 @@ fn fit_below(
     let _at = node.at;
     let answer = fit_in_child(node, end, end, search, alloc, count);
     if has_no_place(&answer) {
-        return fit_in_child(node, other_than(end), end, search, alloc, count);
+        return fit_in_child(node, end.opposite(), end, search, alloc, count);
     }
     answer
 }

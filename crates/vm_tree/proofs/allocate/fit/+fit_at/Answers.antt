@@ -64,7 +64,7 @@ fit_below-fit_in_child-requires t c =
     let e : c.fit_in_child-answer.new.node ≡ c.args.node.now = rw c.if-has_no_place.ensures at c.fit_in_child-answer.ensures.change in
     let none : HasNoPlace c.args.search.now (blocks (child_at c.args.end c.args.node.now)) = none_closest c.args.end c.args.search.now (blocks (child_at c.args.end c.args.node.now)) (blocks (child_at c.args.end c.fit_in_child-answer.new.node)) (rw c.if-has_no_place.ensures at c.fit_in_child-answer.ensures.answer) in
     let n = nodes_missed c.args.search.now c.requires.search c.args.end c.args.node.now (omega arith) c.requires.may_fit none in
-    rw (e, c.other_than.ensures) (omega arith, (c.requires.search, (c.requires.tree, omega (arith, c.fit_in_child-answer.ensures.count))))
+    rw (e, c.opposite.ensures) (omega arith, (c.requires.search, (c.requires.tree, omega (arith, c.fit_in_child-answer.ensures.count))))
 
 pub fit_below-returns-then-has_no_place-clause-answer : goal.fit_below-returns-then-has_no_place-clause-answer
 fit_below-returns-then-has_no_place-clause-answer t c =
@@ -73,7 +73,7 @@ fit_below-returns-then-has_no_place-clause-answer t c =
     let e : c.fit_in_child-answer.new.node ≡ c.args.node.now = rw c.if-has_no_place.ensures at c.fit_in_child-answer.ensures.change in
     let none : HasNoPlace c.args.search.now (blocks (child_at c.args.end c.args.node.now)) = none_closest c.args.end c.args.search.now (blocks (child_at c.args.end c.args.node.now)) (blocks (child_at c.args.end c.fit_in_child-answer.new.node)) (rw c.if-has_no_place.ensures at c.fit_in_child-answer.ensures.answer) in
     let tall = answered_tall c.fit_in_child.result c.args.node.now c.fit_in_child.new.node (omega arith) (rw e at c.fit_in_child.ensures.change) in
-    far_searched c.args.search.now c.args.end c.args.node.now c.fit_in_child.new.node c.fit_in_child.result (omega arith) tall none (rw (e, c.other_than.ensures) at c.fit_in_child.ensures.same) (rw (e, c.other_than.ensures) at c.fit_in_child.ensures.answer)
+    far_searched c.args.search.now c.args.end c.args.node.now c.fit_in_child.new.node c.fit_in_child.result (omega arith) tall none (rw (e, c.opposite.ensures) at c.fit_in_child.ensures.same) (rw (e, c.opposite.ensures) at c.fit_in_child.ensures.answer)
 
 pub fit_below-returns-then-has_no_place-clause-count : goal.fit_below-returns-then-has_no_place-clause-count
 fit_below-returns-then-has_no_place-clause-count t c =
@@ -82,7 +82,7 @@ fit_below-returns-then-has_no_place-clause-count t c =
     let e : c.fit_in_child-answer.new.node ≡ c.args.node.now = rw c.if-has_no_place.ensures at c.fit_in_child-answer.ensures.change in
     let none : HasNoPlace c.args.search.now (blocks (child_at c.args.end c.args.node.now)) = none_closest c.args.end c.args.search.now (blocks (child_at c.args.end c.args.node.now)) (blocks (child_at c.args.end c.fit_in_child-answer.new.node)) (rw c.if-has_no_place.ensures at c.fit_in_child-answer.ensures.answer) in
     let n = nodes_missed c.args.search.now c.requires.search c.args.end c.args.node.now (omega arith) c.requires.may_fit none in
-    let m = rw (e, c.other_than.ensures) at c.fit_in_child.ensures.count in
+    let m = rw (e, c.opposite.ensures) at c.fit_in_child.ensures.count in
     omega (arith, c.fit_in_child-answer.ensures.count)
 
 pub fit_below-returns-clause-answer : goal.fit_below-returns-clause-answer
