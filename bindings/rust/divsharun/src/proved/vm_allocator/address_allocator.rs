@@ -44,7 +44,7 @@ impl AddressAllocator {
     /// In this order:
     /// - `Underflow` if `size` is 0.
     /// - `Overflow` if the last address would be past `u64::MAX`.
-    /// - `OutOfMemory` if the allocation of the node fails.
+    /// - `OutOfMemory` if the allocation of the leaf fails.
     pub fn new(alloc: Global, base: u64, size: u64) -> Result<Self> {
         let address_space = space_from(base, size)?;
         let interval_tree = IntervalTree::new(alloc, address_space)?;
@@ -57,7 +57,8 @@ impl AddressAllocator {
     /// Creates an allocator of the `size` addresses that start at `base`, with these ranges allocated.
     /// They must be in ascending order.
     ///
-    /// Its tree has the minimum height for its nodes. It takes time linear in the number of ranges.
+    /// Its tree has the fewest leaves, and the minimum height for its nodes. It takes time linear in the
+    /// number of ranges.
     ///
     /// # Errors
     ///
@@ -89,7 +90,7 @@ impl AddressAllocator {
     ///
     /// # Errors
     ///
-    /// - `OutOfMemory` if the allocation of a node fails. The nodes copied so far are freed.
+    /// - `OutOfMemory` if an allocation fails. What was copied so far is freed.
     pub fn try_clone(&self, alloc: Global) -> Result<Self> {
         Ok(AddressAllocator {
             address_space: self.address_space,
@@ -237,9 +238,9 @@ impl AddressAllocator {
 
     /// Returns the height of the tree: the number of nodes on its longest path, at most 48.
     ///
-    /// A leaf is a node, and has up to 32 blocks. The tree is balanced. With k allocated ranges its height h
-    /// satisfies F(h + 2) <= 2k + 2, and 12 F(h + 1) <= 2k + 1 if h is above 1, where F is the Fibonacci
-    /// sequence 1, 1, 2, 3, 5.
+    /// A leaf is a node, and has up to 32 blocks. The tree is balanced. Let h be its height, and k the number
+    /// of allocated ranges. Then F(h + 2) is at most 2k + 2. If h is above 1, 12 F(h + 1) is at most 2k + 1.
+    /// F is the Fibonacci sequence 1, 1, 2, 3, 5.
     pub fn height(&self) -> u64 {
         self.interval_tree.height()
     }

@@ -64,7 +64,7 @@ impl IntervalTree {
     ///
     /// # Errors
     ///
-    /// - `OutOfMemory` if the allocation of a node fails. The nodes copied so far are freed.
+    /// - `OutOfMemory` if an allocation fails. What was copied so far is freed.
     pub fn try_clone(&self, alloc: Global) -> Result<Self> {
         Ok(IntervalTree {
             tree: self.tree.try_clone(alloc)?,

@@ -172,7 +172,7 @@ impl Leaf {
 
     /// Returns 1 if block `i` exists and starts at or below `address`, otherwise 0.
     #[inline(always)]
-    fn count_up_to(&self, i: usize, address: u64) -> usize {
+    fn one_if_up_to(&self, i: usize, address: u64) -> usize {
         let len = self.len;
         let first = self.starts[i];
         if (i < len) & (first <= address) { 1 } else { 0 }
@@ -201,9 +201,9 @@ impl Leaf {
     fn narrow_to_quarter(&self, low: usize, step: usize, address: u64) -> usize {
         // Proof: `len` gives the facts of a leaf.
         let _len = self.len();
-        let first = self.count_up_to(low + step, address);
-        let second = self.count_up_to(low + 2 * step, address);
-        let third = self.count_up_to(low + 3 * step, address);
+        let first = self.one_if_up_to(low + step, address);
+        let second = self.one_if_up_to(low + 2 * step, address);
+        let third = self.one_if_up_to(low + 3 * step, address);
         low + step * (first + second + third)
     }
 
@@ -318,7 +318,7 @@ impl Leaf {
 
     /// Frees block `i`. Its neighbours must be allocated.
     #[inline(always)]
-    fn clear(&mut self, i: usize) {
+    fn set_free(&mut self, i: usize) {
         self.held = without_held(self.held, i);
     }
 
@@ -328,7 +328,7 @@ impl Leaf {
         // Proof: `len` gives the facts of a leaf.
         let _len = self.len();
         let gap = self.key_at(i);
-        self.clear(i);
+        self.set_free(i);
         gap
     }
 

@@ -5,8 +5,7 @@
 //! Each function that enters nodes counts them.
 
 pub(in crate::proved::vm_tree) mod exact;
-pub(in crate::proved::vm_tree) mod first;
-pub(in crate::proved::vm_tree) mod last;
+pub(in crate::proved::vm_tree) mod fit;
 mod place;
 
 use crate::proved::vm_tree::link::{Link, summary};

@@ -7,6 +7,7 @@
 //! After that the gap is dropped from its leaf, and the edge moves over it.
 
 use crate::proved::vm_tree::change::{Change, update};
+use crate::proved::vm_tree::end::End;
 use crate::proved::vm_tree::link::{Link, Node};
 use crate::proved::vm_tree::steps::Steps;
 use crate::proved::vm_leaf::{Block, Leaf, MIN_BLOCKS, Summary};
@@ -57,35 +58,36 @@ pub(in crate::proved::vm_tree) fn free_in(leaf: &mut Leaf, key: &RangeInclusive)
     }
 }
 
-/// Frees the last block of a leaf up to `end`, if it is held and starts at `start`.
-fn free_last_in(leaf: &mut Leaf, start: u64, end: u64) -> Option<Gap> {
-    let last = leaf.len() - 1;
-    let block = leaf.block_at(last);
-    if block.key.start() != start {
-        return None;
-    }
-    match block.state {
-        NodeState::Free => None,
-        NodeState::Allocated => {
-            leaf.move_end(end);
-            Some(join_at(leaf, last))
-        }
+/// Returns the index of the block at an end of a leaf.
+#[inline(always)]
+fn index_at(leaf: &Leaf, end: End) -> usize {
+    let len = leaf.len();
+    match end {
+        End::First => 0,
+        End::Last => len - 1,
     }
 }
 
-/// Frees the first block of a leaf from `start` on, if it is held and ends at `end`.
-fn free_first_in(leaf: &mut Leaf, start: u64, end: u64) -> Option<Gap> {
-    // Proof: `len` gives the facts of a leaf.
-    let _len = leaf.len();
-    let block = leaf.block_at(0);
-    if block.key.end() != end {
+/// Extends the block at an end of a leaf to the range from `start` to `last`, and frees it. Returns `None`
+/// unless the block is held and has the other end of this range.
+fn free_end_in(leaf: &mut Leaf, end: End, start: u64, last: u64) -> Option<Gap> {
+    let i = index_at(leaf, end);
+    let block = leaf.block_at(i);
+    let meets = match end {
+        End::First => block.key.end() == last,
+        End::Last => block.key.start() == start,
+    };
+    if !meets {
         return None;
     }
     match block.state {
         NodeState::Free => None,
         NodeState::Allocated => {
-            leaf.move_start(start);
-            Some(join_at(leaf, 0))
+            match end {
+                End::First => leaf.move_start(start),
+                End::Last => leaf.move_end(last),
+            }
+            Some(join_at(leaf, i))
         }
     }
 }
@@ -140,56 +142,38 @@ fn summary_without(block: &RangeInclusive, longest: u64, alignments: u32, leaf: 
     }
 }
 
-/// Removes the first block of a leaf, and updates the summary beside its link.
-fn drop_first_in(longest: &mut u64, alignments: &mut u32, leaf: &mut Leaf) -> Change {
-    let block = leaf.key_at(0);
-    leaf.drop_first();
+/// Removes the block at an end of a leaf, and updates the summary beside its link.
+fn drop_end_in(longest: &mut u64, alignments: &mut u32, leaf: &mut Leaf, end: End) -> Change {
+    let block = leaf.key_at(index_at(leaf, end));
+    match end {
+        End::First => leaf.drop_first(),
+        End::Last => leaf.drop_last(),
+    }
     let new = summary_without(&block, *longest, *alignments, leaf);
     write_summary(longest, alignments, leaf, new)
 }
 
-/// Removes the last block of a leaf, and updates the summary beside its link.
-fn drop_last_in(longest: &mut u64, alignments: &mut u32, leaf: &mut Leaf) -> Change {
-    let block = leaf.key_at(leaf.len() - 1);
-    leaf.drop_last();
-    let new = summary_without(&block, *longest, *alignments, leaf);
-    write_summary(longest, alignments, leaf, new)
-}
-
-/// Returns the first block of a tree.
-fn first_block(tree: &Link, count: &mut Steps) -> Block {
+/// Returns the block at an end of a tree.
+fn end_block(tree: &Link, end: End, count: &mut Steps) -> Block {
     count.enter();
     match tree {
         Link::Hole => unreachable!(),
         Link::Leaf { leaf, .. } => {
             let leaf: &Leaf = leaf;
-            leaf.block_at(0)
+            leaf.block_at(index_at(leaf, end))
         }
         Link::Fork { node, .. } => {
             let node: &Node = node;
-            first_block(&node.left, count)
+            match end {
+                End::First => end_block(&node.left, end, count),
+                End::Last => end_block(&node.right, end, count),
+            }
         }
     }
 }
 
-/// Returns the last block of a tree.
-fn last_block(tree: &Link, count: &mut Steps) -> Block {
-    count.enter();
-    match tree {
-        Link::Hole => unreachable!(),
-        Link::Leaf { leaf, .. } => {
-            let leaf: &Leaf = leaf;
-            leaf.block_at(leaf.len() - 1)
-        }
-        Link::Fork { node, .. } => {
-            let node: &Node = node;
-            last_block(&node.right, count)
-        }
-    }
-}
-
-/// Drops the first block of a tree.
-fn drop_first(tree: &mut Link, count: &mut Steps) -> Change {
+/// Drops the block at an end of a tree.
+fn drop_end(tree: &mut Link, end: End, count: &mut Steps) -> Change {
     count.enter();
     match tree {
         Link::Hole => unreachable!(),
@@ -199,18 +183,22 @@ fn drop_first(tree: &mut Link, count: &mut Steps) -> Change {
             leaf,
         } => {
             let leaf: &mut Leaf = leaf;
-            drop_first_in(longest, alignments, leaf)
+            drop_end_in(longest, alignments, leaf, end)
         }
         Link::Fork { node, .. } => {
             let node: &mut Node = node;
-            let change = drop_first(&mut node.left, count);
+            let change = match end {
+                End::First => drop_end(&mut node.left, end, count),
+                End::Last => drop_end(&mut node.right, end, count),
+            };
             update(tree, change)
         }
     }
 }
 
-/// Drops the last block of a tree.
-fn drop_last(tree: &mut Link, count: &mut Steps) -> Change {
+/// Extends the block at an end of a tree to the range from `start` to `last`, and frees it. Returns `None`
+/// unless the block is held and has the other end of this range.
+fn free_end(tree: &mut Link, end: End, start: u64, last: u64, count: &mut Steps) -> Option<Freed> {
     count.enter();
     match tree {
         Link::Hole => unreachable!(),
@@ -220,33 +208,15 @@ fn drop_last(tree: &mut Link, count: &mut Steps) -> Change {
             leaf,
         } => {
             let leaf: &mut Leaf = leaf;
-            drop_last_in(longest, alignments, leaf)
-        }
-        Link::Fork { node, .. } => {
-            let node: &mut Node = node;
-            let change = drop_last(&mut node.right, count);
-            update(tree, change)
-        }
-    }
-}
-
-/// Frees the last block of a tree up to `end`, if it is held and starts at `start`.
-fn free_last(tree: &mut Link, start: u64, end: u64, count: &mut Steps) -> Option<Freed> {
-    count.enter();
-    match tree {
-        Link::Hole => unreachable!(),
-        Link::Leaf {
-            longest,
-            alignments,
-            leaf,
-        } => {
-            let leaf: &mut Leaf = leaf;
-            let gap = free_last_in(leaf, start, end)?;
+            let gap = free_end_in(leaf, end, start, last)?;
             Some(raise(longest, alignments, leaf, &gap))
         }
         Link::Fork { node, .. } => {
             let node: &mut Node = node;
-            let freed = free_last(&mut node.right, start, end, count)?;
+            let freed = match end {
+                End::First => free_end(&mut node.left, end, start, last, count),
+                End::Last => free_end(&mut node.right, end, start, last, count),
+            }?;
             let change = update(tree, freed.change);
             Some(Freed {
                 change,
@@ -256,97 +226,34 @@ fn free_last(tree: &mut Link, start: u64, end: u64, count: &mut Steps) -> Option
     }
 }
 
-/// Frees the first block of a tree from `start` on, if it is held and ends at `end`.
-fn free_first(tree: &mut Link, start: u64, end: u64, count: &mut Steps) -> Option<Freed> {
-    count.enter();
-    match tree {
-        Link::Hole => unreachable!(),
-        Link::Leaf {
-            longest,
-            alignments,
-            leaf,
-        } => {
-            let leaf: &mut Leaf = leaf;
-            let gap = free_first_in(leaf, start, end)?;
-            Some(raise(longest, alignments, leaf, &gap))
-        }
-        Link::Fork { node, .. } => {
-            let node: &mut Node = node;
-            let freed = free_first(&mut node.left, start, end, count)?;
-            let change = update(tree, freed.change);
-            Some(Freed {
-                change,
-                joined: freed.joined,
-            })
-        }
-    }
-}
-
-/// Frees a range that ends right before the edge, up to the end of the gap after it. The gap is dropped.
-fn free_below_gap(
-    left: &mut Link,
-    at: &mut u64,
-    right: &mut Link,
-    key: &RangeInclusive,
-    end: u64,
-    count: &mut Steps,
-) -> Option<Freed> {
-    let freed = free_last(left, key.start(), end, count)?;
-    drop_first(right, count);
-    *at = end + 1;
-    Some(Freed {
-        change: Change::Structure,
-        joined: freed.joined + 1,
-    })
-}
-
-/// Frees a range that starts at the edge, from the start of the gap before it on. The gap is dropped.
-fn free_above_gap(
-    left: &mut Link,
-    at: &mut u64,
-    right: &mut Link,
-    key: &RangeInclusive,
-    start: u64,
-    count: &mut Steps,
-) -> Option<Freed> {
-    let freed = free_first(right, start, key.end(), count)?;
-    drop_last(left, count);
-    *at = start;
-    Some(Freed {
-        change: Change::Structure,
-        joined: freed.joined + 1,
-    })
-}
-
-/// Frees a range that ends right before the edge.
+/// Frees a range that touches the edge between two children of a node. It is in `near`, the child at the given
+/// end of the node. If the block of `far` at the edge is a gap, it is dropped, and the edge moves over it.
 #[inline(never)]
-fn free_below(
-    left: &mut Link,
+fn free_beside(
+    near: &mut Link,
     at: &mut u64,
-    right: &mut Link,
+    far: &mut Link,
     key: &RangeInclusive,
+    end: End,
     count: &mut Steps,
 ) -> Option<Freed> {
-    let next = first_block(right, count);
+    let next = end_block(far, end, count);
     match next.state {
-        NodeState::Allocated => free_last(left, key.start(), key.end(), count),
-        NodeState::Free => free_below_gap(left, at, right, key, next.key.end(), count),
-    }
-}
-
-/// Frees a range that starts at the edge.
-#[inline(never)]
-fn free_above(
-    left: &mut Link,
-    at: &mut u64,
-    right: &mut Link,
-    key: &RangeInclusive,
-    count: &mut Steps,
-) -> Option<Freed> {
-    let before = last_block(left, count);
-    match before.state {
-        NodeState::Allocated => free_first(right, key.start(), key.end(), count),
-        NodeState::Free => free_above_gap(left, at, right, key, before.key.start(), count),
+        NodeState::Allocated => free_end(near, end.opposite(), key.start(), key.end(), count),
+        NodeState::Free => {
+            let gap = next.key;
+            let (start, last) = (key.start().min(gap.start()), key.end().max(gap.end()));
+            let freed = free_end(near, end.opposite(), start, last, count)?;
+            drop_end(far, end, count);
+            *at = match end {
+                End::First => last + 1,
+                End::Last => start,
+            };
+            Some(Freed {
+                change: Change::Structure,
+                joined: freed.joined + 1,
+            })
+        }
     }
 }
 
@@ -379,10 +286,10 @@ fn free_under(
 ) -> Option<Freed> {
     let edge = *at;
     if key.start() == edge {
-        return free_above(left, at, right, key, count);
+        return free_beside(right, at, left, key, End::Last, count);
     }
     if key.end() == edge - 1 {
-        return free_below(left, at, right, key, count);
+        return free_beside(left, at, right, key, End::First, count);
     }
     free_child(left, edge, right, key, count)
 }

@@ -17,12 +17,11 @@
 //!
 //! # What is proved
 //!
-//! - The calls that allocate return the place that `AllocatesLowest`, `AllocatesHighest` or `AllocatesExact`
-//!   defines, or its error, and an error leaves the same tree. `free` frees exactly the given range, or
-//!   changes nothing.
-//! - An exact request enters the nodes of one path, and a search those of `nodes_to_lowest` or
-//!   `nodes_to_highest`. `IsSearchCount` bounds them by the height and by the number of gaps that look
-//!   suitable but have no place. A free enters at most three nodes for each level.
+//! - The calls that allocate return the place that `AllocatesFit` or `AllocatesExact` defines, or its error, and
+//!   an error leaves the same tree. `free` frees exactly the given range, or changes nothing.
+//! - An exact request enters the nodes of one path, and a search those of `nodes_to_fit`. `IsSearchCount` bounds
+//!   them by the height and by the number of gaps that look suitable but have no place. A free enters at most
+//!   three nodes for each level.
 //! - `IsLowTree` bounds the height by the number of nodes, and by the number of allocated ranges.
 //! - `with_held` builds the tree with the fewest leaves and the minimum height. `try_clone` copies it node for
 //!   node. A walk returns the blocks in order, from both ends.
@@ -37,6 +36,7 @@ mod balance;
 mod build;
 mod change;
 mod copy;
+mod end;
 mod find;
 mod free;
 mod link;
@@ -47,6 +47,7 @@ mod steps;
 mod tree;
 mod walk;
 
+pub(in crate::proved) use end::End;
 pub(in crate::proved) use search::{Refusal, Search, Taken};
 pub(in crate::proved) use steps::Steps;
 pub(in crate::proved) use tree::Tree;

@@ -7,12 +7,12 @@
 
 use crate::rattle::{Box, Vec};
 use crate::proved::vm_tree::allocate::exact::{exact_at, exact_in_root};
-use crate::proved::vm_tree::allocate::first::{first_at, first_in_root};
-use crate::proved::vm_tree::allocate::last::{last_at, last_in_root};
+use crate::proved::vm_tree::allocate::fit::{fit_at, fit_in_root};
 use crate::proved::vm_tree::allocate::{count_place, fits};
 use crate::proved::vm_tree::build::build_tree;
 use crate::proved::vm_tree::change::free_summary;
 use crate::proved::vm_tree::copy::copy;
+use crate::proved::vm_tree::end::End;
 use crate::proved::vm_tree::find::block_at;
 use crate::proved::vm_tree::free::{free_at, free_in};
 use crate::proved::vm_tree::link::{Link, Node, height, leaf_link};
@@ -43,8 +43,8 @@ impl Tree {
         })
     }
 
-    /// Creates the tree of a space in which these ranges are allocated. It has the minimum height for its
-    /// nodes.
+    /// Creates the tree of a space in which these ranges are allocated. It has the fewest leaves, and the
+    /// minimum height for its nodes.
     ///
     /// It returns an error if an allocation fails.
     ///
@@ -161,15 +161,16 @@ impl Tree {
         }
     }
 
-    /// Allocates the lowest place of a search.
+    /// Allocates the place of a search that is closest to an end: the lowest or the highest place.
     ///
     /// It returns `NoPlace` if there is none, `PastMax` if the range there ends at `u64::MAX`, `TooHigh` if gaps
     /// cannot be split, and `OutOfMemory` if an allocation fails. An error changes nothing. A range that fills
     /// its gap allocates no memory, and any other range allocates nothing or one leaf and one node.
     ///
     /// The search must be valid, `count` must be at 0, and `can_split` must be `false` from height 48 on.
-    pub(in crate::proved) fn allocate_lowest(
+    pub(in crate::proved) fn allocate_fit(
         &mut self,
+        end: End,
         search: &Search,
         alloc: Global,
         count: &mut Steps,
@@ -177,7 +178,7 @@ impl Tree {
         match &mut self.root {
             Link::Hole => unreachable!(),
             Link::Leaf { .. } => {
-                let answer = first_in_root(&mut self.root, search, alloc);
+                let answer = fit_in_root(&mut self.root, end, search, alloc);
                 count_place(&answer, count);
                 answer
             }
@@ -188,39 +189,7 @@ impl Tree {
                 if !fits(&self.root, search) {
                     return Err(Refusal::NoPlace);
                 }
-                first_at(&mut self.root, search, alloc, count)
-            }
-        }
-    }
-
-    /// Allocates the highest place of a search.
-    ///
-    /// It returns `NoPlace` if there is none, `PastMax` if the range there ends at `u64::MAX`, `TooHigh` if gaps
-    /// cannot be split, and `OutOfMemory` if an allocation fails. An error changes nothing. A range that fills
-    /// its gap allocates no memory, and any other range allocates nothing or one leaf and one node.
-    ///
-    /// The search must be valid, `count` must be at 0, and `can_split` must be `false` from height 48 on.
-    pub(in crate::proved) fn allocate_highest(
-        &mut self,
-        search: &Search,
-        alloc: Global,
-        count: &mut Steps,
-    ) -> Result<Taken, Refusal> {
-        match &mut self.root {
-            Link::Hole => unreachable!(),
-            Link::Leaf { .. } => {
-                let answer = last_in_root(&mut self.root, search, alloc);
-                count_place(&answer, count);
-                answer
-            }
-            Link::Fork { node, .. } => {
-                // Proof: a node that is read has two children.
-                let node: &Node = node;
-                let _at = node.at;
-                if !fits(&self.root, search) {
-                    return Err(Refusal::NoPlace);
-                }
-                last_at(&mut self.root, search, alloc, count)
+                fit_at(&mut self.root, end, search, alloc, count)
             }
         }
     }

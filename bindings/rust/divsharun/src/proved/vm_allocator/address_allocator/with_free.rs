@@ -19,8 +19,8 @@ impl AddressAllocator {
     /// holes between the ranges are allocated, one range for each hole, and can be freed. Two ranges
     /// without a hole between them are one gap.
     ///
-    /// Its tree has the minimum height for its nodes. It takes time linear in the number of ranges, and
-    /// also allocates a list of the holes.
+    /// Its tree has the fewest leaves, and the minimum height for its nodes. It takes time linear in the
+    /// number of ranges, and also allocates a list of the holes.
     ///
     /// # Errors
     ///

@@ -5,7 +5,7 @@
 use super::IntervalTree;
 use crate::rattle::Global;
 use crate::proved::vm_ranges::{AllocPolicy, Constraint, Error, NodeState, RangeInclusive, Result};
-use crate::proved::vm_tree::{Refusal, Search, Steps, Taken, Tree};
+use crate::proved::vm_tree::{End, Refusal, Search, Steps, Taken, Tree};
 
 /// If this many ranges are allocated, no gap is split. So no tree gets too high.
 pub(in crate::proved::vm_engine) const SPLIT_LIMIT: u64 = 6_293_134_512;
@@ -59,13 +59,14 @@ fn allocate_in(
     // Proof: `height` gives the bounds of the tree.
     let _height = tree.height();
     let search = search_of(constraint, space, can_split);
-    match constraint.policy() {
-        AllocPolicy::FirstMatch => with_error(tree.allocate_lowest(&search, alloc, count), space),
-        AllocPolicy::LastMatch => with_error(tree.allocate_highest(&search, alloc, count), space),
+    let end = match constraint.policy() {
+        AllocPolicy::FirstMatch => End::First,
+        AllocPolicy::LastMatch => End::Last,
         AllocPolicy::ExactMatch(start) => {
-            allocate_exact(tree, space, start, &search, alloc, count)
+            return allocate_exact(tree, space, start, &search, alloc, count);
         }
-    }
+    };
+    with_error(tree.allocate_fit(end, &search, alloc, count), space)
 }
 
 /// Allocates the range of a search that starts at `start`.

@@ -14,7 +14,7 @@ const TOO_MANY_BLOCKS: u64 = 1 << 49;
 
 impl IntervalTree {
     /// Creates the tree of the space `key` with these ranges allocated. They must be in ascending
-    /// order. The tree has the minimum height for its nodes.
+    /// order. The tree has the fewest leaves, and the minimum height for its nodes.
     ///
     /// `AddressAllocator::with_held` documents the errors.
     pub fn with_held(

@@ -2,13 +2,13 @@
 
 //! The allocation of a range that starts at a given address.
 
-use super::place::{leaf_of, place_at, place_in_root};
+use super::place::{Site, leaf_of, place_at};
 use crate::proved::vm_tree::change::update;
 use crate::proved::vm_tree::link::{Link, Node};
 use crate::proved::vm_tree::search::{Refusal, Search, Taken};
 use crate::proved::vm_tree::steps::Steps;
 use crate::rattle::Global;
-use crate::proved::vm_leaf::{Block, Place};
+use crate::proved::vm_leaf::{Block, Leaf};
 use crate::proved::vm_ranges::NodeState;
 
 /// Returns the reason why the range of a search that starts at `start` cannot be allocated in the block that
@@ -38,6 +38,24 @@ fn refusal_in(block: &Block, start: u64, search: &Search) -> Option<Refusal> {
     }
 }
 
+/// Returns the site of the range of a search that starts at `start` in a leaf, or the reason why the range
+/// cannot be allocated.
+#[inline(always)]
+fn site_from(leaf: &Leaf, start: u64, search: &Search) -> Result<Site, Refusal> {
+    // Proof: `len` gives the facts of a leaf.
+    let _len = leaf.len();
+    let index = leaf.index_of(start);
+    let block = leaf.block_at(index);
+    match refusal_in(&block, start, search) {
+        Some(refusal) => Err(refusal),
+        None => Ok(Site {
+            index,
+            gap: block.key,
+            start,
+        }),
+    }
+}
+
 /// Allocates the range of a search that starts at `start` in a leaf, and updates what is stored beside
 /// the link.
 #[inline(never)]
@@ -47,15 +65,8 @@ fn exact_in_leaf(
     search: &Search,
     alloc: Global,
 ) -> Result<Taken, Refusal> {
-    let leaf = leaf_of(tree);
-    // Proof: `len` gives the facts of a leaf.
-    let _len = leaf.len();
-    let index = leaf.index_of(start);
-    let block = leaf.block_at(index);
-    match refusal_in(&block, start, search) {
-        Some(refusal) => Err(refusal),
-        None => place_at(tree, Place { index, start }, block.key, search, alloc),
-    }
+    let site = site_from(leaf_of(tree), start, search)?;
+    place_at(tree, false, &site, search, alloc)
 }
 
 /// Allocates the range of a search that starts at `start` in a leaf that is the whole tree, and of which
@@ -66,15 +77,8 @@ pub(in crate::proved::vm_tree) fn exact_in_root(
     search: &Search,
     alloc: Global,
 ) -> Result<Taken, Refusal> {
-    let leaf = leaf_of(root);
-    // Proof: `len` gives the facts of a leaf.
-    let _len = leaf.len();
-    let index = leaf.index_of(start);
-    let block = leaf.block_at(index);
-    match refusal_in(&block, start, search) {
-        Some(refusal) => Err(refusal),
-        None => place_in_root(root, Place { index, start }, block.key, search, alloc),
-    }
+    let site = site_from(leaf_of(root), start, search)?;
+    place_at(root, true, &site, search, alloc)
 }
 
 /// Allocates the range of a search that starts at `start` below a node.

@@ -8,8 +8,17 @@ use crate::proved::vm_tree::link::{Link, Node, fork_link, into_leaf, leaf_link};
 use crate::proved::vm_tree::search::{Refusal, Search, Taken};
 use crate::rattle::Global;
 use core::mem;
-use crate::proved::vm_leaf::{Block, CAPACITY, Leaf, Left, Place, Summary};
+use crate::proved::vm_leaf::{Block, CAPACITY, Leaf, Left, Summary};
 use crate::proved::vm_ranges::{NodeState, RangeInclusive};
+
+/// A start in a gap of a leaf.
+#[derive(Clone, Copy)]
+pub(super) struct Site {
+    /// The index of the gap.
+    pub(super) index: usize,
+    pub(super) gap: RangeInclusive,
+    pub(super) start: u64,
+}
 
 /// A range that is to be allocated in a gap of a leaf.
 #[derive(Clone, Copy)]
@@ -22,13 +31,15 @@ pub(in crate::proved::vm_tree) struct Claim {
     left: Left,
 }
 
-/// Returns the claim of the range of a search at a place in a gap.
+/// Returns the claim of the range of a search at a site.
 #[inline(always)]
-fn claim_at(place: Place, gap: RangeInclusive, search: &Search) -> Claim {
-    let range = RangeInclusive::between(place.start, place.start + (search.size - 1));
+fn claim_at(site: &Site, search: &Search) -> Claim {
+    // Proof: `end` gives the facts of a range.
+    let (gap, _end) = (site.gap, site.gap.end());
+    let range = RangeInclusive::between(site.start, site.start + (search.size - 1));
     let left = Left::of(&gap, &range);
     Claim {
-        index: place.index,
+        index: site.index,
         gap,
         range,
         left,
@@ -68,12 +79,12 @@ fn has_room(leaf: &Leaf, left: Left) -> bool {
     leaf.len() + left.added() as usize <= CAPACITY
 }
 
-/// Allocates the range of a claim in a leaf that has room for it, and updates what is stored beside the
-/// link. Returns the change.
+/// Allocates the range of a claim in a leaf that has room for it. Unless the leaf is the whole tree (`lone`),
+/// it updates what is stored beside the link. Returns the change.
 ///
 /// A gap that is neither the longest nor has the most alignments does not count for the summary.
 #[inline(always)]
-fn take(tree: &mut Link, claim: &Claim) -> Change {
+fn take(tree: &mut Link, lone: bool, claim: &Claim) -> Change {
     match tree {
         Link::Leaf {
             longest,
@@ -82,6 +93,11 @@ fn take(tree: &mut Link, claim: &Claim) -> Change {
         } => {
             let leaf: &mut Leaf = leaf;
             leaf.split(claim.index, claim.range, claim.left);
+            // Proof: `len` gives the facts of a leaf.
+            let _len = leaf.len();
+            if lone {
+                return Change::Structure;
+            }
             let gap = Summary::of_gap(&claim.gap);
             if gap.longest < *longest && gap.alignments < *alignments {
                 return Change::Nothing;
@@ -141,24 +157,24 @@ fn split_leaf(tree: &mut Link, claim: Claim, alloc: Global) -> Result<(), Refusa
     Ok(())
 }
 
-/// Allocates the range of a search at a place in a gap of a leaf, and updates what is stored beside the link. The
-/// leaf may become a node with two leaves.
+/// Allocates the range of a search at a site in a leaf, which may become a node with two leaves. Unless the
+/// leaf is the whole tree (`lone`), it updates what is stored beside the link.
 #[inline(always)]
 pub(super) fn place_at(
     tree: &mut Link,
-    place: Place,
-    gap: RangeInclusive,
+    lone: bool,
+    site: &Site,
     search: &Search,
     alloc: Global,
 ) -> Result<Taken, Refusal> {
     let leaf = leaf_of(tree);
-    let claim = claim_at(place, gap, search);
+    let claim = claim_at(site, search);
     if let Some(refusal) = refusal_of(&claim, search) {
         return Err(refusal);
     }
-    let (start, added) = (place.start, claim.left.added());
+    let (start, added) = (site.start, claim.left.added());
     if has_room(leaf, claim.left) {
-        let change = take(tree, &claim);
+        let change = take(tree, lone, &claim);
         return Ok(Taken {
             start,
             added,
@@ -171,53 +187,4 @@ pub(super) fn place_at(
         added,
         change: Change::Structure,
     })
-}
-
-/// Allocates the range of a claim in a leaf that has room for it, and does not update what is stored
-/// beside the link.
-#[inline(always)]
-fn take_alone(root: &mut Link, claim: &Claim) {
-    match root {
-        Link::Leaf { leaf, .. } => {
-            let leaf: &mut Leaf = leaf;
-            leaf.split(claim.index, claim.range, claim.left);
-            // Proof: `len` gives the facts of a leaf.
-            let _len = leaf.len();
-        }
-        Link::Fork { node, .. } => {
-            // Proof: a node that is read has two children.
-            let node: &Node = node;
-            let _at = node.at;
-            unreachable!()
-        }
-        Link::Hole => unreachable!(),
-    }
-}
-
-/// Allocates the range of a search at a place in a leaf that is the whole tree, and of which nothing
-/// correct is stored beside the link. The leaf may become a node with two leaves.
-#[inline(always)]
-pub(super) fn place_in_root(
-    root: &mut Link,
-    place: Place,
-    gap: RangeInclusive,
-    search: &Search,
-    alloc: Global,
-) -> Result<Taken, Refusal> {
-    let leaf = leaf_of(root);
-    let claim = claim_at(place, gap, search);
-    if let Some(refusal) = refusal_of(&claim, search) {
-        return Err(refusal);
-    }
-    let taken = Taken {
-        start: place.start,
-        added: claim.left.added(),
-        change: Change::Structure,
-    };
-    if has_room(leaf, claim.left) {
-        take_alone(root, &claim);
-        return Ok(taken);
-    }
-    split_leaf(root, claim, alloc)?;
-    Ok(taken)
 }

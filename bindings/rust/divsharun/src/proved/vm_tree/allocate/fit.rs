@@ -1,0 +1,137 @@
+// Written by bindings/erase from crates/vm_tree/src/allocate/fit.rt: do not edit.
+
+//! The allocation of the lowest or of the highest place of a search.
+//!
+//! Both are one search from an end: from the lowest address up, or from the highest one down. The near child
+//! of a node is the one at that end.
+
+use super::place::{Site, leaf_of, place_at};
+use super::{fits, has_no_place};
+use crate::proved::vm_tree::change::update;
+use crate::proved::vm_tree::end::End;
+use crate::proved::vm_tree::link::{Link, Node};
+use crate::proved::vm_tree::search::{Refusal, Search, Taken};
+use crate::proved::vm_tree::steps::Steps;
+use crate::rattle::Global;
+use crate::proved::vm_leaf::{Leaf, Place};
+
+/// Returns the site of a place in a leaf.
+#[inline(always)]
+fn site_at(leaf: &Leaf, place: Place) -> Site {
+    Site {
+        index: place.index,
+        gap: leaf.key_at(place.index),
+        start: place.start,
+    }
+}
+
+/// Returns the site of the place of a search in a leaf that is closest to an end, or `None` if there is none.
+#[inline(always)]
+fn site_in(leaf: &Leaf, end: End, search: &Search) -> Option<Site> {
+    match end {
+        End::First => {
+            let place = leaf.first_fit_in(search.low, search.high, search.size, search.alignment)?;
+            Some(site_at(leaf, place))
+        }
+        End::Last => {
+            let place = leaf.last_fit_in(search.low, search.high, search.size, search.alignment)?;
+            Some(site_at(leaf, place))
+        }
+    }
+}
+
+/// Allocates the place of a search in a leaf that is closest to an end, and updates what is stored beside
+/// the link.
+#[inline(never)]
+fn fit_in_leaf(tree: &mut Link, end: End, search: &Search, alloc: Global) -> Result<Taken, Refusal> {
+    match site_in(leaf_of(tree), end, search) {
+        None => Err(Refusal::NoPlace),
+        Some(site) => place_at(tree, false, &site, search, alloc),
+    }
+}
+
+/// Allocates the place of a search that is closest to an end, in a leaf that is the whole tree, and of which
+/// nothing correct is stored beside the link.
+pub(in crate::proved::vm_tree) fn fit_in_root(
+    root: &mut Link,
+    end: End,
+    search: &Search,
+    alloc: Global,
+) -> Result<Taken, Refusal> {
+    match site_in(leaf_of(root), end, search) {
+        None => Err(Refusal::NoPlace),
+        Some(site) => place_at(root, true, &site, search, alloc),
+    }
+}
+
+/// Returns `true` if a search may find a place in a child of a node: the child can have addresses in the
+/// window, and its gaps look suitable.
+#[inline(always)]
+fn may_enter(node: &Node, child: End, search: &Search) -> bool {
+    match child {
+        End::First => search.low < node.at && fits(&node.left, search),
+        End::Last => node.at <= search.high && fits(&node.right, search),
+    }
+}
+
+/// Allocates the place of a search that is closest to an end, in a child of a node. A child that is not in
+/// the window, or may have no place, is not entered.
+#[inline(always)]
+fn fit_in_child(
+    node: &mut Node,
+    child: End,
+    end: End,
+    search: &Search,
+    alloc: Global,
+    count: &mut Steps,
+) -> Result<Taken, Refusal> {
+    if !may_enter(node, child, search) {
+        return Err(Refusal::NoPlace);
+    }
+    match child {
+        End::First => fit_at(&mut node.left, end, search, alloc, count),
+        End::Last => fit_at(&mut node.right, end, search, alloc, count),
+    }
+}
+
+/// Allocates the place of a search that is closest to an end, below a node: in the near child, or in the far
+/// child if the near child has no place.
+fn fit_below(
+    node: &mut Node,
+    end: End,
+    search: &Search,
+    alloc: Global,
+    count: &mut Steps,
+) -> Result<Taken, Refusal> {
+    // Proof: a node that is read has two children.
+    let _at = node.at;
+    let answer = fit_in_child(node, end, end, search, alloc, count);
+    if has_no_place(&answer) {
+        return fit_in_child(node, end.opposite(), end, search, alloc, count);
+    }
+    answer
+}
+
+/// Allocates the place of a search that is closest to an end, and updates what is stored beside the link.
+/// The search may find a place.
+pub(in crate::proved::vm_tree) fn fit_at(
+    tree: &mut Link,
+    end: End,
+    search: &Search,
+    alloc: Global,
+    count: &mut Steps,
+) -> Result<Taken, Refusal> {
+    count.enter();
+    match tree {
+        Link::Hole => unreachable!(),
+        Link::Leaf { .. } => fit_in_leaf(tree, end, search, alloc),
+        Link::Fork { node, .. } => {
+            let node: &mut Node = node;
+            let mut answer = fit_below(node, end, search, alloc, count);
+            if let Ok(taken) = &mut answer {
+                taken.change = update(tree, taken.change);
+            }
+            answer
+        }
+    }
+}
