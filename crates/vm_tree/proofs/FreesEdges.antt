@@ -8,7 +8,7 @@ use Rattle.vm_leaf.specs.Blocks.{nth, start_of, end_of, freed_between, with_free
 use Rattle.vm_leaf.proofs.Tiles.{tiles_part}
 use Rattle.std.specs.Prelude.{MatchOption, Option, Some, None}
 use Rattle.vm_tree.specs.Ends.{opposite}
-use Rattle.vm_tree.specs.Frees.{Frees, FreesEnd, Holds, EndHeld, CanExtend, FreesBeside, TouchesEdge, inner, span, block_at_end, without_end, fork_at, node_at}
+use Rattle.vm_tree.specs.Frees.{Frees, FreesEnd, Holds, EndHeld, CanExtend, FreesBeside, TouchesEdge, inner, between, block_at_end, without_end, fork_at, node_at}
 use Rattle.vm_tree.specs.declared.free.Freed.{Freed}
 use Rattle.vm_tree.specs.declared.end.End.{End}
 use Rattle.vm_tree.specs.declared.end.End.TheVariants.{First, Last}
@@ -73,8 +73,8 @@ edge_of Last c x = start_of (blocks c)
 
 -- The range k of the child at this end, together with the gap g beside it.
 abbrev pub with_gap : End → Range → Range → Range
-with_gap First k g = span k.start g.end
-with_gap Last k g = span g.start k.end
+with_gap First k g = between k.start g.end
+with_gap Last k g = between g.start k.end
 
 same_inner : (end : End) (k g : Range) → inner (opposite end) (with_gap end k g) ≡ inner (opposite end) k
 same_inner First k g = refl
@@ -133,7 +133,7 @@ edge_past First z = z.end + 1
 edge_past Last z = z.start
 
 hull_is : (end : End) (k : Range) (c x : Shape) → CanChange (fork_at end c x) → TouchesEdge end k (edge_of end c x) → k.start ≤ k.end
-    → span (min k.start (block_at_end end (blocks x)).key.start) (max k.end (block_at_end end (blocks x)).key.end) ≡ with_gap end k (block_at_end end (blocks x)).key
+    → between (min k.start (block_at_end end (blocks x)).key.start) (max k.end (block_at_end end (blocks x)).key.end) ≡ with_gap end k (block_at_end end (blocks x)).key
 hull_is First k c x h e o =
     let g = next_fits (blocks x) (can_r c x h).run (many_r c x h) in
     let s : min k.start (nth (blocks x) 0).key.start ≡ k.start = omega arith in
@@ -211,7 +211,7 @@ pub record Beside (end : End) (k z : Range) (c x : Shape) : Type 0 where
   pub gap : z ≡ with_gap end k (block_at_end end (blocks x)).key
 
 pub gap_beside : (end : End) (k : Range) (near far : Link) (b : Block) (s l : ℕ) → CanChange (fork_at end (side near) (side far)) → TouchesEdge end k (edge_of end (side near) (side far)) → k.start ≤ k.end
-    → b ≡ block_at_end end (blocks (side far)) → s ≡ min k.start b.key.start → l ≡ max k.end b.key.end → Beside end k (span s l) (side near) (side far)
+    → b ≡ block_at_end end (blocks (side far)) → s ≡ min k.start b.key.start → l ≡ max k.end b.key.end → Beside end k (between s l) (side near) (side far)
 gap_beside end k near far b s l h e o q i j = record { can = h; edge = e; gap = rw (i, j, q) (hull_is end k (side near) (side far) h e o) }
 
 gap_fits : (end : End) (k z : Range) (c x : Shape) → Beside end k z c x → end ≡ First → z.end + 1 ≤ MAX

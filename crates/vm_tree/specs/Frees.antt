@@ -37,8 +37,8 @@ without_end First bs = drop 1 bs
 without_end Last bs = take (length bs - 1) bs
 
 -- The range from s to e.
-abbrev pub span : ℕ → ℕ → Range
-span s e = record { start = s; end = e }
+abbrev pub between : ℕ → ℕ → Range
+between s e = record { start = s; end = e }
 
 -- The address of the range k at an end of a list that is next to the other blocks.
 abbrev pub inner : End → Range → ℕ

@@ -11,7 +11,7 @@ ghost use Rattle.vm_leaf.specs.Multiples.{alignment_count, most_alignments};
 ghost use Rattle.vm_tree.specs.Shape.{Tip, Fork, blocks, height_of, IsTree};
 ghost use Rattle.vm_tree.specs.Links.{side, IsFreeOf, IsSummed, IsNode};
 ghost use Rattle.vm_tree.specs.Changes.{Reports, CanChange, Reduces};
-ghost use Rattle.vm_tree.specs.Frees.{Frees, Holds, JoinsGap, FreesUnder, FreesBeside, FreesEnd, EndHeld, CanExtend, TouchesEdge, span, end_index, block_at_end, without_end, fork_at, node_at};
+ghost use Rattle.vm_tree.specs.Frees.{Frees, Holds, JoinsGap, FreesUnder, FreesBeside, FreesEnd, EndHeld, CanExtend, TouchesEdge, between, end_index, block_at_end, without_end, fork_at, node_at};
 
 use crate::change::{Change, update};
 use crate::end::End;
@@ -91,9 +91,9 @@ fn index_at(leaf: &Leaf, end: End) -> usize
 /// Extends the block at an end of a leaf to the range from `start` to `last`, and frees it. Returns `None`
 /// unless the block is held and has the other end of this range.
 fn free_end_in(leaf: &mut Leaf, end: End, start: u64, last: u64) -> Option<Gap>
-    requires { CanExtend end (span start last) leaf.old }
-    ensures { MatchOption result ((leaf.new ≡ leaf.old) × ¬ EndHeld end (span start last) leaf.old)
-        (λ gap. FreesEnd end (span start last) leaf.old leaf.new × JoinsGap gap leaf.old leaf.new) }
+    requires { CanExtend end (between start last) leaf.old }
+    ensures { MatchOption result ((leaf.new ≡ leaf.old) × ¬ EndHeld end (between start last) leaf.old)
+        (λ gap. FreesEnd end (between start last) leaf.old leaf.new × JoinsGap gap leaf.old leaf.new) }
 {
     let i = index_at(leaf, end);
     let block = leaf.block_at(i);
@@ -262,11 +262,11 @@ fn drop_end(tree: &mut Link, end: End, count: &mut Steps) -> Change
 fn free_end(tree: &mut Link, end: End, start: u64, last: u64, count: &mut Steps) -> Option<Freed>
     requires can { CanChange (side tree.old) }
     requires summed { IsSummed tree.old }
-    requires extends { CanExtend end (span start last) (blocks (side tree.old)) }
+    requires extends { CanExtend end (between start last) (blocks (side tree.old)) }
     requires count_fits { count.old + height_of (side tree.old) ≤ MAX }
     ensures freed { MatchOption result
-        ((side tree.new ≡ side tree.old) × ¬ EndHeld end (span start last) (blocks (side tree.old)))
-        (λ freed. FreesEnd end (span start last) (blocks (side tree.old)) (blocks (side tree.new)) × Reduces freed.change freed.joined (side tree.old) (side tree.new)) }
+        ((side tree.new ≡ side tree.old) × ¬ EndHeld end (between start last) (blocks (side tree.old)))
+        (λ freed. FreesEnd end (between start last) (blocks (side tree.old)) (blocks (side tree.new)) × Reduces freed.change freed.joined (side tree.old) (side tree.new)) }
     ensures summed { IsSummed tree.new }
     ensures count { (count.old < count.new) × (count.new ≤ count.old + height_of (side tree.old)) }
 {

@@ -1,5 +1,4 @@
 //! The reason why the range of a request is not free.
-ghost use Rattle.vm_engine.specs.Address.{IsAddressState};
 ghost use Rattle.vm_allocator.specs.Allocator.{state_of};
 ghost use Rattle.vm_allocator.specs.Conflicts.{IsConflict, ConflictDecides};
 
@@ -31,7 +30,6 @@ impl AddressAllocator {
     pub fn conflict(&self, request: Constraint) -> Option<Conflict>
         ensures value { IsConflict (state_of self.now) request result }
         ensures decides { ConflictDecides (state_of self.now) request result }
-        ensures state { IsAddressState (state_of self.now) }
     {
         let space = self.address_space;
         let AllocPolicy::ExactMatch(start) = request.policy() else {

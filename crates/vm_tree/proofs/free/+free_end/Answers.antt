@@ -2,7 +2,7 @@ use Rattle.std.proofs.Common.{rules, ◌∙◌, ap, subst, arith}
 use Rattle.vm_tree.specs.declared.end.End.TheVariants.{First, Last}
 use Rattle.vm_tree.specs.Shape.{height_of}
 use Rattle.vm_tree.specs.Links.{side, stored_longest, stored_alignments, stored_height}
-use Rattle.vm_tree.specs.Frees.{span}
+use Rattle.vm_tree.specs.Frees.{between}
 use Rattle.vm_tree.specs.Changes.{CanChange}
 use Rattle.vm_tree.proofs.FreesTrees.{can_l, can_r, many_r, child_extends, last_kept, FreesAbove, frees_above}
 use Rattle.vm_tree.proofs.Updates.{node_is, linked, can_update, updated_blocks, update_reduces}
@@ -14,7 +14,7 @@ free_end-requires t c =
     let q = node_is c.node.inside c.in-Fork.is c.node.view_is c.deref_mut-node.ensures.value in
     let k = ap height_of q in
     let can = subst CanChange q c.requires.can in
-    let w = child_extends First (span c.args.start c.args.last) _ _ can (rw (q, c.in-First.is) at c.requires.extends) in
+    let w = child_extends First (between c.args.start c.args.last) _ _ can (rw (q, c.in-First.is) at c.requires.extends) in
     (search rules, (can_l _ _ can, (c.node.invariant.summed.left, (rw c.in-First.is w, omega arith))))
 
 pub free_end-requires-in-Last : goal.free_end-requires-in-Last
@@ -22,7 +22,7 @@ free_end-requires-in-Last t c =
     let q = node_is c.node.inside c.in-Fork.is c.node.view_is c.deref_mut-node.ensures.value in
     let k = ap height_of q in
     let can = subst CanChange q c.requires.can in
-    let w = child_extends Last (span c.args.start c.args.last) _ _ can (rw (q, c.in-Last.is) at c.requires.extends) in
+    let w = child_extends Last (between c.args.start c.args.last) _ _ can (rw (q, c.in-Last.is) at c.requires.extends) in
     (search rules, (can_r _ _ can, (c.node.invariant.summed.right, (rw c.in-Last.is w, omega arith))))
 
 pub invariant_of-node-in-Last : goal.invariant_of-node-in-Last
@@ -31,14 +31,14 @@ invariant_of-node-in-Last t c =
     let d = c.free_end-in-Last in
     let many = many_r _ _ (subst CanChange q c.requires.can) in
     record {
-      at = c.node.invariant.at ∙ last_kept (span c.args.start c.args.last) (side c.node.inside.right) (side d.new.tree) many d.result (rw c.in-Last.is at d.ensures.freed);
+      at = c.node.invariant.at ∙ last_kept (between c.args.start c.args.last) (side c.node.inside.right) (side d.new.tree) many d.result (rw c.in-Last.is at d.ensures.freed);
       summed = record { left = c.node.invariant.summed.left; right = d.ensures.summed };
     }
 
 pub returns-in_err-freed-in-Fork-clause-freed : goal.returns-in_err-freed-in-Fork-clause-freed
 returns-in_err-freed-in-Fork-clause-freed t c =
     let m = c.match-end in
-    let k = span c.args.start c.args.last in
+    let k = between c.args.start c.args.last in
     let q = node_is c.node.inside c.in-Fork.is c.node.view_is c.deref_mut-node.ensures.value in
     let f = linked c.args.tree.now c.in-Fork.is c.requires.summed in
     let u : FreesAbove c.args.end k (stored_longest m.tree) (stored_alignments m.tree) (stored_height m.tree) (side c.args.tree.now) (side m.tree) m.branch' = elim m.branch [
@@ -51,7 +51,7 @@ returns-in_err-freed-in-Fork-clause-freed t c =
 pub update-change-requires-clause-can : goal.update-change-requires-clause-can
 update-change-requires-clause-can t c =
     let m = c.match-end in
-    let k = span c.args.start c.args.last in
+    let k = between c.args.start c.args.last in
     let q = node_is c.node.inside c.in-Fork.is c.node.view_is c.deref_mut-node.ensures.value in
     let f = linked c.args.tree.now c.in-Fork.is c.requires.summed in
     let u : FreesAbove c.args.end k (stored_longest m.tree) (stored_alignments m.tree) (stored_height m.tree) (side c.args.tree.now) (side m.tree) m.branch' = elim m.branch [
@@ -64,7 +64,7 @@ update-change-requires-clause-can t c =
 pub returns-in_ok-freed-in-Fork-clause-freed : goal.returns-in_ok-freed-in-Fork-clause-freed
 returns-in_ok-freed-in-Fork-clause-freed t c =
     let m = c.match-end in
-    let k = span c.args.start c.args.last in
+    let k = between c.args.start c.args.last in
     let q = node_is c.node.inside c.in-Fork.is c.node.view_is c.deref_mut-node.ensures.value in
     let f = linked c.args.tree.now c.in-Fork.is c.requires.summed in
     let u : FreesAbove c.args.end k (stored_longest m.tree) (stored_alignments m.tree) (stored_height m.tree) (side c.args.tree.now) (side m.tree) m.branch' = elim m.branch [

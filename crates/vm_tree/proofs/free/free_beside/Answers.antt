@@ -1,7 +1,7 @@
 use Rattle.std.proofs.Common.{rules, ◌≡◌, ◌∙◌, sym, ap, arith}
 use Rattle.vm_leaf.specs.declared.block.Block.{Block}
 use Rattle.vm_tree.specs.Links.{side}
-use Rattle.vm_tree.specs.Frees.{span}
+use Rattle.vm_tree.specs.Frees.{between}
 use Rattle.vm_tree.proofs.FreesEdges.{near_extends, edge_past, beside_edge, gap_beside, beside_held, beside_extends, beside_fits, beside_none, beside_few, beside_gap, beside_node}
 use Rattle.vm_tree.proofs.free.free_beside.Goals as goal
 
@@ -54,7 +54,7 @@ returns-after-end c =
     let o = c.in_ok-freed-in-Free in
     let f = rw c.opposite-in-Free.ensures at o.ensures.freed in
     let d = c.drop_end in
-    let at : c.match-end.at ≡ edge_past c.args.end (span c.min-start.result c.max-last.result) = search rules in
+    let at : c.match-end.at ≡ edge_past c.args.end (between c.min-start.result c.max-last.result) = search rules in
     record {
       node = beside_node q c.free_end-in-Free.new.tree d.new.tree o.freed f c.match-end.at d.ensures.dropped o.ensures.summed d.ensures.summed at;
       freed = beside_gap q c.free_end-in-Free.new.tree d.new.tree o.freed f d.result (ap (λ (x : Block). x.state) (sym b.ensures.block) ∙ c.in-Free.is) d.ensures.dropped d.ensures.reduces;

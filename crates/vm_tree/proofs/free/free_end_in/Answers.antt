@@ -1,12 +1,12 @@
 use Rattle.std.proofs.Common.{rules, ◌≡◌}
-use Rattle.vm_tree.specs.Frees.{EndHeld, span}
+use Rattle.vm_tree.specs.Frees.{EndHeld, between}
 use Rattle.vm_tree.proofs.Frees.{extended, frees_end, joins_end}
 use Rattle.vm_tree.proofs.free.free_end_in.Goals as goal
 
 pub returns-after-end-2 : goal.returns-after-end-2
 returns-after-end-2 c =
     let old = c.args.leaf.now in
-    let k = span c.args.start c.args.last in
+    let k = between c.args.start c.args.last in
     let e : c.match-end-2.leaf ≡ extended c.args.end k old = search rules in
     let h : EndHeld c.args.end k old = search rules in
     let i = c.index_at-i in (
