@@ -1,6 +1,6 @@
 //! The objects that C has pointers to.
 
-use crate::proved::vm_allocator::Result as Answer;
+use crate::proved::vm_allocator::{Error, Result as Answer};
 use crate::{CallError, Out};
 use alloc::boxed::Box;
 use alloc::vec::Vec;
@@ -180,4 +180,13 @@ pub(crate) fn with_mut_unit<T>(
     given_back: impl FnOnce(&mut T) -> Answer<()>,
 ) -> Result<(), CallError> {
     Ok(given_back(non_null(handle)?.get_mut()?)?)
+}
+
+/// Returns the item that a look-up has found.
+///
+/// # Errors
+///
+/// - `ResourceNotAvailable` if there is none.
+pub(crate) fn found<T, A: From<T>>(item: Option<T>) -> Answer<A> {
+    item.map(A::from).ok_or(Error::ResourceNotAvailable)
 }

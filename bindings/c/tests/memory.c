@@ -391,6 +391,45 @@ static void measure_texts(void) {
     CHECK(saving <= BYTES_OF_RANGE && reading <= BYTES_OF_RANGE && refusing <= BYTES_OF_RANGE);
 }
 
+/* Checks the bytes for each member of an array that a call has allocated and freed. */
+static void check_freed(size_t most) {
+    CHECK((most_bytes - bytes) / RANGES <= most);
+    most_bytes = bytes;
+}
+
+/* Checks that calls with arrays allocate only one copy of the array, and lists of their results and
+ * of holes. A request takes 56 bytes. */
+static void measure_arrays(void) {
+    static dvs_range ranges[RANGES];
+    static dvs_request requests[RANGES];
+    static uint32_t several[RANGES];
+    const dvs_request request = {1, 1, 0, DVS_FIRST, NULL};
+    const size_t size = sizeof ranges[0];
+    dvs_address_allocator *space, *other;
+    dvs_id_allocator *ids;
+    int i;
+
+    for (i = 0; i < RANGES; i++) {
+        ranges[i] = range_of(2 * i, 2 * i);
+        requests[i] = request;
+    }
+    most_bytes = bytes;
+    CHECK(dvs_address_allocator_with_held(0, 2 * RANGES, ranges, RANGES, &space, NULL, NULL) ==
+          DVS_OK);
+    check_freed(size);
+    CHECK(dvs_address_allocator_with_free(ranges, RANGES, &other, NULL, NULL) == DVS_OK);
+    check_freed(2 * size);
+    CHECK(dvs_address_allocator_allocate_all(space, requests, RANGES, ranges, NULL, NULL) ==
+          DVS_OK);
+    check_freed(size + 56);
+    CHECK(dvs_id_allocator_new(0, RANGES, &ids, NULL) == DVS_OK);
+    CHECK(dvs_ids_allocate(ids, several, RANGES) == DVS_OK);
+    check_freed(sizeof several[0]);
+    destroy(0, space);
+    destroy(0, other);
+    destroy(1, ids);
+}
+
 /* Values of which each allocates memory for its length, if values are made of a text. */
 static const char *const deep[] = {"[[[[[[0]]]]]]", "{\"a\":{\"\":[{}]}}", "[[],[],[\"a\"]]"};
 
@@ -417,6 +456,7 @@ int main(void) {
         refuse_in_turn(&rows[i]);
     do_without_memory();
     measure_texts();
+    measure_arrays();
     refuse_without_memory();
     CHECK(blocks == before);
     puts("memory: each allocation of each call failed in turn");
