@@ -314,6 +314,31 @@ static void walk_from_addresses() {
     CHECK(!space.for_each(take_two(seen)) && seen.size() == 2 && is_range(seen[1], 5, 5));
 }
 
+/* Visits like dvs_range_visit_from(), and counts its calls and the items that it passes on. */
+static int visit_calls, visit_items;
+static dvs_status visit_counted(const dvs_address_allocator *space, uint64_t address,
+                                dvs_range_visitor *visitor, void *context) {
+    auto pass_on = [&](dvs_range range) { return visit_items++, visitor(context, range); };
+    auto one = [](void *pass, dvs_range range) {
+        return (*static_cast<decltype(pass_on) *>(pass))(range);
+    };
+    visit_calls++;
+    return dvs_range_visit_from(space, address, one, &pass_on);
+}
+
+/* Checks that a step of a loop makes one call, which ends at its first item. */
+static void count_steps() {
+    dvs::address_allocator space;
+    dvs::each<visit_counted> ranges;
+    dvs_range range;
+
+    CHECK(!space.make(0, 100));
+    while (!space.allocate_first(1, 2, range))
+        continue;
+    CHECK(!ranges.start(space.get(), 0) && std::distance(ranges.begin(), ranges.end()) == 50);
+    CHECK(visit_calls == 51 && visit_items == 50);
+}
+
 /* Checks the items of loops, also of a loop that changes the allocator. */
 static void loop() {
     dvs::address_allocator space, top;
@@ -438,8 +463,11 @@ static void pass_long_lists() {
     CHECK(!space.make_with_free(ranges) && are_same(gaps_of(space), ranges));
     CHECK(!space.allocate_all(requests, ranges, &failed) && failed == count);
     CHECK(gaps_of(space).empty() && ranges.back().start == 2 * count - 2);
-    ranges.push_back({9, 8});
-    CHECK(space.make_with_held(0, 2 * count, ranges, &failed) && failed == count);
+    for (uint64_t end : {9, 8}) {
+        ranges.resize(count);
+        ranges.push_back({9, end});
+        CHECK(space.make_with_held(0, 2 * count, ranges, &failed) && failed == count);
+    }
     CHECK(!ids.make_with_held(0, 2 * count, held) && list(ids, &dvs::id_allocator::ids) == held);
     CHECK(!ids.allocate_all(several) && several.back() == 2 * count - 1);
 }
@@ -772,6 +800,7 @@ int main() {
     /* A walk without end fails here, and loop() would take all memory. */
     walk_from_addresses();
     loop();
+    count_steps();
     pass_large_numbers();
     pass_large_ids();
     pass_long_lists();
