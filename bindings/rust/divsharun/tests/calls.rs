@@ -448,6 +448,34 @@ fn errors_of_lists_convert() {
     assert_eq!(ListError { index, error }.to_string(), text);
 }
 
+/// Checks iterators over more items than a byte can count.
+#[test]
+fn long_lists_are_walked() {
+    let mut draw = Draw(9);
+    let all = RangeInclusive::new(0, 599).unwrap();
+    let list: Vec<_> = (0..300)
+        .map(|at| RangeInclusive::new(2 * at, 2 * at).unwrap())
+        .collect();
+    let held = AddressAllocator::with_held(0, 600, &list).unwrap();
+    let free = AddressAllocator::with_free(&list).unwrap();
+    expect_items(held.held_ranges(), &list, exact, &mut draw);
+    expect_items(held.held_ranges_in(&all), &list, inexact, &mut draw);
+    expect_items(free.gaps(), &list, exact, &mut draw);
+    expect_items(free.gaps_in(&all), &list, inexact, &mut draw);
+    let ids: Vec<u32> = (0..300).map(|at| 2 * at).collect();
+    let allocator = IdAllocator::with_held(0, 600, &ids).unwrap();
+    expect_items(allocator.held_ids(), &ids, exact, &mut draw);
+    let mut devices = DeviceManager::new(0, 300, 0, 600).unwrap();
+    let reserved = (0..300).map(|_| devices.reserve(2, 1, AllocPolicy::FirstMatch).unwrap());
+    let slots: Vec<_> = reserved.collect();
+    expect_items(
+        devices.devices(),
+        &slots,
+        |items| Some(items.len()),
+        &mut draw,
+    );
+}
+
 #[test]
 fn held_ranges_can_be_asked_for() {
     let mut space = AddressAllocator::new(0, 8).unwrap();
