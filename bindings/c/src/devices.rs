@@ -1,8 +1,8 @@
 //! The device manager: an id and a range for each device.
 
-use crate::handle::{create, found, visit, Handle};
+use crate::handle::{create, found, Handle};
 use crate::ids::write_range;
-use crate::objects::{calls, changes, object_calls};
+use crate::objects::{calls, changes, object_calls, visits};
 use crate::proved::vm_allocator::{AllocPolicy, Constraint, Error};
 use crate::proved::vm_devices::{DeviceManager, DeviceSlot};
 use crate::ranges::space_of;
@@ -105,16 +105,6 @@ pub extern "C" fn dvs_device_conflict(
 }
 
 #[unsafe(no_mangle)]
-pub extern "C" fn dvs_device_visit(
-    manager: Option<&dvs_device_manager>,
-    visitor: Option<dvs_device_visitor>,
-    context: *mut c_void,
-) -> dvs_status {
-    let visitor = visitor.map(|visitor| move |slot: DeviceSlot| visitor(context, slot.into()));
-    status_of(visit(manager, DeviceManager::devices, visitor), None)
-}
-
-#[unsafe(no_mangle)]
 pub extern "C" fn dvs_device_manager_ids(
     manager: Option<&dvs_device_manager>,
     first: Out<u32>,
@@ -159,4 +149,8 @@ calls! {
 
 changes! {
     dvs_device_release(manager: dvs_device_manager, id: u32) { manager.release(id) }
+}
+
+visits! {
+    dvs_device_visit(manager: dvs_device_manager) by dvs_device_visitor { manager.devices() }
 }

@@ -81,18 +81,9 @@ impl<T> Handle<T> {
     }
 }
 
-/// Calls `visitor` with each item of an object, until it returns a number other than 0. The object
-/// cannot be changed meanwhile.
+/// Calls `visitor` with each item that `items` returns, until it returns a number other than 0. The
+/// object cannot be changed meanwhile. If `items` fails, `visitor` is not called.
 pub(crate) fn visit<'a, T, I: Iterator>(
-    handle: Option<&'a Handle<T>>,
-    items: impl FnOnce(&'a T) -> I,
-    visitor: Option<impl Fn(I::Item) -> c_int>,
-) -> Result<(), CallError> {
-    visit_some(handle, |object| Ok(items(object)), visitor)
-}
-
-/// Visits like [`visit`] the items that `items` returns. If it fails, `visitor` is not called.
-pub(crate) fn visit_some<'a, T, I: Iterator>(
     handle: Option<&'a Handle<T>>,
     items: impl FnOnce(&'a T) -> Answer<I>,
     visitor: Option<impl Fn(I::Item) -> c_int>,

@@ -1,8 +1,8 @@
 //! The id allocator.
 
-use crate::handle::{create, non_null, visit, Handle};
+use crate::handle::{create, non_null, Handle};
 use crate::lists::array;
-use crate::objects::{calls, changes, object_calls};
+use crate::objects::{calls, changes, object_calls, visits};
 use crate::proved::vm_allocator::IdAllocator;
 use crate::rattle::Global;
 use crate::texts::read_ids;
@@ -83,16 +83,6 @@ unsafe fn allocate_into(
 }
 
 #[unsafe(no_mangle)]
-pub extern "C" fn dvs_id_visit(
-    allocator: Option<&dvs_id_allocator>,
-    visitor: Option<dvs_id_visitor>,
-    context: *mut c_void,
-) -> dvs_status {
-    let visitor = visitor.map(|visitor| move |id| visitor(context, id));
-    status_of(visit(allocator, IdAllocator::held_ids, visitor), None)
-}
-
-#[unsafe(no_mangle)]
 pub extern "C" fn dvs_id_allocator_range(
     allocator: Option<&dvs_id_allocator>,
     first: Out<u32>,
@@ -135,4 +125,8 @@ calls! {
 changes! {
     dvs_id_allocate_exact(ids: dvs_id_allocator, id: u32) { ids.allocate_exact(id).map(drop) }
     dvs_id_free(ids: dvs_id_allocator, id: u32) { ids.free_id(id).map(drop) }
+}
+
+visits! {
+    dvs_id_visit(ids: dvs_id_allocator) by dvs_id_visitor { ids.held_ids() }
 }

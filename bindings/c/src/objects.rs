@@ -107,4 +107,24 @@ macro_rules! changes {
     )+};
 }
 
-pub(crate) use {calls, changes, object_calls};
+/// Defines visits of the items that an expression returns, each by a type of visitor. A visit with
+/// `[refusal]` also writes the details of an error there.
+macro_rules! visits {
+    ($($name:ident($object:ident: $handle:ident $(, $argument:ident: $type:ty)*) by $visitor:ident
+        $([$refusal:ident])? { $items:expr })+) => {$(
+        #[unsafe(no_mangle)]
+        pub extern "C" fn $name(
+            object: Option<&$handle>,
+            $($argument: $type,)*
+            visitor: Option<$visitor>,
+            context: *mut core::ffi::c_void,
+            $($refusal: $crate::Out<$crate::dvs_refusal>,)?
+        ) -> $crate::dvs_status {
+            let visitor = visitor.map(|visitor| move |item| visitor(context, Into::into(item)));
+            let visited = $crate::handle::visit(object, |$object| Ok($items), visitor);
+            $crate::status_of(visited, None$(.or($refusal))?)
+        }
+    )+};
+}
+
+pub(crate) use {calls, changes, object_calls, visits};

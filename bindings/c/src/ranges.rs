@@ -1,7 +1,7 @@
 //! The address allocator.
 
-use crate::handle::{create, found, visit, visit_some, with_out, Handle};
-use crate::objects::{calls, changes, object_calls};
+use crate::handle::{create, found, with_out, Handle};
+use crate::objects::{calls, changes, object_calls, visits};
 use crate::proved::vm_allocator::{
     AddressAllocator, AllocPolicy, Constraint, Error, RangeInclusive, Result as Answer,
 };
@@ -154,14 +154,6 @@ fn refused_move(
     refused(allocator, request, error, wants_details)
 }
 
-/// Returns a visitor of ranges or gaps that calls the one that C passes.
-fn calling(
-    visitor: Option<dvs_range_visitor>,
-    context: *mut c_void,
-) -> Option<impl Fn(RangeInclusive) -> c_int> {
-    visitor.map(|visitor| move |range: RangeInclusive| visitor(context, range.into()))
-}
-
 /// Returns the part of the space that begins at `address`, or one address outside the space if there is
 /// none.
 fn at_or_above(space: &AddressAllocator, address: u64) -> Answer<RangeInclusive> {
@@ -173,76 +165,27 @@ fn at_or_below(space: &AddressAllocator, address: u64) -> Answer<RangeInclusive>
     RangeInclusive::new(space.base().min(address), space.end().min(address))
 }
 
-/// Defines the visits of the allocated ranges, or of the gaps: of all, of those in a range, from an address
-/// upwards, and from an address downwards.
-macro_rules! visits {
-    ($all:ident, $within:ident, $from:ident, $back:ident by $items:ident, $items_in:ident) => {
-        #[unsafe(no_mangle)]
-        pub extern "C" fn $all(
-            allocator: Option<&dvs_address_allocator>,
-            visitor: Option<dvs_range_visitor>,
-            context: *mut c_void,
-        ) -> dvs_status {
-            let visitor = calling(visitor, context);
-            let visited = visit(allocator, AddressAllocator::$items, visitor);
-            status_of(visited, None)
-        }
-
-        #[unsafe(no_mangle)]
-        pub extern "C" fn $within(
-            allocator: Option<&dvs_address_allocator>,
-            within: dvs_range,
-            visitor: Option<dvs_range_visitor>,
-            context: *mut c_void,
-            refusal: Out<dvs_refusal>,
-        ) -> dvs_status {
-            let visited = visit_some(
-                allocator,
-                |space| Ok(space.$items_in(&within.try_into()?)),
-                calling(visitor, context),
-            );
-            status_of(visited, refusal)
-        }
-
-        #[unsafe(no_mangle)]
-        pub extern "C" fn $from(
-            allocator: Option<&dvs_address_allocator>,
-            address: u64,
-            visitor: Option<dvs_range_visitor>,
-            context: *mut c_void,
-        ) -> dvs_status {
-            let visited = visit_some(
-                allocator,
-                |space| Ok(space.$items_in(&at_or_above(space, address)?)),
-                calling(visitor, context),
-            );
-            status_of(visited, None)
-        }
-
-        #[unsafe(no_mangle)]
-        pub extern "C" fn $back(
-            allocator: Option<&dvs_address_allocator>,
-            address: u64,
-            visitor: Option<dvs_range_visitor>,
-            context: *mut c_void,
-        ) -> dvs_status {
-            let visited = visit_some(
-                allocator,
-                |space| Ok(space.$items_in(&at_or_below(space, address)?).rev()),
-                calling(visitor, context),
-            );
-            status_of(visited, None)
-        }
-    };
-}
-
 visits! {
-    dvs_range_visit, dvs_range_visit_in, dvs_range_visit_from, dvs_range_visit_back
-        by held_ranges, held_ranges_in
-}
-
-visits! {
-    dvs_gap_visit, dvs_gap_visit_in, dvs_gap_visit_from, dvs_gap_visit_back by gaps, gaps_in
+    dvs_range_visit(space: dvs_address_allocator) by dvs_range_visitor { space.held_ranges() }
+    dvs_range_visit_in(space: dvs_address_allocator, within: dvs_range) by dvs_range_visitor [refusal] {
+        space.held_ranges_in(&within.try_into()?)
+    }
+    dvs_range_visit_from(space: dvs_address_allocator, address: u64) by dvs_range_visitor {
+        space.held_ranges_in(&at_or_above(space, address)?)
+    }
+    dvs_range_visit_back(space: dvs_address_allocator, address: u64) by dvs_range_visitor {
+        space.held_ranges_in(&at_or_below(space, address)?).rev()
+    }
+    dvs_gap_visit(space: dvs_address_allocator) by dvs_range_visitor { space.gaps() }
+    dvs_gap_visit_in(space: dvs_address_allocator, within: dvs_range) by dvs_range_visitor [refusal] {
+        space.gaps_in(&within.try_into()?)
+    }
+    dvs_gap_visit_from(space: dvs_address_allocator, address: u64) by dvs_range_visitor {
+        space.gaps_in(&at_or_above(space, address)?)
+    }
+    dvs_gap_visit_back(space: dvs_address_allocator, address: u64) by dvs_range_visitor {
+        space.gaps_in(&at_or_below(space, address)?).rev()
+    }
 }
 
 object_calls! {
