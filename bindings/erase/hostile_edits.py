@@ -66,7 +66,7 @@ EDITS = [
 
 # Edits with each of some words instead of WORD.
 EDITS += [(f"{name} {word}", RANGE, old, new.replace("WORD", word), reason.replace("WORD", word)) for name, words, old, new, reason in [
-    ("the text", "1.5 1i64 1u16 x@y $x ~x /*+1*/", BODY, f"        WORD;\n{BODY}", "text that begins with"),
+    ("the text", "1.5 1i64 1u16 x@y $x ~x /*+1*/ r\"x\" r##\"x\"## c\"x\" r#x f'x'", BODY, f"        WORD;\n{BODY}", "text that begins with"),
     ("a clause with", "' \" ` -- // /* {-}", CLAUSE, "ensures { result ≡ f WORD }", "in a clause"),
     ("a definition of", "Box BTreeMap BTreeSet Err Iterator None Ok Option Ord Ordering Some Value Vec u128 u32 u64 u8 u8x16 usize",
      IMPL, f"struct WORD {{ inner: u64 }}\n{IMPL}", "a definition of 'WORD'"),
