@@ -221,6 +221,7 @@ static void copy() {
 
     CHECK(space == other && other.make_copy(space) == DVS_NULL);
     CHECK(!space.make_with_held(0, 16, {range_of(1, 2), range_of(4, 4)}) && space != other);
+    CHECK(space != dvs::address_allocator() && dvs::address_allocator() != space);
     CHECK(!other.make_copy(space) && space == other && !other.free({4, 4}) && space != other);
     CHECK(!space.make_copy(space) && ranges_of(space).size() == 2);
     CHECK(space.make_copy(dvs::address_allocator()) == DVS_NULL && ranges_of(space).size() == 2);
