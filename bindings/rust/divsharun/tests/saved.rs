@@ -727,6 +727,11 @@ fn lists_have_any_length() {
     let again: IdAllocator = packed::from_bytes(packed::to_bytes(&ids).unwrap()).unwrap();
     assert_eq!((again.held_count(), again.is_allocated(0)), (1, true));
     assert!(again == ids);
+    let mut devices = DeviceManager::new(0, LONG, 0, 70_000).unwrap();
+    let mut reserve = |_| devices.reserve(1, 1, AllocPolicy::FirstMatch).is_ok();
+    assert!((0..70_000).all(&mut reserve));
+    let again: DeviceManager = packed::from_bytes(packed::to_bytes(&devices).unwrap()).unwrap();
+    assert!(again == devices);
 }
 
 /// Appends the bytes of a balanced tree in which the first of every `stride` addresses are allocated.
