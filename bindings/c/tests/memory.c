@@ -348,8 +348,10 @@ static void do_without_memory(void) {
 /* The number of ranges of a space, each with a gap after it. */
 enum { RANGES = 20000 };
 
-/* The maximum number of bytes for each range, which is below the limit of the header. */
-enum { BYTES_OF_RANGE = 60 };
+/* The maximum numbers of bytes for each range, which are below the limit of the header. Saving
+ * lists the range and its gap in 24 bytes each. Reading lists the range in 16 bytes, and an eighth
+ * more. A text can be refused when the tree is built. */
+enum { SAVING = 2 * 24, READING = 18, REFUSING = READING + 22 };
 
 /* Returns the space with all ranges. */
 static dvs_address_allocator *many_ranges(void) {
@@ -388,7 +390,7 @@ static void measure_texts(void) {
     dvs_text_destroy(text);
     printf("memory: bytes for each range: saving %lu, reading %lu, refusing %lu\n",
            (unsigned long)saving, (unsigned long)reading, (unsigned long)refusing);
-    CHECK(saving <= BYTES_OF_RANGE && reading <= BYTES_OF_RANGE && refusing <= BYTES_OF_RANGE);
+    CHECK(saving <= SAVING && reading <= READING && refusing <= REFUSING);
 }
 
 /* Checks the bytes for each member of an array that a call has allocated and freed. */
