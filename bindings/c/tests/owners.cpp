@@ -427,6 +427,7 @@ static void pass_large_ids() {
     dvs_device device;
     dvs_range range;
     uint32_t low = 0, high = 0, id = 0;
+    uint64_t count = 0;
     bool is_allocated = false;
     std::vector<uint32_t> several(2);
 
@@ -440,6 +441,10 @@ static void pass_large_ids() {
     CHECK(low == last && high == last && !devices.reserve_first(8, 8, device));
     CHECK(device.id == last && !devices.slot(last, range) && range.end == 7);
     CHECK(!devices.at(7, device) && device.id == last && !devices.release(last));
+    CHECK(!ids.make(0, last) && !ids.free_count(count) && count == (uint64_t)1 << 32);
+    CHECK(
+        !ids.read("{\"range_base\":0,\"next_id\":null,\"range_end\":4294967295,\"freed_ids\":[]}"));
+    CHECK(!ids.held_count(count) && count == (uint64_t)1 << 32);
 }
 
 /* Checks that methods pass on lists and texts of more members than 16 bits can count. */
@@ -511,6 +516,10 @@ static void ask() {
 
     CHECK(!space.make_with_held(0, 16, {range_of(1, 2)}) && !space.save(text));
     CHECK(!space.read_repaired(text) && !space.space(range) && is_range(range, 0, 15));
+    text = "{\"address_space\":{\"start\":0,\"end\":15},\"interval_tree\":{\"root\":null}}";
+    CHECK(space.read(text) == DVS_NOT_A_STATE && ranges_of(space).size() == 1);
+    CHECK(!space.read_repaired(text) && ranges_of(space).empty());
+    CHECK(!space.make_with_held(0, 16, {range_of(1, 2)}));
     CHECK(!space.is_allocated({1, 2}, is_allocated) && is_allocated &&
           !space.is_allocated({1, 1}, is_allocated) && !is_allocated);
     CHECK(space.is_allocated({2, 1}, is_allocated) == DVS_INVALID_RANGE);
