@@ -108,7 +108,10 @@ DVS_MUST_CHECK inline error offset_of(dvs_range range, uint64_t address,
  * abort(), after a line that gives the reason, if its object is being visited.
  */
 template <typename T, dvs_status (*Destroy)(T *), dvs_status (*Copy)(const T *, T **),
-          dvs_status (*Equal)(const T *, const T *, bool *)>
+          dvs_status (*Equal)(const T *, const T *, bool *),
+          dvs_status (*Save)(const T *, char **, std::size_t *),
+          dvs_status (*Read)(const char *, std::size_t, const dvs_text_limits *, T **,
+                             dvs_text_fault *)>
 class owner {
     struct destroyer {
         void operator()(T *owned) const noexcept {
@@ -145,6 +148,19 @@ class owner {
     DVS_MUST_CHECK error make_copy(const owner &other) {
         return create([&](T **out) { return Copy(other.get(), out); });
     }
+    DVS_MUST_CHECK error read(const std::string &text, dvs_text_fault *fault = nullptr,
+                              const dvs_text_limits *limits = nullptr) {
+        return read_by(Read, text, fault, limits);
+    }
+    DVS_MUST_CHECK error save(std::string &text) const {
+        char *saved = nullptr;
+        std::size_t length = 0;
+        dvs_status status = Save(get(), &saved, &length);
+        std::unique_ptr<char, void (*)(char *)> owned(saved, dvs_text_destroy);
+        if (status == DVS_OK)
+            text.assign(saved, length);
+        return code(status);
+    }
     /* An empty owner equals only empty ones. */
     friend bool operator==(const owner &one, const owner &other) noexcept {
         bool are_equal = false;
@@ -170,20 +186,10 @@ class owner {
         return code(status);
     }
 
-    template <typename Read>
-    DVS_MUST_CHECK error read_by(Read call, const std::string &text, dvs_text_fault *fault,
+    template <typename Call>
+    DVS_MUST_CHECK error read_by(Call call, const std::string &text, dvs_text_fault *fault,
                                  const dvs_text_limits *limits) {
         return create([&](T **out) { return call(text.data(), text.size(), limits, out, fault); });
-    }
-
-    template <typename Save> DVS_MUST_CHECK error save_by(Save call, std::string &text) const {
-        char *saved = nullptr;
-        std::size_t length = 0;
-        dvs_status status = call(get(), &saved, &length);
-        std::unique_ptr<char, void (*)(char *)> owned(saved, dvs_text_destroy);
-        if (status == DVS_OK)
-            text.assign(saved, length);
-        return code(status);
     }
 
     /* Calls `action` with each item until it returns false. An exception ends the visit. */
@@ -322,8 +328,10 @@ class each {
 using each_range = each<dvs_range_visit_from>;
 using each_gap = each<dvs_gap_visit_from>;
 
-class address_allocator : public owner<dvs_address_allocator, dvs_address_allocator_destroy,
-                                       dvs_address_allocator_copy, dvs_address_allocator_equal> {
+class address_allocator
+    : public owner<dvs_address_allocator, dvs_address_allocator_destroy, dvs_address_allocator_copy,
+                   dvs_address_allocator_equal, dvs_address_allocator_save,
+                   dvs_address_allocator_read_within> {
     using object = dvs_address_allocator;
 
   public:
@@ -347,16 +355,9 @@ class address_allocator : public owner<dvs_address_allocator, dvs_address_alloca
                                                    refusal);
         });
     }
-    DVS_MUST_CHECK error read(const std::string &text, dvs_text_fault *fault = nullptr,
-                              const dvs_text_limits *limits = nullptr) {
-        return read_by(dvs_address_allocator_read_within, text, fault, limits);
-    }
     DVS_MUST_CHECK error read_repaired(const std::string &text, dvs_text_fault *fault = nullptr,
                                        const dvs_text_limits *limits = nullptr) {
         return read_by(dvs_address_allocator_read_repaired_within, text, fault, limits);
-    }
-    DVS_MUST_CHECK error save(std::string &text) const {
-        return save_by(dvs_address_allocator_save, text);
     }
     DVS_MUST_CHECK error allocate_first(uint64_t size, uint64_t alignment, dvs_range &range) {
         return code(dvs_range_allocate_first(get(), size, alignment, &range, nullptr));
@@ -497,8 +498,9 @@ class address_allocator : public owner<dvs_address_allocator, dvs_address_alloca
     }
 };
 
-class id_allocator : public owner<dvs_id_allocator, dvs_id_allocator_destroy, dvs_id_allocator_copy,
-                                  dvs_id_allocator_equal> {
+class id_allocator
+    : public owner<dvs_id_allocator, dvs_id_allocator_destroy, dvs_id_allocator_copy,
+                   dvs_id_allocator_equal, dvs_id_allocator_save, dvs_id_allocator_read_within> {
     using object = dvs_id_allocator;
 
   public:
@@ -512,13 +514,6 @@ class id_allocator : public owner<dvs_id_allocator, dvs_id_allocator_destroy, dv
         return create([&](object **out) {
             return dvs_id_allocator_with_held(first, last, held.data(), held.size(), out, refusal);
         });
-    }
-    DVS_MUST_CHECK error read(const std::string &text, dvs_text_fault *fault = nullptr,
-                              const dvs_text_limits *limits = nullptr) {
-        return read_by(dvs_id_allocator_read_within, text, fault, limits);
-    }
-    DVS_MUST_CHECK error save(std::string &text) const {
-        return save_by(dvs_id_allocator_save, text);
     }
     DVS_MUST_CHECK error range(uint32_t &first, uint32_t &last) const {
         return code(dvs_id_allocator_range(get(), &first, &last));
@@ -551,7 +546,8 @@ class id_allocator : public owner<dvs_id_allocator, dvs_id_allocator_destroy, dv
 };
 
 class device_manager : public owner<dvs_device_manager, dvs_device_manager_destroy,
-                                    dvs_device_manager_copy, dvs_device_manager_equal> {
+                                    dvs_device_manager_copy, dvs_device_manager_equal,
+                                    dvs_device_manager_save, dvs_device_manager_read_within> {
     using object = dvs_device_manager;
 
   public:
@@ -560,13 +556,6 @@ class device_manager : public owner<dvs_device_manager, dvs_device_manager_destr
         return create([=](object **out) {
             return dvs_device_manager_new(first_id, last_id, base, size, out, nullptr);
         });
-    }
-    DVS_MUST_CHECK error read(const std::string &text, dvs_text_fault *fault = nullptr,
-                              const dvs_text_limits *limits = nullptr) {
-        return read_by(dvs_device_manager_read_within, text, fault, limits);
-    }
-    DVS_MUST_CHECK error save(std::string &text) const {
-        return save_by(dvs_device_manager_save, text);
     }
     DVS_MUST_CHECK error reserve_first(uint64_t size, uint64_t alignment, dvs_device &device) {
         return code(dvs_device_reserve_first(get(), size, alignment, &device, nullptr));

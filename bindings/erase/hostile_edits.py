@@ -42,6 +42,9 @@ EDITS = [
         ("fn f(x: u64 requires { f }) { 1 }", "a clause outside of a signature"), ("impl Eq for String {}", "a type 'String'"),
         ("impl Eq for X { fn f() requires { f } { 1 } }", "a 'requires' of 'f'"), ("struct X(u64);", "a type without braces"),
         ("struct X { pub a: u64, ghost b: { f }, }", "a public field of 'X'"), ("struct X { x: (u64 }", "a bracket without end"),
+        ("fn f(x: String) { 1 }", "a type 'String'"), ("fn f() -> String { 1 }", "a type 'String'"), ("const Y: String = 1;", "a type 'String'"),
+        ("struct X { x: String }", "a type 'String'"), ("struct X<T: Drop + Send> { x: T }", "a type 'Send'"),
+        ("enum X { A, None }", "a definition of 'None'"), ("ghost x y = { f };", "a ghost of this form"),
         ("impl From<String> for RangeInclusive {}", "a type 'String'"), ("impl From<u64> for [X] {}", "an impl of this form"),
         ("impl Eq for X { const Y: u64 = 1; }", "an item 'const'"), ("struct X<T = u64> { x: T }", "parameters of this form"),
         ("//! Text.", "documentation of the file behind an item"), ("struct X { f: fn(u64) }", "an item 'fn' in code"),
@@ -63,7 +66,7 @@ EDITS = [
 
 # Edits with each of some words instead of WORD.
 EDITS += [(f"{name} {word}", RANGE, old, new.replace("WORD", word), reason.replace("WORD", word)) for name, words, old, new, reason in [
-    ("the text", "1.5 1i64 x@y $x ~x /*+1*/", BODY, f"        WORD;\n{BODY}", "text that begins with"),
+    ("the text", "1.5 1i64 1u16 x@y $x ~x /*+1*/ r\"x\" r##\"x\"## c\"x\" r#x f'x'", BODY, f"        WORD;\n{BODY}", "text that begins with"),
     ("a clause with", "' \" ` -- // /* {-}", CLAUSE, "ensures { result ≡ f WORD }", "in a clause"),
     ("a definition of", "Box BTreeMap BTreeSet Err Iterator None Ok Option Ord Ordering Some Value Vec u128 u32 u64 u8 u8x16 usize",
      IMPL, f"struct WORD {{ inner: u64 }}\n{IMPL}", "a definition of 'WORD'"),

@@ -1,8 +1,8 @@
 //! The device manager: an id and a range for each device.
 
-use crate::handle::{create, visit, with_mut, with_mut_unit, with_ref, Handle};
+use crate::handle::{create, found, Handle};
 use crate::ids::write_range;
-use crate::objects::{numbers, object_calls};
+use crate::objects::{calls, changes, object_calls, visits};
 use crate::proved::vm_allocator::{AllocPolicy, Constraint, Error};
 use crate::proved::vm_devices::{DeviceManager, DeviceSlot};
 use crate::ranges::space_of;
@@ -50,61 +50,20 @@ pub extern "C" fn dvs_device_manager_new(
     status_of(made, refusal)
 }
 
-#[unsafe(no_mangle)]
-pub extern "C" fn dvs_device_reserve_first(
-    manager: Option<&dvs_device_manager>,
-    size: u64,
-    alignment: u64,
-    device: Out<dvs_device>,
-    refusal: Out<dvs_refusal>,
-) -> dvs_status {
-    let policy = AllocPolicy::FirstMatch;
-    reserve(manager, size, alignment, policy, device, refusal)
-}
-
-#[unsafe(no_mangle)]
-pub extern "C" fn dvs_device_reserve_last(
-    manager: Option<&dvs_device_manager>,
-    size: u64,
-    alignment: u64,
-    device: Out<dvs_device>,
-    refusal: Out<dvs_refusal>,
-) -> dvs_status {
-    let policy = AllocPolicy::LastMatch;
-    reserve(manager, size, alignment, policy, device, refusal)
-}
-
-#[unsafe(no_mangle)]
-pub extern "C" fn dvs_device_reserve_exact(
-    manager: Option<&dvs_device_manager>,
-    size: u64,
-    alignment: u64,
-    start: u64,
-    device: Out<dvs_device>,
-    refusal: Out<dvs_refusal>,
-) -> dvs_status {
-    let policy = AllocPolicy::ExactMatch(start);
-    reserve(manager, size, alignment, policy, device, refusal)
-}
-
 fn reserve(
-    manager: Option<&dvs_device_manager>,
+    manager: &mut DeviceManager,
     size: u64,
     alignment: u64,
     policy: AllocPolicy,
-    device: Out<dvs_device>,
-    refusal: Out<dvs_refusal>,
-) -> dvs_status {
-    let taken = with_mut(manager, device, |manager| {
-        let reserved = manager.reserve(Global, size, alignment, policy);
-        reserved
-            .map(Into::into)
-            .map_err(|error| match Constraint::new(size, alignment, policy) {
-                Ok(request) => refused_device(manager, request, error, refusal.is_some()),
-                Err(_) => error.into(),
-            })
-    });
-    status_of(taken, refusal)
+    wants_details: bool,
+) -> Result<dvs_device, CallError> {
+    let reserved = manager.reserve(Global, size, alignment, policy);
+    reserved
+        .map(Into::into)
+        .map_err(|error| match Constraint::new(size, alignment, policy) {
+            Ok(request) => refused_device(manager, request, error, wants_details),
+            Err(_) => error.into(),
+        })
 }
 
 /// Returns the error of a refused device. If all ids are allocated, no range is in the way.
@@ -146,63 +105,6 @@ pub extern "C" fn dvs_device_conflict(
 }
 
 #[unsafe(no_mangle)]
-pub extern "C" fn dvs_device_release(
-    manager: Option<&dvs_device_manager>,
-    id: u32,
-    refusal: Out<dvs_refusal>,
-) -> dvs_status {
-    let released = with_mut_unit(manager, |manager| manager.release(id));
-    status_of(released, refusal)
-}
-
-/// Returns `DVS_NEVER_ALLOCATED` for an id without a device, like `dvs_device_release`.
-#[unsafe(no_mangle)]
-pub extern "C" fn dvs_device_slot(
-    manager: Option<&dvs_device_manager>,
-    id: u32,
-    range: Out<dvs_range>,
-    refusal: Out<dvs_refusal>,
-) -> dvs_status {
-    let asked = with_ref(manager, range, |manager| {
-        let slot = manager.slot(id).ok_or(Error::NeverAllocated(id))?;
-        Ok(slot.into())
-    });
-    status_of(asked, refusal)
-}
-
-#[unsafe(no_mangle)]
-pub extern "C" fn dvs_device_at(
-    manager: Option<&dvs_device_manager>,
-    address: u64,
-    device: Out<dvs_device>,
-) -> dvs_status {
-    let asked = with_ref(manager, device, |manager| {
-        let slot = manager.device_at(address);
-        Ok(slot.ok_or(Error::ResourceNotAvailable)?.into())
-    });
-    status_of(asked, None)
-}
-
-#[unsafe(no_mangle)]
-pub extern "C" fn dvs_device_visit(
-    manager: Option<&dvs_device_manager>,
-    visitor: Option<dvs_device_visitor>,
-    context: *mut c_void,
-) -> dvs_status {
-    let visitor = visitor.map(|visitor| move |slot: DeviceSlot| visitor(context, slot.into()));
-    status_of(visit(manager, DeviceManager::devices, visitor), None)
-}
-
-#[unsafe(no_mangle)]
-pub extern "C" fn dvs_device_manager_space(
-    manager: Option<&dvs_device_manager>,
-    space: Out<dvs_range>,
-) -> dvs_status {
-    let asked = with_ref(manager, space, |manager| Ok(space_of(manager.addresses())));
-    status_of(asked, None)
-}
-
-#[unsafe(no_mangle)]
 pub extern "C" fn dvs_device_manager_ids(
     manager: Option<&dvs_device_manager>,
     first: Out<u32>,
@@ -218,6 +120,37 @@ object_calls! {
         dvs_device_manager_read, dvs_device_manager_read_within by read_devices
 }
 
-numbers! {
-    dvs_device_count(dvs_device_manager) -> device_count;
+calls! {
+    with_mut dvs_device_reserve_first(manager: dvs_device_manager, size: u64, alignment: u64)
+        -> dvs_device [refusal] {
+        reserve(manager, size, alignment, AllocPolicy::FirstMatch, refusal.is_some())
+    }
+    with_mut dvs_device_reserve_last(manager: dvs_device_manager, size: u64, alignment: u64)
+        -> dvs_device [refusal] {
+        reserve(manager, size, alignment, AllocPolicy::LastMatch, refusal.is_some())
+    }
+    with_mut dvs_device_reserve_exact(
+        manager: dvs_device_manager, size: u64, alignment: u64, start: u64
+    ) -> dvs_device [refusal] {
+        reserve(manager, size, alignment, AllocPolicy::ExactMatch(start), refusal.is_some())
+    }
+    // An id without a device has the error of `dvs_device_release`.
+    with_ref dvs_device_slot(manager: dvs_device_manager, id: u32) -> dvs_range [refusal] {
+        Ok(manager.slot(id).ok_or(Error::NeverAllocated(id))?.into())
+    }
+    with_ref dvs_device_at(manager: dvs_device_manager, address: u64) -> dvs_device {
+        found(manager.device_at(address))
+    }
+    with_ref dvs_device_manager_space(manager: dvs_device_manager) -> dvs_range {
+        Ok(space_of(manager.addresses()))
+    }
+    with_ref dvs_device_count(manager: dvs_device_manager) -> u64 { Ok(manager.device_count()) }
+}
+
+changes! {
+    dvs_device_release(manager: dvs_device_manager, id: u32) { manager.release(id) }
+}
+
+visits! {
+    dvs_device_visit(manager: dvs_device_manager) by dvs_device_visitor { manager.devices() }
 }

@@ -1,6 +1,6 @@
 //! The objects that C has pointers to.
 
-use crate::proved::vm_allocator::Result as Answer;
+use crate::proved::vm_allocator::{Error, Result as Answer};
 use crate::{CallError, Out};
 use alloc::boxed::Box;
 use alloc::vec::Vec;
@@ -81,18 +81,9 @@ impl<T> Handle<T> {
     }
 }
 
-/// Calls `visitor` with each item of an object, until it returns a number other than 0. The object
-/// cannot be changed meanwhile.
+/// Calls `visitor` with each item that `items` returns, until it returns a number other than 0. The
+/// object cannot be changed meanwhile. If `items` fails, `visitor` is not called.
 pub(crate) fn visit<'a, T, I: Iterator>(
-    handle: Option<&'a Handle<T>>,
-    items: impl FnOnce(&'a T) -> I,
-    visitor: Option<impl Fn(I::Item) -> c_int>,
-) -> Result<(), CallError> {
-    visit_some(handle, |object| Ok(items(object)), visitor)
-}
-
-/// Visits like [`visit`] the items that `items` returns. If it fails, `visitor` is not called.
-pub(crate) fn visit_some<'a, T, I: Iterator>(
     handle: Option<&'a Handle<T>>,
     items: impl FnOnce(&'a T) -> Answer<I>,
     visitor: Option<impl Fn(I::Item) -> c_int>,
@@ -180,4 +171,13 @@ pub(crate) fn with_mut_unit<T>(
     given_back: impl FnOnce(&mut T) -> Answer<()>,
 ) -> Result<(), CallError> {
     Ok(given_back(non_null(handle)?.get_mut()?)?)
+}
+
+/// Returns the item that a look-up has found.
+///
+/// # Errors
+///
+/// - `ResourceNotAvailable` if there is none.
+pub(crate) fn found<T, A: From<T>>(item: Option<T>) -> Answer<A> {
+    item.map(A::from).ok_or(Error::ResourceNotAvailable)
 }

@@ -1,8 +1,8 @@
 //! The id allocator.
 
-use crate::handle::{create, non_null, visit, with_mut, with_mut_unit, with_ref, Handle};
+use crate::handle::{create, non_null, Handle};
 use crate::lists::array;
-use crate::objects::{numbers, object_calls};
+use crate::objects::{calls, changes, object_calls, visits};
 use crate::proved::vm_allocator::IdAllocator;
 use crate::rattle::Global;
 use crate::texts::read_ids;
@@ -49,41 +49,6 @@ pub unsafe extern "C" fn dvs_id_allocator_with_held(
     status_of(make(), refusal)
 }
 
-#[unsafe(no_mangle)]
-pub extern "C" fn dvs_id_allocate(
-    allocator: Option<&dvs_id_allocator>,
-    id: Out<u32>,
-) -> dvs_status {
-    let taken = with_mut(allocator, id, |allocator| allocator.allocate_id());
-    status_of(taken, None)
-}
-
-#[unsafe(no_mangle)]
-pub extern "C" fn dvs_id_allocate_exact(
-    allocator: Option<&dvs_id_allocator>,
-    id: u32,
-    refusal: Out<dvs_refusal>,
-) -> dvs_status {
-    let taken = with_mut_unit(allocator, |allocator| {
-        allocator.allocate_exact(id).map(|_| ())
-    });
-    status_of(taken, refusal)
-}
-
-#[unsafe(no_mangle)]
-pub extern "C" fn dvs_id_allocate_in(
-    allocator: Option<&dvs_id_allocator>,
-    first: u32,
-    last: u32,
-    id: Out<u32>,
-    refusal: Out<dvs_refusal>,
-) -> dvs_status {
-    let taken = with_mut(allocator, id, |allocator| {
-        allocator.allocate_in(first, last)
-    });
-    status_of(taken, refusal)
-}
-
 /// # Safety
 ///
 /// The array is null or points to `count` writable ids.
@@ -118,44 +83,6 @@ unsafe fn allocate_into(
 }
 
 #[unsafe(no_mangle)]
-pub extern "C" fn dvs_id_peek(allocator: Option<&dvs_id_allocator>, id: Out<u32>) -> dvs_status {
-    let asked = with_ref(allocator, id, |allocator| allocator.peek_id());
-    status_of(asked, None)
-}
-
-#[unsafe(no_mangle)]
-pub extern "C" fn dvs_id_free(
-    allocator: Option<&dvs_id_allocator>,
-    id: u32,
-    refusal: Out<dvs_refusal>,
-) -> dvs_status {
-    let freed = with_mut_unit(allocator, |allocator| allocator.free_id(id).map(|_| ()));
-    status_of(freed, refusal)
-}
-
-#[unsafe(no_mangle)]
-pub extern "C" fn dvs_id_is_allocated(
-    allocator: Option<&dvs_id_allocator>,
-    id: u32,
-    is_allocated: Out<bool>,
-) -> dvs_status {
-    let asked = with_ref(allocator, is_allocated, |allocator| {
-        Ok(allocator.is_allocated(id))
-    });
-    status_of(asked, None)
-}
-
-#[unsafe(no_mangle)]
-pub extern "C" fn dvs_id_visit(
-    allocator: Option<&dvs_id_allocator>,
-    visitor: Option<dvs_id_visitor>,
-    context: *mut c_void,
-) -> dvs_status {
-    let visitor = visitor.map(|visitor| move |id| visitor(context, id));
-    status_of(visit(allocator, IdAllocator::held_ids, visitor), None)
-}
-
-#[unsafe(no_mangle)]
 pub extern "C" fn dvs_id_allocator_range(
     allocator: Option<&dvs_id_allocator>,
     first: Out<u32>,
@@ -184,7 +111,22 @@ object_calls! {
         dvs_id_allocator_read, dvs_id_allocator_read_within by read_ids
 }
 
-numbers! {
-    dvs_id_count(dvs_id_allocator) -> held_count;
-    dvs_id_free_count(dvs_id_allocator) -> free_count;
+calls! {
+    with_mut dvs_id_allocate(ids: dvs_id_allocator) -> u32 { ids.allocate_id() }
+    with_mut dvs_id_allocate_in(ids: dvs_id_allocator, first: u32, last: u32) -> u32 [refusal] {
+        ids.allocate_in(first, last)
+    }
+    with_ref dvs_id_peek(ids: dvs_id_allocator) -> u32 { ids.peek_id() }
+    with_ref dvs_id_is_allocated(ids: dvs_id_allocator, id: u32) -> bool { Ok(ids.is_allocated(id)) }
+    with_ref dvs_id_count(ids: dvs_id_allocator) -> u64 { Ok(ids.held_count()) }
+    with_ref dvs_id_free_count(ids: dvs_id_allocator) -> u64 { Ok(ids.free_count()) }
+}
+
+changes! {
+    dvs_id_allocate_exact(ids: dvs_id_allocator, id: u32) { ids.allocate_exact(id).map(drop) }
+    dvs_id_free(ids: dvs_id_allocator, id: u32) { ids.free_id(id).map(drop) }
+}
+
+visits! {
+    dvs_id_visit(ids: dvs_id_allocator) by dvs_id_visitor { ids.held_ids() }
 }

@@ -74,18 +74,57 @@ macro_rules! object_calls {
     };
 }
 
-/// Defines calls that write a number of an object, each by the method of this name.
-macro_rules! numbers {
-    ($($name:ident($handle:ident) -> $method:ident;)+) => {$(
+/// Defines calls that write a result to their last pointer, each by `with_ref` or `with_mut` and an
+/// expression for the result. A call with `[refusal]` also writes the details of an error there.
+macro_rules! calls {
+    ($($by:ident $name:ident($object:ident: $handle:ident $(, $argument:ident: $type:ty)*)
+        -> $result:ty $([$refusal:ident])? { $answer:expr })+) => {$(
         #[unsafe(no_mangle)]
         pub extern "C" fn $name(
             object: Option<&$handle>,
-            number: $crate::Out<u64>,
+            $($argument: $type,)*
+            result: $crate::Out<$result>,
+            $($refusal: $crate::Out<$crate::dvs_refusal>,)?
         ) -> $crate::dvs_status {
-            let asked = $crate::handle::with_ref(object, number, |object| Ok(object.$method()));
-            $crate::status_of(asked, None)
+            let made = $crate::handle::$by(object, result, |$object| $answer);
+            $crate::status_of(made, None$(.or($refusal))?)
         }
     )+};
 }
 
-pub(crate) use {numbers, object_calls};
+/// Defines calls that change an object by one argument and have no result.
+macro_rules! changes {
+    ($($name:ident($object:ident: $handle:ident, $argument:ident: $type:ty) { $answer:expr })+) => {$(
+        #[unsafe(no_mangle)]
+        pub extern "C" fn $name(
+            object: Option<&$handle>,
+            $argument: $type,
+            refusal: $crate::Out<$crate::dvs_refusal>,
+        ) -> $crate::dvs_status {
+            let changed = $crate::handle::with_mut_unit(object, |$object| $answer);
+            $crate::status_of(changed, refusal)
+        }
+    )+};
+}
+
+/// Defines visits of the items that an expression returns, each by a type of visitor. A visit with
+/// `[refusal]` also writes the details of an error there.
+macro_rules! visits {
+    ($($name:ident($object:ident: $handle:ident $(, $argument:ident: $type:ty)*) by $visitor:ident
+        $([$refusal:ident])? { $items:expr })+) => {$(
+        #[unsafe(no_mangle)]
+        pub extern "C" fn $name(
+            object: Option<&$handle>,
+            $($argument: $type,)*
+            visitor: Option<$visitor>,
+            context: *mut core::ffi::c_void,
+            $($refusal: $crate::Out<$crate::dvs_refusal>,)?
+        ) -> $crate::dvs_status {
+            let visitor = visitor.map(|visitor| move |item| visitor(context, Into::into(item)));
+            let visited = $crate::handle::visit(object, |$object| Ok($items), visitor);
+            $crate::status_of(visited, None$(.or($refusal))?)
+        }
+    )+};
+}
+
+pub(crate) use {calls, changes, object_calls, visits};

@@ -1,9 +1,7 @@
 //! The address allocator.
 
-use crate::handle::{
-    create, visit, visit_some, with_mut, with_mut_unit, with_out, with_ref, Handle,
-};
-use crate::objects::{numbers, object_calls};
+use crate::handle::{create, found, with_out, Handle};
+use crate::objects::{calls, changes, object_calls, visits};
 use crate::proved::vm_allocator::{
     AddressAllocator, AllocPolicy, Constraint, Error, RangeInclusive, Result as Answer,
 };
@@ -27,15 +25,6 @@ pub extern "C" fn dvs_address_allocator_new(
 ) -> dvs_status {
     let made = create(allocator, || AddressAllocator::new(Global, base, size));
     status_of(made, None)
-}
-
-#[unsafe(no_mangle)]
-pub extern "C" fn dvs_address_allocator_space(
-    allocator: Option<&dvs_address_allocator>,
-    space: Out<dvs_range>,
-) -> dvs_status {
-    let asked = with_ref(allocator, space, |allocator| Ok(space_of(allocator)));
-    status_of(asked, None)
 }
 
 /// Returns the range from the first to the last address of the space.
@@ -71,57 +60,16 @@ pub extern "C" fn dvs_range_offset_of(
     status_of(asked, None)
 }
 
-#[unsafe(no_mangle)]
-pub extern "C" fn dvs_range_allocate_first(
-    allocator: Option<&dvs_address_allocator>,
-    size: u64,
-    alignment: u64,
-    range: Out<dvs_range>,
-    refusal: Out<dvs_refusal>,
-) -> dvs_status {
-    let policy = AllocPolicy::FirstMatch;
-    allocate(allocator, size, alignment, policy, range, refusal)
-}
-
-#[unsafe(no_mangle)]
-pub extern "C" fn dvs_range_allocate_last(
-    allocator: Option<&dvs_address_allocator>,
-    size: u64,
-    alignment: u64,
-    range: Out<dvs_range>,
-    refusal: Out<dvs_refusal>,
-) -> dvs_status {
-    let policy = AllocPolicy::LastMatch;
-    allocate(allocator, size, alignment, policy, range, refusal)
-}
-
-#[unsafe(no_mangle)]
-pub extern "C" fn dvs_range_allocate_exact(
-    allocator: Option<&dvs_address_allocator>,
-    size: u64,
-    alignment: u64,
-    start: u64,
-    range: Out<dvs_range>,
-    refusal: Out<dvs_refusal>,
-) -> dvs_status {
-    let policy = AllocPolicy::ExactMatch(start);
-    allocate(allocator, size, alignment, policy, range, refusal)
-}
-
 #[inline(always)]
 fn allocate(
-    allocator: Option<&dvs_address_allocator>,
+    space: &mut AddressAllocator,
     size: u64,
     alignment: u64,
     policy: AllocPolicy,
-    range: Out<dvs_range>,
-    refusal: Out<dvs_refusal>,
-) -> dvs_status {
-    let taken = with_mut(allocator, range, |allocator| {
-        let request = Constraint::new(size, alignment, policy)?;
-        allocate_request(allocator, request, refusal.is_some())
-    });
-    status_of(taken, refusal)
+    wants_details: bool,
+) -> Result<dvs_range, CallError> {
+    let request = Constraint::new(size, alignment, policy)?;
+    allocate_request(space, request, wants_details)
 }
 
 #[inline(always)]
@@ -159,35 +107,20 @@ pub extern "C" fn dvs_range_conflict(
     status_of(asked, None)
 }
 
-#[unsafe(no_mangle)]
-pub extern "C" fn dvs_range_free(
-    allocator: Option<&dvs_address_allocator>,
-    range: dvs_range,
-    refusal: Out<dvs_refusal>,
-) -> dvs_status {
-    let freed = with_mut_unit(allocator, |allocator| allocator.free(&range.try_into()?));
-    status_of(freed, refusal)
-}
-
-#[unsafe(no_mangle)]
-pub extern "C" fn dvs_range_move(
-    allocator: Option<&dvs_address_allocator>,
+fn move_to(
+    space: &mut AddressAllocator,
     range: dvs_range,
     start: u64,
-    moved: Out<dvs_range>,
-    refusal: Out<dvs_refusal>,
-) -> dvs_status {
-    let answer = with_mut(allocator, moved, |allocator| {
-        let range: RangeInclusive = range.try_into()?;
-        let moved = allocator.move_range(Global, &range, start);
-        moved.map(Into::into).map_err(|error| {
-            match Constraint::new(range.len(), 1, AllocPolicy::ExactMatch(start)) {
-                Ok(request) => refused_move(allocator, &range, request, error, refusal.is_some()),
-                Err(_) => error.into(),
-            }
-        })
-    });
-    status_of(answer, refusal)
+    wants_details: bool,
+) -> Result<dvs_range, CallError> {
+    let range: RangeInclusive = range.try_into()?;
+    let moved = space.move_range(Global, &range, start);
+    moved.map(Into::into).map_err(|error| {
+        match Constraint::new(range.len(), 1, AllocPolicy::ExactMatch(start)) {
+            Ok(request) => refused_move(space, &range, request, error, wants_details),
+            Err(_) => error.into(),
+        }
+    })
 }
 
 #[unsafe(no_mangle)]
@@ -221,53 +154,6 @@ fn refused_move(
     refused(allocator, request, error, wants_details)
 }
 
-#[unsafe(no_mangle)]
-pub extern "C" fn dvs_range_is_allocated(
-    allocator: Option<&dvs_address_allocator>,
-    range: dvs_range,
-    is_allocated: Out<bool>,
-    refusal: Out<dvs_refusal>,
-) -> dvs_status {
-    let asked = with_ref(allocator, is_allocated, |allocator| {
-        Ok(allocator.holds(&range.try_into()?))
-    });
-    status_of(asked, refusal)
-}
-
-#[unsafe(no_mangle)]
-pub extern "C" fn dvs_range_at(
-    allocator: Option<&dvs_address_allocator>,
-    address: u64,
-    range: Out<dvs_range>,
-) -> dvs_status {
-    let asked = with_ref(allocator, range, |allocator| {
-        let held = allocator.held_at(address);
-        Ok(held.ok_or(Error::ResourceNotAvailable)?.into())
-    });
-    status_of(asked, None)
-}
-
-#[unsafe(no_mangle)]
-pub extern "C" fn dvs_gap_at(
-    allocator: Option<&dvs_address_allocator>,
-    address: u64,
-    gap: Out<dvs_range>,
-) -> dvs_status {
-    let asked = with_ref(allocator, gap, |allocator| {
-        let found = allocator.gap_at(address);
-        Ok(found.ok_or(Error::ResourceNotAvailable)?.into())
-    });
-    status_of(asked, None)
-}
-
-/// Returns a visitor of ranges or gaps that calls the one that C passes.
-fn calling(
-    visitor: Option<dvs_range_visitor>,
-    context: *mut c_void,
-) -> Option<impl Fn(RangeInclusive) -> c_int> {
-    visitor.map(|visitor| move |range: RangeInclusive| visitor(context, range.into()))
-}
-
 /// Returns the part of the space that begins at `address`, or one address outside the space if there is
 /// none.
 fn at_or_above(space: &AddressAllocator, address: u64) -> Answer<RangeInclusive> {
@@ -279,76 +165,27 @@ fn at_or_below(space: &AddressAllocator, address: u64) -> Answer<RangeInclusive>
     RangeInclusive::new(space.base().min(address), space.end().min(address))
 }
 
-/// Defines the visits of the allocated ranges, or of the gaps: of all, of those in a range, from an address
-/// upwards, and from an address downwards.
-macro_rules! visits {
-    ($all:ident, $within:ident, $from:ident, $back:ident by $items:ident, $items_in:ident) => {
-        #[unsafe(no_mangle)]
-        pub extern "C" fn $all(
-            allocator: Option<&dvs_address_allocator>,
-            visitor: Option<dvs_range_visitor>,
-            context: *mut c_void,
-        ) -> dvs_status {
-            let visitor = calling(visitor, context);
-            let visited = visit(allocator, AddressAllocator::$items, visitor);
-            status_of(visited, None)
-        }
-
-        #[unsafe(no_mangle)]
-        pub extern "C" fn $within(
-            allocator: Option<&dvs_address_allocator>,
-            within: dvs_range,
-            visitor: Option<dvs_range_visitor>,
-            context: *mut c_void,
-            refusal: Out<dvs_refusal>,
-        ) -> dvs_status {
-            let visited = visit_some(
-                allocator,
-                |space| Ok(space.$items_in(&within.try_into()?)),
-                calling(visitor, context),
-            );
-            status_of(visited, refusal)
-        }
-
-        #[unsafe(no_mangle)]
-        pub extern "C" fn $from(
-            allocator: Option<&dvs_address_allocator>,
-            address: u64,
-            visitor: Option<dvs_range_visitor>,
-            context: *mut c_void,
-        ) -> dvs_status {
-            let visited = visit_some(
-                allocator,
-                |space| Ok(space.$items_in(&at_or_above(space, address)?)),
-                calling(visitor, context),
-            );
-            status_of(visited, None)
-        }
-
-        #[unsafe(no_mangle)]
-        pub extern "C" fn $back(
-            allocator: Option<&dvs_address_allocator>,
-            address: u64,
-            visitor: Option<dvs_range_visitor>,
-            context: *mut c_void,
-        ) -> dvs_status {
-            let visited = visit_some(
-                allocator,
-                |space| Ok(space.$items_in(&at_or_below(space, address)?).rev()),
-                calling(visitor, context),
-            );
-            status_of(visited, None)
-        }
-    };
-}
-
 visits! {
-    dvs_range_visit, dvs_range_visit_in, dvs_range_visit_from, dvs_range_visit_back
-        by held_ranges, held_ranges_in
-}
-
-visits! {
-    dvs_gap_visit, dvs_gap_visit_in, dvs_gap_visit_from, dvs_gap_visit_back by gaps, gaps_in
+    dvs_range_visit(space: dvs_address_allocator) by dvs_range_visitor { space.held_ranges() }
+    dvs_range_visit_in(space: dvs_address_allocator, within: dvs_range) by dvs_range_visitor [refusal] {
+        space.held_ranges_in(&within.try_into()?)
+    }
+    dvs_range_visit_from(space: dvs_address_allocator, address: u64) by dvs_range_visitor {
+        space.held_ranges_in(&at_or_above(space, address)?)
+    }
+    dvs_range_visit_back(space: dvs_address_allocator, address: u64) by dvs_range_visitor {
+        space.held_ranges_in(&at_or_below(space, address)?).rev()
+    }
+    dvs_gap_visit(space: dvs_address_allocator) by dvs_range_visitor { space.gaps() }
+    dvs_gap_visit_in(space: dvs_address_allocator, within: dvs_range) by dvs_range_visitor [refusal] {
+        space.gaps_in(&within.try_into()?)
+    }
+    dvs_gap_visit_from(space: dvs_address_allocator, address: u64) by dvs_range_visitor {
+        space.gaps_in(&at_or_above(space, address)?)
+    }
+    dvs_gap_visit_back(space: dvs_address_allocator, address: u64) by dvs_range_visitor {
+        space.gaps_in(&at_or_below(space, address)?).rev()
+    }
 }
 
 object_calls! {
@@ -360,9 +197,43 @@ object_calls! {
             by |from| read_space(from, false)
 }
 
-numbers! {
-    dvs_range_count(dvs_address_allocator) -> held_count;
-    dvs_gap_count(dvs_address_allocator) -> gap_count;
-    dvs_longest_gap(dvs_address_allocator) -> longest_gap;
-    dvs_free_length(dvs_address_allocator) -> free_len;
+calls! {
+    with_mut dvs_range_allocate_first(space: dvs_address_allocator, size: u64, alignment: u64)
+        -> dvs_range [refusal] {
+        allocate(space, size, alignment, AllocPolicy::FirstMatch, refusal.is_some())
+    }
+    with_mut dvs_range_allocate_last(space: dvs_address_allocator, size: u64, alignment: u64)
+        -> dvs_range [refusal] {
+        allocate(space, size, alignment, AllocPolicy::LastMatch, refusal.is_some())
+    }
+    with_mut dvs_range_allocate_exact(
+        space: dvs_address_allocator, size: u64, alignment: u64, start: u64
+    ) -> dvs_range [refusal] {
+        allocate(space, size, alignment, AllocPolicy::ExactMatch(start), refusal.is_some())
+    }
+    with_mut dvs_range_move(space: dvs_address_allocator, range: dvs_range, start: u64)
+        -> dvs_range [refusal] {
+        move_to(space, range, start, refusal.is_some())
+    }
+    with_ref dvs_range_is_allocated(space: dvs_address_allocator, range: dvs_range)
+        -> bool [refusal] {
+        Ok(space.holds(&range.try_into()?))
+    }
+    with_ref dvs_range_at(space: dvs_address_allocator, address: u64) -> dvs_range {
+        found(space.held_at(address))
+    }
+    with_ref dvs_gap_at(space: dvs_address_allocator, address: u64) -> dvs_range {
+        found(space.gap_at(address))
+    }
+    with_ref dvs_address_allocator_space(space: dvs_address_allocator) -> dvs_range {
+        Ok(space_of(space))
+    }
+    with_ref dvs_range_count(space: dvs_address_allocator) -> u64 { Ok(space.held_count()) }
+    with_ref dvs_gap_count(space: dvs_address_allocator) -> u64 { Ok(space.gap_count()) }
+    with_ref dvs_longest_gap(space: dvs_address_allocator) -> u64 { Ok(space.longest_gap()) }
+    with_ref dvs_free_length(space: dvs_address_allocator) -> u64 { Ok(space.free_len()) }
+}
+
+changes! {
+    dvs_range_free(space: dvs_address_allocator, range: dvs_range) { space.free(&range.try_into()?) }
 }

@@ -76,7 +76,7 @@ pub(crate) fn with_conflict<T>(
     let request = asked.constraint()?;
     out.write(match conflict(handle.get(), request) {
         None => dvs_refusal::default(),
-        Some(conflict) => in_the_way(asked.start, request, Some(conflict)).parts().1,
+        Some(conflict) => in_the_way(asked.start, request, Some(conflict)),
     });
     Ok(())
 }
@@ -93,14 +93,14 @@ pub(crate) fn refused(
 ) -> CallError {
     match (&error, request.policy()) {
         (Error::ResourceNotAvailable, AllocPolicy::ExactMatch(start)) if wants_details => {
-            in_the_way(start, request, space.conflict(request))
+            CallError::InTheWay(in_the_way(start, request, space.conflict(request)))
         }
         _ => error.into(),
     }
 }
 
-/// Returns the error of a request for a start at which its range is not available.
-fn in_the_way(start: u64, request: Constraint, conflict: Option<Conflict>) -> CallError {
+/// Returns the details of a request for a start at which its range is not available.
+fn in_the_way(start: u64, request: Constraint, conflict: Option<Conflict>) -> dvs_refusal {
     let range = RangeInclusive::from_start_len(start, request.size());
     let (cause, other) = match conflict {
         Some(Conflict::OutsideSpace(space)) => (DVS_CAUSE_OUTSIDE_SPACE, space.into()),
@@ -109,9 +109,10 @@ fn in_the_way(start: u64, request: Constraint, conflict: Option<Conflict>) -> Ca
         // `allocate_all` has freed the ranges of the requests before this one.
         None => (DVS_CAUSE_EARLIER_REQUEST, dvs_range::default()),
     };
-    CallError::InTheWay {
+    dvs_refusal {
         range: range.map_or(dvs_range::default(), Into::into),
-        cause,
         other,
+        cause,
+        ..dvs_refusal::default()
     }
 }

@@ -54,13 +54,13 @@ const TEXTS: [&CStr; 20] = [
 
 /// The details of an error.
 #[repr(C)]
-#[derive(Default)]
+#[derive(Clone, Copy, Default)]
 pub struct dvs_refusal {
-    range: dvs_range,
-    other: dvs_range,
-    size: u64,
-    id: u32,
-    cause: u32,
+    pub(crate) range: dvs_range,
+    pub(crate) other: dvs_range,
+    pub(crate) size: u64,
+    pub(crate) id: u32,
+    pub(crate) cause: u32,
 }
 
 /// The error of a call.
@@ -70,12 +70,8 @@ pub(crate) enum CallError {
     OutOfMemory,
     InvalidPolicy,
     Call(Error),
-    /// The range of a request is not available, because of `other`.
-    InTheWay {
-        range: dvs_range,
-        cause: u32,
-        other: dvs_range,
-    },
+    /// The range of a request is not available, with the cause in these details.
+    InTheWay(dvs_refusal),
 }
 
 impl From<Error> for CallError {
@@ -97,64 +93,42 @@ impl CallError {
             CallError::OutOfMemory => (DVS_OUT_OF_MEMORY, none),
             CallError::InvalidPolicy => (DVS_INVALID_POLICY, none),
             CallError::Call(error) => parts_of(error),
-            CallError::InTheWay {
-                range,
-                cause,
-                other,
-            } => (
-                DVS_RESOURCE_NOT_AVAILABLE,
-                dvs_refusal {
-                    range: *range,
-                    other: *other,
-                    cause: *cause,
-                    ..none
-                },
-            ),
+            CallError::InTheWay(details) => (DVS_RESOURCE_NOT_AVAILABLE, *details),
         }
     }
 }
 
 /// Returns the status of an error of the allocators, and its details.
 fn parts_of(error: &Error) -> (dvs_status, dvs_refusal) {
-    let mut details = dvs_refusal::default();
-    let status = match error {
-        Error::Overflow => DVS_OVERFLOW,
-        Error::OutOfRange(id) => {
-            details.id = *id;
-            DVS_OUT_OF_RANGE
-        }
-        Error::AlreadyReleased(id) => {
-            details.id = *id;
-            DVS_ALREADY_RELEASED
-        }
-        Error::NeverAllocated(id) => {
-            details.id = *id;
-            DVS_NEVER_ALLOCATED
-        }
-        Error::ResourceNotAvailable => DVS_RESOURCE_NOT_AVAILABLE,
-        Error::InvalidRange(start, end) => {
-            let (start, end) = (*start, *end);
-            details.range = dvs_range { start, end };
-            DVS_INVALID_RANGE
-        }
-        Error::InvalidAlignment => DVS_INVALID_ALIGNMENT,
+    let none = dvs_refusal::default();
+    let of_id = |id: &u32| dvs_refusal { id: *id, ..none };
+    let of_range = |range| dvs_refusal { range, ..none };
+    match error {
+        Error::Overflow => (DVS_OVERFLOW, none),
+        Error::OutOfRange(id) => (DVS_OUT_OF_RANGE, of_id(id)),
+        Error::AlreadyReleased(id) => (DVS_ALREADY_RELEASED, of_id(id)),
+        Error::NeverAllocated(id) => (DVS_NEVER_ALLOCATED, of_id(id)),
+        Error::ResourceNotAvailable => (DVS_RESOURCE_NOT_AVAILABLE, none),
+        &Error::InvalidRange(start, end) => (DVS_INVALID_RANGE, of_range(dvs_range { start, end })),
+        Error::InvalidAlignment => (DVS_INVALID_ALIGNMENT, none),
         Error::Overlap(range, other) => {
-            (details.range, details.other) = ((*range).into(), (*other).into());
-            DVS_OVERLAP
+            let (range, other) = ((*range).into(), (*other).into());
+            (
+                DVS_OVERLAP,
+                dvs_refusal {
+                    other,
+                    ..of_range(range)
+                },
+            )
         }
         Error::InvalidStateTransition(range, _) => {
-            details.range = (*range).into();
-            DVS_INVALID_STATE_TRANSITION
+            (DVS_INVALID_STATE_TRANSITION, of_range((*range).into()))
         }
-        Error::UnalignedAddress => DVS_UNALIGNED_ADDRESS,
-        Error::Underflow => DVS_UNDERFLOW,
-        Error::InvalidSize(size) => {
-            details.size = *size;
-            DVS_INVALID_SIZE
-        }
-        Error::OutOfMemory => DVS_OUT_OF_MEMORY,
-    };
-    (status, details)
+        Error::UnalignedAddress => (DVS_UNALIGNED_ADDRESS, none),
+        Error::Underflow => (DVS_UNDERFLOW, none),
+        &Error::InvalidSize(size) => (DVS_INVALID_SIZE, dvs_refusal { size, ..none }),
+        Error::OutOfMemory => (DVS_OUT_OF_MEMORY, none),
+    }
 }
 
 /// Returns the status of a result. If it is an error, also writes its details to `refusal`.

@@ -707,6 +707,7 @@ static void look_for_no_cause(void) {
 /* A number of a call near an address, and the id of its device. */
 #define NEAR(distance) (PART(1) + (distance))
 #define NTH PART(2)
+#define FAR PART(8)
 
 enum { FEW = 1000, LOTS = 100000, PLACES = 1000, LIMIT = 20 };
 
@@ -757,21 +758,27 @@ static const struct quick {
     {RESERVE, {0}, RELEASE},
 };
 
-/* Makes objects with a range, an id and a device at each multiple of 4. */
+/* Makes objects with a range, an id and a device at each multiple of 4 from FAR, which is 0 for
+ * ids. In the first and the last quarter of the addresses, and in the first of the ids, none is
+ * free. */
 static void make_many(uint32_t count, void **many) {
     dvs_range *ranges = (dvs_range *)malloc(count * sizeof *ranges);
-    uint32_t *ids = (uint32_t *)malloc(count * sizeof *ids), i;
+    uint32_t *ids = (uint32_t *)malloc(count * sizeof *ids), i, id;
     dvs_device device;
 
-    CHECK(dvs_device_manager_new(0, count, 0, 4 * count, &results.manager, NULL) == DVS_OK);
+    CHECK(dvs_device_manager_new(0, count, FAR, 4 * count, &results.manager, NULL) == DVS_OK);
     for (i = 0; i < count; i++) {
+        const uint64_t start = FAR + 4 * i, size = i < count / 4 || i >= 3 * count / 4 ? 4 : 2;
+
         ids[i] = 4 * i;
-        ranges[i] = range_of(4 * i, 4 * i + 1);
-        CHECK(dvs_device_reserve_exact(results.manager, 2, 1, 4 * i, &device, NULL) == DVS_OK);
+        ranges[i] = range_of(start, start + size - 1);
+        CHECK(dvs_device_reserve_exact(results.manager, size, 1, start, &device, NULL) == DVS_OK);
     }
-    CHECK(dvs_address_allocator_with_held(0, 4 * count, ranges, count, &results.space, NULL,
+    CHECK(dvs_address_allocator_with_held(FAR, 4 * count, ranges, count, &results.space, NULL,
                                           NULL) == DVS_OK);
     CHECK(dvs_id_allocator_with_held(0, 4 * count, ids, count, &results.ids, NULL) == DVS_OK);
+    for (i = 0; i < 3 * count / 4; i++)
+        CHECK(dvs_id_allocate(results.ids, &id) == DVS_OK);
     for (i = 0; i < 3; i++)
         many[i] = created(i);
     free(ids);
@@ -784,13 +791,13 @@ static clock_t time_quick(const struct quick *row, void *object, uint64_t count)
     uint64_t i, j;
 
     for (i = 0; i < PLACES; i++) {
-        const uint64_t at = 4 * (i * 7919 % count);
+        const uint64_t nth = count / 4 + 1 + i * 7919 % (count / 2 - 2), at = FAR + 4 * nth;
         const dvs_request request = {2, 2, at + 2, DVS_EXACT, NULL};
         uint64_t numbers[4] = {0, 0, 0, 0};
 
         given.request = &request;
         for (j = 0; j < 3; j++)
-            numbers[j] = row->numbers[j] == NTH       ? at / 4
+            numbers[j] = row->numbers[j] == NTH       ? nth
                          : row->numbers[j] >= NEAR(0) ? at + (row->numbers[j] - NEAR(0))
                                                       : row->numbers[j];
         results.device.id = (uint32_t)at + 1;

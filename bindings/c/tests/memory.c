@@ -348,8 +348,10 @@ static void do_without_memory(void) {
 /* The number of ranges of a space, each with a gap after it. */
 enum { RANGES = 20000 };
 
-/* The maximum number of bytes for each range, which is below the limit of the header. */
-enum { BYTES_OF_RANGE = 60 };
+/* The maximum numbers of bytes for each range, which are below the limit of the header. Saving
+ * lists the range and its gap in 24 bytes each. Reading lists the range in 16 bytes, and an eighth
+ * more. A text can be refused when the tree is built. */
+enum { SAVING = 2 * 24, READING = 18, REFUSING = READING + 22 };
 
 /* Returns the space with all ranges. */
 static dvs_address_allocator *many_ranges(void) {
@@ -388,7 +390,46 @@ static void measure_texts(void) {
     dvs_text_destroy(text);
     printf("memory: bytes for each range: saving %lu, reading %lu, refusing %lu\n",
            (unsigned long)saving, (unsigned long)reading, (unsigned long)refusing);
-    CHECK(saving <= BYTES_OF_RANGE && reading <= BYTES_OF_RANGE && refusing <= BYTES_OF_RANGE);
+    CHECK(saving <= SAVING && reading <= READING && refusing <= REFUSING);
+}
+
+/* Checks the bytes for each member of an array that a call has allocated and freed. */
+static void check_freed(size_t most) {
+    CHECK((most_bytes - bytes) / RANGES <= most);
+    most_bytes = bytes;
+}
+
+/* Checks that calls with arrays allocate only one copy of the array, and lists of their results and
+ * of holes. A request takes 56 bytes. */
+static void measure_arrays(void) {
+    static dvs_range ranges[RANGES];
+    static dvs_request requests[RANGES];
+    static uint32_t several[RANGES];
+    const dvs_request request = {1, 1, 0, DVS_FIRST, NULL};
+    const size_t size = sizeof ranges[0];
+    dvs_address_allocator *space, *other;
+    dvs_id_allocator *ids;
+    int i;
+
+    for (i = 0; i < RANGES; i++) {
+        ranges[i] = range_of(2 * i, 2 * i);
+        requests[i] = request;
+    }
+    most_bytes = bytes;
+    CHECK(dvs_address_allocator_with_held(0, 2 * RANGES, ranges, RANGES, &space, NULL, NULL) ==
+          DVS_OK);
+    check_freed(size);
+    CHECK(dvs_address_allocator_with_free(ranges, RANGES, &other, NULL, NULL) == DVS_OK);
+    check_freed(2 * size);
+    CHECK(dvs_address_allocator_allocate_all(space, requests, RANGES, ranges, NULL, NULL) ==
+          DVS_OK);
+    check_freed(size + 56);
+    CHECK(dvs_id_allocator_new(0, RANGES, &ids, NULL) == DVS_OK);
+    CHECK(dvs_ids_allocate(ids, several, RANGES) == DVS_OK);
+    check_freed(sizeof several[0]);
+    destroy(0, space);
+    destroy(0, other);
+    destroy(1, ids);
 }
 
 /* Values of which each allocates memory for its length, if values are made of a text. */
@@ -417,6 +458,7 @@ int main(void) {
         refuse_in_turn(&rows[i]);
     do_without_memory();
     measure_texts();
+    measure_arrays();
     refuse_without_memory();
     CHECK(blocks == before);
     puts("memory: each allocation of each call failed in turn");

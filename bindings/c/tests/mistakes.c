@@ -8,17 +8,24 @@ int main(int argc, char **argv) {
     const int mistake = argc == 2 ? atoi(argv[1]) : 0;
     dvs_range *one = (dvs_range *)malloc(sizeof *one);
     dvs_address_allocator *space, *other;
+    dvs_id_allocator *ids;
     size_t length;
     uint64_t count;
     char *text;
 
     *one = range_of(1, 1);
     CHECK(dvs_address_allocator_with_held(0, 16, one, 1, &space, NULL, NULL) == DVS_OK);
+    CHECK(dvs_id_allocator_new(0, 9, &ids, NULL) == DVS_OK);
     text = saved(space, &length);
-    /* An array that is too short. */
+    /* An array, an array for results and a text that are too short. */
     if (mistake == 1 &&
         dvs_address_allocator_with_held(0, 16, one, 2, &other, NULL, NULL) == DVS_OK)
         dvs_address_allocator_destroy(other);
+    if (mistake == 5)
+        (void)!dvs_ids_allocate(ids, (uint32_t *)one, 5);
+    if (mistake == 6)
+        CHECK(dvs_address_allocator_read(text, length + 2, &other) == DVS_NOT_JSON);
+    CHECK(dvs_id_allocator_destroy(ids) == DVS_OK);
     CHECK(dvs_address_allocator_destroy(space) == DVS_OK);
     /* An object that is used, or destroyed again, after it was destroyed. */
     if (mistake == 2)

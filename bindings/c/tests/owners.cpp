@@ -160,6 +160,8 @@ static void reserve_in_windows() {
     CHECK(is_range(refusal.range, 16, 23));
     CHECK(!devices.conflict(request::exact(8, 8, 16).within({0, 30}), refusal));
     CHECK(dvs::cause_of(refusal) == dvs::cause::allocated && is_range(refusal.other, 16, 23));
+    CHECK(!devices.conflict(request::exact(8, 8, 16).within({0, 20}), refusal));
+    CHECK(dvs::cause_of(refusal) == dvs::cause::outside_window && refusal.other.end == 20);
     CHECK(!devices.conflict({8, 8, 64, DVS_EXACT, nullptr}, refusal));
     CHECK(dvs::cause_of(refusal) == dvs::cause::outside_space && is_range(refusal.other, 0, 63));
     CHECK(!devices.reserve({8, 8, 0, DVS_FIRST, nullptr}, device) && device.id == 6);
@@ -219,6 +221,7 @@ static void copy() {
 
     CHECK(space == other && other.make_copy(space) == DVS_NULL);
     CHECK(!space.make_with_held(0, 16, {range_of(1, 2), range_of(4, 4)}) && space != other);
+    CHECK(space != dvs::address_allocator() && dvs::address_allocator() != space);
     CHECK(!other.make_copy(space) && space == other && !other.free({4, 4}) && space != other);
     CHECK(!space.make_copy(space) && ranges_of(space).size() == 2);
     CHECK(space.make_copy(dvs::address_allocator()) == DVS_NULL && ranges_of(space).size() == 2);
@@ -312,6 +315,31 @@ static void walk_from_addresses() {
     CHECK(!space.for_each(take_two(seen)) && seen.size() == 2 && is_range(seen[1], 5, 5));
 }
 
+/* Visits like dvs_range_visit_from(), and counts its calls and the items that it passes on. */
+static int visit_calls, visit_items;
+static dvs_status visit_counted(const dvs_address_allocator *space, uint64_t address,
+                                dvs_range_visitor *visitor, void *context) {
+    auto pass_on = [&](dvs_range range) { return visit_items++, visitor(context, range); };
+    auto one = [](void *pass, dvs_range range) {
+        return (*static_cast<decltype(pass_on) *>(pass))(range);
+    };
+    visit_calls++;
+    return dvs_range_visit_from(space, address, one, &pass_on);
+}
+
+/* Checks that a step of a loop makes one call, which ends at its first item. */
+static void count_steps() {
+    dvs::address_allocator space;
+    dvs::each<visit_counted> ranges;
+    dvs_range range;
+
+    CHECK(!space.make(0, 100));
+    while (!space.allocate_first(1, 2, range))
+        continue;
+    CHECK(!ranges.start(space.get(), 0) && std::distance(ranges.begin(), ranges.end()) == 50);
+    CHECK(visit_calls == 51 && visit_items == 50);
+}
+
 /* Checks the items of loops, also of a loop that changes the allocator. */
 static void loop() {
     dvs::address_allocator space, top;
@@ -369,7 +397,8 @@ static void pass_large_numbers() {
     CHECK(!space.allocate_exact(much - 1, much, top - much + 1, range) && range.end == top - 1);
     CHECK(!space.is_allocated(range, is_allocated) && is_allocated);
     CHECK(space.allocate_exact(1, 1, top, moved) == DVS_OVERFLOW);
-    CHECK(!space.conflict(request::exact(much, 1, half), refusal) && refusal.other.start == half);
+    CHECK(!space.conflict(request::exact(much, much, half), refusal));
+    CHECK(refusal.other.start == half);
     CHECK(!space.allocate(request::first(much, half / 2), range) && range.start == half / 2);
     CHECK(!space.move_range(range, half + 2 * much, moved) && moved.end == half + 3 * much - 1);
     CHECK(
@@ -388,6 +417,65 @@ static void pass_large_numbers() {
     CHECK(!devices.conflict(request::exact(1, 1, half), refusal) && refusal.other.start == half);
     CHECK(!devices.reserve(request::first(much, half / 2), device));
     CHECK(device.range.start == half / 2);
+}
+
+/* Checks that methods pass on ids up to UINT32_MAX. */
+static void pass_large_ids() {
+    const uint32_t last = UINT32_MAX, first = last - 7;
+    dvs::id_allocator ids;
+    dvs::device_manager devices;
+    dvs_device device;
+    dvs_range range;
+    uint32_t low = 0, high = 0, id = 0;
+    uint64_t count = 0;
+    bool is_allocated = false;
+    std::vector<uint32_t> several(2);
+
+    CHECK(!ids.make_with_held(first, last, {first + 1}) && !ids.free(first + 1));
+    CHECK(!ids.make(first, last) && !ids.range(low, high) && low == first && high == last);
+    CHECK(!ids.allocate(id) && id == first && !ids.peek(id) && id == first + 1);
+    CHECK(!ids.allocate_exact(last) && !ids.is_allocated(last, is_allocated) && is_allocated);
+    CHECK(!ids.allocate_in(last - 2, last, id) && id == last - 2 && !ids.allocate_all(several));
+    CHECK(several[1] == first + 2 && !ids.free(last) && !ids.allocate_in(last, last, id));
+    CHECK(id == last && !devices.make(last, last, 0, 64) && !devices.ids(low, high));
+    CHECK(low == last && high == last && !devices.reserve_first(8, 8, device));
+    CHECK(device.id == last && !devices.slot(last, range) && range.end == 7);
+    CHECK(!devices.at(7, device) && device.id == last && !devices.release(last));
+    CHECK(!ids.make(0, last) && !ids.free_count(count) && count == (uint64_t)1 << 32);
+    CHECK(
+        !ids.read("{\"range_base\":0,\"next_id\":null,\"range_end\":4294967295,\"freed_ids\":[]}"));
+    CHECK(!ids.held_count(count) && count == (uint64_t)1 << 32);
+}
+
+/* Checks that methods pass on lists and texts of more members than 16 bits can count. */
+static void pass_long_lists() {
+    const uint32_t count = 70000;
+    dvs::address_allocator space;
+    dvs::id_allocator ids;
+    std::vector<dvs_range> ranges;
+    std::vector<uint32_t> held, several(count);
+    std::vector<dvs::request> requests(count, dvs::request::first(1, 1));
+    std::size_t failed = 0;
+    std::string text;
+
+    for (uint32_t i = 0; i < count; i++) {
+        ranges.push_back(range_of(2 * i, 2 * i));
+        held.push_back(2 * i);
+    }
+    CHECK(!space.make_with_held(0, 2 * count, ranges) && are_same(ranges_of(space), ranges));
+    CHECK(!space.save(text) && !space.read(text) && are_same(ranges_of(space), ranges));
+    dvs_text_limits limits = {text.size() - 1, 0};
+    CHECK(space.read(text, nullptr, &limits) == DVS_LIMIT_EXCEEDED);
+    CHECK(!space.make_with_free(ranges) && are_same(gaps_of(space), ranges));
+    CHECK(!space.allocate_all(requests, ranges, &failed) && failed == count);
+    CHECK(gaps_of(space).empty() && ranges.back().start == 2 * count - 2);
+    for (uint64_t end : {9, 8}) {
+        ranges.resize(count);
+        ranges.push_back({9, end});
+        CHECK(space.make_with_held(0, 2 * count, ranges, &failed) && failed == count);
+    }
+    CHECK(!ids.make_with_held(0, 2 * count, held) && list(ids, &dvs::id_allocator::ids) == held);
+    CHECK(!ids.allocate_all(several) && several.back() == 2 * count - 1);
 }
 
 static void compare_versions() {
@@ -428,6 +516,10 @@ static void ask() {
 
     CHECK(!space.make_with_held(0, 16, {range_of(1, 2)}) && !space.save(text));
     CHECK(!space.read_repaired(text) && !space.space(range) && is_range(range, 0, 15));
+    text = "{\"address_space\":{\"start\":0,\"end\":15},\"interval_tree\":{\"root\":null}}";
+    CHECK(space.read(text) == DVS_NOT_A_STATE && ranges_of(space).size() == 1);
+    CHECK(!space.read_repaired(text) && ranges_of(space).empty());
+    CHECK(!space.make_with_held(0, 16, {range_of(1, 2)}));
     CHECK(!space.is_allocated({1, 2}, is_allocated) && is_allocated &&
           !space.is_allocated({1, 1}, is_allocated) && !is_allocated);
     CHECK(space.is_allocated({2, 1}, is_allocated) == DVS_INVALID_RANGE);
@@ -715,9 +807,13 @@ int main() {
     allocate_in_windows();
     allocate_all_in_windows();
     copy();
-    loop();
+    /* A walk without end fails here, and loop() would take all memory. */
     walk_from_addresses();
+    loop();
+    count_steps();
     pass_large_numbers();
+    pass_large_ids();
+    pass_long_lists();
     compare_versions();
     compare_errors();
     ask();

@@ -448,6 +448,62 @@ fn errors_of_lists_convert() {
     assert_eq!(ListError { index, error }.to_string(), text);
 }
 
+/// Checks calls with lists of more items than 16 bits can count.
+#[test]
+fn long_lists_are_passed_on() {
+    const COUNT: u32 = 70_000;
+    let numbers = || (0..u64::from(COUNT)).map(|at| 2 * at);
+    let list: Vec<_> = numbers()
+        .map(|at| RangeInclusive::new(at, at).unwrap())
+        .collect();
+    let requests = vec![Constraint::new(1, 1, AllocPolicy::FirstMatch).unwrap(); list.len()];
+    let size = 2 * u64::from(COUNT);
+    let held = AddressAllocator::with_held(0, size, &list).unwrap();
+    assert!(held.held_ranges().eq(list.iter().copied()));
+    let tried = AddressAllocator::try_with_held(0, size, &list);
+    assert_eq!(tried.as_ref(), Ok(&held));
+    let mut free = AddressAllocator::with_free(&list).unwrap();
+    let mut tried = AddressAllocator::try_with_free(&list).unwrap();
+    assert!(free.gaps().eq(list.iter().copied()) && free == tried);
+    assert_eq!(free.allocate_all(&requests).as_ref(), Ok(&list));
+    assert_eq!(tried.try_allocate_all(&requests).as_ref(), Ok(&list));
+    let ids: Vec<u32> = numbers().map(|at| at as u32).collect();
+    let mut held = IdAllocator::with_held(0, 2 * COUNT, &ids).unwrap();
+    let mut tried = IdAllocator::try_with_held(0, 2 * COUNT, &ids).unwrap();
+    assert!(held.held_ids().eq(ids.iter().copied()) && held == tried);
+    let others: Vec<u32> = ids.iter().map(|id| id + 1).collect();
+    assert_eq!(held.allocate_ids(others.len()).as_ref(), Ok(&others));
+    assert_eq!(tried.try_allocate_ids(others.len()).as_ref(), Ok(&others));
+}
+
+/// Checks iterators over more items than a byte can count.
+#[test]
+fn long_lists_are_walked() {
+    let mut draw = Draw(9);
+    let all = RangeInclusive::new(0, 599).unwrap();
+    let list: Vec<_> = (0..300)
+        .map(|at| RangeInclusive::new(2 * at, 2 * at).unwrap())
+        .collect();
+    let held = AddressAllocator::with_held(0, 600, &list).unwrap();
+    let free = AddressAllocator::with_free(&list).unwrap();
+    expect_items(held.held_ranges(), &list, exact, &mut draw);
+    expect_items(held.held_ranges_in(&all), &list, inexact, &mut draw);
+    expect_items(free.gaps(), &list, exact, &mut draw);
+    expect_items(free.gaps_in(&all), &list, inexact, &mut draw);
+    let ids: Vec<u32> = (0..300).map(|at| 2 * at).collect();
+    let allocator = IdAllocator::with_held(0, 600, &ids).unwrap();
+    expect_items(allocator.held_ids(), &ids, exact, &mut draw);
+    let mut devices = DeviceManager::new(0, 300, 0, 600).unwrap();
+    let reserved = (0..300).map(|_| devices.reserve(2, 1, AllocPolicy::FirstMatch).unwrap());
+    let slots: Vec<_> = reserved.collect();
+    expect_items(
+        devices.devices(),
+        &slots,
+        |items| Some(items.len()),
+        &mut draw,
+    );
+}
+
 #[test]
 fn held_ranges_can_be_asked_for() {
     let mut space = AddressAllocator::new(0, 8).unwrap();
@@ -683,6 +739,8 @@ fn debug_texts_show_the_fields() {
     let mut space = AddressAllocator::new(16, 4).unwrap();
     let held = space.allocate(1, 1, AllocPolicy::LastMatch).unwrap();
     let held_text = "RangeInclusive { start: 19, end: 19 }";
+    let in_lines = "RangeInclusive {\n    start: 19,\n    end: 19,\n}";
+    assert_eq!(format!("{held:#?}"), in_lines);
     assert_eq!(
         format!("{space:?}"),
         format!(

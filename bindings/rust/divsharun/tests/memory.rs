@@ -500,6 +500,12 @@ fn lists_have_no_spare_bytes() {
     assert!(bytes < chunks * 9 / 8, "{bytes} bytes");
     let (_, bytes) = peak_of(|| ids.clone());
     assert!(bytes < chunks * 9 / 8, "{bytes} bytes");
+    // A copy has 20 bytes for each device in lists, 16 in a map and at most 18 in the tree.
+    let mut devices = DeviceManager::new(0, COUNT as u32, 0, size).expect("a manager");
+    let mut reserve = |request: &Constraint| devices.reserve_constraint(*request).is_ok();
+    assert!(requests.iter().all(&mut reserve));
+    let (_, bytes) = peak_of(|| devices.clone());
+    assert!(bytes < 60 * COUNT, "{bytes} bytes");
     // A set and a map have memory for 16 entries, and a list for four devices.
     let (_, bytes) =
         peak_of(|| reserve_and_release(|devices| devices.reserve(1, 1, FirstMatch).is_ok()));

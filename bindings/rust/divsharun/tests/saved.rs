@@ -727,6 +727,11 @@ fn lists_have_any_length() {
     let again: IdAllocator = packed::from_bytes(packed::to_bytes(&ids).unwrap()).unwrap();
     assert_eq!((again.held_count(), again.is_allocated(0)), (1, true));
     assert!(again == ids);
+    let mut devices = DeviceManager::new(0, LONG, 0, 70_000).unwrap();
+    let mut reserve = |_| devices.reserve(1, 1, AllocPolicy::FirstMatch).is_ok();
+    assert!((0..70_000).all(&mut reserve));
+    let again: DeviceManager = packed::from_bytes(packed::to_bytes(&devices).unwrap()).unwrap();
+    assert!(again == devices);
 }
 
 /// Appends the bytes of a balanced tree in which the first of every `stride` addresses are allocated.
@@ -761,10 +766,10 @@ fn costs<T: DeserializeOwned>(bytes: &[u8], is_accepted: bool, most: f64) {
 
 #[test]
 fn hostile_bytes_cost_memory_of_their_length() {
-    // A gap without a node in the saved tree gets one. A node has 30 bytes, and then 56, and the list
-    // of allocated ranges 16 bytes for each, and an eighth more.
+    // A node has 30 bytes. Its range has 16 bytes in a list with an eighth more, and with the gap at most
+    // 22 in the tree.
     let mut bytes = sparse(1 << 16, 2);
-    costs::<AddressAllocator>(&bytes, true, 4.4);
+    costs::<AddressAllocator>(&bytes, true, 1.35);
     bytes.pop();
     costs::<AddressAllocator>(&bytes, false, 0.6);
 
@@ -787,8 +792,9 @@ fn hostile_bytes_cost_memory_of_their_length() {
         bytes.extend((id as u32).to_le_bytes());
         bytes.extend([id.to_le_bytes(); 2].concat());
     }
-    // A device has 50 bytes, and then a node of 56, 24 in each of two lists, and 16 in a map.
-    costs::<DeviceManager>(&bytes, true, 2.5);
+    // A device has 50 bytes, and then 24 in the list that is read, 20 in the lists of the manager, 16 in
+    // its map and at most 18 in the tree.
+    costs::<DeviceManager>(&bytes, true, 1.6);
     bytes.pop();
     costs::<DeviceManager>(&bytes, false, 1.0);
 }

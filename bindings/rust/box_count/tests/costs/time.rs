@@ -7,24 +7,15 @@ use box_count::proved::vm_allocator::IdAllocator;
 use box_count::proved::vm_devices::DeviceManager;
 use box_count::proved::vm_lines::run;
 use box_count::rattle::Global;
+use processor::processor_time;
 use std::hint::black_box;
+
+#[path = "../../../divsharun/tests/processor/mod.rs"]
+mod processor;
 
 const SMALL: u64 = 2_000;
 const GROWTH: u64 = 8;
 const ROUNDS: usize = 3;
-
-/// Returns the processor time of the thread in nanoseconds.
-fn processor_time() -> u64 {
-    const CLOCK_THREAD_CPUTIME_ID: i32 = 3;
-    extern "C" {
-        fn clock_gettime(clock: i32, time: *mut [i64; 2]) -> i32;
-    }
-    let mut time = [0; 2];
-    // SAFETY: a `timespec` of 64-bit Linux is two `i64`.
-    let status = unsafe { clock_gettime(CLOCK_THREAD_CPUTIME_ID, &mut time) };
-    assert_eq!(status, 0);
-    (time[0] * 1_000_000_000 + time[1]) as u64
-}
 
 /// Checks the growth of work on the objects that `make` returns for a number of ids or devices.
 ///

@@ -1,0 +1,132 @@
+//! Guards against a call of a wrapper that goes through all items, although it takes constant or
+//! logarithmic time.
+
+mod processor;
+
+use divsharun::AllocPolicy::{ExactMatch, FirstMatch, LastMatch};
+use divsharun::{AddressAllocator, Constraint, DeviceManager, IdAllocator, RangeInclusive};
+use processor::processor_time;
+
+/// The numbers of items of two objects. A linear call takes a hundred times as long in the second one.
+const COUNTS: [u64; 2] = [300, 30_000];
+const LIMIT: u64 = 20;
+const ROUNDS: usize = 5;
+
+/// Calls of an object at an address or id of one of its items. They change nothing in the end, and
+/// return whether the results were right.
+type Calls<O> = fn(&mut O, u64) -> bool;
+
+/// Every second address is allocated.
+const OF_SPACES: [Calls<AddressAllocator>; 12] = [
+    |space, at| space.held_at(at).is_some() && space.gap_at(at + 1).is_some(),
+    |space, at| space.holds(&one(at)) && !space.holds(&one(at + 1)),
+    |space, _| space.held_count() == space.gap_count() && space.free_len() == space.gap_count(),
+    |space, _| space.longest_gap() == 1 && space.base() < space.end() && space.height() > 1,
+    |space, at| space.conflict(exact(at)).is_some() && space.conflict(exact(at + 1)).is_none(),
+    |space, _| has_ends(space.held_ranges(), |items| items.len() > 1),
+    |space, _| has_ends(space.gaps(), |items| items.len() > 1),
+    |space, at| {
+        has_ends(space.held_ranges_in(&from(at)), |items| {
+            items.size_hint().0 <= 5
+        })
+    },
+    |space, at| has_ends(space.gaps_in(&from(at)), |items| items.size_hint().0 <= 5),
+    |space, _| has_ends(space.layout().blocks(), |items| items.len() > 2),
+    |space, at| {
+        let allocated = [
+            space.allocate(1, 1, ExactMatch(at + 1)),
+            space.allocate_constraint(exact(at + 3)),
+            space.allocate(1, 1, LastMatch),
+            space.allocate(1, 1, FirstMatch),
+        ];
+        allocated.map(|range| space.free(&range.unwrap())) == [Ok(()); 4]
+    },
+    |space, at| {
+        let moved = space.move_range(&one(at), at + 1);
+        space.move_constraint(&moved.unwrap(), exact(at)) == Ok(one(at))
+    },
+];
+
+/// The ids below the last three are allocated.
+const OF_IDS: [Calls<IdAllocator>; 4] = [
+    |ids, at| ids.is_allocated(at as u32) && ids.peek_id().is_ok(),
+    |ids, _| ids.held_count() > ids.free_count() && ids.range_base() < ids.range_end(),
+    |ids, _| has_ends(ids.held_ids(), |items| items.len() > 2),
+    |ids, _| {
+        let last = ids.range_end();
+        let allocated = [
+            ids.allocate_id(),
+            ids.allocate_exact(last - 1),
+            ids.allocate_in(0, last),
+        ];
+        allocated.map(|id| ids.free_id(id.unwrap()).is_ok()) == [true; 3]
+    },
+];
+
+/// Each device has two addresses, and two are free.
+const OF_DEVICES: [Calls<DeviceManager>; 4] = [
+    |devices, at| devices.slot(at as u32).is_some() && devices.device_at(2 * at).is_some(),
+    |devices, at| devices.device_count() > at && devices.conflict(exact(2 * at)).is_some(),
+    |devices, _| has_ends(devices.devices(), |items| items.len() > 2),
+    |devices, _| {
+        let reserved = [
+            devices.reserve(1, 1, FirstMatch),
+            devices.reserve_constraint(Constraint::new(1, 1, LastMatch).unwrap()),
+        ];
+        reserved.map(|device| devices.release(device.unwrap().id)) == [Ok(()); 2]
+    },
+];
+
+fn one(at: u64) -> RangeInclusive {
+    RangeInclusive::new(at, at).unwrap()
+}
+
+fn from(at: u64) -> RangeInclusive {
+    RangeInclusive::new(at, at + 8).unwrap()
+}
+
+fn exact(at: u64) -> Constraint {
+    Constraint::new(1, 1, ExactMatch(at)).unwrap()
+}
+
+/// Returns whether an iterator passes a check, and has a first and a last item.
+fn has_ends<I: DoubleEndedIterator>(mut items: I, check: fn(&I) -> bool) -> bool {
+    check(&items) && items.next().is_some() && items.next_back().is_some()
+}
+
+/// Compares the shortest times of each row in two objects, at many items.
+fn expect_quick<O>(make: impl Fn(u64) -> O, rows: &[Calls<O>], distance: u64) {
+    let mut objects = COUNTS.map(make);
+    for (number, calls) in rows.iter().enumerate() {
+        let mut times = [u64::MAX; 2];
+        for place in [0, 1].repeat(ROUNDS) {
+            let begun = processor_time();
+            for at in (0..50).map(|at| distance * (at * 7919 % (COUNTS[place] - 4))) {
+                assert!(calls(&mut objects[place], at), "row {number}");
+            }
+            times[place] = times[place].min(processor_time() - begun);
+        }
+        assert!(times[1] < LIMIT * times[0], "row {number}: {times:?}");
+    }
+}
+
+#[test]
+fn calls_do_not_go_through_all_items() {
+    let space = |count| {
+        let held: Vec<_> = (0..count).map(|at| one(2 * at)).collect();
+        AddressAllocator::with_held(0, 2 * count, &held).unwrap()
+    };
+    expect_quick(space, &OF_SPACES, 2);
+    let ids = |count| {
+        let held: Vec<_> = (0..count as u32).collect();
+        IdAllocator::with_held(0, count as u32 + 2, &held).unwrap()
+    };
+    expect_quick(ids, &OF_IDS, 1);
+    let devices = |count| {
+        let mut devices = DeviceManager::new(0, u32::MAX, 0, 2 * count + 2).unwrap();
+        let mut reserve = |_| devices.reserve(2, 1, FirstMatch).is_ok();
+        assert!((0..count).all(&mut reserve));
+        devices
+    };
+    expect_quick(devices, &OF_DEVICES, 1);
+}
