@@ -107,20 +107,29 @@ pub extern "C" fn dvs_range_conflict(
     status_of(asked, None)
 }
 
+/// Moves a range by a request. If the range is not allocated, no other one is in the way.
+fn move_by(
+    space: &mut AddressAllocator,
+    range: &RangeInclusive,
+    request: Constraint,
+    wants_details: bool,
+) -> Result<dvs_range, CallError> {
+    let moved = space.move_constraint(Global, range, request);
+    moved.map(Into::into).map_err(|error| {
+        let wants_details = wants_details && space.holds(range);
+        refused(space, request, error, wants_details)
+    })
+}
+
 fn move_to(
     space: &mut AddressAllocator,
     range: dvs_range,
     start: u64,
     wants_details: bool,
 ) -> Result<dvs_range, CallError> {
-    let range: RangeInclusive = range.try_into()?;
-    let moved = space.move_range(Global, &range, start);
-    moved.map(Into::into).map_err(|error| {
-        match Constraint::new(range.len(), 1, AllocPolicy::ExactMatch(start)) {
-            Ok(request) => refused_move(space, &range, request, error, wants_details),
-            Err(_) => error.into(),
-        }
-    })
+    let range = RangeInclusive::try_from(range)?;
+    let request = Constraint::new(range.len(), 1, AllocPolicy::ExactMatch(start))?;
+    move_by(space, &range, request, wants_details)
 }
 
 #[unsafe(no_mangle)]
@@ -132,26 +141,9 @@ pub extern "C" fn dvs_range_move_request(
     refusal: Out<dvs_refusal>,
 ) -> dvs_status {
     let answer = with_request(allocator, request, moved, |allocator, request| {
-        let range = range.try_into()?;
-        let moved = allocator.move_constraint(Global, &range, request);
-        moved
-            .map(Into::into)
-            .map_err(|error| refused_move(allocator, &range, request, error, refusal.is_some()))
+        move_by(allocator, &range.try_into()?, request, refusal.is_some())
     });
     status_of(answer, refusal)
-}
-
-/// Returns the error of a refused move. If the range is not allocated, no other one is in the way.
-#[cold]
-fn refused_move(
-    allocator: &AddressAllocator,
-    range: &RangeInclusive,
-    request: Constraint,
-    error: Error,
-    wants_details: bool,
-) -> CallError {
-    let wants_details = wants_details && allocator.holds(range);
-    refused(allocator, request, error, wants_details)
 }
 
 /// Returns the part of the space that begins at `address`, or one address outside the space if there is
