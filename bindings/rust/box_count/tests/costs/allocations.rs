@@ -2,9 +2,8 @@
 //! The tests of `divsharun` count those of all calls.
 //!
 //! A tree has a box for each leaf of up to 32 blocks, and one for each inner node.
-use crate::objects::{damaged, freed_ids, ids, manager, refusing, space, BASE};
-use box_count::proved::vm_allocator::AllocPolicy::ExactMatch;
-use box_count::proved::vm_allocator::{AddressAllocator, Constraint, IdAllocator};
+use crate::objects::{damaged, freed_ids, ids, manager, refusing, space};
+use box_count::proved::vm_allocator::{AddressAllocator, IdAllocator};
 use box_count::proved::vm_devices::DeviceManager;
 use box_count::proved::vm_lines::run;
 use box_count::rattle::Global;
@@ -13,17 +12,10 @@ use std::io::{sink, Write};
 const HELD: u64 = 10_000;
 /// The blocks of the tree of [`space`].
 const BLOCKS: u64 = 2 * HELD;
-/// Its leaves. The last leaf is split when two blocks are added to 32. It keeps 20, and 14 are in a new leaf.
-const LEAVES: u64 = 1 + (BLOCKS - 14) / 20;
 
-/// Returns the number of boxes of a tree with this number of leaves.
-const fn boxes(leaves: u64) -> u64 {
-    leaves + (leaves - 1)
-}
-
-/// Returns the number of boxes of a tree that is built of this number of blocks.
-const fn built(blocks: u64) -> u64 {
-    boxes(blocks.div_ceil(32))
+/// Returns the number of boxes of a tree with this number of blocks in each leaf.
+const fn boxes(of_a_leaf: u64) -> u64 {
+    2 * BLOCKS.div_ceil(of_a_leaf) - 1
 }
 
 /// Checks the number of allocations of a call, and returns its result.
@@ -38,33 +30,20 @@ fn allocations<T>(work: impl FnOnce() -> T) -> u64 {
     refusing(0, work).1
 }
 
-fn request(size: u64, start: u64) -> Constraint {
-    Constraint::new(size, 1, ExactMatch(BASE + start)).unwrap()
-}
-
 #[test]
 fn spaces() {
-    let (mut space, mut other) = (space(HELD), space(HELD));
-    let value = space.to_value(Global).unwrap();
+    let value = space(HELD).to_value(Global).unwrap();
     // The list of the ranges, and their tree.
     let read = || AddressAllocator::from_value(Global, &value);
-    expect("read", 1 + built(BLOCKS), read).unwrap();
+    expect("read", 1 + boxes(32), read).unwrap();
     let repair = || AddressAllocator::from_value_repaired(Global, &value);
-    expect("repaired", 1 + built(BLOCKS), repair).unwrap();
+    expect("repaired", 1 + boxes(32), repair).unwrap();
     // A reader allocates after it has checked the whole value.
     let wrong = damaged(value, "/interval_tree/root/right/height");
     let read = || AddressAllocator::from_value(Global, &wrong);
     expect("refused", 0, read).unwrap_err();
     let repair = || AddressAllocator::from_value_repaired(Global, &wrong);
     expect("not repaired", 0, repair).unwrap_err();
-    // Several ranges in one call: their list, and a leaf and a node for each leaf, which is full after six
-    // splits of its ten gaps.
-    let splits: Vec<_> = (1..HELD).map(|gap| request(1, 16 * gap - 6)).collect();
-    let fillings: Vec<_> = (1..HELD).map(|gap| request(12, 16 * gap - 12)).collect();
-    let allocate = || space.allocate_all(Global, &splits);
-    expect("splits", 1 + 2 * LEAVES, allocate).unwrap();
-    let allocate = || other.allocate_all(Global, &fillings);
-    expect("fillings", 1, allocate).unwrap();
 }
 
 /// Sets, maps and lists have at least 64 entries in a block.
@@ -88,7 +67,7 @@ fn ids_and_devices() {
     // The blocks of two spaces, and the devices, the table of all ids, the starts and the freed ids.
     let value = devices.to_value(Global).unwrap();
     let (read, made) = refusing(0, || DeviceManager::from_value(Global, &value).unwrap());
-    let most = boxes(2 * HELD / 12) + 4 * few;
+    let most = boxes(12) + 4 * few;
     assert!(
         read == devices && made <= most,
         "{made} allocations for devices"
