@@ -25,11 +25,13 @@ def freed(start, size):
 
 def exact(k, source):
     """Returns k ranges of one address each at given starts, all freed in another order."""
-    return [f"space 0 {2 * k}", *(f"exact 1 1 {2 * i}" for i in shuffled(range(k), source)), *(freed(2 * i, 1) for i in shuffled(range(k), source))]
+    return [f"space 0 {2 * k}", *(f"exact 1 1 {2 * i}" for i in shuffled(range(k), source)),
+            *(freed(2 * i, 1) for i in shuffled(range(k), source))]
 
 
 def frag(k, _):
-    """Returns k pages, every second one freed, and then ranges of two pages, which fit only after all gaps. Each is freed at once."""
+    """Returns k pages, every second one freed, and then ranges of two pages, which fit only after all gaps. Each is
+    freed at once."""
     second = range(0, k, 2)
     return [f"space 0 {(k + 2) * PAGE}", *k * [f"first {PAGE} {PAGE}"], *(freed(i * PAGE, PAGE) for i in second),
             *len(second) * [f"first {2 * PAGE} {PAGE}", freed(k * PAGE, 2 * PAGE)]]
@@ -61,12 +63,14 @@ def mixed(k, source):
     another request. The program itself determines the ranges."""
     request = lambda: f"first {2**source.randint(12, 24)} {2**source.randint(12, 24)}"
     asked = [f"space 0 {2 * k * LARGEST}", *(request() for _ in range(k))]
-    results = subprocess.run([PROGRAM], input="\n".join(asked) + "\n", text=True, capture_output=True, check=True).stdout.splitlines()
-    return asked + [f"{held.replace('range', 'free')}\n{request()}" for held in shuffled([line for line in results if line.startswith("range")], source)]
+    done = subprocess.run([PROGRAM], input="\n".join(asked) + "\n", text=True, capture_output=True, check=True)
+    held = [line for line in done.stdout.splitlines() if line.startswith("range")]
+    return asked + [f"{line.replace('range', 'free')}\n{request()}" for line in shuffled(held, source)]
 
 
 def plug(k, source):
-    """Returns k devices of a page each on a manager, and then k times one unplugged and plugged in again. It gets its old id and range."""
+    """Returns k devices of a page each on a manager, and then k times one unplugged and plugged in again. It gets its
+    old id and range."""
     return [f"manager 0 {k - 1} 0 {k * PAGE}", *k * [f"device {PAGE} {PAGE}"],
             *(f"undevice {i}\ndevice {PAGE} {PAGE}" for i in shuffled(range(k), source))]
 
@@ -74,7 +78,8 @@ def plug(k, source):
 def apart(k, source):
     """Returns the same on a space and on ids, with two lines for each line of `plug`."""
     again = f"first {PAGE} {PAGE}\nid"
-    return [f"space 0 {k * PAGE}", f"ids 0 {k - 1}", *k * [again], *(f"{freed(i * PAGE, PAGE)}\nunid {i}\n{again}" for i in shuffled(range(k), source))]
+    return [f"space 0 {k * PAGE}", f"ids 0 {k - 1}", *k * [again],
+            *(f"{freed(i * PAGE, PAGE)}\nunid {i}\n{again}" for i in shuffled(range(k), source))]
 
 
 # `first`, `last` and `fill` free nothing. `few` allocates and frees each of ten ranges. `ids` frees k ids and allocates them again.
@@ -83,7 +88,8 @@ KINDS = {
     "first": lambda k, _: [f"space 0 {2 * k}", *k * ["first 1 1"]],
     "last": lambda k, _: [f"space 0 {2 * k}", *k * ["last 1 1"]],
     "fill": lambda k, _: [f"space 0 {k * PAGE}", *k * [f"first {PAGE} 1"]],
-    "few": lambda k, _: ["space 0 1048576", *10 * ["first 16 16"], *(f"{freed(i * 7 % 10 * 16, 16)}\nfirst 16 16" for i in range(k))],
+    "few": lambda k, _: ["space 0 1048576", *10 * ["first 16 16"],
+                         *(f"{freed(i * 7 % 10 * 16, 16)}\nfirst 16 16" for i in range(k))],
     "ids": lambda k, source: [f"ids 0 {k - 1}", *k * ["id"], *(f"unid {i}\nid" for i in shuffled(range(k), source))],
 }
 
@@ -115,6 +121,6 @@ def instructions(program, lines):
     command, counts = ["valgrind", "--tool=cachegrind", "--cache-sim=no", "--cachegrind-out-file=/dev/null", program], []
     for path in (INPUT, os.devnull):
         with open(path, "rb") as file:
-            text = subprocess.run(command, stdin=file, stdout=subprocess.DEVNULL, stderr=subprocess.PIPE, text=True, check=True).stderr
-        counts.append(int(re.search(r"I *refs: *([\d,]+)", text)[1].replace(",", "")))
+            done = subprocess.run(command, stdin=file, capture_output=True, check=True)
+        counts.append(int(re.search(rb"I *refs: *([\d,]+)", done.stderr)[1].replace(b",", b"")))
     return str(round((counts[0] - counts[1]) / lines))

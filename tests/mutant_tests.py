@@ -28,7 +28,8 @@ COPY, LIBRARY, REFUSED = (os.path.join(SCRATCH, name) for name in ("project", "r
 BOX_COUNT = os.path.join(SCRATCH, "rust", "box_count")
 # A backtrace would take longer than the test.
 ENVIRONMENT = dict(os.environ, CARGO_TARGET_DIR=os.path.join(SCRATCH, "target"), RUST_BACKTRACE="0")
-COUNT = re.search(r" COUNT_ALLOCATION: usize = ([\d_]+);", pathlib.Path(PROJECT, "crates/vm_tests/src/fixtures.rt").read_text("utf-8"))[1]
+FIXTURES = pathlib.Path(PROJECT, "crates/vm_tests/src/fixtures.rt").read_text("utf-8")
+COUNT = re.search(r" COUNT_ALLOCATION: usize = ([\d_]+);", FIXTURES)[1].replace("_", "")
 
 
 def run(*command, **variables):
@@ -57,7 +58,7 @@ def passes(tests, name, how=""):
     command = [tests, "--exact", f"proved::{name}", "--test-threads=1"]
     for number in itertools.count(1):
         pathlib.Path(REFUSED).write_text("", "utf-8")
-        done = run(*command, **{"counted": {"COUNT": COUNT.replace("_", ""), "LD_PRELOAD": LIBRARY},
+        done = run(*command, **{"counted": {"COUNT": COUNT, "LD_PRELOAD": LIBRARY},
                                 "refused": {"REFUSE": str(number), "REFUSED": REFUSED, "LD_PRELOAD": LIBRARY}, "": {}}[how])
         if done.returncode == 101 and "test result: FAILED" in done.stdout or not os.path.getsize(REFUSED):
             return done.returncode == 0 and ("1 passed" in done.stdout or sys.exit(f"there is no test {name}"))
@@ -74,8 +75,10 @@ def is_noticed(check, rest):
 
 def main():
     shutil.copytree(os.path.join(PROJECT, "bindings", "rust"), os.path.dirname(BOX_COUNT), ignore=shutil.ignore_patterns("target"))
-    subprocess.run([os.environ.get("CC", "cc"), "-O2", "-shared", "-fPIC", "-o", LIBRARY, os.path.join(PROJECT, "tests/refuse.c"), "-ldl"], check=True)
-    patches = [os.path.abspath(patch) for patch in sys.argv[3:]] or sorted(glob.glob(os.path.join(PROJECT, "tests/mutants/*.patch")))
+    folder = os.path.join(PROJECT, "tests")
+    cc = [os.environ.get("CC", "cc"), "-O2", "-shared", "-fPIC"]
+    subprocess.run([*cc, "-o", LIBRARY, os.path.join(folder, "refuse.c"), "-ldl"], check=True)
+    patches = [os.path.abspath(patch) for patch in sys.argv[3:]] or sorted(glob.glob(os.path.join(folder, "mutants/*.patch")))
     checks = {patch: pathlib.Path(patch).read_text("utf-8").split("\n")[1].split(": ", 1) for patch in patches}
     mutants.copy_sources(PROJECT, COPY)
     tests = program()
