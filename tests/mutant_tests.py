@@ -1,90 +1,95 @@
 #!/usr/bin/env python3
-"""Applies the mutants of tests/test_mutants, and runs the test that must notice each.
+"""Applies the patches of tests/mutants, and runs the check that must notice each.
 
-    mutant_tests.py PROJECT SCRATCH
+    mutant_tests.py PROJECT SCRATCH [PATCH ..]
 
-A copy of the sources is erased with its tests and built in SCRATCH. The exit status is 1 if a test fails
-without its mutant, or passes with it."""
+No clause excludes these mutants. The first line of a patch names the change, and the second one the check:
+
+    count_rule: TEXT     tests/count_rule or error_rule, with a part of its output. The mutant of error_rule compiles
+    test: NAME[, RUN]    a test, with its crate, as plain Rust in SCRATCH. RUN is `counted` (its allocations are
+                         counted) or `refused` (each allocation fails in turn)
+
+The exit status is 1 if a check does not notice a mutant, or if a test fails without one."""
+import glob
 import itertools
 import json
 import os
 import pathlib
 import re
+import shutil
 import subprocess
 import sys
 
 import mutants
-from mutants import erase
 
-BUILD = ("cargo", "test", "--no-run", "--lib", "--profile=dev", "--config=profile.dev.debug=0", "-q", "--offline", "--message-format=json")
-# The exit status of a failed test, and a part of its output. A process that is ended has neither.
-FAILED, FAILED_TEXT = 101, "test result: FAILED"
+TOP = os.path.dirname(os.path.dirname(os.path.abspath(__file__)))
+PROJECT, SCRATCH = (os.path.abspath(argument) for argument in sys.argv[1:3])
+COPY, LIBRARY, REFUSED = (os.path.join(SCRATCH, name) for name in ("project", "refuse.so", "refused"))
+BOX_COUNT = os.path.join(SCRATCH, "rust", "box_count")
+# A backtrace would take longer than the test.
+ENVIRONMENT = dict(os.environ, CARGO_TARGET_DIR=os.path.join(SCRATCH, "target"), RUST_BACKTRACE="0")
+FIXTURES = pathlib.Path(PROJECT, "crates/vm_tests/src/fixtures.rt").read_text("utf-8")
+COUNT = re.search(r" COUNT_ALLOCATION: usize = ([\d_]+);", FIXTURES)[1].replace("_", "")
 
 
-class Runner:
-    """Builds a project with a mutant, and runs its tests."""
+def run(*command, **variables):
+    return subprocess.run(command, cwd=BOX_COUNT, env={**ENVIRONMENT, **variables}, text=True, capture_output=True, check=False)
 
-    def __init__(self, project, scratch):
-        self.project, self.scratch = project, scratch
-        self.workspace = mutants.copy_workspace(project, os.path.join(scratch, "bindings"))
-        self.library = mutants.refusing_library(project, scratch)
-        fixtures = pathlib.Path(project, "crates", "vm_tests", "src", "fixtures.rt").read_text(encoding="utf-8")
-        self.count_allocation = re.search(r"COUNT_ALLOCATION: usize = ([\d_]+);", fixtures)[1].replace("_", "")
 
-    def program(self, mutant):
-        """Returns the program of all tests with a mutant applied."""
-        copy = os.path.join(self.scratch, "project")
-        mutants.apply(mutant, self.project, copy)
-        erase.erase(copy, os.path.join(self.workspace, mutants.PROVED), True)
-        done = subprocess.run(BUILD, cwd=os.path.join(self.workspace, "box_count"), text=True, capture_output=True,
-                              env=dict(os.environ, CARGO_TARGET_DIR=os.path.join(self.scratch, "target")), check=False)
-        if done.returncode != 0:
-            sys.exit(f"{mutant.name} is not built:\n{done.stderr[-2000:]}")
-        messages = [json.loads(line) for line in done.stdout.split("\n") if line.startswith("{")]
-        return next(message["executable"] for message in messages if message.get("executable"))
+def built(*command):
+    """Erases the copy of the sources, and returns the output of a command of cargo."""
+    for words in ([os.path.join(TOP, "bindings/erase/erase.py"), COPY, "src/proved", "--tests"],
+                  ["cargo", *command, "--lib", "-q", "--offline", "--message-format=json"]):
+        done = run(*words)
+        if done.returncode:
+            sys.exit(f"not built:\n{(done.stdout + done.stderr)[-2000:]}")
+    return done.stdout
 
-    def passes(self, program, test, how):
-        """Returns `true` if a test passes, if it is run in a certain way."""
-        if how == "refused":
-            return self.passes_when_refused(program, test)
-        ways = {"counted": {"COUNT": self.count_allocation, "LD_PRELOAD": self.library}}
-        done = self.ran(program, test, ways.get(how, {}))
-        if done.returncode == 0 and "1 passed" not in done.stdout:
-            sys.exit(f"there is no test {test}")
-        return done.returncode == 0
 
-    def passes_when_refused(self, program, test):
-        """Returns `true` if a test passes with each allocation failing in turn, up to a run without a failed
-        allocation. Only a failed test counts, because Rust's test harness ends the process if one of its
-        own allocations fails."""
-        told = os.path.join(self.scratch, "refused")
-        for number in itertools.count(1):
-            open(told, "w", encoding="utf-8").close()
-            done = self.ran(program, test, {"REFUSE": str(number), "REFUSED": told, "LD_PRELOAD": self.library})
-            if done.returncode == FAILED and FAILED_TEXT in done.stdout:
-                return False
-            if os.path.getsize(told) == 0:
-                return done.returncode == 0
+def program():
+    """Returns the program of all tests."""
+    lines = built("test", "--no-run", "--profile=dev", "--config=profile.dev.debug=0").splitlines()
+    return next(message["executable"] for message in map(json.loads, lines) if message.get("executable"))
 
-    @staticmethod
-    def ran(program, test, variables):
-        """Runs a test. A backtrace would take longer than the test."""
-        return subprocess.run([program, "--exact", f"proved::{test}", "--test-threads=1"], text=True, capture_output=True,
-                              env={**os.environ, "RUST_BACKTRACE": "0", **variables}, check=False)
+
+def passes(tests, name, how=""):
+    """Returns `true` if a test passes, if it is run in a certain way. `refused` ends with a run without a failed allocation.
+    There only a failed test counts, because Rust's test harness ends the process if one of its own allocations fails."""
+    command = [tests, "--exact", f"proved::{name}", "--test-threads=1"]
+    for number in itertools.count(1):
+        pathlib.Path(REFUSED).write_text("", "utf-8")
+        done = run(*command, **{"counted": {"COUNT": COUNT, "LD_PRELOAD": LIBRARY},
+                                "refused": {"REFUSE": str(number), "REFUSED": REFUSED, "LD_PRELOAD": LIBRARY}, "": {}}[how])
+        if done.returncode == 101 and "test result: FAILED" in done.stdout or not os.path.getsize(REFUSED):
+            return done.returncode == 0 and ("1 passed" in done.stdout or sys.exit(f"there is no test {name}"))
+
+
+def is_noticed(check, rest):
+    if check == "test":
+        return not passes(program(), *rest.split(", "))
+    if check == "error_rule":
+        built("check")
+    done = run(os.path.join(TOP, "tests", check), COPY)
+    return done.returncode == 1 and rest in done.stdout + done.stderr
 
 
 def main():
-    if len(sys.argv) != 3:
-        sys.exit(__doc__)
-    runner = Runner(*map(os.path.abspath, sys.argv[1:]))
-    tried = mutants.read(os.path.join(runner.project, "tests", "test_mutants"))
-    program = runner.program(mutants.NOTHING)
-    checks = {(mutant.rest["test"], mutant.rest.get("run")) for mutant in tried}
-    wrong = [f"{test} fails without a mutant" for test, how in sorted(checks, key=str) if not runner.passes(program, test, how)]
-    for mutant in tried:
-        if runner.passes(runner.program(mutant), mutant.rest["test"], mutant.rest.get("run")):
-            wrong.append(f"{mutant.name} passes: {mutant.rest['test']}")
-    print("\n".join([*wrong, f"{len(tried)} mutants of tests, {len(wrong)} faults"]))
+    shutil.copytree(os.path.join(PROJECT, "bindings", "rust"), os.path.dirname(BOX_COUNT), ignore=shutil.ignore_patterns("target"))
+    folder = os.path.join(PROJECT, "tests")
+    cc = [os.environ.get("CC", "cc"), "-O2", "-shared", "-fPIC"]
+    subprocess.run([*cc, "-o", LIBRARY, os.path.join(folder, "refuse.c"), "-ldl"], check=True)
+    patches = [os.path.abspath(patch) for patch in sys.argv[3:]] or sorted(glob.glob(os.path.join(folder, "mutants/*.patch")))
+    checks = {patch: pathlib.Path(patch).read_text("utf-8").split("\n")[1].split(": ", 1) for patch in patches}
+    mutants.copy_sources(PROJECT, COPY)
+    tests = program()
+    wrong = [f"{rest} fails without a mutant" for check, rest in sorted(map(tuple, checks.values()))
+             if check == "test" and not passes(tests, *rest.split(", "))]
+    for patch, (check, rest) in checks.items():
+        mutants.copy_sources(PROJECT, COPY)
+        subprocess.run(["git", "apply", patch], cwd=COPY, check=True)
+        if not is_noticed(check, rest):
+            wrong.append(f"{patch} is not noticed")
+    print(*wrong, f"{len(patches)} mutants, {len(wrong)} faults", sep="\n")
     sys.exit(len(wrong) > 0)
 
 

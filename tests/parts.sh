@@ -3,7 +3,9 @@
 # at the top of the repository. Each part is named when it begins, and finish_parts prints the time of each.
 # Output that only matters if a part fails goes to the folder $scratch.
 scratch=$(mktemp -d) || exit 1
-trap 'rm -rf "$scratch"' EXIT
+trap 'kill -- "${beside[@]/#/-}" 2> "$log"; rm -rf "$scratch"' EXIT
+# Parts that run at the same time: the group of processes of each command that was begun.
+declare -A beside=()
 log=$scratch/log times=$scratch/times passed_parts=0 failed_parts=()
 
 # Sets the parts that a check runs. Unknown options print its head.
@@ -34,6 +36,17 @@ part() { # name, command ..
 
 quietly() { # command ..: shows the end of its output if it fails
     "$@" > "$log" 2>&1 || { tail -n 60 "$log"; return 1; }
+}
+
+begin() { setsid "$@" > "$scratch/${1##*/}" 2>&1 & beside[$*]=$!; } # command ..: starts it, and does not wait
+
+ended() { # command ..: runs it, or waits for it if it was begun, and shows its output
+    local status=0
+    [ -n "${beside[$*]-}" ] || { "$@"; return; }
+    wait "${beside[$*]}" || status=$?
+    unset "beside[$*]"
+    cat "$scratch/${1##*/}"
+    return "$status"
 }
 
 in_folder() { (cd "$1" && shift && "$@"); } # folder, command ..

@@ -12,14 +12,14 @@ use std::{collections, format};
 
 #[test]
 fn boxes() {
-    let (refused, _) = refusing(1, || Box::new(Global, 7));
-    assert!(matches!(&refused, Err(AllocFailed(7))));
-    let text = refused.err().map(|error| error.to_string());
-    assert_eq!(text.as_deref(), Some("an allocation failed"));
-    assert_eq!(AllocError.to_string(), "an allocation failed");
+    let refused = refusing(1, || Box::new(Global, 7)).0.err().unwrap();
+    let texts = [refused.to_string(), AllocError.to_string()];
+    assert_eq!(
+        (refused.0, texts),
+        (7, ["an allocation failed"; 2].map(str::to_string))
+    );
     let before = blocks();
-    let (made, requests) = refusing(0, || Box::new(Global, 7));
-    let mut boxed = made.expect("memory is there");
+    let (mut boxed, requests) = refusing(0, || Box::new(Global, 7).unwrap());
     *boxed += 1;
     assert_eq!((*boxed, requests, blocks()), (8, 1, before + 1));
     drop(boxed);
@@ -69,53 +69,6 @@ const ORDERS: [fn(u64, u64, u64) -> u64; 4] = [
     |_, step, keys| step * (keys / 2 + 1) % keys,
 ];
 
-/// Compares maps with those of Rust while they grow and while they shrink.
-#[test]
-fn maps() {
-    let before = blocks();
-    for (keys, order) in [8, 500, 20_000]
-        .into_iter()
-        .flat_map(|keys| ORDERS.map(|order| (keys, order)))
-    {
-        let (mut map, mut rust) = (BTreeMap::new(Global), collections::BTreeMap::new());
-        let (mut draw, mut failures) = (1u64, 0);
-        for step in 0..3 * keys {
-            draw = draw * 75 % 65_537;
-            let key = order(draw, step, keys);
-            if step < 2 * keys && step % 4 != 3 {
-                let length = map.len();
-                let insert = || match map.insert(key, step) {
-                    Ok(previous) => Ok(previous),
-                    Err(AllocFailed(entry)) => Err((entry, map.len(), map.get(&key).copied())),
-                };
-                let (previous, failed) = until_allowed(insert, |(entry, len, value)| {
-                    assert_eq!((entry, len, value), ((key, step), length, None));
-                });
-                failures += failed;
-                assert_eq!(previous, rust.insert(key, step));
-            } else {
-                let (removed, made) = refusing(1, || map.remove(&key));
-                assert_eq!((removed, made), (rust.remove(&key), 0));
-            }
-            assert_eq!(map.get(&key), rust.get(&key));
-            assert_eq!(map.len(), rust.len());
-            if step % (keys / 4) == 0 {
-                assert!(map.iter().eq(rust.iter()));
-                assert_eq!(format!("{map:?}"), format!("{rust:?}"));
-                let (mut clone, _) = until_allowed(|| map.clone(), |_| {});
-                assert!(clone == map);
-                // The clone has the capacity that `remove` needs.
-                while let Some(key) = clone.iter().next().map(|entry| *entry.0) {
-                    let removed = refusing(1, || clone.remove(&key));
-                    assert_eq!(removed, (map.get(&key).copied(), 0));
-                }
-            }
-        }
-        assert!(failures > 0);
-    }
-    assert_eq!(blocks(), before);
-}
-
 /// Takes items from both ends, in random order, from an iterator and from one of Rust.
 fn expect_same_ends<I: PartialEq + Debug>(
     mut items: impl DoubleEndedIterator<Item = I> + Clone,
@@ -139,34 +92,61 @@ fn expect_same_ends<I: PartialEq + Debug>(
     assert_eq!((items.next(), items.next_back()), (None, None));
 }
 
+/// Compares maps and sets with those of Rust while they grow and while they shrink.
 #[test]
-fn sets() {
-    for keys in [8u32, 500, 20_000] {
-        let (mut set, mut rust) = (BTreeSet::new(Global), collections::BTreeSet::new());
-        let mut draw = 1;
+fn maps_and_sets() {
+    let before = blocks();
+    let sizes = [8, 500, 20_000].into_iter();
+    for (keys, order) in sizes.flat_map(|keys| ORDERS.map(|order| (keys, order))) {
+        let (mut map, mut set) = (BTreeMap::new(Global), BTreeSet::new(Global));
+        let (mut rust, mut values) = (collections::BTreeMap::new(), collections::BTreeSet::new());
+        let (mut draw, mut failures) = (1, 0);
         for step in 0..3 * keys {
             draw = draw * 75 % 65_537;
-            let value = draw % keys;
+            let key = order(draw, step, keys);
             if step < 2 * keys && step % 4 != 3 {
-                let failed = |AllocFailed(back)| assert_eq!(back, value);
-                let is_new = until_allowed(|| set.insert(value), failed).0;
-                assert_eq!(is_new, rust.insert(value));
+                let old = (map.len(), map.get(&key).copied());
+                let insert = || match map.insert(key, step) {
+                    Ok(previous) => Ok(previous),
+                    Err(AllocFailed(entry)) => Err((entry, (map.len(), map.get(&key).copied()))),
+                };
+                let failed = |left| assert_eq!(left, ((key, step), old));
+                let (previous, times) = until_allowed(insert, failed);
+                assert_eq!(previous, rust.insert(key, step));
+                let failed = |AllocFailed(back)| assert_eq!(back, key);
+                let is_new = until_allowed(|| set.insert(key), failed).0;
+                assert_eq!(is_new, values.insert(key));
+                failures += times;
             } else if step % 8 == 7 {
-                assert_eq!(refusing(1, || set.remove(&value)), (rust.remove(&value), 0));
+                let removed = refusing(1, || (map.remove(&key), set.remove(&key)));
+                assert_eq!(removed, ((rust.remove(&key), values.remove(&key)), 0));
             } else {
-                assert_eq!(refusing(1, || set.pop_first()), (rust.pop_first(), 0));
+                let (lowest, made) = refusing(1, || set.pop_first());
+                assert_eq!((lowest, made), (values.pop_first(), 0));
+                let remove = || lowest.and_then(|key| map.remove(&key));
+                let wanted = lowest.and_then(|key| rust.remove(&key));
+                assert_eq!(refusing(1, remove), (wanted, 0));
             }
-            assert_eq!((set.len(), set.first()), (rust.len(), rust.first()));
-            assert_eq!(set.contains(&value), rust.contains(&value));
-            let range = value..=value + 9;
-            assert!(set.range(range.clone()).eq(rust.range(range)));
+            assert_eq!((map.get(&key), map.len()), (rust.get(&key), rust.len()));
+            assert_eq!((set.len(), set.first()), (values.len(), values.first()));
+            assert_eq!(set.contains(&key), values.contains(&key));
+            let range = key..=key + 9;
+            assert!(set.range(range.clone()).eq(values.range(range)));
             if step % (keys / 4) == 0 {
-                expect_same_ends(set.iter(), rust.iter(), u64::from(draw));
+                assert!(map.iter().eq(rust.iter()));
+                assert_eq!(format!("{map:?}{set:?}"), format!("{rust:?}{values:?}"));
+                expect_same_ends(set.iter(), values.iter(), draw);
+                let (mut copy, _) = until_allowed(|| set.clone(), |_| {});
+                assert!(copy == set && map.clone().is_ok_and(|copy| copy == map));
+                // The clone has the capacity that `remove` needs.
+                for value in set.iter() {
+                    assert_eq!(refusing(1, || copy.remove(value)), (true, 0));
+                }
             }
         }
-        assert!(set.iter().eq(rust.iter()) && set.clone().is_ok_and(|clone| clone == set));
-        assert_eq!(format!("{set:?}"), format!("{rust:?}"));
+        assert!(failures > 0);
     }
+    assert_eq!(blocks(), before);
 }
 
 /// Checks the memory of sets: chunks are full if values come in order, and a quarter full at least. A

@@ -1,7 +1,7 @@
 //! Guards against a change that updates nodes far from its block, and a walk that goes on after it could
 //! stop: the boxes that it follows in addition to the nodes that it enters do not grow with the tree.
 use crate::objects::{boxes, range};
-use box_count::proved::vm_allocator::AllocPolicy::ExactMatch;
+use box_count::proved::vm_allocator::AllocPolicy::{ExactMatch, FirstMatch, LastMatch};
 use box_count::proved::vm_allocator::{AddressAllocator, Conflict, Constraint, RangeInclusive};
 use box_count::rattle::Global;
 use std::fmt::Debug;
@@ -18,6 +18,8 @@ enum Change {
     Allocate(u64, u64),
     /// Frees the range of 17 addresses that starts at this distance.
     Free(u64),
+    /// Changes nothing: at this distance, a range is too long to free, and 15 addresses are allocated in part.
+    Refused(u64),
 }
 
 use Change::*;
@@ -32,7 +34,7 @@ const REFRESHED: u64 = 1;
 /// the number of additional boxes at each level.
 ///
 /// A leaf starts at the middle, with the gap at 1 or the range at 16. Each leaf is full.
-const CHANGES: [(bool, u64, &[Change]); 10] = [
+const CHANGES: [(bool, u64, &[Change]); 11] = [
     (false, 0, &[Allocate(33, 15)]),
     (false, 0, &[Allocate(1, 15)]),
     (false, MENDED, &[Allocate(41, 7)]),
@@ -42,6 +44,7 @@ const CHANGES: [(bool, u64, &[Change]); 10] = [
     (false, 0, &[Free(176), Free(48)]),
     (true, REFRESHED, &[Free(16)]),
     (true, 0, &[Free(176), Free(48)]),
+    (false, 0, &[Refused(16)]),
     (false, REFRESHED, &emptied()),
 ];
 
@@ -87,6 +90,19 @@ fn additional_boxes(space: &mut AddressAllocator, middle: u64, change: Change) -
         Free(at) => {
             let (answer, nodes) = space.free_counted(&key(at));
             (answer.is_ok(), nodes)
+        }
+        Refused(at) => {
+            let window = range(middle + at, middle + at + 29);
+            let request = |policy| Constraint::new(15, 1, policy).unwrap().within(window);
+            let mut refused = |policy| space.allocate_constraint_counted(Global, request(policy));
+            let [first, last] = [refused(FirstMatch), refused(LastMatch)];
+            let exact = refused(ExactMatch(middle + at));
+            let (freed, nodes) = space.free_counted(&window);
+            let is_refused = [first.0, last.0, exact.0].iter().all(Result::is_err);
+            (
+                is_refused && freed.is_err(),
+                nodes + first.1 + last.1 + exact.1,
+            )
         }
     });
     assert!(succeeds, "{change:?}");
