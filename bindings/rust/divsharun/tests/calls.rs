@@ -13,7 +13,7 @@ use divsharun::{
 };
 use draw::Draw;
 use items::{exact, expect_in_order, expect_items, inexact};
-use model::{refused, Model, Scale, WIDTH};
+use model::{refused, Ids, Model, Scale, WIDTH};
 use std::collections::{BTreeSet, HashSet};
 use std::fmt::Debug;
 
@@ -580,76 +580,45 @@ fn spaces_begin_and_end_anywhere() {
 /// Compares random calls in both forms with a set of allocated ids and the next id.
 #[test]
 fn ids_are_those_of_a_plain_model() {
-    use Error::{AlreadyReleased, InvalidRange, NeverAllocated, OutOfRange, ResourceNotAvailable};
-
     let mut draw = Draw(3);
     for first in [0, 5, u32::MAX - 30] {
         let last = first + 30;
-        let none = [ResourceNotAvailable, Error::Overflow][usize::from(last == u32::MAX)];
         let [mut ids, mut tried] = [(); 2].map(|()| IdAllocator::new(first, last).unwrap());
-        let (mut held, mut next) = (BTreeSet::new(), u64::from(first));
+        let mut model = Ids::new(first, last);
         for _ in 0..2000 {
-            let free = |low: u32, high: u32| -> Vec<u32> {
-                let inside = low.max(first)..=high.min(last);
-                inside.filter(|id| !held.contains(id)).collect()
-            };
-            let lowest = |low, high| free(low, high).first().copied();
-            assert_eq!(ids.peek_id(), lowest(first, last).ok_or(none));
+            assert_eq!(ids.peek_id(), model.peek());
             let mut near = || first.wrapping_add(draw.below(33) as u32).wrapping_sub(1);
             let (id, end) = (near(), near());
-            assert_eq!(ids.is_allocated(id), held.contains(&id));
-            let (answers, want) = match draw.below(8) {
-                0 => (
-                    [ids.allocate_id(), tried.allocate_id()],
-                    lowest(first, last).ok_or(none),
-                ),
-                1 => (
-                    [
-                        ids.allocate_exact(id),
-                        refused(tried.try_allocate_exact(id)),
-                    ],
-                    match (first..=last).contains(&id) {
-                        true => lowest(id, id).ok_or(ResourceNotAvailable),
-                        false => Err(OutOfRange(id)),
-                    },
-                ),
-                2 => (
-                    [
-                        ids.allocate_in(id, end),
-                        refused(tried.try_allocate_in(id, end)),
-                    ],
-                    match id <= end {
-                        true => lowest(id, end).ok_or(ResourceNotAvailable),
-                        false => Err(InvalidRange(id.into(), end.into())),
-                    },
-                ),
+            assert_eq!(ids.is_allocated(id), model.held.contains(&id));
+            let answers = match draw.below(8) {
+                0 => [ids.allocate_id(), tried.allocate_id(), model.allocate()],
+                1 => [
+                    ids.allocate_exact(id),
+                    refused(tried.try_allocate_exact(id)),
+                    model.allocate_exact(id),
+                ],
+                2 => [
+                    ids.allocate_in(id, end),
+                    refused(tried.try_allocate_in(id, end)),
+                    model.allocate_in(id, end),
+                ],
                 3 => {
                     let count = draw.below(4) as usize;
-                    let list = free(first, last);
-                    let list = list.get(..count).map(<[u32]>::to_vec).ok_or(none);
+                    let list = model.allocate_ids(count);
                     assert_eq!(ids.allocate_ids(count), list);
                     assert_eq!(refused(tried.try_allocate_ids(count)), list);
-                    held.extend(list.into_iter().flatten());
-                    next = next.max(held.last().map_or(0, |id| u64::from(*id) + 1));
                     continue;
                 }
-                _ => {
-                    let want = match id {
-                        _ if !(first..=last).contains(&id) => Err(OutOfRange(id)),
-                        _ if u64::from(id) >= next => Err(NeverAllocated(id)),
-                        _ if !held.remove(&id) => Err(AlreadyReleased(id)),
-                        _ => Ok(id),
-                    };
-                    let answers = [ids.free_id(id), refused(tried.try_free_id(id))];
-                    assert_eq!(answers, [want; 2]);
-                    continue;
-                }
+                _ => [
+                    ids.free_id(id),
+                    refused(tried.try_free_id(id)),
+                    model.release(id),
+                ],
             };
-            assert_eq!(answers, [want; 2]);
-            held.extend(want);
-            next = next.max(want.map_or(0, |id| u64::from(id) + 1));
-            assert_eq!((ids.held_count(), &ids), (held.len() as u64, &tried));
-            let list: Vec<_> = held.iter().copied().collect();
+            assert_eq!(answers, [answers[2]; 3]);
+            assert_eq!(ids, tried);
+            let list: Vec<_> = model.held.iter().copied().collect();
+            assert_eq!(ids.held_count(), list.len() as u64);
             expect_items(ids.held_ids(), &list, exact, &mut draw);
             expect_in_order(ids.iter(), &list);
             for same in [
