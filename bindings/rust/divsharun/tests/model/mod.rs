@@ -19,8 +19,19 @@ pub struct Model {
 impl Model {
     /// Creates a space of [`WIDTH`] addresses without allocated ranges.
     pub fn new(base: u64) -> Model {
-        let (width, held) = (WIDTH, Vec::new());
+        Model::wide(base, WIDTH)
+    }
+
+    /// Creates a space of `width` addresses without allocated ranges.
+    pub fn wide(base: u64, width: u64) -> Model {
+        let held = Vec::new();
         Model { base, width, held }
+    }
+
+    /// Adds a range to a sorted list.
+    pub fn hold(&mut self, range: RangeInclusive) {
+        let number = self.held.partition_point(|held| *held < range);
+        self.held.insert(number, range);
     }
 
     /// Returns the gaps, in order.
