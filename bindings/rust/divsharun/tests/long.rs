@@ -67,7 +67,7 @@ fn expect_list<T: Copy + PartialEq + Debug>(
 /// Saves an object in both formats and reads it. Reads damaged copies, which must be refused or read as
 /// an object that is saved and read as well, in memory of the order of their length.
 #[cfg(feature = "serde")]
-fn restore<O>(object: &mut O, damages: u64, draw: &mut Draw)
+fn restore<O>(object: &mut O, draw: &mut Draw)
 where
     O: serde::Serialize + serde::de::DeserializeOwned + PartialEq + Debug,
 {
@@ -75,7 +75,7 @@ where
     let of_bytes = |bytes: &[u8]| packed::from_bytes::<O>(bytes.iter().copied()).ok();
     let text = serde_json::to_vec(object).unwrap();
     let bytes = packed::to_bytes(object).unwrap();
-    for number in 0..damages {
+    for number in 0..16 {
         let is_text = number % 2 == 0;
         let damaged = damaged(if is_text { &text } else { &bytes }, is_text, draw);
         let read = || match is_text {
@@ -135,7 +135,7 @@ fn damaged(saved: &[u8], is_text: bool, draw: &mut Draw) -> Vec<u8> {
 }
 
 #[cfg(not(feature = "serde"))]
-fn restore<O>(_: &mut O, _: u64, _: &mut Draw) {}
+fn restore<O>(_: &mut O, _: &mut Draw) {}
 
 /// Returns a random request near a space. Many name an allocated range or a part of it.
 fn request_near(model: &Model, draw: &mut Draw) -> Constraint {
@@ -174,6 +174,12 @@ fn range_near(model: &Model, draw: &mut Draw) -> RangeInclusive {
     model.held.get(number).copied().unwrap_or(other)
 }
 
+/// Returns an id of a range, or one next to it.
+fn id_near(ids: &Ids, draw: &mut Draw) -> u32 {
+    let place = draw.below(u64::from(ids.last - ids.first) + 3) as u32;
+    (ids.first - 1).wrapping_add(place)
+}
+
 /// An object and its model.
 trait Beside {
     /// Makes a random call that frees, allocates or moves.
@@ -205,9 +211,9 @@ fn run_all(steps: u64, draw: &mut Draw) {
     ] {
         run(Space::new(base, width, scale), steps, draw);
     }
-    for first in [7, u32::MAX - 90] {
-        run(Manager::new(first, draw), steps, draw);
-        run(Numbers::new(first), steps, draw);
+    for (first, last) in [(7, 1206), (u32::MAX - 300, u32::MAX)] {
+        run(Manager::new(first, first + 160), steps, draw);
+        run(Numbers::new(first, last), steps, draw);
     }
 }
 
@@ -394,7 +400,7 @@ impl Beside for Space {
         match draw.below(3) {
             0 => self.space = built.unwrap(),
             1 => self.space = copied.unwrap(),
-            _ => restore(&mut self.space, 16, draw),
+            _ => restore(&mut self.space, draw),
         }
     }
 }
@@ -408,8 +414,8 @@ struct Manager {
 }
 
 impl Manager {
-    fn new(first: u32, draw: &mut Draw) -> Manager {
-        let (last, base, width) = (first + 90, draw.below(9), 300);
+    fn new(first: u32, last: u32) -> Manager {
+        let (base, width) = (9, 600);
         Manager {
             devices: DeviceManager::new(first, last, base, width).unwrap(),
             model: Model::wide(base, width),
@@ -417,16 +423,11 @@ impl Manager {
             slots: BTreeMap::new(),
         }
     }
-
-    /// Returns an id of the range, or one next to it.
-    fn id_near(&self, draw: &mut Draw) -> u32 {
-        (self.ids.first - 1).wrapping_add(draw.below(93) as u32)
-    }
 }
 
 impl Beside for Manager {
     fn change(&mut self, is_freed: bool, draw: &mut Draw) {
-        let (id, request) = (self.id_near(draw), request_near(&self.model, draw));
+        let (id, request) = (id_near(&self.ids, draw), request_near(&self.model, draw));
         let (size, align, policy) = (request.size(), request.align(), request.policy());
         let form = draw.below(4);
         let devices = &mut self.devices;
@@ -463,7 +464,7 @@ impl Beside for Manager {
     }
 
     fn query(&self, draw: &mut Draw) {
-        let (id, request) = (self.id_near(draw), request_near(&self.model, draw));
+        let (id, request) = (id_near(&self.ids, draw), request_near(&self.model, draw));
         assert_eq!(self.devices.slot(id), self.slots.get(&id).copied());
         assert_eq!(self.devices.device_count(), self.slots.len() as u64);
         assert_eq!(self.devices.conflict(request), self.model.conflict(request));
@@ -486,7 +487,7 @@ impl Beside for Manager {
         assert_eq!(copied.as_ref(), Ok(&self.devices));
         match draw.below(2) {
             0 => self.devices = copied.unwrap(),
-            _ => restore(&mut self.devices, 16, draw),
+            _ => restore(&mut self.devices, draw),
         }
     }
 }
@@ -498,26 +499,18 @@ struct Numbers {
 }
 
 impl Numbers {
-    fn new(first: u32) -> Numbers {
+    fn new(first: u32, last: u32) -> Numbers {
         let (ids, model) = (
-            IdAllocator::new(first, first + 90),
-            Ids::new(first, first + 90),
+            IdAllocator::new(first, last).unwrap(),
+            Ids::new(first, last),
         );
-        Numbers {
-            ids: ids.unwrap(),
-            model,
-        }
-    }
-
-    /// Returns an id of the range, or one next to it.
-    fn id_near(&self, draw: &mut Draw) -> u32 {
-        (self.model.first - 1).wrapping_add(draw.below(93) as u32)
+        Numbers { ids, model }
     }
 }
 
 impl Beside for Numbers {
     fn change(&mut self, is_freed: bool, draw: &mut Draw) {
-        let (id, end) = (self.id_near(draw), self.id_near(draw));
+        let (id, end) = (id_near(&self.model, draw), id_near(&self.model, draw));
         let (kind, form) = (draw.below(8), draw.below(2));
         let (ids, model) = (&mut self.ids, &mut self.model);
         let (answer, want) = match (kind, form) {
@@ -551,14 +544,13 @@ impl Beside for Numbers {
     }
 
     fn query(&self, draw: &mut Draw) {
-        let id = self.id_near(draw);
+        let id = id_near(&self.model, draw);
         assert_eq!(self.ids.is_allocated(id), self.model.held.contains(&id));
         assert_eq!(self.ids.peek_id(), self.model.peek());
+        let (first, last) = (self.ids.range_base(), self.ids.range_end());
         let count = self.model.held.len() as u64;
-        assert_eq!(
-            (self.ids.held_count(), self.ids.free_count()),
-            (count, 91 - count)
-        );
+        assert_eq!(self.ids.held_count(), count);
+        assert_eq!(self.ids.free_count(), u64::from(last - first) + 1 - count);
     }
 
     fn compare(&mut self, draw: &mut Draw) {
@@ -573,14 +565,14 @@ impl Beside for Numbers {
         assert_eq!(copied.as_ref(), Ok(&self.ids));
         match draw.below(2) {
             0 => self.ids = copied.unwrap(),
-            _ => restore(&mut self.ids, 16, draw),
+            _ => restore(&mut self.ids, draw),
         }
     }
 }
 
 #[test]
 fn calls_are_those_of_plain_lists() {
-    run_all(30_000, &mut Draw(seed()));
+    run_all(125_000, &mut Draw(seed()));
 }
 
 #[test]
@@ -608,7 +600,11 @@ fn expect_ranges(space: &mut AddressAllocator, held: &[RangeInclusive]) {
     // A leaf has at least 12 blocks, and an AVL tree is at most 1.45 times as high as a full one.
     let leaves = 1 + (held.len() + gaps.len()) / 12;
     assert!(space.height() * 100 <= 145 * u64::from(leaves.ilog2() + 2));
-    restore(space, 2, &mut draw);
+    #[cfg(feature = "serde")]
+    {
+        let bytes = packed::to_bytes(space).unwrap();
+        *space = packed::from_bytes(bytes).unwrap();
+    }
     assert_eq!(*space, built);
 }
 

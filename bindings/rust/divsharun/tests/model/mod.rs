@@ -167,8 +167,9 @@ impl Ids {
 
     /// Returns the free ids from `low` to `high`, in order.
     fn free(&self, low: u32, high: u32) -> impl Iterator<Item = u32> + '_ {
-        let inside = low.max(self.first)..=high.min(self.last);
-        inside.filter(|id| !self.held.contains(id))
+        let (low, high) = (low.max(self.first), high.min(self.last));
+        let mut held = self.held.range(low..).peekable();
+        (low..=high).filter(move |id| held.next_if_eq(&id).is_none())
     }
 
     fn take(&mut self, id: u32) -> u32 {
