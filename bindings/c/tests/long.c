@@ -1,7 +1,7 @@
 /*
  * Guards against a fault that only many calls reach, such as one of a tree with many leaves.
  * Random calls of every kind are compared with arrays, and large spaces are filled and
- * emptied in hard orders.
+ * emptied in hard orders. The seed is new unless it is given. The printed command repeats a run.
  *
  *     long [SEED [STEPS [RANGES]]]
  */
@@ -10,7 +10,7 @@
 #include <time.h>
 
 /* The objects have the addresses starting at BASE, and the ids starting at FIRST_ID. */
-enum { BASE = 0x1000, WIDTH = 600, FIRST_ID = 7, ALL_IDS = 90 };
+enum { BASE = 0x1000, WIDTH = 600, FIRST_ID = 7, ALL_IDS = 1200 };
 #define TOP_ID UINT32_MAX
 
 /* The state of an object. */
@@ -213,7 +213,7 @@ static void change_space(void *object, struct model *model, bool is_freed) {
 }
 
 /* The ranges that a visit meets, or the ids and devices, as ranges. */
-static dvs_range met[WIDTH];
+static dvs_range met[ALL_IDS];
 static size_t count_met;
 
 static int meet_range(void *context, dvs_range range) {
@@ -667,14 +667,15 @@ static void fill_and_empty(int order) {
 }
 
 int main(int argc, char **argv) {
-    const uint64_t steps = argc > 2 ? strtoull(argv[2], NULL, 10) : 3000;
+    unsigned long steps = argc > 2 ? strtoul(argv[2], NULL, 10) : 3000;
     int i;
 
-    seed = argc > 1 ? strtoull(argv[1], NULL, 10) : (uint64_t)time(NULL);
-    count = argc > 3 ? strtoull(argv[3], NULL, 10) : 2000;
+    seed = argc > 1 ? strtoul(argv[1], NULL, 10) : (unsigned long)time(NULL);
+    count = argc > 3 ? strtoul(argv[3], NULL, 10) : 2000;
     many = (bool *)calloc(count, 1);
     CHECK(many != NULL);
-    printf("long: seed %lu\n", (unsigned long)seed);
+    printf("long %lu %lu %lu\n", (unsigned long)seed, steps, (unsigned long)count);
+    fflush(stdout);
     for (i = 0; i < 3; i++) {
         run(i, steps);
         fill_and_empty(i);
