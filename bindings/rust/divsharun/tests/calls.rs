@@ -13,7 +13,7 @@ use divsharun::{
 };
 use draw::Draw;
 use items::{exact, expect_in_order, expect_items, inexact};
-use model::{refused, Ids, Model, Scale, WIDTH};
+use model::{refused, Model, Scale, WIDTH};
 use std::collections::{BTreeSet, HashSet};
 use std::fmt::Debug;
 
@@ -247,75 +247,6 @@ fn expect_conflicts(space: &AddressAllocator, model: &Model, scale: Scale) {
             assert_eq!(conflict_in(below), conflict);
         }
     }
-}
-
-/// Returns the next part of a space. The scale multiplies its length.
-fn next_part(next: &mut u64, Scale(scale): Scale, draw: &mut Draw) -> RangeInclusive {
-    let len = (1 + draw.below(4)) << scale;
-    let part = RangeInclusive::from_start_len(*next, len).unwrap();
-    *next = part.end() + 1;
-    part
-}
-
-/// Compares spaces of random free ranges with those of their holes. Some ranges have no hole between
-/// them.
-#[test]
-fn holes_between_free_ranges_are_allocated() {
-    let mut draw = Draw(11);
-    for _ in 0..2_000 {
-        let (mut free, mut holes) = (Vec::new(), Vec::new());
-        let base = draw.below(1 << 16) << 46;
-        let scale = Scale(draw.below(2) as u32 * 57);
-        let mut next = base;
-        for number in 0..=draw.below(12) {
-            if number > 0 && draw.below(3) > 0 {
-                holes.push(next_part(&mut next, scale, &mut draw));
-            }
-            free.push(next_part(&mut next, scale, &mut draw));
-        }
-        let space = AddressAllocator::with_free(&free);
-        let same = AddressAllocator::with_held(base, next - base, &holes);
-        assert_eq!(space, same);
-        assert_eq!(AddressAllocator::try_with_free(&free).ok(), space.ok());
-    }
-    let last = RangeInclusive::new(u64::MAX, u64::MAX).unwrap();
-    let space = AddressAllocator::with_free(&[last]);
-    assert!(space.is_ok_and(|space| space.gaps().eq([last])));
-}
-
-/// Makes lists of random requests in one call. If the model has no place for one of them, nothing
-/// is allocated.
-#[test]
-fn requests_are_allocated_together_or_not_at_all() {
-    let mut draw = Draw(5);
-    let mut refused = 0;
-    for _ in 0..2_000 {
-        let mut model = Model::new(BASE);
-        let mut space = AddressAllocator::new(BASE, WIDTH).unwrap();
-        let mut requests = Vec::new();
-        let mut fits = true;
-        for _ in 0..draw.below(20) {
-            let (size, align) = (1 + draw.below(6), 1 << draw.below(3));
-            let at = BASE + draw.below(WIDTH);
-            let policy = match draw.below(8) {
-                0 => AllocPolicy::ExactMatch(at - at % align),
-                1 => AllocPolicy::LastMatch,
-                _ => AllocPolicy::FirstMatch,
-            };
-            let request = Constraint::new(size, align, policy).unwrap();
-            requests.push(request);
-            let range = model.allocate(request).ok().filter(|_| fits);
-            fits = range.is_some();
-            model.held.extend(range);
-        }
-        let mut held = if fits { model.held } else { Vec::new() };
-        let answer = space.allocate_all(&requests);
-        assert_eq!(answer.as_ref().ok(), Some(&held).filter(|_| fits));
-        refused += u64::from(!fits);
-        held.sort();
-        assert!(space.held_ranges().eq(held));
-    }
-    assert!((200..1_800).contains(&refused), "{refused} lists fail");
 }
 
 /// Checks each error of `with_held`, `with_free` and `allocate_all` in both forms.
@@ -574,61 +505,6 @@ fn spaces_begin_and_end_anywhere() {
             let or_try_error = DeviceManager::try_new(first, last, base, size);
             assert_eq!(or_try_error, made.map_err(TryError::Refused));
         }
-    }
-}
-
-/// Compares random calls in both forms with a set of allocated ids and the next id.
-#[test]
-fn ids_are_those_of_a_plain_model() {
-    let mut draw = Draw(3);
-    for first in [0, 5, u32::MAX - 30] {
-        let last = first + 30;
-        let [mut ids, mut tried] = [(); 2].map(|()| IdAllocator::new(first, last).unwrap());
-        let mut model = Ids::new(first, last);
-        for _ in 0..2000 {
-            assert_eq!(ids.peek_id(), model.peek());
-            let mut near = || first.wrapping_add(draw.below(33) as u32).wrapping_sub(1);
-            let (id, end) = (near(), near());
-            assert_eq!(ids.is_allocated(id), model.held.contains(&id));
-            let answers = match draw.below(8) {
-                0 => [ids.allocate_id(), tried.allocate_id(), model.allocate()],
-                1 => [
-                    ids.allocate_exact(id),
-                    refused(tried.try_allocate_exact(id)),
-                    model.allocate_exact(id),
-                ],
-                2 => [
-                    ids.allocate_in(id, end),
-                    refused(tried.try_allocate_in(id, end)),
-                    model.allocate_in(id, end),
-                ],
-                3 => {
-                    let count = draw.below(4) as usize;
-                    let list = model.allocate_ids(count);
-                    assert_eq!(ids.allocate_ids(count), list);
-                    assert_eq!(refused(tried.try_allocate_ids(count)), list);
-                    continue;
-                }
-                _ => [
-                    ids.free_id(id),
-                    refused(tried.try_free_id(id)),
-                    model.release(id),
-                ],
-            };
-            assert_eq!(answers, [answers[2]; 3]);
-            assert_eq!(ids, tried);
-            let list: Vec<_> = model.held.iter().copied().collect();
-            assert_eq!(ids.held_count(), list.len() as u64);
-            expect_items(ids.held_ids(), &list, exact, &mut draw);
-            expect_in_order(ids.iter(), &list);
-            for same in [
-                IdAllocator::with_held(first, last, &list),
-                refused(IdAllocator::try_with_held(first, last, &list)),
-            ] {
-                assert!(same.unwrap().held_ids().eq(list.iter().copied()));
-            }
-        }
-        assert_eq!((ids.range_base(), ids.range_end()), (first, last));
     }
 }
 

@@ -85,11 +85,12 @@ where
         let (read, peak) = refusing::peak_of(read);
         assert!(peak <= 4 * damaged.len() + 4096, "{peak} bytes");
         if let Some(read) = read {
+            let text = serde_json::to_vec(&read).unwrap();
+            let bytes = packed::to_bytes(&read).unwrap();
             assert_eq!(
-                of_text(&serde_json::to_vec(&read).unwrap()).as_ref(),
-                Some(&read)
+                (of_text(&text), of_bytes(&bytes)),
+                (of_bytes(&bytes), Some(read))
             );
-            assert_eq!(of_bytes(&packed::to_bytes(&read).unwrap()), Some(read));
         }
     }
     let again = [of_text(&text), of_bytes(&bytes)].map(Option::unwrap);
@@ -100,33 +101,23 @@ where
 /// Cuts, repeats or replaces a part of a saved object.
 #[cfg(feature = "serde")]
 fn damaged(saved: &[u8], is_text: bool, draw: &mut Draw) -> Vec<u8> {
-    const PIECES: [&str; 12] = [
-        "",
-        "0",
-        "7",
-        "1",
-        "null",
-        "{}",
-        "]",
-        "\"",
-        "18446744073709551615",
-        "Free",
-        "1e999",
-        "-1",
-    ];
+    const PIECES: &str = "|0|7|1|null|{}|]|\"|18446744073709551615|Free|1e999|-1";
     let first = draw.below(saved.len() as u64) as usize;
-    let mut last = saved
-        .len()
-        .min(first + [0, 1, 1, 8, 40][draw.below(5) as usize]);
+    let length = [0, 1, 1, 8, 40][draw.below(5) as usize];
+    let mut last = saved.len().min(first + length);
     let mut piece = saved[first..last].repeat(draw.below(3) as usize);
     if is_text && saved[first].is_ascii_digit() {
-        let digits = saved[first..]
-            .iter()
-            .take_while(|byte| byte.is_ascii_digit());
-        last = first + digits.count();
+        let digits = saved[first..].split(|byte| !byte.is_ascii_digit());
+        last = first + digits.map(<[u8]>::len).next().unwrap();
     }
     match draw.below(8) {
-        0..4 if is_text => piece = PIECES[draw.below(12) as usize].into(),
+        0..4 if is_text => {
+            piece = PIECES
+                .split('|')
+                .nth(draw.below(12) as usize)
+                .unwrap()
+                .into()
+        }
         4 if is_text => piece = vec![b'9'; 400],
         0..3 => piece = vec![draw.below(3) as u8 * 127; last - first],
         _ => {}
@@ -142,7 +133,9 @@ fn request_near(model: &Model, draw: &mut Draw) -> Constraint {
     let lowest = model.base.saturating_sub(3);
     let near = |draw: &mut Draw| lowest.saturating_add(draw.below(model.width + 6));
     let most = [3, 3, 3, 9, 9, model.width][draw.below(6) as usize];
-    let (mut size, mut align) = (1 + draw.below(most), 1 << draw.below(8).saturating_sub(5));
+    let bits = [3, 3, 3, 3, 8][draw.below(5) as usize];
+    let mut align = 1 << draw.below(bits);
+    let mut size = 1 + draw.below(most);
     let policy = match draw.below(8) {
         0..3 => FirstMatch,
         3..6 => LastMatch,
@@ -208,6 +201,7 @@ fn run_all(steps: u64, draw: &mut Draw) {
         (1000, 500, Scale(0)),
         (u64::MAX - 799, 800, Scale(0)),
         (5, 300, Scale(50)),
+        (40, 64, Scale(56)),
     ] {
         run(Space::new(base, width, scale), steps, draw);
     }
