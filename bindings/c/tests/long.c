@@ -5,7 +5,9 @@
  *
  *     long [SEED [STEPS [RANGES]]]
  */
+#define _POSIX_C_SOURCE 200809L
 #include "every_call.h"
+#include "refuse.h"
 
 #include <time.h>
 
@@ -34,6 +36,17 @@ static uint64_t drawn(uint64_t below) {
     seed = seed * 6364136223846793005u + 1442695040888963407u;
     return (seed >> 33) % below;
 }
+
+/* Fails one allocation of the next call, in some cases. */
+static void refuse_one(void) {
+    until_refused = drawn(8) == 0 ? 1 + drawn(3) : 0;
+}
+
+/* Makes a call, and makes it again if memory ran out. */
+static dvs_status last_status;
+#define AGAIN(call)                                                                                \
+    (refuse_one(), last_status = (call), until_refused = 0,                                        \
+     last_status == DVS_OUT_OF_MEMORY ? (prepare(), (call)) : last_status)
 
 /* Allocates or frees a range of the model. */
 static void put(struct model *model, uint64_t start, uint64_t size, bool is_taken) {
@@ -133,8 +146,8 @@ static void allocate_several(dvs_address_allocator *space, struct model *model) 
             break;
         put(&changed, outcome.range.start, requests[i].size, true);
     }
-    CHECK(dvs_address_allocator_allocate_all(space, requests, count, ranges, &failed, NULL) ==
-          expected);
+    CHECK(AGAIN(dvs_address_allocator_allocate_all(space, requests, count, ranges, &failed,
+                                                   NULL)) == expected);
     CHECK(failed == i);
     for (j = 0; j < count && expected == DVS_OK; j++)
         CHECK(is_held(&changed, ranges[j]));
@@ -143,16 +156,16 @@ static void allocate_several(dvs_address_allocator *space, struct model *model) 
 }
 
 static dvs_status allocate(dvs_address_allocator *space, const dvs_request *request) {
+    const uint64_t size = request->size, alignment = request->alignment;
     dvs_range *to = &results.device.range;
 
-    prepare();
-    if (request->window != NULL || drawn(2) == 0)
+    if (request->window != NULL)
         return dvs_range_allocate(space, request, to, &refusal);
     if (request->policy == DVS_EXACT)
-        return dvs_range_allocate_exact(space, request->size, request->alignment, request->start,
-                                        to, &refusal);
-    return (request->policy == DVS_FIRST ? dvs_range_allocate_first : dvs_range_allocate_last)(
-        space, request->size, request->alignment, to, &refusal);
+        return dvs_range_allocate_exact(space, size, alignment, request->start, to, &refusal);
+    if (request->policy == DVS_FIRST)
+        return dvs_range_allocate_first(space, size, alignment, to, &refusal);
+    return dvs_range_allocate_last(space, size, alignment, to, &refusal);
 }
 
 static void move(dvs_address_allocator *space, struct model *model, dvs_request *request) {
@@ -177,10 +190,11 @@ static void move(dvs_address_allocator *space, struct model *model, dvs_request 
         outcome = stays;
     }
     prepare();
-    CHECK(has_outcome(
-        &outcome,
-        is_plain ? dvs_range_move(space, from, request->start, &results.device.range, &refusal)
-                 : dvs_range_move_request(space, from, request, &results.device.range, &refusal)));
+    CHECK(has_outcome(&outcome,
+                      AGAIN(is_plain ? dvs_range_move(space, from, request->start,
+                                                      &results.device.range, &refusal)
+                                     : dvs_range_move_request(space, from, request,
+                                                              &results.device.range, &refusal))));
     if (outcome.status == DVS_OK) {
         put(model, from.start, size, false);
         put(model, outcome.range.start, request->size, true);
@@ -206,7 +220,8 @@ static void change_space(void *object, struct model *model, bool is_freed) {
         allocate_several(space, model);
     } else {
         outcome = searched(model, &request);
-        CHECK(has_outcome(&outcome, allocate(space, &request)));
+        prepare();
+        CHECK(has_outcome(&outcome, AGAIN(allocate(space, &request))));
         if (outcome.status == DVS_OK)
             put(model, outcome.range.start, request.size, true);
     }
@@ -347,7 +362,8 @@ static void allocate_ids(dvs_id_allocator *ids, struct model *model) {
 
     for (i = 0; i < count && (expected[i] = lowest_id(&changed, 0, TOP_ID)) > 0; i++)
         take_id(&changed, expected[i]);
-    CHECK(dvs_ids_allocate(ids, list, count) == (i == count ? DVS_OK : DVS_RESOURCE_NOT_AVAILABLE));
+    CHECK(AGAIN(dvs_ids_allocate(ids, list, count)) ==
+          (i == count ? DVS_OK : DVS_RESOURCE_NOT_AVAILABLE));
     CHECK(i < count || memcmp(list, expected, count * sizeof *list) == 0);
     if (i == count)
         *model = changed;
@@ -364,18 +380,18 @@ static void change_ids(void *object, struct model *model, bool is_freed) {
     dvs_status status;
 
     if (is_freed) {
-        CHECK(dvs_id_free(ids, id, NULL) == (is_id_held(model, id) ? DVS_OK
-                                             : !is_id(id)          ? DVS_OUT_OF_RANGE
-                                             : id < model->next    ? DVS_ALREADY_RELEASED
-                                                                   : DVS_NEVER_ALLOCATED));
+        CHECK(AGAIN(dvs_id_free(ids, id, NULL)) == (is_id_held(model, id) ? DVS_OK
+                                                    : !is_id(id)          ? DVS_OUT_OF_RANGE
+                                                    : id < model->next    ? DVS_ALREADY_RELEASED
+                                                                          : DVS_NEVER_ALLOCATED));
         if (is_id(id))
             model->held[id - FIRST_ID] = false;
     } else if (kind == 2) {
         allocate_ids(ids, model);
     } else {
-        status = kind == 0   ? dvs_id_allocate_exact(ids, id, NULL)
-                 : kind == 1 ? dvs_id_allocate_in(ids, id, last, &to, NULL)
-                             : dvs_id_allocate(ids, &to);
+        status = AGAIN(kind == 0   ? dvs_id_allocate_exact(ids, id, NULL)
+                       : kind == 1 ? dvs_id_allocate_in(ids, id, last, &to, NULL)
+                                   : dvs_id_allocate(ids, &to));
         CHECK(status == (lowest > 0                ? DVS_OK
                          : kind == 0 && !is_id(id) ? DVS_OUT_OF_RANGE
                          : kind == 1 && last < id  ? DVS_INVALID_RANGE
@@ -422,6 +438,19 @@ static void compare_ids(const void *object, const struct model *model) {
 
 /* ---- Devices ---- */
 
+static dvs_status reserve(dvs_device_manager *manager, const dvs_request *request) {
+    const uint64_t size = request->size, alignment = request->alignment;
+    dvs_device *to = &results.device;
+
+    if (request->window != NULL)
+        return dvs_device_reserve(manager, request, to, &refusal);
+    if (request->policy == DVS_EXACT)
+        return dvs_device_reserve_exact(manager, size, alignment, request->start, to, &refusal);
+    if (request->policy == DVS_FIRST)
+        return dvs_device_reserve_first(manager, size, alignment, to, &refusal);
+    return dvs_device_reserve_last(manager, size, alignment, to, &refusal);
+}
+
 static void change_devices(void *object, struct model *model, bool is_freed) {
     dvs_device_manager *manager = (dvs_device_manager *)object;
     const uint32_t id = random_id(), lowest = lowest_id(model, 0, TOP_ID);
@@ -430,7 +459,7 @@ static void change_devices(void *object, struct model *model, bool is_freed) {
     struct outcome outcome = NO_PLACE;
 
     if (is_freed) {
-        CHECK(dvs_device_release(manager, id, NULL) ==
+        CHECK(AGAIN(dvs_device_release(manager, id, NULL)) ==
               (is_id_held(model, id) ? DVS_OK : DVS_NEVER_ALLOCATED));
         if (is_id_held(model, id)) {
             const uint64_t start = model->starts[id - FIRST_ID];
@@ -445,12 +474,7 @@ static void change_devices(void *object, struct model *model, bool is_freed) {
     if (outcome.status == DVS_OK)
         outcome.id = lowest;
     prepare();
-    CHECK(has_outcome(
-        &outcome,
-        request.window != NULL || request.policy == DVS_EXACT
-            ? dvs_device_reserve(manager, &request, &results.device, &refusal)
-            : (request.policy == DVS_FIRST ? dvs_device_reserve_first : dvs_device_reserve_last)(
-                  manager, request.size, request.alignment, &results.device, &refusal)));
+    CHECK(has_outcome(&outcome, AGAIN(reserve(manager, &request))));
     if (outcome.status == DVS_OK) {
         take_id(model, lowest);
         put(model, outcome.range.start, request.size, true);
