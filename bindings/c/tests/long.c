@@ -127,6 +127,16 @@ static bool is_held(const struct model *model, dvs_range range) {
     return model->sizes[range.start - BASE] == range.end - range.start + 1;
 }
 
+/* Allocates or reserves by a request, or by its numbers if it has no window. `first` and `whole`
+ * are calls of every_call.h. */
+static dvs_status allocate(int first, int whole, void *object, const dvs_request *request) {
+    const uint64_t numbers[] = {request->size, request->alignment, request->start, 0};
+    const bool is_whole = request->window != NULL || drawn(2) == 0;
+
+    given.request = request;
+    return make_call(is_whole ? whole : first + (int)request->policy, object, numbers);
+}
+
 /* ---- Spaces ---- */
 
 static void allocate_several(dvs_address_allocator *space, struct model *model) {
@@ -153,19 +163,6 @@ static void allocate_several(dvs_address_allocator *space, struct model *model) 
         CHECK(is_held(&changed, ranges[j]));
     if (expected == DVS_OK)
         *model = changed;
-}
-
-static dvs_status allocate(dvs_address_allocator *space, const dvs_request *request) {
-    const uint64_t size = request->size, alignment = request->alignment;
-    dvs_range *to = &results.device.range;
-
-    if (request->window != NULL)
-        return dvs_range_allocate(space, request, to, &refusal);
-    if (request->policy == DVS_EXACT)
-        return dvs_range_allocate_exact(space, size, alignment, request->start, to, &refusal);
-    if (request->policy == DVS_FIRST)
-        return dvs_range_allocate_first(space, size, alignment, to, &refusal);
-    return dvs_range_allocate_last(space, size, alignment, to, &refusal);
 }
 
 static void move(dvs_address_allocator *space, struct model *model, dvs_request *request) {
@@ -198,32 +195,6 @@ static void move(dvs_address_allocator *space, struct model *model, dvs_request 
     if (outcome.status == DVS_OK) {
         put(model, from.start, size, false);
         put(model, outcome.range.start, request->size, true);
-    }
-}
-
-static void change_space(void *object, struct model *model, bool is_freed) {
-    dvs_address_allocator *space = (dvs_address_allocator *)object;
-    const dvs_range range = random_range(model);
-    dvs_range window;
-    dvs_request request = random_request(&window);
-    const uint64_t kind = drawn(8);
-    struct outcome outcome;
-
-    if (is_freed) {
-        CHECK(dvs_range_free(space, range, NULL) ==
-              (is_held(model, range) ? DVS_OK : DVS_RESOURCE_NOT_AVAILABLE));
-        if (is_held(model, range))
-            put(model, range.start, range.end - range.start + 1, false);
-    } else if (kind == 0) {
-        move(space, model, &request);
-    } else if (kind == 1) {
-        allocate_several(space, model);
-    } else {
-        outcome = searched(model, &request);
-        prepare();
-        CHECK(has_outcome(&outcome, AGAIN(allocate(space, &request))));
-        if (outcome.status == DVS_OK)
-            put(model, outcome.range.start, request.size, true);
     }
 }
 
@@ -266,8 +237,7 @@ static void check_met(const struct model *model, bool are_gaps, uint64_t first, 
     count_met = 0;
 }
 
-static void query_space(const void *object, const struct model *model) {
-    const dvs_address_allocator *space = (const dvs_address_allocator *)object;
+static void query_space(const dvs_address_allocator *space, const struct model *model) {
     const dvs_range range = random_range(model);
     dvs_range window, at;
     dvs_request request = random_request(&window);
@@ -289,6 +259,33 @@ static void query_space(const void *object, const struct model *model) {
     check_met(model, false, window.start, window.end, false);
     CHECK(dvs_gap_visit_in(space, window, meet_range, NULL, NULL) == DVS_OK);
     check_met(model, true, window.start, window.end, false);
+}
+
+static void change_space(void *object, struct model *model, bool is_freed) {
+    dvs_address_allocator *space = (dvs_address_allocator *)object;
+    const dvs_range range = random_range(model);
+    dvs_range window;
+    dvs_request request = random_request(&window);
+    const uint64_t kind = drawn(8);
+    struct outcome outcome;
+
+    if (is_freed) {
+        CHECK(dvs_range_free(space, range, NULL) ==
+              (is_held(model, range) ? DVS_OK : DVS_RESOURCE_NOT_AVAILABLE));
+        if (is_held(model, range))
+            put(model, range.start, range.end - range.start + 1, false);
+    } else if (kind == 0) {
+        move(space, model, &request);
+    } else if (kind == 1) {
+        allocate_several(space, model);
+    } else {
+        outcome = searched(model, &request);
+        prepare();
+        CHECK(has_outcome(&outcome, AGAIN(allocate(FIRST, REQUEST, space, &request))));
+        if (outcome.status == DVS_OK)
+            put(model, outcome.range.start, request.size, true);
+    }
+    query_space(space, model);
 }
 
 static void compare_space(const void *object, const struct model *model) {
@@ -402,17 +399,6 @@ static void change_ids(void *object, struct model *model, bool is_freed) {
     }
 }
 
-static void query_ids(const void *object, const struct model *model) {
-    const dvs_id_allocator *ids = (const dvs_id_allocator *)object;
-    const uint32_t id = random_id(), lowest = lowest_id(model, 0, TOP_ID);
-    uint32_t next = 0;
-    bool is_allocated = false;
-
-    CHECK(dvs_id_is_allocated(ids, id, &is_allocated) == DVS_OK);
-    CHECK(is_allocated == is_id_held(model, id));
-    CHECK((dvs_id_peek(ids, &next) == DVS_OK) == (lowest > 0) && next == lowest);
-}
-
 /* Checks that the last visit met each allocated id, with the start of its device. */
 static void check_ids(const struct model *model, bool are_devices) {
     size_t number = 0;
@@ -428,28 +414,23 @@ static void check_ids(const struct model *model, bool are_devices) {
 
 static void compare_ids(const void *object, const struct model *model) {
     const dvs_id_allocator *ids = (const dvs_id_allocator *)object;
+    const uint32_t lowest = lowest_id(model, 0, TOP_ID);
     uint64_t held, left;
+    uint32_t id, next = 0;
+    bool is_allocated = false;
 
     CHECK(dvs_id_visit(ids, meet_id, NULL) == DVS_OK);
     CHECK(dvs_id_count(ids, &held) == DVS_OK && held == count_met);
     CHECK(dvs_id_free_count(ids, &left) == DVS_OK && left == ALL_IDS - held);
     check_ids(model, false);
+    CHECK((dvs_id_peek(ids, &next) == DVS_OK) == (lowest > 0) && next == lowest);
+    for (id = FIRST_ID - 1; id <= FIRST_ID + ALL_IDS; id++) {
+        CHECK(dvs_id_is_allocated(ids, id, &is_allocated) == DVS_OK);
+        CHECK(is_allocated == is_id_held(model, id));
+    }
 }
 
 /* ---- Devices ---- */
-
-static dvs_status reserve(dvs_device_manager *manager, const dvs_request *request) {
-    const uint64_t size = request->size, alignment = request->alignment;
-    dvs_device *to = &results.device;
-
-    if (request->window != NULL)
-        return dvs_device_reserve(manager, request, to, &refusal);
-    if (request->policy == DVS_EXACT)
-        return dvs_device_reserve_exact(manager, size, alignment, request->start, to, &refusal);
-    if (request->policy == DVS_FIRST)
-        return dvs_device_reserve_first(manager, size, alignment, to, &refusal);
-    return dvs_device_reserve_last(manager, size, alignment, to, &refusal);
-}
 
 static void change_devices(void *object, struct model *model, bool is_freed) {
     dvs_device_manager *manager = (dvs_device_manager *)object;
@@ -474,7 +455,7 @@ static void change_devices(void *object, struct model *model, bool is_freed) {
     if (outcome.status == DVS_OK)
         outcome.id = lowest;
     prepare();
-    CHECK(has_outcome(&outcome, AGAIN(reserve(manager, &request))));
+    CHECK(has_outcome(&outcome, AGAIN(allocate(RESERVE_FIRST, RESERVE, manager, &request))));
     if (outcome.status == DVS_OK) {
         take_id(model, lowest);
         put(model, outcome.range.start, request.size, true);
@@ -482,29 +463,23 @@ static void change_devices(void *object, struct model *model, bool is_freed) {
     }
 }
 
-static void query_devices(const void *object, const struct model *model) {
-    const dvs_device_manager *manager = (const dvs_device_manager *)object;
-    const uint32_t id = random_id();
-    const dvs_range key = random_range(model);
-    dvs_device device;
-    dvs_range range;
-
-    CHECK((dvs_device_slot(manager, id, &range, NULL) == DVS_OK) == is_id_held(model, id));
-    CHECK(!is_id_held(model, id) ||
-          (range.start == model->starts[id - FIRST_ID] && is_held(model, range)));
-    CHECK((dvs_device_at(manager, key.end, &device) == DVS_OK) == model->taken[key.end - BASE]);
-    CHECK(!model->taken[key.end - BASE] ||
-          (model->starts[device.id - FIRST_ID] == device.range.start &&
-           is_held(model, device.range) && device.range.start <= key.end));
-}
-
 static void compare_devices(const void *object, const struct model *model) {
     const dvs_device_manager *manager = (const dvs_device_manager *)object;
     uint64_t held;
+    uint32_t id;
+    dvs_device device;
+    dvs_range range;
 
     CHECK(dvs_device_visit(manager, meet_device, NULL) == DVS_OK);
     CHECK(dvs_device_count(manager, &held) == DVS_OK && held == count_met);
     check_ids(model, true);
+    for (id = FIRST_ID - 1; id <= FIRST_ID + ALL_IDS; id++) {
+        CHECK((dvs_device_slot(manager, id, &range, NULL) == DVS_OK) == is_id_held(model, id));
+        if (is_id_held(model, id)) {
+            CHECK(range.start == model->starts[id - FIRST_ID] && is_held(model, range));
+            CHECK(dvs_device_at(manager, range.end, &device) == DVS_OK && device.id == id);
+        }
+    }
 }
 
 /* ---- Saved objects ---- */
@@ -589,13 +564,9 @@ static void *restored(int group, void *object) {
 
 static const struct {
     void (*change)(void *object, struct model *model, bool is_freed);
-    void (*query)(const void *object, const struct model *model);
     void (*compare)(const void *object, const struct model *model);
 } kinds[] = {
-    {change_space, query_space, compare_space},
-    {change_ids, query_ids, compare_ids},
-    {change_devices, query_devices, compare_devices},
-};
+    {change_space, compare_space}, {change_ids, compare_ids}, {change_devices, compare_devices}};
 
 /* Makes random calls on an object. Their share that frees changes, so that it becomes full and
  * empty. */
@@ -615,7 +586,6 @@ static void run(int group, uint64_t steps) {
     object = created(group);
     for (step = 0; step < steps; step++) {
         kinds[group].change(object, &model, drawn(16) < shares[step / 2000 % 5]);
-        kinds[group].query(object, &model);
         if (step % 400 > 0)
             continue;
         kinds[group].compare(object, &model);
