@@ -83,7 +83,7 @@ where
             false => of_bytes(&damaged),
         };
         let (read, peak) = refusing::peak_of(read);
-        assert!(peak <= 4 * damaged.len() + 4096, "{peak} bytes");
+        assert!(peak <= 6 * damaged.len() + 8192, "{peak} bytes");
         if let Some(read) = read {
             let text = serde_json::to_vec(&read).unwrap();
             let bytes = packed::to_bytes(&read).unwrap();
