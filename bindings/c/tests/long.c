@@ -141,10 +141,10 @@ static dvs_status allocate(int first, int whole, void *object, const dvs_request
 
 static void allocate_several(dvs_address_allocator *space, struct model *model) {
     struct model changed = *model;
-    dvs_range windows[4], ranges[4];
-    dvs_request requests[4];
+    dvs_range windows[16], ranges[16];
+    dvs_request requests[16];
     dvs_status expected = DVS_OK;
-    size_t count = drawn(5), failed = 9, i, j;
+    size_t count = drawn(17), failed = 99, i, j;
 
     for (i = 0; i < count; i++)
         requests[i] = random_request(&windows[i]);

@@ -186,7 +186,7 @@ trait Beside {
 /// Makes random calls. Their share that frees changes, so that the object becomes full and empty.
 fn run(mut object: impl Beside, steps: u64, draw: &mut Draw) {
     for step in 0..steps {
-        let share = [3, 8, 11, 6, 14][(step / 900 % 5) as usize];
+        let share = [3, 8, 11, 6, 15][(step / 2000 % 5) as usize];
         object.change(draw.below(16) < share, draw);
         object.query(draw);
         if step % 300 == 0 {
@@ -239,7 +239,7 @@ impl Space {
     /// Allocates several ranges or none.
     fn allocate_list(&mut self, draw: &mut Draw) {
         let (scale, mut model) = (self.scale, self.model.clone());
-        let count = draw.below(5);
+        let count = draw.below(16);
         let requests: Vec<_> = (0..count).map(|_| request_near(&model, draw)).collect();
         let want = requests.iter().enumerate().map(|(index, request)| {
             let range = model.allocate(*request);
