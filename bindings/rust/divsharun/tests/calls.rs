@@ -509,6 +509,14 @@ fn spaces_begin_and_end_anywhere() {
 }
 
 #[test]
+fn held_ids_are_taken_from_both_ends() {
+    let held: Vec<_> = (0..600).filter(|id| id % 7 > 2).collect();
+    let ids = IdAllocator::with_held(0, 900, &held).unwrap();
+    expect_items(ids.held_ids(), &held, exact, &mut Draw(3));
+    expect_in_order(ids.iter(), &held);
+}
+
+#[test]
 fn ids_can_be_looked_at() {
     let mut ids = IdAllocator::new(5, 7).unwrap();
     for id in 5..=7 {

@@ -58,7 +58,9 @@ const OF_SPACES: [Calls<AddressAllocator>; 15] = [
                 .within(from(at))
                 .unwrap()
         };
+        let lowest = Constraint::new(1, 1, FirstMatch).unwrap();
         let allocated = [
+            space.allocate_all(&[exact(at + 3)]).unwrap()[0],
             space.try_allocate(1, 1, LastMatch).unwrap(),
             space.try_allocate_constraint(near(LastMatch)).unwrap(),
             space.allocate_counted(1, 1, FirstMatch).0.unwrap(),
@@ -66,8 +68,7 @@ const OF_SPACES: [Calls<AddressAllocator>; 15] = [
                 .allocate_constraint_counted(near(FirstMatch))
                 .0
                 .unwrap(),
-            space.allocate_all(&[exact(at + 3)]).unwrap()[0],
-            space.try_allocate_all(&[near(FirstMatch)]).unwrap()[0],
+            space.try_allocate_all(&[lowest]).unwrap()[0],
         ];
         allocated.map(|range| space.free_counted(&range).0) == [Ok(()); 6]
     },
@@ -111,10 +112,10 @@ const OF_FREED_IDS: [Calls<IdAllocator>; 2] = [
         let allocated = [
             ids.allocate_exact(at + 1),
             ids.allocate_in(at, at + 4),
-            ids.allocate_id(),
-            ids.allocate_ids(1).map(|ids| ids[0]),
             ids.try_allocate_exact(at + 5).map_err(|_| Error::Overflow),
             ids.try_allocate_in(at, at + 8).map_err(|_| Error::Overflow),
+            ids.allocate_id(),
+            ids.allocate_ids(1).map(|ids| ids[0]),
         ];
         allocated.map(|id| ids.try_free_id(id.unwrap()).is_ok()) == [true; 6]
     },
