@@ -8,7 +8,7 @@
 
 #include <pthread.h>
 
-enum { THREADS = 8, ROUNDS = 40, VISITS = 200000, HELD = 64 };
+enum { OWNERS = 64, OWN_ROUNDS = 5, THREADS = 8, ROUNDS = 40, VISITS = 200000, HELD = 64 };
 enum { SMALL_STACK = 64 * 1024, LEVELS = 50 };
 
 SAVED(saved_space, dvs_address_allocator)
@@ -71,7 +71,7 @@ static void *use_own(void *context) {
     CHECK(dvs_address_allocator_new(base, 16 * HELD, &space) == DVS_OK);
     CHECK(dvs_id_allocator_new(0, HELD, &ids, NULL) == DVS_OK);
     CHECK(dvs_device_manager_new(0, HELD, base, HELD, &manager, NULL) == DVS_OK);
-    for (i = 0; i < ROUNDS; i++) {
+    for (i = 0; i < OWN_ROUNDS; i++) {
         fill_and_empty(space, base);
         fill_ids(ids);
         plug_devices(manager);
@@ -83,15 +83,15 @@ static void *use_own(void *context) {
 }
 
 static void use_own_objects(void) {
-    pthread_t threads[THREADS];
-    uint64_t bases[THREADS];
+    pthread_t threads[OWNERS];
+    uint64_t bases[OWNERS];
     size_t i;
 
-    for (i = 0; i < THREADS; i++) {
+    for (i = 0; i < OWNERS; i++) {
         bases[i] = 4096 * i;
         run(&threads[i], NULL, use_own, &bases[i]);
     }
-    join_all(threads, THREADS);
+    join_all(threads, OWNERS);
 }
 
 /* ---- An object passed from thread to thread ---- */

@@ -1,6 +1,5 @@
 /*
- * Guards against a request whose window is lost or converted wrongly, by tables, and by
- * random requests that are compared with a search of all addresses.
+ * Guards against a request whose window is lost or converted wrongly, by tables.
  */
 #include "outcome.h"
 
@@ -468,130 +467,9 @@ static void request_in_windows(void) {
     check_without_ids(7, ROWS(without_id));
 }
 
-/* ---- Random requests ---- */
-
-/* The space has the 64 addresses starting at BASE. */
-enum { BASE = 0x1000, STEPS = 20000 };
-
-/* A bit for each allocated address, and the size of the range that starts at each address, or 0. */
-static uint64_t bits, sizes[64];
-
-static uint64_t drawn(uint64_t below) {
-    static uint64_t seed = 1;
-
-    seed = seed * 6364136223846793005u + 1442695040888963407u;
-    return (seed >> 33) % below;
-}
-
-static uint64_t bits_of(uint64_t start, uint64_t size) {
-    return (((uint64_t)1 << size) - 1) << start;
-}
-
-/* Returns the outcome of a request that has no place, for the range that it names. */
-static struct outcome blocked(const dvs_request *request, dvs_range window) {
-    struct outcome found = NO_PLACE;
-    uint64_t at = 0;
-
-    found.range = range_of(request->start, request->start + request->size - 1);
-    if (sizes[request->start - BASE] == request->size && window.start <= request->start &&
-        request->start <= window.end) {
-        found.status = DVS_INVALID_STATE_TRANSITION;
-    } else if (found.range.end > BASE + 63) {
-        found.cause = DVS_CAUSE_OUTSIDE_SPACE;
-        found.other = range_of(BASE, BASE + 63);
-    } else if (found.range.start < window.start || window.end < found.range.end) {
-        found.cause = DVS_CAUSE_OUTSIDE_WINDOW;
-        found.other = window;
-    } else {
-        while (sizes[at] == 0 || BASE + at + sizes[at] <= found.range.start)
-            at++;
-        found.cause = DVS_CAUSE_ALLOCATED;
-        found.other = range_of(BASE + at, BASE + at + sizes[at] - 1);
-    }
-    return found;
-}
-
-static struct outcome searched(const dvs_request *request, dvs_range window) {
-    struct outcome found = NO_PLACE;
-    uint64_t start;
-
-    for (start = 0; start + request->size <= 64; start++) {
-        const struct outcome place = GETS(BASE + start, BASE + start + request->size - 1);
-
-        if (start % request->alignment == 0 && (bits & bits_of(start, request->size)) == 0 &&
-            window.start <= place.range.start && place.range.end <= window.end &&
-            (request->policy != DVS_EXACT || place.range.start == request->start) &&
-            (found.status != DVS_OK || request->policy == DVS_LAST))
-            found = place;
-    }
-    return found.status != DVS_OK && request->policy == DVS_EXACT ? blocked(request, window)
-                                                                  : found;
-}
-
-static bool is_for(const dvs_request *request, dvs_range window, dvs_range range) {
-    return request->policy == DVS_EXACT && request->start == range.start &&
-           request->size == range.end - range.start + 1 && window.start <= range.start &&
-           range.end <= window.end;
-}
-
-/* Allocates a range or moves one, and frees one. */
-static void request_at_random(void) {
-    dvs_address_allocator *space;
-    dvs_range window, *to = &results.device.range;
-    dvs_request request = {0, 0, 0, 0, &window};
-    uint64_t start, counts[STATUSES] = {0}, moved_ranges = 0;
-    int i;
-
-    CHECK(dvs_address_allocator_new(BASE, 64, &space) == DVS_OK);
-    for (i = 0; i < STEPS; i++) {
-        const uint64_t from = drawn(64);
-        const dvs_range moved = range_of(BASE + from, BASE + from + sizes[from] - 1);
-        const struct outcome stays = GETS(moved.start, moved.end);
-        const bool is_move = sizes[from] > 0;
-        struct outcome outcome;
-        dvs_status status;
-
-        window.start = BASE - 8 + drawn(80);
-        window.end = window.start + drawn(40);
-        request.size = 1 + drawn(8);
-        request.alignment = (uint64_t)1 << drawn(3);
-        request.start = BASE + (drawn(64) & ~(request.alignment - 1));
-        request.policy = (uint32_t)drawn(3);
-        outcome = searched(&request, window);
-        check_conflict(&request, &outcome, range_of(BASE, BASE + 63), space, NULL);
-        if (is_move && is_for(&request, window, moved))
-            outcome = stays;
-        counts[outcome.status]++;
-        prepare();
-        status = is_move ? dvs_range_move_request(space, moved, &request, to, &refusal)
-                         : dvs_range_allocate(space, &request, to, &refusal);
-        CHECK(has_outcome(&outcome, status));
-        if (status == DVS_OK && is_move) {
-            bits &= ~bits_of(from, sizes[from]);
-            sizes[from] = 0;
-            moved_ranges++;
-        }
-        if (status == DVS_OK) {
-            bits |= bits_of(outcome.range.start - BASE, request.size);
-            sizes[outcome.range.start - BASE] = request.size;
-        }
-        start = drawn(64);
-        if (sizes[start] == 0)
-            continue;
-        CHECK(dvs_range_free(space, range_of(BASE + start, BASE + start + sizes[start] - 1),
-                             NULL) == DVS_OK);
-        bits &= ~bits_of(start, sizes[start]);
-        sizes[start] = 0;
-    }
-    CHECK(counts[DVS_OK] > STEPS / 8 && counts[DVS_INVALID_STATE_TRANSITION] > 0);
-    CHECK(moved_ranges > STEPS / 32);
-    dvs_address_allocator_destroy(space);
-}
-
 int main(void) {
     request_in_windows();
     move_in_windows();
-    request_at_random();
-    puts("windows: requests in tables and at random checked");
+    puts("windows: requests in tables checked");
     return 0;
 }

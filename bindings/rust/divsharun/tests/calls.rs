@@ -249,75 +249,6 @@ fn expect_conflicts(space: &AddressAllocator, model: &Model, scale: Scale) {
     }
 }
 
-/// Returns the next part of a space. The scale multiplies its length.
-fn next_part(next: &mut u64, Scale(scale): Scale, draw: &mut Draw) -> RangeInclusive {
-    let len = (1 + draw.below(4)) << scale;
-    let part = RangeInclusive::from_start_len(*next, len).unwrap();
-    *next = part.end() + 1;
-    part
-}
-
-/// Compares spaces of random free ranges with those of their holes. Some ranges have no hole between
-/// them.
-#[test]
-fn holes_between_free_ranges_are_allocated() {
-    let mut draw = Draw(11);
-    for _ in 0..2_000 {
-        let (mut free, mut holes) = (Vec::new(), Vec::new());
-        let base = draw.below(1 << 16) << 46;
-        let scale = Scale(draw.below(2) as u32 * 57);
-        let mut next = base;
-        for number in 0..=draw.below(12) {
-            if number > 0 && draw.below(3) > 0 {
-                holes.push(next_part(&mut next, scale, &mut draw));
-            }
-            free.push(next_part(&mut next, scale, &mut draw));
-        }
-        let space = AddressAllocator::with_free(&free);
-        let same = AddressAllocator::with_held(base, next - base, &holes);
-        assert_eq!(space, same);
-        assert_eq!(AddressAllocator::try_with_free(&free).ok(), space.ok());
-    }
-    let last = RangeInclusive::new(u64::MAX, u64::MAX).unwrap();
-    let space = AddressAllocator::with_free(&[last]);
-    assert!(space.is_ok_and(|space| space.gaps().eq([last])));
-}
-
-/// Makes lists of random requests in one call. If the model has no place for one of them, nothing
-/// is allocated.
-#[test]
-fn requests_are_allocated_together_or_not_at_all() {
-    let mut draw = Draw(5);
-    let mut refused = 0;
-    for _ in 0..2_000 {
-        let mut model = Model::new(BASE);
-        let mut space = AddressAllocator::new(BASE, WIDTH).unwrap();
-        let mut requests = Vec::new();
-        let mut fits = true;
-        for _ in 0..draw.below(20) {
-            let (size, align) = (1 + draw.below(6), 1 << draw.below(3));
-            let at = BASE + draw.below(WIDTH);
-            let policy = match draw.below(8) {
-                0 => AllocPolicy::ExactMatch(at - at % align),
-                1 => AllocPolicy::LastMatch,
-                _ => AllocPolicy::FirstMatch,
-            };
-            let request = Constraint::new(size, align, policy).unwrap();
-            requests.push(request);
-            let range = model.allocate(request).ok().filter(|_| fits);
-            fits = range.is_some();
-            model.held.extend(range);
-        }
-        let mut held = if fits { model.held } else { Vec::new() };
-        let answer = space.allocate_all(&requests);
-        assert_eq!(answer.as_ref().ok(), Some(&held).filter(|_| fits));
-        refused += u64::from(!fits);
-        held.sort();
-        assert!(space.held_ranges().eq(held));
-    }
-    assert!((200..1_800).contains(&refused), "{refused} lists fail");
-}
-
 /// Checks each error of `with_held`, `with_free` and `allocate_all` in both forms.
 #[test]
 fn errors_of_calls_with_lists() {
@@ -577,90 +508,12 @@ fn spaces_begin_and_end_anywhere() {
     }
 }
 
-/// Compares random calls in both forms with a set of allocated ids and the next id.
 #[test]
-fn ids_are_those_of_a_plain_model() {
-    use Error::{AlreadyReleased, InvalidRange, NeverAllocated, OutOfRange, ResourceNotAvailable};
-
-    let mut draw = Draw(3);
-    for first in [0, 5, u32::MAX - 30] {
-        let last = first + 30;
-        let none = [ResourceNotAvailable, Error::Overflow][usize::from(last == u32::MAX)];
-        let [mut ids, mut tried] = [(); 2].map(|()| IdAllocator::new(first, last).unwrap());
-        let (mut held, mut next) = (BTreeSet::new(), u64::from(first));
-        for _ in 0..2000 {
-            let free = |low: u32, high: u32| -> Vec<u32> {
-                let inside = low.max(first)..=high.min(last);
-                inside.filter(|id| !held.contains(id)).collect()
-            };
-            let lowest = |low, high| free(low, high).first().copied();
-            assert_eq!(ids.peek_id(), lowest(first, last).ok_or(none));
-            let mut near = || first.wrapping_add(draw.below(33) as u32).wrapping_sub(1);
-            let (id, end) = (near(), near());
-            assert_eq!(ids.is_allocated(id), held.contains(&id));
-            let (answers, want) = match draw.below(8) {
-                0 => (
-                    [ids.allocate_id(), tried.allocate_id()],
-                    lowest(first, last).ok_or(none),
-                ),
-                1 => (
-                    [
-                        ids.allocate_exact(id),
-                        refused(tried.try_allocate_exact(id)),
-                    ],
-                    match (first..=last).contains(&id) {
-                        true => lowest(id, id).ok_or(ResourceNotAvailable),
-                        false => Err(OutOfRange(id)),
-                    },
-                ),
-                2 => (
-                    [
-                        ids.allocate_in(id, end),
-                        refused(tried.try_allocate_in(id, end)),
-                    ],
-                    match id <= end {
-                        true => lowest(id, end).ok_or(ResourceNotAvailable),
-                        false => Err(InvalidRange(id.into(), end.into())),
-                    },
-                ),
-                3 => {
-                    let count = draw.below(4) as usize;
-                    let list = free(first, last);
-                    let list = list.get(..count).map(<[u32]>::to_vec).ok_or(none);
-                    assert_eq!(ids.allocate_ids(count), list);
-                    assert_eq!(refused(tried.try_allocate_ids(count)), list);
-                    held.extend(list.into_iter().flatten());
-                    next = next.max(held.last().map_or(0, |id| u64::from(*id) + 1));
-                    continue;
-                }
-                _ => {
-                    let want = match id {
-                        _ if !(first..=last).contains(&id) => Err(OutOfRange(id)),
-                        _ if u64::from(id) >= next => Err(NeverAllocated(id)),
-                        _ if !held.remove(&id) => Err(AlreadyReleased(id)),
-                        _ => Ok(id),
-                    };
-                    let answers = [ids.free_id(id), refused(tried.try_free_id(id))];
-                    assert_eq!(answers, [want; 2]);
-                    continue;
-                }
-            };
-            assert_eq!(answers, [want; 2]);
-            held.extend(want);
-            next = next.max(want.map_or(0, |id| u64::from(id) + 1));
-            assert_eq!((ids.held_count(), &ids), (held.len() as u64, &tried));
-            let list: Vec<_> = held.iter().copied().collect();
-            expect_items(ids.held_ids(), &list, exact, &mut draw);
-            expect_in_order(ids.iter(), &list);
-            for same in [
-                IdAllocator::with_held(first, last, &list),
-                refused(IdAllocator::try_with_held(first, last, &list)),
-            ] {
-                assert!(same.unwrap().held_ids().eq(list.iter().copied()));
-            }
-        }
-        assert_eq!((ids.range_base(), ids.range_end()), (first, last));
-    }
+fn held_ids_are_taken_from_both_ends() {
+    let held: Vec<_> = (0..600).filter(|id| id % 7 > 2).collect();
+    let ids = IdAllocator::with_held(0, 900, &held).unwrap();
+    expect_items(ids.held_ids(), &held, exact, &mut Draw(3));
+    expect_in_order(ids.iter(), &held);
 }
 
 #[test]

@@ -4,7 +4,9 @@
 mod processor;
 
 use divsharun::AllocPolicy::{ExactMatch, FirstMatch, LastMatch};
-use divsharun::{AddressAllocator, Constraint, DeviceManager, IdAllocator, RangeInclusive};
+use divsharun::{
+    AddressAllocator, Constraint, DeviceManager, DeviceSlot, Error, IdAllocator, RangeInclusive,
+};
 use processor::processor_time;
 
 /// The numbers of items of two objects. A linear call takes a hundred times as long in the second one.
@@ -17,7 +19,7 @@ const ROUNDS: usize = 5;
 type Calls<O> = fn(&mut O, u64) -> bool;
 
 /// Every second address is allocated.
-const OF_SPACES: [Calls<AddressAllocator>; 12] = [
+const OF_SPACES: [Calls<AddressAllocator>; 15] = [
     |space, at| space.held_at(at).is_some() && space.gap_at(at + 1).is_some(),
     |space, at| space.holds(&one(at)) && !space.holds(&one(at + 1)),
     |space, _| space.held_count() == space.gap_count() && space.free_len() == space.gap_count(),
@@ -45,6 +47,41 @@ const OF_SPACES: [Calls<AddressAllocator>; 12] = [
         let moved = space.move_range(&one(at), at + 1);
         space.move_constraint(&moved.unwrap(), exact(at)) == Ok(one(at))
     },
+    |space, at| {
+        let moved = space.try_move_range(&one(at), at + 1);
+        space.try_move_constraint(&moved.unwrap(), exact(at)) == Ok(one(at))
+    },
+    |space, at| {
+        let near = |policy| {
+            Constraint::new(1, 1, policy)
+                .unwrap()
+                .within(from(at))
+                .unwrap()
+        };
+        let lowest = Constraint::new(1, 1, FirstMatch).unwrap();
+        let allocated = [
+            space.allocate_all(&[exact(at + 3)]).unwrap()[0],
+            space.try_allocate(1, 1, LastMatch).unwrap(),
+            space.try_allocate_constraint(near(LastMatch)).unwrap(),
+            space.allocate_counted(1, 1, FirstMatch).0.unwrap(),
+            space
+                .allocate_constraint_counted(near(FirstMatch))
+                .0
+                .unwrap(),
+            space.try_allocate_all(&[lowest]).unwrap()[0],
+        ];
+        allocated.map(|range| space.free_counted(&range).0) == [Ok(()); 6]
+    },
+    |space, at| {
+        let held = Constraint::new(1, 1, LastMatch)
+            .unwrap()
+            .within(one(at))
+            .unwrap();
+        space.free(&one(at + 1)).is_err()
+            && space.allocate_all(&[exact(at + 1), exact(at)]).is_err()
+            && space.allocate_constraint(held).is_err()
+            && space.move_range(&one(at), at + 2).is_err()
+    },
 ];
 
 /// The ids below the last three are allocated.
@@ -63,8 +100,29 @@ const OF_IDS: [Calls<IdAllocator>; 4] = [
     },
 ];
 
+/// Every second id is allocated.
+const OF_FREED_IDS: [Calls<IdAllocator>; 2] = [
+    |ids, at| {
+        ids.is_allocated(at as u32)
+            && !ids.is_allocated(at as u32 + 1)
+            && has_ends(ids.held_ids(), |items| items.len() > 2)
+    },
+    |ids, at| {
+        let at = at as u32;
+        let allocated = [
+            ids.allocate_exact(at + 1),
+            ids.allocate_in(at, at + 4),
+            ids.try_allocate_exact(at + 5).map_err(|_| Error::Overflow),
+            ids.try_allocate_in(at, at + 8).map_err(|_| Error::Overflow),
+            ids.allocate_id(),
+            ids.allocate_ids(1).map(|ids| ids[0]),
+        ];
+        allocated.map(|id| ids.try_free_id(id.unwrap()).is_ok()) == [true; 6]
+    },
+];
+
 /// Each device has two addresses, and two are free.
-const OF_DEVICES: [Calls<DeviceManager>; 4] = [
+const OF_DEVICES: [Calls<DeviceManager>; 5] = [
     |devices, at| devices.slot(at as u32).is_some() && devices.device_at(2 * at).is_some(),
     |devices, at| devices.device_count() > at && devices.conflict(exact(2 * at)).is_some(),
     |devices, _| has_ends(devices.devices(), |items| items.len() > 2),
@@ -74,6 +132,14 @@ const OF_DEVICES: [Calls<DeviceManager>; 4] = [
             devices.reserve_constraint(Constraint::new(1, 1, LastMatch).unwrap()),
         ];
         reserved.map(|device| devices.release(device.unwrap().id)) == [Ok(()); 2]
+    },
+    |devices, at| {
+        let id = at as u32;
+        let range = devices.slot(id).unwrap();
+        let whole = Constraint::new(2, 1, LastMatch).unwrap().within(range);
+        devices.try_release(id) == Ok(())
+            && devices.try_reserve(3, 1, FirstMatch).is_err()
+            && devices.try_reserve_constraint(whole.unwrap()) == Ok(DeviceSlot { id, range })
     },
 ];
 
@@ -122,6 +188,11 @@ fn calls_do_not_go_through_all_items() {
         IdAllocator::with_held(0, count as u32 + 2, &held).unwrap()
     };
     expect_quick(ids, &OF_IDS, 1);
+    let freed = |count| {
+        let held: Vec<_> = (0..count as u32).map(|at| 2 * at).collect();
+        IdAllocator::with_held(0, 2 * count as u32 + 9, &held).unwrap()
+    };
+    expect_quick(freed, &OF_FREED_IDS, 2);
     let devices = |count| {
         let mut devices = DeviceManager::new(0, u32::MAX, 0, 2 * count + 2).unwrap();
         let mut reserve = |_| devices.reserve(2, 1, FirstMatch).is_ok();

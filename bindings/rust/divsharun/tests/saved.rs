@@ -768,7 +768,7 @@ fn costs<T: DeserializeOwned>(bytes: &[u8], is_accepted: bool, most: f64) {
 fn hostile_bytes_cost_memory_of_their_length() {
     // A node has 30 bytes. Its range has 16 bytes in a list with an eighth more, and with the gap at most
     // 22 in the tree.
-    let mut bytes = sparse(1 << 16, 2);
+    let mut bytes = sparse(1 << 20, 2);
     costs::<AddressAllocator>(&bytes, true, 1.35);
     bytes.pop();
     costs::<AddressAllocator>(&bytes, false, 0.6);

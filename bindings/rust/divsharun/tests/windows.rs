@@ -1,17 +1,14 @@
 //! Guards against a form of a call that loses the window, the policy or the alignment of its request.
 //!
-//! Requests in each form, with a window or without, and moves by them are compared with tables, and with
-//! a plain model of a small space.
+//! Requests in each form, with a window or without, and moves by them are compared with tables.
 
-mod draw;
 mod model;
 
 use divsharun::{
-    AddressAllocator, AllocPolicy, Conflict, Constraint, DeviceManager, DeviceSlot, Error,
-    ListError, NodeState, RangeInclusive, Result, TryError,
+    AddressAllocator, AllocPolicy, Constraint, DeviceManager, DeviceSlot, Error, ListError,
+    NodeState, RangeInclusive, Result, TryError,
 };
-use draw::Draw;
-use model::{refused, Model, Scale, WIDTH};
+use model::{refused, WIDTH};
 use std::ops::Bound::{Excluded, Included, Unbounded};
 use AllocPolicy::{ExactMatch, FirstMatch, LastMatch};
 use Error::{InvalidStateTransition, Overflow, ResourceNotAvailable};
@@ -90,18 +87,16 @@ const OF_DEVICES: [Form<DeviceManager>; 4] = [
 struct Forms {
     spaces: [AddressAllocator; 8],
     devices: [DeviceManager; 4],
-    scale: Scale,
 }
 
 impl Forms {
-    /// Creates spaces of [`WIDTH`] addresses, times the scale.
-    fn new(base: u64, scale: Scale) -> Forms {
-        let (base, size) = (base << scale.0, WIDTH << scale.0);
+    /// Creates spaces of [`WIDTH`] addresses, times a power of two.
+    fn new(base: u64, scale: u32) -> Forms {
+        let (base, size) = (base << scale, WIDTH << scale);
         let devices = |_| DeviceManager::new(FIRST_ID, u32::MAX, base, size).unwrap();
         Forms {
             spaces: [(); 8].map(|_| AddressAllocator::new(base, size).unwrap()),
             devices: [(); 4].map(devices),
-            scale,
         }
     }
 
@@ -118,59 +113,6 @@ impl Forms {
             "{request}: {answers:?}"
         );
         answers[0]
-    }
-
-    /// Returns the conflict of a request, with a space and with a manager.
-    fn conflict(&self, request: Constraint) -> Option<Conflict> {
-        let conflict = self.spaces[0].conflict(request);
-        assert_eq!(self.devices[0].conflict(request), conflict);
-        conflict
-    }
-
-    /// Frees a range, or returns the error of a range that is not allocated.
-    fn free(&mut self, range: &RangeInclusive) -> Result<()> {
-        let [first, rest @ ..] = &mut self.spaces;
-        let answer = first.free(range);
-        for space in rest {
-            assert_eq!(counted(space.free_counted(range)), answer);
-        }
-        let [first, rest @ ..] = &mut self.devices;
-        let device = first.device_at(range.start());
-        let id = match (answer, device) {
-            (Ok(()), Some(device)) => device.id,
-            _ => FIRST_ID - 1,
-        };
-        let released = first.release(id);
-        assert_eq!(released.is_ok(), answer.is_ok());
-        for devices in rest {
-            assert_eq!(refused(devices.try_release(id)), released);
-        }
-        answer
-    }
-
-    /// Checks the queries of each address of the model, and the list of devices.
-    fn compare(&self, held: &[RangeInclusive]) {
-        for devices in &self.devices {
-            assert_eq!(devices.device_count(), held.len() as u64);
-            assert_eq!(*devices, devices.clone());
-            for device in devices.devices() {
-                assert_eq!(devices.slot(device.id), Some(device.range));
-                assert_eq!(devices.device_at(device.range.end()), Some(device));
-                assert!(held.contains(&device.range) && device.id >= FIRST_ID);
-            }
-            let base = self.spaces[0].base();
-            for address in (0..WIDTH).map(|number| base + (number << self.scale.0)) {
-                let at = devices.device_at(address).map(|device| device.range);
-                assert_eq!(at, self.spaces[0].held_at(address));
-                let is_in = |range: &&RangeInclusive| range.contains_address(address);
-                assert_eq!(at, held.iter().find(is_in).copied());
-            }
-        }
-        for space in &self.spaces {
-            assert_eq!(*space, self.spaces[0]);
-            let size = WIDTH << self.scale.0;
-            assert_eq!(space.end() - space.base(), size - 1);
-        }
     }
 }
 
@@ -294,7 +236,7 @@ fn each_policy_at_the_ends_of_windows() {
         (40, 56, None, LARGE),
     ] {
         for &((start, end), (size, align, policy), want) in rows {
-            let mut spaces = Forms::new(base, Scale(scale));
+            let mut spaces = Forms::new(base, scale);
             if let Some((size, start)) = held {
                 let request = Constraint::new(size, 1, ExactMatch(start)).unwrap();
                 assert_eq!(
@@ -307,52 +249,6 @@ fn each_policy_at_the_ends_of_windows() {
             let want = want.map(|start| range(start, start + (size - 1)));
             assert_eq!(spaces.allocate(request), want, "{request}");
         }
-    }
-}
-
-/// Returns a random request near a space. Its `ExactMatch` often names an allocated range.
-fn drawn(draw: &mut Draw, model: &Model, scale: Scale) -> Constraint {
-    let near = |draw: &mut Draw| {
-        let lowest = model.base.saturating_sub(4);
-        lowest.saturating_add(draw.below(WIDTH + 8))
-    };
-    let mut size = [1 + draw.below(6), 1 + draw.below(WIDTH + 8)][usize::from(draw.below(4) == 0)];
-    let mut align = [1 << draw.below(3), 1 << draw.below(64 - u64::from(scale.0))]
-        [usize::from(draw.below(8) == 0)];
-    let policy = match draw.below(6) {
-        0 | 1 => FirstMatch,
-        2 | 3 => LastMatch,
-        4 if !model.held.is_empty() => {
-            let held = model.held[draw.below(model.held.len() as u64) as usize];
-            (size, align) = (held.len(), 1);
-            ExactMatch(held.start())
-        }
-        _ => {
-            let start = near(draw);
-            ExactMatch(start - start % align)
-        }
-    };
-    let request = Constraint::new(size, align, policy).unwrap();
-    let start = near(draw);
-    let end = start.saturating_add(draw.below(WIDTH));
-    match draw.below(6) {
-        0 => Ok(request),
-        1 => request.within(..=end),
-        2 => request.within(start..),
-        _ => request.within(range(start, end)),
-    }
-    .unwrap()
-}
-
-/// Counts a result: each policy that succeeds, and each error.
-fn kind_of(request: Constraint, answer: &Result<RangeInclusive>) -> usize {
-    match (answer, request.policy()) {
-        (Ok(_), FirstMatch) => 0,
-        (Ok(_), LastMatch) => 1,
-        (Ok(_), ExactMatch(_)) => 2,
-        (Err(ResourceNotAvailable), _) => 3,
-        (Err(InvalidStateTransition(..)), _) => 4,
-        (Err(_), _) => 5,
     }
 }
 
@@ -380,91 +276,6 @@ fn numbers_that_are_no_request() {
         ];
         assert_eq!(answers, [Err(error); 5]);
     }
-}
-
-/// Bases and scales. The scaled spaces have a start that is aligned to 2^62 or to 2^63.
-const BASES: [(u64, Scale); 7] = [
-    (0, Scale(0)),
-    (1, Scale(0)),
-    (1000, Scale(0)),
-    (MAX - WIDTH, Scale(0)),
-    (MAX - WIDTH + 1, Scale(0)),
-    (40, Scale(56)),
-    (112, Scale(56)),
-];
-
-#[test]
-fn ranges_and_errors_are_those_of_a_plain_model() {
-    let mut draw = Draw(7);
-    let mut kinds = [0; 6];
-    for (base, scale) in BASES {
-        let mut spaces = Forms::new(base, scale);
-        let mut model = Model::new(base);
-        for _ in 0..4_000 {
-            let request = drawn(&mut draw, &model, scale);
-            let scaled = scale.request(request);
-            let conflict = model.conflict(request);
-            let conflict = conflict.map(|conflict| scale.conflict(conflict));
-            assert_eq!(spaces.conflict(scaled), conflict);
-            let answer = model.allocate(request);
-            let want = scale.answer(answer);
-            assert_eq!(spaces.allocate(scaled), want, "{scaled} in {base:#x}");
-            kinds[kind_of(request, &answer)] += 1;
-            model.held.extend(answer.ok());
-            if draw.below(3) == 0 && !model.held.is_empty() {
-                let number = draw.below(model.held.len() as u64) as usize;
-                let held = scale.range(model.held.swap_remove(number));
-                assert_eq!(spaces.free(&held), Ok(()));
-            }
-            if draw.below(8) == 0 {
-                let near = range(request.size().min(base), base);
-                let is_held = model.held.contains(&near);
-                let near = scale.range(near);
-                assert!(is_held || spaces.free(&near) == Err(ResourceNotAvailable));
-            }
-        }
-        let held = model.held.iter().map(|held| scale.range(*held));
-        spaces.compare(&held.collect::<Vec<_>>());
-    }
-    assert!(kinds.iter().all(|kind| *kind > 100), "{kinds:?}");
-}
-
-/// Moves random ranges to the places of random requests, in both forms.
-#[test]
-fn moves_are_those_of_a_plain_model() {
-    let mut draw = Draw(9);
-    let mut kinds = [0; 6];
-    for (base, scale) in BASES {
-        let mut model = Model::new(base);
-        let (base, size) = (base << scale.0, WIDTH << scale.0);
-        let mut space = AddressAllocator::new(base, size).unwrap();
-        for size in [1, 4, 2, 8] {
-            let request = Constraint::new(size, size, FirstMatch).unwrap();
-            let answer = model.allocate(request);
-            let range = space.allocate_constraint(scale.request(request));
-            assert_eq!(range, scale.answer(answer));
-            model.held.extend(answer);
-        }
-        for _ in 0..4_000 {
-            let number = draw.below(4) as usize;
-            let request = drawn(&mut draw, &model, scale);
-            let key = scale.range(model.held[number]);
-            let answer = model.move_to(number, request);
-            kinds[kind_of(request, &answer)] += 1;
-            let (want, request) = (scale.answer(answer), scale.request(request));
-            let mut tried = space.clone();
-            let answer = space.move_constraint(&key, request);
-            assert_eq!(answer, want, "{key} to {request}");
-            assert_eq!(refused(tried.try_move_constraint(&key, request)), want);
-            assert_eq!(space, tried);
-        }
-        let mut held = model.held;
-        held.sort();
-        assert!(space
-            .held_ranges()
-            .eq(held.iter().map(|held| scale.range(*held))));
-    }
-    assert!(kinds.iter().all(|kind| *kind > 100), "{kinds:?}");
 }
 
 /// Moves of a range, each with the range, the window, the request and the new start. In the space

@@ -1,46 +1,69 @@
-//! A plain model of a small space, which looks at each address.
+//! Plain models: the list of the allocated ranges of a space, and the set of allocated ids.
+#![allow(dead_code)]
+
 use divsharun::AllocPolicy::{ExactMatch, FirstMatch, LastMatch};
 use divsharun::{Conflict, Constraint, Error, NodeState, RangeInclusive, Result, TryError};
+use std::collections::BTreeSet;
 
-/// The number of addresses of a space.
+/// The number of addresses of a small space.
 pub const WIDTH: u64 = 64;
 
-/// A space of [`WIDTH`] addresses with its allocated ranges.
+/// A space with its allocated ranges, which do not reach `u64::MAX`.
+#[derive(Clone)]
 pub struct Model {
     pub base: u64,
+    pub width: u64,
     pub held: Vec<RangeInclusive>,
 }
 
 impl Model {
-    /// Creates a space without allocated ranges.
+    /// Creates a space of [`WIDTH`] addresses without allocated ranges.
     pub fn new(base: u64) -> Model {
+        Model::wide(base, WIDTH)
+    }
+
+    /// Creates a space of `width` addresses without allocated ranges.
+    pub fn wide(base: u64, width: u64) -> Model {
         let held = Vec::new();
-        Model { base, held }
+        Model { base, width, held }
     }
 
-    /// Returns `true` if an address is inside the space and not allocated.
-    fn is_free(&self, address: u128) -> bool {
-        let base = u128::from(self.base);
-        let is_in = |held: &RangeInclusive| {
-            u128::from(held.start()) <= address && address <= u128::from(held.end())
-        };
-        (base..base + u128::from(WIDTH)).contains(&address) && !self.held.iter().any(is_in)
+    /// Adds a range to a sorted list.
+    pub fn hold(&mut self, range: RangeInclusive) {
+        let number = self.held.partition_point(|held| *held < range);
+        self.held.insert(number, range);
     }
 
-    /// Returns `true` if each address of a range is free and in the window of the request.
-    fn fits(&self, start: u64, request: Constraint) -> bool {
-        let first = u128::from(start);
-        (first..first + u128::from(request.size()))
-            .all(|address| self.is_free(address) && is_in_window(address, request))
+    /// Returns the gaps, in order.
+    pub fn gaps(&self) -> impl DoubleEndedIterator<Item = RangeInclusive> {
+        let mut held = self.held.clone();
+        held.sort();
+        let firsts = held.iter().map(|range| range.end() + 1);
+        let firsts: Vec<_> = [self.base].into_iter().chain(firsts).collect();
+        let lasts = held.into_iter().map(|range| range.start().checked_sub(1));
+        let lasts: Vec<_> = lasts.chain([Some(self.base + (self.width - 1))]).collect();
+        let ends = firsts.into_iter().zip(lasts);
+        ends.filter_map(|(first, last)| RangeInclusive::new(first, last?).ok())
+    }
+
+    /// Returns the lowest and the highest start for a request in each gap that has one, in order.
+    fn places(&self, request: Constraint) -> impl DoubleEndedIterator<Item = (u64, u64)> {
+        let (size, align) = (u128::from(request.size()), u128::from(request.align()));
+        let window = request.window();
+        let (low, high) = window.map_or((0, u64::MAX), |window| (window.start(), window.end()));
+        self.gaps().filter_map(move |gap| {
+            let first = u128::from(gap.start().max(low)).next_multiple_of(align);
+            let past = u128::from(gap.end().min(high)) + 1;
+            let last = past.checked_sub(size)? / align * align;
+            (first <= last).then_some((first as u64, last as u64))
+        })
     }
 
     pub fn allocate(&self, request: Constraint) -> Result<RangeInclusive> {
-        let mut starts = (0..WIDTH)
-            .map(|offset| self.base + offset)
-            .filter(|start| start % request.align() == 0 && self.fits(*start, request));
+        let mut places = self.places(request);
         let start = match request.policy() {
-            FirstMatch => starts.next().ok_or(Error::ResourceNotAvailable)?,
-            LastMatch => starts.next_back().ok_or(Error::ResourceNotAvailable)?,
+            FirstMatch => places.next().ok_or(Error::ResourceNotAvailable)?.0,
+            LastMatch => places.next_back().ok_or(Error::ResourceNotAvailable)?.1,
             ExactMatch(start) => self.checked_start(start, request)?,
         };
         let end = start + (request.size() - 1);
@@ -70,8 +93,8 @@ impl Model {
         };
         let (first, base) = (u128::from(start), u128::from(self.base));
         let last = first + u128::from(request.size() - 1);
-        if first < base || base + u128::from(WIDTH - 1) < last {
-            let space = RangeInclusive::from_start_len(self.base, WIDTH);
+        if first < base || base + u128::from(self.width - 1) < last {
+            let space = RangeInclusive::from_start_len(self.base, self.width);
             return space.ok().map(Conflict::OutsideSpace);
         }
         if !(is_in_window(first, request) && is_in_window(last, request)) {
@@ -89,7 +112,7 @@ impl Model {
         if start == u64::MAX {
             return Err(Error::Overflow);
         }
-        let is_in_space = start >= self.base && start - self.base < WIDTH;
+        let is_in_space = start >= self.base && start - self.base < self.width;
         if !is_in_space || !is_in_window(start.into(), request) {
             return Err(Error::ResourceNotAvailable);
         }
@@ -100,10 +123,11 @@ impl Model {
         if let Some(held) = self.held.iter().find(is_same) {
             return Err(Error::InvalidStateTransition(*held, NodeState::Allocated));
         }
-        if !self.fits(start, request) {
-            return Err(Error::ResourceNotAvailable);
+        let has_start = |(low, high): (u64, u64)| (low..=high).contains(&start);
+        match self.places(request).any(has_start) {
+            true => Ok(start),
+            false => Err(Error::ResourceNotAvailable),
         }
-        Ok(start)
     }
 }
 
@@ -111,6 +135,90 @@ fn is_in_window(address: u128, request: Constraint) -> bool {
     request.window().is_none_or(|window| {
         u128::from(window.start()) <= address && address <= u128::from(window.end())
     })
+}
+
+/// A range of ids, with the allocated ones and the lowest id that was never allocated.
+#[derive(Clone)]
+pub struct Ids {
+    pub first: u32,
+    pub last: u32,
+    pub next: u64,
+    pub held: BTreeSet<u32>,
+}
+
+impl Ids {
+    pub fn new(first: u32, last: u32) -> Ids {
+        let (next, held) = (first.into(), BTreeSet::new());
+        Ids {
+            first,
+            last,
+            next,
+            held,
+        }
+    }
+
+    /// Returns the error if all ids are allocated.
+    fn none(&self) -> Error {
+        match self.last {
+            u32::MAX => Error::Overflow,
+            _ => Error::ResourceNotAvailable,
+        }
+    }
+
+    /// Returns the free ids from `low` to `high`, in order.
+    fn free(&self, low: u32, high: u32) -> impl Iterator<Item = u32> + '_ {
+        let (low, high) = (low.max(self.first), high.min(self.last));
+        let mut held = self.held.range(low..).peekable();
+        (low..=high).filter(move |id| held.next_if_eq(&id).is_none())
+    }
+
+    fn take(&mut self, id: u32) -> u32 {
+        self.held.insert(id);
+        self.next = self.next.max(u64::from(id) + 1);
+        id
+    }
+
+    pub fn peek(&self) -> Result<u32> {
+        let lowest = self.free(self.first, self.last).next();
+        lowest.ok_or(self.none())
+    }
+
+    pub fn allocate(&mut self) -> Result<u32> {
+        self.peek().map(|id| self.take(id))
+    }
+
+    pub fn allocate_exact(&mut self, id: u32) -> Result<u32> {
+        match (self.first..=self.last).contains(&id) {
+            true => self.allocate_in(id, id),
+            false => Err(Error::OutOfRange(id)),
+        }
+    }
+
+    pub fn allocate_in(&mut self, low: u32, high: u32) -> Result<u32> {
+        if high < low {
+            return Err(Error::InvalidRange(low.into(), high.into()));
+        }
+        let lowest = self.free(low, high).next();
+        let lowest = lowest.ok_or(Error::ResourceNotAvailable);
+        lowest.map(|id| self.take(id))
+    }
+
+    pub fn allocate_ids(&mut self, count: usize) -> Result<Vec<u32>> {
+        let list: Vec<_> = self.free(self.first, self.last).take(count).collect();
+        if list.len() < count {
+            return Err(self.none());
+        }
+        Ok(list.into_iter().map(|id| self.take(id)).collect())
+    }
+
+    pub fn release(&mut self, id: u32) -> Result<u32> {
+        match id {
+            _ if !(self.first..=self.last).contains(&id) => Err(Error::OutOfRange(id)),
+            _ if u64::from(id) >= self.next => Err(Error::NeverAllocated(id)),
+            _ if !self.held.remove(&id) => Err(Error::AlreadyReleased(id)),
+            _ => Ok(id),
+        }
+    }
 }
 
 /// Makes large numbers: a space has `2^self.0` addresses for each one of a model.
