@@ -792,8 +792,8 @@ fn hostile_bytes_cost_memory_of_their_length() {
         bytes.extend((id as u32).to_le_bytes());
         bytes.extend([id.to_le_bytes(); 2].concat());
     }
-    // A device has 50 bytes, and then 24 in the list that is read, 20 in the lists of the manager, 16 in
-    // its map and at most 18 in the tree.
+    // A device has 50 bytes. It then has 24 in the list that is read, and 20 in the lists of the manager.
+    // It has 16 in its map, and at most 18 in the tree.
     costs::<DeviceManager>(&bytes, true, 1.6);
     bytes.pop();
     costs::<DeviceManager>(&bytes, false, 1.0);
