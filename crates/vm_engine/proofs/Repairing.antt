@@ -1,2 +1,1 @@
-pub mod CollectedKeys
 pub mod RepairedTrees

@@ -1,5 +1,4 @@
 pub mod NodeChecks
-pub mod KeyChecks
 pub mod Spans
-pub mod ValueSpans
+pub mod ValueNodes
 pub mod HeldKeys

@@ -1,10 +1,8 @@
 //! Saved trees.
 //!
 //! A value can be untrusted input, so the whole value is checked before the first allocation.
-mod check;
 pub(crate) mod node;
 pub(crate) mod nodes;
-mod repaired;
 pub(crate) mod span;
 mod tree;
 pub(crate) mod written;

@@ -7,7 +7,7 @@ use Rattle.vm_ranges.specs.RangeValues.{EncodesRange, EncodesState}
 use Rattle.vm_ranges.specs.declared.state.NodeState.{NodeState}
 use Rattle.vm_leaf.specs.declared.block.Block.{Block}
 use Rattle.vm_engine.specs.Checks.NodeChecks.{NodeParts}
-use Rattle.vm_engine.specs.Checks.ValueSpans.{EncodesSaved}
+use Rattle.vm_engine.specs.Checks.ValueNodes.{EncodesSaved}
 use Rattle.vm_engine.specs.Values.SavedTrees.{Saved, Node}
 use Rattle.vm_engine.specs.Values.TreeValues.{EncodesNode}
 use Rattle.vm_engine.proofs.Reading.ReadNodes.{sides_map}

@@ -2,7 +2,7 @@
 use Rattle.std.proofs.Common.{◌≡◌, ℕ, ◌+◌, ◌<◌, List, [], ◌∷◌, ◌++◌, length, take, drop, Option, Some, None, Ok, Err, refl, sym, ap, ◌∙◌, arith}
 use Rattle.std.proofs.lemmas.List.{append_assoc, take_at, drop_at}
 use Rattle.vm_ranges.specs.Range.{Range, MAX, IsRange}
-use Rattle.vm_ranges.specs.declared.saved.SavedError.TheVariants.{Violated, OutOfMemory}
+use Rattle.vm_ranges.specs.declared.saved.SavedError.TheVariants.{Violated}
 use Rattle.vm_ranges.specs.declared.saved.Condition.TheVariants.{Keys}
 use Rattle.vm_leaf.specs.declared.block.Block.{Block}
 use Rattle.vm_engine.specs.Tree.Blocks.{range_if_held, held_of, AreKeysIn}
@@ -54,31 +54,31 @@ around s l r b h st =
 no_span : (left right : Option Span) (l r : Saved) (b : Block) (h : ℕ) → StandsFor left l → StandsFor right r → span_over left b right h ≡ None → span_of (Node l b r h) ≡ None
 no_span left right l r b h sl sr e = rw (sl.is_span, sr.is_span, e) refl
 
-pub end_none : (old new : List Range) (left right : Option Span) (b : Block) (h : ℕ) → span_over left b right h ≡ None → EndsNode old left b right h (Err (Violated Keys)) new
+pub end_none : (old new : Option (List Range)) (left right : Option Span) (b : Block) (h : ℕ) → span_over left b right h ≡ None → EndsNode old left b right h (Err (Violated Keys)) new
 unfolding EndsNode
 end_none old new left right b h e = λ before l r sl sr list.
     let n = no_span left right l r b h sl sr e in
-    ((refl, λ (x : (s : Span) × StandsFor (Some s) (Node l b r h)). let f = x.1.is_span in absurd (cc (n, f))), tt)
+    (refl, λ (x : (s : Span) × StandsFor (Some s) (Node l b r h)). let f = x.1.is_span in absurd (cc (n, f)))
 
-module _ (old : List Range) (left right : Option Span) (b : Block) (h : ℕ) (s : Span) (is : span_over left b right h ≡ Some s) (range : IsRange b.key.start b.key.end) where
+module _ (left right : Option Span) (b : Block) (h : ℕ) (s : Span) (is : span_over left b right h ≡ Some s) (range : IsRange b.key.start b.key.end) where
   stands : (l r : Saved) → StandsFor left l → StandsFor right r → StandsFor (Some s) (Node l b r h)
   stands l r sl sr = record { is_span = rw (sl.is_span, sr.is_span, is) refl; ranges = (sl.ranges, sr.ranges, range) }
 
-  module _ (place : Option ℕ) (mid : List Range) (arranged : Arranges old (held_in left) b.key (held_in right) place mid) where
+  pub end_unkept : (old : Option (List Range)) → EndsNode old left b right h (Ok s) None
+  unfolding EndsNode
+  end_unkept old = λ before l r sl sr list. (stands l r sl sr, tt)
+
+  module _ (old : List Range) (place : Option ℕ) (mid : List Range) (arranged : Arranges old (held_in left) b.key (held_in right) place mid) where
     in_order : (before : List Range) (l r : Saved) → StandsFor left l → StandsFor right r → EndsWithKeys old before (held_keys l) (held_keys r) → (place ≡ Some (length (before ++ held_keys l))) × (mid ≡ before ++ (held_keys l ++ held_keys r))
     unfolding Arranges
     in_order before l r sl sr list =
         arranged before (held_keys l) (held_keys r) (held_is left l (sound l left sl.ranges sl.is_span)) (held_is right r (sound r right sr.ranges sr.is_span)) (around s l r b h (stands l r sl sr)) list
 
-    pub end_lost : (new : List Range) → place ≡ None → EndsNode old left b right h (Err (Violated Keys)) new
+    pub end_lost : (new : Option (List Range)) → place ≡ None → EndsNode (Some old) left b right h (Err (Violated Keys)) new
     unfolding EndsNode
     end_lost new e = λ before l r sl sr list. let p = (in_order before l r sl sr list).0 in absurd (cc (p, e))
 
-    pub end_memory : (new : List Range) → EndsNode old left b right h (Err OutOfMemory) new
-    unfolding EndsNode
-    end_memory new = λ before l r sl sr list. ((s, stands l r sl sr), tt)
-
-    pub end_free : b.state ≡ Free → EndsNode old left b right h (Ok s) mid
+    pub end_free : b.state ≡ Free → EndsNode (Some old) left b right h (Ok s) (Some mid)
     unfolding EndsNode
     end_free f = λ before l r sl sr list.
         let p = in_order before l r sl sr list in
@@ -86,7 +86,7 @@ module _ (old : List Range) (left right : Option Span) (b : Block) (h : ℕ) (s 
         let keys : held_keys (Node l b r h) ≡ held_keys l ++ held_keys r = held_node (saved_blocks l) b (saved_blocks r) ∙ ap (λ (v : List Range). held_keys l ++ (v ++ held_keys r)) own in
         (stands l r sl sr, p.1 ∙ ap (λ (v : List Range). before ++ v) (sym keys))
 
-    pub end_held : (new : List Range) (i : ℕ) → b.state ≡ Allocated → place ≡ Some i → new ≡ take i mid ++ b.key ∷ drop i mid → EndsNode old left b right h (Ok s) new
+    pub end_held : (new : List Range) (i : ℕ) → b.state ≡ Allocated → place ≡ Some i → new ≡ take i mid ++ b.key ∷ drop i mid → EndsNode (Some old) left b right h (Ok s) (Some new)
     unfolding EndsNode
     end_held new i f at made = λ before l r sl sr list.
         let p = in_order before l r sl sr list in

@@ -123,17 +123,5 @@ pub strict_made : (space : Range) (o : Option Span) (t : Saved) (held : List Ran
 strict_made space o t held made st e h m =
     subst (HasTreeOf space t) (sym (held_made space held made m ∙ ap (state_with space) h)) (strict_with space o t st e)
 
-pub strict_tree : (space : Range) (o : Option Span) (t : Saved) → StandsFor o t → is_tree_of space o ≡ true → IsSavedTree space t
-strict_tree space o t st e = root_tree space o t (sound t o st.ranges st.is_span) e
-
-pub strict_passes : (space : Range) (o : Option Span) (t : Saved) → StandsFor o t → IsSavedTree space t → is_tree_of space o ≡ true
-strict_passes space o t st h = tree_root space o t (sound t o st.ranges st.is_span) h
-
-pub repaired_keys : (space : Range) (o : Option Span) (t : Saved) → space.end ≤ MAX → StandsFor o t → is_inside space o ≡ true → HasHeldKeys space t (state_with space (held_keys t))
-repaired_keys space o t v st e = root_inside space o t v (sound t o st.ranges st.is_span) e
-
-pub repaired_passes : (space : Range) (o : Option Span) (t : Saved) (x : AddressState) → StandsFor o t → HasHeldKeys space t x → is_inside space o ≡ true
-repaired_passes space o t x st h = inside_root space o t x (sound t o st.ranges st.is_span) h
-
 pub made_space : (space : Range) (held : List Range) (made : AddressState) → MakesHeld space held (Ok made) → made.space ≡ space
 made_space space held made m = ap (λ (x : AddressState). x.space) (held_made space held made m)

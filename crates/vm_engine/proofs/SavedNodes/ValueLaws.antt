@@ -8,7 +8,7 @@ use Rattle.vm_ranges.specs.Saving.{Saves}
 use Rattle.vm_ranges.specs.declared.error.Error.{Error}
 use Rattle.vm_tree.specs.Shape.{Shape, blocks}
 use Rattle.vm_engine.specs.Address.{AddressState}
-use Rattle.vm_engine.specs.Checks.ValueSpans.{EncodesSaved}
+use Rattle.vm_engine.specs.Checks.ValueNodes.{EncodesSaved}
 use Rattle.vm_engine.specs.Laws.SavedLaws.{ValuesAreSavedTrees, ValuesHaveHeldKeys}
 use Rattle.vm_engine.specs.Tree.SpaceTree.{tree_state, IsSpaceTree}
 use Rattle.vm_engine.specs.Values.NodeTree.{Tip}

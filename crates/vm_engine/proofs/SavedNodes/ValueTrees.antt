@@ -1,19 +1,15 @@
--- The check of a value finds exactly the spans of the saved trees that values encode.
-use Rattle.std.proofs.Common.{◌≡◌, ℕ, zero, suc, ◌+◌, ◌-◌, ◌≤◌, max, true, false, cond, Some, None, Option, is_some, codes, refl, subst, arith}
+-- The saved trees of values.
+use Rattle.std.proofs.Common.{◌≡◌, ◌+◌, max, codes, refl, sym, ap, ◌∙◌, subst}
+use Rattle.std.proofs.lemmas.Option.{same_Some}
 use Rattle.serde_json.specs.Data.{Data}
-use Rattle.serde_json.specs.Find.{as_null}
 use Rattle.vm_ranges.proofs.FieldSteps.{in_field}
-use Rattle.vm_ranges.proofs.Nulls.{null_of, not_null}
-use Rattle.vm_ranges.proofs.Steps.{and_then_some, if_some}
 use Rattle.vm_ranges.specs.RangeValues.{EncodesRange}
 use Rattle.vm_engine.specs.Values.NodeTree.{NodeTree, Tip, Fork, height_of}
 use Rattle.vm_engine.specs.Values.TreeValues.{EncodesNode, EncodesShape, HasNodes}
 use Rattle.vm_engine.specs.Values.SavedTrees.{Saved, Absent, Node, shape_of, HasRanges, HasHeights}
-use Rattle.vm_engine.specs.Checks.NodeChecks.{NodeData, decoded_node}
-use Rattle.vm_engine.specs.Checks.Spans.{span_over, span_of, StandsFor}
-use Rattle.vm_engine.specs.Checks.ValueSpans.{EncodesSaved, checked_node, checked_nodes}
-use Rattle.vm_engine.specs.declared.saved.span.Span.{Span}
-use Rattle.vm_engine.proofs.Reading.ReadNodes.{over_sides, node_is, sides_map}
+use Rattle.vm_engine.specs.Checks.NodeChecks.{NodeData}
+use Rattle.vm_engine.specs.Checks.ValueNodes.{EncodesSaved}
+use Rattle.vm_engine.proofs.Reading.ReadNodes.{data_of, no_data, over_sides, node_is, sides_map}
 
 -- ---- Saved trees and shapes
 
@@ -66,68 +62,21 @@ nodes_saved (Fork l b r) d p =
       rw (left.2, right.2) refl,
     )
 
--- ---- The check
-
--- The saved tree that the check found.
-pub record IsFound (depth : ℕ) (d : Data) (o : Option Span) (t : Saved) : Type 0 where
-  pub nodes : EncodesSaved d t
-  pub within : height_of (shape_of t) ≤ depth
-  pub stands : StandsFor o t
-
-found_null : (depth : ℕ) (d : Data) (o : Option Span) → is_some (as_null d) ≡ true → Some None ≡ Some o → IsFound depth d o Absent
-found_null depth d o z e = record { nodes = null_of d z; within = omega arith; stands = record { is_span = e; ranges = tt } }
-
-found_node : (depth : ℕ) (d : Data) (o : Option Span) →
-    ((v : Data) (p : Option Span) → checked_nodes depth v ≡ Some p → (t : Saved) × IsFound depth v p t) →
-    checked_node (checked_nodes depth) d ≡ Some o → (t : Saved) × IsFound (suc depth) d o t
-found_node depth d o below e =
-    let node = and_then_some _ (decoded_node d) o e in
-    let left = and_then_some _ (checked_nodes depth node.0.left) o node.2 in
-    let right = and_then_some _ (checked_nodes depth node.0.right) o left.2 in
-    let span = and_then_some _ (span_over left.0 node.0.block right.0 node.0.height) o right.2 in
-    let l = below node.0.left left.0 left.1 in
-    let r = below node.0.right right.0 right.1 in
-    let t = Node l.0 node.0.block r.0 node.0.height in
-    let lw = l.1.within in
-    let rw_ = r.1.within in
-    let nodes : EncodesSaved d t = over_sides d node.0 (λ v. EncodesSaved v l.0) (λ v. EncodesSaved v r.0) node.0.height node.1 refl l.1.nodes r.1.nodes in (
-      t,
-      record {
-        nodes = nodes;
-        within = omega arith;
-        stands = record { is_span = rw (l.1.stands.is_span, r.1.stands.is_span, span.1) span.2; ranges = ranges_saved t d nodes };
-      },
-    )
-
-pub found : (depth : ℕ) (d : Data) (o : Option Span) → checked_nodes depth d ≡ Some o → (t : Saved) × IsFound depth d o t
-unfolding checked_nodes
-found zero d o e = let q = if_some (is_some (as_null d)) (Some None) o e in (Absent, found_null 0 d o q.0 q.1)
-found (suc depth) d o e =
-    elim (is_some (as_null d)) as (λ v. is_some (as_null d) ≡ v → cond v (Some None) (checked_node (checked_nodes depth) d) ≡ Some o → (t : Saved) × IsFound (suc depth) d o t) [
-      | true ↦ λ z q. (Absent, found_null (suc depth) d o z q)
-      | false ↦ λ z q. found_node depth d o (λ v p g. found depth v p g) q
-    ] refl e
-
-pub finds : (t : Saved) (depth : ℕ) (d : Data) (o : Option Span) → EncodesSaved d t → height_of (shape_of t) ≤ depth → span_of t ≡ Some o → checked_nodes depth d ≡ Some o
-unfolding checked_nodes
-finds Absent zero d o p w e = rw p e
-finds Absent (suc depth) d o p w e = rw p e
-finds (Node l b r h) zero d o p w e = absurd (omega arith)
-finds (Node l b r h) (suc depth) d o p w e =
+-- A value has the nodes of at most one saved tree.
+pub one_saved : (t u : Saved) (d : Data) → EncodesSaved d t → EncodesSaved d u → t ≡ u
+one_saved Absent Absent d p q = refl
+one_saved Absent (Node l b r h) d p q =
+    let n = node_is d b (λ v. EncodesSaved v l) (λ v. EncodesSaved v r) h q in
+    absurd (no_data d _ p n.2)
+one_saved (Node l b r h) Absent d p q =
     let n = node_is d b (λ v. EncodesSaved v l) (λ v. EncodesSaved v r) h p in
-    let left = and_then_some _ (span_of l) o e in
-    let right = and_then_some _ (span_of r) o left.2 in
-    let in_left = finds l depth n.0 left.0 n.3 (omega arith) left.1 in
-    let in_right = finds r depth n.1 right.0 n.4 (omega arith) right.1 in
-    rw (not_null d 5 p.five_fields, n.2, in_left, in_right) right.2
-
--- The result of the check of a node, from those of its children.
-pub checked_over : (depth : ℕ) (d : Data) (n : NodeData) (left right : Option Span) (span : Span) → 1 ≤ depth → is_some (as_null d) ≡ false → decoded_node d ≡ Some n → checked_nodes (depth - 1) n.left ≡ Some left → checked_nodes (depth - 1) n.right ≡ Some right →
-    span_over left n.block right n.height ≡ Some span → Some (Some span) ≡ checked_nodes depth d
-unfolding checked_nodes
-checked_over zero d n left right span p z e l r s = absurd (omega arith)
-checked_over (suc depth) d n left right span p z e l r s =
-    let same : suc depth - 1 ≡ depth = omega arith in
-    let l2 : checked_nodes depth n.left ≡ Some left = subst (λ (k : ℕ). checked_nodes k n.left ≡ Some left) same l in
-    let r2 : checked_nodes depth n.right ≡ Some right = subst (λ (k : ℕ). checked_nodes k n.right ≡ Some right) same r in
-    rw (z, e, l2, r2, s) refl
+    absurd (no_data d _ q n.2)
+one_saved (Node l x r h) (Node m y n i) d p q =
+    let a = node_is d x (λ v. EncodesSaved v l) (λ v. EncodesSaved v r) h p in
+    let b = node_is d y (λ v. EncodesSaved v m) (λ v. EncodesSaved v n) i q in
+    let same : data_of y i b.0 b.1 ≡ data_of x h a.0 a.1 = same_Some _ _ (sym b.2 ∙ a.2) in
+    let left : l ≡ m = one_saved l m a.0 a.3 (subst (λ (v : NodeData). EncodesSaved v.left m) same b.3) in
+    let right : r ≡ n = one_saved r n a.1 a.4 (subst (λ (v : NodeData). EncodesSaved v.right n) same b.4) in
+    let block : x ≡ y = ap (λ (v : NodeData). v.block) (sym same) in
+    let height : h ≡ i = ap (λ (v : NodeData). v.height) (sym same) in
+    cc

@@ -1,8 +1,8 @@
 -- The span of a subtree that was read. Only this and the held keys are kept of it. The lemmas of proofs/SavedNodes show which
 -- subtrees have a span.
-use Rattle.std.specs.Prelude.{◌≡◌, ℕ, ◌+◌, min, max, Bool, true, false, not, ◌&&◌, ◌||◌, ◌==◌, nat_lt, nat_le, ◌^◌, ◌-◌, if◌then◌else◌, Option, Some, None, option_and_then, List, [], ◌∷◌, ◌++◌, length, ◌<◌, ◌⊎◌, Result, OnOk}
-use Rattle.vm_ranges.specs.Saving.{ReadsParts}
+use Rattle.std.specs.Prelude.{◌≡◌, ℕ, ◌+◌, min, max, Bool, true, false, not, ◌&&◌, ◌||◌, ◌==◌, nat_lt, nat_le, ◌^◌, ◌-◌, if◌then◌else◌, Option, Some, None, option_and_then, List, [], ◌∷◌, ◌++◌, length, ◌<◌, ◌⊎◌, IfSome, Result, MatchResult}
 use Rattle.vm_ranges.specs.declared.saved.SavedError.{SavedError}
+use Rattle.vm_ranges.specs.declared.saved.SavedError.TheVariants.{Violated}
 use Rattle.vm_ranges.specs.declared.saved.Condition.TheVariants.{Keys}
 use Rattle.vm_ranges.specs.Range.{Range, MAX}
 use Rattle.vm_leaf.specs.declared.block.Block.{Block}
@@ -141,14 +141,15 @@ Arranges old left key right answer new =
     EndsWithKeys old before lefts rights →
     (answer ≡ Some (length (before ++ lefts))) × (new ≡ before ++ (lefts ++ rights))
 
--- The result of the end of a node, if its children are those of two saved trees. The list has the keys of all nodes that
--- ended outside the node, and then those of its children.
--- - Ok if the tree of the node is readable, and then the span stands for it, and the list has its keys in order.
+-- The result of the end of a node, if its children are those of two saved trees. The keys that are kept are those of all
+-- nodes that ended outside the node, and then those of its children.
+-- - Ok if the tree of the node is readable. Then the span stands for it, and the keys that are kept have its keys in order.
 -- - Violated Keys if it is not readable.
--- - OutOfMemory is possible only if it is readable.
-unfoldable pub EndsNode : List Range → Option Span → Block → Option Span → ℕ → Result Span SavedError → List Range → Type 0
+unfoldable pub EndsNode : Option (List Range) → Option Span → Block → Option Span → ℕ → Result Span SavedError → Option (List Range) → Type 0
 EndsNode old left b right height answer new =
     (before : List Range) (l r : Saved) → StandsFor left l → StandsFor right r →
-    EndsWithKeys old before (held_keys l) (held_keys r) →
-    ReadsParts (λ s. StandsFor (Some s) (Node l b r height)) Keys answer
-    × OnOk answer (new ≡ before ++ held_keys (Node l b r height))
+    IfSome old (λ keys. EndsWithKeys keys before (held_keys l) (held_keys r)) →
+    MatchResult answer
+    (λ s. StandsFor (Some s) (Node l b r height)
+    × IfSome new (λ keys. keys ≡ before ++ held_keys (Node l b r height)))
+    (λ e. (e ≡ Violated Keys) × ¬ ((s : Span) × StandsFor (Some s) (Node l b r height)))

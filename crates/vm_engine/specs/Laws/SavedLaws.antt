@@ -9,7 +9,7 @@ use Rattle.vm_engine.specs.Tree.SpaceTree.{space_of, tree_state, IsSpaceTree}
 use Rattle.vm_engine.specs.Values.SavedTrees.{Saved, Node, HasRanges, IsReadable, HasHeldKeys, HasTreeOf}
 use Rattle.vm_engine.specs.Values.TreeValues.{EncodesSpaceTree}
 use Rattle.vm_engine.specs.Values.KeyValues.{EncodesKeys}
-use Rattle.vm_engine.specs.Checks.ValueSpans.{EncodesSaved}
+use Rattle.vm_engine.specs.Checks.ValueNodes.{EncodesSaved}
 use Rattle.vm_engine.specs.Values.WrittenTrees.{IsWritten, WritesNode}
 use Rattle.vm_engine.specs.Checks.Spans.{StandsFor}
 use Rattle.vm_engine.specs.declared.saved.span.Span.{Span}

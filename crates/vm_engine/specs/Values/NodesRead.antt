@@ -1,5 +1,5 @@
 -- The nodes of a saved tree that were read so far.
-use Rattle.std.specs.Prelude.{◌≡◌, ◌+◌, ◌<◌, ℕ, nat_le, if◌then◌else◌, List, [], Option, None, Some, Result, Ok, Err}
+use Rattle.std.specs.Prelude.{◌≡◌, ◌+◌, ◌<◌, ℕ, nat_le, if◌then◌else◌, List, [], Option, None, Some, IfSome, Result, Ok, Err}
 use Rattle.vm_ranges.specs.Cases.{IfElse}
 use Rattle.vm_ranges.specs.Range.{Range}
 use Rattle.vm_engine.specs.Checks.Spans.{StandsFor}
@@ -10,15 +10,29 @@ use Rattle.vm_ranges.specs.declared.saved.SavedError.TheVariants.{Violated}
 use Rattle.vm_ranges.specs.declared.saved.Condition.TheVariants.{Nesting}
 
 -- The held keys of the nodes that ended, the number of the nodes that began and did not end, and the span of the root after it
--- ended.
+-- ended. The keys are None if they are not kept: memory ran out, or they are not needed.
 pub record NodesRead : Type 0 where
-  pub held : List Range
+  pub held : Option (List Range)
   pub depth : ℕ
   pub root : Option Span
 
 -- No node.
 abbrev pub no_nodes : NodesRead
-no_nodes = record { held = []; depth = 0; root = None }
+no_nodes = record { held = Some []; depth = 0; root = None }
+
+-- No node, and keys that are not kept.
+abbrev pub no_keys : NodesRead
+no_keys = record { held = None; depth = 0; root = None }
+
+-- No node was read or began.
+pub record IsEmpty (nodes : NodesRead) : Type 0 where
+  pub none_began : nodes.depth ≡ 0
+  pub none_ended : nodes.root ≡ None
+  pub no_keys : IfSome nodes.held (λ keys. keys ≡ [])
+
+-- The span is that of the root after the nodes of a tree were read first.
+abbrev pub IsRootOf : NodesRead → NodesRead → Option Span → Type 0
+IsRootOf old new span = old.depth ≡ 0 → old.root ≡ None → new.root ≡ span
 
 -- The result of `begin`: one more node, or Violated Nesting if it is nested in 50 nodes.
 abbrev pub BeginsNode : NodesRead → Result (Unit {0}) SavedError → NodesRead → Type 0
@@ -31,7 +45,7 @@ BeginsNode old answer new =
 abbrev pub root_after : NodesRead → Span → Option Span
 root_after old span = if nat_le old.depth 1 then Some span else old.root
 
--- The nodes that were read are those of the saved tree.
+-- The nodes that were read are those of the saved tree. Its held keys are those that are kept.
 pub record AreNodesOf (nodes : NodesRead) (t : Saved) : Type 0 where
   pub span : StandsFor nodes.root t
-  pub keys : nodes.held ≡ held_keys t
+  pub keys : IfSome nodes.held (λ keys. keys ≡ held_keys t)

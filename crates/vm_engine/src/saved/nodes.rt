@@ -3,18 +3,18 @@
 //! A reader calls `begin` before it reads the fields of a node, and `end` after that. It has no list
 //! of nodes: a subtree is known by its span, and only the allocated keys of all subtrees are kept.
 //! The span of the root is kept beside them, so a tree is made of the nodes of one reader.
-ghost use Rattle.std.specs.Prelude.{◌≡◌, ◌+◌, ◌-◌, ◌<◌, ◌≤◌, ◌++◌, Err, take, drop, IfOk, IfSome};
+ghost use Rattle.std.specs.Prelude.{◌≡◌, ◌+◌, ◌-◌, ◌<◌, ◌≤◌, ◌++◌, Err, take, drop, IfOk, IfSome, option_map};
 ghost use Rattle.std.specs.Vec.{vec_len};
 ghost use Rattle.vm_engine.specs.Address.{IsAddressState};
 ghost use Rattle.vm_engine.specs.Checks.Spans.{Arranges, EndsNode};
-ghost use Rattle.vm_engine.specs.Checks.HeldKeys.{CanBeHeld, HoldsKeys};
+ghost use Rattle.vm_engine.specs.Checks.HeldKeys.{CanBeHeld, HoldsKept};
 ghost use Rattle.vm_tree.specs.Building.{IsLowestTree};
 ghost use Rattle.vm_engine.specs.Values.SavedTrees.{Saved, HasHeldKeys, HasTreeOf};
 ghost use Rattle.vm_engine.specs.Tree.SpaceTree.{tree_state, made_tree};
 ghost use Rattle.vm_ranges.specs.Saving.{ReadsParts};
 ghost use Rattle.vm_ranges.specs.declared.saved.Condition.TheVariants.{Inside, Tree};
 ghost use Rattle.vm_ranges.specs.declared.saved.SavedError.TheVariants.{OutOfMemory};
-ghost use Rattle.vm_engine.specs.Values.NodesRead.{AreNodesOf, BeginsNode, no_nodes, root_after};
+ghost use Rattle.vm_engine.specs.Values.NodesRead.{AreNodesOf, BeginsNode, no_keys, no_nodes, root_after};
 
 use super::span::{MAX_NESTING, Span, held_in, is_inside, is_tree_of, span_over};
 use crate::IntervalTree;
@@ -25,20 +25,21 @@ use vm_ranges::{Condition, Error, NodeState, RangeInclusive, SavedError};
 /// The nodes of a saved tree that were read so far.
 #[derive(Drop)]
 pub struct ReadNodes {
-    // The allocated keys of all nodes that ended. Those of a node are in ascending order.
-    held: Vec<RangeInclusive>,
+    // The allocated keys of all nodes that ended, if they are kept. Those of a node are in ascending order.
+    held: Option<Vec<RangeInclusive>>,
     // The number of nodes that began and did not end.
     depth: u64,
     // The span of the last node that ended in no other node.
-    root: Option<Span>,
+    pub(super) root: Option<Span>,
 }
 
 impl Model for ReadNodes {
+    ghost use Rattle.std.specs.Prelude.{option_map};
     ghost use Rattle.vm_engine.specs.Values.NodesRead.{NodesRead};
 
     ghost Value = { NodesRead };
 
-    ghost view = { λ n. record { held = n.held.items; depth = n.depth; root = n.root } };
+    ghost view = { λ n. record { held = option_map (λ v. v.items) n.held; depth = n.depth; root = n.root } };
 
     ghost invariant = { λ n. Unit {0} };
 }
@@ -49,7 +50,18 @@ impl ReadNodes {
         ensures { result ≡ no_nodes }
     {
         ReadNodes {
-            held: Vec::new(alloc),
+            held: Some(Vec::new(alloc)),
+            depth: 0,
+            root: None,
+        }
+    }
+
+    /// Returns an empty list of nodes whose keys are not kept, so it never allocates.
+    pub(super) fn without_keys() -> Self
+        ensures { result ≡ no_keys }
+    {
+        ReadNodes {
+            held: None,
             depth: 0,
             root: None,
         }
@@ -76,16 +88,15 @@ impl ReadNodes {
     /// `None`. The nodes of the children have ended right before, in any order, and their spans are the
     /// results of their ends.
     ///
-    /// After an error the keys can be in another order, so a reader stops there.
+    /// If memory runs out, the nodes are still checked, and [`IntervalTree::from_nodes`] returns the error. After
+    /// an error the keys can be in another order, so a reader stops there.
     ///
     /// # Errors
     ///
-    /// In this order:
     /// - `Violated(Keys)` if one of these is true:
     ///   - The keys are not in ascending order, or share an address.
     ///   - The key is allocated and ends at `u64::MAX`.
     ///   - Nodes are nested more than 50 deep.
-    /// - `OutOfMemory` if an allocation fails.
     pub fn end(
         &mut self,
         left: Option<Span>,
@@ -109,25 +120,33 @@ impl ReadNodes {
 }
 
 /// Ends a node in a list of keys, which then has the keys of its subtree in order. Returns its span.
+///
+/// If an allocation fails, the keys are not kept any more.
 fn end_in(
-    list: &mut Vec<RangeInclusive>,
+    held: &mut Option<Vec<RangeInclusive>>,
     left: Option<Span>,
     key: RangeInclusive,
     state: NodeState,
     right: Option<Span>,
     height: u64,
 ) -> std::result::Result<Span, SavedError>
-    ensures { EndsNode list.old.items left (record { key = key; state = state }) right height
-        result list.new.items }
+    ensures { EndsNode (option_map (λ v. v.items) held.old) left (record { key = key; state = state }) right height
+        result (option_map (λ v. v.items) held.new) }
 {
     let Some(span) = span_over(&left, &key, state, &right, height) else {
         return Err(SavedError::Violated(Condition::Keys));
     };
+    let Some(list) = held else {
+        return Ok(span);
+    };
     let Some(place) = arrange(list, held_in(&left), &key, held_in(&right)) else {
         return Err(SavedError::Violated(Condition::Keys));
     };
-    if state == NodeState::Allocated {
-        list.insert(place, key)?;
+    if state == NodeState::Free {
+        return Ok(span);
+    }
+    if list.insert(place, key).is_err() {
+        *held = None;
     }
     Ok(span)
 }
@@ -184,7 +203,7 @@ impl IntervalTree {
     ) -> std::result::Result<Self, SavedError>
         ensures answer { (t : Saved) → AreNodesOf nodes.now t
             → ReadsParts (HasTreeOf space t) Tree (made_tree result) }
-        ensures memory { result ≡ Err OutOfMemory → CanBeHeld space nodes.now.held }
+        ensures memory { result ≡ Err OutOfMemory → IfSome nodes.now.held (CanBeHeld space) }
         ensures low { IfOk result IsLowestTree }
         ensures space { IfOk result (λ tree. (tree_state tree).space ≡ space) }
         ensures state { IfOk result (λ tree. IsAddressState (tree_state tree)) }
@@ -212,7 +231,7 @@ impl IntervalTree {
     ) -> std::result::Result<Self, SavedError>
         ensures answer { (t : Saved) → AreNodesOf nodes.now t
             → ReadsParts (HasHeldKeys space t) Inside (made_tree result) }
-        ensures memory { result ≡ Err OutOfMemory → CanBeHeld space nodes.now.held }
+        ensures memory { result ≡ Err OutOfMemory → IfSome nodes.now.held (CanBeHeld space) }
         ensures low { IfOk result IsLowestTree }
         ensures space { IfOk result (λ tree. (tree_state tree).space ≡ space) }
         ensures state { IfOk result (λ tree. IsAddressState (tree_state tree)) }
@@ -229,13 +248,16 @@ impl IntervalTree {
 fn tree_with(
     alloc: Global,
     space: RangeInclusive,
-    held: &[RangeInclusive],
+    held: &Option<Vec<RangeInclusive>>,
     condition: Condition,
 ) -> std::result::Result<IntervalTree, SavedError>
-    ensures held { HoldsKeys space held.now condition (made_tree result) }
+    ensures held { HoldsKept space (option_map (λ v. v.items) held.now) condition (made_tree result) }
     ensures low { IfOk result IsLowestTree }
     ensures state { IfOk result (λ tree. IsAddressState (tree_state tree)) }
 {
+    let Some(held) = held else {
+        return Err(SavedError::OutOfMemory);
+    };
     match IntervalTree::with_held(alloc, space, held) {
         Ok(tree) => Ok(tree),
         Err(failure) => {

@@ -1,19 +1,20 @@
 //! Encodes a tree as a value, and decodes it.
-ghost use Rattle.std.specs.Prelude.{◌≡◌, IfOk};
+ghost use Rattle.std.specs.Prelude.{◌≡◌, ◌≤◌, IfOk, IfSome};
 ghost use Rattle.serde_json.specs.View.{view};
 ghost use Rattle.vm_ranges.specs.Saving.{Saves, Reads};
 ghost use Rattle.vm_tree.specs.Building.{IsLowestTree};
 ghost use Rattle.vm_engine.specs.Address.{IsAddressState};
-ghost use Rattle.vm_engine.specs.Checks.ValueSpans.{EncodesSaved};
+ghost use Rattle.vm_engine.specs.Checks.ValueNodes.{EncodesSaved, ReadsNodes, ReadsValue};
 ghost use Rattle.vm_engine.specs.Tree.SpaceTree.{tree_state, made_tree};
 ghost use Rattle.vm_engine.specs.Values.SavedTrees.{Saved};
 ghost use Rattle.vm_engine.specs.Values.TreeValues.{EncodesSpaceTree};
+ghost use Rattle.vm_engine.specs.Values.KeyValues.{MAX_NESTING_REPAIRED, EncodesKeys};
+ghost use Rattle.vm_engine.specs.Values.NodesRead.{IsEmpty, IsRootOf};
 ghost use Rattle.vm_engine.specs.Values.WrittenTrees.{IsWritten};
 
-use super::check::check_nodes;
-use super::node::encode_node;
-use super::repaired::tree_of_keys;
-use super::span::{MAX_HEIGHT, held_in, is_tree_of};
+use super::node::{decode_node, encode_node};
+use super::nodes::ReadNodes;
+use super::span::{Span, is_inside, is_tree_of};
 use super::written::{WrittenBlocks, WrittenTree};
 use crate::IntervalTree;
 use serde_json::Value;
@@ -57,14 +58,84 @@ impl IntervalTree {
     {
         // Proof: this shows that the space is a range.
         let _end = space.end();
-        let Some(root) = check_nodes(value, MAX_HEIGHT) else {
-            return Err(ValueError::NotAState);
-        };
-        if !is_tree_of(space, &root) {
+        let checked = read_nodes(ReadNodes::without_keys(), value)?;
+        if !is_tree_of(space, &checked.root) {
             return Err(ValueError::NotAState);
         }
-        tree_of_keys(alloc, space, value, held_in(&root))
+        let nodes = read_nodes(ReadNodes::new(alloc), value)?;
+        Ok(Self::from_nodes(alloc, *space, &nodes)?)
     }
+
+    /// Returns a tree of the space in which the allocated keys of a value are allocated. It has the minimum
+    /// height for its nodes.
+    ///
+    /// The tree in the value can have no nodes, gaps between keys, free neighbours, no balance and
+    /// any heights. All of the value is checked before anything is allocated, and the check descends
+    /// at most 51 levels.
+    ///
+    /// # Errors
+    ///
+    /// In this order:
+    /// - `NotAState` if one of these is true:
+    ///   - The fields are not those of nodes.
+    ///   - Nodes are nested more than 50 deep.
+    ///   - The keys are not in ascending order, overlap, or are not in the space.
+    ///   - An allocated key ends at `u64::MAX`.
+    ///   - More than 6,293,134,512 keys are allocated.
+    /// - `OutOfMemory` if an allocation fails.
+    pub fn from_root_value_repaired(
+        alloc: Global,
+        space: &RangeInclusive,
+        value: &Value,
+    ) -> std::result::Result<Self, ValueError>
+        ensures answer { Reads (EncodesKeys (view value.now) space.now) (made_tree result) }
+        ensures low { IfOk result IsLowestTree }
+        ensures state { IfOk result (λ tree. IsAddressState (tree_state tree)) }
+    {
+        // Proof: this shows that the space is a range.
+        let _end = space.end();
+        let checked = read_nodes(ReadNodes::without_keys(), value)?;
+        if !is_inside(space, &checked.root) {
+            return Err(ValueError::NotAState);
+        }
+        let nodes = read_nodes(ReadNodes::new(alloc), value)?;
+        Ok(Self::from_nodes_repaired(alloc, *space, &nodes)?)
+    }
+}
+
+/// Reads the nodes of a value into an empty list.
+fn read_nodes(mut nodes: ReadNodes, value: &Value) -> std::result::Result<ReadNodes, ValueError>
+    requires { IsEmpty nodes }
+    ensures { ReadsNodes (view value.now) result }
+{
+    if read_node(&mut nodes, value).is_none() {
+        return Err(ValueError::NotAState);
+    }
+    Ok(nodes)
+}
+
+/// Reads a node and all nodes below it, and returns the span of their tree. Returns `None` if the value does
+/// not have the fields of nodes, or if they are not those of a readable tree.
+fn read_node(nodes: &mut ReadNodes, value: &Value) -> Option<Option<Span>>
+    requires { nodes.old.depth ≤ MAX_NESTING_REPAIRED }
+    ensures value { ReadsValue (view value.now) nodes.old result nodes.new }
+    ensures root { IfSome result (IsRootOf nodes.old nodes.new) }
+{
+    if value.is_null() {
+        return Some(None);
+    }
+    if nodes.begin().is_err() {
+        return None;
+    }
+    let Some(node) = decode_node(value) else {
+        return None;
+    };
+    let left = read_node(nodes, node.left)?;
+    let right = read_node(nodes, node.right)?;
+    let Ok(span) = nodes.end(left, node.key, node.state, right, node.height) else {
+        return None;
+    };
+    Some(Some(span))
 }
 
 /// Returns the value that encodes a saved tree.

@@ -1,17 +1,37 @@
-use Rattle.std.proofs.Common.{sym, ◌∙◌}
+use Rattle.std.proofs.Common.{◌≡◌, Err, false, sym, ap, ◌∙◌, rules}
 use Rattle.serde_json.specs.View.{view}
-use Rattle.vm_engine.specs.Tree.SpaceTree.{made_tree}
-use Rattle.vm_engine.proofs.Repairing.RepairedTrees.{no_span, not_inside, keys_nested, keys_reads}
+use Rattle.vm_ranges.specs.Saving.{value_error}
+use Rattle.vm_ranges.specs.declared.saved.ValueError.TheVariants.{NotAState}
+use Rattle.vm_engine.specs.Checks.Spans.{is_inside}
+use Rattle.vm_engine.specs.Tree.SpaceTree.{tree_state}
+use Rattle.vm_engine.specs.Values.NodesRead.{NodesRead}
+use Rattle.vm_engine.proofs.Repairing.RepairedTrees.{keys_unread, not_inside, keys_refused, keys_read}
 use Rattle.vm_engine.proofs.interval_tree.IntervalTree.from_root_value_repaired.Goals as goal
 
-pub returns-in_default-clause-answer : goal.returns-in_default-clause-answer
-returns-in_default-clause-answer c = no_span (view c.args.value.now) c.args.space.now c.end-end.ensures.range.1 (sym c.check_nodes.ensures ∙ c.in_default.is)
+pub returns-in_err-checked-clause-answer : goal.returns-in_err-checked-clause-answer
+returns-in_err-checked-clause-answer c =
+    let is : c.from_residual.result ≡ Err NotAState = search rules in
+    rw is (keys_unread (view c.args.value.now) c.args.space.now c.end-end.ensures.range.1 c.in_err-checked.ensures.1)
 
 pub returns-then-not-is_inside-clause-answer : goal.returns-then-not-is_inside-clause-answer
-returns-then-not-is_inside-clause-answer c = not_inside (view c.args.value.now) c.args.space.now c.in-Some.root c.end-end.ensures.range.1 (sym c.check_nodes.ensures ∙ c.in-Some.is) (sym c.if-not-is_inside.ensures.inside)
+returns-then-not-is_inside-clause-answer c =
+    let read = c.in_ok-checked.ensures in
+    let not : is_inside c.args.space.now c.in_ok-checked.checked.root ≡ false = ap (λ (v : NodesRead). is_inside c.args.space.now v.root) (sym c.checked.view_is) ∙ (sym c.is_inside.ensures.inside ∙ c.if-not-is_inside.true) in
+    not_inside (view c.args.value.now) c.args.space.now c.in_ok-checked.checked.root read.0 read.1 read.2.span not
 
-pub tree_of_keys-requires : goal.tree_of_keys-requires
-tree_of_keys-requires c = record { nodes = keys_nested (view c.args.value.now) c.in-Some.root (sym c.check_nodes.ensures ∙ c.in-Some.is) }
+pub returns-in_err-nodes-clause-answer : goal.returns-in_err-nodes-clause-answer
+returns-in_err-nodes-clause-answer c =
+    let is : c.from_residual-in_err-nodes.result ≡ Err NotAState = search rules in
+    rw is (keys_unread (view c.args.value.now) c.args.space.now c.end-end.ensures.range.1 c.in_err-nodes.ensures.1)
+
+pub returns-in_err-from_nodes_repaired-clause-answer : goal.returns-in_err-from_nodes_repaired-clause-answer
+returns-in_err-from_nodes_repaired-clause-answer c =
+    let read = c.in_ok-nodes.ensures in
+    let e = c.in_err-from_nodes_repaired.field-0.0 in
+    let is : c.from_residual-in_err-from_nodes_repaired.result ≡ Err (value_error e) = search rules in
+    rw is (keys_refused (view c.args.value.now) c.args.space.now read.0 e read.1 (c.in_err-from_nodes_repaired.ensures.answer read.0 read.2))
 
 pub returns-clause-answer : goal.returns-clause-answer
-returns-clause-answer c = keys_reads (view c.args.value.now) c.args.space.now c.in-Some.root (made_tree c.tree_of_keys.result) c.end-end.ensures.range.1 (sym c.check_nodes.ensures ∙ c.in-Some.is) (sym c.if-not-is_inside.ensures.inside) c.tree_of_keys.ensures.answer
+returns-clause-answer c =
+    let read = c.in_ok-nodes.ensures in
+    keys_read (view c.args.value.now) c.args.space.now read.0 (tree_state c.in_ok-from_nodes_repaired.field-0) read.1 (c.in_ok-from_nodes_repaired.ensures.answer read.0 read.2)

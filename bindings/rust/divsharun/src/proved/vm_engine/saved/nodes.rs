@@ -14,19 +14,28 @@ use crate::proved::vm_ranges::{Condition, Error, NodeState, RangeInclusive, Save
 
 /// The nodes of a saved tree that were read so far.
 pub struct ReadNodes {
-    // The allocated keys of all nodes that ended. Those of a node are in ascending order.
-    held: Vec<RangeInclusive>,
+    // The allocated keys of all nodes that ended, if they are kept. Those of a node are in ascending order.
+    held: Option<Vec<RangeInclusive>>,
     // The number of nodes that began and did not end.
     depth: u64,
     // The span of the last node that ended in no other node.
-    root: Option<Span>,
+    pub(super) root: Option<Span>,
 }
 
 impl ReadNodes {
     /// Returns an empty list of nodes. It does not allocate.
     pub fn new(alloc: Global) -> Self {
         ReadNodes {
-            held: Vec::new(alloc),
+            held: Some(Vec::new(alloc)),
+            depth: 0,
+            root: None,
+        }
+    }
+
+    /// Returns an empty list of nodes whose keys are not kept, so it never allocates.
+    pub(super) fn without_keys() -> Self {
+        ReadNodes {
+            held: None,
             depth: 0,
             root: None,
         }
@@ -51,16 +60,15 @@ impl ReadNodes {
     /// `None`. The nodes of the children have ended right before, in any order, and their spans are the
     /// results of their ends.
     ///
-    /// After an error the keys can be in another order, so a reader stops there.
+    /// If memory runs out, the nodes are still checked, and [`IntervalTree::from_nodes`] returns the error. After
+    /// an error the keys can be in another order, so a reader stops there.
     ///
     /// # Errors
     ///
-    /// In this order:
     /// - `Violated(Keys)` if one of these is true:
     ///   - The keys are not in ascending order, or share an address.
     ///   - The key is allocated and ends at `u64::MAX`.
     ///   - Nodes are nested more than 50 deep.
-    /// - `OutOfMemory` if an allocation fails.
     pub fn end(
         &mut self,
         left: Option<Span>,
@@ -79,8 +87,10 @@ impl ReadNodes {
 }
 
 /// Ends a node in a list of keys, which then has the keys of its subtree in order. Returns its span.
+///
+/// If an allocation fails, the keys are not kept any more.
 fn end_in(
-    list: &mut Vec<RangeInclusive>,
+    held: &mut Option<Vec<RangeInclusive>>,
     left: Option<Span>,
     key: RangeInclusive,
     state: NodeState,
@@ -90,11 +100,17 @@ fn end_in(
     let Some(span) = span_over(&left, &key, state, &right, height) else {
         return Err(SavedError::Violated(Condition::Keys));
     };
+    let Some(list) = held else {
+        return Ok(span);
+    };
     let Some(place) = arrange(list, held_in(&left), &key, held_in(&right)) else {
         return Err(SavedError::Violated(Condition::Keys));
     };
-    if state == NodeState::Allocated {
-        list.insert(place, key)?;
+    if state == NodeState::Free {
+        return Ok(span);
+    }
+    if list.insert(place, key).is_err() {
+        *held = None;
     }
     Ok(span)
 }
@@ -173,9 +189,12 @@ impl IntervalTree {
 fn tree_with(
     alloc: Global,
     space: RangeInclusive,
-    held: &[RangeInclusive],
+    held: &Option<Vec<RangeInclusive>>,
     condition: Condition,
 ) -> core::result::Result<IntervalTree, SavedError> {
+    let Some(held) = held else {
+        return Err(SavedError::OutOfMemory);
+    };
     match IntervalTree::with_held(alloc, space, held) {
         Ok(tree) => Ok(tree),
         Err(failure) => {
