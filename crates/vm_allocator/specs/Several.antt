@@ -12,51 +12,53 @@ use Rattle.vm_ranges.specs.declared.error.Error.TheVariants.{OutOfMemory}
 use Rattle.vm_ranges.specs.declared.error.ListError.{ListError}
 use Rattle.vm_ranges.specs.declared.constraint.AllocPolicy.TheVariants.{ExactMatch}
 
--- The ranges that requests get in their order, if `step` is the result of one request. Each is allocated in the state that the
--- ones before it leave.
-abbrev pub EachBy : {X : Type 0} → (X → Request → Result Range Error → X → Type 0) → X → List Request → List Range → X → Type 0
-EachBy step old [] [] new = new ≡ old
-EachBy step old [] (r ∷ rs) new = ⊥
-EachBy step old (q ∷ qs) [] new = ⊥
-EachBy {X} step old (q ∷ qs) (r ∷ rs) new = (mid : X) × step old q (Ok r) mid × EachBy step mid qs rs new
+-- The ranges that requests get in their order, by the state of the allocator. Each is allocated in the state that the ones
+-- before it leave.
+abbrev pub AllocatesEach : AddressState → List Request → List Range → AddressState → Type 0
+AllocatesEach old [] [] new = new ≡ old
+AllocatesEach old [] (r ∷ rs) new = ⊥
+AllocatesEach old (q ∷ qs) [] new = ⊥
+AllocatesEach old (q ∷ qs) (r ∷ rs) new =
+    (mid : AddressState) × Allocates old q (Ok r) mid × AllocatesEach mid qs rs new
 
--- A request fails with this error after the ones before it got their ranges.
-abbrev pub FailsBy : {X : Type 0} → (X → Request → Result Range Error → X → Type 0) → X → List Request → Error → Type 0
-FailsBy step old [] e = ⊥
-FailsBy {X} step old (q ∷ qs) e =
-    step old q (Err e) old
-    ⊎ ((r : Range) × (mid : X) × step old q (Ok r) mid × FailsBy step mid qs e)
+-- One of the requests fails with this error after the ones before it got their ranges, by the state of the allocator.
+abbrev pub RefusesOne : AddressState → List Request → Error → Type 0
+RefusesOne old [] e = ⊥
+RefusesOne old (q ∷ qs) e =
+    Allocates old q (Err e) old
+    ⊎ ((r : Range) × (mid : AddressState) × Allocates old q (Ok r) mid × RefusesOne mid qs e)
 
--- The request with this index fails with this error after the ones before it got their ranges.
-pub record FailsAtIndex {X : Type 0} (step : X → Request → Result Range Error → X → Type 0) (old : X) (requests : List Request) (index : ℕ) (error : Error) : Type 0 where
+-- The result of one request, and of its split: it succeeds, or runs out of memory, only if few enough ranges are held.
+pub record AllocatesInTree (old : Shape) (request : Request) (answer : Result Range Error) (new : Shape) : Type 0 where
+  pub state : Allocates (tree_state old) request answer (tree_state new)
+  pub few : SplitsIfFew (tree_state old) request answer
+
+-- The ranges that requests get in their order, by the trees of the allocator.
+abbrev pub AllocatesEachInTree : Shape → List Request → List Range → Shape → Type 0
+AllocatesEachInTree old [] [] new = new ≡ old
+AllocatesEachInTree old [] (r ∷ rs) new = ⊥
+AllocatesEachInTree old (q ∷ qs) [] new = ⊥
+AllocatesEachInTree old (q ∷ qs) (r ∷ rs) new =
+    (mid : Shape) × AllocatesInTree old q (Ok r) mid × AllocatesEachInTree mid qs rs new
+
+-- The request with this index fails with this error after the ones before it got their ranges: the requests are those before
+-- it, then the request, then those after it.
+pub record FailsAtIndex (old : Shape) (requests : List Request) (index : ℕ) (error : Error) : Type 0 where
   pub before : List Request
   pub request : Request
   pub after : List Request
   pub cut : requests ≡ before ++ request ∷ after
   pub index_is : index ≡ length before
   pub ranges : List Range
-  pub state : X
-  pub each : EachBy step old before ranges state
-  pub fails : step state request (Err error) state
+  pub state : Shape
+  pub each : AllocatesEachInTree old before ranges state
+  pub fails : AllocatesInTree state request (Err error) state
 
 -- The request that an error names fails with that error. An error that names none is OutOfMemory, and no request was tried:
 -- the allocator is as before.
-abbrev pub FailsAsNamed : {X : Type 0} → (X → Request → Result Range Error → X → Type 0) → X → List Request → ListError → X → Type 0
-FailsAsNamed step old requests failure new =
-    MatchOption failure.index ((failure.error ≡ OutOfMemory) × (new ≡ old)) (λ index. FailsAtIndex step old requests index failure.error)
-
--- The ranges that requests get in their order, by the state of the allocator.
-abbrev pub AllocatesEach : AddressState → List Request → List Range → AddressState → Type 0
-AllocatesEach old requests ranges new = EachBy Allocates old requests ranges new
-
--- One of the requests fails with this error, by the state of the allocator.
-abbrev pub RefusesOne : AddressState → List Request → Error → Type 0
-RefusesOne old requests e = FailsBy Allocates old requests e
-
--- The result of one request, and of its split: it succeeds, or runs out of memory, only if few enough ranges are held.
-pub record AllocatesInTree (old : Shape) (request : Request) (answer : Result Range Error) (new : Shape) : Type 0 where
-  pub state : Allocates (tree_state old) request answer (tree_state new)
-  pub few : SplitsIfFew (tree_state old) request answer
+abbrev pub FailsAsNamed : Shape → List Request → ListError → Shape → Type 0
+FailsAsNamed old requests failure new =
+    MatchOption failure.index ((failure.error ≡ OutOfMemory) × (new ≡ old)) (λ index. FailsAtIndex old requests index failure.error)
 
 -- The requests fail together: out of memory, or with the error of the first request that fails. The state is that before.
 abbrev pub FailsAll : AddressState → List Request → Error → AddressState → Type 0

@@ -125,7 +125,7 @@ impl AddressAllocator {
     ///
     /// # Errors
     ///
-    /// - `OutOfMemory` if an allocation fails. What was copied so far is freed.
+    /// - `OutOfMemory` if an allocation fails. The nodes that were copied before it are freed.
     pub fn try_clone(&self, alloc: Global) -> Result<Self>
         ensures answer { Clones (state_of self.now) (made_state result) }
         ensures same { Clones self.now result }

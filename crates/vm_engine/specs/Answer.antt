@@ -19,14 +19,18 @@ IsChosen request state s =
     (λ start. (s ≡ start) × IsPlace request.size request.align (within request.window state) s)
 
 -- The errors of a request for n addresses that start at t. The first condition that is true decides:
--- - Overflow if t is MAX.
--- - ResourceNotAvailable if t is not in the space.
--- - Overflow if the range would end past MAX.
--- - InvalidStateTransition if exactly this range is held.
--- - ResourceNotAvailable if one of its addresses is not clear.
--- - Overflow if it ends at MAX.
 --
--- The last two conditions also follow from `ByPlace`. They are here so that the list is complete.
+-- | condition | result |
+-- |---|---|
+-- | t is MAX | Overflow |
+-- | t is not in the space | ResourceNotAvailable |
+-- | the range would end past MAX | Overflow |
+-- | exactly this range is held | InvalidStateTransition |
+-- | one of its addresses is not clear | ResourceNotAvailable |
+-- | it ends at MAX | Overflow |
+-- | none of these | `otherwise` is true |
+--
+-- The last two errors also follow from `ByPlace`. They are here so that the table is complete.
 unfoldable pub ByStart : ℕ → ℕ → AddressState → (Error → Type 0) → Type 0 → Type 0
 ByStart t n state refused otherwise =
     IfElse (t ≡ MAX) (refused Overflow) (
@@ -42,8 +46,13 @@ unfoldable pub ByExactPolicy : Request → AddressState → (Error → Type 0) �
 ByExactPolicy request state refused otherwise =
     ByPolicy request.policy otherwise otherwise (λ start. ByStart start request.size (within request.window state) refused otherwise)
 
--- ResourceNotAvailable if there is no place in the window. Otherwise Overflow if the range at the chosen place ends at MAX, and
--- `takes` is true for the range if it does not.
+-- The result of a valid request by its place in the window. The first condition that is true decides:
+--
+-- | condition | result |
+-- |---|---|
+-- | there is no place | ResourceNotAvailable |
+-- | the range at the chosen place ends at MAX | Overflow |
+-- | none of these | `takes` is true for the range at the chosen place |
 unfoldable pub ByPlace : Request → AddressState → (Error → Type 0) → (Range → Type 0) → Type 0
 ByPlace request state refused takes =
     (((s : ℕ) → ¬ IsPlace request.size request.align (within request.window state) s) × refused ResourceNotAvailable)
@@ -65,7 +74,14 @@ AllocatesAt old r answer new =
     ((answer ≡ Ok r) × (new ≡ holding r old))
     ⊎ (SplitsGap old r × (new ≡ old) × IsSplitRefusal old answer)
 
--- The result of a valid request: an error of ExactMatch, no place, or the chosen range. An error changes nothing.
+-- The result of a valid request. An error changes nothing. The first condition that is true decides:
+--
+-- | condition | result |
+-- |---|---|
+-- | the policy is ExactMatch, and `ByStart` names an error | that error |
+-- | there is no place in the window | ResourceNotAvailable |
+-- | the range at the chosen place ends at MAX | Overflow |
+-- | none of these | that of `AllocatesAt` for the range at the chosen place |
 unfoldable pub Grants : AddressState → Request → Result Range Error → AddressState → Type 0
 Grants old request answer new =
     let refused : Error → Type 0 = λ e. (answer ≡ Err e) × (new ≡ old) in

@@ -12,7 +12,8 @@ part_in None r = r
 part_in (Some window) r = common window r
 
 -- The state with its space cut to the window. The same ranges are held: one that is only partly in the window is still
--- known as held.
+-- known as held. If the window and the space share no address, the space that results starts past its end. Such a space is
+-- impossible elsewhere, and no address is in it.
 abbrev pub within : Option Range → AddressState → AddressState
 within window state = record state { space = part_in window state.space }
 

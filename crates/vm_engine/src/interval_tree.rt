@@ -91,7 +91,7 @@ impl IntervalTree {
     ///
     /// # Errors
     ///
-    /// - `OutOfMemory` if an allocation fails. What was copied so far is freed.
+    /// - `OutOfMemory` if an allocation fails. The nodes that were copied before it are freed.
     pub fn try_clone(&self, alloc: Global) -> Result<Self>
         ensures { Clones self.now result }
     {

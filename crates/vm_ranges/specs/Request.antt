@@ -37,8 +37,14 @@ pub record IsRequest (request : Request) : Type 0 where
   pub aligned : IsAlignment request.align
   pub start : IsStartAligned request.align request.policy
 
--- The error of an invalid request, by the first condition that is true: the size is 0, the alignment is not a power of
--- two, or the start is not aligned. For a valid request `otherwise` is true.
+-- The error of an invalid request. The first condition that is true decides:
+--
+-- | condition | result |
+-- |---|---|
+-- | the size is 0 | InvalidSize |
+-- | the alignment is not a power of two | InvalidAlignment |
+-- | the policy is ExactMatch, and its start is not a multiple of the alignment | UnalignedAddress |
+-- | none of these | `otherwise` is true |
 unfoldable pub ByConstraint : Request → (Error → Type 0) → Type 0 → Type 0
 ByConstraint request refused otherwise =
     IfElse (request.size ≡ 0) (refused (InvalidSize 0)) (

@@ -13,7 +13,7 @@ use Rattle.vm_engine.specs.Answer.{IsChosen, ByStart, ByExactPolicy, ByPlace, Al
 use Rattle.vm_ranges.specs.Cloning.{Clones}
 use Rattle.vm_engine.specs.Held.{first_fault, TOO_MANY_BLOCKS, BySpace, MakesHeld, MakesWithHeld}
 use Rattle.vm_engine.specs.Tree.Blocks.{blocks_of}
-use Rattle.vm_allocator.specs.Several.{FailsBy, AllocatesAll}
+use Rattle.vm_allocator.specs.Several.{RefusesOne, AllocatesAll}
 use Rattle.vm_allocator.specs.Moves.{IsFor, MovesRange}
 use Rattle.vm_allocator.specs.Holes.{holes_after, last_end, wrong_index, MakesWithFree}
 use Rattle.vm_allocator.specs.Histories.AddressHistories.{Allocation, Several, Release, Move, Cloning, Asked, Allocate, AllocateAll, Free, MoveTo, Clone, RunsOutOfMemory}
@@ -174,7 +174,7 @@ HasAll old requests = (answer : Result (List Range) Error) × (new : AddressStat
 all_after : (old mid new : AddressState) (q : Request) (qs : List Request) (r : Range) (answer : Result (List Range) Error) → Allocates old q (Ok r) mid → AllocatesAll mid qs answer new → answer ≢ Err OutOfMemory → HasAll old (q ∷ qs)
 all_after old mid new q qs r (Ok rs) h k more = (Ok (r ∷ rs), new, (mid, h, k), λ x. absurd (cc x))
 all_after old mid new q qs r (Err e) h k more =
-    let refused : FailsBy Allocates mid qs e = ⊎_elim (λ (m : e ≡ OutOfMemory). absurd (more (ap (λ (v : Error). Err v) m))) (λ f. f) k.1 in
+    let refused : RefusesOne mid qs e = ⊎_elim (λ (m : e ≡ OutOfMemory). absurd (more (ap (λ (v : Error). Err v) m))) (λ f. f) k.1 in
     (Err e, old, (refl, inr (inr (r, mid, h, refused))), λ x. more (ap (λ (v : Error). Err v) (cc x)))
 
 -- The first request has a result, and the others have one in every state.

@@ -4,7 +4,7 @@ ghost use Rattle.vm_ranges.specs.Request.{Request};
 ghost use Rattle.vm_engine.specs.Address.{AddressState, IsAddressState};
 ghost use Rattle.vm_engine.specs.Tree.SpaceTree.{tree_state};
 ghost use Rattle.vm_allocator.specs.Allocator.{state_of};
-ghost use Rattle.vm_allocator.specs.Several.{EachBy, FailsAsNamed, AllocatesEach, FailsAll, AllocatesInTree};
+ghost use Rattle.vm_allocator.specs.Several.{AllocatesEachInTree, FailsAsNamed, AllocatesEach, FailsAll};
 
 use super::AddressAllocator;
 use std::alloc::Global;
@@ -33,9 +33,9 @@ impl AddressAllocator {
             (λ failure. FailsAll (state_of self.old) requests.now failure.error (state_of self.new)) }
         // The limit on the number of ranges is checked before memory is allocated.
         ensures few { IfOk result (λ ranges.
-            EachBy AllocatesInTree self.old.tree requests.now ranges.items self.new.tree) }
+            AllocatesEachInTree self.old.tree requests.now ranges.items self.new.tree) }
         ensures failed { IfErr result (λ failure.
-            FailsAsNamed AllocatesInTree self.old.tree requests.now failure self.new.tree) }
+            FailsAsNamed self.old.tree requests.now failure self.new.tree) }
         ensures state { IsAddressState (state_of self.new) }
     {
         let tree = &mut self.interval_tree;

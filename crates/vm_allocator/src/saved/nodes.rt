@@ -1,5 +1,5 @@
 //! Makes allocators of the nodes that a reader has read.
-ghost use Rattle.std.specs.Prelude.{◌≡◌, Err, IfOk};
+ghost use Rattle.std.specs.Prelude.{◌≡◌, Err, IfOk, IfSome};
 ghost use Rattle.vm_ranges.specs.Saving.{ReadsParts};
 ghost use Rattle.vm_ranges.specs.declared.saved.Condition.TheVariants.{Inside, Tree};
 ghost use Rattle.vm_engine.specs.Address.{IsAddressState};
@@ -32,7 +32,7 @@ impl AddressAllocator {
         ensures answer { (t : Saved) → AreNodesOf nodes.now t
             → ReadsParts (HasTreeOf address_space t) Tree (made_state result) }
         // Memory can only run out if the keys can be held.
-        ensures memory { result ≡ Err OutOfMemory → CanBeHeld address_space nodes.now.held }
+        ensures memory { result ≡ Err OutOfMemory → IfSome nodes.now.held (CanBeHeld address_space) }
         ensures low { IfOk result (λ allocator. IsLowestTree allocator.tree) }
         ensures state { IfOk result (λ allocator. IsAddressState (state_of allocator)) }
     {
@@ -61,7 +61,7 @@ impl AddressAllocator {
         ensures answer { (t : Saved) → AreNodesOf nodes.now t
             → ReadsParts (HasHeldKeys address_space t) Inside (made_state result) }
         // Memory can only run out if the keys can be held.
-        ensures memory { result ≡ Err OutOfMemory → CanBeHeld address_space nodes.now.held }
+        ensures memory { result ≡ Err OutOfMemory → IfSome nodes.now.held (CanBeHeld address_space) }
         ensures low { IfOk result (λ allocator. IsLowestTree allocator.tree) }
         ensures state { IfOk result (λ allocator. IsAddressState (state_of allocator)) }
     {

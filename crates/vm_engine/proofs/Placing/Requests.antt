@@ -72,7 +72,7 @@ many_if : (can_split : Bool) (k : ℕ) → IsTestOf can_split (k < SPLIT_LIMIT_M
 many_if true k t e = absurd (cc e)
 many_if false k t e = omega (arith, t)
 
--- ---- What a refusal or a range tells
+-- ---- The meaning of a refusal and of a range
 -- Only the start of the spot can be chosen.
 record IsSpotOf (request : Request) (search : Search) (sp : Range) (old : List Block) (spot : Spot) : Type 0 where
   cut : IsSpotIn old spot

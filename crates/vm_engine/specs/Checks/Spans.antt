@@ -97,7 +97,12 @@ span_of (Node l b r h) =
     (span_of r))
     (span_of l)
 
--- The span is that of the saved tree, whose keys are ranges.
+-- The span is that of the saved tree, whose keys are ranges. An example, a tree of two nodes:
+--
+-- | node | key | state | height | span: first to last, nesting, held, exact |
+-- |---|---|---|---|---|
+-- | root | 4 to 9 | Allocated | 2 | 0 to 9, 2, 2, true |
+-- | its left child | 0 to 3 | Allocated | 1 | 0 to 3, 1, 1, true |
 pub record StandsFor (span : Option Span) (t : Saved) : Type 0 where
   pub is_span : span_of t ≡ Some span
   pub ranges : HasRanges t
@@ -113,7 +118,8 @@ is_tree_of space None = false
 is_tree_of space (Some s) =
     (s.is_exact && nat_le s.nesting MAX_HEIGHT) && ((s.first == space.start) && (s.last == space.end))
 
--- The list is `before` and then the keys of both children, of the right child first if that was read first.
+-- The list is `before` and then the keys of both children, of the right child first if that was read first. In the example of
+-- `StandsFor` the list is [0 to 3] before the root ends: `before` and `rights` are empty, and `lefts` is [0 to 3].
 abbrev pub EndsWithKeys : List Range → List Range → List Range → List Range → Type 0
 EndsWithKeys list before lefts rights =
     (list ≡ before ++ (lefts ++ rights)) ⊎ (list ≡ before ++ (rights ++ lefts))
@@ -145,6 +151,8 @@ Arranges old left key right answer new =
 -- nodes that ended outside the node, and then those of its children.
 -- - Ok if the tree of the node is readable. Then the span stands for it, and the keys that are kept have its keys in order.
 -- - Violated Keys if it is not readable.
+--
+-- In the example of `StandsFor` the root ends with its span, and the keys that are kept are then [0 to 3, 4 to 9].
 unfoldable pub EndsNode : Option (List Range) → Option Span → Block → Option Span → ℕ → Result Span SavedError → Option (List Range) → Type 0
 EndsNode old left b right height answer new =
     (before : List Range) (l r : Saved) → StandsFor left l → StandsFor right r →

@@ -15,7 +15,7 @@ use Rattle.vm_engine.specs.Checks.Spans.{StandsFor}
 use Rattle.vm_engine.specs.declared.saved.span.Span.{Span}
 use Rattle.vm_engine.specs.declared.saved.written.WrittenNode.{WrittenNode}
 
--- A saved tree of ranges has a span exactly if it is readable.
+-- A saved tree of ranges is accepted exactly if it is readable: a span stands for it if it is, and for no other tree.
 pub record SpansAreExact : Type 0 where
   pub some : (t : Saved) → HasRanges t → IsReadable t → (span : Option Span) × StandsFor span t
   pub readable : (t : Saved) (span : Option Span) → StandsFor span t → IsReadable t

@@ -11,7 +11,7 @@ ghost use Rattle.vm_engine.specs.Answer.{SPLIT_LIMIT_MIN_HELD, Grants};
 ghost use Rattle.vm_engine.specs.Counts.GapSearch.{SearchesGaps, SearchesAligned};
 ghost use Rattle.vm_engine.specs.Counts.NodeCounts.{nodes_of_request};
 ghost use Rattle.vm_engine.specs.Counts.Steps.{IsGrantCount, SplitsIfFew};
-ghost use Rattle.vm_engine.specs.Engine.Allocation.{error_of, with_error, IsSearchOf, IsAllocation};
+ghost use Rattle.vm_engine.specs.Engine.Allocation.{with_error, IsSearchOf, IsAllocation};
 ghost use Rattle.vm_engine.specs.Tree.Blocks.{IsTiling, held_of};
 ghost use Rattle.vm_engine.specs.Tree.SpaceTree.{space_of, tree_state};
 
@@ -41,43 +41,26 @@ impl IntervalTree {
             × SearchesAligned (height_of self.old) (tree_state self.old) constraint result.0 result.1 }
         ensures state { IsAddressState (tree_state self.new) }
     {
-        let mut count = Steps::new();
-        let answer = self.allocate_entering(alloc, constraint, &mut count);
-        (answer, count.entered())
-    }
-
-    /// Allocates the range of a request. The counter starts at 0, and gets the number of nodes entered.
-    fn allocate_entering(
-        &mut self,
-        alloc: Global,
-        constraint: Constraint,
-        count: &mut Steps,
-    ) -> Result<RangeInclusive>
-        requires { count.old ≡ 0 }
-        ensures valid { IsRequest constraint }
-        ensures answer { Grants (tree_state self.old) constraint result (tree_state self.new) }
-        ensures unchanged { OnErr result (self.new ≡ self.old) }
-        ensures few { SplitsIfFew (tree_state self.old) constraint result }
-        ensures count { (count.new ≡ nodes_of_request constraint (space_of (blocks self.old)) self.old)
-            × IsGrantCount (height_of self.old) (tree_state self.old) constraint result count.new }
-        ensures search { SearchesGaps (height_of self.old) (tree_state self.old) constraint result count.new
-            × SearchesAligned (height_of self.old) (tree_state self.old) constraint result count.new }
-        ensures state { IsAddressState (tree_state self.new) }
-    {
         let can_split = self.held_count < SPLIT_LIMIT;
-        let taken = allocate_in(
-            &mut self.tree,
+        let mut count = Steps::new();
+        let tree = &mut self.tree;
+        let taken = match allocate_in(
+            tree,
             &self.space,
             &constraint,
             can_split,
             alloc,
-            count,
-        )?;
+            &mut count,
+        ) {
+            Ok(taken) => taken,
+            Err(error) => return (Err(error), count.entered()),
+        };
         self.held_count += 1;
         self.gap_count += taken.added;
         self.gap_count -= 1;
         self.free_len -= constraint.size();
-        Ok(RangeInclusive::between(taken.start, taken.start + (constraint.size() - 1)))
+        let range = RangeInclusive::between(taken.start, taken.start + (constraint.size() - 1));
+        (Ok(range), count.entered())
     }
 }
 
@@ -174,20 +157,14 @@ fn search_of(constraint: &Constraint, space: &RangeInclusive, can_split: bool) -
 fn with_error(found: std::result::Result<Taken, Refusal>, range: &RangeInclusive) -> Result<Taken>
     ensures { result ≡ with_error range.now found }
 {
-    match found {
-        Ok(taken) => Ok(taken),
-        Err(refusal) => Err(error_of(refusal, range)),
-    }
-}
-
-/// Returns the error of a refusal. A search for `range` alone can find that it is allocated.
-fn error_of(refusal: Refusal, range: &RangeInclusive) -> Error
-    ensures { result ≡ error_of range.now refusal }
-{
-    match refusal {
+    let refusal = match found {
+        Ok(taken) => return Ok(taken),
+        Err(refusal) => refusal,
+    };
+    Err(match refusal {
         Refusal::NoPlace => Error::ResourceNotAvailable,
         Refusal::Held => Error::InvalidStateTransition(*range, NodeState::Allocated),
         Refusal::PastMax | Refusal::TooHigh => Error::Overflow,
         Refusal::OutOfMemory => Error::OutOfMemory,
-    }
+    })
 }

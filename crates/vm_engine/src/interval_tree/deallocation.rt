@@ -12,36 +12,24 @@ use vm_tree::Steps;
 
 impl IntervalTree {
     /// Frees like [`free`](Self::free), and also returns the number of nodes that it entered.
+    #[tactic(auto, using(crate::proofs::Trees::Freeing::freeing))]
     pub fn free_counted(&mut self, key: &RangeInclusive) -> (Result<()>, u64)
         ensures answer { Frees (tree_state self.old) key.now result.0 (tree_state self.new) }
         ensures unchanged { OnErr result.0 (self.new ≡ self.old) }
         ensures steps { IsFreeCount (height_of self.old) result.0 result.1 }
         ensures state { IsAddressState (tree_state self.new) }
     {
-        let mut count = Steps::new();
-        let answer = self.free_entering(key, &mut count);
-        (answer, count.entered())
-    }
-
-    /// Frees a range. The counter starts at 0, and gets the number of nodes entered.
-    #[tactic(auto, using(crate::proofs::Trees::Freeing::freeing))]
-    fn free_entering(&mut self, key: &RangeInclusive, count: &mut Steps) -> Result<()>
-        requires { count.old ≡ 0 }
-        ensures answer { Frees (tree_state self.old) key.now result (tree_state self.new) }
-        ensures unchanged { OnErr result (self.new ≡ self.old) }
-        ensures steps { IsFreeCount (height_of self.old) result count.new }
-        ensures state { IsAddressState (tree_state self.new) }
-    {
         if key.start() < self.space.start() || self.space.end() < key.start() {
-            return Err(Error::ResourceNotAvailable);
+            return (Err(Error::ResourceNotAvailable), 0);
         }
-        let Some(joined) = self.tree.free(key, count) else {
-            return Err(Error::ResourceNotAvailable);
+        let mut count = Steps::new();
+        let Some(joined) = self.tree.free(key, &mut count) else {
+            return (Err(Error::ResourceNotAvailable), count.entered());
         };
         self.held_count -= 1;
         self.gap_count -= joined;
         self.gap_count += 1;
         self.free_len += key.len();
-        Ok(())
+        (Ok(()), count.entered())
     }
 }

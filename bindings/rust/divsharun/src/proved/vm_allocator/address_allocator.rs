@@ -90,7 +90,7 @@ impl AddressAllocator {
     ///
     /// # Errors
     ///
-    /// - `OutOfMemory` if an allocation fails. What was copied so far is freed.
+    /// - `OutOfMemory` if an allocation fails. The nodes that were copied before it are freed.
     pub fn try_clone(&self, alloc: Global) -> Result<Self> {
         Ok(AddressAllocator {
             address_space: self.address_space,

@@ -1,8 +1,8 @@
 use Rattle.std.proofs.Common.{◌≡◌, ◌+◌, ◌∙◌, take, sym, ap, subst, arith, inr, Ok}
 use Rattle.vm_engine.specs.Address.{AddressState, IsAddressState}
 use Rattle.vm_engine.specs.Tree.SpaceTree.{tree_state}
-use Rattle.vm_allocator.specs.Several.{EachBy, FailsAtIndex, AllocatesInTree}
-use Rattle.vm_allocator.proofs.Results.Several.{each_space, each_state, each_up_to, refused_by, refused_state, failed_in_tree, in_tree, all_taken, one_more}
+use Rattle.vm_allocator.specs.Several.{AllocatesEachInTree, FailsAtIndex}
+use Rattle.vm_allocator.proofs.Results.Several.{each_space, each_state, each_up_to, refused_by, failed_in_tree, in_tree, all_taken, one_more}
 use Rattle.vm_allocator.proofs.address_allocator.AddressAllocator.allocate_all.Goals as goal
 
 -- The state is that before the first request.
@@ -14,7 +14,7 @@ state_again c =
     (each_up_to some l.ranges.items c.self.inside.interval_tree l.tree c.allocate.new.self l.invariant.each c.in-Err.ensures.unchanged)
 
 -- The request that fails, in the tree that the requests before it leave.
-failed_at : (c : goal.After-drop-ranges) → FailsAtIndex AllocatesInTree c.self.inside.interval_tree c.args.requests.now c.loop-index.index c.in-Err.error
+failed_at : (c : goal.After-drop-ranges) → FailsAtIndex c.self.inside.interval_tree c.args.requests.now c.loop-index.index c.in-Err.error
 failed_at c =
     let l = c.loop-index in
     let e = c.in-Err.ensures in
@@ -31,8 +31,7 @@ pub returns-in-Err-clause-answer : goal.returns-in-Err-clause-answer
 returns-in-Err-clause-answer c =
     rw (← c.self.view_is) (
       state_again c,
-      inr (refused_state c.args.requests.now c.self.inside.interval_tree c.in-Err.error
-          (refused_by AllocatesInTree c.self.inside.interval_tree c.args.requests.now c.loop-index.index c.in-Err.error (failed_at c))),
+      inr (refused_by c.self.inside.interval_tree c.args.requests.now c.loop-index.index c.in-Err.error (failed_at c)),
     )
 
 pub returns-in-Err-clause-failed : goal.returns-in-Err-clause-failed
@@ -48,9 +47,9 @@ loop-index-preserved c =
     let mid = c.loop-index.tree in
     let new = c.allocate.new.self in
     let answer = in_tree c.index-requests-index.result mid new (Ok c.in-Ok.range) c.in-Ok.ensures.valid c.in-Ok.ensures.answer c.in-Ok.ensures.few in
-    let each = one_more AllocatesInTree c.args.requests.now i c.loop-index.ranges.items first mid new c.index-requests-index.result c.in-Ok.range c.loop-index-test.true c.index-requests-index.is c.loop-index.invariant.each answer in
+    let each = one_more c.args.requests.now i c.loop-index.ranges.items first mid new c.index-requests-index.result c.in-Ok.range c.loop-index-test.true c.index-requests-index.is c.loop-index.invariant.each answer in
     record {
-      each = subst (λ v. EachBy AllocatesInTree first (take (i + 1) c.args.requests.now) v new) (sym c.in-Ok-push.ensures.items) each;
+      each = subst (λ v. AllocatesEachInTree first (take (i + 1) c.args.requests.now) v new) (sym c.in-Ok-push.ensures.items) each;
       state = c.in-Ok.ensures.state;
       many = omega (arith, c.in-Ok-push.ensures.len, c.loop-index.invariant.many);
       room = omega (arith, c.in-Ok-push.ensures.capacity, c.loop-index.invariant.room);
@@ -70,5 +69,5 @@ pub returns-clause-answer : goal.returns-clause-answer
 returns-clause-answer c =
     let l = c.loop-index in
     let all = c.args.requests.now in
-    let each = all_taken AllocatesInTree all l.index l.ranges.items c.self.inside.interval_tree l.tree (omega (arith, l.auto.index-end)) l.invariant.each in
+    let each = all_taken all l.index l.ranges.items c.self.inside.interval_tree l.tree (omega (arith, l.auto.index-end)) l.invariant.each in
     rw (← c.self.view_is) (each_state all l.ranges.items c.self.inside.interval_tree l.tree each)

@@ -18,32 +18,26 @@ impl IntervalTree {
         alloc: Global,
         constraint: Constraint,
     ) -> (Result<RangeInclusive>, u64) {
-        let mut count = Steps::new();
-        let answer = self.allocate_entering(alloc, constraint, &mut count);
-        (answer, count.entered())
-    }
-
-    /// Allocates the range of a request. The counter starts at 0, and gets the number of nodes entered.
-    fn allocate_entering(
-        &mut self,
-        alloc: Global,
-        constraint: Constraint,
-        count: &mut Steps,
-    ) -> Result<RangeInclusive> {
         let can_split = self.held_count < SPLIT_LIMIT;
-        let taken = allocate_in(
-            &mut self.tree,
+        let mut count = Steps::new();
+        let tree = &mut self.tree;
+        let taken = match allocate_in(
+            tree,
             &self.space,
             &constraint,
             can_split,
             alloc,
-            count,
-        )?;
+            &mut count,
+        ) {
+            Ok(taken) => taken,
+            Err(error) => return (Err(error), count.entered()),
+        };
         self.held_count += 1;
         self.gap_count += taken.added;
         self.gap_count -= 1;
         self.free_len -= constraint.size();
-        Ok(RangeInclusive::between(taken.start, taken.start + (constraint.size() - 1)))
+        let range = RangeInclusive::between(taken.start, taken.start + (constraint.size() - 1));
+        (Ok(range), count.entered())
     }
 }
 
@@ -116,18 +110,14 @@ fn search_of(constraint: &Constraint, space: &RangeInclusive, can_split: bool) -
 /// Returns what a search found, with the error of its refusal. A search for `range` alone can find that
 /// it is allocated.
 fn with_error(found: core::result::Result<Taken, Refusal>, range: &RangeInclusive) -> Result<Taken> {
-    match found {
-        Ok(taken) => Ok(taken),
-        Err(refusal) => Err(error_of(refusal, range)),
-    }
-}
-
-/// Returns the error of a refusal. A search for `range` alone can find that it is allocated.
-fn error_of(refusal: Refusal, range: &RangeInclusive) -> Error {
-    match refusal {
+    let refusal = match found {
+        Ok(taken) => return Ok(taken),
+        Err(refusal) => refusal,
+    };
+    Err(match refusal {
         Refusal::NoPlace => Error::ResourceNotAvailable,
         Refusal::Held => Error::InvalidStateTransition(*range, NodeState::Allocated),
         Refusal::PastMax | Refusal::TooHigh => Error::Overflow,
         Refusal::OutOfMemory => Error::OutOfMemory,
-    }
+    })
 }

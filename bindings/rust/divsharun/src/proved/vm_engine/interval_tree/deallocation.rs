@@ -9,23 +9,17 @@ use crate::proved::vm_tree::Steps;
 impl IntervalTree {
     /// Frees like [`free`](Self::free), and also returns the number of nodes that it entered.
     pub fn free_counted(&mut self, key: &RangeInclusive) -> (Result<()>, u64) {
-        let mut count = Steps::new();
-        let answer = self.free_entering(key, &mut count);
-        (answer, count.entered())
-    }
-
-    /// Frees a range. The counter starts at 0, and gets the number of nodes entered.
-    fn free_entering(&mut self, key: &RangeInclusive, count: &mut Steps) -> Result<()> {
         if key.start() < self.space.start() || self.space.end() < key.start() {
-            return Err(Error::ResourceNotAvailable);
+            return (Err(Error::ResourceNotAvailable), 0);
         }
-        let Some(joined) = self.tree.free(key, count) else {
-            return Err(Error::ResourceNotAvailable);
+        let mut count = Steps::new();
+        let Some(joined) = self.tree.free(key, &mut count) else {
+            return (Err(Error::ResourceNotAvailable), count.entered());
         };
         self.held_count -= 1;
         self.gap_count -= joined;
         self.gap_count += 1;
         self.free_len += key.len();
-        Ok(())
+        (Ok(()), count.entered())
     }
 }

@@ -143,9 +143,12 @@ fn is_exact_over(
     right: &Option<Span>,
     height: u64,
 ) -> bool {
+    let (low, high) = (nesting_of(left), nesting_of(right));
     joins_left(left, key, state)
         && joins_right(right, key, state)
-        && is_correct_height(nesting_of(left), nesting_of(right), height)
+        && low <= high + 1
+        && high <= low + 1
+        && height == low.max(high) + 1
 }
 
 /// Returns `true` if a subtree of an allocator can be right before a block.
@@ -170,12 +173,6 @@ fn joins_right(span: &Option<Span>, key: &RangeInclusive, state: NodeState) -> b
                 && !(state == NodeState::Free && span.first_state == NodeState::Free)
         }
     }
-}
-
-/// Returns `true` if the heights of both children differ by at most one, and `height` is correct
-/// for their parent.
-fn is_correct_height(left: u64, right: u64, height: u64) -> bool {
-    left <= right + 1 && right <= left + 1 && height == left.max(right) + 1
 }
 
 /// Returns `true` if all keys are in the space, and not too many are allocated.

@@ -5,7 +5,7 @@ use Rattle.vm_engine.proofs.Trees.CountedTrees.{some_held, joined_fits, freed_fi
 use Rattle.vm_engine.proofs.Trees.Ends.{ends}
 use Rattle.vm_engine.proofs.Trees.Freeing.{frees_one, frees_held}
 use Rattle.vm_engine.proofs.Trees.Spaces.{state_of_tree}
-use Rattle.vm_engine.proofs.interval_tree.IntervalTree.free_entering.Goals as goal
+use Rattle.vm_engine.proofs.interval_tree.IntervalTree.free_counted.Goals as goal
 
 pub returns-then-start-clause-state : goal.returns-then-start-clause-state
 returns-then-start-clause-state c = rw (← c.self.view_is) (state_of_tree c.self.inside.tree c.self.invariant.tree)
