@@ -1,4 +1,4 @@
-use crate::error::out_of_memory;
+use crate::convert::out_of_memory;
 use crate::rattle::{BTreeMap, Global};
 use crate::{AddressAllocator, HeldRanges, NodeState, RangeInclusive, TryError};
 use core::fmt;

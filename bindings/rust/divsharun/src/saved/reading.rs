@@ -1,12 +1,12 @@
 //! Reads objects with serde. Fields can come in any order, and are checked as they come.
 
-use super::text_of;
+use super::conditions::text_of;
 use crate::proved::vm_allocator::{
     AddressAllocator, IdAllocator, RangeInclusive, ReadIds, ReadNodes, SavedError, Span,
 };
 use crate::proved::vm_devices::{DeviceManager, ReadDevices};
 use crate::rattle::Global;
-use crate::{DeviceSlot, NodeState};
+use crate::{DeviceSlot, NodeState, TryError};
 use core::fmt;
 use serde::de::{DeserializeSeed, Error, MapAccess, SeqAccess, Visitor};
 use serde::{Deserialize, Deserializer};
@@ -14,7 +14,10 @@ use serde::{Deserialize, Deserializer};
 /// Returns the error of a format.
 #[cold]
 fn invalid<E: Error>(error: SavedError) -> E {
-    E::custom(text_of(error))
+    match error {
+        SavedError::Violated(condition) => E::custom(text_of(condition).to_string_lossy()),
+        SavedError::OutOfMemory => E::custom(TryError::OutOfMemory),
+    }
 }
 
 #[derive(Deserialize)]
@@ -195,7 +198,7 @@ impl InnerNode<'_> {
         right: Option<Span>,
         height: u64,
     ) -> Result<(), E> {
-        let span = self.0.nodes.end(left, key, state.proved(), right, height);
+        let span = self.0.nodes.end(left, key, state.into(), right, height);
         *self.0.link = Some(span.map_err(invalid)?);
         Ok(())
     }

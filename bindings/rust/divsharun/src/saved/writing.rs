@@ -1,6 +1,5 @@
 //! Writes objects with serde.
 
-use crate::error::NO_MEMORY;
 use crate::proved::vm_allocator::{
     AddressAllocator, IdAllocator, RangeInclusive, WrittenBlocks, WrittenNode, WrittenTree,
 };
@@ -40,7 +39,7 @@ write_fields! {
     #[inline(never)]
     WrittenNode<'_> as "InnerNode", this:
         key = this.key,
-        node_state = NodeState::of(this.state),
+        node_state = NodeState::from(this.state),
         left = this.left,
         right = this.right,
         height = this.height;
@@ -68,7 +67,7 @@ struct Root<'a>(&'a WrittenBlocks);
 /// out.
 fn blocks_of<E: Error>(space: &AddressAllocator) -> Result<WrittenBlocks, E> {
     let blocks = space.written_blocks(Global);
-    blocks.map_err(|_| E::custom(NO_MEMORY))
+    blocks.map_err(|_| E::custom(TryError::OutOfMemory))
 }
 
 impl Serialize for AddressAllocator {
