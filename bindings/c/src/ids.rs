@@ -1,8 +1,8 @@
 //! The id allocator.
 
-use crate::handle::{create, non_null, Handle};
+use crate::handle::{non_null, with_out, Handle};
 use crate::lists::array;
-use crate::objects::{calls, changes, object_calls, visits};
+use crate::objects::{calls, functions, object_calls, visits};
 use crate::proved::vm_allocator::IdAllocator;
 use crate::rattle::Global;
 use crate::texts::read_ids;
@@ -14,17 +14,6 @@ pub type dvs_id_allocator = Handle<IdAllocator>;
 
 /// The visitor that C passes for allocated ids. If it unwinds, the process ends.
 pub type dvs_id_visitor = extern "C-unwind" fn(context: *mut c_void, id: u32) -> c_int;
-
-#[unsafe(no_mangle)]
-pub extern "C" fn dvs_id_allocator_new(
-    first: u32,
-    last: u32,
-    allocator: Out<*mut dvs_id_allocator>,
-    refusal: Out<dvs_refusal>,
-) -> dvs_status {
-    let made = create(allocator, || IdAllocator::new(Global, first, last));
-    status_of(made, refusal)
-}
 
 /// # Safety
 ///
@@ -39,14 +28,11 @@ pub unsafe extern "C" fn dvs_id_allocator_with_held(
     refusal: Out<dvs_refusal>,
 ) -> dvs_status {
     let make = || {
-        let allocator = non_null(allocator)?;
         // SAFETY: the caller's contract.
         let held = unsafe { array(held, count) }?;
-        create(Some(allocator), || {
-            IdAllocator::with_held(Global, first, last, held)
-        })
+        Handle::new(IdAllocator::with_held(Global, first, last, held)?)
     };
-    status_of(make(), refusal)
+    status_of(with_out(allocator, make), refusal)
 }
 
 /// # Safety
@@ -82,27 +68,16 @@ unsafe fn allocate_into(
     Ok(())
 }
 
-#[unsafe(no_mangle)]
-pub extern "C" fn dvs_id_allocator_range(
-    allocator: Option<&dvs_id_allocator>,
-    first: Out<u32>,
-    last: Out<u32>,
-) -> dvs_status {
-    status_of(write_range(allocator, |ids| ids, first, last), None)
+/// Writes the first id of an allocator to `first`, and returns the last one.
+pub(crate) fn write_range(ids: &IdAllocator, first: Out<u32>) -> Result<u32, CallError> {
+    non_null(first)?.write(ids.range_base());
+    Ok(ids.range_end())
 }
 
-/// Writes the first and the last id of the allocator in an object.
-pub(crate) fn write_range<T>(
-    handle: Option<&Handle<T>>,
-    ids: impl FnOnce(&T) -> &IdAllocator,
-    first: Out<u32>,
-    last: Out<u32>,
-) -> Result<(), CallError> {
-    let (handle, first, last) = (non_null(handle)?, non_null(first)?, non_null(last)?);
-    let ids = ids(handle.get());
-    first.write(ids.range_base());
-    last.write(ids.range_end());
-    Ok(())
+functions! {
+    dvs_id_allocator_new(first: u32, last: u32) -> *mut dvs_id_allocator [refusal] {
+        Handle::new(IdAllocator::new(Global, first, last)?)
+    }
 }
 
 object_calls! {
@@ -112,19 +87,26 @@ object_calls! {
 }
 
 calls! {
-    with_mut dvs_id_allocate(ids: dvs_id_allocator) -> u32 { ids.allocate_id() }
-    with_mut dvs_id_allocate_in(ids: dvs_id_allocator, first: u32, last: u32) -> u32 [refusal] {
-        ids.allocate_in(first, last)
+    with_mut dvs_id_allocate(ids: dvs_id_allocator) -> id: u32 { Ok(ids.allocate_id()?) }
+    with_mut dvs_id_allocate_in(ids: dvs_id_allocator, first: u32, last: u32)
+        -> id: u32 [refusal] {
+        Ok(ids.allocate_in(first, last)?)
     }
-    with_ref dvs_id_peek(ids: dvs_id_allocator) -> u32 { ids.peek_id() }
-    with_ref dvs_id_is_allocated(ids: dvs_id_allocator, id: u32) -> bool { Ok(ids.is_allocated(id)) }
-    with_ref dvs_id_count(ids: dvs_id_allocator) -> u64 { Ok(ids.held_count()) }
-    with_ref dvs_id_free_count(ids: dvs_id_allocator) -> u64 { Ok(ids.free_count()) }
-}
-
-changes! {
-    dvs_id_allocate_exact(ids: dvs_id_allocator, id: u32) { ids.allocate_exact(id).map(drop) }
-    dvs_id_free(ids: dvs_id_allocator, id: u32) { ids.free_id(id).map(drop) }
+    with_mut_unit dvs_id_allocate_exact(ids: dvs_id_allocator, id: u32) [refusal] {
+        Ok(ids.allocate_exact(id).map(drop)?)
+    }
+    with_mut_unit dvs_id_free(ids: dvs_id_allocator, id: u32) [refusal] {
+        Ok(ids.free_id(id).map(drop)?)
+    }
+    with_ref dvs_id_allocator_range(ids: dvs_id_allocator, first: Out<u32>) -> last: u32 {
+        write_range(ids, first)
+    }
+    with_ref dvs_id_peek(ids: dvs_id_allocator) -> id: u32 { Ok(ids.peek_id()?) }
+    with_ref dvs_id_is_allocated(ids: dvs_id_allocator, id: u32) -> result: bool {
+        Ok(ids.is_allocated(id))
+    }
+    with_ref dvs_id_count(ids: dvs_id_allocator) -> count: u64 { Ok(ids.held_count()) }
+    with_ref dvs_id_free_count(ids: dvs_id_allocator) -> count: u64 { Ok(ids.free_count()) }
 }
 
 visits! {

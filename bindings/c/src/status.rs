@@ -1,6 +1,7 @@
 //! The errors of calls, as statuses and details.
 
 use crate::proved::vm_allocator::Error;
+use crate::rattle::AllocError;
 use crate::{dvs_range, Out};
 use core::ffi::{c_char, CStr};
 
@@ -80,6 +81,12 @@ impl From<Error> for CallError {
     #[inline(never)]
     fn from(error: Error) -> Self {
         CallError::Call(error)
+    }
+}
+
+impl From<AllocError> for CallError {
+    fn from(_: AllocError) -> Self {
+        CallError::OutOfMemory
     }
 }
 
