@@ -30,8 +30,7 @@ impl<T> Handle<T> {
     pub(crate) fn new(object: T) -> Result<*mut Handle<T>, CallError> {
         let mut one = Vec::new();
         // A vector reports a failed allocation, and a box does not.
-        one.try_reserve_exact(1)
-            .map_err(|_| CallError::OutOfMemory)?;
+        one.try_reserve_exact(1).map_err(|_| Error::OutOfMemory)?;
         one.push(Handle {
             object: UnsafeCell::new(object),
             visits: AtomicUsize::new(0),

@@ -4,7 +4,7 @@ use crate::handle::{non_null, Handle};
 use crate::json::{dvs_text_limits, Read, Reader, TextFault};
 use crate::proved::vm_allocator::allocation_engine::NodeState;
 use crate::proved::vm_allocator::{
-    AddressAllocator, IdAllocator, RangeInclusive, ReadIds, ReadNodes, Span, WrittenTree,
+    AddressAllocator, Error, IdAllocator, RangeInclusive, ReadIds, ReadNodes, Span, WrittenTree,
 };
 use crate::proved::vm_devices::{DeviceManager, DeviceSlot, ReadDevices};
 use crate::rattle::Global;
@@ -171,7 +171,7 @@ fn text_of(value: &impl Json) -> Result<CString, CallError> {
     value.write(&mut counted);
     let mut written = TextBuffer(Vec::new());
     let allocated = written.0.try_reserve_exact(counted.0 + 1);
-    allocated.map_err(|_| CallError::OutOfMemory)?;
+    allocated.map_err(|_| Error::OutOfMemory)?;
     value.write(&mut written);
     written.0.push(0);
     Ok(CString::from_vec_with_nul(written.0).expect("JSON contains no zero byte"))
