@@ -124,9 +124,9 @@ object_calls! {
     dvs_address_allocator: dvs_address_allocator_destroy, dvs_address_allocator_copy,
         dvs_address_allocator_equal, dvs_address_allocator_save,
         dvs_address_allocator_read, dvs_address_allocator_read_within
-            by |from| read_space(from, true);
+            by |from| read_space(from, AddressAllocator::from_nodes);
         dvs_address_allocator_read_repaired, dvs_address_allocator_read_repaired_within
-            by |from| read_space(from, false)
+            by |from| read_space(from, AddressAllocator::from_nodes_repaired)
 }
 
 calls! {

@@ -4,7 +4,8 @@ use crate::handle::{non_null, Handle};
 use crate::json::{dvs_text_limits, Read, Reader, TextFault};
 use crate::proved::vm_allocator::allocation_engine::NodeState;
 use crate::proved::vm_allocator::{
-    AddressAllocator, Error, IdAllocator, RangeInclusive, ReadIds, ReadNodes, Span, WrittenTree,
+    AddressAllocator, Error, IdAllocator, RangeInclusive, ReadIds, ReadNodes, SavedError, Span,
+    WrittenTree,
 };
 use crate::proved::vm_devices::{DeviceManager, DeviceSlot, ReadDevices};
 use crate::rattle::Global;
@@ -319,9 +320,11 @@ fn read_subtree(from: &mut Reader<'_>, nodes: &mut ReadNodes) -> Read<Option<Spa
     span.map(Some).map_err(|error| from.of_parts(error))
 }
 
-/// Reads an address allocator. If `is_strict`, its tree must be one that this library writes or
-/// builds.
-pub(crate) fn read_space(from: &mut Reader<'_>, is_strict: bool) -> Read<AddressAllocator> {
+/// Reads an address allocator, which `made` makes of its space and its nodes.
+pub(crate) fn read_space(
+    from: &mut Reader<'_>,
+    made: impl FnOnce(Global, RangeInclusive, &ReadNodes) -> Result<AddressAllocator, SavedError>,
+) -> Read<AddressAllocator> {
     let (mut nodes, mut space) = (ReadNodes::new(Global), None);
     from.object([c"address_space", c"interval_tree"], |from, at| {
         if at == 0 {
@@ -332,12 +335,7 @@ pub(crate) fn read_space(from: &mut Reader<'_>, is_strict: bool) -> Read<Address
             read_subtree(from, &mut nodes).map(|_| ())
         })
     })?;
-    let allocator = if is_strict {
-        AddressAllocator::from_nodes
-    } else {
-        AddressAllocator::from_nodes_repaired
-    };
-    let made = allocator(Global, from.some(space)?, &nodes);
+    let made = made(Global, from.some(space)?, &nodes);
     made.map_err(|error| from.of_parts(error))
 }
 
@@ -385,7 +383,7 @@ pub(crate) fn read_devices(from: &mut Reader<'_>) -> Read<DeviceManager> {
         match at {
             0 => version = from.whole(u64::MAX)?,
             1 => ids = Some(read_ids(from)?),
-            2 => space = Some(read_space(from, true)?),
+            2 => space = Some(read_space(from, AddressAllocator::from_nodes)?),
             _ => from.list(|from| {
                 let slot = read_slot(from)?;
                 slots.push(slot).map_err(|error| from.of_parts(error))

@@ -346,8 +346,8 @@ impl AddressAllocator {
     ///   common.
     /// - `Overflow` if the chosen range ends at `u64::MAX`, even if another range is free. A window
     ///   that ends below `u64::MAX` avoids this.
-    /// - `Overflow` if the range fills only a part of its gap and at least 6,293,134,512 ranges are
-    ///   allocated.
+    /// - `Overflow` if the range fills only a part of its gap and too many ranges are allocated for
+    ///   [`allocate`](Self::allocate).
     ///
     /// # Example
     ///
@@ -526,8 +526,8 @@ impl AddressAllocator {
     /// - `InvalidStateTransition` if exactly the new range is already allocated.
     /// - `ResourceNotAvailable` if an address of the new range is not free. Those of `key` are not.
     /// - `Overflow` if the new range ends at `u64::MAX`.
-    /// - `Overflow` if the new range fills only a part of its gap and at least 6,293,134,512 ranges are
-    ///   allocated.
+    /// - `Overflow` if the new range fills only a part of its gap and too many ranges are allocated for
+    ///   [`allocate`](Self::allocate).
     ///
     /// # Example
     ///

@@ -59,21 +59,18 @@ fn root<'de, D: Deserializer<'de>>(from: D) -> Result<ReadNodes, D::Error> {
 }
 
 impl Space {
-    /// Returns the allocator. If `is_strict`, the tree must be one that the proved code builds.
-    fn allocator<E: Error>(self, is_strict: bool) -> Result<AddressAllocator, E> {
-        let nodes = self.interval_tree.root;
-        let allocator = if is_strict {
-            AddressAllocator::from_nodes
-        } else {
-            AddressAllocator::from_nodes_repaired
-        };
-        allocator(Global, self.address_space, &nodes).map_err(invalid)
+    /// Returns the allocator that `made` makes of the space and the nodes.
+    fn allocator<E: Error>(
+        self,
+        made: impl FnOnce(Global, RangeInclusive, &ReadNodes) -> Result<AddressAllocator, SavedError>,
+    ) -> Result<AddressAllocator, E> {
+        made(Global, self.address_space, &self.interval_tree.root).map_err(invalid)
     }
 }
 
 impl<'de> Deserialize<'de> for AddressAllocator {
     fn deserialize<D: Deserializer<'de>>(from: D) -> Result<Self, D::Error> {
-        Space::deserialize(from)?.allocator(false)
+        Space::deserialize(from)?.allocator(AddressAllocator::from_nodes_repaired)
     }
 }
 
@@ -110,7 +107,7 @@ impl crate::AddressAllocator {
     /// # fn main() {}
     /// ```
     pub fn deserialize_strict<'de, D: Deserializer<'de>>(from: D) -> Result<Self, D::Error> {
-        let allocator = Space::deserialize(from)?.allocator(true)?;
+        let allocator = Space::deserialize(from)?.allocator(AddressAllocator::from_nodes)?;
         Ok(crate::AddressAllocator(allocator))
     }
 }
@@ -302,7 +299,9 @@ fn slots<'de, D: Deserializer<'de>>(from: D) -> Result<ReadDevices, D::Error> {
 impl<'de> Deserialize<'de> for DeviceManager {
     fn deserialize<D: Deserializer<'de>>(from: D) -> Result<Self, D::Error> {
         let saved = Devices::deserialize(from)?;
-        let space = saved.mmio_allocator.allocator(true)?;
+        let space = saved
+            .mmio_allocator
+            .allocator(AddressAllocator::from_nodes)?;
         let ids = saved.id_allocator;
         DeviceManager::from_devices(Global, saved.version, ids, space, &saved.slots)
             .map_err(invalid)
