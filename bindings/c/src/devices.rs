@@ -8,7 +8,7 @@ use crate::proved::vm_devices::{DeviceManager, DeviceSlot};
 use crate::ranges::space_of;
 use crate::rattle::Global;
 use crate::requests::refused;
-use crate::texts::read_devices;
+use crate::texts::{read_devices, save_devices};
 use crate::{dvs_range, dvs_refusal, CallError, Out};
 use core::ffi::{c_int, c_void};
 
@@ -83,35 +83,37 @@ functions! {
 
 object_calls! {
     dvs_device_manager: dvs_device_manager_destroy, dvs_device_manager_copy,
-        dvs_device_manager_equal, dvs_device_manager_save,
+        dvs_device_manager_equal, dvs_device_manager_save by save_devices,
         dvs_device_manager_read, dvs_device_manager_read_within by read_devices
 }
 
 calls! {
     with_mut dvs_device_reserve_first(manager: dvs_device_manager, size: u64, alignment: u64)
-        -> result: dvs_device [refusal] {
+        -> device: dvs_device [refusal] {
         reserve(manager, size, alignment, AllocPolicy::FirstMatch, refusal.is_some())
     }
     with_mut dvs_device_reserve_last(manager: dvs_device_manager, size: u64, alignment: u64)
-        -> result: dvs_device [refusal] {
+        -> device: dvs_device [refusal] {
         reserve(manager, size, alignment, AllocPolicy::LastMatch, refusal.is_some())
     }
     with_mut dvs_device_reserve_exact(
         manager: dvs_device_manager, size: u64, alignment: u64, start: u64
-    ) -> result: dvs_device [refusal] {
+    ) -> device: dvs_device [refusal] {
         reserve(manager, size, alignment, AllocPolicy::ExactMatch(start), refusal.is_some())
     }
     // An id without a device has the error of `dvs_device_release`.
-    with_ref dvs_device_slot(manager: dvs_device_manager, id: u32) -> result: dvs_range [refusal] {
+    with_ref dvs_device_slot(manager: dvs_device_manager, id: u32) -> range: dvs_range [refusal] {
         Ok(manager.slot(id).ok_or(Error::NeverAllocated(id))?.into())
     }
-    with_ref dvs_device_at(manager: dvs_device_manager, address: u64) -> result: dvs_device {
+    with_ref dvs_device_at(manager: dvs_device_manager, address: u64) -> device: dvs_device {
         found(manager.device_at(address))
     }
-    with_ref dvs_device_manager_space(manager: dvs_device_manager) -> result: dvs_range {
+    with_ref dvs_device_manager_space(manager: dvs_device_manager) -> ends: dvs_range {
         Ok(space_of(manager.addresses()))
     }
-    with_ref dvs_device_count(manager: dvs_device_manager) -> result: u64 { Ok(manager.device_count()) }
+    with_ref dvs_device_count(manager: dvs_device_manager) -> count: u64 {
+        Ok(manager.device_count())
+    }
     with_mut_unit dvs_device_release(manager: dvs_device_manager, id: u32) [refusal] {
         Ok(manager.release(id)?)
     }

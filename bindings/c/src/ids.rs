@@ -5,7 +5,7 @@ use crate::lists::array;
 use crate::objects::{calls, functions, object_calls, visits};
 use crate::proved::vm_allocator::IdAllocator;
 use crate::rattle::Global;
-use crate::texts::read_ids;
+use crate::texts::{read_ids, save_ids};
 use crate::{dvs_refusal, dvs_status, status_of, CallError, Out};
 use core::ffi::{c_int, c_void};
 
@@ -44,28 +44,19 @@ pub unsafe extern "C" fn dvs_ids_allocate(
     ids: *mut u32,
     count: usize,
 ) -> dvs_status {
-    // SAFETY: the caller's contract.
-    status_of(unsafe { allocate_into(allocator, ids, count) }, None)
-}
-
-/// # Safety
-///
-/// As of `dvs_ids_allocate`.
-unsafe fn allocate_into(
-    allocator: Option<&dvs_id_allocator>,
-    ids: *mut u32,
-    count: usize,
-) -> Result<(), CallError> {
-    let allocator = non_null(allocator)?;
-    if ids.is_null() && count > 0 {
-        return Err(CallError::Null);
-    }
-    let allocated = allocator.get_mut()?.allocate_ids(Global, count)?;
-    for (index, id) in allocated.iter().enumerate() {
-        // SAFETY: there is a writable id for each index.
-        unsafe { ids.add(index).write(*id) };
-    }
-    Ok(())
+    let allocate = || {
+        let allocator = non_null(allocator)?;
+        if ids.is_null() && count > 0 {
+            return Err(CallError::Null);
+        }
+        let allocated = allocator.get_mut()?.allocate_ids(Global, count)?;
+        for (index, id) in allocated.iter().enumerate() {
+            // SAFETY: there is a writable id for each index.
+            unsafe { ids.add(index).write(*id) };
+        }
+        Ok(())
+    };
+    status_of(allocate(), None)
 }
 
 /// Writes the first id of an allocator to `first`, and returns the last one.
@@ -82,7 +73,7 @@ functions! {
 
 object_calls! {
     dvs_id_allocator: dvs_id_allocator_destroy, dvs_id_allocator_copy, dvs_id_allocator_equal,
-        dvs_id_allocator_save,
+        dvs_id_allocator_save by save_ids,
         dvs_id_allocator_read, dvs_id_allocator_read_within by read_ids
 }
 
@@ -102,7 +93,7 @@ calls! {
         write_range(ids, first)
     }
     with_ref dvs_id_peek(ids: dvs_id_allocator) -> id: u32 { Ok(ids.peek_id()?) }
-    with_ref dvs_id_is_allocated(ids: dvs_id_allocator, id: u32) -> result: bool {
+    with_ref dvs_id_is_allocated(ids: dvs_id_allocator, id: u32) -> is_allocated: bool {
         Ok(ids.is_allocated(id))
     }
     with_ref dvs_id_count(ids: dvs_id_allocator) -> count: u64 { Ok(ids.held_count()) }

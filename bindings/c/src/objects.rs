@@ -2,7 +2,7 @@
 
 /// Defines the calls that destroy, copy, compare, save and read objects of one kind.
 macro_rules! object_calls {
-    ($handle:ident: $destroy:ident, $copy:ident, $equal:ident, $save:ident,
+    ($handle:ident: $destroy:ident, $copy:ident, $equal:ident, $save:ident by $saver:expr,
         $($read:ident, $read_within:ident by $reader:expr);+) => {
         /// # Safety
         ///
@@ -22,7 +22,7 @@ macro_rules! object_calls {
             }
             with_ref $save(object: $handle, text: $crate::Out<*mut core::ffi::c_char>)
                 -> length: usize {
-                $crate::texts::save(object, text)
+                $crate::texts::save(text, || $saver(object))
             }
         }
 
@@ -58,8 +58,8 @@ macro_rules! object_calls {
     };
 }
 
-/// Defines calls on an object. Each names the function that makes it, the arguments, a request, the result,
-/// the details of an error, and an expression for the result.
+/// Defines calls on an object, each with the function that makes it, the arguments, a request, the
+/// result, the details of an error, and an expression for the result.
 macro_rules! calls {
     ($($by:ident $name:ident($object:ident: $handle:ident
         $(, $argument:ident: $type:ty)* $(; $request:ident)?)

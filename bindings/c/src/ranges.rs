@@ -7,7 +7,7 @@ use crate::proved::vm_allocator::{
 };
 use crate::rattle::Global;
 use crate::requests::refused;
-use crate::texts::read_space;
+use crate::texts::{read_space, save_space};
 use crate::{dvs_range, dvs_refusal, CallError};
 use core::ffi::{c_int, c_void};
 
@@ -122,7 +122,7 @@ functions! {
 
 object_calls! {
     dvs_address_allocator: dvs_address_allocator_destroy, dvs_address_allocator_copy,
-        dvs_address_allocator_equal, dvs_address_allocator_save,
+        dvs_address_allocator_equal, dvs_address_allocator_save by save_space,
         dvs_address_allocator_read, dvs_address_allocator_read_within
             by |from| read_space(from, AddressAllocator::from_nodes);
         dvs_address_allocator_read_repaired, dvs_address_allocator_read_repaired_within
@@ -131,39 +131,43 @@ object_calls! {
 
 calls! {
     with_mut dvs_range_allocate_first(space: dvs_address_allocator, size: u64, alignment: u64)
-        -> result: dvs_range [refusal] {
+        -> range: dvs_range [refusal] {
         allocate(space, size, alignment, AllocPolicy::FirstMatch, refusal.is_some())
     }
     with_mut dvs_range_allocate_last(space: dvs_address_allocator, size: u64, alignment: u64)
-        -> result: dvs_range [refusal] {
+        -> range: dvs_range [refusal] {
         allocate(space, size, alignment, AllocPolicy::LastMatch, refusal.is_some())
     }
     with_mut dvs_range_allocate_exact(
         space: dvs_address_allocator, size: u64, alignment: u64, start: u64
-    ) -> result: dvs_range [refusal] {
+    ) -> range: dvs_range [refusal] {
         allocate(space, size, alignment, AllocPolicy::ExactMatch(start), refusal.is_some())
     }
     with_mut dvs_range_move(space: dvs_address_allocator, range: dvs_range, start: u64)
-        -> result: dvs_range [refusal] {
+        -> moved: dvs_range [refusal] {
         move_to(space, range, start, refusal.is_some())
     }
     with_ref dvs_range_is_allocated(space: dvs_address_allocator, range: dvs_range)
-        -> result: bool [refusal] {
+        -> is_allocated: bool [refusal] {
         Ok(space.holds(&range.try_into()?))
     }
-    with_ref dvs_range_at(space: dvs_address_allocator, address: u64) -> result: dvs_range {
+    with_ref dvs_range_at(space: dvs_address_allocator, address: u64) -> range: dvs_range {
         found(space.held_at(address))
     }
-    with_ref dvs_gap_at(space: dvs_address_allocator, address: u64) -> result: dvs_range {
+    with_ref dvs_gap_at(space: dvs_address_allocator, address: u64) -> gap: dvs_range {
         found(space.gap_at(address))
     }
-    with_ref dvs_address_allocator_space(space: dvs_address_allocator) -> result: dvs_range {
+    with_ref dvs_address_allocator_space(space: dvs_address_allocator) -> ends: dvs_range {
         Ok(space_of(space))
     }
-    with_ref dvs_range_count(space: dvs_address_allocator) -> result: u64 { Ok(space.held_count()) }
-    with_ref dvs_gap_count(space: dvs_address_allocator) -> result: u64 { Ok(space.gap_count()) }
-    with_ref dvs_longest_gap(space: dvs_address_allocator) -> result: u64 { Ok(space.longest_gap()) }
-    with_ref dvs_free_length(space: dvs_address_allocator) -> result: u64 { Ok(space.free_len()) }
+    with_ref dvs_range_count(space: dvs_address_allocator) -> count: u64 { Ok(space.held_count()) }
+    with_ref dvs_gap_count(space: dvs_address_allocator) -> count: u64 { Ok(space.gap_count()) }
+    with_ref dvs_longest_gap(space: dvs_address_allocator) -> length: u64 {
+        Ok(space.longest_gap())
+    }
+    with_ref dvs_free_length(space: dvs_address_allocator) -> length: u64 {
+        Ok(space.free_len())
+    }
     with_mut_unit dvs_range_free(space: dvs_address_allocator, range: dvs_range) [refusal] {
         Ok(space.free(&range.try_into()?)?)
     }

@@ -143,27 +143,17 @@ impl<F: Fn() -> I, I: IntoIterator<Item: Json>> Json for List<F> {
     }
 }
 
-/// An object that has a text.
-pub(crate) trait Saved {
-    fn text(&self) -> Result<CString, CallError>;
+pub(crate) fn save_space(space: &AddressAllocator) -> Result<CString, CallError> {
+    text_of(&WithBlocks(space, &space.written_blocks(Global)?))
 }
 
-impl Saved for AddressAllocator {
-    fn text(&self) -> Result<CString, CallError> {
-        text_of(&WithBlocks(self, &self.written_blocks(Global)?))
-    }
+pub(crate) fn save_ids(ids: &IdAllocator) -> Result<CString, CallError> {
+    text_of(ids)
 }
 
-impl Saved for IdAllocator {
-    fn text(&self) -> Result<CString, CallError> {
-        text_of(self)
-    }
-}
-
-impl Saved for DeviceManager {
-    fn text(&self) -> Result<CString, CallError> {
-        text_of(&WithBlocks(self, &self.addresses().written_blocks(Global)?))
-    }
+pub(crate) fn save_devices(manager: &DeviceManager) -> Result<CString, CallError> {
+    let blocks = manager.addresses().written_blocks(Global)?;
+    text_of(&WithBlocks(manager, &blocks))
 }
 
 /// Returns the text of a value. It is counted first, so that it is allocated once.
@@ -178,10 +168,12 @@ fn text_of(value: &impl Json) -> Result<CString, CallError> {
     Ok(CString::from_vec_with_nul(written.0).expect("JSON contains no zero byte"))
 }
 
-/// Writes the text that encodes an object to `text`, and returns its length.
-pub(crate) fn save(object: &impl Saved, text: Out<*mut c_char>) -> Result<usize, CallError> {
-    let text = non_null(text)?;
-    let saved = object.text()?;
+/// Writes the text of a saved object to `text`, and returns its length.
+pub(crate) fn save(
+    text: Out<*mut c_char>,
+    saved: impl FnOnce() -> Result<CString, CallError>,
+) -> Result<usize, CallError> {
+    let (text, saved) = (non_null(text)?, saved()?);
     let length = saved.as_bytes().len();
     text.write(saved.into_raw());
     Ok(length)

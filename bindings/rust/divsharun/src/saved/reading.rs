@@ -181,6 +181,14 @@ struct Fields {
     height: Option<u64>,
 }
 
+/// What is read as a node.
+const NODE: &str = "struct InnerNode with 5 elements";
+
+/// Returns the element of a sequence for a field, or the error if it is missing.
+fn element<T, E: Error>(read: Option<T>, field: Field) -> Result<T, E> {
+    read.ok_or_else(|| E::invalid_length(field as usize, &NODE))
+}
+
 /// Reads a node. A derive could not pass the other nodes on to its children.
 struct InnerNode<'a>(Subtree<'a>);
 
@@ -205,23 +213,18 @@ impl<'de> Visitor<'de> for InnerNode<'_> {
     type Value = ();
 
     fn expecting(&self, f: &mut fmt::Formatter<'_>) -> fmt::Result {
-        f.write_str("struct InnerNode with 5 elements")
+        f.write_str(NODE)
     }
 
     fn visit_seq<A: SeqAccess<'de>>(mut self, mut from: A) -> Result<(), A::Error> {
-        let expected = &"struct InnerNode with 5 elements";
-        let missing = |field| A::Error::invalid_length(field as usize, expected);
         let (mut left, mut right) = (None, None);
-        let key = from.next_element()?;
-        let key = key.ok_or_else(|| missing(Field::Key))?;
-        let state = from.next_element()?;
-        let state = state.ok_or_else(|| missing(Field::NodeState))?;
+        let key = element(from.next_element()?, Field::Key)?;
+        let state = element(from.next_element()?, Field::NodeState)?;
         let read = from.next_element_seed(self.0.child(&mut left))?;
-        read.ok_or_else(|| missing(Field::Left))?;
+        element(read, Field::Left)?;
         let read = from.next_element_seed(self.0.child(&mut right))?;
-        read.ok_or_else(|| missing(Field::Right))?;
-        let height = from.next_element()?;
-        let height = height.ok_or_else(|| missing(Field::Height))?;
+        element(read, Field::Right)?;
+        let height = element(from.next_element()?, Field::Height)?;
         self.end(left, key, state, right, height)
     }
 
