@@ -1,6 +1,7 @@
 //! The fields of saved objects, in the order in which they are written.
 //!
-//! The C library also has this file.
+//! The C library also has this file. The module that includes it defines `write_fields!`, which implements
+//! the writing of each structure.
 
 use crate::proved::vm_allocator::{
     AddressAllocator, IdAllocator, RangeInclusive, WrittenBlocks, WrittenNode,

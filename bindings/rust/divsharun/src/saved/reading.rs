@@ -181,7 +181,7 @@ struct Fields {
     height: Option<u64>,
 }
 
-/// What is read as a node.
+/// The name of a node in errors of a format.
 const NODE: &str = "struct InnerNode with 5 elements";
 
 /// Returns the element of a sequence for a field, or the error if it is missing.
