@@ -346,8 +346,8 @@ impl AddressAllocator {
     ///   common.
     /// - `Overflow` if the chosen range ends at `u64::MAX`, even if another range is free. A window
     ///   that ends below `u64::MAX` avoids this.
-    /// - `Overflow` if the range fills only a part of its gap and too many ranges are allocated for
-    ///   [`allocate`](Self::allocate).
+    /// - `Overflow` if the range fills only a part of its gap and the number of allocated ranges is at the
+    ///   limit of [`allocate`](Self::allocate).
     ///
     /// # Example
     ///
@@ -526,8 +526,8 @@ impl AddressAllocator {
     /// - `InvalidStateTransition` if exactly the new range is already allocated.
     /// - `ResourceNotAvailable` if an address of the new range is not free. Those of `key` are not.
     /// - `Overflow` if the new range ends at `u64::MAX`.
-    /// - `Overflow` if the new range fills only a part of its gap and too many ranges are allocated for
-    ///   [`allocate`](Self::allocate).
+    /// - `Overflow` if the new range fills only a part of its gap and the number of allocated ranges is at
+    ///   the limit of [`allocate`](Self::allocate).
     ///
     /// # Example
     ///
@@ -1231,7 +1231,7 @@ pub struct Gaps<'a>(proved::Ranges<'a>);
 pub struct GapsIn<'a>(proved::RangesIn<'a>);
 
 iterate!(HeldRanges, Gaps, HeldRangesIn, GapsIn: RangeInclusive, RangeInclusive, Iterator::size_hint);
-allocator!(AddressAllocator, HeldRanges of RangeInclusive);
+allocator!(AddressAllocator, HeldRanges of RangeInclusive, "the allocated ranges");
 
 impl ExactSizeIterator for HeldRanges<'_> {}
 

@@ -522,6 +522,6 @@ impl fmt::Debug for DeviceManager {
 pub struct Devices<'a>(proved::Devices<'a>);
 
 iterate!(Devices: DeviceSlot, DeviceSlot::of, Iterator::size_hint);
-allocator!(DeviceManager, Devices of DeviceSlot);
+allocator!(DeviceManager, Devices of DeviceSlot, "the devices");
 
 impl ExactSizeIterator for Devices<'_> {}

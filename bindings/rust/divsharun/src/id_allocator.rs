@@ -571,7 +571,7 @@ impl fmt::Debug for IdAllocator {
 pub struct HeldIds<'a>(proved::HeldIds<'a>);
 
 iterate!(HeldIds: u32, convert::identity, size_hint_of);
-allocator!(IdAllocator, HeldIds of u32);
+allocator!(IdAllocator, HeldIds of u32, "the allocated ids");
 
 fn size_hint_of(ids: &proved::HeldIds<'_>) -> (usize, Option<usize>) {
     let left = usize::try_from(ids.count_left());

@@ -13,7 +13,7 @@ impl<I: Iterator<Item: fmt::Debug>, F: Fn() -> I> fmt::Debug for DebugList<F> {
 
 /// Implements `Clone` by `try_clone`, and `IntoIterator` by `iter`.
 macro_rules! allocator {
-    ($allocator:ident, $items:ident of $item:ty) => {
+    ($allocator:ident, $items:ident of $item:ty, $what:literal) => {
         impl Clone for $allocator {
             fn clone(&self) -> Self {
                 let copy = self.try_clone();
@@ -25,7 +25,7 @@ macro_rules! allocator {
             type Item = $item;
             type IntoIter = $items<'a>;
 
-            #[doc = concat!("Returns an iterator like [`iter`](", stringify!($allocator), "::iter).")]
+            #[doc = concat!("Returns an iterator over ", $what, ".")]
             fn into_iter(self) -> $items<'a> {
                 self.iter()
             }
@@ -33,8 +33,8 @@ macro_rules! allocator {
     };
 }
 
-/// Implements iterators by those of the proved code, with functions that convert an item and that return the
-/// size hint.
+/// Implements iterators by those of the proved code, with a function that converts an item and one that
+/// returns the size hint.
 macro_rules! iterate {
     ($($name:ident),+: $item:ty, $convert:expr, $size_hint:expr) => {$(
         impl Iterator for $name<'_> {
