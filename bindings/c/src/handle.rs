@@ -125,19 +125,19 @@ pub(crate) fn with_ref<T, A>(
 pub(crate) fn with_mut<T, A>(
     handle: Option<&Handle<T>>,
     out: Out<A>,
-    taken: impl FnOnce(&mut T) -> Result<A, CallError>,
+    change: impl FnOnce(&mut T) -> Result<A, CallError>,
 ) -> Result<(), CallError> {
     let handle = non_null(handle)?;
-    with_out(out, || taken(handle.get_mut()?))
+    with_out(out, || change(handle.get_mut()?))
 }
 
 /// Changes an object without a result.
 #[inline(always)]
 pub(crate) fn with_mut_unit<T>(
     handle: Option<&Handle<T>>,
-    given_back: impl FnOnce(&mut T) -> Result<(), CallError>,
+    change: impl FnOnce(&mut T) -> Result<(), CallError>,
 ) -> Result<(), CallError> {
-    given_back(non_null(handle)?.get_mut()?)
+    change(non_null(handle)?.get_mut()?)
 }
 
 /// Changes an object by a request, and writes the result to `out`.
@@ -145,10 +145,10 @@ pub(crate) fn with_request<T, A>(
     handle: Option<&Handle<T>>,
     request: Option<&dvs_request>,
     out: Out<A>,
-    taken: impl FnOnce(&mut T, Constraint) -> Result<A, CallError>,
+    change: impl FnOnce(&mut T, Constraint) -> Result<A, CallError>,
 ) -> Result<(), CallError> {
     let request = non_null(request)?;
-    with_mut(handle, out, |object| taken(object, request.constraint()?))
+    with_mut(handle, out, |object| change(object, request.constraint()?))
 }
 
 /// Writes the conflict of a request with an object to `out`.
