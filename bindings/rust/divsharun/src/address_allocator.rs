@@ -690,9 +690,8 @@ impl AddressAllocator {
         alignment: u64,
         policy: AllocPolicy,
     ) -> (Result<RangeInclusive>, u64) {
-        let (answer, count) = self
-            .0
-            .allocate_counted(Global, size, alignment, policy.proved());
+        let policy = policy.proved();
+        let (answer, count) = self.0.allocate_counted(Global, size, alignment, policy);
         (answer.map(RangeInclusive).map_err(Error::from), count)
     }
 
