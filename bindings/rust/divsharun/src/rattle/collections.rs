@@ -344,8 +344,10 @@ impl<T: Ord + Copy> BTreeSet<T> {
     /// Inserts a value, and returns whether it is new. Only a new value allocates. An error changes
     /// nothing and returns the value.
     pub fn insert(&mut self, value: T) -> Result<bool, AllocFailed<T>> {
-        let inserted = self.0.insert(value, ()).map(|previous| previous.is_none());
-        inserted.map_err(|AllocFailed((value, ()))| AllocFailed(value))
+        match self.0.insert(value, ()) {
+            Ok(previous) => Ok(previous.is_none()),
+            Err(AllocFailed((value, ()))) => Err(AllocFailed(value)),
+        }
     }
 
     /// Removes a value, and returns whether the set had it. It does not allocate.
