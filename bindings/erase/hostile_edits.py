@@ -53,7 +53,8 @@ EDITS = [
         ("fn f {}", "a function of this form"), ("use super::X as Y;", "an import under another name"), ("}", "a brace that closes nothing")]],
     ("a path with type arguments", RANGE, BODY, "        1 + u64::from::<u64>(self.end)", "'u64' in code"),
     ("a derive's name in code", RANGE, BODY, f"        thiserror::Error;\n{BODY}", "'thiserror' in code"),
-    ("a text with arguments", RANGE, IMPL, f'#[derive(Error)] enum X {{ #[error("", 1)] A }}\n{IMPL}', "a text of this form"),
+    *[("an error's text " + text, RANGE, IMPL, f"#[derive(Error)] enum X {{ #[error({text})] A }}\n{IMPL}", "a text of this form")
+      for text in ('"", 1', "transparent", '"{{0}}"', '"{name}"', '"{0:x}"', '"{}"', '"\\u{30}"')],
     ("a member of a model", RANGE, "    ghost Value = { Range };", "    fn f() {}", "a member of Model that is no ghost"),
     ("a type in an impl", RANGE, IMPL, f"{IMPL}\n    type X = u64;", "an item 'type'"),
     ("an attribute in a body", RANGE, BODY, f"        #[inline]\n{BODY}", "an attribute in code"),

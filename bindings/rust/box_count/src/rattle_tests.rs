@@ -4,20 +4,15 @@
 #[path = "../../divsharun/tests/refusing/mod.rs"]
 mod refusing;
 
-use crate::rattle::{AllocError, AllocFailed, BTreeMap, BTreeSet, Box, Global, Vec};
+use crate::rattle::{AllocFailed, BTreeMap, BTreeSet, Box, Global, Vec};
 use refusing::{blocks, peak_of, refusing};
 use std::fmt::Debug;
-use std::string::ToString;
 use std::{collections, format};
 
 #[test]
 fn boxes() {
     let refused = refusing(1, || Box::new(Global, 7)).0.err().unwrap();
-    let texts = [refused.to_string(), AllocError.to_string()];
-    assert_eq!(
-        (refused.0, texts),
-        (7, ["an allocation failed"; 2].map(str::to_string))
-    );
+    assert_eq!(refused.0, 7);
     let before = blocks();
     let (mut boxed, requests) = refusing(0, || Box::new(Global, 7).unwrap());
     *boxed += 1;
