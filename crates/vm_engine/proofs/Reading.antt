@@ -1,5 +1,4 @@
 pub mod NestedTrees
-pub mod OneTree
 pub mod ReadNodes
 pub mod ReadSpaces
 pub mod ReadValues

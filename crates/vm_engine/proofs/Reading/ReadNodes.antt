@@ -99,6 +99,9 @@ one_tree (Fork l x r) (Fork m y n) d p q =
     let block : x ≡ y = sym a.2 ∙ (ap (λ (v : NodeData). v.block) (sym same) ∙ b.2) in
     cc
 
+pub one_shape : (s t : NodeTree) (d : Data) → EncodesShape d s → EncodesShape d t → s ≡ t
+one_shape s t d p q = one_tree s t d (shape_nodes s d p) (shape_nodes t d q)
+
 -- A value without the fields of a node has no nodes.
 pub none_tip : (s : NodeTree) (d : Data) → HasNodes d s → decoded_node d ≡ None → s ≡ Tip
 none_tip Tip d p e = refl

@@ -16,7 +16,7 @@ use Rattle.vm_engine.specs.Values.SavedTrees.{Saved, saved_blocks, IsReadable, H
 use Rattle.vm_engine.specs.Values.TreeValues.{EncodesSpaceTree}
 use Rattle.vm_engine.specs.declared.saved.span.Span.{Span}
 use Rattle.vm_engine.proofs.Blocks.BlockStates.{tiles_keys, is_state}
-use Rattle.vm_engine.proofs.Reading.OneTree.{one_shape}
+use Rattle.vm_engine.proofs.Reading.ReadNodes.{one_shape}
 use Rattle.vm_engine.proofs.SavedNodes.KeyLists.{keys_within}
 use Rattle.vm_engine.proofs.SavedNodes.Roots.{state_with, strict_none}
 use Rattle.vm_engine.proofs.SavedNodes.Spans.{complete}

@@ -3,6 +3,7 @@ use Rattle.std.specs.Prelude.{◌≡◌, ◌+◌, ◌<◌, ℕ, nat_le, if◌the
 use Rattle.vm_ranges.specs.Cases.{IfElse}
 use Rattle.vm_ranges.specs.Range.{Range}
 use Rattle.vm_engine.specs.Checks.Spans.{StandsFor}
+use Rattle.vm_engine.specs.Values.KeyValues.{MAX_NESTING_REPAIRED}
 use Rattle.vm_engine.specs.Values.SavedTrees.{Saved, held_keys}
 use Rattle.vm_engine.specs.declared.saved.span.Span.{Span}
 use Rattle.vm_ranges.specs.declared.saved.SavedError.{SavedError}
@@ -34,10 +35,10 @@ pub record IsEmpty (nodes : NodesRead) : Type 0 where
 abbrev pub IsRootOf : NodesRead → NodesRead → Option Span → Type 0
 IsRootOf old new span = old.depth ≡ 0 → old.root ≡ None → new.root ≡ span
 
--- The result of `begin`: one more node, or Violated Nesting if it is nested in 50 nodes.
+-- The result of `begin`: one more node, or Violated Nesting if it is nested in MAX_NESTING_REPAIRED nodes.
 abbrev pub BeginsNode : NodesRead → Result (Unit {0}) SavedError → NodesRead → Type 0
 BeginsNode old answer new =
-    IfElse (old.depth < 50)
+    IfElse (old.depth < MAX_NESTING_REPAIRED)
     ((answer ≡ Ok tt) × (new ≡ record old { depth = old.depth + 1 }))
     ((answer ≡ Err (Violated Nesting)) × (new ≡ old))
 

@@ -6,6 +6,7 @@ ghost use Rattle.std.specs.Prelude.{◌≡◌, ◌+◌, ◌<◌, ◌^◌, OnSome
 ghost use Rattle.vm_ranges.specs.Range.{IsRange};
 ghost use Rattle.vm_engine.specs.Checks.NodeChecks.{is_correct_height};
 ghost use Rattle.vm_engine.specs.Checks.Spans.{nesting_of, held_in, ends_below, starts_above, can_join, joins_left, joins_right, is_exact_over, joined, span_over, is_inside, is_tree_of, held_over, first_of, last_of};
+ghost use Rattle.vm_engine.specs.Values.KeyValues.{MAX_NESTING_REPAIRED};
 
 use crate::interval_tree::SPLIT_LIMIT;
 use vm_ranges::{NodeState, RangeInclusive};
@@ -165,8 +166,8 @@ fn is_exact_over(
     right: &Option<Span>,
     height: u64,
 ) -> bool
-    requires left_fits { nesting_of left.now < 50 }
-    requires right_fits { nesting_of right.now < 50 }
+    requires left_fits { nesting_of left.now < MAX_NESTING_REPAIRED }
+    requires right_fits { nesting_of right.now < MAX_NESTING_REPAIRED }
     ensures { result ≡ is_exact_over left.now (record { key = key.now; state = state }) right.now height }
 {
     let (low, high) = (nesting_of(left), nesting_of(right));
