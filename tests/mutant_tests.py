@@ -66,7 +66,8 @@ def passes(tests, name, how=""):
     command = [tests, "--exact", f"proved::{name}", "--test-threads=1"]
     for number in itertools.count(1):
         pathlib.Path(REFUSED).write_text("", "utf-8")
-        variables = {"counted": {"COUNT": COUNT}, "refused": {"REFUSE": str(number), "REFUSED": REFUSED}}.get(how, {})
+        refused = {"REFUSE": str(number), "REFUSED": REFUSED}
+        variables = {"": {}, "counted": {"COUNT": COUNT}, "refused": refused}[how]
         done = run(*command, **variables, **({"LD_PRELOAD": LIBRARY} if how else {}))
         if done.returncode == 101 and "test result: FAILED" in done.stdout or not os.path.getsize(REFUSED):
             return done.returncode == 0 and ("1 passed" in done.stdout or sys.exit(f"there is no test {name}"))
