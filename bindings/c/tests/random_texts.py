@@ -4,7 +4,7 @@
     random_texts.py [--texts N] [--seed N] PROGRAM ..
 
 PROGRAM is the command that runs read.c. It guards against a reader that accepts a text that is not valid, rejects
-a valid one, or reads another object. Each text is from a list below, or encodes a random object, with fields in
+a valid one, or reads another object. Each text is from a list below, or encodes an object of VALID, with fields in
 any order, any blanks, and damage in most cases. Three results are wrong:
 
 - another status than `NOT_JSON` if and only if Python does not read the text,
@@ -123,58 +123,41 @@ def parts_of(reader, text):
         return None
 
 
-def some_range(start, end):
-    return {"start": start, "end": end}
+def node(start, end, state, left=None, right=None):
+    key = {"start": start, "end": end}
+    height = 1 + max(child["height"] if child else 0 for child in (left, right))
+    return {"key": key, "node_state": state, "left": left, "right": right, "height": height}
 
 
-def some_blocks(held):
-    """Returns blocks in order from a random start, with this number of allocated ones."""
-    start = place = random.choice([0, 1, 4096, MAX - 10**6])
-    blocks = []
-    for _ in range(held):
-        for is_allocated in (False, True) if random.random() < 0.6 else (True,):
-            end = place + random.choice([0, 0, 7, 4095])
-            blocks.append((place, end, is_allocated))
-            place = end + 1
-    if not blocks or random.random() < 0.5:
-        blocks.append((place, random.choice([place + 1, place + 99, MAX - (start == 0)]), False))
-    return blocks
+def space(start, end, root):
+    return {"address_space": {"start": start, "end": end}, "interval_tree": {"root": root}}
 
 
-def tree(blocks):
-    """Returns the tree of some blocks, and its height."""
-    if not blocks:
-        return None, 0
-    middle = len(blocks) // 2
-    (left, low), (right, high) = tree(blocks[:middle]), tree(blocks[middle + 1:])
-    start, end, is_allocated = blocks[middle]
-    return {"key": some_range(start, end), "node_state": "Allocated" if is_allocated else "Free", "left": left,
-            "right": right, "height": 1 + max(low, high)}, 1 + max(low, high)
+def ids(first, following, last, freed):
+    return {"range_base": first, "next_id": following, "range_end": last, "freed_ids": freed}
 
 
-def some_space(blocks, is_faulty=False):
-    """Returns a space. A faulty one has missing nodes and a wrong height."""
-    root, height = tree([block for block in blocks if not is_faulty or random.random() < 0.8])
-    if root:
-        root["height"] = random.choice([0, MAX]) if is_faulty else height
-    return {"address_space": some_range(blocks[0][0], blocks[-1][1]), "interval_tree": {"root": root}}
+def manager(*slots):
+    """Returns the manager of SPACE with these devices: pairs of an id and the start of one of its three ranges."""
+    following = 6 + max(number for number, _ in slots)
+    freed = [number for number in range(5, following) if number not in dict(slots)]
+    devices = [{"id": number, "mmio_range": {"start": start, "end": start + 7}} for number, start in slots]
+    return {"version": 1, "id_allocator": ids(5, following, 23, freed), "mmio_allocator": SPACE, "slots": devices}
 
 
-def some_ids(held):
-    """Returns ids with this number of allocated ones, and a list of these."""
-    base = random.choice([0, 5, LAST_ID - held - 2])
-    freed = sorted(random.sample(range(base, base + held + 3), 3))
-    bound = base + held + 3
-    end = random.choice([bound - 1, LAST_ID])
-    ids = {"range_base": base, "next_id": None if bound > LAST_ID else bound, "range_end": end, "freed_ids": freed}
-    return ids, [number for number in range(base, bound) if number not in freed]
-
-
-def some_devices(held):
-    blocks, (ids, numbers) = some_blocks(held), some_ids(held)
-    ranges = [some_range(start, end) for start, end, is_allocated in blocks if is_allocated]
-    slots = [{"id": number, "mmio_range": one} for number, one in zip(numbers, random.sample(ranges, held))]
-    return {"version": 1, "id_allocator": ids, "mmio_allocator": some_space(blocks), "slots": slots}
+SPACE = space(0, 63, node(
+    32, 39, "Allocated", node(16, 23, "Allocated", node(0, 15, "Free"), node(24, 31, "Free")),
+    node(48, 55, "Allocated", node(40, 47, "Free"), node(56, 63, "Free"))))
+SPACES = [SPACE, space(0, MAX - 1, node(0, MAX - 1, "Free")), space(MAX - 8, MAX, node(
+    MAX - 8, MAX - 1, "Allocated", None, node(MAX, MAX, "Free"))), space(7, 7, node(7, 7, "Allocated"))]
+# The valid objects of each reader. Those of `r` also have a missing node, and wrong heights.
+VALID = {
+    "s": SPACES,
+    "r": SPACES + [space(0, 63, None), space(0, 63, {**node(16, 23, "Allocated"), "height": MAX}), space(
+        1, MAX, {**node(16, 23, "Free", node(2, 3, "Allocated"), node(40, 47, "Allocated")), "height": 0})],
+    "i": [ids(5, 9, 23, [6, 7]), ids(5, 5, 5, []), ids(0, 1, LAST_ID, [0]), ids(7, None, LAST_ID, [LAST_ID])],
+    "d": [manager((5, 16), (6, 32), (7, 48)), manager((6, 48), (7, 16), (10, 32))],
+}
 
 
 def shuffled(value):
@@ -187,10 +170,7 @@ def shuffled(value):
 
 
 def valid_text(reader):
-    held, is_faulty = random.randrange(9), reader == "r" and random.random() < 0.7
-    value = {"i": lambda: some_ids(held)[0], "d": lambda: some_devices(held)}.get(
-        reader, lambda: some_space(some_blocks(held), is_faulty))()
-    text = json.dumps(shuffled(value), indent=random.choice([None, None, 1]),
+    text = json.dumps(shuffled(random.choice(VALID[reader])), indent=random.choice([None, None, 1]),
                       separators=random.choice([None, (",", ":"), (" ,\t", "\r:")]))
     return (text.replace("e", "\\u0065").replace("A", "\\u0041") if random.random() < 0.2 else text).encode()
 
