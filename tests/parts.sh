@@ -8,16 +8,6 @@ trap 'kill -- "${beside[@]/#/-}" 2> "$log"; rm -rf "$scratch"' EXIT
 declare -A beside=()
 log=$scratch/log times=$scratch/times passed_parts=0 failed_parts=()
 
-# Sets the parts that a check runs. Unknown options print its head.
-choose_parts() { # the check's options: none, --of-sources or --of-built
-    case $* in
-        "") export of_sources=yes of_built=yes ;;
-        --of-sources) export of_sources=yes of_built=no ;;
-        --of-built) export of_sources=no of_built=yes ;;
-        *) sed -n '2,/^set/s/^# \{0,1\}//p' "$0"; exit 2 ;;
-    esac
-}
-
 part() { # name, command ..
     local name=$1 begun=$SECONDS status=0 took
     shift
