@@ -8,6 +8,7 @@ reason. The prover, rustc or the second eraser rejects what is no item, statemen
 kind. The exit status is 1 if an edit is accepted, or if its text is not found."""
 import os
 import pathlib
+import re
 import shutil
 import sys
 import tempfile
@@ -113,27 +114,15 @@ def error_of(project, old, new, is_of_tests):
     return "it is accepted"
 
 
-class Looked(set):
-    """A table that notes each name that is looked up."""
-
-    met = set()
-
-    def __contains__(self, name):
-        self.met.add((id(self), name))
-        return super().__contains__(name)
-
-
 def unused(project):
-    """Returns the names in tables of the eraser that no source uses, so that no table has more than it must."""
-    names = "METHODS ASSOCIATED MACROS DERIVES TRAITS TRAITS_OF_TESTS ATTRIBUTES KEYWORDS NAMES NUMBERS PRELUDE"
-    tables = {name: Looked(getattr(erase, name)) for name in names.split()}
-    vars(erase).update(tables)
-    for folders in (erase.FOLDERS, erase.FOLDERS_OF_TESTS):
-        folders.update({folder: (new, Looked(names)) for folder, (new, names) in folders.items()})
-    erase.Project(project, True)
-    folders = [*erase.FOLDERS.values(), *erase.FOLDERS_OF_TESTS.values()]
-    every = [*tables.values(), *(names for _, names in folders)]
-    return sorted(name for table in every for name in table if (id(table), name) not in Looked.met)
+    """Returns the names in tables of the eraser that no source has, so that no table has more than it must."""
+    text = "".join(path.read_text("utf-8") for path in pathlib.Path(project, "crates").rglob("*.rt"))
+    words = set(re.findall(r"\w+", text))
+    tables = "METHODS ASSOCIATED MACROS DERIVES TRAITS TRAITS_OF_TESTS ATTRIBUTES KEYWORDS NAMES NUMBERS PRELUDE"
+    names = {name for table in tables.split() for name in getattr(erase, table)}
+    for _, imported in [*erase.FOLDERS.values(), *erase.FOLDERS_OF_TESTS.values()]:
+        names |= imported
+    return sorted(name for name in names if not words >= set(re.findall(r"\w+", name)))
 
 
 def main():
