@@ -7,6 +7,8 @@ trap 'kill -- "${beside[@]/#/-}" 2> "$log"; rm -rf "$scratch"' EXIT
 # Parts that run at the same time: the group of processes of each command that was begun.
 declare -A beside=()
 log=$scratch/log times=$scratch/times passed_parts=0 failed_parts=()
+# shellcheck disable=SC2034 # scripts use it
+rules=(tests/count_rule tests/error_rule tests/pages)
 
 part() { # name, command ..
     local name=$1 begun=$SECONDS status=0 took
