@@ -30,10 +30,6 @@ def statement(code, reason):
     return BODY, f"        {code}\n{BODY}", reason
 
 
-def result(code, reason):
-    return BODY, f"        {code}", reason
-
-
 def each(make, words, code, reason):
     """Returns the edit for each of some words, which replace WORD."""
     return [make(code.replace("WORD", word), reason.replace("WORD", word)) for word in words.split()]
@@ -74,12 +70,12 @@ EDITS = [
     *each(statement, "assert!(1) cfg![1] dbg!{1} env!(1) include!(1) panic!{} vec![1]", "WORD;", "a macro '"),
     *each(statement, "serde_json::from_str std::cmp::Reverse std::mem::take", "WORD;", "is in no table"),
     *each(statement, "Cell Rc String Wrapping", "let x: WORD = self.end;", "a type 'WORD'"),
-    *each(result, "as_mut drain expect map pow rev swap wrapping_sub", "self.end.WORD(1)", "a method 'WORD'"),
-    *each(result, "Ordering drop max panic swap transmute", "1 + WORD(self.end)", "a function 'WORD'"),
-    *each(result, "Box::leak Ord::max Value::String Vec::from u64::MIN", "1 + WORD(self.end)", "a path 'WORD'"),
-    *each(result, "RangeInclusive _", "1 + self.end as WORD", "'as WORD'"),
-    result("1 + u64::from::<u64>(self.end)", "'u64' in code"),
-    result("1 + ghost x = { f };\n        1", "'ghost' in code"),
+    *each(statement, "as_mut drain expect map pow rev swap wrapping_sub", "self.end.WORD(1);", "a method 'WORD'"),
+    *each(statement, "Ordering drop max panic swap transmute", "WORD(self.end);", "a function 'WORD'"),
+    *each(statement, "Box::leak Ord::max Value::String Vec::from u64::MIN", "WORD(self.end);", "a path 'WORD'"),
+    *each(statement, "RangeInclusive _", "self.end as WORD;", "'as WORD'"),
+    statement("u64::from::<u64>(self.end);", "'u64' in code"),
+    statement("1 + ghost x = { f };", "'ghost' in code"),
     *[(CLAUSE, f"ensures {{ result ≡ f {word} }}", "in a clause") for word in "' \" ` -- // /* {-}".split()],
     (IMPORT, "use std::cmp::Reverse as Ordering;", "an import under another name"),
     (IMPORT, f"{IMPORT}\nuse core::cmp::max;", "an import from 'core'"),
