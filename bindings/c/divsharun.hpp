@@ -26,16 +26,16 @@
 #include <vector>
 
 /* The compiler reports an error that is ignored. */
-#if __cplusplus >= 201703L
-#define DVS_MUST_CHECK [[nodiscard]]
+#ifdef __clang__
+#define DVS_MUST_CHECK __attribute__((warn_unused_result))
 #else
-#define DVS_MUST_CHECK DVS_WARN_UNUSED
+#define DVS_MUST_CHECK [[nodiscard]]
 #endif
 
 namespace dvs {
 
 /* The code of a status. It can be compared with a status, as in `failure == DVS_OVERFLOW`. */
-class error : public std::error_code {
+class DVS_MUST_CHECK error : public std::error_code {
   public:
     error() noexcept = default;
     error(int status, const std::error_category &owner) noexcept : std::error_code(status, owner) {}
@@ -91,11 +91,10 @@ inline cause cause_of(const dvs_refusal &refusal) noexcept {
     return static_cast<cause>(refusal.cause);
 }
 
-DVS_MUST_CHECK inline error range_from(uint64_t start, uint64_t length, dvs_range &range) noexcept {
+inline error range_from(uint64_t start, uint64_t length, dvs_range &range) noexcept {
     return code(dvs_range_from_start_length(start, length, &range));
 }
-DVS_MUST_CHECK inline error offset_of(dvs_range range, uint64_t address,
-                                      uint64_t &offset) noexcept {
+inline error offset_of(dvs_range range, uint64_t address, uint64_t &offset) noexcept {
     return code(dvs_range_offset_of(range, address, &offset));
 }
 
@@ -134,7 +133,7 @@ class owner {
     T *get() const noexcept { return object.get(); }
     explicit operator bool() const noexcept { return object != nullptr; }
     /* Takes over an object that a call of C created, and destroys the old one. */
-    DVS_MUST_CHECK error adopt(T *made) noexcept {
+    error adopt(T *made) noexcept {
         dvs_status status = Destroy(get());
         if (status == DVS_OK) {
             static_cast<void>(object.release());
@@ -145,14 +144,14 @@ class owner {
     /* Returns the object, and leaves the owner empty. The caller must destroy the object. */
     T *release() noexcept { return object.release(); }
     /* Replaces the object by a copy of another one. */
-    DVS_MUST_CHECK error make_copy(const owner &other) {
+    error make_copy(const owner &other) {
         return create([&](T **out) { return Copy(other.get(), out); });
     }
-    DVS_MUST_CHECK error read(const std::string &text, dvs_text_fault *fault = nullptr,
-                              const dvs_text_limits *limits = nullptr) {
+    error read(const std::string &text, dvs_text_fault *fault = nullptr,
+               const dvs_text_limits *limits = nullptr) {
         return read_by(Read, text, fault, limits);
     }
-    DVS_MUST_CHECK error save(std::string &text) const {
+    error save(std::string &text) const {
         char *saved = nullptr;
         std::size_t length = 0;
         dvs_status status = Save(get(), &saved, &length);
@@ -173,28 +172,26 @@ class owner {
 
   protected:
     /* Replaces the object by a new one, if the call that creates it succeeds. */
-    template <typename Call> DVS_MUST_CHECK error create(Call call) {
+    template <typename Call> error create(Call call) {
         T *made = nullptr;
-        dvs_status status = call(&made);
+        error failed = code(call(&made));
         std::unique_ptr<T, destroyer> owned(made);
-        if (status == DVS_OK)
-            status = Destroy(get());
-        if (status == DVS_OK) {
-            static_cast<void>(object.release());
-            object.swap(owned);
-        }
-        return code(status);
+        if (!failed)
+            failed = adopt(made);
+        if (!failed)
+            static_cast<void>(owned.release());
+        return failed;
     }
 
     template <typename Call>
-    DVS_MUST_CHECK error read_by(Call call, const std::string &text, dvs_text_fault *fault,
-                                 const dvs_text_limits *limits) {
+    error read_by(Call call, const std::string &text, dvs_text_fault *fault,
+                  const dvs_text_limits *limits) {
         return create([&](T **out) { return call(text.data(), text.size(), limits, out, fault); });
     }
 
     /* Calls `action` with each item until it returns false. An exception ends the visit. */
     template <typename Item, typename Visit, typename Action>
-    DVS_MUST_CHECK error visit_by(Visit call, Action action) const {
+    error visit_by(Visit call, Action action) const {
         struct visit {
             Action action;
             std::exception_ptr thrown;
@@ -220,7 +217,7 @@ class owner {
 
     /* Replaces `items` by the items of a visit. An error leaves them unchanged. */
     template <typename Item, typename Visit>
-    DVS_MUST_CHECK error list_by(Visit call, std::vector<Item> &items) const {
+    error list_by(Visit call, std::vector<Item> &items) const {
         std::vector<Item> found;
         error failed =
             visit_by<Item>(call, [&found](Item item) { return found.push_back(item), true; });
@@ -296,7 +293,7 @@ class each {
     using reference = const dvs_range &;
 
     /* Begins at the first item that has an address at this one or above it. */
-    DVS_MUST_CHECK error start(const dvs_address_allocator *allocator, uint64_t address) noexcept {
+    error start(const dvs_address_allocator *allocator, uint64_t address) noexcept {
         each first;
         first.visited = allocator;
         error failed = code(Visit(allocator, address, keep, &first.item));
@@ -335,51 +332,45 @@ class address_allocator
     using object = dvs_address_allocator;
 
   public:
-    DVS_MUST_CHECK error make(uint64_t base, uint64_t size) {
+    error make(uint64_t base, uint64_t size) {
         return create([=](object **out) { return dvs_address_allocator_new(base, size, out); });
     }
-    DVS_MUST_CHECK error make_with_held(uint64_t base, uint64_t size,
-                                        const std::vector<dvs_range> &held,
-                                        std::size_t *failed = nullptr,
-                                        dvs_refusal *refusal = nullptr) {
+    error make_with_held(uint64_t base, uint64_t size, const std::vector<dvs_range> &held,
+                         std::size_t *failed = nullptr, dvs_refusal *refusal = nullptr) {
         return create([&](object **out) {
             return dvs_address_allocator_with_held(base, size, held.data(), held.size(), out,
                                                    failed, refusal);
         });
     }
-    DVS_MUST_CHECK error make_with_free(const std::vector<dvs_range> &ranges,
-                                        std::size_t *failed = nullptr,
-                                        dvs_refusal *refusal = nullptr) {
+    error make_with_free(const std::vector<dvs_range> &ranges, std::size_t *failed = nullptr,
+                         dvs_refusal *refusal = nullptr) {
         return create([&](object **out) {
             return dvs_address_allocator_with_free(ranges.data(), ranges.size(), out, failed,
                                                    refusal);
         });
     }
-    DVS_MUST_CHECK error read_repaired(const std::string &text, dvs_text_fault *fault = nullptr,
-                                       const dvs_text_limits *limits = nullptr) {
+    error read_repaired(const std::string &text, dvs_text_fault *fault = nullptr,
+                        const dvs_text_limits *limits = nullptr) {
         return read_by(dvs_address_allocator_read_repaired_within, text, fault, limits);
     }
-    DVS_MUST_CHECK error allocate_first(uint64_t size, uint64_t alignment, dvs_range &range) {
+    error allocate_first(uint64_t size, uint64_t alignment, dvs_range &range) {
         return code(dvs_range_allocate_first(get(), size, alignment, &range, nullptr));
     }
-    DVS_MUST_CHECK error allocate_last(uint64_t size, uint64_t alignment, dvs_range &range) {
+    error allocate_last(uint64_t size, uint64_t alignment, dvs_range &range) {
         return code(dvs_range_allocate_last(get(), size, alignment, &range, nullptr));
     }
-    DVS_MUST_CHECK error allocate_exact(uint64_t size, uint64_t alignment, uint64_t start,
-                                        dvs_range &range, dvs_refusal *refusal = nullptr) {
+    error allocate_exact(uint64_t size, uint64_t alignment, uint64_t start, dvs_range &range,
+                         dvs_refusal *refusal = nullptr) {
         return code(dvs_range_allocate_exact(get(), size, alignment, start, &range, refusal));
     }
-    DVS_MUST_CHECK error allocate(const dvs_request &asked, dvs_range &range,
-                                  dvs_refusal *refusal = nullptr) {
+    error allocate(const dvs_request &asked, dvs_range &range, dvs_refusal *refusal = nullptr) {
         return code(dvs_range_allocate(get(), &asked, &range, refusal));
     }
-    DVS_MUST_CHECK error allocate(const request &asked, dvs_range &range,
-                                  dvs_refusal *refusal = nullptr) {
+    error allocate(const request &asked, dvs_range &range, dvs_refusal *refusal = nullptr) {
         return allocate(asked.get(), range, refusal);
     }
-    DVS_MUST_CHECK error allocate_all(const std::vector<dvs_request> &requests,
-                                      std::vector<dvs_range> &ranges, std::size_t *failed = nullptr,
-                                      dvs_refusal *refusal = nullptr) {
+    error allocate_all(const std::vector<dvs_request> &requests, std::vector<dvs_range> &ranges,
+                       std::size_t *failed = nullptr, dvs_refusal *refusal = nullptr) {
         std::vector<dvs_range> allocated(requests.size());
         error failure = code(dvs_address_allocator_allocate_all(
             get(), requests.data(), requests.size(), allocated.data(), failed, refusal));
@@ -387,101 +378,80 @@ class address_allocator
             ranges = std::move(allocated);
         return failure;
     }
-    DVS_MUST_CHECK error allocate_all(const std::vector<request> &requests,
-                                      std::vector<dvs_range> &ranges, std::size_t *failed = nullptr,
-                                      dvs_refusal *refusal = nullptr) {
+    error allocate_all(const std::vector<request> &requests, std::vector<dvs_range> &ranges,
+                       std::size_t *failed = nullptr, dvs_refusal *refusal = nullptr) {
         std::vector<dvs_request> all;
         for (const request &one : requests)
             all.push_back(one.get());
         return allocate_all(all, ranges, failed, refusal);
     }
-    DVS_MUST_CHECK error free(dvs_range range) {
-        return code(dvs_range_free(get(), range, nullptr));
-    }
-    DVS_MUST_CHECK error move_range(dvs_range range, uint64_t start, dvs_range &moved,
-                                    dvs_refusal *refusal = nullptr) {
+    error free(dvs_range range) { return code(dvs_range_free(get(), range, nullptr)); }
+    error move_range(dvs_range range, uint64_t start, dvs_range &moved,
+                     dvs_refusal *refusal = nullptr) {
         return code(dvs_range_move(get(), range, start, &moved, refusal));
     }
-    DVS_MUST_CHECK error move_range(dvs_range range, const dvs_request &asked, dvs_range &moved,
-                                    dvs_refusal *refusal = nullptr) {
+    error move_range(dvs_range range, const dvs_request &asked, dvs_range &moved,
+                     dvs_refusal *refusal = nullptr) {
         return code(dvs_range_move_request(get(), range, &asked, &moved, refusal));
     }
-    DVS_MUST_CHECK error move_range(dvs_range range, const request &asked, dvs_range &moved,
-                                    dvs_refusal *refusal = nullptr) {
+    error move_range(dvs_range range, const request &asked, dvs_range &moved,
+                     dvs_refusal *refusal = nullptr) {
         return move_range(range, asked.get(), moved, refusal);
     }
-    DVS_MUST_CHECK error conflict(const dvs_request &asked, dvs_refusal &found) const {
+    error conflict(const dvs_request &asked, dvs_refusal &found) const {
         return code(dvs_range_conflict(get(), &asked, &found));
     }
-    DVS_MUST_CHECK error conflict(const request &asked, dvs_refusal &found) const {
+    error conflict(const request &asked, dvs_refusal &found) const {
         return conflict(asked.get(), found);
     }
-    DVS_MUST_CHECK error space(dvs_range &space) const {
-        return code(dvs_address_allocator_space(get(), &space));
-    }
-    DVS_MUST_CHECK error is_allocated(dvs_range range, bool &is_allocated) const {
+    error space(dvs_range &space) const { return code(dvs_address_allocator_space(get(), &space)); }
+    error is_allocated(dvs_range range, bool &is_allocated) const {
         return code(dvs_range_is_allocated(get(), range, &is_allocated, nullptr));
     }
-    DVS_MUST_CHECK error at(uint64_t address, dvs_range &range) const {
+    error at(uint64_t address, dvs_range &range) const {
         return code(dvs_range_at(get(), address, &range));
     }
-    DVS_MUST_CHECK error gap_at(uint64_t address, dvs_range &gap) const {
+    error gap_at(uint64_t address, dvs_range &gap) const {
         return code(dvs_gap_at(get(), address, &gap));
     }
-    DVS_MUST_CHECK error longest_gap(uint64_t &length) const {
-        return code(dvs_longest_gap(get(), &length));
-    }
-    DVS_MUST_CHECK error held_count(uint64_t &count) const {
-        return code(dvs_range_count(get(), &count));
-    }
-    DVS_MUST_CHECK error gap_count(uint64_t &count) const {
-        return code(dvs_gap_count(get(), &count));
-    }
-    DVS_MUST_CHECK error free_length(uint64_t &length) const {
-        return code(dvs_free_length(get(), &length));
-    }
-    DVS_MUST_CHECK error ranges(std::vector<dvs_range> &ranges) const {
-        return list_by(dvs_range_visit, ranges);
-    }
-    DVS_MUST_CHECK error gaps(std::vector<dvs_range> &gaps) const {
-        return list_by(dvs_gap_visit, gaps);
-    }
-    DVS_MUST_CHECK error ranges_in(dvs_range within, std::vector<dvs_range> &ranges) const {
+    error longest_gap(uint64_t &length) const { return code(dvs_longest_gap(get(), &length)); }
+    error held_count(uint64_t &count) const { return code(dvs_range_count(get(), &count)); }
+    error gap_count(uint64_t &count) const { return code(dvs_gap_count(get(), &count)); }
+    error free_length(uint64_t &length) const { return code(dvs_free_length(get(), &length)); }
+    error ranges(std::vector<dvs_range> &ranges) const { return list_by(dvs_range_visit, ranges); }
+    error gaps(std::vector<dvs_range> &gaps) const { return list_by(dvs_gap_visit, gaps); }
+    error ranges_in(dvs_range within, std::vector<dvs_range> &ranges) const {
         return list_in(dvs_range_visit_in, within, ranges);
     }
-    DVS_MUST_CHECK error gaps_in(dvs_range within, std::vector<dvs_range> &gaps) const {
+    error gaps_in(dvs_range within, std::vector<dvs_range> &gaps) const {
         return list_in(dvs_gap_visit_in, within, gaps);
     }
-    DVS_MUST_CHECK error ranges_from(uint64_t address, each_range &ranges) const noexcept {
+    error ranges_from(uint64_t address, each_range &ranges) const noexcept {
         return ranges.start(get(), address);
     }
-    DVS_MUST_CHECK error gaps_from(uint64_t address, each_gap &gaps) const noexcept {
+    error gaps_from(uint64_t address, each_gap &gaps) const noexcept {
         return gaps.start(get(), address);
     }
-    template <typename Action> DVS_MUST_CHECK error for_each(Action action) const {
+    template <typename Action> error for_each(Action action) const {
         return visit_by<dvs_range>(dvs_range_visit, std::move(action));
     }
     /* The ranges or the gaps from an address upwards, or back from it downwards. */
-    template <typename Action>
-    DVS_MUST_CHECK error for_each_from(uint64_t address, Action action) const {
+    template <typename Action> error for_each_from(uint64_t address, Action action) const {
         return visit_at(dvs_range_visit_from, address, std::move(action));
     }
-    template <typename Action>
-    DVS_MUST_CHECK error for_each_back(uint64_t address, Action action) const {
+    template <typename Action> error for_each_back(uint64_t address, Action action) const {
         return visit_at(dvs_range_visit_back, address, std::move(action));
     }
-    template <typename Action>
-    DVS_MUST_CHECK error for_each_gap_from(uint64_t address, Action action) const {
+    template <typename Action> error for_each_gap_from(uint64_t address, Action action) const {
         return visit_at(dvs_gap_visit_from, address, std::move(action));
     }
-    template <typename Action>
-    DVS_MUST_CHECK error for_each_gap_back(uint64_t address, Action action) const {
+    template <typename Action> error for_each_gap_back(uint64_t address, Action action) const {
         return visit_at(dvs_gap_visit_back, address, std::move(action));
     }
 
   private:
     template <typename Visit, typename Action>
-    DVS_MUST_CHECK error visit_at(Visit call, uint64_t address, Action action) const {
+    error visit_at(Visit call, uint64_t address, Action action) const {
         return visit_by<dvs_range>(
             [=](const object *from, dvs_range_visitor *visitor, void *context) {
                 return call(from, address, visitor, context);
@@ -490,8 +460,7 @@ class address_allocator
     }
 
     template <typename Visit>
-    DVS_MUST_CHECK error list_in(Visit call, dvs_range within,
-                                 std::vector<dvs_range> &ranges) const {
+    error list_in(Visit call, dvs_range within, std::vector<dvs_range> &ranges) const {
         return list_by([&](const object *from, dvs_range_visitor *visitor,
                            void *context) { return call(from, within, visitor, context, nullptr); },
                        ranges);
@@ -504,45 +473,36 @@ class id_allocator
     using object = dvs_id_allocator;
 
   public:
-    DVS_MUST_CHECK error make(uint32_t first, uint32_t last) {
+    error make(uint32_t first, uint32_t last) {
         return create(
             [=](object **out) { return dvs_id_allocator_new(first, last, out, nullptr); });
     }
-    DVS_MUST_CHECK error make_with_held(uint32_t first, uint32_t last,
-                                        const std::vector<uint32_t> &held,
-                                        dvs_refusal *refusal = nullptr) {
+    error make_with_held(uint32_t first, uint32_t last, const std::vector<uint32_t> &held,
+                         dvs_refusal *refusal = nullptr) {
         return create([&](object **out) {
             return dvs_id_allocator_with_held(first, last, held.data(), held.size(), out, refusal);
         });
     }
-    DVS_MUST_CHECK error range(uint32_t &first, uint32_t &last) const {
+    error range(uint32_t &first, uint32_t &last) const {
         return code(dvs_id_allocator_range(get(), &first, &last));
     }
-    DVS_MUST_CHECK error peek(uint32_t &id) const { return code(dvs_id_peek(get(), &id)); }
-    DVS_MUST_CHECK error allocate(uint32_t &id) { return code(dvs_id_allocate(get(), &id)); }
-    DVS_MUST_CHECK error allocate_exact(uint32_t id) {
-        return code(dvs_id_allocate_exact(get(), id, nullptr));
-    }
-    DVS_MUST_CHECK error allocate_in(uint32_t first, uint32_t last, uint32_t &id) {
+    error peek(uint32_t &id) const { return code(dvs_id_peek(get(), &id)); }
+    error allocate(uint32_t &id) { return code(dvs_id_allocate(get(), &id)); }
+    error allocate_exact(uint32_t id) { return code(dvs_id_allocate_exact(get(), id, nullptr)); }
+    error allocate_in(uint32_t first, uint32_t last, uint32_t &id) {
         return code(dvs_id_allocate_in(get(), first, last, &id, nullptr));
     }
     /* Allocates an id for each member of `ids`, or none. */
-    DVS_MUST_CHECK error allocate_all(std::vector<uint32_t> &ids) {
+    error allocate_all(std::vector<uint32_t> &ids) {
         return code(dvs_ids_allocate(get(), ids.data(), ids.size()));
     }
-    DVS_MUST_CHECK error free(uint32_t id) { return code(dvs_id_free(get(), id, nullptr)); }
-    DVS_MUST_CHECK error is_allocated(uint32_t id, bool &is_allocated) const {
+    error free(uint32_t id) { return code(dvs_id_free(get(), id, nullptr)); }
+    error is_allocated(uint32_t id, bool &is_allocated) const {
         return code(dvs_id_is_allocated(get(), id, &is_allocated));
     }
-    DVS_MUST_CHECK error held_count(uint64_t &count) const {
-        return code(dvs_id_count(get(), &count));
-    }
-    DVS_MUST_CHECK error free_count(uint64_t &count) const {
-        return code(dvs_id_free_count(get(), &count));
-    }
-    DVS_MUST_CHECK error ids(std::vector<uint32_t> &ids) const {
-        return list_by(dvs_id_visit, ids);
-    }
+    error held_count(uint64_t &count) const { return code(dvs_id_count(get(), &count)); }
+    error free_count(uint64_t &count) const { return code(dvs_id_free_count(get(), &count)); }
+    error ids(std::vector<uint32_t> &ids) const { return list_by(dvs_id_visit, ids); }
 };
 
 class device_manager : public owner<dvs_device_manager, dvs_device_manager_destroy,
@@ -552,54 +512,46 @@ class device_manager : public owner<dvs_device_manager, dvs_device_manager_destr
 
   public:
     using owner::release;
-    DVS_MUST_CHECK error make(uint32_t first_id, uint32_t last_id, uint64_t base, uint64_t size) {
+    error make(uint32_t first_id, uint32_t last_id, uint64_t base, uint64_t size) {
         return create([=](object **out) {
             return dvs_device_manager_new(first_id, last_id, base, size, out, nullptr);
         });
     }
-    DVS_MUST_CHECK error reserve_first(uint64_t size, uint64_t alignment, dvs_device &device) {
+    error reserve_first(uint64_t size, uint64_t alignment, dvs_device &device) {
         return code(dvs_device_reserve_first(get(), size, alignment, &device, nullptr));
     }
-    DVS_MUST_CHECK error reserve_last(uint64_t size, uint64_t alignment, dvs_device &device) {
+    error reserve_last(uint64_t size, uint64_t alignment, dvs_device &device) {
         return code(dvs_device_reserve_last(get(), size, alignment, &device, nullptr));
     }
-    DVS_MUST_CHECK error reserve_exact(uint64_t size, uint64_t alignment, uint64_t start,
-                                       dvs_device &device, dvs_refusal *refusal = nullptr) {
+    error reserve_exact(uint64_t size, uint64_t alignment, uint64_t start, dvs_device &device,
+                        dvs_refusal *refusal = nullptr) {
         return code(dvs_device_reserve_exact(get(), size, alignment, start, &device, refusal));
     }
-    DVS_MUST_CHECK error reserve(const dvs_request &asked, dvs_device &device,
-                                 dvs_refusal *refusal = nullptr) {
+    error reserve(const dvs_request &asked, dvs_device &device, dvs_refusal *refusal = nullptr) {
         return code(dvs_device_reserve(get(), &asked, &device, refusal));
     }
-    DVS_MUST_CHECK error reserve(const request &asked, dvs_device &device,
-                                 dvs_refusal *refusal = nullptr) {
+    error reserve(const request &asked, dvs_device &device, dvs_refusal *refusal = nullptr) {
         return reserve(asked.get(), device, refusal);
     }
-    DVS_MUST_CHECK error conflict(const dvs_request &asked, dvs_refusal &found) const {
+    error conflict(const dvs_request &asked, dvs_refusal &found) const {
         return code(dvs_device_conflict(get(), &asked, &found));
     }
-    DVS_MUST_CHECK error conflict(const request &asked, dvs_refusal &found) const {
+    error conflict(const request &asked, dvs_refusal &found) const {
         return conflict(asked.get(), found);
     }
-    DVS_MUST_CHECK error release(uint32_t id) {
-        return code(dvs_device_release(get(), id, nullptr));
-    }
-    DVS_MUST_CHECK error ids(uint32_t &first, uint32_t &last) const {
+    error release(uint32_t id) { return code(dvs_device_release(get(), id, nullptr)); }
+    error ids(uint32_t &first, uint32_t &last) const {
         return code(dvs_device_manager_ids(get(), &first, &last));
     }
-    DVS_MUST_CHECK error space(dvs_range &space) const {
-        return code(dvs_device_manager_space(get(), &space));
-    }
-    DVS_MUST_CHECK error slot(uint32_t id, dvs_range &range) const {
+    error space(dvs_range &space) const { return code(dvs_device_manager_space(get(), &space)); }
+    error slot(uint32_t id, dvs_range &range) const {
         return code(dvs_device_slot(get(), id, &range, nullptr));
     }
-    DVS_MUST_CHECK error device_count(uint64_t &count) const {
-        return code(dvs_device_count(get(), &count));
-    }
-    DVS_MUST_CHECK error at(uint64_t address, dvs_device &device) const {
+    error device_count(uint64_t &count) const { return code(dvs_device_count(get(), &count)); }
+    error at(uint64_t address, dvs_device &device) const {
         return code(dvs_device_at(get(), address, &device));
     }
-    DVS_MUST_CHECK error devices(std::vector<dvs_device> &devices) const {
+    error devices(std::vector<dvs_device> &devices) const {
         return list_by(dvs_device_visit, devices);
     }
 };

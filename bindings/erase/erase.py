@@ -121,6 +121,8 @@ TOKEN = re.compile(r"""(?P<blank>\s+|//(?![/!])[^\n]*|////[^\n]*)
 CLAUSE_HEAD = re.compile(r"\s+(?:[a-z_]\w*\s*)?(?=\{)")
 GHOST_USE = re.compile(r" use (?:[^;\"\n]|\n(?!\n))*?;")
 GHOST_MEMBER = re.compile(r" [A-Za-z_]\w*(:| =) (?=\{)")
+# A text with fields by their numbers. `write!` and the derive of `Error` mean the same by it.
+TEXT_OF_ERROR = re.compile(r'"(?:[^"\\{}]|\{[0-9](?::\?)?\})*"')
 OPENING, CLOSING = {"(", "[", "{"}, {")", "]", "}"}
 Token = collections.namedtuple("Token", "kind text start end")
 
@@ -456,8 +458,10 @@ class File(Tokens):
         """Turns the texts of the variants of an enum, `#[error("..")]`, into its `Display`."""
         arms = ""
         for place in [place for place in range(index, behind) if self.at(place, "#", "[", "error", "(")]:
-            variant, text = place + 7, re.sub(r"\{(?=[0-9])", "{field_", self.tokens[place + 4].text)
-            self.refuse_if(not self.at(place + 5, ")", "]"), "a text of this form", place)
+            variant, text = place + 7, self.tokens[place + 4].text
+            is_known = self.at(place + 5, ")", "]") and TEXT_OF_ERROR.fullmatch(text)
+            self.refuse_if(not is_known, "a text of this form", place)
+            text = text.replace("{", "{field_")
             fields = self.tokens[variant + 1:self.matching(variant + 1)] if self.at(variant + 1, "(") else []
             names = [f"field_{number}" for number in range(sum(token.kind == "word" for token in fields))]
             pattern = self.tokens[variant].text + (f"({', '.join(names)})" if names else "")

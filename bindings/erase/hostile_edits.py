@@ -38,7 +38,8 @@ def each(make, words, code, reason):
 EDITS = [
     item("// How many.\rfn f() {}", "a carriage return"),
     item("ghost use X\n\nfn f() {};", "a ghost of this form"),
-    item('#[derive(Error)] enum X { #[error("", 1)] A }', "a text of this form"),
+    *[item(f"#[derive(Error)] enum X {{ #[error({text})] A }}", "a text of this form") for text in (
+        '"", 1', "transparent", '"{{0}}"', '"{name}"', '"{0:x}"', '"{}"', '"\\u{30}"')],
     item("impl Eq for X { fn f() requires { f } { 1 } }", "a 'requires' of 'f'"),
     item("struct X { pub a: u64, ghost b: { f }, }", "a public field of 'X'"),
     item("struct X(u64);", "a type without braces"),

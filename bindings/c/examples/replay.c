@@ -1,7 +1,9 @@
 /*
- * Reads one call per line and prints one result per line, as the replay program
- * of this repository does. docs/REPLAY.md has the language. The exit status is
- * 0 at the end of the input, 1 if a read fails, and 2 if a write fails.
+ * The replay program in C: tests compare its output with that of the proved program.
+ *
+ * It reads one call per line and prints one result per line. docs/REPLAY.md has the
+ * language. The exit status is 0 at the end of the input, 1 if a read fails, and 2 if
+ * a write fails.
  */
 #include <divsharun.h>
 

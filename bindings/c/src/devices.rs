@@ -1,15 +1,15 @@
 //! The device manager: an id and a range for each device.
 
-use crate::handle::{create, found, Handle};
+use crate::handle::{found, Handle};
 use crate::ids::write_range;
-use crate::objects::{calls, changes, object_calls, visits};
+use crate::objects::{calls, functions, object_calls, visits};
 use crate::proved::vm_allocator::{AllocPolicy, Constraint, Error};
 use crate::proved::vm_devices::{DeviceManager, DeviceSlot};
 use crate::ranges::space_of;
 use crate::rattle::Global;
-use crate::requests::{dvs_request, refused, with_conflict, with_request};
-use crate::texts::read_devices;
-use crate::{dvs_range, dvs_refusal, dvs_status, status_of, CallError, Out};
+use crate::requests::refused;
+use crate::texts::{read_devices, save_devices};
+use crate::{dvs_range, dvs_refusal, CallError, Out};
 use core::ffi::{c_int, c_void};
 
 /// A device manager behind a C pointer.
@@ -35,21 +35,6 @@ impl From<DeviceSlot> for dvs_device {
     }
 }
 
-#[unsafe(no_mangle)]
-pub extern "C" fn dvs_device_manager_new(
-    first_id: u32,
-    last_id: u32,
-    base: u64,
-    size: u64,
-    manager: Out<*mut dvs_device_manager>,
-    refusal: Out<dvs_refusal>,
-) -> dvs_status {
-    let made = create(manager, || {
-        DeviceManager::new(Global, first_id, last_id, base, size)
-    });
-    status_of(made, refusal)
-}
-
 fn reserve(
     manager: &mut DeviceManager,
     size: u64,
@@ -66,6 +51,17 @@ fn reserve(
         })
 }
 
+fn reserve_request(
+    manager: &mut DeviceManager,
+    request: Constraint,
+    wants_details: bool,
+) -> Result<dvs_device, CallError> {
+    let reserved = manager.reserve_constraint(Global, request);
+    reserved
+        .map(Into::into)
+        .map_err(|error| refused_device(manager, request, error, wants_details))
+}
+
 /// Returns the error of a refused device. If all ids are allocated, no range is in the way.
 #[cold]
 fn refused_device(
@@ -78,77 +74,60 @@ fn refused_device(
     refused(manager.addresses(), request, error, wants_details)
 }
 
-#[unsafe(no_mangle)]
-pub extern "C" fn dvs_device_reserve(
-    manager: Option<&dvs_device_manager>,
-    request: Option<&dvs_request>,
-    device: Out<dvs_device>,
-    refusal: Out<dvs_refusal>,
-) -> dvs_status {
-    let taken = with_request(manager, request, device, |manager, request| {
-        let reserved = manager.reserve_constraint(Global, request);
-        reserved
-            .map(Into::into)
-            .map_err(|error| refused_device(manager, request, error, refusal.is_some()))
-    });
-    status_of(taken, refusal)
-}
-
-#[unsafe(no_mangle)]
-pub extern "C" fn dvs_device_conflict(
-    manager: Option<&dvs_device_manager>,
-    request: Option<&dvs_request>,
-    conflict: Out<dvs_refusal>,
-) -> dvs_status {
-    let asked = with_conflict(manager, request, conflict, DeviceManager::conflict);
-    status_of(asked, None)
-}
-
-#[unsafe(no_mangle)]
-pub extern "C" fn dvs_device_manager_ids(
-    manager: Option<&dvs_device_manager>,
-    first: Out<u32>,
-    last: Out<u32>,
-) -> dvs_status {
-    let written = write_range(manager, DeviceManager::ids, first, last);
-    status_of(written, None)
+functions! {
+    dvs_device_manager_new(first_id: u32, last_id: u32, base: u64, size: u64)
+        -> *mut dvs_device_manager [refusal] {
+        Handle::new(DeviceManager::new(Global, first_id, last_id, base, size)?)
+    }
 }
 
 object_calls! {
     dvs_device_manager: dvs_device_manager_destroy, dvs_device_manager_copy,
-        dvs_device_manager_equal, dvs_device_manager_save,
+        dvs_device_manager_equal, dvs_device_manager_save by save_devices,
         dvs_device_manager_read, dvs_device_manager_read_within by read_devices
 }
 
 calls! {
     with_mut dvs_device_reserve_first(manager: dvs_device_manager, size: u64, alignment: u64)
-        -> dvs_device [refusal] {
+        -> device: dvs_device [refusal] {
         reserve(manager, size, alignment, AllocPolicy::FirstMatch, refusal.is_some())
     }
     with_mut dvs_device_reserve_last(manager: dvs_device_manager, size: u64, alignment: u64)
-        -> dvs_device [refusal] {
+        -> device: dvs_device [refusal] {
         reserve(manager, size, alignment, AllocPolicy::LastMatch, refusal.is_some())
     }
     with_mut dvs_device_reserve_exact(
         manager: dvs_device_manager, size: u64, alignment: u64, start: u64
-    ) -> dvs_device [refusal] {
+    ) -> device: dvs_device [refusal] {
         reserve(manager, size, alignment, AllocPolicy::ExactMatch(start), refusal.is_some())
     }
     // An id without a device has the error of `dvs_device_release`.
-    with_ref dvs_device_slot(manager: dvs_device_manager, id: u32) -> dvs_range [refusal] {
+    with_ref dvs_device_slot(manager: dvs_device_manager, id: u32) -> range: dvs_range [refusal] {
         Ok(manager.slot(id).ok_or(Error::NeverAllocated(id))?.into())
     }
-    with_ref dvs_device_at(manager: dvs_device_manager, address: u64) -> dvs_device {
+    with_ref dvs_device_at(manager: dvs_device_manager, address: u64) -> device: dvs_device {
         found(manager.device_at(address))
     }
-    with_ref dvs_device_manager_space(manager: dvs_device_manager) -> dvs_range {
+    with_ref dvs_device_manager_space(manager: dvs_device_manager) -> ends: dvs_range {
         Ok(space_of(manager.addresses()))
     }
-    with_ref dvs_device_count(manager: dvs_device_manager) -> u64 { Ok(manager.device_count()) }
-}
-
-changes! {
-    dvs_device_release(manager: dvs_device_manager, id: u32) { manager.release(id) }
+    with_ref dvs_device_count(manager: dvs_device_manager) -> count: u64 {
+        Ok(manager.device_count())
+    }
+    with_mut_unit dvs_device_release(manager: dvs_device_manager, id: u32) [refusal] {
+        Ok(manager.release(id)?)
+    }
+    with_request dvs_device_reserve(manager: dvs_device_manager; request)
+        -> device: dvs_device [refusal] {
+        reserve_request(manager, request, refusal.is_some())
+    }
+    with_conflict dvs_device_conflict(manager: dvs_device_manager; request)
+        -> conflict: dvs_refusal {
+        manager.conflict(request)
+    }
+    with_ref dvs_device_manager_ids(manager: dvs_device_manager, first: Out<u32>) -> last: u32 {
+        write_range(manager.ids(), first)
+    }
 }
 
 visits! {

@@ -1,7 +1,8 @@
 //! The objects that C has pointers to.
 
-use crate::proved::vm_allocator::{Error, Result as Answer};
-use crate::{CallError, Out};
+use crate::proved::vm_allocator::{Conflict, Constraint, Error, Result as Answer};
+use crate::requests::{dvs_request, in_the_way};
+use crate::{dvs_refusal, CallError, Out};
 use alloc::boxed::Box;
 use alloc::vec::Vec;
 use core::cell::UnsafeCell;
@@ -29,8 +30,7 @@ impl<T> Handle<T> {
     pub(crate) fn new(object: T) -> Result<*mut Handle<T>, CallError> {
         let mut one = Vec::new();
         // A vector reports a failed allocation, and a box does not.
-        one.try_reserve_exact(1)
-            .map_err(|_| CallError::OutOfMemory)?;
+        one.try_reserve_exact(1).map_err(|_| Error::OutOfMemory)?;
         one.push(Handle {
             object: UnsafeCell::new(object),
             visits: AtomicUsize::new(0),
@@ -100,41 +100,10 @@ pub(crate) fn visit<'a, T, I: Iterator>(
     Ok(())
 }
 
-/// Creates an object, and writes its pointer to `out`.
-pub(crate) fn create<T>(
-    out: Out<*mut Handle<T>>,
-    object: impl FnOnce() -> Answer<T>,
-) -> Result<(), CallError> {
-    let out = non_null(out)?;
-    out.write(Handle::new(object()?)?);
-    Ok(())
-}
-
-/// Copies an object, and writes the pointer of the copy to `out`.
-pub(crate) fn copy<T>(
-    handle: Option<&Handle<T>>,
-    out: Out<*mut Handle<T>>,
-    copied: impl FnOnce(&T) -> Answer<T>,
-) -> Result<(), CallError> {
-    let (handle, out) = (non_null(handle)?, non_null(out)?);
-    create(Some(out), || copied(handle.get()))
-}
-
-/// Writes whether two objects are equal to `out`.
-pub(crate) fn compare<T: PartialEq>(
-    one: Option<&Handle<T>>,
-    other: Option<&Handle<T>>,
-    out: Out<bool>,
-) -> Result<(), CallError> {
-    let (one, other, out) = (non_null(one)?, non_null(other)?, non_null(out)?);
-    out.write(one.get() == other.get());
-    Ok(())
-}
-
 /// Writes the result of a call without an object to `out`.
 pub(crate) fn with_out<A>(
     out: Out<A>,
-    answer: impl FnOnce() -> Answer<A>,
+    answer: impl FnOnce() -> Result<A, CallError>,
 ) -> Result<(), CallError> {
     non_null(out)?.write(answer()?);
     Ok(())
@@ -145,32 +114,56 @@ pub(crate) fn with_out<A>(
 pub(crate) fn with_ref<T, A>(
     handle: Option<&Handle<T>>,
     out: Out<A>,
-    answer: impl FnOnce(&T) -> Answer<A>,
+    answer: impl FnOnce(&T) -> Result<A, CallError>,
 ) -> Result<(), CallError> {
-    let (handle, out) = (non_null(handle)?, non_null(out)?);
-    out.write(answer(handle.get())?);
-    Ok(())
+    let handle = non_null(handle)?;
+    with_out(out, || answer(handle.get()))
 }
 
 /// Changes an object, and writes the result to `out`.
 #[inline(always)]
-pub(crate) fn with_mut<T, A, E: Into<CallError>>(
+pub(crate) fn with_mut<T, A>(
     handle: Option<&Handle<T>>,
     out: Out<A>,
-    taken: impl FnOnce(&mut T) -> Result<A, E>,
+    change: impl FnOnce(&mut T) -> Result<A, CallError>,
 ) -> Result<(), CallError> {
-    let (handle, out) = (non_null(handle)?, non_null(out)?);
-    out.write(taken(handle.get_mut()?).map_err(Into::into)?);
-    Ok(())
+    let handle = non_null(handle)?;
+    with_out(out, || change(handle.get_mut()?))
 }
 
 /// Changes an object without a result.
 #[inline(always)]
 pub(crate) fn with_mut_unit<T>(
     handle: Option<&Handle<T>>,
-    given_back: impl FnOnce(&mut T) -> Answer<()>,
+    change: impl FnOnce(&mut T) -> Result<(), CallError>,
 ) -> Result<(), CallError> {
-    Ok(given_back(non_null(handle)?.get_mut()?)?)
+    change(non_null(handle)?.get_mut()?)
+}
+
+/// Changes an object by a request, and writes the result to `out`.
+pub(crate) fn with_request<T, A>(
+    handle: Option<&Handle<T>>,
+    request: Option<&dvs_request>,
+    out: Out<A>,
+    change: impl FnOnce(&mut T, Constraint) -> Result<A, CallError>,
+) -> Result<(), CallError> {
+    let request = non_null(request)?;
+    with_mut(handle, out, |object| change(object, request.constraint()?))
+}
+
+/// Writes the conflict of a request with an object to `out`.
+pub(crate) fn with_conflict<T>(
+    handle: Option<&Handle<T>>,
+    request: Option<&dvs_request>,
+    out: Out<dvs_refusal>,
+    conflict: impl FnOnce(&T, Constraint) -> Option<Conflict>,
+) -> Result<(), CallError> {
+    let asked = non_null(request)?;
+    with_ref(handle, out, |object| {
+        let request = asked.constraint()?;
+        let details = |found| in_the_way(asked.start, request, Some(found));
+        Ok(conflict(object, request).map_or(dvs_refusal::default(), details))
+    })
 }
 
 /// Returns the item that a look-up has found.
@@ -178,6 +171,6 @@ pub(crate) fn with_mut_unit<T>(
 /// # Errors
 ///
 /// - `ResourceNotAvailable` if there is none.
-pub(crate) fn found<T, A: From<T>>(item: Option<T>) -> Answer<A> {
-    item.map(A::from).ok_or(Error::ResourceNotAvailable)
+pub(crate) fn found<T, A: From<T>>(item: Option<T>) -> Result<A, CallError> {
+    Ok(item.ok_or(Error::ResourceNotAvailable)?.into())
 }

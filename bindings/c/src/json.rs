@@ -325,10 +325,8 @@ impl<'a> Reader<'a> {
 
     /// Reads one of these bytes if it is next, and returns whether it was.
     fn skip_mark(&mut self, marks: &[u8]) -> bool {
-        let is_next = self
-            .text
-            .get(self.at)
-            .is_some_and(|byte| marks.contains(byte));
+        let next = self.text.get(self.at);
+        let is_next = next.is_some_and(|byte| marks.contains(byte));
         self.at += usize::from(is_next);
         is_next
     }
@@ -423,9 +421,8 @@ impl<'a> Reader<'a> {
             0xd800..=0xdbff if self.skip_mark(b"\\") && self.skip_mark(b"u") => self.utf16_unit(),
             _ => None,
         };
-        char::decode_utf16([first].into_iter().chain(second))
-            .next()?
-            .ok()
+        let mut decoded = char::decode_utf16([first].into_iter().chain(second));
+        decoded.next()?.ok()
     }
 
     /// Reads the number of four hexadecimal digits.

@@ -1,7 +1,7 @@
 //! Calls with arrays of ranges and of requests.
 
 use crate::handle::{non_null, Handle};
-use crate::proved::vm_allocator::{AddressAllocator, ListError, RangeInclusive};
+use crate::proved::vm_allocator::{AddressAllocator, Error, ListError, RangeInclusive};
 use crate::ranges::dvs_address_allocator;
 use crate::rattle::Global;
 use crate::requests::{dvs_request, refused};
@@ -27,7 +27,7 @@ pub(crate) unsafe fn array<'a, T>(first: *const T, count: usize) -> Result<&'a [
         return Err(CallError::Null);
     }
     if count > isize::MAX as usize / size_of::<T>() {
-        return Err(CallError::OutOfMemory);
+        return Err(Error::OutOfMemory.into());
     }
     // SAFETY: the members are readable, and their size is at most `isize::MAX`.
     Ok(unsafe { slice::from_raw_parts(first, count) })
@@ -70,8 +70,8 @@ fn converted<T, P>(
         })?;
     }
     let mut list = Vec::new();
-    list.try_reserve_exact(members.len())
-        .map_err(|_| CallError::OutOfMemory)?;
+    let reserved = list.try_reserve_exact(members.len());
+    reserved.map_err(|_| CallError::from(Error::OutOfMemory))?;
     list.extend(members.iter().flat_map(convert));
     Ok(list)
 }

@@ -2,7 +2,7 @@
 
 /// Defines the calls that destroy, copy, compare, save and read objects of one kind.
 macro_rules! object_calls {
-    ($handle:ident: $destroy:ident, $copy:ident, $equal:ident, $save:ident,
+    ($handle:ident: $destroy:ident, $copy:ident, $equal:ident, $save:ident by $saver:expr,
         $($read:ident, $read_within:ident by $reader:expr);+) => {
         /// # Safety
         ///
@@ -13,33 +13,17 @@ macro_rules! object_calls {
             $crate::status_of(unsafe { $crate::handle::Handle::destroy(object) }, None)
         }
 
-        #[unsafe(no_mangle)]
-        pub extern "C" fn $copy(
-            object: Option<&$handle>,
-            copied: $crate::Out<*mut $handle>,
-        ) -> $crate::dvs_status {
-            let made = $crate::handle::copy(object, copied, |object| {
-                object.try_clone($crate::rattle::Global)
-            });
-            $crate::status_of(made, None)
-        }
-
-        #[unsafe(no_mangle)]
-        pub extern "C" fn $equal(
-            one: Option<&$handle>,
-            other: Option<&$handle>,
-            are_equal: $crate::Out<bool>,
-        ) -> $crate::dvs_status {
-            $crate::status_of($crate::handle::compare(one, other, are_equal), None)
-        }
-
-        #[unsafe(no_mangle)]
-        pub extern "C" fn $save(
-            object: Option<&$handle>,
-            text: $crate::Out<*mut core::ffi::c_char>,
-            length: $crate::Out<usize>,
-        ) -> $crate::dvs_status {
-            $crate::status_of($crate::texts::save(object, text, length), None)
+        $crate::objects::calls! {
+            with_ref $copy(object: $handle) -> copied: *mut $handle {
+                $crate::handle::Handle::new(object.try_clone($crate::rattle::Global)?)
+            }
+            with_ref $equal(one: $handle, other: Option<&$handle>) -> are_equal: bool {
+                Ok(one == $crate::handle::non_null(other)?.get())
+            }
+            with_ref $save(object: $handle, text: $crate::Out<*mut core::ffi::c_char>)
+                -> length: usize {
+                $crate::texts::save(text, || $saver(object))
+            }
         }
 
         $(
@@ -74,35 +58,40 @@ macro_rules! object_calls {
     };
 }
 
-/// Defines calls that write a result to their last pointer, each by `with_ref` or `with_mut` and an
-/// expression for the result. A call with `[refusal]` also writes the details of an error there.
+/// Defines calls on an object, each with the function that makes it, the arguments, a request, the
+/// result, the details of an error, and an expression for the result.
 macro_rules! calls {
-    ($($by:ident $name:ident($object:ident: $handle:ident $(, $argument:ident: $type:ty)*)
-        -> $result:ty $([$refusal:ident])? { $answer:expr })+) => {$(
+    ($($by:ident $name:ident($object:ident: $handle:ident
+        $(, $argument:ident: $type:ty)* $(; $request:ident)?)
+        $(-> $result:ident: $written:ty)? $([$refusal:ident])? { $answer:expr })+) => {$(
         #[unsafe(no_mangle)]
         pub extern "C" fn $name(
             object: Option<&$handle>,
             $($argument: $type,)*
-            result: $crate::Out<$result>,
+            $($request: Option<&$crate::requests::dvs_request>,)?
+            $($result: $crate::Out<$written>,)?
             $($refusal: $crate::Out<$crate::dvs_refusal>,)?
         ) -> $crate::dvs_status {
-            let made = $crate::handle::$by(object, result, |$object| $answer);
+            let made = $crate::handle::$by(object, $($request,)? $($result,)?
+                |$object $(, $request)?| $answer);
             $crate::status_of(made, None$(.or($refusal))?)
         }
     )+};
 }
 
-/// Defines calls that change an object by one argument and have no result.
-macro_rules! changes {
-    ($($name:ident($object:ident: $handle:ident, $argument:ident: $type:ty) { $answer:expr })+) => {$(
+/// Defines calls without an object, which write a result.
+macro_rules! functions {
+    ($($name:ident($($argument:ident: $type:ty),+) -> $result:ty $([$refusal:ident])? {
+        $answer:expr
+    })+) => {$(
         #[unsafe(no_mangle)]
         pub extern "C" fn $name(
-            object: Option<&$handle>,
-            $argument: $type,
-            refusal: $crate::Out<$crate::dvs_refusal>,
+            $($argument: $type,)+
+            result: $crate::Out<$result>,
+            $($refusal: $crate::Out<$crate::dvs_refusal>,)?
         ) -> $crate::dvs_status {
-            let changed = $crate::handle::with_mut_unit(object, |$object| $answer);
-            $crate::status_of(changed, refusal)
+            let made = $crate::handle::with_out(result, || $answer);
+            $crate::status_of(made, None$(.or($refusal))?)
         }
     )+};
 }
@@ -127,4 +116,4 @@ macro_rules! visits {
     )+};
 }
 
-pub(crate) use {calls, changes, object_calls, visits};
+pub(crate) use {calls, functions, object_calls, visits};

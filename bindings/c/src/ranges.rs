@@ -1,14 +1,14 @@
 //! The address allocator.
 
-use crate::handle::{create, found, with_out, Handle};
-use crate::objects::{calls, changes, object_calls, visits};
+use crate::handle::{found, Handle};
+use crate::objects::{calls, functions, object_calls, visits};
 use crate::proved::vm_allocator::{
-    AddressAllocator, AllocPolicy, Constraint, Error, RangeInclusive, Result as Answer,
+    AddressAllocator, AllocPolicy, Constraint, RangeInclusive, Result as Answer,
 };
 use crate::rattle::Global;
-use crate::requests::{dvs_request, refused, with_conflict, with_request};
-use crate::texts::read_space;
-use crate::{dvs_range, dvs_refusal, dvs_status, status_of, CallError, Out};
+use crate::requests::refused;
+use crate::texts::{read_space, save_space};
+use crate::{dvs_range, dvs_refusal, CallError};
 use core::ffi::{c_int, c_void};
 
 /// An address allocator behind a C pointer.
@@ -17,47 +17,12 @@ pub type dvs_address_allocator = Handle<AddressAllocator>;
 /// The visitor that C passes for allocated ranges. If it unwinds, the process ends.
 pub type dvs_range_visitor = extern "C-unwind" fn(context: *mut c_void, range: dvs_range) -> c_int;
 
-#[unsafe(no_mangle)]
-pub extern "C" fn dvs_address_allocator_new(
-    base: u64,
-    size: u64,
-    allocator: Out<*mut dvs_address_allocator>,
-) -> dvs_status {
-    let made = create(allocator, || AddressAllocator::new(Global, base, size));
-    status_of(made, None)
-}
-
 /// Returns the range from the first to the last address of the space.
 pub(crate) fn space_of(allocator: &AddressAllocator) -> dvs_range {
     dvs_range {
         start: allocator.base(),
         end: allocator.end(),
     }
-}
-
-#[unsafe(no_mangle)]
-pub extern "C" fn dvs_range_from_start_length(
-    start: u64,
-    length: u64,
-    range: Out<dvs_range>,
-) -> dvs_status {
-    let made = with_out(range, || {
-        Ok(RangeInclusive::from_start_len(start, length)?.into())
-    });
-    status_of(made, None)
-}
-
-#[unsafe(no_mangle)]
-pub extern "C" fn dvs_range_offset_of(
-    range: dvs_range,
-    address: u64,
-    offset: Out<u64>,
-) -> dvs_status {
-    let asked = with_out(offset, || {
-        let offset = RangeInclusive::try_from(range)?.offset_of(address);
-        offset.ok_or(Error::ResourceNotAvailable)
-    });
-    status_of(asked, None)
 }
 
 #[inline(always)]
@@ -84,29 +49,6 @@ fn allocate_request(
         .map_err(|error| refused(allocator, request, error, wants_details))
 }
 
-#[unsafe(no_mangle)]
-pub extern "C" fn dvs_range_allocate(
-    allocator: Option<&dvs_address_allocator>,
-    request: Option<&dvs_request>,
-    range: Out<dvs_range>,
-    refusal: Out<dvs_refusal>,
-) -> dvs_status {
-    let taken = with_request(allocator, request, range, |allocator, request| {
-        allocate_request(allocator, request, refusal.is_some())
-    });
-    status_of(taken, refusal)
-}
-
-#[unsafe(no_mangle)]
-pub extern "C" fn dvs_range_conflict(
-    allocator: Option<&dvs_address_allocator>,
-    request: Option<&dvs_request>,
-    conflict: Out<dvs_refusal>,
-) -> dvs_status {
-    let asked = with_conflict(allocator, request, conflict, AddressAllocator::conflict);
-    status_of(asked, None)
-}
-
 /// Moves a range by a request. If the range is not allocated, no other one is in the way.
 fn move_by(
     space: &mut AddressAllocator,
@@ -130,20 +72,6 @@ fn move_to(
     let range = RangeInclusive::try_from(range)?;
     let request = Constraint::new(range.len(), 1, AllocPolicy::ExactMatch(start))?;
     move_by(space, &range, request, wants_details)
-}
-
-#[unsafe(no_mangle)]
-pub extern "C" fn dvs_range_move_request(
-    allocator: Option<&dvs_address_allocator>,
-    range: dvs_range,
-    request: Option<&dvs_request>,
-    moved: Out<dvs_range>,
-    refusal: Out<dvs_refusal>,
-) -> dvs_status {
-    let answer = with_request(allocator, request, moved, |allocator, request| {
-        move_by(allocator, &range.try_into()?, request, refusal.is_some())
-    });
-    status_of(answer, refusal)
 }
 
 /// Returns the part of the space that begins at `address`, or one address outside the space if there is
@@ -180,52 +108,79 @@ visits! {
     }
 }
 
+functions! {
+    dvs_address_allocator_new(base: u64, size: u64) -> *mut dvs_address_allocator {
+        Handle::new(AddressAllocator::new(Global, base, size)?)
+    }
+    dvs_range_from_start_length(start: u64, length: u64) -> dvs_range {
+        Ok(RangeInclusive::from_start_len(start, length)?.into())
+    }
+    dvs_range_offset_of(range: dvs_range, address: u64) -> u64 {
+        found(RangeInclusive::try_from(range)?.offset_of(address))
+    }
+}
+
 object_calls! {
     dvs_address_allocator: dvs_address_allocator_destroy, dvs_address_allocator_copy,
-        dvs_address_allocator_equal, dvs_address_allocator_save,
+        dvs_address_allocator_equal, dvs_address_allocator_save by save_space,
         dvs_address_allocator_read, dvs_address_allocator_read_within
-            by |from| read_space(from, true);
+            by |from| read_space(from, AddressAllocator::from_nodes);
         dvs_address_allocator_read_repaired, dvs_address_allocator_read_repaired_within
-            by |from| read_space(from, false)
+            by |from| read_space(from, AddressAllocator::from_nodes_repaired)
 }
 
 calls! {
     with_mut dvs_range_allocate_first(space: dvs_address_allocator, size: u64, alignment: u64)
-        -> dvs_range [refusal] {
+        -> range: dvs_range [refusal] {
         allocate(space, size, alignment, AllocPolicy::FirstMatch, refusal.is_some())
     }
     with_mut dvs_range_allocate_last(space: dvs_address_allocator, size: u64, alignment: u64)
-        -> dvs_range [refusal] {
+        -> range: dvs_range [refusal] {
         allocate(space, size, alignment, AllocPolicy::LastMatch, refusal.is_some())
     }
     with_mut dvs_range_allocate_exact(
         space: dvs_address_allocator, size: u64, alignment: u64, start: u64
-    ) -> dvs_range [refusal] {
+    ) -> range: dvs_range [refusal] {
         allocate(space, size, alignment, AllocPolicy::ExactMatch(start), refusal.is_some())
     }
     with_mut dvs_range_move(space: dvs_address_allocator, range: dvs_range, start: u64)
-        -> dvs_range [refusal] {
+        -> moved: dvs_range [refusal] {
         move_to(space, range, start, refusal.is_some())
     }
     with_ref dvs_range_is_allocated(space: dvs_address_allocator, range: dvs_range)
-        -> bool [refusal] {
+        -> is_allocated: bool [refusal] {
         Ok(space.holds(&range.try_into()?))
     }
-    with_ref dvs_range_at(space: dvs_address_allocator, address: u64) -> dvs_range {
+    with_ref dvs_range_at(space: dvs_address_allocator, address: u64) -> range: dvs_range {
         found(space.held_at(address))
     }
-    with_ref dvs_gap_at(space: dvs_address_allocator, address: u64) -> dvs_range {
+    with_ref dvs_gap_at(space: dvs_address_allocator, address: u64) -> gap: dvs_range {
         found(space.gap_at(address))
     }
-    with_ref dvs_address_allocator_space(space: dvs_address_allocator) -> dvs_range {
+    with_ref dvs_address_allocator_space(space: dvs_address_allocator) -> ends: dvs_range {
         Ok(space_of(space))
     }
-    with_ref dvs_range_count(space: dvs_address_allocator) -> u64 { Ok(space.held_count()) }
-    with_ref dvs_gap_count(space: dvs_address_allocator) -> u64 { Ok(space.gap_count()) }
-    with_ref dvs_longest_gap(space: dvs_address_allocator) -> u64 { Ok(space.longest_gap()) }
-    with_ref dvs_free_length(space: dvs_address_allocator) -> u64 { Ok(space.free_len()) }
-}
-
-changes! {
-    dvs_range_free(space: dvs_address_allocator, range: dvs_range) { space.free(&range.try_into()?) }
+    with_ref dvs_range_count(space: dvs_address_allocator) -> count: u64 { Ok(space.held_count()) }
+    with_ref dvs_gap_count(space: dvs_address_allocator) -> count: u64 { Ok(space.gap_count()) }
+    with_ref dvs_longest_gap(space: dvs_address_allocator) -> length: u64 {
+        Ok(space.longest_gap())
+    }
+    with_ref dvs_free_length(space: dvs_address_allocator) -> length: u64 {
+        Ok(space.free_len())
+    }
+    with_mut_unit dvs_range_free(space: dvs_address_allocator, range: dvs_range) [refusal] {
+        Ok(space.free(&range.try_into()?)?)
+    }
+    with_request dvs_range_allocate(space: dvs_address_allocator; request)
+        -> range: dvs_range [refusal] {
+        allocate_request(space, request, refusal.is_some())
+    }
+    with_request dvs_range_move_request(space: dvs_address_allocator, range: dvs_range; request)
+        -> moved: dvs_range [refusal] {
+        move_by(space, &range.try_into()?, request, refusal.is_some())
+    }
+    with_conflict dvs_range_conflict(space: dvs_address_allocator; request)
+        -> conflict: dvs_refusal {
+        space.conflict(request)
+    }
 }

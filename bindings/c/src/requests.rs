@@ -1,10 +1,9 @@
 //! Requests for a range.
 
-use crate::handle::{non_null, Handle};
 use crate::proved::vm_allocator::{
     AddressAllocator, AllocPolicy, Conflict, Constraint, Error, RangeInclusive,
 };
-use crate::{dvs_range, dvs_refusal, CallError, Out};
+use crate::{dvs_range, dvs_refusal, CallError};
 
 const DVS_FIRST: u32 = 0;
 const DVS_LAST: u32 = 1;
@@ -20,7 +19,7 @@ const DVS_CAUSE_EARLIER_REQUEST: u32 = 4;
 pub struct dvs_request<'a> {
     size: u64,
     alignment: u64,
-    start: u64,
+    pub(crate) start: u64,
     policy: u32,
     window: Option<&'a dvs_range>,
 }
@@ -52,35 +51,6 @@ impl dvs_request<'_> {
     }
 }
 
-/// Changes an object by a request, and writes the result to `out`.
-pub(crate) fn with_request<T, A>(
-    handle: Option<&Handle<T>>,
-    request: Option<&dvs_request>,
-    out: Out<A>,
-    taken: impl FnOnce(&mut T, Constraint) -> Result<A, CallError>,
-) -> Result<(), CallError> {
-    let (handle, request, out) = (non_null(handle)?, non_null(request)?, non_null(out)?);
-    let object = handle.get_mut()?;
-    out.write(taken(object, request.constraint()?)?);
-    Ok(())
-}
-
-/// Writes the conflict of a request with an object to `out`.
-pub(crate) fn with_conflict<T>(
-    handle: Option<&Handle<T>>,
-    request: Option<&dvs_request>,
-    out: Out<dvs_refusal>,
-    conflict: impl FnOnce(&T, Constraint) -> Option<Conflict>,
-) -> Result<(), CallError> {
-    let (handle, asked, out) = (non_null(handle)?, non_null(request)?, non_null(out)?);
-    let request = asked.constraint()?;
-    out.write(match conflict(handle.get(), request) {
-        None => dvs_refusal::default(),
-        Some(conflict) => in_the_way(asked.start, request, Some(conflict)),
-    });
-    Ok(())
-}
-
 /// Returns the error of a refused request. If the range at the start that it names is not available,
 /// and the caller wants details, the error has the cause.
 #[cold]
@@ -100,7 +70,11 @@ pub(crate) fn refused(
 }
 
 /// Returns the details of a request for a start at which its range is not available.
-fn in_the_way(start: u64, request: Constraint, conflict: Option<Conflict>) -> dvs_refusal {
+pub(crate) fn in_the_way(
+    start: u64,
+    request: Constraint,
+    conflict: Option<Conflict>,
+) -> dvs_refusal {
     let range = RangeInclusive::from_start_len(start, request.size());
     let (cause, other) = match conflict {
         Some(Conflict::OutsideSpace(space)) => (DVS_CAUSE_OUTSIDE_SPACE, space.into()),

@@ -1,56 +1,44 @@
 //! The errors of calls, as statuses and details.
 
 use crate::proved::vm_allocator::Error;
+use crate::rattle::AllocError;
 use crate::{dvs_range, Out};
 use core::ffi::{c_char, CStr};
 
 /// The result of a call.
 pub type dvs_status = u32;
 
-pub(crate) const DVS_OK: dvs_status = 0;
-const DVS_OVERFLOW: dvs_status = 1;
-const DVS_OUT_OF_RANGE: dvs_status = 2;
-const DVS_ALREADY_RELEASED: dvs_status = 3;
-const DVS_NEVER_ALLOCATED: dvs_status = 4;
-const DVS_RESOURCE_NOT_AVAILABLE: dvs_status = 5;
-const DVS_INVALID_RANGE: dvs_status = 6;
-const DVS_INVALID_ALIGNMENT: dvs_status = 7;
-const DVS_OVERLAP: dvs_status = 8;
-const DVS_INVALID_STATE_TRANSITION: dvs_status = 9;
-const DVS_UNALIGNED_ADDRESS: dvs_status = 10;
-const DVS_UNDERFLOW: dvs_status = 11;
-const DVS_INVALID_SIZE: dvs_status = 12;
-pub(crate) const DVS_OUT_OF_MEMORY: dvs_status = 13;
-pub(crate) const DVS_NULL: dvs_status = 14;
-const DVS_BUSY: dvs_status = 15;
-pub(crate) const DVS_NOT_JSON: dvs_status = 16;
-pub(crate) const DVS_NOT_A_STATE: dvs_status = 17;
-const DVS_INVALID_POLICY: dvs_status = 18;
-pub(crate) const DVS_LIMIT_EXCEEDED: dvs_status = 19;
+/// Defines the statuses, each with its text.
+macro_rules! statuses {
+    ($($name:ident = $number:literal, $text:literal;)+) => {
+        $(pub(crate) const $name: dvs_status = $number;)+
 
-/// The text of each status, at the index of its number.
-const TEXTS: [&CStr; 20] = [
-    c"The call succeeded.",
-    c"Management operations on desired resource resulted in overflow.",
-    c"The id is not in the range.",
-    c"The id is already released.",
-    c"The id was never allocated, can't release it.",
-    c"The requested resource is not available.",
-    c"The range is not valid.",
-    c"Alignment value is invalid.",
-    c"Addresses are overlapping.",
-    c"The range is already allocated.",
-    c"The address is not aligned.",
-    c"Management operations on desired resource resulted in underflow.",
-    c"The size is not valid.",
-    c"There is not enough memory.",
-    c"A pointer is null.",
-    c"The object is being visited and cannot be changed.",
-    c"The text is not JSON.",
-    c"The value does not encode a valid object.",
-    c"The policy is not valid.",
-    c"The text exceeds a limit.",
-];
+        const TEXTS: &[(dvs_status, &CStr)] = &[$(($name, $text)),+];
+    };
+}
+
+statuses! {
+    DVS_OK = 0, c"The call succeeded.";
+    DVS_OVERFLOW = 1, c"Management operations on desired resource resulted in overflow.";
+    DVS_OUT_OF_RANGE = 2, c"The id is not in the range.";
+    DVS_ALREADY_RELEASED = 3, c"The id is already released.";
+    DVS_NEVER_ALLOCATED = 4, c"The id was never allocated, can't release it.";
+    DVS_RESOURCE_NOT_AVAILABLE = 5, c"The requested resource is not available.";
+    DVS_INVALID_RANGE = 6, c"The range is not valid.";
+    DVS_INVALID_ALIGNMENT = 7, c"Alignment value is invalid.";
+    DVS_OVERLAP = 8, c"Addresses are overlapping.";
+    DVS_INVALID_STATE_TRANSITION = 9, c"The range is already allocated.";
+    DVS_UNALIGNED_ADDRESS = 10, c"The address is not aligned.";
+    DVS_UNDERFLOW = 11, c"Management operations on desired resource resulted in underflow.";
+    DVS_INVALID_SIZE = 12, c"The size is not valid.";
+    DVS_OUT_OF_MEMORY = 13, c"There is not enough memory.";
+    DVS_NULL = 14, c"A pointer is null.";
+    DVS_BUSY = 15, c"The object is being visited and cannot be changed.";
+    DVS_NOT_JSON = 16, c"The text is not JSON.";
+    DVS_NOT_A_STATE = 17, c"The value does not encode a valid object.";
+    DVS_INVALID_POLICY = 18, c"The policy is not valid.";
+    DVS_LIMIT_EXCEEDED = 19, c"The text exceeds a limit.";
+}
 
 /// The details of an error.
 #[repr(C)]
@@ -67,7 +55,6 @@ pub struct dvs_refusal {
 pub(crate) enum CallError {
     Null,
     Busy,
-    OutOfMemory,
     InvalidPolicy,
     Call(Error),
     /// The range of a request is not available, with the cause in these details.
@@ -83,6 +70,12 @@ impl From<Error> for CallError {
     }
 }
 
+impl From<AllocError> for CallError {
+    fn from(_: AllocError) -> Self {
+        CallError::Call(Error::OutOfMemory)
+    }
+}
+
 impl CallError {
     /// Returns the status of the error, and its details.
     pub(crate) fn parts(&self) -> (dvs_status, dvs_refusal) {
@@ -90,7 +83,6 @@ impl CallError {
         match self {
             CallError::Null => (DVS_NULL, none),
             CallError::Busy => (DVS_BUSY, none),
-            CallError::OutOfMemory => (DVS_OUT_OF_MEMORY, none),
             CallError::InvalidPolicy => (DVS_INVALID_POLICY, none),
             CallError::Call(error) => parts_of(error),
             CallError::InTheWay(details) => (DVS_RESOURCE_NOT_AVAILABLE, *details),
@@ -102,7 +94,12 @@ impl CallError {
 fn parts_of(error: &Error) -> (dvs_status, dvs_refusal) {
     let none = dvs_refusal::default();
     let of_id = |id: &u32| dvs_refusal { id: *id, ..none };
-    let of_range = |range| dvs_refusal { range, ..none };
+    let of_ranges = |range, other| dvs_refusal {
+        range,
+        other,
+        ..none
+    };
+    let of_range = |range| of_ranges(range, none.other);
     match error {
         Error::Overflow => (DVS_OVERFLOW, none),
         Error::OutOfRange(id) => (DVS_OUT_OF_RANGE, of_id(id)),
@@ -111,16 +108,7 @@ fn parts_of(error: &Error) -> (dvs_status, dvs_refusal) {
         Error::ResourceNotAvailable => (DVS_RESOURCE_NOT_AVAILABLE, none),
         &Error::InvalidRange(start, end) => (DVS_INVALID_RANGE, of_range(dvs_range { start, end })),
         Error::InvalidAlignment => (DVS_INVALID_ALIGNMENT, none),
-        Error::Overlap(range, other) => {
-            let (range, other) = ((*range).into(), (*other).into());
-            (
-                DVS_OVERLAP,
-                dvs_refusal {
-                    other,
-                    ..of_range(range)
-                },
-            )
-        }
+        Error::Overlap(range, other) => (DVS_OVERLAP, of_ranges((*range).into(), (*other).into())),
         Error::InvalidStateTransition(range, _) => {
             (DVS_INVALID_STATE_TRANSITION, of_range((*range).into()))
         }
@@ -152,8 +140,8 @@ fn report(refused: &CallError, refusal: Out<dvs_refusal>) -> dvs_status {
 /// The number is from C, so it can be one that is not a status.
 #[unsafe(no_mangle)]
 pub extern "C" fn dvs_status_text(status: u32) -> *const c_char {
-    let text = usize::try_from(status).ok().and_then(|at| TEXTS.get(at));
-    text.copied().unwrap_or(c"Unknown status.").as_ptr()
+    let row = TEXTS.iter().find(|(number, _)| *number == status);
+    row.map_or(c"Unknown status.", |(_, text)| text).as_ptr()
 }
 
 #[unsafe(no_mangle)]
@@ -161,16 +149,11 @@ pub extern "C" fn dvs_version_text() -> *const c_char {
     concat!(env!("CARGO_PKG_VERSION"), "\0").as_ptr().cast()
 }
 
-/// The version is that of Cargo.toml. Cargo passes its three numbers as texts.
+/// The version is that of Cargo.toml.
 #[unsafe(no_mangle)]
 pub extern "C" fn dvs_version_number() -> u32 {
-    [
-        env!("CARGO_PKG_VERSION_MAJOR"),
-        env!("CARGO_PKG_VERSION_MINOR"),
-        env!("CARGO_PKG_VERSION_PATCH"),
-    ]
-    .iter()
-    .fold(0, |number, part| {
+    let parts = env!("CARGO_PKG_VERSION").split('.');
+    parts.fold(0, |number, part| {
         100 * number + part.parse::<u32>().unwrap_or(0)
     })
 }

@@ -4,11 +4,11 @@ use crate::handle::{non_null, Handle};
 use crate::json::{dvs_text_limits, Read, Reader, TextFault};
 use crate::proved::vm_allocator::allocation_engine::NodeState;
 use crate::proved::vm_allocator::{
-    AddressAllocator, IdAllocator, RangeInclusive, ReadIds, ReadNodes, Span, WrittenBlocks,
+    AddressAllocator, Error, IdAllocator, RangeInclusive, ReadIds, ReadNodes, SavedError, Span,
     WrittenTree,
 };
-use crate::proved::vm_devices::{DeviceManager, DeviceSlot, ReadDevices, SAVED_VERSION};
-use crate::rattle::{AllocError, Global};
+use crate::proved::vm_devices::{DeviceManager, DeviceSlot, ReadDevices};
+use crate::rattle::Global;
 use crate::status::{
     dvs_status, dvs_status_text, DVS_LIMIT_EXCEEDED, DVS_NOT_A_STATE, DVS_NOT_JSON, DVS_NULL,
     DVS_OK, DVS_OUT_OF_MEMORY,
@@ -25,42 +25,9 @@ const STATES: [&CStr; 2] = [c"Free", c"Allocated"];
 // ---- Writing
 
 /// The destination of a text.
-pub(crate) trait Sink {
+trait Sink {
     fn text(&mut self, text: &str);
     fn number(&mut self, number: u64);
-}
-
-/// An object that has a text.
-pub(crate) trait Saved {
-    /// The parts that are found before the text is written.
-    type Parts;
-
-    fn parts(&self) -> Result<Self::Parts, AllocError>;
-
-    fn write(&self, parts: &Self::Parts, to: &mut impl Sink);
-}
-
-/// Writes the text that encodes an object, and its length.
-pub(crate) fn save<T: Saved>(
-    handle: Option<&Handle<T>>,
-    text: Out<*mut c_char>,
-    length: Out<usize>,
-) -> Result<(), CallError> {
-    let (handle, text, length) = (non_null(handle)?, non_null(text)?, non_null(length)?);
-    let object = handle.get();
-    let parts = object.parts().map_err(|_| CallError::OutOfMemory)?;
-    // The text is counted first, so that it is allocated once.
-    let mut counted = TextLength(0);
-    object.write(&parts, &mut counted);
-    let mut written = TextBuffer(Vec::new());
-    let allocated = written.0.try_reserve_exact(counted.0 + 1);
-    allocated.map_err(|_| CallError::OutOfMemory)?;
-    object.write(&parts, &mut written);
-    length.write(written.0.len());
-    written.0.push(0);
-    let saved = CString::from_vec_with_nul(written.0).expect("JSON contains no zero byte");
-    text.write(saved.into_raw());
-    Ok(())
 }
 
 /// Counts the bytes of a text.
@@ -97,105 +64,119 @@ impl Sink for TextBuffer {
     }
 }
 
-fn write_range(start: u64, end: u64, to: &mut impl Sink) {
-    to.text(r#"{"start":"#);
-    to.number(start);
-    to.text(r#","end":"#);
-    to.number(end);
-    to.text("}");
+/// A value that is written as JSON.
+trait Json {
+    fn write(&self, to: &mut impl Sink);
 }
 
-fn write_tree(tree: WrittenTree<'_>, to: &mut impl Sink) {
-    let Some(node) = tree.root() else {
-        return to.text("null");
-    };
-    to.text(r#"{"key":"#);
-    write_range(node.key.start(), node.key.end(), to);
-    to.text(match node.state {
-        NodeState::Free => r#","node_state":"Free","left":"#,
-        NodeState::Allocated => r#","node_state":"Allocated","left":"#,
-    });
-    write_tree(node.left, to);
-    to.text(r#","right":"#);
-    write_tree(node.right, to);
-    to.text(r#","height":"#);
-    to.number(node.height);
-    to.text("}");
+/// Implements `Json` for structures with these fields.
+macro_rules! write_fields {
+    ($(
+        $(#[$attribute:meta])?
+        $object:ty as $name:literal, $this:ident:
+            $first:ident = $first_value:expr $(, $field:ident = $value:expr)*;
+    )*) => {$(
+        impl super::Json for $object {
+            $(#[$attribute])?
+            fn write(&self, to: &mut impl super::Sink) {
+                let $this = self;
+                to.text(concat!("{\"", stringify!($first), "\":"));
+                $first_value.write(to);
+                $(
+                    to.text(concat!(",\"", stringify!($field), "\":"));
+                    $value.write(to);
+                )*
+                to.text("}");
+            }
+        }
+    )*};
 }
 
-/// Writes the items of a list, each by a function.
-fn write_list<T, S: Sink>(items: impl Iterator<Item = T>, to: &mut S, write: fn(T, &mut S)) {
-    to.text("[");
-    for (place, item) in items.enumerate() {
-        to.text(if place > 0 { "," } else { "" });
-        write(item, to);
-    }
-    to.text("]");
-}
+#[path = "../../rust/divsharun/src/saved/fields.rs"]
+mod fields;
+use fields::{List, WithBlocks};
 
-impl Saved for AddressAllocator {
-    type Parts = WrittenBlocks;
-
-    fn parts(&self) -> Result<WrittenBlocks, AllocError> {
-        self.written_blocks(Global)
-    }
-
-    fn write(&self, blocks: &WrittenBlocks, to: &mut impl Sink) {
-        to.text(r#"{"address_space":"#);
-        write_range(self.base(), self.end(), to);
-        to.text(r#","interval_tree":{"root":"#);
-        write_tree(blocks.tree(), to);
-        to.text("}}");
+impl Json for u64 {
+    fn write(&self, to: &mut impl Sink) {
+        to.number(*self);
     }
 }
 
-impl Saved for IdAllocator {
-    type Parts = ();
-
-    fn parts(&self) -> Result<(), AllocError> {
-        Ok(())
+impl Json for u32 {
+    fn write(&self, to: &mut impl Sink) {
+        to.number((*self).into());
     }
+}
 
-    fn write(&self, (): &(), to: &mut impl Sink) {
-        to.text(r#"{"range_base":"#);
-        to.number(self.range_base().into());
-        to.text(r#","next_id":"#);
-        match self.next_id() {
-            Some(next) => to.number(next.into()),
+impl Json for NodeState {
+    fn write(&self, to: &mut impl Sink) {
+        to.text(match self {
+            NodeState::Free => r#""Free""#,
+            NodeState::Allocated => r#""Allocated""#,
+        });
+    }
+}
+
+impl<T: Json> Json for Option<T> {
+    fn write(&self, to: &mut impl Sink) {
+        match self {
+            Some(value) => value.write(to),
             None => to.text("null"),
         }
-        to.text(r#","range_end":"#);
-        to.number(self.range_end().into());
-        to.text(r#","freed_ids":"#);
-        write_list(self.freed_ids(), to, |id, to| to.number(id.into()));
-        to.text("}");
     }
 }
 
-impl Saved for DeviceManager {
-    type Parts = WrittenBlocks;
-
-    fn parts(&self) -> Result<WrittenBlocks, AllocError> {
-        self.addresses().parts()
+impl Json for WrittenTree<'_> {
+    fn write(&self, to: &mut impl Sink) {
+        self.root().write(to);
     }
+}
 
-    fn write(&self, blocks: &WrittenBlocks, to: &mut impl Sink) {
-        to.text(r#"{"version":"#);
-        to.number(SAVED_VERSION);
-        to.text(r#","id_allocator":"#);
-        self.ids().write(&(), to);
-        to.text(r#","mmio_allocator":"#);
-        self.addresses().write(blocks, to);
-        to.text(r#","slots":"#);
-        write_list(self.devices(), to, |slot, to| {
-            to.text(r#"{"id":"#);
-            to.number(slot.id.into());
-            to.text(r#","mmio_range":"#);
-            write_range(slot.range.start(), slot.range.end(), to);
-            to.text("}");
-        });
-        to.text("}");
+impl<F: Fn() -> I, I: IntoIterator<Item: Json>> Json for List<F> {
+    fn write(&self, to: &mut impl Sink) {
+        to.text("[");
+        for (place, item) in (self.1)().into_iter().enumerate() {
+            to.text(if place > 0 { "," } else { "" });
+            item.write(to);
+        }
+        to.text("]");
     }
+}
+
+pub(crate) fn save_space(space: &AddressAllocator) -> Result<CString, CallError> {
+    text_of(&WithBlocks(space, &space.written_blocks(Global)?))
+}
+
+pub(crate) fn save_ids(ids: &IdAllocator) -> Result<CString, CallError> {
+    text_of(ids)
+}
+
+pub(crate) fn save_devices(manager: &DeviceManager) -> Result<CString, CallError> {
+    let blocks = manager.addresses().written_blocks(Global)?;
+    text_of(&WithBlocks(manager, &blocks))
+}
+
+/// Returns the text of a value. It is counted first, so that it is allocated once.
+fn text_of(value: &impl Json) -> Result<CString, CallError> {
+    let mut counted = TextLength(0);
+    value.write(&mut counted);
+    let mut written = TextBuffer(Vec::new());
+    let allocated = written.0.try_reserve_exact(counted.0 + 1);
+    allocated.map_err(|_| Error::OutOfMemory)?;
+    value.write(&mut written);
+    written.0.push(0);
+    Ok(CString::from_vec_with_nul(written.0).expect("JSON contains no zero byte"))
+}
+
+/// Writes the text of a saved object to `text`, and returns its length.
+pub(crate) fn save(
+    text: Out<*mut c_char>,
+    saved: impl FnOnce() -> Result<CString, CallError>,
+) -> Result<usize, CallError> {
+    let (text, saved) = (non_null(text)?, saved()?);
+    let length = saved.as_bytes().len();
+    text.write(saved.into_raw());
+    Ok(length)
 }
 
 // ---- Reading
@@ -226,7 +207,7 @@ pub(crate) unsafe fn read<T>(
         let out = out.ok_or(DVS_NULL)?;
         let limits = limits.copied().unwrap_or_default();
         // SAFETY: the caller's contract.
-        let text = unsafe { text_of(text, length, limits) }?;
+        let text = unsafe { text_from(text, length, limits) }?;
         let made = Handle::new(read_all(text, limits, read)?);
         out.write(made.map_err(|_| DVS_OUT_OF_MEMORY)?);
         Ok(())
@@ -258,7 +239,7 @@ fn report(found: &TextFault, fault: Out<dvs_text_fault>) -> dvs_status {
 /// # Safety
 ///
 /// The text is null or points to `length` readable bytes.
-unsafe fn text_of<'a>(
+unsafe fn text_from<'a>(
     text: *const c_char,
     length: usize,
     limits: dvs_text_limits,
@@ -331,9 +312,11 @@ fn read_subtree(from: &mut Reader<'_>, nodes: &mut ReadNodes) -> Read<Option<Spa
     span.map(Some).map_err(|error| from.of_parts(error))
 }
 
-/// Reads an address allocator. If `is_strict`, its tree must be one that this library writes or
-/// builds.
-pub(crate) fn read_space(from: &mut Reader<'_>, is_strict: bool) -> Read<AddressAllocator> {
+/// Reads an address allocator, which `made` makes of its space and its nodes.
+pub(crate) fn read_space(
+    from: &mut Reader<'_>,
+    made: impl FnOnce(Global, RangeInclusive, &ReadNodes) -> Result<AddressAllocator, SavedError>,
+) -> Read<AddressAllocator> {
     let (mut nodes, mut space) = (ReadNodes::new(Global), None);
     from.object([c"address_space", c"interval_tree"], |from, at| {
         if at == 0 {
@@ -344,12 +327,7 @@ pub(crate) fn read_space(from: &mut Reader<'_>, is_strict: bool) -> Read<Address
             read_subtree(from, &mut nodes).map(|_| ())
         })
     })?;
-    let allocator = if is_strict {
-        AddressAllocator::from_nodes
-    } else {
-        AddressAllocator::from_nodes_repaired
-    };
-    let made = allocator(Global, from.some(space)?, &nodes);
+    let made = made(Global, from.some(space)?, &nodes);
     made.map_err(|error| from.of_parts(error))
 }
 
@@ -397,7 +375,7 @@ pub(crate) fn read_devices(from: &mut Reader<'_>) -> Read<DeviceManager> {
         match at {
             0 => version = from.whole(u64::MAX)?,
             1 => ids = Some(read_ids(from)?),
-            2 => space = Some(read_space(from, true)?),
+            2 => space = Some(read_space(from, AddressAllocator::from_nodes)?),
             _ => from.list(|from| {
                 let slot = read_slot(from)?;
                 slots.push(slot).map_err(|error| from.of_parts(error))

@@ -1,6 +1,6 @@
 /*
- * Guards against an item that is left out or repeated, by the calls that list, look up
- * and count, and by the calls with arrays.
+ * Tests of the calls that list, look up and count items, and of those with arrays. They
+ * guard against an item that is left out or repeated.
  */
 #include "check.h"
 

@@ -202,26 +202,28 @@ static void move(dvs_address_allocator *space, struct model *model, dvs_request 
 static dvs_range met[ALL_IDS];
 static size_t count_met;
 
-static int meet_range(void *context, dvs_range range) {
+static int meet(void *context, dvs_range range) {
     (void)context;
     met[count_met++] = range;
     return 0;
 }
 
 static int meet_id(void *context, uint32_t id) {
-    return meet_range(context, range_of(id, id));
+    return meet(context, range_of(id, id));
 }
 
 static int meet_device(void *context, dvs_device device) {
-    return meet_range(context, range_of(device.id, device.range.start));
+    return meet(context, range_of(device.id, device.range.start));
 }
 
-/* Checks that the last visit met the ranges or gaps that have an address from `first` to `last`. */
-static void check_met(const struct model *model, bool are_gaps, uint64_t first, uint64_t last,
-                      bool is_back) {
+/* Checks that a visit met the ranges or gaps that have an address from `first` to `last`. Returns
+ * their number. They are in `met` until the next visit. */
+static uint64_t check_met(dvs_status visited, const struct model *model, bool are_gaps,
+                          uint64_t first, uint64_t last, bool is_back) {
     size_t number = 0;
     uint64_t at, size;
 
+    CHECK(visited == DVS_OK);
     for (at = 0; at < WIDTH; at += size) {
         size = model->sizes[at];
         if (!model->taken[at])
@@ -235,6 +237,7 @@ static void check_met(const struct model *model, bool are_gaps, uint64_t first, 
     }
     CHECK(number == count_met);
     count_met = 0;
+    return number;
 }
 
 static void query_space(const dvs_address_allocator *space, const struct model *model) {
@@ -255,10 +258,10 @@ static void query_space(const dvs_address_allocator *space, const struct model *
         CHECK(memcmp(&conflict, &none, sizeof none) == 0);
     else if (outcome.status == DVS_RESOURCE_NOT_AVAILABLE)
         CHECK(conflict.cause == outcome.cause && conflict.other.start == outcome.other.start);
-    CHECK(dvs_range_visit_in(space, window, meet_range, NULL, NULL) == DVS_OK);
-    check_met(model, false, window.start, window.end, false);
-    CHECK(dvs_gap_visit_in(space, window, meet_range, NULL, NULL) == DVS_OK);
-    check_met(model, true, window.start, window.end, false);
+    check_met(dvs_range_visit_in(space, window, meet, NULL, NULL), model, false, window.start,
+              window.end, false);
+    check_met(dvs_gap_visit_in(space, window, meet, NULL, NULL), model, true, window.start,
+              window.end, false);
 }
 
 static void change_space(void *object, struct model *model, bool is_freed) {
@@ -292,32 +295,22 @@ static void compare_space(const void *object, const struct model *model) {
     const dvs_address_allocator *space = (const dvs_address_allocator *)object;
     const uint64_t address = BASE + drawn(WIDTH);
     dvs_address_allocator *built;
-    dvs_range holes[WIDTH];
     uint64_t ranges, gaps;
     bool are_equal = false;
 
-    CHECK(dvs_range_visit_from(space, address, meet_range, NULL) == DVS_OK);
-    check_met(model, false, address, TOP, false);
-    CHECK(dvs_range_visit_back(space, address, meet_range, NULL) == DVS_OK);
-    check_met(model, false, 0, address, true);
-    CHECK(dvs_gap_visit_from(space, address, meet_range, NULL) == DVS_OK);
-    check_met(model, true, address, TOP, false);
-    CHECK(dvs_gap_visit_back(space, address, meet_range, NULL) == DVS_OK);
-    check_met(model, true, 0, address, true);
-    CHECK(dvs_gap_visit(space, meet_range, NULL) == DVS_OK);
-    CHECK(dvs_gap_count(space, &gaps) == DVS_OK && gaps == count_met);
-    memcpy(holes, met, sizeof holes);
-    check_met(model, true, 0, TOP, false);
+    check_met(dvs_range_visit_from(space, address, meet, NULL), model, false, address, TOP, false);
+    check_met(dvs_range_visit_back(space, address, meet, NULL), model, false, 0, address, true);
+    check_met(dvs_gap_visit_from(space, address, meet, NULL), model, true, address, TOP, false);
+    check_met(dvs_gap_visit_back(space, address, meet, NULL), model, true, 0, address, true);
+    CHECK(dvs_gap_count(space, &gaps) == DVS_OK && dvs_range_count(space, &ranges) == DVS_OK);
+    CHECK(gaps == check_met(dvs_gap_visit(space, meet, NULL), model, true, 0, TOP, false));
     if (gaps > 0) {
-        CHECK(dvs_address_allocator_with_free(holes, gaps, &built, NULL, NULL) == DVS_OK);
-        CHECK(dvs_gap_visit(built, meet_range, NULL) == DVS_OK);
-        check_met(model, true, 0, TOP, false);
+        CHECK(dvs_address_allocator_with_free(met, gaps, &built, NULL, NULL) == DVS_OK);
+        check_met(dvs_gap_visit(built, meet, NULL), model, true, 0, TOP, false);
         dvs_address_allocator_destroy(built);
     }
-    CHECK(dvs_range_visit(space, meet_range, NULL) == DVS_OK);
-    CHECK(dvs_range_count(space, &ranges) == DVS_OK && ranges == count_met);
+    CHECK(ranges == check_met(dvs_range_visit(space, meet, NULL), model, false, 0, TOP, false));
     CHECK(dvs_address_allocator_with_held(BASE, WIDTH, met, ranges, &built, NULL, NULL) == DVS_OK);
-    check_met(model, false, 0, TOP, false);
     CHECK(dvs_address_allocator_equal(space, built, &are_equal) == DVS_OK && are_equal);
     dvs_address_allocator_destroy(built);
 }
@@ -399,17 +392,19 @@ static void change_ids(void *object, struct model *model, bool is_freed) {
     }
 }
 
-/* Checks that the last visit met each allocated id, with the start of its device. */
-static void check_ids(const struct model *model, bool are_devices) {
+/* Checks that a visit met each allocated id, with the start of its device. Returns their number. */
+static uint64_t check_ids(dvs_status visited, const struct model *model, bool are_devices) {
     size_t number = 0;
     uint32_t id;
 
+    CHECK(visited == DVS_OK);
     for (id = FIRST_ID; id < FIRST_ID + ALL_IDS; id++)
         if (is_id_held(model, id)) {
             CHECK(is_range(met[number++], id, are_devices ? model->starts[id - FIRST_ID] : id));
         }
     CHECK(number == count_met);
     count_met = 0;
+    return number;
 }
 
 static void compare_ids(const void *object, const struct model *model) {
@@ -419,10 +414,9 @@ static void compare_ids(const void *object, const struct model *model) {
     uint32_t id, next = 0;
     bool is_allocated = false;
 
-    CHECK(dvs_id_visit(ids, meet_id, NULL) == DVS_OK);
-    CHECK(dvs_id_count(ids, &held) == DVS_OK && held == count_met);
-    CHECK(dvs_id_free_count(ids, &left) == DVS_OK && left == ALL_IDS - held);
-    check_ids(model, false);
+    CHECK(dvs_id_count(ids, &held) == DVS_OK && dvs_id_free_count(ids, &left) == DVS_OK);
+    CHECK(held == check_ids(dvs_id_visit(ids, meet_id, NULL), model, false));
+    CHECK(left == ALL_IDS - held);
     CHECK((dvs_id_peek(ids, &next) == DVS_OK) == (lowest > 0) && next == lowest);
     for (id = FIRST_ID - 1; id <= FIRST_ID + ALL_IDS; id++) {
         CHECK(dvs_id_is_allocated(ids, id, &is_allocated) == DVS_OK);
@@ -470,9 +464,8 @@ static void compare_devices(const void *object, const struct model *model) {
     dvs_device device;
     dvs_range range;
 
-    CHECK(dvs_device_visit(manager, meet_device, NULL) == DVS_OK);
-    CHECK(dvs_device_count(manager, &held) == DVS_OK && held == count_met);
-    check_ids(model, true);
+    CHECK(dvs_device_count(manager, &held) == DVS_OK);
+    CHECK(held == check_ids(dvs_device_visit(manager, meet_device, NULL), model, true));
     for (id = FIRST_ID - 1; id <= FIRST_ID + ALL_IDS; id++) {
         CHECK((dvs_device_slot(manager, id, &range, NULL) == DVS_OK) == is_id_held(model, id));
         if (is_id_held(model, id)) {

@@ -1,14 +1,13 @@
-use crate::error::{
-    or_abort, or_list_error, or_try_error, out_of_memory, unless_list_out_of_memory,
-};
+use crate::convert::unless_list_out_of_memory;
+use crate::error::{ListResult, TryListResult, TryResult};
+use crate::objects::{allocator, iterate, DebugList};
 use crate::proved::vm_allocator as proved;
 use crate::rattle::Global;
 use crate::{
-    AllocPolicy, Conflict, Constraint, Layout, ListError, RangeInclusive, Result, TryError,
+    AllocPolicy, Conflict, Constraint, Error, Layout, ListError, RangeInclusive, Result, TryError,
 };
 use alloc::vec::Vec;
 use core::fmt;
-use core::iter::FusedIterator;
 
 /// Allocates ranges of addresses from one space.
 ///
@@ -64,7 +63,9 @@ impl AddressAllocator {
     /// # Ok::<(), Error>(())
     /// ```
     pub fn new(base: u64, size: u64) -> Result<Self> {
-        or_abort(proved::AddressAllocator::new(Global, base, size)).map(AddressAllocator)
+        Ok(AddressAllocator(proved::AddressAllocator::new(
+            Global, base, size,
+        )?))
     }
 
     /// Creates an allocator like [`new`](Self::new), but returns an error if memory runs out.
@@ -89,8 +90,10 @@ impl AddressAllocator {
     /// );
     /// # Ok::<(), TryError>(())
     /// ```
-    pub fn try_new(base: u64, size: u64) -> core::result::Result<Self, TryError> {
-        or_try_error(proved::AddressAllocator::new(Global, base, size)).map(AddressAllocator)
+    pub fn try_new(base: u64, size: u64) -> TryResult<Self> {
+        Ok(AddressAllocator(proved::AddressAllocator::new(
+            Global, base, size,
+        )?))
     }
 
     /// Creates an allocator for the `size` addresses starting at `base`, with these ranges
@@ -128,11 +131,7 @@ impl AddressAllocator {
     /// );
     /// # Ok::<(), Error>(())
     /// ```
-    pub fn with_held(
-        base: u64,
-        size: u64,
-        held: &[RangeInclusive],
-    ) -> core::result::Result<Self, ListError> {
+    pub fn with_held(base: u64, size: u64, held: &[RangeInclusive]) -> ListResult<Self> {
         unless_list_out_of_memory(Self::try_with_held(base, size, held))
     }
 
@@ -164,14 +163,10 @@ impl AddressAllocator {
     /// );
     /// # Ok::<(), TryError>(())
     /// ```
-    pub fn try_with_held(
-        base: u64,
-        size: u64,
-        held: &[RangeInclusive],
-    ) -> core::result::Result<Self, ListError<TryError>> {
-        let ranges = proved_ranges(held)?;
-        let answer = proved::AddressAllocator::with_held(Global, base, size, &ranges);
-        or_list_error(answer).map(AddressAllocator)
+    pub fn try_with_held(base: u64, size: u64, held: &[RangeInclusive]) -> TryListResult<Self> {
+        let ranges = converted(held, |range| range.0)?;
+        let made = proved::AddressAllocator::with_held(Global, base, size, &ranges)?;
+        Ok(AddressAllocator(made))
     }
 
     /// Creates an allocator in which exactly these ranges are free. They must be in ascending order,
@@ -209,7 +204,7 @@ impl AddressAllocator {
     /// );
     /// # Ok::<(), Error>(())
     /// ```
-    pub fn with_free(free: &[RangeInclusive]) -> core::result::Result<Self, ListError> {
+    pub fn with_free(free: &[RangeInclusive]) -> ListResult<Self> {
         unless_list_out_of_memory(Self::try_with_free(free))
     }
 
@@ -238,11 +233,11 @@ impl AddressAllocator {
     /// );
     /// # Ok::<(), TryError>(())
     /// ```
-    pub fn try_with_free(
-        free: &[RangeInclusive],
-    ) -> core::result::Result<Self, ListError<TryError>> {
-        let ranges = proved_ranges(free)?;
-        or_list_error(proved::AddressAllocator::with_free(Global, &ranges)).map(AddressAllocator)
+    pub fn try_with_free(free: &[RangeInclusive]) -> TryListResult<Self> {
+        let ranges = converted(free, |range| range.0)?;
+        Ok(AddressAllocator(proved::AddressAllocator::with_free(
+            Global, &ranges,
+        )?))
     }
 
     /// Allocates `size` free addresses that start at a multiple of `alignment`, and returns their
@@ -286,7 +281,12 @@ impl AddressAllocator {
         alignment: u64,
         policy: AllocPolicy,
     ) -> Result<RangeInclusive> {
-        or_abort(self.0.allocate(Global, size, alignment, policy.proved())).map(RangeInclusive)
+        Ok(RangeInclusive(self.0.allocate(
+            Global,
+            size,
+            alignment,
+            policy.proved(),
+        )?))
     }
 
     /// Allocates a range like [`allocate`](Self::allocate), but returns an error if memory
@@ -319,8 +319,13 @@ impl AddressAllocator {
         size: u64,
         alignment: u64,
         policy: AllocPolicy,
-    ) -> core::result::Result<RangeInclusive, TryError> {
-        or_try_error(self.0.allocate(Global, size, alignment, policy.proved())).map(RangeInclusive)
+    ) -> TryResult<RangeInclusive> {
+        Ok(RangeInclusive(self.0.allocate(
+            Global,
+            size,
+            alignment,
+            policy.proved(),
+        )?))
     }
 
     /// Allocates a range like [`allocate`](Self::allocate), for a request that was made before.
@@ -341,8 +346,8 @@ impl AddressAllocator {
     ///   common.
     /// - `Overflow` if the chosen range ends at `u64::MAX`, even if another range is free. A window
     ///   that ends below `u64::MAX` avoids this.
-    /// - `Overflow` if the range fills only a part of its gap and at least 6,293,134,512 ranges are
-    ///   allocated.
+    /// - `Overflow` if the range fills only a part of its gap and the number of allocated ranges is at the
+    ///   limit of [`allocate`](Self::allocate).
     ///
     /// # Example
     ///
@@ -360,7 +365,9 @@ impl AddressAllocator {
     /// # Ok::<(), Error>(())
     /// ```
     pub fn allocate_constraint(&mut self, request: Constraint) -> Result<RangeInclusive> {
-        or_abort(self.0.allocate_constraint(Global, request.0)).map(RangeInclusive)
+        Ok(RangeInclusive(
+            self.0.allocate_constraint(Global, request.0)?,
+        ))
     }
 
     /// Allocates a range like [`allocate_constraint`](Self::allocate_constraint), but returns an
@@ -388,11 +395,10 @@ impl AddressAllocator {
     /// );
     /// # Ok::<(), TryError>(())
     /// ```
-    pub fn try_allocate_constraint(
-        &mut self,
-        request: Constraint,
-    ) -> core::result::Result<RangeInclusive, TryError> {
-        or_try_error(self.0.allocate_constraint(Global, request.0)).map(RangeInclusive)
+    pub fn try_allocate_constraint(&mut self, request: Constraint) -> TryResult<RangeInclusive> {
+        Ok(RangeInclusive(
+            self.0.allocate_constraint(Global, request.0)?,
+        ))
     }
 
     /// Returns the reason why the range of an `ExactMatch` request is not free. Returns `None` if the
@@ -420,7 +426,7 @@ impl AddressAllocator {
     /// ```
     #[must_use]
     pub fn conflict(&self, request: Constraint) -> Option<Conflict> {
-        self.0.conflict(request.0).map(Conflict::of)
+        self.0.conflict(request.0).map(Conflict::from)
     }
 
     /// Moves an allocated range to the place of a request, and returns the range there. A guest does
@@ -464,7 +470,9 @@ impl AddressAllocator {
         key: &RangeInclusive,
         request: Constraint,
     ) -> Result<RangeInclusive> {
-        or_abort(self.0.move_constraint(Global, &key.0, request.0)).map(RangeInclusive)
+        Ok(RangeInclusive(
+            self.0.move_constraint(Global, &key.0, request.0)?,
+        ))
     }
 
     /// Moves a range like [`move_constraint`](Self::move_constraint), but returns an error if memory
@@ -496,8 +504,10 @@ impl AddressAllocator {
         &mut self,
         key: &RangeInclusive,
         request: Constraint,
-    ) -> core::result::Result<RangeInclusive, TryError> {
-        or_try_error(self.0.move_constraint(Global, &key.0, request.0)).map(RangeInclusive)
+    ) -> TryResult<RangeInclusive> {
+        Ok(RangeInclusive(
+            self.0.move_constraint(Global, &key.0, request.0)?,
+        ))
     }
 
     /// Moves an allocated range to another start, and returns the range there.
@@ -516,8 +526,8 @@ impl AddressAllocator {
     /// - `InvalidStateTransition` if exactly the new range is already allocated.
     /// - `ResourceNotAvailable` if an address of the new range is not free. Those of `key` are not.
     /// - `Overflow` if the new range ends at `u64::MAX`.
-    /// - `Overflow` if the new range fills only a part of its gap and at least 6,293,134,512 ranges are
-    ///   allocated.
+    /// - `Overflow` if the new range fills only a part of its gap and the number of allocated ranges is at
+    ///   the limit of [`allocate`](Self::allocate).
     ///
     /// # Example
     ///
@@ -535,7 +545,7 @@ impl AddressAllocator {
     /// # Ok::<(), Error>(())
     /// ```
     pub fn move_range(&mut self, key: &RangeInclusive, start: u64) -> Result<RangeInclusive> {
-        or_abort(self.0.move_range(Global, &key.0, start)).map(RangeInclusive)
+        Ok(RangeInclusive(self.0.move_range(Global, &key.0, start)?))
     }
 
     /// Moves a range like [`move_range`](Self::move_range), but returns an error if memory runs out.
@@ -565,8 +575,8 @@ impl AddressAllocator {
         &mut self,
         key: &RangeInclusive,
         start: u64,
-    ) -> core::result::Result<RangeInclusive, TryError> {
-        or_try_error(self.0.move_range(Global, &key.0, start)).map(RangeInclusive)
+    ) -> TryResult<RangeInclusive> {
+        Ok(RangeInclusive(self.0.move_range(Global, &key.0, start)?))
     }
 
     /// Allocates a range for each request, in their order, and returns the ranges. Each request can
@@ -600,10 +610,7 @@ impl AddressAllocator {
     /// assert!(mmio.held_ranges().eq(bars));
     /// # Ok::<(), Error>(())
     /// ```
-    pub fn allocate_all(
-        &mut self,
-        requests: &[Constraint],
-    ) -> core::result::Result<Vec<RangeInclusive>, ListError> {
+    pub fn allocate_all(&mut self, requests: &[Constraint]) -> ListResult<Vec<RangeInclusive>> {
         unless_list_out_of_memory(self.try_allocate_all(requests))
     }
 
@@ -639,12 +646,11 @@ impl AddressAllocator {
     pub fn try_allocate_all(
         &mut self,
         requests: &[Constraint],
-    ) -> core::result::Result<Vec<RangeInclusive>, ListError<TryError>> {
+    ) -> TryListResult<Vec<RangeInclusive>> {
         // Nothing can fail after the allocation of the ranges.
-        let mut ranges = list_for(requests.len()).map_err(ListError::of_no_item)?;
-        let mut proved_requests = list_for(requests.len()).map_err(ListError::of_no_item)?;
-        proved_requests.extend(requests.iter().map(|request| request.0));
-        let allocated = or_list_error(self.0.allocate_all(Global, &proved_requests))?;
+        let mut ranges = list_for(requests.len())?;
+        let requests = converted(requests, |request| request.0)?;
+        let allocated = self.0.allocate_all(Global, &requests)?;
         ranges.extend(allocated.iter().map(|range| RangeInclusive(*range)));
         Ok(ranges)
     }
@@ -684,10 +690,9 @@ impl AddressAllocator {
         alignment: u64,
         policy: AllocPolicy,
     ) -> (Result<RangeInclusive>, u64) {
-        let (answer, count) = self
-            .0
-            .allocate_counted(Global, size, alignment, policy.proved());
-        (or_abort(answer).map(RangeInclusive), count)
+        let policy = policy.proved();
+        let (answer, count) = self.0.allocate_counted(Global, size, alignment, policy);
+        (answer.map(RangeInclusive).map_err(Error::from), count)
     }
 
     /// Allocates a range like [`allocate_constraint`](Self::allocate_constraint), and also returns
@@ -724,7 +729,7 @@ impl AddressAllocator {
         request: Constraint,
     ) -> (Result<RangeInclusive>, u64) {
         let (answer, count) = self.0.allocate_constraint_counted(Global, request.0);
-        (or_abort(answer).map(RangeInclusive), count)
+        (answer.map(RangeInclusive).map_err(Error::from), count)
     }
 
     /// Frees an allocated range. It does not allocate.
@@ -751,7 +756,7 @@ impl AddressAllocator {
     /// # Ok::<(), Error>(())
     /// ```
     pub fn free(&mut self, key: &RangeInclusive) -> Result<()> {
-        or_abort(self.0.free(&key.0))
+        Ok(self.0.free(&key.0)?)
     }
 
     /// Frees a range like [`free`](Self::free), and also returns the number of tree nodes that the
@@ -778,7 +783,7 @@ impl AddressAllocator {
     /// ```
     pub fn free_counted(&mut self, key: &RangeInclusive) -> (Result<()>, u64) {
         let (answer, count) = self.0.free_counted(&key.0);
-        (or_abort(answer), count)
+        (answer.map_err(Error::from), count)
     }
 
     /// Returns the first address of the space.
@@ -1139,32 +1144,25 @@ impl AddressAllocator {
     /// }
     /// # Ok::<(), TryError>(())
     /// ```
-    pub fn try_clone(&self) -> core::result::Result<Self, TryError> {
-        or_try_error(self.0.try_clone(Global)).map(AddressAllocator)
+    pub fn try_clone(&self) -> TryResult<Self> {
+        Ok(AddressAllocator(self.0.try_clone(Global)?))
     }
 }
 
-/// Converts to a list of the proved code.
-fn proved_ranges(
-    ranges: &[RangeInclusive],
-) -> core::result::Result<Vec<proved::RangeInclusive>, ListError<TryError>> {
-    let mut list = list_for(ranges.len()).map_err(ListError::of_no_item)?;
-    list.extend(ranges.iter().map(|range| range.0));
+/// Returns a list of converted items.
+fn converted<T, P>(items: &[T], convert: impl Fn(&T) -> P) -> TryListResult<Vec<P>> {
+    let mut list = list_for(items.len())?;
+    list.extend(items.iter().map(convert));
     Ok(list)
 }
 
 /// Creates an empty list with memory for a number of values.
-fn list_for<T>(length: usize) -> core::result::Result<Vec<T>, TryError> {
-    let mut list = Vec::new();
-    list.try_reserve_exact(length)
-        .map_err(|_| TryError::OutOfMemory)?;
+fn list_for<T>(length: usize) -> TryListResult<Vec<T>> {
+    let (mut list, index) = (Vec::new(), None);
+    let reserved = list.try_reserve_exact(length);
+    let error = TryError::OutOfMemory;
+    reserved.map_err(|_| ListError { index, error })?;
     Ok(list)
-}
-
-impl Clone for AddressAllocator {
-    fn clone(&self) -> Self {
-        self.try_clone().unwrap_or_else(|_| out_of_memory())
-    }
 }
 
 /// Writes the space, the number of allocated ranges and these ranges, and not the tree.
@@ -1183,17 +1181,8 @@ impl fmt::Debug for ShortDebug<'_> {
             .field("base", &self.0.base())
             .field("end", &self.0.end())
             .field("held_count", &self.0.held_count())
-            .field("held_ranges", &DebugRanges(self.0))
+            .field("held_ranges", &DebugList(|| self.0.held_ranges()))
             .finish()
-    }
-}
-
-/// The `Debug` of the allocated ranges of an allocator.
-struct DebugRanges<'a>(&'a proved::AddressAllocator);
-
-impl fmt::Debug for DebugRanges<'_> {
-    fn fmt(&self, f: &mut fmt::Formatter<'_>) -> fmt::Result {
-        f.debug_list().entries(self.0.held_ranges()).finish()
     }
 }
 
@@ -1240,86 +1229,9 @@ pub struct Gaps<'a>(proved::Ranges<'a>);
 #[derive(Clone)]
 pub struct GapsIn<'a>(proved::RangesIn<'a>);
 
-/// Implements iteration from both ends, and a short `Debug`, for iterators over ranges.
-macro_rules! iterate {
-    ($($name:ident)*) => {$(
-        impl Iterator for $name<'_> {
-            type Item = RangeInclusive;
+iterate!(HeldRanges, Gaps, HeldRangesIn, GapsIn: RangeInclusive, RangeInclusive, Iterator::size_hint);
+allocator!(AddressAllocator, HeldRanges of RangeInclusive, "the allocated ranges");
 
-            fn next(&mut self) -> Option<RangeInclusive> {
-                self.0.next().map(RangeInclusive)
-            }
+impl ExactSizeIterator for HeldRanges<'_> {}
 
-            fn size_hint(&self) -> (usize, Option<usize>) {
-                self.0.size_hint()
-            }
-        }
-
-        impl DoubleEndedIterator for $name<'_> {
-            fn next_back(&mut self) -> Option<RangeInclusive> {
-                self.0.next_back().map(RangeInclusive)
-            }
-        }
-
-        impl FusedIterator for $name<'_> {}
-
-        impl fmt::Debug for $name<'_> {
-            fn fmt(&self, f: &mut fmt::Formatter<'_>) -> fmt::Result {
-                f.debug_struct(stringify!($name)).finish_non_exhaustive()
-            }
-        }
-    )*};
-}
-
-iterate!(HeldRanges HeldRangesIn Gaps GapsIn);
-
-impl ExactSizeIterator for HeldRanges<'_> {
-    fn len(&self) -> usize {
-        self.0.len()
-    }
-}
-
-impl ExactSizeIterator for Gaps<'_> {
-    fn len(&self) -> usize {
-        self.0.len()
-    }
-}
-
-impl<'a> IntoIterator for &'a AddressAllocator {
-    type Item = RangeInclusive;
-    type IntoIter = HeldRanges<'a>;
-
-    /// Returns an iterator over the allocated ranges.
-    fn into_iter(self) -> HeldRanges<'a> {
-        self.held_ranges()
-    }
-}
-
-#[cfg(test)]
-mod tests {
-    use super::*;
-
-    /// Checks that counted calls return the count of the proved call.
-    #[test]
-    fn counts_are_those_of_the_proved_calls() {
-        let mut space = AddressAllocator::new(0, 0x1000).unwrap();
-        let mut proved = proved::AddressAllocator::new(Global, 0, 0x1000).unwrap();
-        for (number, size) in [1, 7, 16, 3].into_iter().cycle().take(400).enumerate() {
-            let at = 16 * (number as u64 * 37 % 256);
-            let policies = [AllocPolicy::FirstMatch, AllocPolicy::ExactMatch(at)];
-            let request = Constraint::new(size, 16, policies[number % 2]).unwrap();
-            let (answer, count) = match number % 3 {
-                0 => space.allocate_counted(size, 16, request.policy()),
-                _ => space.allocate_constraint_counted(request),
-            };
-            let (same, want) = proved.allocate_constraint_counted(Global, request.0);
-            assert_eq!((answer, count), (or_abort(same).map(RangeInclusive), want));
-            let freed = answer.unwrap_or(RangeInclusive::new(at, at + 6).unwrap());
-            if number % 5 < 2 {
-                let (same, want) = proved.free_counted(&freed.0);
-                assert_eq!(space.free_counted(&freed), (or_abort(same), want));
-            }
-        }
-        assert!(space.height() > 5);
-    }
-}
+impl ExactSizeIterator for Gaps<'_> {}

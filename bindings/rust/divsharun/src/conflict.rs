@@ -1,4 +1,3 @@
-use crate::proved::vm_allocator as proved;
 use crate::RangeInclusive;
 
 /// The reason why the range of an `ExactMatch` request is not free.
@@ -31,17 +30,4 @@ pub enum Conflict {
     OutsideWindow(RangeInclusive),
     /// This allocated range has an address in common with the range. It is the lowest of them.
     Allocated(RangeInclusive),
-}
-
-impl Conflict {
-    /// Converts a conflict of the proved code.
-    pub(crate) const fn of(conflict: proved::Conflict) -> Conflict {
-        match conflict {
-            proved::Conflict::OutsideSpace(space) => Conflict::OutsideSpace(RangeInclusive(space)),
-            proved::Conflict::OutsideWindow(window) => {
-                Conflict::OutsideWindow(RangeInclusive(window))
-            }
-            proved::Conflict::Allocated(range) => Conflict::Allocated(RangeInclusive(range)),
-        }
-    }
 }

@@ -292,12 +292,8 @@ impl fmt::Debug for Constraint {
 
 impl fmt::Display for Constraint {
     fn fmt(&self, f: &mut fmt::Formatter<'_>) -> fmt::Result {
-        write!(
-            f,
-            "size {:#x}, alignment {:#x}, ",
-            self.size(),
-            self.align()
-        )?;
+        let (size, align) = (self.size(), self.align());
+        write!(f, "size {size:#x}, alignment {align:#x}, ")?;
         match self.policy() {
             AllocPolicy::ExactMatch(start) => write!(f, "ExactMatch({start:#x})")?,
             policy => write!(f, "{policy:?}")?,

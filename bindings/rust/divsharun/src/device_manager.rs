@@ -1,10 +1,10 @@
 use crate::address_allocator::ShortDebug;
-use crate::error::{or_abort, or_try_error, out_of_memory};
-use crate::proved::vm_devices as proved_devices;
+use crate::error::TryResult;
+use crate::objects::{allocator, iterate, DebugList};
+use crate::proved::vm_devices as proved;
 use crate::rattle::Global;
-use crate::{AllocPolicy, Conflict, Constraint, RangeInclusive, Result, TryError};
+use crate::{AllocPolicy, Conflict, Constraint, RangeInclusive, Result};
 use core::fmt;
-use core::iter::FusedIterator;
 
 /// The resources of a device: an id and a range of addresses.
 ///
@@ -34,7 +34,7 @@ pub struct DeviceSlot {
 
 impl DeviceSlot {
     /// Converts a slot of the proved code.
-    pub(crate) fn of(slot: proved_devices::DeviceSlot) -> DeviceSlot {
+    pub(crate) fn of(slot: proved::DeviceSlot) -> DeviceSlot {
         DeviceSlot {
             id: slot.id,
             range: RangeInclusive(slot.range),
@@ -43,8 +43,8 @@ impl DeviceSlot {
 
     /// Converts to a slot of the proved code.
     #[cfg(feature = "serde")]
-    pub(crate) fn proved(self) -> proved_devices::DeviceSlot {
-        proved_devices::DeviceSlot {
+    pub(crate) fn proved(self) -> proved::DeviceSlot {
+        proved::DeviceSlot {
             id: self.id,
             range: self.range.0,
         }
@@ -108,7 +108,7 @@ impl DeviceSlot {
     derive(serde::Serialize, serde::Deserialize),
     serde(transparent)
 )]
-pub struct DeviceManager(pub(crate) proved_devices::DeviceManager);
+pub struct DeviceManager(pub(crate) proved::DeviceManager);
 
 impl DeviceManager {
     /// Creates a manager without devices, for the ids from `id_lo` to `id_hi`, both included, and
@@ -132,10 +132,8 @@ impl DeviceManager {
     /// # Ok::<(), Error>(())
     /// ```
     pub fn new(id_lo: u32, id_hi: u32, base: u64, size: u64) -> Result<Self> {
-        or_abort(proved_devices::DeviceManager::new(
-            Global, id_lo, id_hi, base, size,
-        ))
-        .map(DeviceManager)
+        let made = proved::DeviceManager::new(Global, id_lo, id_hi, base, size)?;
+        Ok(DeviceManager(made))
     }
 
     /// Creates a manager like [`new`](Self::new), but returns an error if memory runs out.
@@ -159,14 +157,9 @@ impl DeviceManager {
     /// );
     /// # Ok::<(), TryError>(())
     /// ```
-    pub fn try_new(
-        id_lo: u32,
-        id_hi: u32,
-        base: u64,
-        size: u64,
-    ) -> core::result::Result<Self, TryError> {
-        let made = proved_devices::DeviceManager::new(Global, id_lo, id_hi, base, size);
-        or_try_error(made).map(DeviceManager)
+    pub fn try_new(id_lo: u32, id_hi: u32, base: u64, size: u64) -> TryResult<Self> {
+        let made = proved::DeviceManager::new(Global, id_lo, id_hi, base, size)?;
+        Ok(DeviceManager(made))
     }
 
     /// Allocates the lowest free id and a range of `size` addresses for a new device. `policy` and
@@ -198,7 +191,12 @@ impl DeviceManager {
     /// # Ok::<(), Error>(())
     /// ```
     pub fn reserve(&mut self, size: u64, align: u64, policy: AllocPolicy) -> Result<DeviceSlot> {
-        or_abort(self.0.reserve(Global, size, align, policy.proved())).map(DeviceSlot::of)
+        Ok(DeviceSlot::of(self.0.reserve(
+            Global,
+            size,
+            align,
+            policy.proved(),
+        )?))
     }
 
     /// Reserves like [`reserve`](Self::reserve), but returns an error if memory runs out.
@@ -228,8 +226,13 @@ impl DeviceManager {
         size: u64,
         align: u64,
         policy: AllocPolicy,
-    ) -> core::result::Result<DeviceSlot, TryError> {
-        or_try_error(self.0.reserve(Global, size, align, policy.proved())).map(DeviceSlot::of)
+    ) -> TryResult<DeviceSlot> {
+        Ok(DeviceSlot::of(self.0.reserve(
+            Global,
+            size,
+            align,
+            policy.proved(),
+        )?))
     }
 
     /// Reserves like [`reserve`](Self::reserve), for a request that was made before. If the request
@@ -255,7 +258,9 @@ impl DeviceManager {
     /// # Ok::<(), divsharun::Error>(())
     /// ```
     pub fn reserve_constraint(&mut self, request: Constraint) -> Result<DeviceSlot> {
-        or_abort(self.0.reserve_constraint(Global, request.0)).map(DeviceSlot::of)
+        Ok(DeviceSlot::of(
+            self.0.reserve_constraint(Global, request.0)?,
+        ))
     }
 
     /// Reserves like [`reserve_constraint`](Self::reserve_constraint), but returns an error if memory
@@ -282,11 +287,10 @@ impl DeviceManager {
     /// assert_eq!(devices.try_reserve_constraint(bar)?.id, 5);
     /// # Ok::<(), TryError>(())
     /// ```
-    pub fn try_reserve_constraint(
-        &mut self,
-        request: Constraint,
-    ) -> core::result::Result<DeviceSlot, TryError> {
-        or_try_error(self.0.reserve_constraint(Global, request.0)).map(DeviceSlot::of)
+    pub fn try_reserve_constraint(&mut self, request: Constraint) -> TryResult<DeviceSlot> {
+        Ok(DeviceSlot::of(
+            self.0.reserve_constraint(Global, request.0)?,
+        ))
     }
 
     /// Returns the reason why the range of an `ExactMatch` request is not free, like
@@ -307,7 +311,7 @@ impl DeviceManager {
     /// ```
     #[must_use]
     pub fn conflict(&self, request: Constraint) -> Option<Conflict> {
-        self.0.conflict(request.0).map(Conflict::of)
+        self.0.conflict(request.0).map(Conflict::from)
     }
 
     /// Releases a device: frees its id and its range.
@@ -329,7 +333,7 @@ impl DeviceManager {
     /// # Ok::<(), Error>(())
     /// ```
     pub fn release(&mut self, id: u32) -> Result<()> {
-        or_abort(self.0.release(id))
+        Ok(self.0.release(id)?)
     }
 
     /// Releases a device like [`release`](Self::release), but returns an error if memory
@@ -355,8 +359,8 @@ impl DeviceManager {
     /// );
     /// # Ok::<(), TryError>(())
     /// ```
-    pub fn try_release(&mut self, id: u32) -> core::result::Result<(), TryError> {
-        or_try_error(self.0.release(id))
+    pub fn try_release(&mut self, id: u32) -> TryResult<()> {
+        Ok(self.0.release(id)?)
     }
 
     /// Returns an iterator over the devices, like [`devices`](Self::devices).
@@ -460,8 +464,8 @@ impl DeviceManager {
     /// assert_eq!(devices.device_count(), 0);
     /// # Ok::<(), TryError>(())
     /// ```
-    pub fn try_clone(&self) -> core::result::Result<Self, TryError> {
-        or_try_error(self.0.try_clone(Global)).map(DeviceManager)
+    pub fn try_clone(&self) -> TryResult<Self> {
+        Ok(DeviceManager(self.0.try_clone(Global)?))
     }
 
     /// Returns the range of the device with this id, or `None` if there is no such device. It does
@@ -484,39 +488,14 @@ impl DeviceManager {
     }
 }
 
-impl Clone for DeviceManager {
-    fn clone(&self) -> Self {
-        self.try_clone().unwrap_or_else(|_| out_of_memory())
-    }
-}
-
 /// Writes the ids, the space and the devices, and not the tree.
 impl fmt::Debug for DeviceManager {
     fn fmt(&self, f: &mut fmt::Formatter<'_>) -> fmt::Result {
         f.debug_struct("DeviceManager")
             .field("ids", self.0.ids())
             .field("addresses", &ShortDebug(self.0.addresses()))
-            .field("devices", &DebugDevices(self))
+            .field("devices", &DebugList(|| self.0.devices()))
             .finish()
-    }
-}
-
-/// The `Debug` of the devices of a manager.
-struct DebugDevices<'a>(&'a DeviceManager);
-
-impl fmt::Debug for DebugDevices<'_> {
-    fn fmt(&self, f: &mut fmt::Formatter<'_>) -> fmt::Result {
-        f.debug_list().entries(self.0.devices()).finish()
-    }
-}
-
-impl<'a> IntoIterator for &'a DeviceManager {
-    type Item = DeviceSlot;
-    type IntoIter = Devices<'a>;
-
-    /// Returns an iterator over the devices.
-    fn into_iter(self) -> Devices<'a> {
-        self.devices()
     }
 }
 
@@ -540,36 +519,9 @@ impl<'a> IntoIterator for &'a DeviceManager {
 /// # Ok::<(), divsharun::Error>(())
 /// ```
 #[derive(Clone)]
-pub struct Devices<'a>(proved_devices::Devices<'a>);
+pub struct Devices<'a>(proved::Devices<'a>);
 
-impl Iterator for Devices<'_> {
-    type Item = DeviceSlot;
+iterate!(Devices: DeviceSlot, DeviceSlot::of, Iterator::size_hint);
+allocator!(DeviceManager, Devices of DeviceSlot, "the devices");
 
-    fn next(&mut self) -> Option<DeviceSlot> {
-        self.0.next().map(DeviceSlot::of)
-    }
-
-    fn size_hint(&self) -> (usize, Option<usize>) {
-        self.0.size_hint()
-    }
-}
-
-impl DoubleEndedIterator for Devices<'_> {
-    fn next_back(&mut self) -> Option<DeviceSlot> {
-        self.0.next_back().map(DeviceSlot::of)
-    }
-}
-
-impl ExactSizeIterator for Devices<'_> {
-    fn len(&self) -> usize {
-        self.0.len()
-    }
-}
-
-impl FusedIterator for Devices<'_> {}
-
-impl fmt::Debug for Devices<'_> {
-    fn fmt(&self, f: &mut fmt::Formatter<'_>) -> fmt::Result {
-        f.debug_struct("Devices").finish_non_exhaustive()
-    }
-}
+impl ExactSizeIterator for Devices<'_> {}

@@ -1,10 +1,7 @@
-use crate::proved::vm_allocator as proved;
+use crate::proved::vm_allocator::Error as Proved;
 use crate::texts::pad;
-use crate::{AddressAllocator, NodeState, RangeInclusive};
+use crate::{NodeState, RangeInclusive};
 use core::fmt;
-
-/// The text of the error if memory runs out.
-pub(crate) const NO_MEMORY: &str = "There is not enough memory.";
 
 /// The error of a call. A call that returns an error leaves the same ranges and ids allocated.
 ///
@@ -50,46 +47,10 @@ pub enum Error {
     InvalidSize(u64),
 }
 
+// The proved code has the texts.
 impl fmt::Display for Error {
     fn fmt(&self, f: &mut fmt::Formatter<'_>) -> fmt::Result {
-        match self {
-            Error::Overflow => {
-                f.pad("Management operations on desired resource resulted in overflow.")
-            }
-            Error::OutOfRange(id) => {
-                pad(f, format_args!("Specified id: {id} is not in the range."))
-            }
-            Error::AlreadyReleased(id) => {
-                pad(f, format_args!("Specified id: {id} is already released."))
-            }
-            Error::NeverAllocated(id) => pad(
-                f,
-                format_args!("Specified id: {id} was never allocated, can't release it."),
-            ),
-            Error::ResourceNotAvailable => f.pad("The requested resource is not available."),
-            Error::InvalidRange(start, end) => pad(
-                f,
-                format_args!("The range specified: {start}-{end} is not valid."),
-            ),
-            Error::InvalidAlignment => f.pad("Alignment value is invalid."),
-            Error::Overlap(new, old) => pad(
-                f,
-                format_args!("Addresses are overlapping.{new:?} intersects with existing {old:?}"),
-            ),
-            Error::InvalidStateTransition(range, state) => pad(
-                f,
-                format_args!(
-                    "Invalid state transition for node {range:?} from {state:?} to NodeState::Free"
-                ),
-            ),
-            Error::UnalignedAddress => f.pad("The address is not aligned."),
-            Error::Underflow => {
-                f.pad("Management operations on desired resource resulted in underflow.")
-            }
-            Error::InvalidSize(size) => {
-                pad(f, format_args!("The specified size: {size} is not valid."))
-            }
-        }
+        pad(f, format_args!("{}", Proved::from(*self)))
     }
 }
 
@@ -110,6 +71,11 @@ impl core::error::Error for Error {}
 /// assert_eq!(first_of(23, 5), Err(Error::InvalidRange(23, 5)));
 /// ```
 pub type Result<T> = core::result::Result<T, Error>;
+
+/// The results of calls with the prefix `try_`, of calls with a list, and of those with both.
+pub(crate) type TryResult<T> = core::result::Result<T, TryError>;
+pub(crate) type ListResult<T> = core::result::Result<T, ListError>;
+pub(crate) type TryListResult<T> = core::result::Result<T, ListError<TryError>>;
 
 /// The error of a call with the prefix `try_`. A call that returns an error leaves the same ranges and
 /// ids allocated.
@@ -166,7 +132,7 @@ impl fmt::Display for TryError {
     fn fmt(&self, f: &mut fmt::Formatter<'_>) -> fmt::Result {
         match self {
             TryError::Refused(error) => error.fmt(f),
-            TryError::OutOfMemory => f.pad(NO_MEMORY),
+            TryError::OutOfMemory => pad(f, format_args!("{}", Proved::OutOfMemory)),
         }
     }
 }
@@ -277,134 +243,5 @@ impl From<ListError> for TryError {
 impl From<ListError<TryError>> for TryError {
     fn from(failure: ListError<TryError>) -> TryError {
         failure.error
-    }
-}
-
-impl<E> ListError<E> {
-    /// Returns the error without an index.
-    pub(crate) fn of_no_item(error: E) -> Self {
-        ListError { index: None, error }
-    }
-
-    /// Returns this error with the same index.
-    fn with<F>(self, error: impl FnOnce(E) -> F) -> ListError<F> {
-        ListError {
-            index: self.index,
-            error: error(self.error),
-        }
-    }
-}
-
-/// Converts an error of the proved code. Its `OutOfMemory` becomes [`TryError::OutOfMemory`].
-fn try_error(error: proved::Error) -> TryError {
-    use proved::Error as Proved;
-
-    match error {
-        Proved::Overflow => Error::Overflow.into(),
-        Proved::OutOfRange(id) => Error::OutOfRange(id).into(),
-        Proved::AlreadyReleased(id) => Error::AlreadyReleased(id).into(),
-        Proved::NeverAllocated(id) => Error::NeverAllocated(id).into(),
-        Proved::ResourceNotAvailable => Error::ResourceNotAvailable.into(),
-        Proved::InvalidRange(start, end) => Error::InvalidRange(start, end).into(),
-        Proved::InvalidAlignment => Error::InvalidAlignment.into(),
-        Proved::Overlap(new, old) => {
-            Error::Overlap(RangeInclusive(new), RangeInclusive(old)).into()
-        }
-        Proved::InvalidStateTransition(range, state) => {
-            Error::InvalidStateTransition(RangeInclusive(range), NodeState::of(state)).into()
-        }
-        Proved::UnalignedAddress => Error::UnalignedAddress.into(),
-        Proved::Underflow => Error::Underflow.into(),
-        Proved::InvalidSize(size) => Error::InvalidSize(size).into(),
-        Proved::OutOfMemory => TryError::OutOfMemory,
-    }
-}
-
-/// Converts a result of the proved code.
-pub(crate) fn or_try_error<T>(answer: proved::Result<T>) -> core::result::Result<T, TryError> {
-    answer.map_err(try_error)
-}
-
-/// Converts a result of a proved call with a list.
-pub(crate) fn or_list_error<T>(
-    answer: core::result::Result<T, proved::ListError>,
-) -> core::result::Result<T, ListError<TryError>> {
-    answer.map_err(|proved::ListError { index, error }| ListError {
-        index,
-        error: try_error(error),
-    })
-}
-
-/// Converts a result of the proved code. Ends the process if memory ran out.
-pub(crate) fn or_abort<T>(answer: proved::Result<T>) -> Result<T> {
-    unless_out_of_memory(or_try_error(answer))
-}
-
-/// Converts a result of a `try_` call. Ends the process if memory ran out.
-pub(crate) fn unless_out_of_memory<T>(answer: core::result::Result<T, TryError>) -> Result<T> {
-    answer.map_err(refused)
-}
-
-/// Converts a result of a `try_` call with a list. Ends the process if memory ran out.
-pub(crate) fn unless_list_out_of_memory<T>(
-    answer: core::result::Result<T, ListError<TryError>>,
-) -> core::result::Result<T, ListError> {
-    answer.map_err(|failure| failure.with(refused))
-}
-
-/// Returns the error of a call that was refused. Ends the process if memory ran out.
-fn refused(error: TryError) -> Error {
-    match error {
-        TryError::Refused(error) => error,
-        TryError::OutOfMemory => out_of_memory(),
-    }
-}
-
-/// Ends the process, as Rust's collections do.
-///
-/// The proved code does not report the size of the missing memory, so the size in the message
-/// has no meaning.
-pub(crate) fn out_of_memory() -> ! {
-    alloc::alloc::handle_alloc_error(core::alloc::Layout::new::<AddressAllocator>())
-}
-
-#[cfg(test)]
-mod tests {
-    use super::*;
-    use alloc::format;
-    use alloc::string::ToString;
-    use proved::allocation_engine::NodeState::Allocated;
-    use proved::Error as Proved;
-
-    /// Checks all errors, including `Overlap`, which no public call returns.
-    #[test]
-    fn errors_keep_their_names_fields_and_texts() {
-        let [first, second] = [1, 2].map(|start| proved::RangeInclusive::new(start, 7).unwrap());
-        let errors = [
-            Proved::Overflow,
-            Proved::OutOfRange(1),
-            Proved::AlreadyReleased(2),
-            Proved::NeverAllocated(3),
-            Proved::ResourceNotAvailable,
-            Proved::InvalidRange(5, 4),
-            Proved::InvalidAlignment,
-            Proved::Overlap(first, second),
-            Proved::InvalidStateTransition(first, Allocated),
-            Proved::UnalignedAddress,
-            Proved::Underflow,
-            Proved::InvalidSize(6),
-        ];
-        for error in errors {
-            let (name, text) = (format!("Refused({error:?})"), error.to_string());
-            let refused = or_try_error::<()>(Err(error)).unwrap_err();
-            assert_eq!((format!("{refused:?}"), refused.to_string()), (name, text));
-            assert!(refused < TryError::OutOfMemory);
-        }
-        let text = Proved::OutOfMemory.to_string();
-        let refused = or_try_error::<()>(Err(Proved::OutOfMemory)).unwrap_err();
-        assert_eq!(
-            (refused, refused.to_string()),
-            (TryError::OutOfMemory, text)
-        );
     }
 }

@@ -1,10 +1,10 @@
-use crate::error::{or_abort, or_try_error, out_of_memory, unless_out_of_memory};
+use crate::error::TryResult;
+use crate::objects::{allocator, iterate};
 use crate::proved::vm_allocator as proved;
 use crate::rattle::Global;
-use crate::{Result, TryError};
+use crate::Result;
 use alloc::vec::Vec;
-use core::fmt;
-use core::iter::FusedIterator;
+use core::{convert, fmt};
 
 /// Allocates ids from a range, the lowest free id first.
 ///
@@ -72,7 +72,9 @@ impl IdAllocator {
     /// # Ok::<(), Error>(())
     /// ```
     pub fn new(range_base: u32, range_end: u32) -> Result<Self> {
-        or_abort(proved::IdAllocator::new(Global, range_base, range_end)).map(IdAllocator)
+        Ok(IdAllocator(proved::IdAllocator::new(
+            Global, range_base, range_end,
+        )?))
     }
 
     /// Creates an allocator for the ids from `range_base` to `range_end`, both included, with these ids
@@ -102,7 +104,8 @@ impl IdAllocator {
     /// # Ok::<(), Error>(())
     /// ```
     pub fn with_held(range_base: u32, range_end: u32, held: &[u32]) -> Result<Self> {
-        unless_out_of_memory(Self::try_with_held(range_base, range_end, held))
+        let made = proved::IdAllocator::with_held(Global, range_base, range_end, held)?;
+        Ok(IdAllocator(made))
     }
 
     /// Creates an allocator like [`with_held`](Self::with_held), but returns an error if memory
@@ -129,13 +132,9 @@ impl IdAllocator {
     /// );
     /// # Ok::<(), TryError>(())
     /// ```
-    pub fn try_with_held(
-        range_base: u32,
-        range_end: u32,
-        held: &[u32],
-    ) -> core::result::Result<Self, TryError> {
-        let made = proved::IdAllocator::with_held(Global, range_base, range_end, held);
-        or_try_error(made).map(IdAllocator)
+    pub fn try_with_held(range_base: u32, range_end: u32, held: &[u32]) -> TryResult<Self> {
+        let made = proved::IdAllocator::with_held(Global, range_base, range_end, held)?;
+        Ok(IdAllocator(made))
     }
 
     /// Allocates the lowest free id. It does not allocate memory.
@@ -160,7 +159,7 @@ impl IdAllocator {
     /// # Ok::<(), Error>(())
     /// ```
     pub fn allocate_id(&mut self) -> Result<u32> {
-        or_abort(self.0.allocate_id())
+        Ok(self.0.allocate_id()?)
     }
 
     /// Allocates this id and returns it.
@@ -187,7 +186,7 @@ impl IdAllocator {
     /// # Ok::<(), Error>(())
     /// ```
     pub fn allocate_exact(&mut self, id: u32) -> Result<u32> {
-        unless_out_of_memory(self.try_allocate_exact(id))
+        Ok(self.0.allocate_exact(id)?)
     }
 
     /// Allocates an id like [`allocate_exact`](Self::allocate_exact), but returns an error if
@@ -213,8 +212,8 @@ impl IdAllocator {
     /// );
     /// # Ok::<(), TryError>(())
     /// ```
-    pub fn try_allocate_exact(&mut self, id: u32) -> core::result::Result<u32, TryError> {
-        or_try_error(self.0.allocate_exact(id))
+    pub fn try_allocate_exact(&mut self, id: u32) -> TryResult<u32> {
+        Ok(self.0.allocate_exact(id)?)
     }
 
     /// Allocates the lowest free id from `first` to `last`, both included, and returns it.
@@ -241,7 +240,7 @@ impl IdAllocator {
     /// # Ok::<(), Error>(())
     /// ```
     pub fn allocate_in(&mut self, first: u32, last: u32) -> Result<u32> {
-        unless_out_of_memory(self.try_allocate_in(first, last))
+        Ok(self.0.allocate_in(first, last)?)
     }
 
     /// Allocates an id like [`allocate_in`](Self::allocate_in), but returns an error if memory
@@ -267,12 +266,8 @@ impl IdAllocator {
     /// );
     /// # Ok::<(), TryError>(())
     /// ```
-    pub fn try_allocate_in(
-        &mut self,
-        first: u32,
-        last: u32,
-    ) -> core::result::Result<u32, TryError> {
-        or_try_error(self.0.allocate_in(first, last))
+    pub fn try_allocate_in(&mut self, first: u32, last: u32) -> TryResult<u32> {
+        Ok(self.0.allocate_in(first, last)?)
     }
 
     /// Allocates the `count` lowest free ids, or none, and returns them in ascending order. They are the
@@ -296,7 +291,7 @@ impl IdAllocator {
     /// # Ok::<(), Error>(())
     /// ```
     pub fn allocate_ids(&mut self, count: usize) -> Result<Vec<u32>> {
-        unless_out_of_memory(self.try_allocate_ids(count))
+        Ok(self.0.allocate_ids(Global, count)?.into())
     }
 
     /// Allocates ids like [`allocate_ids`](Self::allocate_ids), but returns an error if memory
@@ -323,8 +318,8 @@ impl IdAllocator {
     /// assert_eq!(vectors.free_count(), 204);
     /// # Ok::<(), TryError>(())
     /// ```
-    pub fn try_allocate_ids(&mut self, count: usize) -> core::result::Result<Vec<u32>, TryError> {
-        or_try_error(self.0.allocate_ids(Global, count)).map(Vec::from)
+    pub fn try_allocate_ids(&mut self, count: usize) -> TryResult<Vec<u32>> {
+        Ok(self.0.allocate_ids(Global, count)?.into())
     }
 
     /// Returns the id or the error that [`allocate_id`](Self::allocate_id) would return, without a
@@ -348,7 +343,7 @@ impl IdAllocator {
     /// # Ok::<(), Error>(())
     /// ```
     pub fn peek_id(&self) -> Result<u32> {
-        or_abort(self.0.peek_id())
+        Ok(self.0.peek_id()?)
     }
 
     /// Returns `true` if the id is allocated. An id outside the range is not.
@@ -391,7 +386,7 @@ impl IdAllocator {
     /// # Ok::<(), Error>(())
     /// ```
     pub fn free_id(&mut self, id: u32) -> Result<u32> {
-        or_abort(self.0.free_id(id))
+        Ok(self.0.free_id(id)?)
     }
 
     /// Frees an id like [`free_id`](Self::free_id), but returns an error if memory runs out.
@@ -415,8 +410,8 @@ impl IdAllocator {
     /// assert_eq!(guests.try_free_id(id), Err(TryError::Refused(Error::AlreadyReleased(3))));
     /// # Ok::<(), TryError>(())
     /// ```
-    pub fn try_free_id(&mut self, id: u32) -> core::result::Result<u32, TryError> {
-        or_try_error(self.0.free_id(id))
+    pub fn try_free_id(&mut self, id: u32) -> TryResult<u32> {
+        Ok(self.0.free_id(id)?)
     }
 
     /// Returns the first id of the range.
@@ -507,8 +502,8 @@ impl IdAllocator {
     /// assert_eq!(copy, Ok(lines));
     /// # Ok::<(), TryError>(())
     /// ```
-    pub fn try_clone(&self) -> core::result::Result<Self, TryError> {
-        or_try_error(self.0.try_clone(Global)).map(IdAllocator)
+    pub fn try_clone(&self) -> TryResult<Self> {
+        Ok(IdAllocator(self.0.try_clone(Global)?))
     }
 
     /// Returns the number of allocated ids in constant time. It does not allocate memory.
@@ -547,25 +542,9 @@ impl IdAllocator {
     }
 }
 
-impl Clone for IdAllocator {
-    fn clone(&self) -> Self {
-        self.try_clone().unwrap_or_else(|_| out_of_memory())
-    }
-}
-
 impl fmt::Debug for IdAllocator {
     fn fmt(&self, f: &mut fmt::Formatter<'_>) -> fmt::Result {
         self.0.fmt(f)
-    }
-}
-
-impl<'a> IntoIterator for &'a IdAllocator {
-    type Item = u32;
-    type IntoIter = HeldIds<'a>;
-
-    /// Returns an iterator over the allocated ids.
-    fn into_iter(self) -> HeldIds<'a> {
-        self.held_ids()
     }
 }
 
@@ -591,33 +570,14 @@ impl<'a> IntoIterator for &'a IdAllocator {
 #[derive(Clone)]
 pub struct HeldIds<'a>(proved::HeldIds<'a>);
 
-impl Iterator for HeldIds<'_> {
-    type Item = u32;
+iterate!(HeldIds: u32, convert::identity, size_hint_of);
+allocator!(IdAllocator, HeldIds of u32, "the allocated ids");
 
-    fn next(&mut self) -> Option<u32> {
-        self.0.next()
-    }
-
-    fn size_hint(&self) -> (usize, Option<usize>) {
-        let left = usize::try_from(self.0.count_left());
-        (left.unwrap_or(usize::MAX), left.ok())
-    }
-}
-
-impl DoubleEndedIterator for HeldIds<'_> {
-    fn next_back(&mut self) -> Option<u32> {
-        self.0.next_back()
-    }
+fn size_hint_of(ids: &proved::HeldIds<'_>) -> (usize, Option<usize>) {
+    let left = usize::try_from(ids.count_left());
+    (left.unwrap_or(usize::MAX), left.ok())
 }
 
 // 2^32 ids are too many for a `usize` of 32 bits.
 #[cfg(target_pointer_width = "64")]
 impl ExactSizeIterator for HeldIds<'_> {}
-
-impl FusedIterator for HeldIds<'_> {}
-
-impl fmt::Debug for HeldIds<'_> {
-    fn fmt(&self, f: &mut fmt::Formatter<'_>) -> fmt::Result {
-        f.debug_struct("HeldIds").finish_non_exhaustive()
-    }
-}

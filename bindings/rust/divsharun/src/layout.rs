@@ -1,4 +1,4 @@
-use crate::error::out_of_memory;
+use crate::convert::out_of_memory;
 use crate::rattle::{BTreeMap, Global};
 use crate::{AddressAllocator, HeldRanges, NodeState, RangeInclusive, TryError};
 use core::fmt;
@@ -115,15 +115,6 @@ impl<'a> Layout<'a> {
             names: &self.names,
         }
     }
-
-    /// Returns the minimum number of digits of an address.
-    fn digits(&self) -> usize {
-        if self.allocator.end() < 1 << 16 {
-            4
-        } else {
-            8
-        }
-    }
 }
 
 impl Clone for Layout<'_> {
@@ -137,7 +128,8 @@ impl Clone for Layout<'_> {
 
 impl fmt::Display for Layout<'_> {
     fn fmt(&self, f: &mut fmt::Formatter<'_>) -> fmt::Result {
-        let digits = self.digits();
+        // The minimum number of digits of an address.
+        let digits = if self.allocator.end() < 1 << 16 { 4 } else { 8 };
         for block in self.blocks() {
             let (start, end) = (block.range.start(), block.range.end());
             if start != self.allocator.base() {

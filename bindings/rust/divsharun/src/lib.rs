@@ -216,11 +216,13 @@ extern crate std;
 mod address_allocator;
 mod conflict;
 mod constraint;
+mod convert;
 mod device_manager;
 mod error;
 mod id_allocator;
 mod layout;
 mod node_state;
+mod objects;
 // The eraser writes it. Without `serde`, nothing reaches the calls for saved objects, and without
 // `std`, nothing reaches those that only `vm_lines` makes.
 #[cfg_attr(not(all(feature = "serde", feature = "std")), allow(dead_code))]
@@ -232,6 +234,8 @@ mod rattle;
 pub mod replay;
 #[cfg(feature = "serde")]
 mod saved;
+#[cfg(test)]
+mod tests;
 mod texts;
 
 pub use address_allocator::{AddressAllocator, Gaps, GapsIn, HeldRanges, HeldRangesIn};
@@ -245,32 +249,6 @@ pub use node_state::NodeState;
 pub use range::RangeInclusive;
 #[cfg(feature = "serde")]
 pub use saved::Saved;
-
-/// Checks that every public type is `Send` and `Sync`.
-const _: () = {
-    const fn is_shared_and_sent<T: Send + Sync>() {}
-    is_shared_and_sent::<AddressAllocator>();
-    is_shared_and_sent::<IdAllocator>();
-    is_shared_and_sent::<DeviceManager>();
-    is_shared_and_sent::<DeviceSlot>();
-    is_shared_and_sent::<HeldRanges<'_>>();
-    is_shared_and_sent::<HeldRangesIn<'_>>();
-    is_shared_and_sent::<Gaps<'_>>();
-    is_shared_and_sent::<GapsIn<'_>>();
-    is_shared_and_sent::<HeldIds<'_>>();
-    is_shared_and_sent::<Devices<'_>>();
-    is_shared_and_sent::<Layout<'_>>();
-    is_shared_and_sent::<Blocks<'_>>();
-    is_shared_and_sent::<Block<'_>>();
-    is_shared_and_sent::<RangeInclusive>();
-    is_shared_and_sent::<NodeState>();
-    is_shared_and_sent::<Constraint>();
-    is_shared_and_sent::<AllocPolicy>();
-    is_shared_and_sent::<Conflict>();
-    is_shared_and_sent::<Error>();
-    is_shared_and_sent::<TryError>();
-    is_shared_and_sent::<ListError<TryError>>();
-};
 
 /// Runs the examples of the README as doctests.
 #[cfg(doctest)]

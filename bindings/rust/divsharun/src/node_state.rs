@@ -1,5 +1,3 @@
-use crate::proved::vm_allocator as proved;
-
 /// Whether a block of a space is free or allocated. `Free` is less than `Allocated`.
 ///
 /// # Example
@@ -22,23 +20,4 @@ pub enum NodeState {
     Free,
     /// The block is allocated.
     Allocated,
-}
-
-impl NodeState {
-    /// Converts a state of the proved code.
-    pub(crate) fn of(state: proved::allocation_engine::NodeState) -> NodeState {
-        match state {
-            proved::allocation_engine::NodeState::Free => NodeState::Free,
-            proved::allocation_engine::NodeState::Allocated => NodeState::Allocated,
-        }
-    }
-
-    /// Converts to a state of the proved code.
-    #[cfg(feature = "serde")]
-    pub(crate) fn proved(self) -> proved::allocation_engine::NodeState {
-        match self {
-            NodeState::Free => proved::allocation_engine::NodeState::Free,
-            NodeState::Allocated => proved::allocation_engine::NodeState::Allocated,
-        }
-    }
 }

@@ -11,16 +11,3 @@ mod reading;
 mod writing;
 
 pub use writing::Saved;
-
-use crate::error::NO_MEMORY;
-use crate::proved::vm_allocator::SavedError;
-
-/// Returns the text of an error.
-fn text_of(error: SavedError) -> &'static str {
-    match error {
-        SavedError::Violated(condition) => {
-            conditions::text_of(condition).to_str().unwrap_or_default()
-        }
-        SavedError::OutOfMemory => NO_MEMORY,
-    }
-}

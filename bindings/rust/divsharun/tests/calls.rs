@@ -8,8 +8,9 @@ mod items;
 mod model;
 
 use divsharun::{
-    AddressAllocator, AllocPolicy, Block, Constraint, DeviceManager, DeviceSlot, Error,
-    IdAllocator, ListError, NodeState, RangeInclusive, TryError,
+    AddressAllocator, AllocPolicy, Block, Blocks, Conflict, Constraint, DeviceManager, DeviceSlot,
+    Devices, Error, Gaps, GapsIn, HeldIds, HeldRanges, HeldRangesIn, IdAllocator, Layout,
+    ListError, NodeState, RangeInclusive, TryError,
 };
 use draw::Draw;
 use items::{exact, expect_in_order, expect_items, inexact};
@@ -1169,4 +1170,31 @@ fn calls_are_those_of_the_proved_code() {
         count += 1;
     }
     assert!(count > 50, "{count} calls");
+}
+
+/// Checks that every public type is `Send` and `Sync`.
+#[test]
+fn types_are_shared_and_sent() {
+    fn is_shared_and_sent<T: Send + Sync>() {}
+    is_shared_and_sent::<AddressAllocator>();
+    is_shared_and_sent::<IdAllocator>();
+    is_shared_and_sent::<DeviceManager>();
+    is_shared_and_sent::<DeviceSlot>();
+    is_shared_and_sent::<HeldRanges<'_>>();
+    is_shared_and_sent::<HeldRangesIn<'_>>();
+    is_shared_and_sent::<Gaps<'_>>();
+    is_shared_and_sent::<GapsIn<'_>>();
+    is_shared_and_sent::<HeldIds<'_>>();
+    is_shared_and_sent::<Devices<'_>>();
+    is_shared_and_sent::<Layout<'_>>();
+    is_shared_and_sent::<Blocks<'_>>();
+    is_shared_and_sent::<Block<'_>>();
+    is_shared_and_sent::<RangeInclusive>();
+    is_shared_and_sent::<NodeState>();
+    is_shared_and_sent::<Constraint>();
+    is_shared_and_sent::<AllocPolicy>();
+    is_shared_and_sent::<Conflict>();
+    is_shared_and_sent::<Error>();
+    is_shared_and_sent::<TryError>();
+    is_shared_and_sent::<ListError<TryError>>();
 }

@@ -101,7 +101,20 @@ where
 /// Cuts, repeats or replaces a part of a saved object.
 #[cfg(feature = "serde")]
 fn damaged(saved: &[u8], is_text: bool, draw: &mut Draw) -> Vec<u8> {
-    const PIECES: &str = "|0|7|1|null|{}|]|\"|18446744073709551615|Free|1e999|-1";
+    const PIECES: [&str; 12] = [
+        "",
+        "0",
+        "7",
+        "1",
+        "null",
+        "{}",
+        "]",
+        "\"",
+        "18446744073709551615",
+        "Free",
+        "1e999",
+        "-1",
+    ];
     let first = draw.below(saved.len() as u64) as usize;
     let length = [0, 1, 1, 8, 40][draw.below(5) as usize];
     let mut last = saved.len().min(first + length);
@@ -111,13 +124,7 @@ fn damaged(saved: &[u8], is_text: bool, draw: &mut Draw) -> Vec<u8> {
         last = first + digits.map(<[u8]>::len).next().unwrap();
     }
     match draw.below(8) {
-        0..4 if is_text => {
-            piece = PIECES
-                .split('|')
-                .nth(draw.below(12) as usize)
-                .unwrap()
-                .into()
-        }
+        0..4 if is_text => piece = PIECES[draw.below(12) as usize].into(),
         4 if is_text => piece = vec![b'9'; 400],
         0..3 => piece = vec![draw.below(3) as u8 * 127; last - first],
         _ => {}
@@ -220,20 +227,16 @@ struct Space {
 
 impl Space {
     fn new(base: u64, width: u64, scale: Scale) -> Space {
-        let model = Model::wide(base, width);
-        let space = AddressAllocator::new(base << scale.0, width << scale.0).unwrap();
         Space {
-            space,
-            model,
+            space: AddressAllocator::new(base << scale.0, width << scale.0).unwrap(),
+            model: Model::wide(base, width),
             scale,
         }
     }
 
     fn far(&self, ranges: impl IntoIterator<Item = RangeInclusive>) -> Vec<RangeInclusive> {
-        ranges
-            .into_iter()
-            .map(|range| self.scale.range(range))
-            .collect()
+        let ranges = ranges.into_iter();
+        ranges.map(|range| self.scale.range(range)).collect()
     }
 
     /// Allocates several ranges or none.
@@ -241,19 +244,15 @@ impl Space {
         let (scale, mut model) = (self.scale, self.model.clone());
         let count = draw.below(16);
         let requests: Vec<_> = (0..count).map(|_| request_near(&model, draw)).collect();
-        let want = requests.iter().enumerate().map(|(index, request)| {
+        let answers = (0..).map(Some).zip(&requests).map(|(index, request)| {
             let range = model.allocate(*request);
             range.iter().for_each(|range| model.hold(*range));
-            let index = Some(index);
-            scale
-                .answer(range)
-                .map_err(|error| ListError { index, error })
+            let answer = scale.answer(range);
+            answer.map_err(|error| ListError { index, error })
         });
-        let want = want.collect::<std::result::Result<Vec<_>, _>>();
-        let far: Vec<_> = requests
-            .iter()
-            .map(|request| scale.request(*request))
-            .collect();
+        let want = answers.collect::<std::result::Result<Vec<_>, _>>();
+        let far = requests.iter().map(|request| scale.request(*request));
+        let far: Vec<_> = far.collect();
         if draw.below(2) == 0 {
             assert_eq!(self.space.allocate_all(&far), want);
         } else {
@@ -268,13 +267,12 @@ impl Space {
 
 impl Beside for Space {
     fn change(&mut self, is_freed: bool, draw: &mut Draw) {
-        let (request, key) = (
-            request_near(&self.model, draw),
-            range_near(&self.model, draw),
-        );
+        let request = request_near(&self.model, draw);
+        let key = range_near(&self.model, draw);
         let (scale, form) = (self.scale, draw.below(6));
         let (far, far_key) = (scale.request(request), scale.range(key));
         let number = self.model.held.binary_search(&key);
+        let not_held = Error::ResourceNotAvailable;
         let (space, model) = (&mut self.space, &mut self.model);
         if is_freed {
             let want = number.map(|number| _ = model.held.remove(number));
@@ -282,7 +280,7 @@ impl Beside for Space {
                 0..3 => space.free(&far_key),
                 _ => space.free_counted(&far_key).0,
             };
-            assert_eq!(answer, want.or(Err(Error::ResourceNotAvailable)));
+            assert_eq!(answer, want.or(Err(not_held)));
             return;
         }
         match draw.below(8) {
@@ -290,18 +288,14 @@ impl Beside for Space {
                 let start = model.base + draw.below(model.width);
                 let exact = Constraint::new(key.len(), 1, ExactMatch(start)).unwrap();
                 let request = if form < 3 { request } else { exact };
-                let mut move_key = |number| model.move_to(number, request);
-                let want = number
-                    .or(Err(Error::ResourceNotAvailable))
-                    .and_then(&mut move_key);
-                let start = start << scale.0;
+                let number = number.or(Err(not_held));
+                let want = number.and_then(|number| model.move_to(number, request));
+                let (from, start) = (&far_key, start << scale.0);
                 let answer = match form {
-                    0..2 => space.move_constraint(&far_key, far),
-                    2 => tried(space, draw, |space| {
-                        space.try_move_constraint(&far_key, far)
-                    }),
-                    3..5 => space.move_range(&far_key, start),
-                    _ => tried(space, draw, |space| space.try_move_range(&far_key, start)),
+                    0..2 => space.move_constraint(from, far),
+                    2 => tried(space, draw, |space| space.try_move_constraint(from, far)),
+                    3..5 => space.move_range(from, start),
+                    _ => tried(space, draw, |space| space.try_move_range(from, start)),
                 };
                 assert_eq!(answer, scale.answer(want), "{far_key} to {request}");
                 model.held.sort();
@@ -314,9 +308,7 @@ impl Beside for Space {
                 let is_whole = far.window().is_none();
                 let answer = match form {
                     0 if is_whole => space.allocate(size, align, policy),
-                    1 if is_whole => {
-                        tried(space, draw, |space| space.try_allocate(size, align, policy))
-                    }
+                    1 if is_whole => tried(space, draw, |to| to.try_allocate(size, align, policy)),
                     2 if is_whole => space.allocate_counted(size, align, policy).0,
                     3 => space.allocate_constraint_counted(far).0,
                     4 => space.allocate_constraint(far),
@@ -328,24 +320,15 @@ impl Beside for Space {
     }
 
     fn query(&self, draw: &mut Draw) {
-        let Space {
-            space,
-            model,
-            scale,
-        } = self;
+        let (space, model, scale) = (&self.space, &self.model, self.scale);
         let request = request_near(model, draw);
         let key = range_near(model, draw);
         let far = |range: Option<RangeInclusive>| range.map(|range| scale.range(range));
         let is_held = model.held.binary_search(&key).is_ok();
         assert_eq!(space.holds(&scale.range(key)), is_held);
-        let conflict = model
-            .conflict(request)
-            .map(|conflict| scale.conflict(conflict));
-        assert_eq!(
-            space.conflict(scale.request(request)),
-            conflict,
-            "{request}"
-        );
+        let conflict = space.conflict(scale.request(request));
+        let want = model.conflict(request);
+        assert_eq!(conflict, want.map(|want| scale.conflict(want)), "{request}");
         let has = |range: &RangeInclusive| range.contains_address(key.end());
         let at = key.end() << scale.0;
         assert_eq!(space.held_at(at), far(model.held.iter().copied().find(has)));
@@ -376,9 +359,8 @@ impl Beside for Space {
         let layout = self.space.layout();
         expect_list(layout.blocks().map(|block| block.range), &blocks, draw);
         let (base, size) = (self.space.base(), self.model.width << self.scale.0);
-        let built = tried(&mut (), draw, |()| {
-            AddressAllocator::try_with_held(base, size, &held)
-        });
+        let build = |(): &mut ()| AddressAllocator::try_with_held(base, size, &held);
+        let built = tried(&mut (), draw, build);
         assert_eq!(built.as_ref(), Ok(&self.space));
         if !gaps.is_empty() {
             let made = tried(&mut (), draw, |()| AddressAllocator::try_with_free(&gaps)).unwrap();
@@ -417,6 +399,11 @@ impl Manager {
             slots: BTreeMap::new(),
         }
     }
+
+    fn slots(&self) -> impl Iterator<Item = DeviceSlot> + '_ {
+        let slots = self.slots.iter();
+        slots.map(|(&id, &range)| DeviceSlot { id, range })
+    }
 }
 
 impl Beside for Manager {
@@ -439,12 +426,8 @@ impl Beside for Manager {
         let is_whole = request.window().is_none();
         let answer = match form {
             0 if is_whole => devices.reserve(size, align, policy),
-            1 if is_whole => tried(devices, draw, |devices| {
-                devices.try_reserve(size, align, policy)
-            }),
-            2 => tried(devices, draw, |devices| {
-                devices.try_reserve_constraint(request)
-            }),
+            1 if is_whole => tried(devices, draw, |to| to.try_reserve(size, align, policy)),
+            2 => tried(devices, draw, |to| to.try_reserve_constraint(request)),
             _ => devices.reserve_constraint(request),
         };
         let range = |id| Ok((id, self.model.allocate(request)?));
@@ -463,20 +446,14 @@ impl Beside for Manager {
         assert_eq!(self.devices.device_count(), self.slots.len() as u64);
         assert_eq!(self.devices.conflict(request), self.model.conflict(request));
         let address = range_near(&self.model, draw).start();
-        let mut devices = self
-            .slots
-            .iter()
-            .map(|(&id, &range)| DeviceSlot { id, range });
-        let at = devices.find(|device| device.range.contains_address(address));
+        let has = |device: &DeviceSlot| device.range.contains_address(address);
+        let at = self.slots().find(has);
         assert_eq!(self.devices.device_at(address), at);
     }
 
     fn compare(&mut self, draw: &mut Draw) {
-        let devices = self
-            .slots
-            .iter()
-            .map(|(&id, &range)| DeviceSlot { id, range });
-        expect_list(self.devices.devices(), &devices.collect::<Vec<_>>(), draw);
+        let slots: Vec<_> = self.slots().collect();
+        expect_list(self.devices.devices(), &slots, draw);
         let copied = tried(&mut self.devices, draw, |devices| devices.try_clone());
         assert_eq!(copied.as_ref(), Ok(&self.devices));
         match draw.below(2) {
@@ -494,45 +471,41 @@ struct Numbers {
 
 impl Numbers {
     fn new(first: u32, last: u32) -> Numbers {
-        let (ids, model) = (
-            IdAllocator::new(first, last).unwrap(),
-            Ids::new(first, last),
-        );
-        Numbers { ids, model }
+        Numbers {
+            ids: IdAllocator::new(first, last).unwrap(),
+            model: Ids::new(first, last),
+        }
     }
 }
 
 impl Beside for Numbers {
     fn change(&mut self, is_freed: bool, draw: &mut Draw) {
         let (id, end) = (id_near(&self.model, draw), id_near(&self.model, draw));
-        let (kind, form) = (draw.below(8), draw.below(2));
-        let (ids, model) = (&mut self.ids, &mut self.model);
-        let (answer, want) = match (kind, form) {
-            (_, 0) if is_freed => (ids.free_id(id), model.release(id)),
-            _ if is_freed => (
-                tried(ids, draw, |ids| ids.try_free_id(id)),
-                model.release(id),
-            ),
-            (0, 0) => (ids.allocate_exact(id), model.allocate_exact(id)),
-            (0, _) => (
-                tried(ids, draw, |ids| ids.try_allocate_exact(id)),
-                model.allocate_exact(id),
-            ),
-            (1, 0) => (ids.allocate_in(id, end), model.allocate_in(id, end)),
-            (1, _) => (
-                tried(ids, draw, |ids| ids.try_allocate_in(id, end)),
-                model.allocate_in(id, end),
-            ),
-            (2, _) => {
-                let count = draw.below(12) as usize;
-                let answer = match form {
-                    0 => ids.allocate_ids(count),
-                    _ => tried(ids, draw, |ids| ids.try_allocate_ids(count)),
-                };
-                assert_eq!(answer, model.allocate_ids(count));
-                return;
-            }
-            _ => (ids.allocate_id(), model.allocate()),
+        let (kind, is_tried) = (draw.below(8), draw.below(2) == 1);
+        let Numbers { ids, model } = self;
+        if !is_freed && kind == 2 {
+            let count = draw.below(12) as usize;
+            let answer = match is_tried {
+                false => ids.allocate_ids(count),
+                true => tried(ids, draw, |ids| ids.try_allocate_ids(count)),
+            };
+            assert_eq!(answer, model.allocate_ids(count));
+            return;
+        }
+        let answer = match (kind, is_tried) {
+            (_, false) if is_freed => ids.free_id(id),
+            (_, true) if is_freed => tried(ids, draw, |ids| ids.try_free_id(id)),
+            (0, false) => ids.allocate_exact(id),
+            (0, true) => tried(ids, draw, |ids| ids.try_allocate_exact(id)),
+            (1, false) => ids.allocate_in(id, end),
+            (1, true) => tried(ids, draw, |ids| ids.try_allocate_in(id, end)),
+            _ => ids.allocate_id(),
+        };
+        let want = match kind {
+            _ if is_freed => model.release(id),
+            0 => model.allocate_exact(id),
+            1 => model.allocate_in(id, end),
+            _ => model.allocate(),
         };
         assert_eq!(answer, want);
     }
@@ -551,9 +524,8 @@ impl Beside for Numbers {
         let held: Vec<_> = self.model.held.iter().copied().collect();
         expect_list(self.ids.held_ids(), &held, draw);
         let (first, last) = (self.ids.range_base(), self.ids.range_end());
-        let built = tried(&mut (), draw, |()| {
-            IdAllocator::try_with_held(first, last, &held)
-        });
+        let build = |(): &mut ()| IdAllocator::try_with_held(first, last, &held);
+        let built = tried(&mut (), draw, build);
         expect_list(built.unwrap().held_ids(), &held, draw);
         let copied = tried(&mut self.ids, draw, |ids| ids.try_clone());
         assert_eq!(copied.as_ref(), Ok(&self.ids));

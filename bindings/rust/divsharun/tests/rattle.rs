@@ -8,7 +8,7 @@ extern crate alloc;
 mod rattle;
 mod refusing;
 
-use rattle::{AllocError, AllocFailed, BTreeMap, BTreeSet, Box, Global, Vec};
+use rattle::{AllocFailed, BTreeMap, BTreeSet, Box, Global, Vec};
 use refusing::{blocks, peak_of, refusing};
 use std::collections;
 use std::fmt::Debug;
@@ -16,11 +16,7 @@ use std::fmt::Debug;
 #[test]
 fn boxes() {
     let refused = refusing(1, || Box::new(Global, 7)).0.err().unwrap();
-    let texts = [refused.to_string(), AllocError.to_string()];
-    assert_eq!(
-        (refused.0, texts),
-        (7, ["an allocation failed"; 2].map(str::to_string))
-    );
+    assert_eq!(refused.0, 7);
     let before = blocks();
     let (mut boxed, requests) = refusing(0, || Box::new(Global, 7).unwrap());
     *boxed += 1;

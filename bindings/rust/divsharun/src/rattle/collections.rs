@@ -233,9 +233,9 @@ impl<K: Ord + Copy, V> BTreeMap<K, V> {
     #[must_use]
     pub fn iter(&self) -> btree_map::Iter<'_, K, V> {
         btree_map::Iter {
-            chunks: &self.upper,
-            lowest: &self.lowest,
-            highest: &[],
+            chunks: self.upper.iter(),
+            lowest: self.lowest.iter(),
+            highest: [].iter(),
         }
     }
 
@@ -246,9 +246,9 @@ impl<K: Ord + Copy, V> BTreeMap<K, V> {
             Err(place) => (place.chunk, place.entry),
         };
         btree_map::Iter {
-            chunks: &self.upper[..chunk],
-            lowest: &self.chunk(chunk)[..count],
-            highest: &[],
+            chunks: self.upper[..chunk].iter(),
+            lowest: self.chunk(chunk)[..count].iter(),
+            highest: [].iter(),
         }
     }
 }
@@ -288,50 +288,38 @@ impl<K: Ord + Copy + fmt::Debug, V: fmt::Debug> fmt::Debug for BTreeMap<K, V> {
 /// The iterator of a map.
 pub mod btree_map {
     use alloc::vec::Vec;
+    use core::mem::take;
+    use core::slice;
 
     /// An iterator over the entries of a map in ascending order of keys, or backwards.
     #[derive(Clone)]
     pub struct Iter<'a, K, V> {
         // The chunks that were not begun yet, and the entries that are left of those that were begun: of
         // the one with the lowest keys, and of the one with the highest keys.
-        pub(super) chunks: &'a [Vec<(K, V)>],
-        pub(super) lowest: &'a [(K, V)],
-        pub(super) highest: &'a [(K, V)],
+        pub(super) chunks: slice::Iter<'a, Vec<(K, V)>>,
+        pub(super) lowest: slice::Iter<'a, (K, V)>,
+        pub(super) highest: slice::Iter<'a, (K, V)>,
     }
 
     impl<'a, K, V> Iterator for Iter<'a, K, V> {
         type Item = (&'a K, &'a V);
 
         fn next(&mut self) -> Option<Self::Item> {
-            if self.lowest.is_empty() {
-                self.lowest = match self.chunks.split_last() {
-                    Some((chunk, rest)) => {
-                        self.chunks = rest;
-                        chunk
-                    }
-                    None => core::mem::take(&mut self.highest),
-                };
+            if self.lowest.len() == 0 {
+                let chunk = self.chunks.next_back();
+                self.lowest = chunk.map_or_else(|| take(&mut self.highest), |chunk| chunk.iter());
             }
-            let ((key, value), rest) = self.lowest.split_last()?;
-            self.lowest = rest;
-            Some((key, value))
+            self.lowest.next_back().map(|(key, value)| (key, value))
         }
     }
 
     impl<K, V> DoubleEndedIterator for Iter<'_, K, V> {
         fn next_back(&mut self) -> Option<Self::Item> {
-            if self.highest.is_empty() {
-                self.highest = match self.chunks.split_first() {
-                    Some((chunk, rest)) => {
-                        self.chunks = rest;
-                        chunk
-                    }
-                    None => core::mem::take(&mut self.lowest),
-                };
+            if self.highest.len() == 0 {
+                let chunk = self.chunks.next();
+                self.highest = chunk.map_or_else(|| take(&mut self.lowest), |chunk| chunk.iter());
             }
-            let ((key, value), rest) = self.highest.split_first()?;
-            self.highest = rest;
-            Some((key, value))
+            self.highest.next().map(|(key, value)| (key, value))
         }
     }
 }

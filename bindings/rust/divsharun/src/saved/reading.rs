@@ -1,12 +1,12 @@
 //! Reads objects with serde. Fields can come in any order, and are checked as they come.
 
-use super::text_of;
+use super::conditions::text_of;
 use crate::proved::vm_allocator::{
     AddressAllocator, IdAllocator, RangeInclusive, ReadIds, ReadNodes, SavedError, Span,
 };
 use crate::proved::vm_devices::{DeviceManager, ReadDevices};
 use crate::rattle::Global;
-use crate::{DeviceSlot, NodeState};
+use crate::{DeviceSlot, NodeState, TryError};
 use core::fmt;
 use serde::de::{DeserializeSeed, Error, MapAccess, SeqAccess, Visitor};
 use serde::{Deserialize, Deserializer};
@@ -14,7 +14,10 @@ use serde::{Deserialize, Deserializer};
 /// Returns the error of a format.
 #[cold]
 fn invalid<E: Error>(error: SavedError) -> E {
-    E::custom(text_of(error))
+    match error {
+        SavedError::Violated(condition) => E::custom(text_of(condition).to_string_lossy()),
+        SavedError::OutOfMemory => E::custom(TryError::OutOfMemory),
+    }
 }
 
 #[derive(Deserialize)]
@@ -56,21 +59,18 @@ fn root<'de, D: Deserializer<'de>>(from: D) -> Result<ReadNodes, D::Error> {
 }
 
 impl Space {
-    /// Returns the allocator. If `is_strict`, the tree must be one that the proved code builds.
-    fn allocator<E: Error>(self, is_strict: bool) -> Result<AddressAllocator, E> {
-        let nodes = self.interval_tree.root;
-        let allocator = if is_strict {
-            AddressAllocator::from_nodes
-        } else {
-            AddressAllocator::from_nodes_repaired
-        };
-        allocator(Global, self.address_space, &nodes).map_err(invalid)
+    /// Returns the allocator that `made` makes of the space and the nodes.
+    fn allocator<E: Error>(
+        self,
+        made: impl FnOnce(Global, RangeInclusive, &ReadNodes) -> Result<AddressAllocator, SavedError>,
+    ) -> Result<AddressAllocator, E> {
+        made(Global, self.address_space, &self.interval_tree.root).map_err(invalid)
     }
 }
 
 impl<'de> Deserialize<'de> for AddressAllocator {
     fn deserialize<D: Deserializer<'de>>(from: D) -> Result<Self, D::Error> {
-        Space::deserialize(from)?.allocator(false)
+        Space::deserialize(from)?.allocator(AddressAllocator::from_nodes_repaired)
     }
 }
 
@@ -107,7 +107,7 @@ impl crate::AddressAllocator {
     /// # fn main() {}
     /// ```
     pub fn deserialize_strict<'de, D: Deserializer<'de>>(from: D) -> Result<Self, D::Error> {
-        let allocator = Space::deserialize(from)?.allocator(true)?;
+        let allocator = Space::deserialize(from)?.allocator(AddressAllocator::from_nodes)?;
         Ok(crate::AddressAllocator(allocator))
     }
 }
@@ -181,6 +181,14 @@ struct Fields {
     height: Option<u64>,
 }
 
+/// The name of a node in errors of a format.
+const NODE: &str = "struct InnerNode with 5 elements";
+
+/// Returns the element of a sequence for a field, or the error if it is missing.
+fn element<T, E: Error>(read: Option<T>, field: Field) -> Result<T, E> {
+    read.ok_or_else(|| E::invalid_length(field as usize, &NODE))
+}
+
 /// Reads a node. A derive could not pass the other nodes on to its children.
 struct InnerNode<'a>(Subtree<'a>);
 
@@ -195,7 +203,7 @@ impl InnerNode<'_> {
         right: Option<Span>,
         height: u64,
     ) -> Result<(), E> {
-        let span = self.0.nodes.end(left, key, state.proved(), right, height);
+        let span = self.0.nodes.end(left, key, state.into(), right, height);
         *self.0.link = Some(span.map_err(invalid)?);
         Ok(())
     }
@@ -205,23 +213,18 @@ impl<'de> Visitor<'de> for InnerNode<'_> {
     type Value = ();
 
     fn expecting(&self, f: &mut fmt::Formatter<'_>) -> fmt::Result {
-        f.write_str("struct InnerNode with 5 elements")
+        f.write_str(NODE)
     }
 
     fn visit_seq<A: SeqAccess<'de>>(mut self, mut from: A) -> Result<(), A::Error> {
-        let expected = &"struct InnerNode with 5 elements";
-        let missing = |field| A::Error::invalid_length(field as usize, expected);
         let (mut left, mut right) = (None, None);
-        let key = from.next_element()?;
-        let key = key.ok_or_else(|| missing(Field::Key))?;
-        let state = from.next_element()?;
-        let state = state.ok_or_else(|| missing(Field::NodeState))?;
+        let key = element(from.next_element()?, Field::Key)?;
+        let state = element(from.next_element()?, Field::NodeState)?;
         let read = from.next_element_seed(self.0.child(&mut left))?;
-        read.ok_or_else(|| missing(Field::Left))?;
+        element(read, Field::Left)?;
         let read = from.next_element_seed(self.0.child(&mut right))?;
-        read.ok_or_else(|| missing(Field::Right))?;
-        let height = from.next_element()?;
-        let height = height.ok_or_else(|| missing(Field::Height))?;
+        element(read, Field::Right)?;
+        let height = element(from.next_element()?, Field::Height)?;
         self.end(left, key, state, right, height)
     }
 
@@ -299,7 +302,9 @@ fn slots<'de, D: Deserializer<'de>>(from: D) -> Result<ReadDevices, D::Error> {
 impl<'de> Deserialize<'de> for DeviceManager {
     fn deserialize<D: Deserializer<'de>>(from: D) -> Result<Self, D::Error> {
         let saved = Devices::deserialize(from)?;
-        let space = saved.mmio_allocator.allocator(true)?;
+        let space = saved
+            .mmio_allocator
+            .allocator(AddressAllocator::from_nodes)?;
         let ids = saved.id_allocator;
         DeviceManager::from_devices(Global, saved.version, ids, space, &saved.slots)
             .map_err(invalid)

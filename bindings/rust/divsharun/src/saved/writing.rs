@@ -1,14 +1,12 @@
 //! Writes objects with serde.
 
-use crate::error::NO_MEMORY;
-use crate::proved::vm_allocator::{
-    AddressAllocator, IdAllocator, RangeInclusive, WrittenBlocks, WrittenNode, WrittenTree,
-};
-use crate::proved::vm_devices::{DeviceManager, SAVED_VERSION};
+use crate::proved::vm_allocator::allocation_engine::NodeState;
+use crate::proved::vm_allocator::{AddressAllocator, WrittenBlocks, WrittenTree};
+use crate::proved::vm_devices::DeviceManager;
 use crate::rattle::Global;
-use crate::{DeviceSlot, NodeState, TryError};
+use crate::TryError;
 use core::fmt;
-use serde::ser::{Error, SerializeSeq, SerializeStruct};
+use serde::ser::{Error, SerializeSeq};
 use serde::{Serialize, Serializer};
 
 /// Implements `Serialize` for structures with these fields.
@@ -17,9 +15,10 @@ macro_rules! write_fields {
         $(#[$attribute:meta])?
         $object:ty as $name:literal, $this:ident: $($field:ident = $value:expr),*;
     )*) => {$(
-        impl Serialize for $object {
+        impl serde::Serialize for $object {
             $(#[$attribute])?
-            fn serialize<S: Serializer>(&self, to: S) -> Result<S::Ok, S::Error> {
+            fn serialize<S: serde::Serializer>(&self, to: S) -> Result<S::Ok, S::Error> {
+                use serde::ser::SerializeStruct;
                 let $this = self;
                 let mut fields = to.serialize_struct($name, [$(stringify!($field)),*].len())?;
                 $(fields.serialize_field(stringify!($field), &$value)?;)*
@@ -29,46 +28,15 @@ macro_rules! write_fields {
     )*};
 }
 
-write_fields! {
-    RangeInclusive as "RangeInclusive", this: start = this.start(), end = this.end();
-    Space as "RangeInclusive", this: start = this.0, end = this.1;
-    WithBlocks<'_, AddressAllocator> as "AddressAllocator", this:
-        address_space = Space(this.0.base(), this.0.end()),
-        interval_tree = Root(this.1);
-    Root<'_> as "IntervalTree", this: root = this.0.tree();
-    // A call for each node is faster than one for each link, of which there are twice as many.
-    #[inline(never)]
-    WrittenNode<'_> as "InnerNode", this:
-        key = this.key,
-        node_state = NodeState::of(this.state),
-        left = this.left,
-        right = this.right,
-        height = this.height;
-    IdAllocator as "IdAllocator", this:
-        range_base = this.range_base(),
-        next_id = this.next_id(),
-        range_end = this.range_end(),
-        freed_ids = List(this.freed_ids().count(), || this.freed_ids());
-    WithBlocks<'_, DeviceManager> as "DeviceManager", this:
-        version = SAVED_VERSION,
-        id_allocator = this.0.ids(),
-        mmio_allocator = WithBlocks(this.0.addresses(), this.1),
-        slots = List(this.0.device_count() as usize, || this.0.devices().map(DeviceSlot::of));
-}
-
-/// The ends of a space.
-struct Space(u64, u64);
-
-/// An object, and the blocks that the tree of its space is written of.
-struct WithBlocks<'a, T>(&'a T, &'a WrittenBlocks);
-
-struct Root<'a>(&'a WrittenBlocks);
+#[path = "fields.rs"]
+mod fields;
+use fields::{List, WithBlocks};
 
 /// Returns the blocks that the tree of a space is written of, or an error of the format if memory runs
 /// out.
 fn blocks_of<E: Error>(space: &AddressAllocator) -> Result<WrittenBlocks, E> {
     let blocks = space.written_blocks(Global);
-    blocks.map_err(|_| E::custom(NO_MEMORY))
+    blocks.map_err(|_| E::custom(TryError::OutOfMemory))
 }
 
 impl Serialize for AddressAllocator {
@@ -191,8 +159,11 @@ impl Serialize for WrittenTree<'_> {
     }
 }
 
-/// The number of the items of a list, and a function that returns them.
-struct List<F>(usize, F);
+impl Serialize for NodeState {
+    fn serialize<S: Serializer>(&self, to: S) -> Result<S::Ok, S::Error> {
+        crate::NodeState::from(*self).serialize(to)
+    }
+}
 
 impl<F: Fn() -> I, I: IntoIterator<Item: Serialize>> Serialize for List<F> {
     fn serialize<S: Serializer>(&self, to: S) -> Result<S::Ok, S::Error> {

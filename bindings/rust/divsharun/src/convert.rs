@@ -1,0 +1,91 @@
+//! Converts values and errors of the proved code to those of callers.
+
+use crate::error::{ListResult, TryListResult};
+use crate::proved::vm_allocator as proved;
+use crate::{AddressAllocator, Conflict, Error, ListError, NodeState, RangeInclusive, TryError};
+
+/// Implements the conversions between an enum of callers and the one of the proved code. They have the same
+/// variants, except for those of the last arm.
+macro_rules! convert_variants {
+    ($public:ident, $proved:ty:
+        $($variant:ident $(($($field:ident),+))?),+ $(; $other:ident => $value:expr)?) => {
+        impl From<$proved> for $public {
+            fn from(value: $proved) -> Self {
+                type Proved = $proved;
+                match value {
+                    $(Proved::$variant $(($($field),+))? => {
+                        Self::$variant $(($($field.into()),+))?
+                    })+
+                    $(Proved::$other => $value,)?
+                }
+            }
+        }
+
+        impl From<$public> for $proved {
+            fn from(value: $public) -> Self {
+                match value {
+                    $($public::$variant $(($($field),+))? => {
+                        Self::$variant $(($($field.into()),+))?
+                    })+
+                }
+            }
+        }
+    };
+}
+
+convert_variants! { NodeState, proved::allocation_engine::NodeState: Free, Allocated }
+convert_variants! {
+    Conflict, proved::Conflict: OutsideSpace(space), OutsideWindow(window), Allocated(range)
+}
+// If memory ran out, the process ends, as with Rust's collections.
+convert_variants! {
+    Error, proved::Error:
+    Overflow, OutOfRange(id), AlreadyReleased(id), NeverAllocated(id), ResourceNotAvailable,
+    InvalidRange(start, end), InvalidAlignment, Overlap(new, old),
+    InvalidStateTransition(range, state), UnalignedAddress, Underflow, InvalidSize(size);
+    OutOfMemory => out_of_memory()
+}
+
+impl From<proved::RangeInclusive> for RangeInclusive {
+    fn from(range: proved::RangeInclusive) -> Self {
+        RangeInclusive(range)
+    }
+}
+
+impl From<RangeInclusive> for proved::RangeInclusive {
+    fn from(range: RangeInclusive) -> Self {
+        range.0
+    }
+}
+
+impl From<proved::Error> for TryError {
+    fn from(error: proved::Error) -> Self {
+        match error {
+            proved::Error::OutOfMemory => TryError::OutOfMemory,
+            refused => TryError::Refused(refused.into()),
+        }
+    }
+}
+
+impl From<proved::ListError> for ListError<TryError> {
+    fn from(proved::ListError { index, error }: proved::ListError) -> Self {
+        let error = error.into();
+        ListError { index, error }
+    }
+}
+
+/// Converts a result of a `try_` call with a list. Ends the process if memory ran out.
+pub(crate) fn unless_list_out_of_memory<T>(answer: TryListResult<T>) -> ListResult<T> {
+    answer.map_err(|failure| ListError {
+        index: failure.index,
+        error: failure.error.error().unwrap_or_else(|| out_of_memory()),
+    })
+}
+
+/// Ends the process, as Rust's collections do.
+///
+/// The proved code does not report the size of the missing memory, so the size in the message
+/// has no meaning.
+pub(crate) fn out_of_memory() -> ! {
+    alloc::alloc::handle_alloc_error(core::alloc::Layout::new::<AddressAllocator>())
+}

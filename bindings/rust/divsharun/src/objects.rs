@@ -1,0 +1,68 @@
+//! What each allocator and each iterator over its items implements.
+
+use core::fmt;
+
+/// The `Debug` of the items that a function returns, as a list.
+pub(crate) struct DebugList<F>(pub(crate) F);
+
+impl<I: Iterator<Item: fmt::Debug>, F: Fn() -> I> fmt::Debug for DebugList<F> {
+    fn fmt(&self, f: &mut fmt::Formatter<'_>) -> fmt::Result {
+        f.debug_list().entries(self.0()).finish()
+    }
+}
+
+/// Implements `Clone` by `try_clone`, and `IntoIterator` by `iter`.
+macro_rules! allocator {
+    ($allocator:ident, $items:ident of $item:ty, $what:literal) => {
+        impl Clone for $allocator {
+            fn clone(&self) -> Self {
+                let copy = self.try_clone();
+                copy.unwrap_or_else(|_| $crate::convert::out_of_memory())
+            }
+        }
+
+        impl<'a> IntoIterator for &'a $allocator {
+            type Item = $item;
+            type IntoIter = $items<'a>;
+
+            #[doc = concat!("Returns an iterator over ", $what, ".")]
+            fn into_iter(self) -> $items<'a> {
+                self.iter()
+            }
+        }
+    };
+}
+
+/// Implements iterators by those of the proved code, with a function that converts an item and one that
+/// returns the size hint.
+macro_rules! iterate {
+    ($($name:ident),+: $item:ty, $convert:expr, $size_hint:expr) => {$(
+        impl Iterator for $name<'_> {
+            type Item = $item;
+
+            fn next(&mut self) -> Option<$item> {
+                self.0.next().map($convert)
+            }
+
+            fn size_hint(&self) -> (usize, Option<usize>) {
+                $size_hint(&self.0)
+            }
+        }
+
+        impl DoubleEndedIterator for $name<'_> {
+            fn next_back(&mut self) -> Option<$item> {
+                self.0.next_back().map($convert)
+            }
+        }
+
+        impl core::iter::FusedIterator for $name<'_> {}
+
+        impl core::fmt::Debug for $name<'_> {
+            fn fmt(&self, f: &mut core::fmt::Formatter<'_>) -> core::fmt::Result {
+                f.debug_struct(stringify!($name)).finish_non_exhaustive()
+            }
+        }
+    )+};
+}
+
+pub(crate) use {allocator, iterate};
