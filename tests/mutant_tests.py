@@ -5,7 +5,8 @@
 
 No clause excludes these mutants. The first line of a patch names the change, and the second one the check:
 
-    count_rule: TEXT     tests/count_rule or error_rule, with a part of its output. The mutant of error_rule compiles
+    count_rule: TEXT     tests/count_rule or error_rule, with a part of its output. The mutant of error_rule
+                         compiles
     test: NAME[, RUN]    a test, with its crate, as plain Rust in SCRATCH. RUN is `counted` (its allocations are
                          counted) or `refused` (each allocation fails in turn)
 
@@ -20,8 +21,6 @@ import shutil
 import subprocess
 import sys
 
-import mutants
-
 TOP = os.path.dirname(os.path.dirname(os.path.abspath(__file__)))
 PROJECT, SCRATCH = (os.path.abspath(argument) for argument in sys.argv[1:3])
 COPY, LIBRARY, REFUSED = (os.path.join(SCRATCH, name) for name in ("project", "refuse.so", "refused"))
@@ -33,7 +32,15 @@ COUNT = re.search(r" COUNT_ALLOCATION: usize = ([\d_]+);", FIXTURES)[1].replace(
 
 
 def run(*command, **variables):
-    return subprocess.run(command, cwd=BOX_COUNT, env={**ENVIRONMENT, **variables}, text=True, capture_output=True, check=False)
+    environment = {**ENVIRONMENT, **variables}
+    return subprocess.run(command, cwd=BOX_COUNT, env=environment, text=True, capture_output=True, check=False)
+
+
+def copy_sources():
+    shutil.rmtree(COPY, ignore_errors=True)
+    others = shutil.ignore_patterns("must-fail", "out", "proofs", "specs")
+    shutil.copytree(os.path.join(PROJECT, "crates"), os.path.join(COPY, "crates"), ignore=others)
+    shutil.copy(os.path.join(PROJECT, "crates.txt"), COPY)
 
 
 def built(*command):
@@ -53,13 +60,15 @@ def program():
 
 
 def passes(tests, name, how=""):
-    """Returns `true` if a test passes, if it is run in a certain way. `refused` ends with a run without a failed allocation.
-    There only a failed test counts, because Rust's test harness ends the process if one of its own allocations fails."""
+    """Returns `true` if a test passes, if it is run in a certain way. `refused` ends with a run without a failed
+    allocation. There only a failed test counts, because Rust's test harness ends the process if one of its own
+    allocations fails."""
     command = [tests, "--exact", f"proved::{name}", "--test-threads=1"]
     for number in itertools.count(1):
         pathlib.Path(REFUSED).write_text("", "utf-8")
-        done = run(*command, **{"counted": {"COUNT": COUNT, "LD_PRELOAD": LIBRARY},
-                                "refused": {"REFUSE": str(number), "REFUSED": REFUSED, "LD_PRELOAD": LIBRARY}, "": {}}[how])
+        refused = {"REFUSE": str(number), "REFUSED": REFUSED}
+        variables = {"": {}, "counted": {"COUNT": COUNT}, "refused": refused}[how]
+        done = run(*command, **variables, **({"LD_PRELOAD": LIBRARY} if how else {}))
         if done.returncode == 101 and "test result: FAILED" in done.stdout or not os.path.getsize(REFUSED):
             return done.returncode == 0 and ("1 passed" in done.stdout or sys.exit(f"there is no test {name}"))
 
@@ -74,18 +83,18 @@ def is_noticed(check, rest):
 
 
 def main():
-    shutil.copytree(os.path.join(PROJECT, "bindings", "rust"), os.path.dirname(BOX_COUNT), ignore=shutil.ignore_patterns("target"))
-    folder = os.path.join(PROJECT, "tests")
+    bindings, folder = (os.path.join(PROJECT, name) for name in ("bindings/rust", "tests"))
+    shutil.copytree(bindings, os.path.dirname(BOX_COUNT), ignore=shutil.ignore_patterns("target"))
     cc = [os.environ.get("CC", "cc"), "-O2", "-shared", "-fPIC"]
     subprocess.run([*cc, "-o", LIBRARY, os.path.join(folder, "refuse.c"), "-ldl"], check=True)
-    patches = [os.path.abspath(patch) for patch in sys.argv[3:]] or sorted(glob.glob(os.path.join(folder, "mutants/*.patch")))
+    patches = [*map(os.path.abspath, sys.argv[3:])] or sorted(glob.glob(os.path.join(folder, "mutants/*.patch")))
     checks = {patch: pathlib.Path(patch).read_text("utf-8").split("\n")[1].split(": ", 1) for patch in patches}
-    mutants.copy_sources(PROJECT, COPY)
+    copy_sources()
     tests = program()
     wrong = [f"{rest} fails without a mutant" for check, rest in sorted(map(tuple, checks.values()))
              if check == "test" and not passes(tests, *rest.split(", "))]
     for patch, (check, rest) in checks.items():
-        mutants.copy_sources(PROJECT, COPY)
+        copy_sources()
         subprocess.run(["git", "apply", patch], cwd=COPY, check=True)
         if not is_noticed(check, rest):
             wrong.append(f"{patch} is not noticed")

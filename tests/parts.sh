@@ -7,16 +7,8 @@ trap 'kill -- "${beside[@]/#/-}" 2> "$log"; rm -rf "$scratch"' EXIT
 # Parts that run at the same time: the group of processes of each command that was begun.
 declare -A beside=()
 log=$scratch/log times=$scratch/times passed_parts=0 failed_parts=()
-
-# Sets the parts that a check runs. Unknown options print its head.
-choose_parts() { # the check's options: none, --of-sources or --of-built
-    case $* in
-        "") export of_sources=yes of_built=yes ;;
-        --of-sources) export of_sources=yes of_built=no ;;
-        --of-built) export of_sources=no of_built=yes ;;
-        *) sed -n '2,/^set/s/^# \{0,1\}//p' "$0"; exit 2 ;;
-    esac
-}
+# shellcheck disable=SC2034 # scripts use it
+rules=(tests/count_rule tests/error_rule tests/pages)
 
 part() { # name, command ..
     local name=$1 begun=$SECONDS status=0 took

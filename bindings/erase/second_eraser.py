@@ -31,7 +31,8 @@ CHANGED = [
 # `Error` stands for.
 ADDED = re.compile(
     r"#\[allow\(dead_code\)\] (?=pub fn align_(?:down|up)\(|Overlap\(|pub enum ValueError\b)"
-    r"|impl core::fmt::Display for \w+ \{\s+fn fmt\(&self, f: &mut core::fmt::Formatter<'_>\) -> core::fmt::Result \{\s+"
+    r"|impl core::fmt::Display for \w+ \{\s+"
+    r"fn fmt\(&self, f: &mut core::fmt::Formatter<'_>\) -> core::fmt::Result \{\s+"
     r"match self \{\s+(?:\w+::\w+(?:\(field_0(?:, field_1)?\))? => write!\(f, \".*\"\),\s+)+\}\s+\}\s+\}\s+"
     r"impl core::error::Error for \w+ \{\}")
 # Crates whose items only proved modules can use. They alone can also use a public function of another crate that

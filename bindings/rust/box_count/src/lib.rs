@@ -1,4 +1,4 @@
-//! The proved code with its tests, and with boxes that count how often they are followed.
+//! The proved code with the tests of its sources, as plain Rust.
 #![no_std]
 
 extern crate alloc;
@@ -9,9 +9,8 @@ extern crate std;
 #[allow(clippy::all)]
 #[rustfmt::skip]
 pub mod proved;
-// The module `rattle` of divsharun, with boxes that count. The build script writes it.
-include!(concat!(env!("OUT_DIR"), "/rattle.rs"));
-#[cfg(test)]
-mod rattle_tests;
+#[allow(clippy::len_without_is_empty)]
+#[path = "../../divsharun/src/rattle/mod.rs"]
+pub mod rattle;
 pub mod testing;
 pub mod value;

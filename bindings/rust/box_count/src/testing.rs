@@ -65,16 +65,12 @@ impl String {
         self.0.push_str(text);
         Ok(())
     }
-
-    pub fn as_str(&self) -> &str {
-        &self.0
-    }
 }
 
 impl Deref for String {
-    type Target = str;
+    type Target = alloc::string::String;
 
-    fn deref(&self) -> &str {
+    fn deref(&self) -> &alloc::string::String {
         &self.0
     }
 }

@@ -227,7 +227,8 @@ macro_rules! json {
     }};
     (@object [$($done:tt)*]) => { $crate::value::Value::object([$($done)*]) };
     (@object [$($done:tt)*] $name:tt: {$($fields:tt)*} $(, $($rest:tt)*)?) => {
-        $crate::value::json!(@object [$($done)* ($name, $crate::value::json!(@object [] $($fields)*)),] $($($rest)*)?)
+        $crate::value::json!(@object
+            [$($done)* ($name, $crate::value::json!(@object [] $($fields)*)),] $($($rest)*)?)
     };
     (@object [$($done:tt)*] $name:tt: $value:expr $(, $($rest:tt)*)?) => {
         $crate::value::json!(@object [$($done)* ($name, Ok($crate::value::Value::from($value))),] $($($rest)*)?)

@@ -1,5 +1,5 @@
-//! Guards against a call of a wrapper that goes through all items, although it takes constant or
-//! logarithmic time.
+//! Guards against a call that goes through all items, although it takes constant or logarithmic
+//! time, and against calls that take quadratic time.
 
 mod processor;
 
@@ -8,10 +8,13 @@ use divsharun::{
     AddressAllocator, Constraint, DeviceManager, DeviceSlot, Error, IdAllocator, RangeInclusive,
 };
 use processor::processor_time;
+use std::cmp::Ordering;
 
 /// The numbers of items of two objects. A linear call takes a hundred times as long in the second one.
 const COUNTS: [u64; 2] = [300, 30_000];
 const LIMIT: u64 = 20;
+/// The limit of a call that goes through all items. A quadratic one takes ten thousand times as long.
+const LINEAR_LIMIT: u64 = 1_000;
 const ROUNDS: usize = 5;
 
 /// Calls of an object at an address or id of one of its items. They change nothing in the end, and
@@ -84,6 +87,17 @@ const OF_SPACES: [Calls<AddressAllocator>; 15] = [
     },
 ];
 
+/// Two spaces that differ in their first range.
+const OF_PAIRS: [Calls<[AddressAllocator; 2]>; 1] = [|[one, other], _| {
+    one != other && one.cmp(&other).is_lt() && one.partial_cmp(&other) == Some(Ordering::Less)
+}];
+
+/// Two equal spaces. The calls go through all of their ranges or gaps.
+const OF_WALKS: [Calls<[AddressAllocator; 2]>; 2] = [
+    |[one, other], _| one == other && one.cmp(&other).is_eq(),
+    |[one, _], _| one.held_ranges().count() == one.gaps().count(),
+];
+
 /// The ids below the last three are allocated.
 const OF_IDS: [Calls<IdAllocator>; 4] = [
     |ids, at| ids.is_allocated(at as u32) && ids.peek_id().is_ok(),
@@ -118,6 +132,18 @@ const OF_FREED_IDS: [Calls<IdAllocator>; 2] = [
             ids.allocate_ids(1).map(|ids| ids[0]),
         ];
         allocated.map(|id| ids.try_free_id(id.unwrap()).is_ok()) == [true; 6]
+    },
+];
+
+/// Every second id is allocated. Each call has a list of the allocated ids, or of half as many.
+const OF_LISTS: [Calls<IdAllocator>; 2] = [
+    |ids, _| {
+        let held: Vec<u32> = ids.held_ids().collect();
+        IdAllocator::with_held(0, ids.range_end(), &held).as_ref() == Ok(&*ids)
+    },
+    |ids, _| {
+        let allocated = ids.allocate_ids(ids.held_count() as usize / 2).unwrap();
+        allocated.into_iter().all(|id| ids.free_id(id).is_ok())
     },
 ];
 
@@ -162,17 +188,27 @@ fn has_ends<I: DoubleEndedIterator>(mut items: I, check: fn(&I) -> bool) -> bool
 
 /// Compares the shortest times of each row in two objects, at many items.
 fn expect_quick<O>(make: impl Fn(u64) -> O, rows: &[Calls<O>], distance: u64) {
+    expect_growth(LIMIT, 50, make, rows, distance);
+}
+
+fn expect_growth<O>(
+    limit: u64,
+    calls_of_row: u64,
+    make: impl Fn(u64) -> O,
+    rows: &[Calls<O>],
+    distance: u64,
+) {
     let mut objects = COUNTS.map(make);
     for (number, calls) in rows.iter().enumerate() {
         let mut times = [u64::MAX; 2];
         for place in [0, 1].repeat(ROUNDS) {
             let begun = processor_time();
-            for at in (0..50).map(|at| distance * (at * 7919 % (COUNTS[place] - 4))) {
+            for at in (0..calls_of_row).map(|at| distance * (at * 7919 % (COUNTS[place] - 4))) {
                 assert!(calls(&mut objects[place], at), "row {number}");
             }
             times[place] = times[place].min(processor_time() - begun);
         }
-        assert!(times[1] < LIMIT * times[0], "row {number}: {times:?}");
+        assert!(times[1] < limit * times[0], "row {number}: {times:?}");
     }
 }
 
@@ -183,6 +219,13 @@ fn calls_do_not_go_through_all_items() {
         AddressAllocator::with_held(0, 2 * count, &held).unwrap()
     };
     expect_quick(space, &OF_SPACES, 2);
+    let pair = |count| {
+        let mut spaces = [count; 2].map(space);
+        spaces[1].free(&one(0)).unwrap();
+        spaces
+    };
+    expect_quick(pair, &OF_PAIRS, 2);
+    expect_growth(LINEAR_LIMIT, 5, |count| [count; 2].map(space), &OF_WALKS, 2);
     let ids = |count| {
         let held: Vec<_> = (0..count as u32).collect();
         IdAllocator::with_held(0, count as u32 + 2, &held).unwrap()
@@ -193,6 +236,7 @@ fn calls_do_not_go_through_all_items() {
         IdAllocator::with_held(0, 2 * count as u32 + 9, &held).unwrap()
     };
     expect_quick(freed, &OF_FREED_IDS, 2);
+    expect_growth(LINEAR_LIMIT, 5, freed, &OF_LISTS, 2);
     let devices = |count| {
         let mut devices = DeviceManager::new(0, u32::MAX, 0, 2 * count + 2).unwrap();
         let mut reserve = |_| devices.reserve(2, 1, FirstMatch).is_ok();

@@ -1,7 +1,10 @@
 //! Guards against a replay program that differs from the proved one: its results, and its exit status
 //! if a read or a write fails. The arguments are only of this program.
 
+mod refusing;
+
 use divsharun::replay::{run, ReplayError};
+use refusing::refusing;
 use std::fs::File;
 use std::io::{self, Read, Write};
 use std::os::fd::OwnedFd;
@@ -73,6 +76,38 @@ fn failed_reads_and_writes_are_errors() {
     assert_eq!(texts, ["reading a line failed", "writing a result failed"]);
     let padded = format!("{:>24}", ReplayError::Read);
     assert_eq!(padded, "   reading a line failed");
+}
+
+/// A writer that counts writes.
+struct Writes(usize);
+
+impl Write for Writes {
+    fn write(&mut self, bytes: &[u8]) -> io::Result<usize> {
+        self.0 += 1;
+        Ok(bytes.len())
+    }
+
+    fn flush(&mut self) -> io::Result<()> {
+        Ok(())
+    }
+}
+
+/// Lines that leave the objects as they were allocate nothing. The buffer for results has 4,096 bytes, and a
+/// result at most 61.
+#[test]
+fn results_are_written_together_and_without_memory() {
+    let objects = "space 0 64\nids 0 9\nid\nid\nunid 0\nmanager 0 9 0 64\ndevice 4 1\ndevice 4 1\nundevice 0\n";
+    let calls = "first 4 1\nexact 4 1 8\nlast 4 1\nfirst 65 1\nfree 0 3\nfree 8 11\nfree 60 63\n\
+                 id\nhas 0\nunid 0\ndevice 4 1\nundevice 0\nx\n";
+    let cost = |count| {
+        let (text, mut writes) = (objects.to_owned() + &calls.repeat(count), Writes(0));
+        let (answer, requests) = refusing(0, || run(text.as_bytes(), &mut writes));
+        assert_eq!(answer, Ok(()));
+        (requests, writes.0)
+    };
+    let [(few, _), (many, writes)] = [1, 1000].map(cost);
+    assert_eq!(many, few);
+    assert!(writes <= 13 * 1000 * 20 / 4000, "{writes} writes");
 }
 
 /// Runs the program. Returns its exit status, its output and its standard error.

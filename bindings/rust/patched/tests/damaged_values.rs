@@ -1,5 +1,5 @@
 //! Guards against a reader of saved objects that accepts what is not valid, rejects what is valid, or
-//! reads another object.
+//! reads another object, and against needless allocations of the proved readers.
 //!
 //! The proved strict readers must accept what serde writes. Damaged values are read by serde and by
 //! the proved reader of values, which must accept the same ones, and read the same objects.
@@ -16,6 +16,10 @@ use std::fmt::Debug;
 
 #[path = "../../divsharun/tests/packed/mod.rs"]
 mod packed;
+#[path = "../../divsharun/tests/refusing/mod.rs"]
+mod refusing;
+
+use refusing::refusing;
 
 /// Returns the number of objects of each kind that are damaged: 15,000, or the value of the
 /// environment variable `SAVED_ROUNDS`.
@@ -405,11 +409,10 @@ fn written_ids_and_devices_are_valid() {
             IdAllocator::write(&proved)
         );
         let value = to_proved_value(&serde_json::to_value(&devices).unwrap());
-        same(
-            Some(&devices),
-            DeviceManager::read(&value).as_ref(),
-            "devices",
-        );
+        let (read, made) = refusing(0, || DeviceManager::read(&value));
+        same(Some(&devices), read.as_ref(), "devices");
+        // The list of the ranges, their leaf, the devices, their starts, and three collections of ids.
+        assert!(made <= 7, "{made} allocations");
     }
 }
 
@@ -429,8 +432,14 @@ fn written_spaces_are_valid_and_depend_on_the_state_alone() {
         }
         let text = serde_json::to_string(&space).unwrap();
         let value = to_proved_value(&serde_json::from_str(&text).unwrap());
-        let read = proved::AddressAllocator::from_value(Global, &value).unwrap();
+        // The list of the ranges, the leaves of at most 32 blocks, and the inner nodes.
+        let leaves = (space.held_count() + space.gap_count()).div_ceil(32);
+        let most = u64::from(space.held_count() > 0) + 2 * leaves - 1;
+        let read = || proved::AddressAllocator::from_value(Global, &value).unwrap();
+        let (read, made) = refusing(0, read);
         same(Some(&space), Some(&read), "a space");
+        let (repaired, again) = refusing(0, || AddressAllocator::read(&value).unwrap());
+        assert!(repaired == read && (made, again) == (most, most));
         let held: Vec<_> = space.held_ranges().collect();
         let size = space.end() - space.base() + 1;
         let other = AddressAllocator::with_held(space.base(), size, &held).unwrap();

@@ -1,13 +1,17 @@
 //! Guards against sets, maps and lists with other results than Rust's library. If an allocation fails, a
 //! call must change nothing, and lose neither its argument nor a block.
 
-#[path = "../../divsharun/tests/refusing/mod.rs"]
+extern crate alloc;
+
+#[allow(dead_code, unused_imports, clippy::len_without_is_empty)]
+#[path = "../src/rattle/mod.rs"]
+mod rattle;
 mod refusing;
 
-use crate::rattle::{AllocFailed, BTreeMap, BTreeSet, Box, Global, Vec};
+use rattle::{AllocFailed, BTreeMap, BTreeSet, Box, Global, Vec};
 use refusing::{blocks, peak_of, refusing};
+use std::collections;
 use std::fmt::Debug;
-use std::{collections, format};
 
 #[test]
 fn boxes() {
