@@ -14,7 +14,7 @@ impl AddressAllocator {
     ///
     /// In this order:
     /// - `Violated(Tree)` if the saved tree is none of the space, node for node.
-    /// - `OutOfMemory` if an allocation fails.
+    /// - `OutOfMemory` if an allocation fails, or if one failed while the nodes were read.
     pub fn from_nodes(
         alloc: Global,
         address_space: RangeInclusive,
@@ -36,7 +36,7 @@ impl AddressAllocator {
     /// In this order:
     /// - `Violated(Inside)` if a key is not in the space, or if more than 6,293,134,512 keys are
     ///   allocated.
-    /// - `OutOfMemory` if an allocation fails.
+    /// - `OutOfMemory` if an allocation fails, or if one failed while the nodes were read.
     pub fn from_nodes_repaired(
         alloc: Global,
         address_space: RangeInclusive,

@@ -151,7 +151,7 @@ impl IntervalTree {
     ///
     /// In this order:
     /// - `Violated(Tree)` if the saved tree is none of the space, node for node.
-    /// - `OutOfMemory` if an allocation fails.
+    /// - `OutOfMemory` if an allocation fails, or if one failed while the nodes were read.
     pub fn from_nodes(
         alloc: Global,
         space: RangeInclusive,
@@ -172,7 +172,7 @@ impl IntervalTree {
     /// In this order:
     /// - `Violated(Inside)` if a key is not in the space, or if more than 6,293,134,512 keys are
     ///   allocated.
-    /// - `OutOfMemory` if an allocation fails.
+    /// - `OutOfMemory` if an allocation fails, or if one failed while the nodes were read.
     pub fn from_nodes_repaired(
         alloc: Global,
         space: RangeInclusive,
