@@ -17,7 +17,7 @@ pub(crate) enum Change {
     Nothing,
     /// The summary of the gaps may have changed. The height is the same.
     FreeOnly,
-    /// Any part may have changed. If the subtree is a leaf, it can have too few blocks.
+    /// Any part may have changed. If the subtree is a leaf, it may have to be joined with the next leaf.
     Structure,
 }
 
@@ -91,6 +91,7 @@ fn restructure(tree: &mut Link) -> Change
     ensures summed { IsSummed tree.new }
     ensures reported { Reports result (stored_longest tree.old) (stored_alignments tree.old) (stored_height tree.old)
         (side tree.new) }
+    ensures changed { result ≡ Change.Structure → height_of (side tree.new) ≢ stored_height tree.old }
 {
     let (free, before) = (summary(tree), height(tree));
     mend_at(tree);
@@ -116,6 +117,7 @@ pub(crate) fn update(tree: &mut Link, change: Change) -> Change
     ensures summed { IsSummed tree.new }
     ensures reported { Reports result (stored_longest tree.old) (stored_alignments tree.old) (stored_height tree.old)
         (side tree.new) }
+    ensures changed { result ≡ Change.Structure → height_of (side tree.new) ≢ stored_height tree.old }
     ensures steady { change ≢ Change.Structure → result ≢ Change.Structure }
 {
     match change {

@@ -14,7 +14,7 @@ pub(in crate::proved::vm_tree) enum Change {
     Nothing,
     /// The summary of the gaps may have changed. The height is the same.
     FreeOnly,
-    /// Any part may have changed. If the subtree is a leaf, it can have too few blocks.
+    /// Any part may have changed. If the subtree is a leaf, it may have to be joined with the next leaf.
     Structure,
 }
 
