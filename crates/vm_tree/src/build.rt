@@ -107,23 +107,6 @@ fn new_fork(alloc: Global, left: Link, at: u64, right: Link) -> Result<Link, All
     Ok(fork_link(left, at, Box::new(alloc, spare)?, right))
 }
 
-/// Builds a leaf of the next blocks.
-///
-/// It returns an error if the allocation fails.
-fn build_leaf(alloc: Global, count: u64, cursor: &mut BlockCursor<'_>) -> Result<Link, AllocError>
-    requires cursor { IsBlockCursor cursor.old }
-    requires some { 0 < count }
-    requires fits { count ≤ 32 }
-    requires enough { count ≤ length (remaining_blocks cursor.old) }
-    ensures built { IfOk result
-        (λ tree. IsBuiltLeaf count (remaining_blocks cursor.old) (side tree) (remaining_blocks cursor.new)) }
-    ensures summed { IfOk result (λ tree. IsSummed tree) }
-    ensures cursor { IfOk result (λ tree. IsBlockCursor cursor.new) }
-{
-    let leaf = fill_leaf(count, cursor);
-    Ok(leaf_link(Box::new(alloc, leaf)?))
-}
-
 /// Builds a tree with this number of leaves. Each leaf has the next `each` blocks, and each of the
 /// first `more` leaves one block more.
 ///
@@ -145,7 +128,8 @@ fn build(
     ensures cursor { IfOk result (λ tree. IsBlockCursor cursor.new) }
 {
     if leaves == 1 {
-        return build_leaf(alloc, each + more, cursor);
+        let leaf = fill_leaf(each + more, cursor);
+        return Ok(leaf_link(Box::new(alloc, leaf)?));
     }
     let low = leaves / 2;
     let low_more = more.min(low);

@@ -21,20 +21,6 @@ pub(crate) enum Change {
     Structure,
 }
 
-/// Mends the node at a link, and updates the link.
-#[tactic(auto, using(crate::proofs::Trees::mending_tree))]
-fn mend_at(tree: &mut Link)
-    requires node { 2 ≤ height_of (side tree.old) }
-    requires sides { CanMendTree (side tree.old) }
-    requires height_fits { height_of (side tree.old) ≤ MAX_HEIGHT }
-    ensures tree { MendsTree (side tree.old) (side tree.new) }
-    ensures summed { IsSummed tree.new }
-{
-    let mut node = into_fork(mem::replace(tree, Link::Hole));
-    let (left, at, right) = node.take_children();
-    *tree = mend(left, at, node, right);
-}
-
 /// Returns the summary of the gaps of a node's subtree, from those of its children.
 #[tactic(auto, using(crate::proofs::Lists::summaries))]
 pub(crate) fn free_summary(node: &Node) -> Summary
@@ -83,6 +69,7 @@ fn refresh(tree: &mut Link) -> Change
 
 /// Mends the node at a link, of which a child has changed, and updates the link. Returns the change.
 #[inline(never)]
+#[tactic(auto, using(crate::proofs::Trees::mending_tree))]
 fn restructure(tree: &mut Link) -> Change
     requires node { 2 ≤ height_of (side tree.old) }
     requires sides { CanMendTree (side tree.old) }
@@ -94,7 +81,9 @@ fn restructure(tree: &mut Link) -> Change
     ensures changed { result ≡ Change.Structure → height_of (side tree.new) ≢ stored_height tree.old }
 {
     let (free, before) = (summary(tree), height(tree));
-    mend_at(tree);
+    let mut node = into_fork(mem::replace(tree, Link::Hole));
+    let (left, at, right) = node.take_children();
+    *tree = mend(left, at, node, right);
     let new = summary(tree);
     if height(tree) != before {
         return Change::Structure;

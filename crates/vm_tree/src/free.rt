@@ -63,10 +63,7 @@ pub(crate) fn free_in(leaf: &mut Leaf, key: &RangeInclusive) -> Option<Gap>
     let (start, end) = (key.start(), key.end());
     let i = leaf.index_of(start);
     let block = leaf.block_at(i);
-    if block.key.start() != start {
-        return None;
-    }
-    if block.key.end() != end {
+    if block.key.start() != start || block.key.end() != end {
         return None;
     }
     match block.state {
@@ -131,10 +128,7 @@ fn write_summary(longest: &mut u64, alignments: &mut u32, leaf: &Leaf, new: Summ
     if leaf.len() <= CAPACITY / 2 {
         return Change::Structure;
     }
-    if new.longest != old_longest {
-        return Change::FreeOnly;
-    }
-    if new.alignments != old_alignments {
+    if new.longest != old_longest || new.alignments != old_alignments {
         return Change::FreeOnly;
     }
     Change::Nothing
@@ -173,10 +167,7 @@ fn summary_without(block: &RangeInclusive, longest: u64, alignments: u32, leaf: 
     ensures { IsFreeOf (Tip leaf.now) result.longest result.alignments }
 {
     let dropped = Summary::of_gap(block);
-    if dropped.longest >= longest {
-        return leaf.summary();
-    }
-    if dropped.alignments >= alignments {
+    if dropped.longest >= longest || dropped.alignments >= alignments {
         return leaf.summary();
     }
     Summary {

@@ -5,7 +5,7 @@
 //! that node.
 ghost use Rattle.std.specs.Prelude.{◌≡◌, ◌+◌, ◌<◌, ◌≤◌, ◌++◌, length, max, MatchBool};
 ghost use Rattle.vm_leaf.specs.Blocks.{start_of, IsRun};
-ghost use Rattle.vm_tree.specs.Shape.{Tip, blocks, height_of, HasFullLeaves, IsTree, MAX_HEIGHT};
+ghost use Rattle.vm_tree.specs.Shape.{Tip, blocks, height_of, MAX_HEIGHT};
 ghost use Rattle.vm_tree.specs.Links.{side, IsSummed, AreSummed};
 ghost use Rattle.vm_tree.specs.Mending.{leaf_len, end_len, CanMend, Mends, JoinsLeaves, JoinsNext};
 
@@ -55,8 +55,6 @@ fn end_len(link: &Link, end: End) -> usize
 /// Returns `true` if a tree is a leaf with too few blocks, or a leaf that fits in one leaf with the next leaf,
 /// at an end of `next`.
 fn joins_next(link: &Link, next: &Link, end: End) -> bool
-    requires link { IsTree (side link.now) }
-    requires next { IsTree (side next.now) }
     ensures { MatchBool result (JoinsNext end (side link.now) (side next.now))
         ((12 ≤ leaf_len (side link.now)) × (32 < leaf_len (side link.now) + end_len end (side next.now))) }
 {

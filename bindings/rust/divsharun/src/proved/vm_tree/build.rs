@@ -74,14 +74,6 @@ fn new_fork(alloc: Global, left: Link, at: u64, right: Link) -> Result<Link, All
     Ok(fork_link(left, at, Box::new(alloc, spare)?, right))
 }
 
-/// Builds a leaf of the next blocks.
-///
-/// It returns an error if the allocation fails.
-fn build_leaf(alloc: Global, count: u64, cursor: &mut BlockCursor<'_>) -> Result<Link, AllocError> {
-    let leaf = fill_leaf(count, cursor);
-    Ok(leaf_link(Box::new(alloc, leaf)?))
-}
-
 /// Builds a tree with this number of leaves. Each leaf has the next `each` blocks, and each of the
 /// first `more` leaves one block more.
 ///
@@ -94,7 +86,8 @@ fn build(
     cursor: &mut BlockCursor<'_>,
 ) -> Result<Link, AllocError> {
     if leaves == 1 {
-        return build_leaf(alloc, each + more, cursor);
+        let leaf = fill_leaf(each + more, cursor);
+        return Ok(leaf_link(Box::new(alloc, leaf)?));
     }
     let low = leaves / 2;
     let low_more = more.min(low);

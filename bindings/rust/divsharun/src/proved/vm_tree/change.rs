@@ -18,13 +18,6 @@ pub(in crate::proved::vm_tree) enum Change {
     Structure,
 }
 
-/// Mends the node at a link, and updates the link.
-fn mend_at(tree: &mut Link) {
-    let mut node = into_fork(mem::replace(tree, Link::Hole));
-    let (left, at, right) = node.take_children();
-    *tree = mend(left, at, node, right);
-}
-
 /// Returns the summary of the gaps of a node's subtree, from those of its children.
 pub(in crate::proved::vm_tree) fn free_summary(node: &Node) -> Summary {
     let (first, second) = (summary(&node.left), summary(&node.right));
@@ -62,7 +55,9 @@ fn refresh(tree: &mut Link) -> Change {
 #[inline(never)]
 fn restructure(tree: &mut Link) -> Change {
     let (free, before) = (summary(tree), height(tree));
-    mend_at(tree);
+    let mut node = into_fork(mem::replace(tree, Link::Hole));
+    let (left, at, right) = node.take_children();
+    *tree = mend(left, at, node, right);
     let new = summary(tree);
     if height(tree) != before {
         return Change::Structure;
