@@ -1,5 +1,5 @@
 //! The update of the links above a change.
-ghost use Rattle.std.specs.Prelude.{◌≡◌, ◌≢◌, ◌<◌, ◌≤◌};
+ghost use Rattle.std.specs.Prelude.{◌≡◌, ◌≢◌, ◌≤◌};
 ghost use Rattle.vm_tree.specs.Shape.{height_of, IsTree, MAX_HEIGHT};
 ghost use Rattle.vm_tree.specs.Links.{side, IsFreeOf, IsSummed, stored_longest, stored_alignments, stored_height};
 ghost use Rattle.vm_tree.specs.Mending.{CanMendTree, MendsTree};

@@ -3,7 +3,7 @@
 //! A leaf that has too few blocks is filled from the next leaf, or merged with it. Any other leaf is merged
 //! with the next leaf if the blocks of both fit in one. If its sibling is a node, the next leaf is a child of
 //! that node.
-ghost use Rattle.std.specs.Prelude.{◌≡◌, ◌+◌, ◌<◌, ◌≤◌, ◌++◌, length, max, MatchBool};
+ghost use Rattle.std.specs.Prelude.{◌≡◌, ◌+◌, ◌<◌, ◌≤◌, ◌++◌, max, MatchBool};
 ghost use Rattle.vm_leaf.specs.Blocks.{start_of, IsRun};
 ghost use Rattle.vm_tree.specs.Shape.{Tip, blocks, height_of, MAX_HEIGHT};
 ghost use Rattle.vm_tree.specs.Links.{side, IsSummed, AreSummed};

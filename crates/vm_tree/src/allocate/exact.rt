@@ -1,7 +1,7 @@
 //! The allocation of a range that starts at a given address.
 ghost use Rattle.std.specs.Prelude.{◌≡◌, ◌+◌, ◌<◌, ◌≤◌, OnErr, IfOk};
 ghost use Rattle.vm_ranges.specs.Range.{MAX};
-ghost use Rattle.vm_tree.specs.Shape.{blocks, height_of, HasFullLeaves, IsTree, MAX_HEIGHT};
+ghost use Rattle.vm_tree.specs.Shape.{blocks, height_of, HasFullLeaves, IsTree};
 ghost use Rattle.vm_tree.specs.Links.{side, IsSummed};
 ghost use Rattle.vm_tree.specs.Growth.{IsSubtree, IsChild, GrowsIfOk, GrowsBelowIfOk};
 ghost use Rattle.vm_tree.specs.Allocation.{IsSearch, AllocatesExact};

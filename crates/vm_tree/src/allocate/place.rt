@@ -1,5 +1,5 @@
 //! The allocation of a range at a place in a leaf, which may split the leaf in two.
-ghost use Rattle.std.specs.Prelude.{◌≡◌, ◌≢◌, ◌+◌, ◌<◌, ◌≤◌, length, OnErr, IfErr, IfOk, MatchBool};
+ghost use Rattle.std.specs.Prelude.{◌≡◌, ◌+◌, ◌<◌, ◌≤◌, length, OnErr, IfErr, IfOk, MatchBool};
 ghost use Rattle.vm_leaf.specs.Blocks.{with_parts, parts};
 ghost use Rattle.vm_leaf.specs.Left.{added_by};
 ghost use Rattle.vm_tree.specs.Shape.{Tip, blocks, height_of};

@@ -62,18 +62,6 @@ fn fill_leaf(count: u64, cursor: &mut BlockCursor<'_>) -> Leaf {
     leaf
 }
 
-/// Returns a link to a new node with these children.
-///
-/// It returns an error if the allocation fails. The children are freed.
-fn new_fork(alloc: Global, left: Link, at: u64, right: Link) -> Result<Link, AllocError> {
-    let spare = Node {
-        at: 0,
-        left: Link::Hole,
-        right: Link::Hole,
-    };
-    Ok(fork_link(left, at, Box::new(alloc, spare)?, right))
-}
-
 /// Builds a tree with this number of leaves. Each leaf has the next `each` blocks, and each of the
 /// first `more` leaves one block more.
 ///
@@ -94,7 +82,12 @@ fn build(
     let left = build(alloc, low, each, low_more, cursor)?;
     let at = cursor.first_address();
     let right = build(alloc, leaves - low, each, more - low_more, cursor)?;
-    new_fork(alloc, left, at, right)
+    let spare = Node {
+        at: 0,
+        left: Link::Hole,
+        right: Link::Hole,
+    };
+    Ok(fork_link(left, at, Box::new(alloc, spare)?, right))
 }
 
 /// Builds the tree of a space in which these ranges are allocated. It has `count` blocks, and the
