@@ -3,9 +3,9 @@
 //! A leaf that has too few blocks is filled from the next leaf, or merged with it. Any other leaf is merged
 //! with the next leaf if the blocks of both fit in one. If its sibling is a node, the next leaf is a child of
 //! that node.
-ghost use Rattle.std.specs.Prelude.{◌≡◌, ◌+◌, ◌<◌, ◌≤◌, ◌++◌, max, MatchBool};
+ghost use Rattle.std.specs.Prelude.{◌≡◌, ◌+◌, ◌<◌, ◌≤◌, ◌++◌, length, max, MatchBool};
 ghost use Rattle.vm_leaf.specs.Blocks.{start_of, IsRun};
-ghost use Rattle.vm_tree.specs.Shape.{Tip, blocks, height_of, MAX_HEIGHT};
+ghost use Rattle.vm_tree.specs.Shape.{Tip, blocks, height_of, IsTree, MAX_HEIGHT};
 ghost use Rattle.vm_tree.specs.Links.{side, IsSummed, AreSummed};
 ghost use Rattle.vm_tree.specs.Mending.{leaf_len, end_len, CanMend, Mends, JoinsLeaves, JoinsNext};
 
@@ -53,8 +53,11 @@ fn end_len(link: &Link, end: End) -> usize
 }
 
 /// Returns `true` if a tree is a leaf with too few blocks, or a leaf that fits in one leaf with the next leaf,
-/// at an end of `next`.
+/// at an end of `next`. For a node, nothing of `next` is read.
+#[tactic(auto, using(crate::proofs::Trees::some_at_end))]
 fn joins_next(link: &Link, next: &Link, end: End) -> bool
+    requires next { IsTree (side next.now) }
+    requires some { 0 < length (blocks (side next.now)) }
     ensures { MatchBool result (JoinsNext end (side link.now) (side next.now))
         ((12 ≤ leaf_len (side link.now)) × (32 < leaf_len (side link.now) + end_len end (side next.now))) }
 {
@@ -62,7 +65,7 @@ fn joins_next(link: &Link, next: &Link, end: End) -> bool
     if len < MIN_BLOCKS {
         return true;
     }
-    len + end_len(next, end) <= CAPACITY
+    len < CAPACITY && len + end_len(next, end) <= CAPACITY
 }
 
 /// Returns one leaf with the blocks of two, or a node with two leaves.

@@ -45,13 +45,13 @@ fn end_len(link: &Link, end: End) -> usize {
 }
 
 /// Returns `true` if a tree is a leaf with too few blocks, or a leaf that fits in one leaf with the next leaf,
-/// at an end of `next`.
+/// at an end of `next`. For a node, nothing of `next` is read.
 fn joins_next(link: &Link, next: &Link, end: End) -> bool {
     let len = leaf_len(link);
     if len < MIN_BLOCKS {
         return true;
     }
-    len + end_len(next, end) <= CAPACITY
+    len < CAPACITY && len + end_len(next, end) <= CAPACITY
 }
 
 /// Returns one leaf with the blocks of two, or a node with two leaves.
