@@ -406,6 +406,18 @@ impl Leaf {
         self.len = len + 2;
     }
 
+    /// Frees block `i`. Its neighbours must be allocated.
+    #[inline(always)]
+    #[tactic(auto, using(crate::proofs::Fields::length_of))]
+    fn set_free(&mut self, i: usize)
+        requires within { i < length self.old }
+        requires before { 0 < i → (nth self.old (i - 1)).state ≡ Allocated }
+        requires after { i + 1 < length self.old → (nth self.old (i + 1)).state ≡ Allocated }
+        ensures { self.new ≡ with_parts self.old i 1 (gap_over self.old i 1) }
+    {
+        self.held = without_held(self.held, i);
+    }
+
     /// Replaces the `n` blocks starting at `i` with one gap. Their neighbours must be allocated.
     #[inline(always)]
     #[tactic(auto, using(crate::proofs::Fields::length_of))]
@@ -416,6 +428,9 @@ impl Leaf {
         requires after { i + n < length self.old → (nth self.old (i + n)).state ≡ Allocated }
         ensures { self.new ≡ with_parts self.old i n (gap_over self.old i n) }
     {
+        if n == 1 {
+            return self.set_free(i);
+        }
         let len = self.len;
         remove_between(&mut self.starts, len, i + 1, i + n);
         self.held = with_moved(self.held, i, i + n, i + 1);
@@ -499,36 +514,6 @@ impl Leaf {
         gap
     }
 
-    /// Frees block `i`. Its neighbours must be allocated.
-    #[inline(always)]
-    #[tactic(auto, using(crate::proofs::Fields::length_of))]
-    fn set_free(&mut self, i: usize)
-        requires within { i < length self.old }
-        requires before { 0 < i → (nth self.old (i - 1)).state ≡ Allocated }
-        requires after { i + 1 < length self.old → (nth self.old (i + 1)).state ≡ Allocated }
-        ensures { self.new ≡ with_parts self.old i 1 (gap_over self.old i 1) }
-    {
-        self.held = without_held(self.held, i);
-    }
-
-    /// Frees block `i`, and returns its range. Its neighbours must be allocated.
-    #[inline(always)]
-    #[tactic(auto, using(crate::proofs::Raised::joins))]
-    fn release(&mut self, i: usize) -> RangeInclusive
-        requires within { i < length self.old }
-        requires before { 0 < i → (nth self.old (i - 1)).state ≡ Allocated }
-        requires after { i + 1 < length self.old → (nth self.old (i + 1)).state ≡ Allocated }
-        ensures key { result ≡ (nth self.old i).key }
-        ensures merged { self.new ≡ with_parts self.old i 1 (gap_over self.old i 1) }
-        ensures raised { Raises result self.old self.new }
-    {
-        // Proof: `len` gives the facts of a leaf.
-        let _len = self.len();
-        let gap = self.key_at(i);
-        self.set_free(i);
-        gap
-    }
-
     /// Frees the allocated block `i`, joins it with its free neighbours, and returns the range of the gap.
     #[inline(always)]
     pub fn join(&mut self, i: usize) -> RangeInclusive
@@ -550,7 +535,7 @@ impl Leaf {
         if after {
             return self.join_blocks(i, 2);
         }
-        self.release(i)
+        self.join_blocks(i, 1)
     }
 
     /// Removes the blocks starting at index `at`, and returns a leaf of them.

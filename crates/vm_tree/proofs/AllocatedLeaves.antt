@@ -1,6 +1,6 @@
 -- A leaf in which a range is allocated.
 use Rattle.std.specs.Prelude.{Ok, Err}
-use Rattle.std.proofs.Common.{◌≡◌, ◌≢◌, Bool, true, false, ◌<◌, subst, sym, ap, arith}
+use Rattle.std.proofs.Common.{◌≡◌, ◌≢◌, Bool, true, false, ◌<◌, ◌≤◌, subst, sym, ap, arith}
 use Rattle.vm_tree.specs.Shape.{height_of, IsTree}
 use Rattle.vm_tree.specs.Links.{side, IsSummed}
 use Rattle.vm_tree.specs.Growth.{Grows, GrowsBy, CanTakeFrom, IsTakenLeaf, LeavesLeaf}
@@ -35,11 +35,11 @@ module _ (lone : Bool) (old new : Link) (leaf : height_of (side old) < 2) where
       by_lone true h = (tt, (h.0, omega (arith, h.1)), λ k. absurd (omega (arith, h.1)))
       by_lone false h = ((h.0, λ z. h.1), h.2)
 
-  pub left_split : (taken : Taken) → 0 < taken.added → taken.change ≡ Structure → Grows (side old) (side new) → IsSummed new → LeavesLeaf lone (Ok taken) old new
-  left_split taken z e g s = by_lone lone
+  pub left_split : (taken : Taken) → 0 < taken.added → taken.change ≡ Structure → Grows (side old) (side new) → 2 ≤ height_of (side new) → IsSummed new → LeavesLeaf lone (Ok taken) old new
+  left_split taken z e g h s = by_lone lone
     where
       by_lone : (lone : Bool) → LeavesLeaf lone (Ok taken) old new
       by_lone true = (tt, (record { balanced = g.balanced; leaves = full_rooted (side new) g.full }, omega (arith, g.upto)), λ k. s)
-      by_lone false = ((record { grows = g; kept = rw e tt }, λ k. absurd (omega arith)), s)
+      by_lone false = ((record { grows = g; higher = λ k. omega (arith, leaf, h); kept = rw e tt }, λ k. absurd (omega arith)), s)
 
 pub ruleset placing = (left_same, left_taken, left_split)

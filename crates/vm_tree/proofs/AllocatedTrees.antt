@@ -1,6 +1,6 @@
 -- A node of which a child has grown.
 use Rattle.std.specs.Prelude.{Result, Ok, Err, OnErr}
-use Rattle.std.proofs.Common.{◌≡◌, ℕ, ◌+◌, ◌≤◌, max, ◌++◌, length, refl, ap, ◌∙◌, arith, inl, inr, length-append}
+use Rattle.std.proofs.Common.{◌≡◌, ◌≢◌, ℕ, ◌+◌, ◌≤◌, max, ◌++◌, length, refl, ap, ◌∙◌, arith, inl, inr, length-append}
 use Rattle.std.proofs.lemmas.Bool.{cases_lt}
 use Rattle.vm_leaf.specs.Blocks.{longest_gap, IsRun}
 use Rattle.vm_leaf.specs.Multiples.{most_alignments}
@@ -14,7 +14,7 @@ use Rattle.vm_tree.specs.declared.search.Refusal.{Refusal}
 use Rattle.vm_tree.specs.declared.change.Change.{Change}
 use Rattle.vm_tree.specs.declared.change.Change.TheVariants.{Nothing, FreeOnly, Structure}
 use Rattle.vm_tree.proofs.Lists.{longest_append, alignments_append, cover_left, cover_right}
-use Rattle.vm_tree.proofs.Trees.{full_some, full_rooted, rooted_full, high}
+use Rattle.vm_tree.proofs.Trees.{full_some, full_rooted, rooted_full, tall, high}
 
 -- ---- Children of a subtree
 pub subtree_left : (l r : Shape) → IsSubtree (Fork l r) → IsSubtree l
@@ -37,26 +37,25 @@ pub grew_right : (change : Change) (l r s : Shape) → GrowsBy change r s → Gr
 unfolding GrowsBelow
 grew_right change l r s g = inr (refl, g)
 
--- A mended node whose children were not lower before.
-mended : (l r m s final : Shape) → IsSubtree (Fork l r) → HasFullLeaves m → HasFullLeaves s → height_of l ≤ height_of m → height_of r ≤ height_of s
-    → max (height_of m) (height_of s) ≤ max (height_of l) (height_of r) + 1
-    → (max (height_of m) (height_of s) ≤ max (height_of l) (height_of r) → (height_of m ≤ height_of s + 1) × (height_of s ≤ height_of m + 1))
+-- A mended node of which a child is one higher than before.
+mended : (l r m s final : Shape) → IsSubtree (Fork l r) → HasFullLeaves m → HasFullLeaves s → max (height_of m) (height_of s) ≤ max (height_of l) (height_of r) + 1
+    → (max (height_of m) (height_of s) ≤ max (height_of l) (height_of r) → (2 ≤ height_of m) × (2 ≤ height_of s) × (height_of m ≡ height_of s) × (height_of m ≡ max (height_of l) (height_of r)))
     → Mends m s final → Grows (Fork l r) final
-mended l r m s final t a b p q upto close u =
+mended l r m s final t a b upto close u =
     let n = full_some m a in
     let k = ap length u.blocks ∙ length-append (blocks m) (blocks s) in
-    record {
-      balanced = u.tree.balanced;
-      full = rooted_full final u.tree.leaves (omega arith);
-      from = elim (cases_lt (max (height_of l) (height_of r)) (max (height_of m) (height_of s))) [
-        | inl x ↦ omega (arith, u.from)
-        | inr x ↦ (let c = close x in omega (arith, u.steady a b (c.0, c.1)))
-      ];
-      upto = elim (cases_lt (max (height_of l) (height_of r)) (max (height_of m) (height_of s))) [
-        | inl x ↦ omega (arith, u.upto)
-        | inr x ↦ (let c = close x in omega (arith, u.steady a b (c.0, c.1)))
-      ];
-    }
+    let height : (height_of (Fork l r) ≤ height_of final) × (height_of final ≤ height_of (Fork l r) + 1) =
+    elim (cases_lt (max (height_of l) (height_of r)) (max (height_of m) (height_of s))) [
+      | inl x ↦ (omega (arith, u.from), omega (arith, u.upto))
+      | inr x ↦ (
+          let c = close x in
+          let v = tall m (full_rooted m a) c.0 in
+          let w = tall s (full_rooted s b) c.1 in
+          let e = u.steady (omega arith) (omega arith) (omega (arith, c.2), omega (arith, c.2)) in
+          (omega (arith, c.2, c.3), omega (arith, c.2, c.3))
+          )
+    ] in
+    record { balanced = u.tree.balanced; full = rooted_full final u.tree.leaves (omega arith); from = height.0; upto = height.1 }
 
 -- The node after a change of its left child can be updated.
 module _ (l m r : Shape) (t : IsSubtree (Fork l r)) where
@@ -106,7 +105,10 @@ module _ (l m r : Shape) (t : IsSubtree (Fork l r)) where
   grown_left Structure final g u =
       let d = t.balanced.2 in
       let h = g.grows in
-      mended l r m r final t h.full t.full.1 h.from (omega arith) (omega (arith, h.upto)) (λ x. (omega (arith, d.0, d.1, h.from, h.upto), omega (arith, d.0, d.1, h.from, h.upto))) u
+      let k = g.higher refl in
+      let low = high l in
+      mended l r m r final t h.full t.full.1 (omega (arith, h.upto))
+      (λ x. (omega arith, omega (arith, d.0, d.1, h.upto), omega (arith, d.0, d.1, h.upto), omega (arith, d.0, d.1, h.upto))) u
 
 -- The same for its right child.
 module _ (l r s : Shape) (t : IsSubtree (Fork l r)) where
@@ -156,7 +158,10 @@ module _ (l r s : Shape) (t : IsSubtree (Fork l r)) where
   grown_right Structure final g u =
       let d = t.balanced.2 in
       let h = g.grows in
-      mended l r l s final t t.full.0 h.full (omega arith) h.from (omega (arith, h.upto)) (λ x. (omega (arith, d.0, d.1, h.from, h.upto), omega (arith, d.0, d.1, h.from, h.upto))) u
+      let k = g.higher refl in
+      let low = high r in
+      mended l r l s final t t.full.0 h.full (omega (arith, h.upto))
+      (λ x. (omega (arith, d.0, d.1, h.upto), omega arith, omega (arith, d.0, d.1, h.upto), omega (arith, d.0, d.1, h.upto))) u
 
 -- ---- A node of which a child has grown
 pub can_update : (change : Change) (old new : Shape) → GrowsBelow change old new → IsSubtree old → IsRun (blocks new)
@@ -208,12 +213,13 @@ can_update_stored change n new longest alignments height s g t run =
     rw (a, b, c) (can_update change n new g t run)
 
 pub grown_by : (change more : Change) (t n new final : Shape) (longest alignments height : ℕ) → t ≡ n → IsFreeOf n longest alignments × (height ≡ height_of n) → GrowsBelow change n new → IsSubtree n
-    → Updates change new final → Reports more longest alignments height final → GrowsBy more t final
-grown_by change more t n new final longest alignments height q s g tree u r =
+    → Updates change new final → Reports more longest alignments height final → (more ≡ Structure → height_of final ≢ height) → GrowsBy more t final
+grown_by change more t n new final longest alignments height q s g tree u r m =
     let a = s.0.0 in
     let b = s.0.1 in
     let c = s.1 in
-    rw q (record { grows = has_grown change n new final g tree u; kept = rw (a, b, c) at r })
+    let h = has_grown change n new final g tree u in
+    rw q (record { grows = h; higher = λ z. (let k = m z in omega (arith, h.from)); kept = rw (a, b, c) at r })
 
 -- ---- The result of an answer
 pub same_if_err : (answer : Result Taken Refusal) → (old new : Shape) → GrowsIfOk answer old new → OnErr answer (new ≡ old)

@@ -3,8 +3,10 @@ use Rattle.std.proofs.Common.{◌≡◌, ℕ, zero, suc, ◌+◌, ◌-◌, ◌<�
 use Rattle.vm_leaf.specs.declared.block.Block.{Block}
 use Rattle.vm_leaf.specs.Blocks.{start_of}
 use Rattle.vm_leaf.specs.Blocks.{IsRun}
-use Rattle.vm_tree.specs.Shape.{Shape, Tip, Fork, blocks, height_of, DifferByAtMost, HasFullLeaves, IsRooted, IsTree}
-use Rattle.vm_tree.specs.Mending.{CanBalance, CanMend, Mends, JoinsLeaves, Shrinks, Loses, CanMendTree, MendsTree}
+use Rattle.vm_tree.specs.Shape.{Shape, Tip, Fork, blocks, height_of, leaf_count, DifferByAtMost, HasFullLeaves, IsRooted, IsTree}
+use Rattle.vm_tree.specs.Mending.{leaf_len, end_len, JoinsNext, CanBalance, CanMend, Mends, JoinsLeaves, Shrinks, Loses, CanMendTree, MendsTree}
+use Rattle.vm_tree.specs.declared.end.End.{End}
+use Rattle.vm_tree.specs.declared.end.End.TheVariants.{First, Last}
 use Rattle.vm_tree.proofs.Lists.{start_append, cover_left, cover_right, drop_append, take_append, cover_drop, cover_take, first_append, last_append}
 
 pub full_some : (s : Shape) → HasFullLeaves s → 12 ≤ length (blocks s)
@@ -40,6 +42,7 @@ joined l r h d = record {
   tree = record { balanced = (h.left, h.right, d); leaves = (h.left_full, h.right_full) };
   upto = omega arith;
   from = omega arith;
+  merged = λ m. absurd (h.apart m);
   steady = λ a b c. refl;
 }
 
@@ -54,6 +57,7 @@ rotated_right a b r h e o =
       };
       upto = omega (arith, d.0, d.1);
       from = omega (arith, d.0, d.1);
+      merged = λ m. absurd (h.apart m);
       steady = λ a b c. absurd (omega (arith, c.0, c.1));
     }
 
@@ -68,6 +72,7 @@ rotated_left l a b h e o =
       };
       upto = omega (arith, d.0, d.1);
       from = omega (arith, d.0, d.1);
+      merged = λ m. absurd (h.apart m);
       steady = λ a b c. absurd (omega (arith, c.0, c.1));
     }
 
@@ -94,6 +99,7 @@ rotated_twice_right a b c r h e o =
       };
       upto = omega (arith, d.0, d.1, f.0, f.1);
       from = omega (arith, d.0, d.1, f.0, f.1);
+      merged = λ m. absurd (h.apart m);
       steady = λ a b c. absurd (omega (arith, c.0, c.1));
     }
 
@@ -114,6 +120,7 @@ rotated_twice_left l b c a h e o =
       };
       upto = omega (arith, d.0, d.1, f.0, f.1);
       from = omega (arith, d.0, d.1, f.0, f.1);
+      merged = λ m. absurd (h.apart m);
       steady = λ a b c. absurd (omega (arith, c.0, c.1));
     }
 
@@ -158,7 +165,29 @@ joined_low xs ys s j =
       | Rattle.std.proofs.Common.inr k ↦ omega (arith, ap height_of (j.merged k))
     ]
 
-pub filled_leaves : (xs ys : List Block) (s : Shape) → CanMend (Tip xs) (Tip ys) → JoinsLeaves xs ys s → (HasFullLeaves (Tip xs) → HasFullLeaves (Tip ys) → ⊥) → Mends (Tip xs) (Tip ys) s
+-- One leaf of the blocks of two, if they fit.
+joined_one : (xs ys : List Block) (s : Shape) → JoinsLeaves xs ys s → length xs + length ys ≤ 32 → leaf_count s ≡ 1
+joined_one xs ys s j m = ap leaf_count (j.merged m)
+
+-- Two leaves, of which one has too few blocks, or which fit in one leaf.
+abbrev pub CannotStay : List Block → List Block → Type 0
+CannotStay xs ys = 20 < length xs → 20 < length ys → ⊥
+
+pub cannot_stay_left : (xs ys : List Block) → JoinsNext First (Tip xs) (Tip ys) → CannotStay xs ys
+cannot_stay_left xs ys j a b =
+    elim j [
+      | Rattle.std.proofs.Common.inl k ↦ omega arith
+      | Rattle.std.proofs.Common.inr k ↦ omega arith
+    ]
+
+pub cannot_stay_right : (xs ys : List Block) → JoinsNext Last (Tip ys) (Tip xs) → CannotStay xs ys
+cannot_stay_right xs ys j a b =
+    elim j [
+      | Rattle.std.proofs.Common.inl k ↦ omega arith
+      | Rattle.std.proofs.Common.inr k ↦ omega arith
+    ]
+
+pub filled_leaves : (xs ys : List Block) (s : Shape) → CanMend (Tip xs) (Tip ys) → JoinsLeaves xs ys s → CannotStay xs ys → Mends (Tip xs) (Tip ys) s
 filled_leaves xs ys s h j n =
     let k = joined_low xs ys s j in
     let t = high s in
@@ -167,41 +196,71 @@ filled_leaves xs ys s h j n =
       tree = record { balanced = j.balanced; leaves = joined_rooted xs ys s j (omega (arith, h.left_some)) };
       upto = omega arith;
       from = omega arith;
+      merged = λ m. elim m [
+        | Rattle.std.proofs.Common.inl p ↦ omega (arith, joined_one xs ys s j p)
+        | Rattle.std.proofs.Common.inr p ↦ omega (arith, joined_one xs ys s j p)
+      ];
       steady = λ a b c. absurd (n a b);
     }
 
-pub filled_low : (xs ys : List Block) (r s : Shape) → CanMend (Tip xs) (Fork (Tip ys) r) → length xs < 12 → JoinsLeaves xs ys s → Mends (Tip xs) (Fork (Tip ys) r) (Fork s r)
+pub filled_low : (xs ys : List Block) (r s : Shape) → CanMend (Tip xs) (Fork (Tip ys) r) → JoinsNext First (Tip xs) (Fork (Tip ys) r) → JoinsLeaves xs ys s
+    → Mends (Tip xs) (Fork (Tip ys) r) (Fork s r)
 filled_low xs ys r s h n j =
     let k = joined_low xs ys s j in
     let t = high s in
     let u = high r in
-    let v : height_of (Fork (Tip ys) r) ≤ 2 = h.left_short n in
+    let d = h.right.balanced.2 in
+    let y = h.right.leaves.0.0 in
+    let low : DifferByAtMost 1 (height_of s) (height_of r) × (height_of (Fork (Tip ys) r) ≤ height_of (Fork s r)) × (height_of (Fork s r) ≤ height_of (Fork (Tip ys) r) + 1) = elim n [
+      | Rattle.std.proofs.Common.inl p ↦ (let v : height_of (Fork (Tip ys) r) ≤ 2 = h.left_short p in ((omega arith, omega arith), omega arith, omega arith))
+      | Rattle.std.proofs.Common.inr p ↦ (let v = ap height_of (j.merged p) in ((omega (arith, d.0), omega (arith, d.1)), omega arith, omega arith))
+    ] in
     record {
       blocks = ap (λ (z : List Block). z ++ blocks r) j.blocks ∙ append_assoc xs ys (blocks r);
       tree = record {
-        balanced = (j.balanced, h.right.balanced.1, (omega arith, omega arith));
-        leaves = (joined_full xs ys s j (omega (arith, h.right.leaves.0.0)), h.right.leaves.1);
+        balanced = (j.balanced, h.right.balanced.1, low.0);
+        leaves = (joined_full xs ys s j (omega arith), h.right.leaves.1);
       };
-      upto = omega arith;
-      from = omega arith;
-      steady = λ a b c. absurd (omega (arith, a.0));
+      upto = omega (arith, low.2);
+      from = omega (arith, low.1);
+      merged = λ m. elim m [
+        | Rattle.std.proofs.Common.inl p ↦ omega (arith, joined_one xs ys s j p)
+        | Rattle.std.proofs.Common.inr p ↦ absurd (omega (arith, h.left_some))
+      ];
+      steady = λ a b c. elim n [
+        | Rattle.std.proofs.Common.inl p ↦ absurd (omega arith)
+        | Rattle.std.proofs.Common.inr p ↦ absurd (omega arith)
+      ];
     }
 
-pub filled_high : (l : Shape) (xs ys : List Block) (s : Shape) → CanMend (Fork l (Tip xs)) (Tip ys) → length ys < 12 → JoinsLeaves xs ys s → Mends (Fork l (Tip xs)) (Tip ys) (Fork l s)
+pub filled_high : (l : Shape) (xs ys : List Block) (s : Shape) → CanMend (Fork l (Tip xs)) (Tip ys) → JoinsNext Last (Tip ys) (Fork l (Tip xs)) → JoinsLeaves xs ys s
+    → Mends (Fork l (Tip xs)) (Tip ys) (Fork l s)
 filled_high l xs ys s h n j =
     let k = joined_low xs ys s j in
     let t = high s in
     let u = high l in
-    let v : height_of (Fork l (Tip xs)) ≤ 2 = h.right_short n in
+    let d = h.left.balanced.2 in
+    let y = h.left.leaves.1.0 in
+    let low : DifferByAtMost 1 (height_of l) (height_of s) × (height_of (Fork l (Tip xs)) ≤ height_of (Fork l s)) × (height_of (Fork l s) ≤ height_of (Fork l (Tip xs)) + 1) = elim n [
+      | Rattle.std.proofs.Common.inl p ↦ (let v : height_of (Fork l (Tip xs)) ≤ 2 = h.right_short p in ((omega arith, omega arith), omega arith, omega arith))
+      | Rattle.std.proofs.Common.inr p ↦ (let v = ap height_of (j.merged (omega arith)) in ((omega (arith, d.0), omega (arith, d.1)), omega arith, omega arith))
+    ] in
     record {
       blocks = ap (λ (z : List Block). blocks l ++ z) j.blocks ∙ sym (append_assoc (blocks l) xs ys);
       tree = record {
-        balanced = (h.left.balanced.0, j.balanced, (omega arith, omega arith));
-        leaves = (h.left.leaves.0, joined_full xs ys s j (omega (arith, h.left.leaves.1.0)));
+        balanced = (h.left.balanced.0, j.balanced, low.0);
+        leaves = (h.left.leaves.0, joined_full xs ys s j (omega arith));
       };
-      upto = omega arith;
-      from = omega arith;
-      steady = λ a b c. absurd (omega (arith, b.0));
+      upto = omega (arith, low.2);
+      from = omega (arith, low.1);
+      merged = λ m. elim m [
+        | Rattle.std.proofs.Common.inl p ↦ absurd (omega (arith, h.right_some))
+        | Rattle.std.proofs.Common.inr p ↦ omega (arith, joined_one xs ys s j p)
+      ];
+      steady = λ a b c. elim n [
+        | Rattle.std.proofs.Common.inl p ↦ absurd (omega arith)
+        | Rattle.std.proofs.Common.inr p ↦ absurd (omega arith)
+      ];
     }
 
 pub cover_low : (xs ys zs : List Block) → IsRun (xs ++ (ys ++ zs)) → 0 < length xs → IsRun (xs ++ ys)
@@ -210,20 +269,79 @@ cover_low xs ys zs h a = cover_left (xs ++ ys) zs (subst IsRun (sym (append_asso
 pub cover_high : (xs ys zs : List Block) → IsRun ((xs ++ ys) ++ zs) → 0 < length xs → 0 < length ys → IsRun (ys ++ zs)
 cover_high xs ys zs h a b = cover_right xs (ys ++ zs) (subst IsRun (append_assoc xs ys zs) h) a (omega (arith, length-append ys zs))
 
-pub can_balance : (l r : Shape) → CanMend l r → HasFullLeaves l → HasFullLeaves r → CanBalance l r
-can_balance l r h a b = record { left = h.left.balanced; right = h.right.balanced; left_full = a; right_full = b; close = h.close }
+-- A tree that is joined with the next leaf is a leaf, and the next leaf is the sibling or a child of it.
+pub some_at_end : (end : End) (s : Shape) → IsTree s → 0 < length (blocks s) → 0 < end_len end s
+some_at_end end (Tip bs) h k = k
+some_at_end First (Fork (Tip bs) r) h k = let a = h.leaves.0.0 in omega arith
+some_at_end First (Fork (Fork l m) r) h k = omega arith
+some_at_end Last (Fork l (Tip bs)) h k = let a = h.leaves.1.0 in omega arith
+some_at_end Last (Fork l (Fork m r)) h k = omega arith
 
-pub filled_low_at : (xs ys : List Block) (r m z low out : Shape) → r ≡ Fork m z → m ≡ Tip ys → CanMend (Tip xs) r → length xs < 12 → JoinsLeaves xs ys low → out ≡ Fork low z → Mends (Tip xs) r out
+pub joins_leaf : (end : End) (s t : Shape) → JoinsNext end s t → IsTree t → 0 < length (blocks t) → height_of s < 2
+joins_leaf end (Tip bs) t j h k = omega arith
+joins_leaf end (Fork l r) t j h k =
+    elim j [
+      | Rattle.std.proofs.Common.inl p ↦ absurd (omega arith)
+      | Rattle.std.proofs.Common.inr p ↦ absurd (omega (arith, some_at_end end t h k))
+    ]
+
+pub full_len : (s : Shape) → IsTree s → 12 ≤ leaf_len s → HasFullLeaves s
+full_len (Tip bs) h k = (k, h.leaves.1)
+full_len (Fork l r) h k = h.leaves
+
+pub can_balance : (l r : Shape) → CanMend l r → 12 ≤ leaf_len l → 12 ≤ leaf_len r → 32 < leaf_len l + end_len First r → 32 < leaf_len r + end_len Last l → CanBalance l r
+can_balance l r h a b c d = record {
+  left = h.left.balanced;
+  right = h.right.balanced;
+  left_full = full_len l h.left a;
+  right_full = full_len r h.right b;
+  close = h.close;
+  apart = λ m. elim m [
+    | Rattle.std.proofs.Common.inl p ↦ omega arith
+    | Rattle.std.proofs.Common.inr p ↦ omega arith
+  ];
+}
+
+-- The next leaf, in a node.
+leaf_first : (xs : List Block) (m z : Shape) → CanMend (Tip xs) (Fork m z) → JoinsNext First (Tip xs) (Fork m z) → height_of m < 2
+leaf_first xs (Tip bs) z h n = omega arith
+leaf_first xs (Fork a b) z h n =
+    let x = high a in
+    elim n [
+      | Rattle.std.proofs.Common.inl p ↦ absurd (omega (arith, h.left_short p))
+      | Rattle.std.proofs.Common.inr p ↦ absurd (omega (arith, h.left_some))
+    ]
+
+leaf_last : (a m : Shape) (ys : List Block) → CanMend (Fork a m) (Tip ys) → JoinsNext Last (Tip ys) (Fork a m) → height_of m < 2
+leaf_last a (Tip bs) ys h n = omega arith
+leaf_last a (Fork b c) ys h n =
+    let x = high b in
+    elim n [
+      | Rattle.std.proofs.Common.inl p ↦ absurd (omega (arith, h.right_short p))
+      | Rattle.std.proofs.Common.inr p ↦ absurd (omega (arith, h.right_some))
+    ]
+
+pub next_first : (xs : List Block) (r m z : Shape) → r ≡ Fork m z → CanMend (Tip xs) r → JoinsNext First (Tip xs) r → height_of m < 2
+next_first xs r m z q h n = leaf_first xs m z (subst (λ (t : Shape). CanMend (Tip xs) t) q h) (subst (λ (t : Shape). JoinsNext First (Tip xs) t) q n)
+
+pub next_last : (l a m : Shape) (ys : List Block) → l ≡ Fork a m → CanMend l (Tip ys) → JoinsNext Last (Tip ys) l → height_of m < 2
+next_last l a m ys q h n = leaf_last a m ys (subst (λ (t : Shape). CanMend t (Tip ys)) q h) (subst (λ (t : Shape). JoinsNext Last (Tip ys) t) q n)
+
+pub filled_low_at : (xs ys : List Block) (r m z low out : Shape) → r ≡ Fork m z → m ≡ Tip ys → CanMend (Tip xs) r → JoinsNext First (Tip xs) r → JoinsLeaves xs ys low → out ≡ Fork low z
+    → Mends (Tip xs) r out
 filled_low_at xs ys r m z low out e f h n j o =
     let q : r ≡ Fork (Tip ys) z = e ∙ ap (λ (t : Shape). Fork t z) f in
     subst (λ (t : Shape). Mends (Tip xs) r t) (sym o)
-    (subst (λ (t : Shape). Mends (Tip xs) t (Fork low z)) (sym q) (filled_low xs ys z low (subst (λ (t : Shape). CanMend (Tip xs) t) q h) n j))
+    (subst (λ (t : Shape). Mends (Tip xs) t (Fork low z)) (sym q)
+    (filled_low xs ys z low (subst (λ (t : Shape). CanMend (Tip xs) t) q h) (subst (λ (t : Shape). JoinsNext First (Tip xs) t) q n) j))
 
-pub filled_high_at : (xs ys : List Block) (l a m high out : Shape) → l ≡ Fork a m → m ≡ Tip xs → CanMend l (Tip ys) → length ys < 12 → JoinsLeaves xs ys high → out ≡ Fork a high → Mends l (Tip ys) out
+pub filled_high_at : (xs ys : List Block) (l a m high out : Shape) → l ≡ Fork a m → m ≡ Tip xs → CanMend l (Tip ys) → JoinsNext Last (Tip ys) l → JoinsLeaves xs ys high → out ≡ Fork a high
+    → Mends l (Tip ys) out
 filled_high_at xs ys l a m high out e f h n j o =
     let q : l ≡ Fork a (Tip xs) = e ∙ ap (λ (t : Shape). Fork a t) f in
     subst (λ (t : Shape). Mends l (Tip ys) t) (sym o)
-    (subst (λ (t : Shape). Mends t (Tip ys) (Fork a high)) (sym q) (filled_high a xs ys high (subst (λ (t : Shape). CanMend t (Tip ys)) q h) n j))
+    (subst (λ (t : Shape). Mends t (Tip ys) (Fork a high)) (sym q)
+    (filled_high a xs ys high (subst (λ (t : Shape). CanMend t (Tip ys)) q h) (subst (λ (t : Shape). JoinsNext Last (Tip ys) t) q n) j))
 
 -- Parts of a tree.
 pub tree_left : (l r : Shape) → IsTree (Fork l r) → IsTree l
@@ -282,10 +400,10 @@ not_lower l r a b s h m k =
     let x = high l in
     let y = high r in
     let w = high s in
-    elim (Rattle.std.proofs.lemmas.Bool.cases_lt 11 (length (blocks a))) [
-      | Rattle.std.proofs.Common.inl p ↦ elim (Rattle.std.proofs.lemmas.Bool.cases_lt 11 (length (blocks b))) [
+    elim (Rattle.std.proofs.lemmas.Bool.cases_lt 20 (length (blocks a))) [
+      | Rattle.std.proofs.Common.inl p ↦ elim (Rattle.std.proofs.lemmas.Bool.cases_lt 20 (length (blocks b))) [
         | Rattle.std.proofs.Common.inl q ↦ (
-            let u = m.steady (rooted_full a h.left.tree.leaves (omega arith)) (rooted_full b h.right.tree.leaves (omega arith))
+            let u = m.steady (omega arith) (omega arith)
             (omega (arith, d.0, d.1, h.left.upto, h.left.from, h.right.upto, h.right.from, m.from), omega (arith, d.0, d.1, h.left.upto, h.left.from, h.right.upto, h.right.from, m.from)) in
             omega (arith, d.0, d.1, h.left.from, h.right.from, u)
             )
@@ -329,9 +447,9 @@ pub ruleset rotating = (full_some, start_full, high, joined, rotated_right, rota
 
 pub ruleset joining = (one_leaf, two_leaves)
 
-pub ruleset filling = (full_some, start_full, high, filled_leaves, filled_low, filled_high, cover_low, cover_high)
+pub ruleset filling = (full_some, start_full, high, filled_leaves, cannot_stay_left, cannot_stay_right, cover_low, cover_high, next_first, next_last)
 
-pub ruleset mending = (full_some, tall, rooted_full, high, can_balance)
+pub ruleset mending = (high, full_len, joins_leaf, can_balance)
 
 pub ruleset ends = (full_some, rooted_some, high, tree_left, tree_right, left_some, right_some, first_append, last_append)
 

@@ -30,9 +30,10 @@ pub record Grows (old new : Shape) : Type 0 where
   pub from : height_of old ≤ height_of new
   pub upto : height_of new ≤ height_of old + 1
 
--- The new tree has grown, and the change reports what it does not keep.
+-- The new tree has grown, and the change reports what it does not keep. It reports the structure only if the tree is higher.
 pub record GrowsBy (change : Change) (old new : Shape) : Type 0 where
   pub grows : Grows old new
+  pub higher : change ≡ Structure → height_of old < height_of new
   pub kept : Keeps change old new
 
 -- A range that fills its gap adds no block, and does not change the structure.

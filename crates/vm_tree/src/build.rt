@@ -2,12 +2,11 @@
 //!
 //! Each leaf is filled directly, and has nearly the same number of blocks. The number of leaves is
 //! halved at each node, so no rotation is needed.
-ghost use Rattle.std.specs.Prelude.{◌≡◌, ◌≢◌, ◌+◌, ◌*◌, ◌^◌, ◌<◌, ◌≤◌, ◌++◌, ◌∷◌, [], length, max, IfOk};
+ghost use Rattle.std.specs.Prelude.{◌≡◌, ◌≢◌, ◌+◌, ◌*◌, ◌^◌, ◌<◌, ◌≤◌, ◌++◌, ◌∷◌, [], length, IfOk};
 ghost use Rattle.vm_ranges.specs.Range.{IsRange};
 ghost use Rattle.vm_leaf.specs.Blocks.{start_of};
-ghost use Rattle.vm_tree.specs.Shape.{Tip, Fork, blocks, height_of, MAX_HEIGHT};
-ghost use Rattle.vm_tree.specs.Links.{side, IsSummed, AreSummed};
-ghost use Rattle.vm_tree.specs.Building.{AreInOrder, blocks_between, remaining_blocks, IsBlockCursor, IsPlan, IsBuiltLeaf, IsBuilt, IsBuiltTree};
+ghost use Rattle.vm_tree.specs.Links.{side, IsSummed};
+ghost use Rattle.vm_tree.specs.Building.{AreInOrder, blocks_between, remaining_blocks, IsBlockCursor, IsPlan, IsBuilt, IsBuiltTree};
 
 use crate::link::{Link, Node, fork_link, leaf_link};
 use std::alloc::{AllocError, Global};
@@ -89,41 +88,6 @@ fn fill_leaf(count: u64, cursor: &mut BlockCursor<'_>) -> Leaf
     leaf
 }
 
-/// Returns a link to a new node with these children.
-///
-/// It returns an error if the allocation fails. The children are freed.
-fn new_fork(alloc: Global, left: Link, at: u64, right: Link) -> Result<Link, AllocError>
-    requires summed { AreSummed left right }
-    requires at { at ≡ start_of (blocks (side right)) }
-    requires height_fits { max (height_of (side left)) (height_of (side right)) < MAX_HEIGHT }
-    ensures tree { IfOk result (λ tree. side tree ≡ Fork (side left) (side right)) }
-    ensures summed { IfOk result (λ tree. IsSummed tree) }
-{
-    let spare = Node {
-        at: 0,
-        left: Link::Hole,
-        right: Link::Hole,
-    };
-    Ok(fork_link(left, at, Box::new(alloc, spare)?, right))
-}
-
-/// Builds a leaf of the next blocks.
-///
-/// It returns an error if the allocation fails.
-fn build_leaf(alloc: Global, count: u64, cursor: &mut BlockCursor<'_>) -> Result<Link, AllocError>
-    requires cursor { IsBlockCursor cursor.old }
-    requires some { 0 < count }
-    requires fits { count ≤ 32 }
-    requires enough { count ≤ length (remaining_blocks cursor.old) }
-    ensures built { IfOk result
-        (λ tree. IsBuiltLeaf count (remaining_blocks cursor.old) (side tree) (remaining_blocks cursor.new)) }
-    ensures summed { IfOk result (λ tree. IsSummed tree) }
-    ensures cursor { IfOk result (λ tree. IsBlockCursor cursor.new) }
-{
-    let leaf = fill_leaf(count, cursor);
-    Ok(leaf_link(Box::new(alloc, leaf)?))
-}
-
 /// Builds a tree with this number of leaves. Each leaf has the next `each` blocks, and each of the
 /// first `more` leaves one block more.
 ///
@@ -145,14 +109,20 @@ fn build(
     ensures cursor { IfOk result (λ tree. IsBlockCursor cursor.new) }
 {
     if leaves == 1 {
-        return build_leaf(alloc, each + more, cursor);
+        let leaf = fill_leaf(each + more, cursor);
+        return Ok(leaf_link(Box::new(alloc, leaf)?));
     }
     let low = leaves / 2;
     let low_more = more.min(low);
     let left = build(alloc, low, each, low_more, cursor)?;
     let at = cursor.first_address();
     let right = build(alloc, leaves - low, each, more - low_more, cursor)?;
-    new_fork(alloc, left, at, right)
+    let spare = Node {
+        at: 0,
+        left: Link::Hole,
+        right: Link::Hole,
+    };
+    Ok(fork_link(left, at, Box::new(alloc, spare)?, right))
 }
 
 /// Builds the tree of a space in which these ranges are allocated. It has `count` blocks, and the

@@ -1,5 +1,5 @@
 //! The update of the links above a change.
-ghost use Rattle.std.specs.Prelude.{◌≡◌, ◌≢◌, ◌<◌, ◌≤◌};
+ghost use Rattle.std.specs.Prelude.{◌≡◌, ◌≢◌, ◌≤◌};
 ghost use Rattle.vm_tree.specs.Shape.{height_of, IsTree, MAX_HEIGHT};
 ghost use Rattle.vm_tree.specs.Links.{side, IsFreeOf, IsSummed, stored_longest, stored_alignments, stored_height};
 ghost use Rattle.vm_tree.specs.Mending.{CanMendTree, MendsTree};
@@ -17,22 +17,8 @@ pub(crate) enum Change {
     Nothing,
     /// The summary of the gaps may have changed. The height is the same.
     FreeOnly,
-    /// Any part may have changed. If the subtree is a leaf, it can have too few blocks.
+    /// Any part may have changed. If the subtree is a leaf, it may have to be joined with the next leaf.
     Structure,
-}
-
-/// Mends the node at a link, and updates the link.
-#[tactic(auto, using(crate::proofs::Trees::mending_tree))]
-fn mend_at(tree: &mut Link)
-    requires node { 2 ≤ height_of (side tree.old) }
-    requires sides { CanMendTree (side tree.old) }
-    requires height_fits { height_of (side tree.old) ≤ MAX_HEIGHT }
-    ensures tree { MendsTree (side tree.old) (side tree.new) }
-    ensures summed { IsSummed tree.new }
-{
-    let mut node = into_fork(mem::replace(tree, Link::Hole));
-    let (left, at, right) = node.take_children();
-    *tree = mend(left, at, node, right);
 }
 
 /// Returns the summary of the gaps of a node's subtree, from those of its children.
@@ -83,6 +69,7 @@ fn refresh(tree: &mut Link) -> Change
 
 /// Mends the node at a link, of which a child has changed, and updates the link. Returns the change.
 #[inline(never)]
+#[tactic(auto, using(crate::proofs::Trees::mending_tree))]
 fn restructure(tree: &mut Link) -> Change
     requires node { 2 ≤ height_of (side tree.old) }
     requires sides { CanMendTree (side tree.old) }
@@ -91,9 +78,12 @@ fn restructure(tree: &mut Link) -> Change
     ensures summed { IsSummed tree.new }
     ensures reported { Reports result (stored_longest tree.old) (stored_alignments tree.old) (stored_height tree.old)
         (side tree.new) }
+    ensures changed { result ≡ Change.Structure → height_of (side tree.new) ≢ stored_height tree.old }
 {
     let (free, before) = (summary(tree), height(tree));
-    mend_at(tree);
+    let mut node = into_fork(mem::replace(tree, Link::Hole));
+    let (left, at, right) = node.take_children();
+    *tree = mend(left, at, node, right);
     let new = summary(tree);
     if height(tree) != before {
         return Change::Structure;
@@ -116,6 +106,7 @@ pub(crate) fn update(tree: &mut Link, change: Change) -> Change
     ensures summed { IsSummed tree.new }
     ensures reported { Reports result (stored_longest tree.old) (stored_alignments tree.old) (stored_height tree.old)
         (side tree.new) }
+    ensures changed { result ≡ Change.Structure → height_of (side tree.new) ≢ stored_height tree.old }
     ensures steady { change ≢ Change.Structure → result ≢ Change.Structure }
 {
     match change {

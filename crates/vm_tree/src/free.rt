@@ -17,7 +17,7 @@ use crate::change::{Change, update};
 use crate::end::End;
 use crate::link::{Link, Node};
 use crate::steps::Steps;
-use vm_leaf::{Block, Leaf, MIN_BLOCKS, Summary};
+use vm_leaf::{Block, CAPACITY, Leaf, Summary};
 use vm_ranges::{NodeState, RangeInclusive};
 
 /// A range of a tree that was freed.
@@ -63,10 +63,7 @@ pub(crate) fn free_in(leaf: &mut Leaf, key: &RangeInclusive) -> Option<Gap>
     let (start, end) = (key.start(), key.end());
     let i = leaf.index_of(start);
     let block = leaf.block_at(i);
-    if block.key.start() != start {
-        return None;
-    }
-    if block.key.end() != end {
+    if block.key.start() != start || block.key.end() != end {
         return None;
     }
     match block.state {
@@ -116,23 +113,22 @@ fn free_end_in(leaf: &mut Leaf, end: End, start: u64, last: u64) -> Option<Gap>
     }
 }
 
-/// Writes the summary of a leaf beside its link. Returns the change.
+/// Writes the summary of a leaf beside its link. Returns the change. A leaf that is at most half full may have
+/// to be joined with the next leaf, so its change is `Structure`.
 #[inline(always)]
 fn write_summary(longest: &mut u64, alignments: &mut u32, leaf: &Leaf, new: Summary) -> Change
     requires { IsFreeOf (Tip leaf.now) new.longest new.alignments }
     ensures summed { IsFreeOf (Tip leaf.now) longest.new alignments.new }
     ensures reported { Reports result longest.old alignments.old 1 (Tip leaf.now) }
+    ensures half_full { length leaf.now ≤ 16 → result ≡ Change.Structure }
 {
     let (old_longest, old_alignments) = (*longest, *alignments);
     *longest = new.longest;
     *alignments = new.alignments;
-    if leaf.len() < MIN_BLOCKS {
+    if leaf.len() <= CAPACITY / 2 {
         return Change::Structure;
     }
-    if new.longest != old_longest {
-        return Change::FreeOnly;
-    }
-    if new.alignments != old_alignments {
+    if new.longest != old_longest || new.alignments != old_alignments {
         return Change::FreeOnly;
     }
     Change::Nothing
@@ -145,6 +141,7 @@ fn raise(longest: &mut u64, alignments: &mut u32, leaf: &Leaf, gap: &Gap) -> Fre
         (max alignments.old (alignment_count gap.now.range)) }
     ensures summed { IsFreeOf (Tip leaf.now) longest.new alignments.new }
     ensures reported { Reports result.change longest.old alignments.old 1 (Tip leaf.now) }
+    ensures half_full { length leaf.now ≤ 16 → result.change ≡ Change.Structure }
     ensures joined { result.joined ≡ gap.now.joined }
 {
     let add = Summary::of_gap(&gap.range);
@@ -170,10 +167,7 @@ fn summary_without(block: &RangeInclusive, longest: u64, alignments: u32, leaf: 
     ensures { IsFreeOf (Tip leaf.now) result.longest result.alignments }
 {
     let dropped = Summary::of_gap(block);
-    if dropped.longest >= longest {
-        return leaf.summary();
-    }
-    if dropped.alignments >= alignments {
+    if dropped.longest >= longest || dropped.alignments >= alignments {
         return leaf.summary();
     }
     Summary {
@@ -189,6 +183,7 @@ fn drop_end_in(longest: &mut u64, alignments: &mut u32, leaf: &mut Leaf, end: En
     ensures dropped { leaf.new ≡ without_end end leaf.old }
     ensures summed { IsFreeOf (Tip leaf.new) longest.new alignments.new }
     ensures reported { Reports result longest.old alignments.old 1 (Tip leaf.new) }
+    ensures half_full { length leaf.new ≤ 16 → result ≡ Change.Structure }
 {
     let block = leaf.key_at(index_at(leaf, end));
     match end {

@@ -93,11 +93,8 @@ pub(crate) fn summary(link: &Link) -> Summary
             longest,
             alignments,
             ..
-        } => Summary {
-            longest: *longest,
-            alignments: *alignments,
-        },
-        Link::Fork {
+        }
+        | Link::Fork {
             longest,
             alignments,
             ..

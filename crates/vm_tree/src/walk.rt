@@ -56,10 +56,7 @@ fn part_within<'a>(leaf: &'a Leaf, span: Span) -> Blocks<'a>
 {
     // Proof: `len` gives the facts of a leaf.
     let _len = leaf.len();
-    if leaf.end() < span.start {
-        return Blocks::none();
-    }
-    if span.end < leaf.start() {
+    if leaf.end() < span.start || span.end < leaf.start() {
         return Blocks::none();
     }
     leaf.part(first_from(leaf, span.start), count_up_to(leaf, span.end))

@@ -1,5 +1,5 @@
 //! The gaps of a leaf, found by bit operations on its mask.
-ghost use Rattle.std.specs.Prelude.{◌≡◌, ℕ, ◌+◌, ◌<◌, ◌≤◌, ◌^◌, length, MatchOption};
+ghost use Rattle.std.specs.Prelude.{◌≡◌, ℕ, ◌<◌, ◌≤◌, ◌^◌, length, MatchOption};
 ghost use Rattle.vm_ranges.specs.declared.state.NodeState.TheVariants.{Free, Allocated};
 ghost use Rattle.vm_leaf.specs.Blocks.{nth};
 ghost use Rattle.vm_leaf.specs.GapMasks.{IsLowestOne, IsMaskAbove, AreGapsFrom};

@@ -76,37 +76,6 @@ impl<'a> Blocks<'a> {
             held: 0,
         }
     }
-
-    /// Removes and returns the lowest block that is left.
-    #[inline(always)]
-    fn take_first(&mut self) -> Option<Block>
-        ensures { YieldsFirst (λ b. b) self.old result self.new }
-    {
-        let Some((start, others)) = self.starts.split_first() else {
-            return None;
-        };
-        let key = RangeInclusive::between(*start, end_of_first(others, self.end));
-        let state = state_in(self.held, 0);
-        self.starts = others;
-        self.held >>= 1;
-        Some(Block { key, state })
-    }
-
-    /// Removes and returns the highest block that is left.
-    #[inline(always)]
-    #[tactic(auto, using(crate::proofs::Rests::lasts))]
-    fn take_last(&mut self) -> Option<Block>
-        ensures { YieldsLast (λ b. b) self.old result self.new }
-    {
-        let Some((start, rest)) = self.starts.split_last() else {
-            return None;
-        };
-        let key = RangeInclusive::between(*start, self.end);
-        let state = state_in(self.held, rest.len());
-        self.starts = rest;
-        self.end = start.saturating_sub(1);
-        Some(Block { key, state })
-    }
 }
 
 impl<'a> Iterator for Blocks<'a> {
@@ -116,19 +85,34 @@ impl<'a> Iterator for Blocks<'a> {
 
     ghost remaining = { item_count (λ b. b) };
 
-    /// Returns the lowest block that is left.
+    /// Removes and returns the lowest block that is left.
     #[inline(always)]
     fn next(&mut self) -> Option<Block> {
-        self.take_first()
+        let Some((start, others)) = self.starts.split_first() else {
+            return None;
+        };
+        let key = RangeInclusive::between(*start, end_of_first(others, self.end));
+        let state = state_in(self.held, 0);
+        self.starts = others;
+        self.held >>= 1;
+        Some(Block { key, state })
     }
 }
 
 impl<'a> DoubleEndedIterator for Blocks<'a> {
     ghost next_back_gives = { YieldsLast (λ b. b) };
 
-    /// Returns the highest block that is left.
+    /// Removes and returns the highest block that is left.
     #[inline(always)]
+    #[tactic(auto, using(crate::proofs::Rests::lasts))]
     fn next_back(&mut self) -> Option<Block> {
-        self.take_last()
+        let Some((start, rest)) = self.starts.split_last() else {
+            return None;
+        };
+        let key = RangeInclusive::between(*start, self.end);
+        let state = state_in(self.held, rest.len());
+        self.starts = rest;
+        self.end = start.saturating_sub(1);
+        Some(Block { key, state })
     }
 }

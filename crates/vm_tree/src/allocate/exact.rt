@@ -1,7 +1,7 @@
 //! The allocation of a range that starts at a given address.
 ghost use Rattle.std.specs.Prelude.{◌≡◌, ◌+◌, ◌<◌, ◌≤◌, OnErr, IfOk};
 ghost use Rattle.vm_ranges.specs.Range.{MAX};
-ghost use Rattle.vm_tree.specs.Shape.{blocks, height_of, HasFullLeaves, IsTree, MAX_HEIGHT};
+ghost use Rattle.vm_tree.specs.Shape.{blocks, height_of, HasFullLeaves, IsTree};
 ghost use Rattle.vm_tree.specs.Links.{side, IsSummed};
 ghost use Rattle.vm_tree.specs.Growth.{IsSubtree, IsChild, GrowsIfOk, GrowsBelowIfOk};
 ghost use Rattle.vm_tree.specs.Allocation.{IsSearch, AllocatesExact};
@@ -29,19 +29,13 @@ fn refusal_in(block: &Block, start: u64, search: &Search) -> Option<Refusal>
     let end = start + (search.size - 1);
     match block.state {
         NodeState::Allocated => {
-            if block.key.start() != start {
-                return Some(Refusal::NoPlace);
-            }
-            if block.key.end() != end {
+            if block.key.start() != start || block.key.end() != end {
                 return Some(Refusal::NoPlace);
             }
             Some(Refusal::Held)
         }
         NodeState::Free => {
-            if block.key.end() < end {
-                return Some(Refusal::NoPlace);
-            }
-            if search.high < end {
+            if block.key.end() < end || search.high < end {
                 return Some(Refusal::NoPlace);
             }
             None

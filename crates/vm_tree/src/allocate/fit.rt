@@ -4,7 +4,7 @@
 //! of a node is the one at that end.
 ghost use Rattle.std.specs.Prelude.{◌≡◌, ◌+◌, ◌<◌, ◌≤◌, true, length, OnErr, IfOk, MatchOption};
 ghost use Rattle.vm_ranges.specs.Range.{MAX};
-ghost use Rattle.vm_tree.specs.Shape.{blocks, height_of, HasFullLeaves, IsTree, MAX_HEIGHT};
+ghost use Rattle.vm_tree.specs.Shape.{blocks, height_of, HasFullLeaves, IsTree};
 ghost use Rattle.vm_tree.specs.Links.{side, IsSummed};
 ghost use Rattle.vm_tree.specs.Growth.{IsSubtree, IsChild, GrowsIfOk, GrowsBelowIfOk};
 ghost use Rattle.vm_tree.specs.Allocation.{window_of, IsSearch, HasNoPlace, AllocatesFit};

@@ -1,5 +1,5 @@
 //! The allocation of a range at a place in a leaf, which may split the leaf in two.
-ghost use Rattle.std.specs.Prelude.{◌≡◌, ◌≢◌, ◌+◌, ◌<◌, ◌≤◌, length, OnErr, IfErr, IfOk, MatchBool};
+ghost use Rattle.std.specs.Prelude.{◌≡◌, ◌+◌, ◌<◌, ◌≤◌, length, OnErr, IfErr, IfOk, MatchBool};
 ghost use Rattle.vm_leaf.specs.Blocks.{with_parts, parts};
 ghost use Rattle.vm_leaf.specs.Left.{added_by};
 ghost use Rattle.vm_tree.specs.Shape.{Tip, blocks, height_of};
@@ -174,6 +174,7 @@ fn halve(mut lower: Box<Leaf>, claim: &Claim, mut upper: Box<Leaf>, spare: Box<N
     ensures blocks { blocks (side result)
         ≡ with_parts lower.value claim.now.index 1 (parts claim.now.gap claim.now.range) }
     ensures grows { Grows (Tip lower.value) (side result) }
+    ensures node { 2 ≤ height_of (side result) }
     ensures summed { IsSummed result }
 {
     let low: &mut Leaf = &mut lower;
@@ -195,6 +196,7 @@ fn split_leaf(tree: &mut Link, claim: Claim, alloc: Global) -> Result<(), Refusa
     ensures blocks { IfOk result (λ _. blocks (side tree.new)
         ≡ with_parts (blocks (side tree.old)) claim.index 1 (parts claim.gap claim.range)) }
     ensures grows { IfOk result (λ _. Grows (side tree.old) (side tree.new) × IsSummed tree.new) }
+    ensures node { IfOk result (λ _. 2 ≤ height_of (side tree.new)) }
     ensures error { IfErr result (λ refusal. refusal ≡ Refusal.OutOfMemory) }
     ensures unchanged { OnErr result (tree.new ≡ tree.old) }
 {

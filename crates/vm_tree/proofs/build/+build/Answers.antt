@@ -1,6 +1,4 @@
-use Rattle.std.proofs.Common.{◌/◌, ◌-◌, ◌≡◌, refl, arith}
-use Rattle.std.proofs.lemmas.Result.{IfOk-weaker}
-use Rattle.vm_tree.specs.Shape.{Fork}
+use Rattle.std.proofs.Common.{◌/◌, ◌-◌, refl, arith}
 use Rattle.vm_tree.specs.Links.{side}
 use Rattle.vm_tree.specs.Building.{remaining_blocks}
 use Rattle.vm_tree.proofs.Built.{right_plan, halves, enough_left, some_block, halves_low, node_built}
@@ -26,8 +24,8 @@ build-requires-2 t c =
     let h = enough_left n c.args.each c.args.more (n / 2) c.min-low_more.result (remaining_blocks c.args.cursor.now) (remaining_blocks c.build.new.cursor) (side c.in_ok-left.left) p two refl share c.requires.enough c.in_ok-left.ensures.built in
     (omega (arith, c.decreases), (c.in_ok-left.ensures.cursor, (right_plan n c.args.each c.args.more (n / 2) c.min-low_more.result p two refl share, h)))
 
-pub new_fork-requires-clause-height_fits : goal.new_fork-requires-clause-height_fits
-new_fork-requires-clause-height_fits t c =
+pub fork_link-requires-clause-height_fits : goal.fork_link-requires-clause-height_fits
+fork_link-requires-clause-height_fits t c =
     halves_low c.args.leaves c.args.each c.min-low_more.result (c.args.more - c.min-low_more.result) (remaining_blocks c.args.cursor.now) (remaining_blocks c.build.new.cursor) (remaining_blocks c.build-2.new.cursor) (side c.in_ok-left.left) (side c.in_ok-right.right)
     c.requires.plan.few c.in_ok-left.ensures.built c.in_ok-right.ensures.built
 
@@ -41,7 +39,5 @@ returns-clause-built t c =
     let low = n / 2 in
     let more = c.min-low_more.result in
     let count = halves n c.args.each c.args.more (n / 2) c.min-low_more.result p two refl share in
-    IfOk-weaker c.new_fork.result (λ tree. side tree ≡ Fork (side c.in_ok-left.left) (side c.in_ok-right.right)) _ (λ tree q.
     node_built n c.args.each c.args.more (n / 2) c.min-low_more.result (n - n / 2) (c.args.more - c.min-low_more.result) (remaining_blocks c.args.cursor.now) (remaining_blocks c.build.new.cursor) (remaining_blocks c.build-2.new.cursor)
-    (side c.in_ok-left.left) (side c.in_ok-right.right) (side tree) (p.full (omega arith)) (omega arith) (omega arith) (omega arith) (omega arith) count c.in_ok-left.ensures.built c.in_ok-right.ensures.built q)
-    c.new_fork.ensures.tree
+    (side c.in_ok-left.left) (side c.in_ok-right.right) (side c.fork_link.result) (p.full (omega arith)) (omega arith) (omega arith) (omega arith) (omega arith) count c.in_ok-left.ensures.built c.in_ok-right.ensures.built c.fork_link.ensures.tree

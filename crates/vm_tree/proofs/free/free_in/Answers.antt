@@ -4,18 +4,21 @@ use Rattle.vm_tree.specs.Frees.{Holds}
 use Rattle.vm_tree.proofs.Frees.{freed_here}
 use Rattle.vm_tree.proofs.FreesAbsent.{held_at, not_held}
 use Rattle.vm_tree.proofs.free.free_in.Goals as goal
+use Rattle.vm_tree.proofs.free.free_in.Goals.{then-start-via-then-start, then-start-via-else-start+then-end}
 
 pub returns-then-start : goal.returns-then-start
 returns-then-start c =
     let bs = c.args.leaf.now in
-    let i = c.index_of-i in
-    (refl, λ (h : Holds c.args.key.now bs). (let e = held_at bs i.result c.args.key.now c.start-start.result c.len-len.ensures.leaf i.ensures.within i.ensures.found.0 i.ensures.found.1 c.start-start.ensures.value h in c.if-start.true (c.start.ensures.value ∙ ap (λ (x : Block). x.key.start) (c.block_at-block.ensures ∙ e) ∙ sym c.start-start.ensures.value)))
-
-pub returns-then-end : goal.returns-then-end
-returns-then-end c =
-    let bs = c.args.leaf.now in
-    let i = c.index_of-i in
-    (refl, λ (h : Holds c.args.key.now bs). (let e = held_at bs i.result c.args.key.now c.start-start.result c.len-len.ensures.leaf i.ensures.within i.ensures.found.0 i.ensures.found.1 c.start-start.ensures.value h in c.if-end.true (c.end.ensures.value ∙ ap (λ (x : Block). x.key.end) (c.block_at-block.ensures ∙ e) ∙ sym c.end-end.ensures.value)))
+    let i = c.index_of-i in (
+      refl,
+      λ (h : Holds c.args.key.now bs). (
+          let e = held_at bs i.result c.args.key.now c.start-start.result c.len-len.ensures.leaf i.ensures.within i.ensures.found.0 i.ensures.found.1 c.start-start.ensures.value h in
+          elim c.then-start.branch [
+            | then-start-via-then-start w ↦ w.if-start.true (c.start.ensures.value ∙ ap (λ (x : Block). x.key.start) (c.block_at-block.ensures ∙ e) ∙ sym c.start-start.ensures.value)
+            | then-start-via-else-start+then-end w ↦ w.if-end.true (w.end.ensures.value ∙ ap (λ (x : Block). x.key.end) (c.block_at-block.ensures ∙ e) ∙ sym c.end-end.ensures.value)
+          ]
+          ),
+    )
 
 pub returns-in-Free : goal.returns-in-Free
 returns-in-Free c =

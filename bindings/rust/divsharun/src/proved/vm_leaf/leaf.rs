@@ -256,9 +256,18 @@ impl Leaf {
         self.len = len + 2;
     }
 
+    /// Frees block `i`. Its neighbours must be allocated.
+    #[inline(always)]
+    fn set_free(&mut self, i: usize) {
+        self.held = without_held(self.held, i);
+    }
+
     /// Replaces the `n` blocks starting at `i` with one gap. Their neighbours must be allocated.
     #[inline(always)]
     fn merge(&mut self, i: usize, n: usize) {
+        if n == 1 {
+            return self.set_free(i);
+        }
         let len = self.len;
         remove_between(&mut self.starts, len, i + 1, i + n);
         self.held = with_moved(self.held, i, i + n, i + 1);
@@ -316,22 +325,6 @@ impl Leaf {
         gap
     }
 
-    /// Frees block `i`. Its neighbours must be allocated.
-    #[inline(always)]
-    fn set_free(&mut self, i: usize) {
-        self.held = without_held(self.held, i);
-    }
-
-    /// Frees block `i`, and returns its range. Its neighbours must be allocated.
-    #[inline(always)]
-    fn release(&mut self, i: usize) -> RangeInclusive {
-        // Proof: `len` gives the facts of a leaf.
-        let _len = self.len();
-        let gap = self.key_at(i);
-        self.set_free(i);
-        gap
-    }
-
     /// Frees the allocated block `i`, joins it with its free neighbours, and returns the range of the gap.
     #[inline(always)]
     pub(in crate::proved) fn join(&mut self, i: usize) -> RangeInclusive {
@@ -347,7 +340,7 @@ impl Leaf {
         if after {
             return self.join_blocks(i, 2);
         }
-        self.release(i)
+        self.join_blocks(i, 1)
     }
 
     /// Removes the blocks starting at index `at`, and returns a leaf of them.

@@ -62,26 +62,6 @@ fn fill_leaf(count: u64, cursor: &mut BlockCursor<'_>) -> Leaf {
     leaf
 }
 
-/// Returns a link to a new node with these children.
-///
-/// It returns an error if the allocation fails. The children are freed.
-fn new_fork(alloc: Global, left: Link, at: u64, right: Link) -> Result<Link, AllocError> {
-    let spare = Node {
-        at: 0,
-        left: Link::Hole,
-        right: Link::Hole,
-    };
-    Ok(fork_link(left, at, Box::new(alloc, spare)?, right))
-}
-
-/// Builds a leaf of the next blocks.
-///
-/// It returns an error if the allocation fails.
-fn build_leaf(alloc: Global, count: u64, cursor: &mut BlockCursor<'_>) -> Result<Link, AllocError> {
-    let leaf = fill_leaf(count, cursor);
-    Ok(leaf_link(Box::new(alloc, leaf)?))
-}
-
 /// Builds a tree with this number of leaves. Each leaf has the next `each` blocks, and each of the
 /// first `more` leaves one block more.
 ///
@@ -94,14 +74,20 @@ fn build(
     cursor: &mut BlockCursor<'_>,
 ) -> Result<Link, AllocError> {
     if leaves == 1 {
-        return build_leaf(alloc, each + more, cursor);
+        let leaf = fill_leaf(each + more, cursor);
+        return Ok(leaf_link(Box::new(alloc, leaf)?));
     }
     let low = leaves / 2;
     let low_more = more.min(low);
     let left = build(alloc, low, each, low_more, cursor)?;
     let at = cursor.first_address();
     let right = build(alloc, leaves - low, each, more - low_more, cursor)?;
-    new_fork(alloc, left, at, right)
+    let spare = Node {
+        at: 0,
+        left: Link::Hole,
+        right: Link::Hole,
+    };
+    Ok(fork_link(left, at, Box::new(alloc, spare)?, right))
 }
 
 /// Builds the tree of a space in which these ranges are allocated. It has `count` blocks, and the

@@ -14,15 +14,8 @@ pub(in crate::proved::vm_tree) enum Change {
     Nothing,
     /// The summary of the gaps may have changed. The height is the same.
     FreeOnly,
-    /// Any part may have changed. If the subtree is a leaf, it can have too few blocks.
+    /// Any part may have changed. If the subtree is a leaf, it may have to be joined with the next leaf.
     Structure,
-}
-
-/// Mends the node at a link, and updates the link.
-fn mend_at(tree: &mut Link) {
-    let mut node = into_fork(mem::replace(tree, Link::Hole));
-    let (left, at, right) = node.take_children();
-    *tree = mend(left, at, node, right);
 }
 
 /// Returns the summary of the gaps of a node's subtree, from those of its children.
@@ -62,7 +55,9 @@ fn refresh(tree: &mut Link) -> Change {
 #[inline(never)]
 fn restructure(tree: &mut Link) -> Change {
     let (free, before) = (summary(tree), height(tree));
-    mend_at(tree);
+    let mut node = into_fork(mem::replace(tree, Link::Hole));
+    let (left, at, right) = node.take_children();
+    *tree = mend(left, at, node, right);
     let new = summary(tree);
     if height(tree) != before {
         return Change::Structure;

@@ -10,7 +10,7 @@ use crate::proved::vm_tree::change::{Change, update};
 use crate::proved::vm_tree::end::End;
 use crate::proved::vm_tree::link::{Link, Node};
 use crate::proved::vm_tree::steps::Steps;
-use crate::proved::vm_leaf::{Block, Leaf, MIN_BLOCKS, Summary};
+use crate::proved::vm_leaf::{Block, CAPACITY, Leaf, Summary};
 use crate::proved::vm_ranges::{NodeState, RangeInclusive};
 
 /// A range of a tree that was freed.
@@ -46,10 +46,7 @@ pub(in crate::proved::vm_tree) fn free_in(leaf: &mut Leaf, key: &RangeInclusive)
     let (start, end) = (key.start(), key.end());
     let i = leaf.index_of(start);
     let block = leaf.block_at(i);
-    if block.key.start() != start {
-        return None;
-    }
-    if block.key.end() != end {
+    if block.key.start() != start || block.key.end() != end {
         return None;
     }
     match block.state {
@@ -92,19 +89,17 @@ fn free_end_in(leaf: &mut Leaf, end: End, start: u64, last: u64) -> Option<Gap> 
     }
 }
 
-/// Writes the summary of a leaf beside its link. Returns the change.
+/// Writes the summary of a leaf beside its link. Returns the change. A leaf that is at most half full may have
+/// to be joined with the next leaf, so its change is `Structure`.
 #[inline(always)]
 fn write_summary(longest: &mut u64, alignments: &mut u32, leaf: &Leaf, new: Summary) -> Change {
     let (old_longest, old_alignments) = (*longest, *alignments);
     *longest = new.longest;
     *alignments = new.alignments;
-    if leaf.len() < MIN_BLOCKS {
+    if leaf.len() <= CAPACITY / 2 {
         return Change::Structure;
     }
-    if new.longest != old_longest {
-        return Change::FreeOnly;
-    }
-    if new.alignments != old_alignments {
+    if new.longest != old_longest || new.alignments != old_alignments {
         return Change::FreeOnly;
     }
     Change::Nothing
@@ -130,10 +125,7 @@ fn raise(longest: &mut u64, alignments: &mut u32, leaf: &Leaf, gap: &Gap) -> Fre
 #[inline(always)]
 fn summary_without(block: &RangeInclusive, longest: u64, alignments: u32, leaf: &Leaf) -> Summary {
     let dropped = Summary::of_gap(block);
-    if dropped.longest >= longest {
-        return leaf.summary();
-    }
-    if dropped.alignments >= alignments {
+    if dropped.longest >= longest || dropped.alignments >= alignments {
         return leaf.summary();
     }
     Summary {

@@ -60,11 +60,8 @@ pub(in crate::proved::vm_tree) fn summary(link: &Link) -> Summary {
             longest,
             alignments,
             ..
-        } => Summary {
-            longest: *longest,
-            alignments: *alignments,
-        },
-        Link::Fork {
+        }
+        | Link::Fork {
             longest,
             alignments,
             ..

@@ -22,6 +22,7 @@
 //! - An exact request enters the nodes of one path, and a search those of `nodes_to_fit`. `IsSearchCount` bounds
 //!   them by the height and by the number of gaps that look suitable but have no place. A free enters at most
 //!   three nodes for each level.
+//! - When a node is mended, leaves next to each other are merged if their blocks fit in one (`Mends`).
 //! - `IsLowTree` bounds the height by the number of nodes, and by the number of allocated ranges.
 //! - `with_held` builds the tree with the fewest leaves and the minimum height. `try_clone` copies it node for
 //!   node. A walk returns the blocks in order, from both ends.
@@ -29,6 +30,8 @@
 //! # What is not proved
 //!
 //! - How often memory is allocated: no clause counts allocations.
+//! - How many leaves are left after frees. The node over a leaf that a free leaves at most half full is mended,
+//!   but no clause of `Tree` says so.
 //! - That the frames of a call fit on the stack. A call has at most 48 of each recursive function.
 
 mod allocate;

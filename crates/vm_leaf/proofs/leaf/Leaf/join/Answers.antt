@@ -40,7 +40,7 @@ returns-then-after-2-clause-freed c =
     c.join_blocks-then-after-2.ensures.merged ∙ joined_after c.args.self.now c.args.i c.requires.within c.if-is_free_before.ensures c.if-after-2.ensures
 
 pub returns-clause-freed : goal.returns-clause-freed
-returns-clause-freed c = c.release.ensures.merged ∙ joined_none c.args.self.now c.args.i c.requires.within c.if-is_free_before.ensures c.if-after-2.ensures
+returns-clause-freed c = c.join_blocks-2.ensures.merged ∙ joined_none c.args.self.now c.args.i c.requires.within c.if-is_free_before.ensures c.if-after-2.ensures
 
 pub returns-then-after-clause-gap : goal.returns-then-after-clause-gap
 returns-then-after-clause-gap c = record {
@@ -71,11 +71,10 @@ returns-then-after-2-clause-gap c = record {
 
 pub returns-clause-gap : goal.returns-clause-gap
 returns-clause-gap c =
-    let last : c.args.i ≡ c.args.i + 1 - 1 = omega arith in
     record {
       lower = c.args.i;
       count = 1;
       from = omega arith;
       upto = omega arith;
-      blocks = by_key c.args.self.now _ (c.args.i) 1 _ c.release.ensures.merged (c.release.ensures.key ∙ ap (λ n. record { start = (nth c.args.self.now c.args.i).key.start; end = (nth c.args.self.now n).key.end }) last);
+      blocks = by_key c.args.self.now _ (c.args.i) 1 _ c.join_blocks-2.ensures.merged c.join_blocks-2.ensures.key;
     }

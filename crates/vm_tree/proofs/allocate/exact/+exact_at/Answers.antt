@@ -44,7 +44,7 @@ exact_at-returns-in-Ok-clause-change t c =
     let n = c.deref_mut-node.result.now in
     let e : side c.args.tree.now ≡ n = ap side c.in-Fork.is ∙ sym c.deref_mut-node.ensures.value in (
       grown_by c.in-Ok.taken.change c.update-taken.result (side c.args.tree.now) n c.exact_below-answer.new.node (side c.update-taken.new.tree) c.in-Fork.longest c.in-Fork.alignments c.in-Fork.height e
-          (rw c.deref_mut-node.ensures.value (rw c.in-Fork.is at c.requires.tree.summed)) (rw c.in-Ok.is at c.exact_below-answer.ensures.change).0 (subst IsSubtree e c.requires.tree.subtree) c.update-taken.ensures.tree c.update-taken.ensures.reported,
+          (rw c.deref_mut-node.ensures.value (rw c.in-Fork.is at c.requires.tree.summed)) (rw c.in-Ok.is at c.exact_below-answer.ensures.change).0 (subst IsSubtree e c.requires.tree.subtree) c.update-taken.ensures.tree c.update-taken.ensures.reported c.update-taken.ensures.changed,
       λ z. c.update-taken.ensures.steady ((rw c.in-Ok.is at c.exact_below-answer.ensures.change).1 z),
     )
 

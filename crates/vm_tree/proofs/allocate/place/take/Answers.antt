@@ -13,4 +13,4 @@ returns-then-gap-alignments-clause-taken c =
     c.split.ensures c.of_gap-gap.ensures.longest c.of_gap-gap.ensures.alignments c.if-gap-longest.true c.if-gap-alignments.true in
     let old : height_of (side c.args.tree.now) < 2 = c.requires.leaf in
     let fits : length c.split.new.self ≤ 32 = search rules in
-    rw c.if-lone.false (record { grows = record { balanced = tt; full = (small.0.2, fits); from = omega (arith, high (side c.args.tree.now)); upto = omega (arith, high (side c.args.tree.now)) }; kept = small.0 }, (λ e. absurd (cc)), small.1)
+    rw c.if-lone.false (record { grows = record { balanced = tt; full = (small.0.2, fits); from = omega (arith, high (side c.args.tree.now)); upto = omega (arith, high (side c.args.tree.now)) }; higher = λ e. absurd (cc); kept = small.0 }, (λ e. absurd (cc)), small.1)

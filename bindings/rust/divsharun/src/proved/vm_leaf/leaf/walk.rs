@@ -52,10 +52,14 @@ impl<'a> Blocks<'a> {
             held: 0,
         }
     }
+}
+
+impl<'a> Iterator for Blocks<'a> {
+    type Item = Block;
 
     /// Removes and returns the lowest block that is left.
     #[inline(always)]
-    fn take_first(&mut self) -> Option<Block> {
+    fn next(&mut self) -> Option<Block> {
         let Some((start, others)) = self.starts.split_first() else {
             return None;
         };
@@ -65,10 +69,12 @@ impl<'a> Blocks<'a> {
         self.held >>= 1;
         Some(Block { key, state })
     }
+}
 
+impl<'a> DoubleEndedIterator for Blocks<'a> {
     /// Removes and returns the highest block that is left.
     #[inline(always)]
-    fn take_last(&mut self) -> Option<Block> {
+    fn next_back(&mut self) -> Option<Block> {
         let Some((start, rest)) = self.starts.split_last() else {
             return None;
         };
@@ -77,23 +83,5 @@ impl<'a> Blocks<'a> {
         self.starts = rest;
         self.end = start.saturating_sub(1);
         Some(Block { key, state })
-    }
-}
-
-impl<'a> Iterator for Blocks<'a> {
-    type Item = Block;
-
-    /// Returns the lowest block that is left.
-    #[inline(always)]
-    fn next(&mut self) -> Option<Block> {
-        self.take_first()
-    }
-}
-
-impl<'a> DoubleEndedIterator for Blocks<'a> {
-    /// Returns the highest block that is left.
-    #[inline(always)]
-    fn next_back(&mut self) -> Option<Block> {
-        self.take_last()
     }
 }

@@ -18,19 +18,13 @@ fn refusal_in(block: &Block, start: u64, search: &Search) -> Option<Refusal> {
     let end = start + (search.size - 1);
     match block.state {
         NodeState::Allocated => {
-            if block.key.start() != start {
-                return Some(Refusal::NoPlace);
-            }
-            if block.key.end() != end {
+            if block.key.start() != start || block.key.end() != end {
                 return Some(Refusal::NoPlace);
             }
             Some(Refusal::Held)
         }
         NodeState::Free => {
-            if block.key.end() < end {
-                return Some(Refusal::NoPlace);
-            }
-            if search.high < end {
+            if block.key.end() < end || search.high < end {
                 return Some(Refusal::NoPlace);
             }
             None
