@@ -1,8 +1,8 @@
 -- The results of creating a space with some ranges held.
-use Rattle.std.specs.Prelude.{◌≡◌, ℕ, ◌+◌, ◌-◌, ◌^◌, ◌<◌, ◌≤◌, ◌⊎◌, nat_lt, nat_eq, if◌then◌else◌, List, [], ◌∷◌, length, Option, Some, None, is_some, MatchOption, MatchResult, Result, Ok, Err}
+use Rattle.std.specs.Prelude.{◌≡◌, ℕ, ◌+◌, ◌-◌, ◌<◌, ◌≤◌, ◌⊎◌, nat_lt, nat_eq, if◌then◌else◌, List, [], ◌∷◌, length, Option, Some, None, is_some, MatchOption, MatchResult, Result, Ok, Err}
 use Rattle.vm_ranges.specs.Cases.{IfElse}
 use Rattle.vm_ranges.specs.Range.{Range, MAX, span}
-use Rattle.vm_tree.specs.Building.{AreInOrder, blocks_between}
+use Rattle.vm_tree.specs.Building.{AreInOrder, blocks_between, TOO_MANY_BLOCKS}
 use Rattle.vm_engine.specs.Address.{AddressState}
 use Rattle.vm_engine.specs.Tree.Blocks.{blocks_of}
 use Rattle.vm_ranges.specs.declared.error.Error.{Error}
@@ -33,10 +33,6 @@ first_fault lo hi (r ∷ rs) = or_else (range_fault lo hi r) (first_fault (r.end
 abbrev pub fault_index : ℕ → ℕ → ℕ → List Range → Option ℕ
 fault_index i lo hi [] = None
 fault_index i lo hi (r ∷ rs) = if is_some (range_fault lo hi r) then Some i else fault_index (i + 1) (r.end + 1) hi rs
-
--- A tree of this many blocks or more is too high.
-abbrev pub TOO_MANY_BLOCKS : ℕ
-TOO_MANY_BLOCKS = 2 ^ 49
 
 -- The result of creating the state with these ranges held.
 unfoldable pub MakesHeld : Range → List Range → Result AddressState Error → Type 0

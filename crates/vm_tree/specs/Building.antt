@@ -23,6 +23,10 @@ blocks_between lo [] hi = gap_before lo (hi + 1)
 blocks_between lo (r ∷ rs) hi =
     gap_before lo r.start ++ record { key = r; state = Allocated } ∷ blocks_between (r.end + 1) rs hi
 
+-- A tree of this many blocks or more is too high.
+abbrev pub TOO_MANY_BLOCKS : ℕ
+TOO_MANY_BLOCKS = 2 ^ 49
+
 -- The blocks that are not built yet: the gaps and the held ranges.
 abbrev pub remaining_blocks : BlockCursor → List Block
 remaining_blocks cursor = blocks_between cursor.next cursor.held.now cursor.end

@@ -6,7 +6,7 @@ ghost use Rattle.std.specs.Prelude.{◌≡◌, ◌≢◌, ◌+◌, ◌*◌, ◌^
 ghost use Rattle.vm_ranges.specs.Range.{IsRange};
 ghost use Rattle.vm_leaf.specs.Blocks.{start_of};
 ghost use Rattle.vm_tree.specs.Links.{side, IsSummed};
-ghost use Rattle.vm_tree.specs.Building.{AreInOrder, blocks_between, remaining_blocks, IsBlockCursor, IsPlan, IsBuilt, IsBuiltTree};
+ghost use Rattle.vm_tree.specs.Building.{AreInOrder, blocks_between, remaining_blocks, IsBlockCursor, IsPlan, IsBuilt, IsBuiltTree, TOO_MANY_BLOCKS};
 
 use crate::link::{Link, Node, fork_link, leaf_link};
 use std::alloc::{AllocError, Global};
@@ -138,7 +138,7 @@ pub(crate) fn build_tree(
 ) -> Result<Link, AllocError>
     requires in_order { AreInOrder space.now.start held.now space.now.end }
     requires count { count ≡ length (blocks_between space.now.start held.now space.now.end) }
-    requires few { count < 2 ^ 49 }
+    requires few { count < TOO_MANY_BLOCKS }
     ensures built { IfOk result
         (λ tree. IsBuiltTree (blocks_between space.now.start held.now space.now.end) (side tree)) }
     ensures summed { IfOk result (λ tree. IsSummed tree) }

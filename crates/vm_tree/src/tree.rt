@@ -7,7 +7,7 @@ ghost use Rattle.vm_ranges.specs.Range.{IsIn, at_address};
 ghost use Rattle.vm_leaf.specs.Block.{free_block};
 ghost use Rattle.vm_leaf.specs.Blocks.{longest_gap};
 ghost use Rattle.vm_tree.specs.Allocation.{window_of, IsSearch, AllocatesExact, AllocatesFit};
-ghost use Rattle.vm_tree.specs.Building.{AreInOrder, blocks_between, IsBuiltTree};
+ghost use Rattle.vm_tree.specs.Building.{AreInOrder, blocks_between, IsBuiltTree, TOO_MANY_BLOCKS};
 ghost use Rattle.vm_tree.specs.Frees.{Frees, Holds};
 ghost use Rattle.vm_tree.specs.GapSearch.{IsSearchCount, gaps_without_place};
 ghost use Rattle.vm_tree.specs.Links.{side};
@@ -91,7 +91,7 @@ impl Tree {
     ) -> Result<Tree, AllocError>
         requires in_order { AreInOrder space.start held.now space.end }
         requires count { count ≡ length (blocks_between space.start held.now space.end) }
-        requires few { count < 2 ^ 49 }
+        requires few { count < TOO_MANY_BLOCKS }
         ensures { IfOk result (λ tree. IsBuiltTree (blocks_between space.start held.now space.end) tree) }
     {
         let root = build_tree(alloc, count, &space, held)?;

@@ -11,7 +11,8 @@ use Rattle.vm_engine.proofs.Results.Requests.{request_in}
 use Rattle.vm_engine.proofs.Results.AddressResults.{outcome}
 use Rattle.vm_engine.specs.Answer.{IsChosen, ByStart, ByExactPolicy, ByPlace, AllocatesAt, Grants, Allocates, Frees, Makes}
 use Rattle.vm_ranges.specs.Cloning.{Clones}
-use Rattle.vm_engine.specs.Held.{first_fault, TOO_MANY_BLOCKS, BySpace, MakesHeld, MakesWithHeld}
+use Rattle.vm_engine.specs.Held.{first_fault, BySpace, MakesHeld, MakesWithHeld}
+use Rattle.vm_tree.specs.Building.{TOO_MANY_BLOCKS}
 use Rattle.vm_engine.specs.Tree.Blocks.{blocks_of}
 use Rattle.vm_allocator.specs.Several.{RefusesOne, AllocatesAll}
 use Rattle.vm_allocator.specs.Moves.{IsFor, MovesRange}

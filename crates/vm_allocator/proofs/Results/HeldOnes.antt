@@ -13,7 +13,8 @@ use Rattle.vm_ranges.specs.declared.error.Error.TheVariants.{Overflow, ResourceN
 use Rattle.vm_engine.specs.Address.{AddressState, IsAddressState, with_range}
 use Rattle.vm_tree.specs.Building.{AreInOrder}
 use Rattle.vm_engine.specs.Answer.{Makes}
-use Rattle.vm_engine.specs.Held.{range_fault, or_else, first_fault, TOO_MANY_BLOCKS, BySpace, MakesHeld, MakesWithHeld}
+use Rattle.vm_engine.specs.Held.{range_fault, or_else, first_fault, BySpace, MakesHeld, MakesWithHeld}
+use Rattle.vm_tree.specs.Building.{TOO_MANY_BLOCKS}
 use Rattle.vm_engine.specs.Tree.Blocks.{blocks_of}
 use Rattle.vm_allocator.specs.Several.{AllocatesEach, exact_requests, HeldAsAllocated}
 use Rattle.vm_allocator.specs.Laws.SeveralLaws.{HeldIsEqual}

@@ -9,7 +9,8 @@ use Rattle.vm_tree.specs.Shape.{Shape, blocks}
 use Rattle.vm_engine.specs.Tree.SpaceTree.{tree_state, IsSpaceTree}
 use Rattle.vm_engine.specs.Queries.{count_of}
 use Rattle.vm_ranges.specs.Cases.{IfElse}
-use Rattle.vm_engine.specs.Held.{first_fault, MakesHeld, TOO_MANY_BLOCKS}
+use Rattle.vm_engine.specs.Held.{first_fault, MakesHeld}
+use Rattle.vm_tree.specs.Building.{TOO_MANY_BLOCKS}
 use Rattle.vm_tree.specs.Building.{IsBuiltTree}
 use Rattle.vm_engine.specs.Engine.CountedTrees.{IsCountedTree}
 use Rattle.vm_ranges.specs.declared.state.NodeState.TheVariants.{Allocated}

@@ -5,7 +5,8 @@ use Rattle.vm_ranges.specs.Cases.{IfElse}
 use Rattle.vm_ranges.specs.Range.{Range, MAX, IsRange}
 use Rattle.vm_engine.specs.Address.{AddressState}
 use Rattle.vm_tree.specs.Building.{AreInOrder}
-use Rattle.vm_engine.specs.Held.{range_fault, or_else, first_fault, MakesHeld, TOO_MANY_BLOCKS}
+use Rattle.vm_engine.specs.Held.{range_fault, or_else, first_fault, MakesHeld}
+use Rattle.vm_tree.specs.Building.{TOO_MANY_BLOCKS}
 use Rattle.vm_engine.specs.Tree.Blocks.{blocks_of}
 use Rattle.vm_tree.specs.Shape.{Shape}
 use Rattle.vm_engine.specs.Tree.SpaceTree.{tree_state, made_tree}

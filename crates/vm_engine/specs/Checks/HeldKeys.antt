@@ -2,7 +2,8 @@
 use Rattle.std.specs.Prelude.{◌≡◌, ◌<◌, List, length, Option, Some, None, Result, Ok, Err}
 use Rattle.vm_ranges.specs.Range.{Range}
 use Rattle.vm_engine.specs.Address.{AddressState}
-use Rattle.vm_engine.specs.Held.{first_fault, MakesHeld, TOO_MANY_BLOCKS}
+use Rattle.vm_engine.specs.Held.{first_fault, MakesHeld}
+use Rattle.vm_tree.specs.Building.{TOO_MANY_BLOCKS}
 use Rattle.vm_engine.specs.Tree.Blocks.{blocks_of}
 use Rattle.vm_ranges.specs.declared.saved.Condition.{Condition}
 use Rattle.vm_ranges.specs.declared.saved.SavedError.{SavedError}
