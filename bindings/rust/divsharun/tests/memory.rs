@@ -517,21 +517,29 @@ fn lists_have_no_spare_bytes() {
 fn ranges_take_few_bytes() {
     const COUNT: usize = 100_000;
     for (distance, most) in [(1, 18), (2, 36)] {
-        let mut space = AddressAllocator::new(0, 1 << 30).expect("a space");
+        let mut full = AddressAllocator::new(0, 1 << 30).expect("a space");
         let starts = (0..COUNT as u64).map(|number| distance * number);
-        let held = starts.map(|start| space.allocate(1, 1, ExactMatch(start)).expect("it is free"));
-        let mut held: Vec<_> = held.collect();
-        let (_, bytes) = peak_of(|| space.clone());
+        let held = starts.map(|start| full.allocate(1, 1, ExactMatch(start)).expect("it is free"));
+        let held: Vec<_> = held.collect();
+        let (_, bytes) = peak_of(|| full.clone());
         assert!(bytes <= most * COUNT, "{bytes} bytes");
+        let mut shuffled = held.clone();
         let mut random = 1_u64;
-        for left in (COUNT / 10..COUNT).rev() {
+        for last in (1..COUNT).rev() {
             random = random.wrapping_mul(6_364_136_223_846_793_005);
             random = random.wrapping_add(1_442_695_040_888_963_407);
-            let freed = held.swap_remove((random >> 33) as usize % (left + 1));
-            assert_eq!(space.free(&freed), Ok(()));
+            shuffled.swap(last, (random >> 33) as usize % (last + 1));
         }
-        let (_, bytes) = peak_of(|| space.clone());
-        assert!(bytes <= 40 * held.len(), "{bytes} bytes");
+        let tens = held.chunks(10);
+        let ascending: Vec<_> = tens.flat_map(|ten| ten[1..].iter().copied()).collect();
+        for freed in [&shuffled[COUNT / 10..], &ascending] {
+            let mut space = full.clone();
+            for range in freed {
+                assert_eq!(space.free(range), Ok(()));
+            }
+            let (_, bytes) = peak_of(|| space.clone());
+            assert!(bytes <= 40 * COUNT / 10, "{bytes} bytes");
+        }
     }
 }
 

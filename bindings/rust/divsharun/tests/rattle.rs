@@ -133,6 +133,8 @@ fn maps_and_sets() {
             assert!(set.range(range.clone()).eq(values.range(range)));
             if step % (keys / 4) == 0 {
                 assert!(map.iter().eq(rust.iter()));
+                let from = key..=u64::MAX;
+                assert!(set.range(from.clone()).eq(values.range(from)));
                 assert_eq!(format!("{map:?}{set:?}"), format!("{rust:?}{values:?}"));
                 expect_same_ends(set.iter(), values.iter(), draw);
                 let (mut copy, _) = until_allowed(|| set.clone(), |_| {});
