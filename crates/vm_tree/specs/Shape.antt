@@ -27,7 +27,7 @@ abbrev pub leaf_count : Shape → ℕ
 leaf_count (Tip bs) = 1
 leaf_count (Fork l r) = leaf_count l + leaf_count r
 
--- A bound on the height. Between two calls every tree is lower.
+-- A bound on the height. Between two calls every tree is lower, and no higher saved tree is read as that of an allocator.
 abbrev pub MAX_HEIGHT : ℕ
 MAX_HEIGHT = 49
 

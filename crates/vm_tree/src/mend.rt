@@ -3,11 +3,11 @@
 //! A leaf that has too few blocks is filled from the next leaf, or merged with it. Any other leaf is merged
 //! with the next leaf if the blocks of both fit in one. If its sibling is a node, the next leaf is a child of
 //! that node.
-ghost use Rattle.std.specs.Prelude.{◌≡◌, ◌+◌, ◌<◌, ◌≤◌, ◌++◌, length, max, MatchBool};
+ghost use Rattle.std.specs.Prelude.{◌≡◌, ◌+◌, ◌<◌, ◌≤◌, ◌++◌, length, max, IsTrue, MatchBool};
 ghost use Rattle.vm_leaf.specs.Blocks.{start_of, IsRun};
 ghost use Rattle.vm_tree.specs.Shape.{Tip, blocks, height_of, IsTree, MAX_HEIGHT};
-ghost use Rattle.vm_tree.specs.Links.{side, IsSummed, AreSummed};
-ghost use Rattle.vm_tree.specs.Mending.{leaf_len, end_len, CanMend, Mends, JoinsLeaves, JoinsNext};
+ghost use Rattle.vm_tree.specs.Links.{side, stored_height, IsSummed, AreSummed};
+ghost use Rattle.vm_tree.specs.Mending.{leaf_len, end_len, CanMend, CanMendTree, Mends, MendsTree, JoinsLeaves, JoinsNext};
 
 use crate::balance::balance;
 use crate::end::End;
@@ -120,6 +120,31 @@ fn fill_right(left: Link, spare: Box<Node>, right: Box<Leaf>) -> Link
     let (first, at, middle) = left.take_children();
     let high = join_leaves(into_leaf(middle), spare, right);
     fork_link(first, at, left, high)
+}
+
+/// Returns `true` if mending leaves the node at a link as it is, and its height is correct.
+#[tactic(auto, using(crate::proofs::Trees::mended))]
+pub(crate) fn is_mended(tree: &Link) -> bool
+    requires sides { CanMendTree (side tree.now) }
+    requires height_fits { height_of (side tree.now) ≤ MAX_HEIGHT }
+    ensures { IsTrue result → MendsTree (side tree.now) (side tree.now)
+        × (stored_height tree.now ≡ height_of (side tree.now)) }
+{
+    let Link::Fork {
+        height: stored,
+        node,
+        ..
+    } = tree
+    else {
+        return false;
+    };
+    let (left, right) = (&node.left, &node.right);
+    let (low, high) = (height(left), height(right));
+    low <= high + 1
+        && high <= low + 1
+        && *stored == low.max(high) + 1
+        && !joins_next(left, right, End::First)
+        && !joins_next(right, left, End::Last)
 }
 
 /// Mends a node: fills a child that is a leaf with too few blocks, merges a child that fits in one leaf with the

@@ -5,7 +5,8 @@ use Rattle.vm_ranges.proofs.FieldSteps.{field_map}
 use Rattle.vm_ranges.proofs.Nesting.{object_within, number_within, range_nests, state_nests}
 use Rattle.vm_ranges.specs.Range.{Range}
 use Rattle.vm_engine.specs.Address.{AddressState}
-use Rattle.vm_engine.specs.Values.NodeTree.{NodeTree, Tip, Fork, MAX_HEIGHT, height_of}
+use Rattle.vm_engine.specs.Values.NodeTree.{NodeTree, Tip, Fork, height_of}
+use Rattle.vm_tree.specs.Shape.{MAX_HEIGHT}
 use Rattle.vm_engine.specs.Values.TreeValues.{EncodesShape, EncodesSpaceTree}
 
 -- The value of a tree nests at most one deeper than its nodes.

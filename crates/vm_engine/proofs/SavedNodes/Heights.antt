@@ -3,7 +3,8 @@ use Rattle.std.proofs.Common.{◌≡◌, ℕ, ◌+◌, ◌*◌, ◌^◌, ◌<◌
 use Rattle.std.proofs.lemmas.Bool.{cases_lt}
 use Rattle.std.proofs.Math.Nat.{pow-suc}
 use Rattle.vm_tree.specs.Building.{IsLowestHeight}
-use Rattle.vm_engine.specs.Values.NodeTree.{NodeTree, Tip, Fork, MAX_HEIGHT, blocks, height_of, node_count}
+use Rattle.vm_engine.specs.Values.NodeTree.{NodeTree, Tip, Fork, blocks, height_of, node_count}
+use Rattle.vm_tree.specs.Shape.{MAX_HEIGHT}
 
 pub power_grows : (a b : ℕ) → a ≤ b → 2 ^ a ≤ 2 ^ b
 power_grows a zero p = let e : a ≡ 0 = omega arith in rw e (omega arith)

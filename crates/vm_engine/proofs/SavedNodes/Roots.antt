@@ -8,7 +8,7 @@ use Rattle.vm_engine.specs.Held.{MakesHeld}
 use Rattle.vm_leaf.specs.declared.block.Block.{Block}
 use Rattle.vm_leaf.specs.Blocks.{Tiles}
 use Rattle.vm_engine.specs.Tree.Blocks.{TilesSpace, AreKeysIn}
-use Rattle.vm_engine.specs.Values.NodeTree.{MAX_HEIGHT}
+use Rattle.vm_tree.specs.Shape.{MAX_HEIGHT}
 use Rattle.vm_engine.specs.Values.SavedTrees.{Saved, Absent, saved_blocks, held_keys, IsSavedTree, HasHeldKeys, HasTreeOf}
 use Rattle.vm_engine.specs.Checks.Spans.{StandsFor, is_inside, is_tree_of}
 use Rattle.vm_engine.specs.declared.saved.span.Span.{Span}

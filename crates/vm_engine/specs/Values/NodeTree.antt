@@ -23,10 +23,6 @@ abbrev pub node_count : NodeTree → ℕ
 node_count Tip = 0
 node_count (Fork l b r) = node_count l + node_count r + 1
 
--- The maximum height of a saved tree that is read node for node.
-abbrev pub MAX_HEIGHT : ℕ
-MAX_HEIGHT = 49
-
 -- The heights of both children of each node are at most one apart.
 abbrev pub IsBalanced : NodeTree → Type 0
 IsBalanced Tip = Unit {0}

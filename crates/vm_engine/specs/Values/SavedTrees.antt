@@ -5,7 +5,8 @@ use Rattle.vm_engine.specs.Address.{AddressState}
 use Rattle.vm_engine.specs.Answer.{SPLIT_LIMIT_MIN_HELD}
 use Rattle.vm_leaf.specs.declared.block.Block.{Block}
 use Rattle.vm_engine.specs.Tree.Blocks.{held_of, AreKeysIn, AreBelowMax, IsTiling}
-use Rattle.vm_engine.specs.Values.NodeTree.{NodeTree, Tip, Fork, MAX_HEIGHT, blocks, height_of, IsBalanced}
+use Rattle.vm_engine.specs.Values.NodeTree.{NodeTree, Tip, Fork, blocks, height_of, IsBalanced}
+use Rattle.vm_tree.specs.Shape.{MAX_HEIGHT}
 use Rattle.vm_engine.specs.Values.KeyValues.{MAX_NESTING_REPAIRED}
 
 -- A saved tree: no node, or a node with its block, both children and the height that is saved for it.

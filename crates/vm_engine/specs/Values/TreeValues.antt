@@ -7,7 +7,8 @@ use Rattle.vm_ranges.specs.Range.{Range}
 use Rattle.vm_leaf.specs.declared.block.Block.{Block}
 use Rattle.vm_engine.specs.Address.{AddressState}
 use Rattle.vm_engine.specs.Tree.Blocks.{held_of, IsTiling}
-use Rattle.vm_engine.specs.Values.NodeTree.{NodeTree, Tip, Fork, MAX_HEIGHT, blocks, height_of, IsBalanced}
+use Rattle.vm_engine.specs.Values.NodeTree.{NodeTree, Tip, Fork, blocks, height_of, IsBalanced}
+use Rattle.vm_tree.specs.Shape.{MAX_HEIGHT}
 use Rattle.vm_ranges.specs.RangeValues.{EncodesRange, EncodesState}
 
 -- The value d is an object with exactly the five fields of a node: its block, both children, and its height h. `Left`

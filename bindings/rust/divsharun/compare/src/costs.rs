@@ -71,6 +71,9 @@ impl Costs {
 
     /// Saves and restores a space once more.
     fn measure<F: Format, T: Serialize + DeserializeOwned>(&mut self, space: &T) {
+        // The C library joins small freed blocks when a large one is allocated. Those of the other library
+        // are joined here, and not in a measured call.
+        drop(black_box(Vec::<u8>::with_capacity(1 << 16)));
         let start = Instant::now();
         let saved = black_box(F::save(space));
         self.out = self.out.min(start.elapsed());

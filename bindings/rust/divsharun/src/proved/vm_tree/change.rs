@@ -3,7 +3,7 @@
 //! The update of the links above a change.
 
 use crate::proved::vm_tree::link::{Link, Node, height, into_fork, summary};
-use crate::proved::vm_tree::mend::mend;
+use crate::proved::vm_tree::mend::{is_mended, mend};
 use core::mem;
 use crate::proved::vm_leaf::Summary;
 
@@ -54,6 +54,9 @@ fn refresh(tree: &mut Link) -> Change {
 /// Mends the node at a link, of which a child has changed, and updates the link. Returns the change.
 #[inline(never)]
 fn restructure(tree: &mut Link) -> Change {
+    if is_mended(tree) {
+        return refresh(tree);
+    }
     let (free, before) = (summary(tree), height(tree));
     let mut node = into_fork(mem::replace(tree, Link::Hole));
     let (left, at, right) = node.take_children();
