@@ -195,8 +195,8 @@ fn split_leaf(tree: &mut Link, claim: Claim, alloc: Global) -> Result<(), Refusa
     requires full { 32 < length (blocks (side tree.old)) + added_by claim.left }
     ensures blocks { IfOk result (λ _. blocks (side tree.new)
         ≡ with_parts (blocks (side tree.old)) claim.index 1 (parts claim.gap claim.range)) }
-    ensures grows { IfOk result (λ _. Grows (side tree.old) (side tree.new) × IsSummed tree.new) }
-    ensures node { IfOk result (λ _. 2 ≤ height_of (side tree.new)) }
+    ensures grows { IfOk result (λ _. Grows (side tree.old) (side tree.new) × IsSummed tree.new
+        × (2 ≤ height_of (side tree.new))) }
     ensures error { IfErr result (λ refusal. refusal ≡ Refusal.OutOfMemory) }
     ensures unchanged { OnErr result (tree.new ≡ tree.old) }
 {
