@@ -1,5 +1,5 @@
 #!/usr/bin/env python3
-"""A second eraser, which shares no code with the first one and checks its output.
+"""A second eraser, which checks the output of the first one and shares only a table of crates with it.
 
     second_eraser.py PROJECT PROVED
 
@@ -11,6 +11,8 @@ import os
 import pathlib
 import re
 import sys
+
+from erase import INNER
 
 TOKEN = re.compile(r"""//[^\n]*|r\#".*?"\#|b?"(?:[^"\\]|\\.)*"|b?'(?:[^'\\]|\\.)'|\w+|[^\w\s]""", re.DOTALL)
 # Texts that the first eraser changes, in this order. NAME is the crate.
@@ -35,9 +37,6 @@ ADDED = re.compile(
     r"fn fmt\(&self, f: &mut core::fmt::Formatter<'_>\) -> core::fmt::Result \{\s+"
     r"match self \{\s+(?:\w+::\w+(?:\(field_0(?:, field_1)?\))? => write!\(f, \".*\"\),\s+)+\}\s+\}\s+\}\s+"
     r"impl core::error::Error for \w+ \{\}")
-# Crates whose items only proved modules can use. They alone can also use a public function of another crate that
-# has a precondition.
-INNER = {"vm_leaf", "vm_tree"}
 # Imports that only the first eraser writes.
 PRELUDE = {"crate::rattle::Box", "crate::rattle::Vec"}
 
