@@ -33,7 +33,7 @@ impl ReadNodes {
     }
 
     /// Returns an empty list of nodes whose keys are not kept, so it never allocates.
-    pub(super) fn without_keys() -> Self {
+    #[allow(dead_code)] pub(super) fn without_keys() -> Self {
         ReadNodes {
             held: None,
             depth: 0,
