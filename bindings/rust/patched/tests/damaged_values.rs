@@ -447,7 +447,10 @@ fn written_spaces_are_valid_and_depend_on_the_state_alone() {
         let (read, made) = refusing(0, read);
         same(Some(&space), Some(&read), "a space");
         let (repaired, again) = refusing(0, || AddressAllocator::read(&value).unwrap());
-        assert!(repaired == read && made == again && made <= most, "{made} allocations");
+        assert!(
+            repaired == read && made == again && made <= most,
+            "{made} allocations"
+        );
         let held: Vec<_> = space.held_ranges().collect();
         let size = space.end() - space.base() + 1;
         let other = AddressAllocator::with_held(space.base(), size, &held).unwrap();
