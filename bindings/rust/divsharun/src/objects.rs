@@ -1,4 +1,4 @@
-//! What each allocator and each iterator over its items implements.
+//! Implements the traits of the allocators, and of the iterators over their items.
 
 use core::fmt;
 
