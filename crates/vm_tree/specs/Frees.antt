@@ -50,7 +50,7 @@ abbrev pub CanExtend : End → Range → List Block → Type 0
 CanExtend First k bs = (k.start ≤ start_of bs) × IsRange k.start (end_of bs)
 CanExtend Last k bs = (end_of bs ≤ k.end) × IsRange (start_of bs) k.end
 
--- Of the blocks before a block and after it, those that are between it and an end of the list.
+-- The blocks between a block and an end of the list: those before it, or those after it.
 abbrev pub beyond : End → List Block → List Block → List Block
 beyond First lower upper = lower
 beyond Last lower upper = upper

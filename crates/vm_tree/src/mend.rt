@@ -122,7 +122,7 @@ fn fill_right(left: Link, spare: Box<Node>, right: Box<Leaf>) -> Link
     fork_link(first, at, left, high)
 }
 
-/// Returns `true` if mending leaves the node at a link as it is, and its height is correct.
+/// Returns `true` if mending does not change the node at a link, and its height is correct.
 #[tactic(auto, using(crate::proofs::Trees::mended))]
 pub(crate) fn is_mended(tree: &Link) -> bool
     requires sides { CanMendTree (side tree.now) }

@@ -18,7 +18,7 @@ use vm_leaf::{Block, Leaf};
 use vm_ranges::NodeState;
 
 /// Returns the reason why the range of a search that starts at `start` cannot be allocated in the block that
-/// contains `start`, or `None` if it lies in a gap and in the window.
+/// contains `start`. Returns `None` if the range lies in a gap and in the window.
 #[inline(always)]
 #[tactic(auto, using(crate::proofs::Allocating::refusing))]
 fn refusal_in(block: &Block, start: u64, search: &Search) -> Option<Refusal>

@@ -31,7 +31,7 @@
 //!
 //! - How often memory is allocated: no clause counts allocations.
 //! - How many leaves are left after frees. The node over a leaf that a free leaves at most half full is mended,
-//!   but no clause of `Tree` says so.
+//!   but no clause of `Tree` states it.
 //! - That the frames of a call fit on the stack. A call has at most 48 of each recursive function.
 
 mod allocate;

@@ -12,7 +12,7 @@ use crate::proved::vm_leaf::{Block, Leaf};
 use crate::proved::vm_ranges::NodeState;
 
 /// Returns the reason why the range of a search that starts at `start` cannot be allocated in the block that
-/// contains `start`, or `None` if it lies in a gap and in the window.
+/// contains `start`. Returns `None` if the range lies in a gap and in the window.
 #[inline(always)]
 fn refusal_in(block: &Block, start: u64, search: &Search) -> Option<Refusal> {
     let end = start + (search.size - 1);
