@@ -90,8 +90,7 @@ MODULES = ORIGIN.format("crates.txt") + """
 """
 ATTRIBUTES_WITH_TESTS = "#![allow(dead_code, unused_assignments, unused_variables)]\n"
 # Code that only readers of values or callers in Rattle reach, in files that the package has, and an error that no call returns.
-UNREACHED = re.compile(
-    r"^ *(?=(?:pub fn align_(?:down|up)|pub\(super\) fn without_keys|Overlap)\(|pub enum ValueError\b)", re.MULTILINE)
+UNREACHED = re.compile(r"^ *(?=(?:pub fn align_(?:down|up)|Overlap)\(|pub enum ValueError\b)", re.MULTILINE)
 PRELUDE_OF_TESTS = "use crate::testing::*;\nuse crate::testing::{assert, assert_eq};\n"
 RUNTIME = "{\n    let rt = HostRuntime;"
 DISPLAY = """

@@ -32,8 +32,7 @@ CHANGED = [
 # Texts that the first eraser adds: the attribute of code that divsharun does not reach, and what the derive of
 # `Error` stands for.
 ADDED = re.compile(
-    r"#\[allow\(dead_code\)\] "
-    r"(?=pub fn align_(?:down|up)\(|pub\(super\) fn without_keys\(|Overlap\(|pub enum ValueError\b)"
+    r"#\[allow\(dead_code\)\] (?=pub fn align_(?:down|up)\(|Overlap\(|pub enum ValueError\b)"
     r"|impl core::fmt::Display for \w+ \{\s+"
     r"fn fmt\(&self, f: &mut core::fmt::Formatter<'_>\) -> core::fmt::Result \{\s+"
     r"match self \{\s+(?:\w+::\w+(?:\(field_0(?:, field_1)?\))? => write!\(f, \".*\"\),\s+)+\}\s+\}\s+\}\s+"

@@ -398,13 +398,6 @@ fn bytes_are_read_as_the_proved_readers_do() {
     damage_each(read_bytes::<DeviceManager>);
 }
 
-/// Returns how often a list at most allocates until it has this many items: it grows by an eighth, and by 4
-/// items at least.
-fn growths(count: u64) -> u64 {
-    let capacities = std::iter::successors(Some(0), |items: &u64| Some(items + (items / 8).max(4)));
-    capacities.take_while(|items| *items < count).count() as u64
-}
-
 #[test]
 fn written_ids_and_devices_are_valid() {
     let mut draw = Draw(1);
@@ -419,8 +412,7 @@ fn written_ids_and_devices_are_valid() {
         let (read, made) = refusing(0, || DeviceManager::read(&value));
         same(Some(&devices), read.as_ref(), "devices");
         // The list of the ranges, their leaf, the devices, their starts, and three collections of ids.
-        let most = growths(devices.iter().count() as u64) + 6;
-        assert!(made <= most, "{made} allocations");
+        assert!(made <= 7, "{made} allocations");
     }
 }
 
@@ -442,15 +434,12 @@ fn written_spaces_are_valid_and_depend_on_the_state_alone() {
         let value = to_proved_value(&serde_json::from_str(&text).unwrap());
         // The list of the ranges, the leaves of at most 32 blocks, and the inner nodes.
         let leaves = (space.held_count() + space.gap_count()).div_ceil(32);
-        let most = growths(space.held_count()) + 2 * leaves - 1;
+        let most = u64::from(space.held_count() > 0) + 2 * leaves - 1;
         let read = || proved::AddressAllocator::from_value(Global, &value).unwrap();
         let (read, made) = refusing(0, read);
         same(Some(&space), Some(&read), "a space");
         let (repaired, again) = refusing(0, || AddressAllocator::read(&value).unwrap());
-        assert!(
-            repaired == read && made == again && made <= most,
-            "{made} allocations"
-        );
+        assert!(repaired == read && (made, again) == (most, most));
         let held: Vec<_> = space.held_ranges().collect();
         let size = space.end() - space.base() + 1;
         let other = AddressAllocator::with_held(space.base(), size, &held).unwrap();

@@ -1,5 +1,5 @@
 -- The nodes of a value are read as those of its saved tree.
-use Rattle.std.proofs.Common.{◌≡◌, ℕ, ◌+◌, ◌-◌, ◌≤◌, true, false, List, [], ◌++◌, Some, None, Option, IfSome, is_some, Result, Ok, Err, is_err, ⊎_elim, ◌<◌, refl, sym, ap, ◌∙◌, subst, arith, inl}
+use Rattle.std.proofs.Common.{◌≡◌, ℕ, ◌+◌, ◌-◌, ◌≤◌, true, false, List, [], ◌++◌, Some, None, Option, IfSome, is_some, Result, Ok, Err, is_err, option_map, ⊎_elim, ◌<◌, refl, sym, ap, ◌∙◌, subst, arith, inl}
 use Rattle.std.proofs.lemmas.List.{append_assoc, append-nil}
 use Rattle.std.proofs.lemmas.Option.{same_Some}
 use Rattle.serde_json.specs.Data.{Data, null}
@@ -10,7 +10,7 @@ use Rattle.vm_ranges.specs.Range.{Range}
 use Rattle.vm_ranges.specs.declared.saved.SavedError.{SavedError}
 use Rattle.vm_leaf.specs.declared.block.Block.{Block}
 use Rattle.vm_engine.specs.Values.KeyValues.{MAX_NESTING_REPAIRED}
-use Rattle.vm_engine.specs.Values.NodesRead.{NodesRead, AreNodesOf, IsEmpty, IsRootOf, BeginsNode}
+use Rattle.vm_engine.specs.Values.NodesRead.{NodesRead, AreNodesOf, IsRootOf, BeginsNode}
 use Rattle.vm_engine.specs.Values.SavedTrees.{Saved, Absent, Node, held_keys}
 use Rattle.vm_engine.specs.Checks.NodeChecks.{NodeData, decoded_node}
 use Rattle.vm_engine.specs.Checks.Spans.{StandsFor, span_of, span_over, EndsWithKeys, EndsNode}
@@ -144,11 +144,16 @@ module _ (d : Data) (n : NodeData) (old begun : NodesRead) (decoded : decoded_no
             λ before k. (end before l.0 r.0 l.1.stands r.1.stands (both before k)).1,
           )
 
+-- The keys of an empty list.
+pub no_keys_kept : {V : Type 0} (f : V → List Range) (list : Option V) → IfSome list (λ v. f v ≡ []) → IfSome (option_map f list) (λ keys. keys ≡ [])
+no_keys_kept f None empty = empty
+no_keys_kept f (Some v) empty = empty
+
 -- The nodes of a whole value.
-pub nodes_read : (d : Data) (old new : NodesRead) (answer : Option (Option Span)) → IsEmpty old → ReadsValue d old answer new → IfSome answer (IsRootOf old new) → is_some answer ≡ true → (t : Saved) × EncodesSaved d t × AreNodesOf new t
-nodes_read d old new None empty r root e = absurd (cc e)
-nodes_read d old new (Some span) empty r root e = (
+pub nodes_read : (d : Data) (held : Option (List Range)) (new : NodesRead) (answer : Option (Option Span)) → IfSome held (λ keys. keys ≡ []) → ReadsValue d (record { held = held; depth = 0; root = None }) answer new → IfSome answer (IsRootOf (record { held = held; depth = 0; root = None }) new) → is_some answer ≡ true → (t : Saved) × EncodesSaved d t × AreNodesOf new t
+nodes_read d held new None empty r root e = absurd (cc e)
+nodes_read d held new (Some span) empty r root e = (
   r.0,
   r.1.nodes,
-  record { span = subst (λ (o : Option Span). StandsFor o r.0) (sym (root empty.none_began empty.none_ended)) r.1.stands; keys = r.3 [] empty.no_keys },
+  record { span = subst (λ (o : Option Span). StandsFor o r.0) (sym (root refl refl)) r.1.stands; keys = r.3 [] empty },
 )

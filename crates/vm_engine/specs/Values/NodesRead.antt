@@ -21,16 +21,6 @@ pub record NodesRead : Type 0 where
 abbrev pub no_nodes : NodesRead
 no_nodes = record { held = Some []; depth = 0; root = None }
 
--- No node, and keys that are not kept.
-abbrev pub no_keys : NodesRead
-no_keys = record { held = None; depth = 0; root = None }
-
--- No node was read or began.
-pub record IsEmpty (nodes : NodesRead) : Type 0 where
-  pub none_began : nodes.depth ≡ 0
-  pub none_ended : nodes.root ≡ None
-  pub no_keys : IfSome nodes.held (λ keys. keys ≡ [])
-
 -- The span is that of the root after the nodes of a tree were read first.
 abbrev pub IsRootOf : NodesRead → NodesRead → Option Span → Type 0
 IsRootOf old new span = old.depth ≡ 0 → old.root ≡ None → new.root ≡ span

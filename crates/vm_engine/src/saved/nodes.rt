@@ -14,7 +14,7 @@ ghost use Rattle.vm_engine.specs.Tree.SpaceTree.{tree_state, made_tree};
 ghost use Rattle.vm_ranges.specs.Saving.{ReadsParts};
 ghost use Rattle.vm_ranges.specs.declared.saved.Condition.TheVariants.{Inside, Tree};
 ghost use Rattle.vm_ranges.specs.declared.saved.SavedError.TheVariants.{OutOfMemory};
-ghost use Rattle.vm_engine.specs.Values.NodesRead.{AreNodesOf, BeginsNode, no_keys, no_nodes, root_after};
+ghost use Rattle.vm_engine.specs.Values.NodesRead.{AreNodesOf, BeginsNode, no_nodes, root_after};
 
 use super::span::{MAX_NESTING, Span, held_in, is_inside, is_tree_of, span_over};
 use crate::IntervalTree;
@@ -26,9 +26,9 @@ use vm_ranges::{Condition, Error, NodeState, RangeInclusive, SavedError};
 #[derive(Drop)]
 pub struct ReadNodes {
     // The allocated keys of all nodes that ended, if they are kept. Those of a node are in ascending order.
-    held: Option<Vec<RangeInclusive>>,
+    pub(super) held: Option<Vec<RangeInclusive>>,
     // The number of nodes that began and did not end.
-    depth: u64,
+    pub(super) depth: u64,
     // The span of the last node that ended in no other node.
     pub(super) root: Option<Span>,
 }
@@ -51,17 +51,6 @@ impl ReadNodes {
     {
         ReadNodes {
             held: Some(Vec::new(alloc)),
-            depth: 0,
-            root: None,
-        }
-    }
-
-    /// Returns an empty list of nodes whose keys are not kept, so it never allocates.
-    pub(super) fn without_keys() -> Self
-        ensures { result ≡ no_keys }
-    {
-        ReadNodes {
-            held: None,
             depth: 0,
             root: None,
         }

@@ -1,5 +1,5 @@
 //! Encodes a tree as a value, and decodes it.
-ghost use Rattle.std.specs.Prelude.{◌≡◌, ◌≤◌, IfOk, IfSome};
+ghost use Rattle.std.specs.Prelude.{◌≡◌, ◌≤◌, [], IfOk, IfSome};
 ghost use Rattle.serde_json.specs.View.{view};
 ghost use Rattle.vm_ranges.specs.Saving.{Saves, Reads};
 ghost use Rattle.vm_tree.specs.Building.{IsLowestTree};
@@ -9,12 +9,12 @@ ghost use Rattle.vm_engine.specs.Tree.SpaceTree.{tree_state, made_tree};
 ghost use Rattle.vm_engine.specs.Values.SavedTrees.{Saved};
 ghost use Rattle.vm_engine.specs.Values.TreeValues.{EncodesSpaceTree};
 ghost use Rattle.vm_engine.specs.Values.KeyValues.{MAX_NESTING_REPAIRED, EncodesKeys};
-ghost use Rattle.vm_engine.specs.Values.NodesRead.{IsEmpty, IsRootOf};
+ghost use Rattle.vm_engine.specs.Values.NodesRead.{IsRootOf};
 ghost use Rattle.vm_engine.specs.Values.WrittenTrees.{IsWritten};
 
 use super::node::{decode_node, encode_node};
 use super::nodes::ReadNodes;
-use super::span::{Span, is_inside, is_tree_of};
+use super::span::{Span, held_in, is_inside, is_tree_of};
 use super::written::{WrittenBlocks, WrittenTree};
 use crate::IntervalTree;
 use serde_json::Value;
@@ -58,11 +58,12 @@ impl IntervalTree {
     {
         // Proof: this shows that the space is a range.
         let _end = space.end();
-        let checked = read_nodes(ReadNodes::without_keys(), value)?;
+        let checked = read_nodes(None, value)?;
         if !is_tree_of(space, &checked.root) {
             return Err(ValueError::NotAState);
         }
-        let nodes = read_nodes(ReadNodes::new(alloc), value)?;
+        let list = Vec::with_capacity(alloc, held_in(&checked.root) as usize).ok();
+        let nodes = read_nodes(list, value)?;
         Ok(Self::from_nodes(alloc, *space, &nodes)?)
     }
 
@@ -94,20 +95,29 @@ impl IntervalTree {
     {
         // Proof: this shows that the space is a range.
         let _end = space.end();
-        let checked = read_nodes(ReadNodes::without_keys(), value)?;
+        let checked = read_nodes(None, value)?;
         if !is_inside(space, &checked.root) {
             return Err(ValueError::NotAState);
         }
-        let nodes = read_nodes(ReadNodes::new(alloc), value)?;
+        let list = Vec::with_capacity(alloc, held_in(&checked.root) as usize).ok();
+        let nodes = read_nodes(list, value)?;
         Ok(Self::from_nodes_repaired(alloc, *space, &nodes)?)
     }
 }
 
-/// Reads the nodes of a value into an empty list.
-fn read_nodes(mut nodes: ReadNodes, value: &Value) -> std::result::Result<ReadNodes, ValueError>
-    requires { IsEmpty nodes }
+/// Reads the nodes of a value. Their keys are kept if there is a list for them, which must be empty.
+fn read_nodes(
+    held: Option<Vec<RangeInclusive>>,
+    value: &Value,
+) -> std::result::Result<ReadNodes, ValueError>
+    requires { IfSome held (λ list. list.items ≡ []) }
     ensures { ReadsNodes (view value.now) result }
 {
+    let mut nodes = ReadNodes {
+        held,
+        depth: 0,
+        root: None,
+    };
     if read_node(&mut nodes, value).is_none() {
         return Err(ValueError::NotAState);
     }

@@ -15,9 +15,9 @@ use crate::proved::vm_ranges::{Condition, Error, NodeState, RangeInclusive, Save
 /// The nodes of a saved tree that were read so far.
 pub struct ReadNodes {
     // The allocated keys of all nodes that ended, if they are kept. Those of a node are in ascending order.
-    held: Option<Vec<RangeInclusive>>,
+    pub(super) held: Option<Vec<RangeInclusive>>,
     // The number of nodes that began and did not end.
-    depth: u64,
+    pub(super) depth: u64,
     // The span of the last node that ended in no other node.
     pub(super) root: Option<Span>,
 }
@@ -27,15 +27,6 @@ impl ReadNodes {
     pub fn new(alloc: Global) -> Self {
         ReadNodes {
             held: Some(Vec::new(alloc)),
-            depth: 0,
-            root: None,
-        }
-    }
-
-    /// Returns an empty list of nodes whose keys are not kept, so it never allocates.
-    #[allow(dead_code)] pub(super) fn without_keys() -> Self {
-        ReadNodes {
-            held: None,
             depth: 0,
             root: None,
         }
