@@ -1,9 +1,10 @@
 -- The results of creating a space with some ranges held.
 use Rattle.std.specs.Prelude.{◌≡◌, ℕ, ◌+◌, ◌-◌, ◌<◌, ◌≤◌, ◌⊎◌, nat_lt, nat_eq, if◌then◌else◌, List, [], ◌∷◌, length, Option, Some, None, is_some, MatchOption, MatchResult, Result, Ok, Err}
 use Rattle.vm_ranges.specs.Cases.{IfElse}
-use Rattle.vm_ranges.specs.Range.{Range, MAX, span}
+use Rattle.vm_ranges.specs.Range.{Range, MAX, span, address_count}
 use Rattle.vm_tree.specs.Building.{AreInOrder, blocks_between, TOO_MANY_BLOCKS}
 use Rattle.vm_engine.specs.Address.{AddressState}
+use Rattle.vm_engine.specs.Queries.{count_of}
 use Rattle.vm_engine.specs.Tree.Blocks.{blocks_of}
 use Rattle.vm_ranges.specs.declared.error.Error.{Error}
 use Rattle.vm_ranges.specs.declared.error.ListError.{ListError}
@@ -64,14 +65,15 @@ HasFaultIndex base size held index =
 abbrev pub MakesWithHeld : ℕ → ℕ → List Range → Result AddressState Error → Type 0
 MakesWithHeld base size held answer = BySpace base size (λ e. answer ≡ Err e) (λ space. MakesHeld space held answer)
 
--- The number of blocks of the space with these ranges held, or the error and the index of the first range that cannot be
--- held.
-abbrev pub CountsBlocks : Range → List Range → Result ℕ ListError → Type 0
+-- The numbers of blocks and of free addresses of the space with these ranges held, or the error and the index of the first
+-- range that cannot be held.
+abbrev pub CountsBlocks : Range → List Range → Result (ℕ × ℕ) ListError → Type 0
 CountsBlocks space held answer =
     MatchResult answer
     (λ n. (first_fault space.start space.end held ≡ None)
     × AreInOrder space.start held space.end
-    × (n ≡ length (blocks_between space.start held space.end))
+    × (n.0 ≡ length (blocks_between space.start held space.end))
+    × (n.1 + count_of held ≡ address_count space)
     × (fault_index 0 space.start space.end held ≡ None))
     (λ failure. (first_fault space.start space.end held ≡ Some failure.error)
     × (failure.index ≡ fault_index 0 space.start space.end held))

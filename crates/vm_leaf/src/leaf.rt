@@ -460,36 +460,17 @@ impl Leaf {
         }
     }
 
-    /// Returns `true` if there is a block before block `i` and it is free.
+    /// Returns `true` if block `i` exists and is free.
     #[inline(always)]
-    fn is_free_before(&self, i: usize) -> bool
-        requires { i < length self.now }
+    fn is_free_at(&self, i: usize) -> bool
         ensures { MatchBool result
-            ((0 < i) × ((nth self.now (i - 1)).state ≡ Free))
-            (0 < i → (nth self.now (i - 1)).state ≡ Allocated) }
+            ((i < length self.now) × ((nth self.now i).state ≡ Free))
+            (i < length self.now → (nth self.now i).state ≡ Allocated) }
     {
-        if i == 0 {
+        if i >= self.len() {
             return false;
         }
-        match self.state_at(i - 1) {
-            NodeState::Free => true,
-            NodeState::Allocated => false,
-        }
-    }
-
-    /// Returns `true` if there is a block after block `i` and it is free.
-    #[inline(always)]
-    fn is_free_after(&self, i: usize) -> bool
-        requires { i < length self.now }
-        ensures { MatchBool result
-            ((i + 1 < length self.now) × ((nth self.now (i + 1)).state ≡ Free))
-            (i + 1 < length self.now → (nth self.now (i + 1)).state ≡ Allocated) }
-    {
-        let len = self.len();
-        if i + 1 == len {
-            return false;
-        }
-        match self.state_at(i + 1) {
+        match self.state_at(i) {
             NodeState::Free => true,
             NodeState::Allocated => false,
         }
@@ -525,8 +506,8 @@ impl Leaf {
     {
         // Proof: `len` gives the facts of a leaf.
         let _len = self.len();
-        let after = self.is_free_after(i);
-        if self.is_free_before(i) {
+        let after = self.is_free_at(i + 1);
+        if i > 0 && self.is_free_at(i - 1) {
             if after {
                 return self.join_blocks(i - 1, 3);
             }

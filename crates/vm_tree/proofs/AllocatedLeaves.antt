@@ -1,7 +1,7 @@
 -- A leaf in which a range is allocated.
 use Rattle.std.specs.Prelude.{Ok, Err}
-use Rattle.std.proofs.Common.{◌≡◌, ◌≢◌, Bool, true, false, ◌<◌, ◌≤◌, subst, sym, ap, arith}
-use Rattle.vm_tree.specs.Shape.{height_of, IsTree}
+use Rattle.std.proofs.Common.{◌≡◌, ◌≢◌, Bool, true, false, ◌<◌, ◌≤◌, length, subst, sym, ap, arith}
+use Rattle.vm_tree.specs.Shape.{blocks, height_of, IsTree}
 use Rattle.vm_tree.specs.Links.{side, IsSummed}
 use Rattle.vm_tree.specs.Growth.{Grows, GrowsBy, CanTakeFrom, IsTakenLeaf, LeavesLeaf}
 use Rattle.vm_tree.specs.declared.change.Change.{Change}
@@ -9,7 +9,7 @@ use Rattle.vm_tree.specs.declared.change.Change.TheVariants.{Structure}
 use Rattle.vm_tree.specs.declared.link.Link.{Link}
 use Rattle.vm_tree.specs.declared.search.Taken.{Taken}
 use Rattle.vm_tree.specs.declared.search.Refusal.{Refusal}
-use Rattle.vm_tree.proofs.Trees.{full_rooted}
+use Rattle.vm_tree.proofs.Trees.{full_some, rooted_some, full_rooted}
 
 module _ (lone : Bool) (change : Change) (old new : Link) where
   pub taken_lone : lone ≡ true → IsTree (side new) → height_of (side new) < 2 → IsTakenLeaf lone change old new
@@ -19,6 +19,10 @@ module _ (lone : Bool) (change : Change) (old new : Link) where
   taken_summed e g n s = rw e (g, n, s)
 
 pub ruleset taking = (taken_lone, taken_summed)
+
+pub leaf_some : (lone : Bool) (old : Link) → CanTakeFrom lone old → 0 < length (blocks (side old))
+leaf_some true old h = rooted_some (side old) h.leaves
+leaf_some false old h = omega (arith, full_some (side old) h.0)
 
 module _ (lone : Bool) (old new : Link) (leaf : height_of (side old) < 2) where
   pub left_same : (refusal : Refusal) → CanTakeFrom lone old → new ≡ old → LeavesLeaf lone (Err refusal) old new
@@ -43,3 +47,5 @@ module _ (lone : Bool) (old new : Link) (leaf : height_of (side old) < 2) where
       by_lone false = ((record { grows = g; higher = λ k. omega (arith, leaf, h); kept = rw e tt }, λ k. absurd (omega arith)), s)
 
 pub ruleset placing = (left_same, left_taken, left_split)
+
+pub ruleset choosing = (leaf_some, left_same)

@@ -48,8 +48,7 @@ fn refresh(tree: &mut Link) -> Change
     ensures steady { result ≢ Change.Structure }
 {
     match tree {
-        Link::Hole => unreachable!(),
-        Link::Leaf { .. } => unreachable!(),
+        Link::Hole | Link::Leaf { .. } => unreachable!(),
         Link::Fork {
             longest,
             alignments,

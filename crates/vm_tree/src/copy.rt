@@ -1,10 +1,11 @@
-//! Copies of trees.
-ghost use Rattle.std.specs.Prelude.{◌≡◌, IfOk};
+//! A copy of a tree, and a list of its blocks.
+ghost use Rattle.std.specs.Prelude.{◌≡◌, ◌++◌, IfOk};
 ghost use Rattle.vm_tree.specs.Links.{side, IsSummed};
+ghost use Rattle.vm_tree.specs.Shape.{blocks};
 
 use crate::link::{Link, Node};
 use std::alloc::{AllocError, Global};
-use vm_leaf::Leaf;
+use vm_leaf::{Block, Leaf};
 
 /// Returns a copy of a tree with the same nodes, the same leaves and the same summaries.
 ///
@@ -46,6 +47,34 @@ pub(crate) fn copy(tree: &Link, alloc: Global) -> Result<Link, AllocError>
                 height: *height,
                 node: Box::new(alloc, node)?,
             })
+        }
+    }
+}
+
+/// Appends the blocks of a leaf to a list, or returns an error if an allocation fails.
+fn append_leaf(leaf: &Leaf, list: &mut Vec<Block>) -> Result<(), AllocError>
+    ensures { IfOk result (λ _. list.new.items ≡ list.old.items ++ leaf.now) }
+{
+    for block in leaf.part(0, leaf.len()) {
+        list.push(block)?;
+    }
+    Ok(())
+}
+
+/// Appends the blocks of a tree to a list, or returns an error if an allocation fails.
+pub(crate) fn append_blocks(tree: &Link, list: &mut Vec<Block>) -> Result<(), AllocError>
+    ensures { IfOk result (λ _. list.new.items ≡ list.old.items ++ blocks (side tree.now)) }
+{
+    match tree {
+        Link::Hole => Ok(()),
+        Link::Leaf { leaf, .. } => {
+            let leaf: &Leaf = leaf;
+            append_leaf(leaf, list)
+        }
+        Link::Fork { node, .. } => {
+            let node: &Node = node;
+            append_blocks(&node.left, list)?;
+            append_blocks(&node.right, list)
         }
     }
 }

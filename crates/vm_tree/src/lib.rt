@@ -42,7 +42,6 @@ mod end;
 mod find;
 mod free;
 mod link;
-mod list;
 mod mend;
 mod search;
 mod steps;

@@ -67,8 +67,7 @@ pub(crate) fn height(link: &Link) -> u8
     ensures summed { (2 ≤ height_of (side link.now) → IsSummed link.now) → result ≡ height_of (side link.now) }
 {
     match link {
-        Link::Hole => 1,
-        Link::Leaf { .. } => 1,
+        Link::Hole | Link::Leaf { .. } => 1,
         Link::Fork { height, node, .. } => {
             // Proof: a node that is read has two children.
             let node: &Node = node;
@@ -170,8 +169,7 @@ pub(crate) fn into_fork(link: Link) -> Box<Node>
 {
     match link {
         Link::Fork { node, .. } => node,
-        Link::Leaf { .. } => unreachable!(),
-        Link::Hole => unreachable!(),
+        Link::Leaf { .. } | Link::Hole => unreachable!(),
     }
 }
 

@@ -18,17 +18,16 @@ ghost use Rattle.vm_tree.specs.Roots.{IsBlockTree, IsPathLength, range_of};
 ghost use Rattle.vm_tree.specs.Shape.{Tip, blocks, height_of, SPLIT_HEIGHT};
 ghost use Rattle.vm_tree.specs.Walks.{meeting_blocks};
 
-use crate::allocate::exact::{exact_at, exact_in_root};
-use crate::allocate::fit::{fit_at, fit_in_root};
+use crate::allocate::exact::{exact_at, exact_in_leaf};
+use crate::allocate::fit::{fit_at, fit_in_leaf};
 use crate::allocate::{count_place, fits};
 use crate::build::build_tree;
 use crate::change::free_summary;
-use crate::copy::copy;
+use crate::copy::{append_blocks, copy};
 use crate::end::End;
 use crate::find::block_at;
 use crate::free::{free_at, free_in};
 use crate::link::{Link, Node, height, leaf_link};
-use crate::list::append_blocks;
 use crate::search::{Refusal, Search, Taken};
 use crate::steps::Steps;
 use crate::walk::Walk;
@@ -224,7 +223,7 @@ impl Tree {
             Link::Hole => unreachable!(),
             Link::Leaf { .. } => {
                 count.enter();
-                exact_in_root(&mut self.root, start, search, alloc)
+                exact_in_leaf(&mut self.root, true, start, search, alloc)
             }
             Link::Fork { node, .. } => {
                 // Proof: a node that is read has two children.
@@ -265,7 +264,7 @@ impl Tree {
         match &mut self.root {
             Link::Hole => unreachable!(),
             Link::Leaf { .. } => {
-                let answer = fit_in_root(&mut self.root, end, search, alloc);
+                let answer = fit_in_leaf(&mut self.root, true, end, search, alloc);
                 count_place(&answer, count);
                 answer
             }

@@ -13,7 +13,7 @@ use Rattle.vm_engine.specs.Tree.Blocks.{held_of, blocks_state, blocks_of}
 use Rattle.vm_engine.specs.Address.{AddressState}
 use Rattle.vm_tree.specs.Shape.{Shape, blocks}
 use Rattle.vm_engine.specs.Tree.SpaceTree.{space_of, tree_state, IsSpaceTree}
-use Rattle.vm_engine.specs.Comparison.{blocks_cmp, layout_cmp, layout_cmp-total, state_cmp, state_cmp-total, AreEqual, IsOrder}
+use Rattle.vm_engine.specs.Comparison.{blocks_cmp, blocks_cmp-total, layout_cmp, layout_cmp-total, state_cmp, state_cmp-total, AreEqual, IsOrder}
 use Rattle.vm_engine.proofs.Comparing.Orders.{order_of_total, blocks_cmp-exact}
 use Rattle.vm_ranges.proofs.RangeOrders.{both_equal, range_cmp-exact}
 use Rattle.vm_engine.proofs.Comparing.Tilings.{tree_blocks, held_of-blocks_of}
@@ -63,6 +63,10 @@ trees_Equal s t p q = (
   λ h. same_state s t (sym (tree_blocks s p) ∙ blocks_cmp-exact (blocks_of (tree_state s)) (blocks_of (tree_state t)) h ∙ tree_blocks t q),
   λ e. ap (layout_cmp (tree_state s)) (sym (one_state (tree_state s) (tree_state t) e)) ∙ tied_itself layout_cmp-total (tree_state s),
 )
+
+-- The order of two lists of blocks returns Equal exactly if they are the same.
+pub tested_blocks : (bs cs : List Block) (r : Bool) → IsTrue r ↔ (blocks_cmp bs cs ≡ Equal) → IsTrue r ↔ (bs ≡ cs)
+tested_blocks bs cs r h = (λ t. blocks_cmp-exact bs cs (h.0 t), λ e. h.1 (ap (blocks_cmp bs) (sym e) ∙ tied_itself blocks_cmp-total bs))
 
 -- A test if two trees have the same blocks is a test if their states are equal.
 pub tested_state : (s t : Shape) (r : Bool) → IsSpaceTree s → IsSpaceTree t → IsTrue r ↔ (blocks s ≡ blocks t) → IsTrue r ↔ AreEqual (tree_state s) (tree_state t)

@@ -1,5 +1,5 @@
 -- The counts of a tree before and after a range is allocated or freed.
-use Rattle.std.proofs.Common.{◌≡◌, ℕ, ◌+◌, ◌-◌, ◌^◌, ◌<◌, ◌≤◌, List, [], ◌∷◌, length, drop, get_or, refl, sym, ap, ◌∙◌, arith, subst, ⊎_elim}
+use Rattle.std.proofs.Common.{zero, suc, ◌≡◌, ℕ, ◌+◌, ◌-◌, ◌^◌, ◌<◌, ◌≤◌, List, [], ◌∷◌, length, drop, get_or, refl, sym, ap, ◌∙◌, arith, subst, ⊎_elim}
 use Rattle.std.proofs.lemmas.Bool.{cases_lt, lt-ltb, le-ltb}
 use Rattle.std.proofs.lemmas.List.{drop_more}
 use Rattle.std.specs.List.{Contains}
@@ -40,6 +40,12 @@ count_with r (h ∷ hs) =
 pub count_within : (lo hi : ℕ) (rs : List Range) → AreInOrder lo rs hi → lo ≤ hi + 1 → count_of rs + lo ≤ hi + 1
 count_within lo hi [] s l = omega arith
 count_within lo hi (r ∷ rs) s l = omega (arith, count_within (r.end + 1) hi rs s.4 (omega (arith, s.2)), s.0, s.1)
+
+-- Some last ranges have at most as many addresses as all.
+pub count_dropped : (rs : List Range) (i : ℕ) → count_of (drop i rs) ≤ count_of rs
+count_dropped rs zero = omega arith
+count_dropped [] (suc i) = omega arith
+count_dropped (r ∷ rs) (suc i) = omega (arith, count_dropped rs i)
 
 -- The addresses of the ranges that are left in a list.
 pub count_rest : (rs : List Range) (i : ℕ) (d r : Range) → i < length rs → r ≡ get_or rs i d → count_of (drop i rs) ≡ address_count r + count_of (drop (i + 1) rs)

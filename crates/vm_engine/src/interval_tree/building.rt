@@ -3,11 +3,10 @@
 //! A first pass checks and counts without allocating. A second pass builds the blocks into leaves.
 ghost use Rattle.std.specs.Prelude.{◌≡◌, ◌+◌, ◌≤◌, Some, None, IfOk, IfErr, MatchResult};
 ghost use Rattle.vm_ranges.specs.ListErrors.{by_error};
-ghost use Rattle.vm_ranges.specs.Range.{IsRange, address_count};
-ghost use Rattle.vm_tree.specs.Building.{AreInOrder, IsLowestTree};
+ghost use Rattle.vm_ranges.specs.Range.{IsRange};
+ghost use Rattle.vm_tree.specs.Building.{IsLowestTree};
 ghost use Rattle.vm_engine.specs.Address.{IsAddressState};
 ghost use Rattle.vm_engine.specs.Held.{MakesHeld, CountsBlocks, range_fault, fault_index};
-ghost use Rattle.vm_engine.specs.Queries.{count_of};
 ghost use Rattle.vm_engine.specs.Tree.SpaceTree.{tree_state, made_tree};
 
 use super::IntervalTree;
@@ -34,7 +33,7 @@ impl IntervalTree {
         ensures low { IfOk result IsLowestTree }
         ensures state { IfOk result (λ tree. IsAddressState (tree_state tree)) }
     {
-        let count = count_blocks(&key, held)?;
+        let (count, left) = count_blocks(&key, held)?;
         if count >= TOO_MANY_BLOCKS {
             return Err(Error::Overflow.into());
         }
@@ -43,23 +42,23 @@ impl IntervalTree {
             space: key,
             held_count: held.len() as u64,
             gap_count: count - held.len() as u64,
-            free_len: count_left(&key, held),
+            free_len: left,
         })
     }
 }
 
-/// Returns the number of blocks of the space with these ranges allocated, or the error of the first
-/// range that cannot be allocated.
+/// Returns the numbers of blocks and of free addresses of the space with these ranges allocated, or the
+/// error of the first range that cannot be allocated.
 fn count_blocks(
     space: &RangeInclusive,
     held: &[RangeInclusive],
-) -> std::result::Result<u64, ListError>
+) -> std::result::Result<(u64, u64), ListError>
     ensures checked { CountsBlocks space.now held.now result }
     ensures space { IsRange space.now.start space.now.end }
 {
     let end = space.end();
     let mut next = space.start();
-    let mut count = 0;
+    let (mut count, mut left) = (0, 0);
     for (index, range) in held.iter().enumerate() {
         if let Err(error) = check_next(next, end, range) {
             let index = Some(index);
@@ -67,27 +66,16 @@ fn count_blocks(
         }
         if next < range.start() {
             count += 1;
+            left += range.start() - next;
         }
         count += 1;
         next = range.end() + 1;
     }
     if next <= end {
         count += 1;
+        left += end - next + 1;
     }
-    Ok(count)
-}
-
-/// Returns the number of addresses of a space that are in none of these ranges.
-fn count_left(space: &RangeInclusive, held: &[RangeInclusive]) -> u64
-    requires order { AreInOrder space.now.start held.now space.now.end }
-    requires space { space.now.start ≤ space.now.end }
-    ensures { result + count_of held.now ≡ address_count space.now }
-{
-    let mut left = space.len();
-    for range in held {
-        left -= range.len();
-    }
-    left
+    Ok((count, left))
 }
 
 /// Checks that a range can be allocated if it must start at `next` or later, in a space that ends at

@@ -25,7 +25,7 @@ impl PartialEq for IntervalTree {
         ensures equal { IsTrue result ↔ AreEqual (tree_state self.now) (tree_state other.now) }
         ensures order { result ≡ eq_by_cmp layout_cmp (tree_state self.now) (tree_state other.now) }
     {
-        same_blocks(self.blocks(), other.blocks())
+        compare_blocks(self.blocks(), other.blocks()) == Ordering::Equal
     }
 }
 
@@ -64,21 +64,6 @@ impl Ord for IntervalTree {
     {
         compare_blocks(self.blocks(), other.blocks())
     }
-}
-
-/// Returns `true` if two walks return the same blocks. It stops at the first difference.
-fn same_blocks(mut left: Walk<'_>, mut right: Walk<'_>) -> bool
-    ensures { IsTrue result ↔ (left.entry ≡ right.entry) }
-{
-    while let Some(x) = left.next() {
-        let Some(y) = right.next() else {
-            return false;
-        };
-        if x != y {
-            return false;
-        }
-    }
-    right.next().is_none()
 }
 
 /// Compares two walks by the first blocks that differ. If the blocks of one walk are a prefix of the

@@ -1,9 +1,9 @@
 //! The allocation of a range that starts at a given address.
-ghost use Rattle.std.specs.Prelude.{◌≡◌, ◌+◌, ◌<◌, ◌≤◌, OnErr, IfOk};
+ghost use Rattle.std.specs.Prelude.{◌≡◌, ◌+◌, ◌<◌, ◌≤◌};
 ghost use Rattle.vm_ranges.specs.Range.{MAX};
-ghost use Rattle.vm_tree.specs.Shape.{blocks, height_of, HasFullLeaves, IsTree};
+ghost use Rattle.vm_tree.specs.Shape.{blocks, height_of};
 ghost use Rattle.vm_tree.specs.Links.{side, IsSummed};
-ghost use Rattle.vm_tree.specs.Growth.{IsSubtree, IsChild, GrowsIfOk, GrowsBelowIfOk};
+ghost use Rattle.vm_tree.specs.Growth.{IsSubtree, IsChild, GrowsIfOk, GrowsBelowIfOk, CanTakeFrom, LeavesLeaf};
 ghost use Rattle.vm_tree.specs.Allocation.{IsSearch, AllocatesExact};
 ghost use Rattle.vm_tree.specs.NodeCounts.{nodes_to_address};
 ghost use Rattle.vm_tree.specs.Placing.{IsStartIn, RefusesIn, FindsSiteOf};
@@ -66,12 +66,13 @@ fn site_from(leaf: &Leaf, start: u64, search: &Search) -> Result<Site, Refusal>
     }
 }
 
-/// Allocates the range of a search that starts at `start` in a leaf, and updates what is stored beside
-/// the link.
-#[tactic(auto, using(crate::proofs::Allocating::settling_exact, crate::proofs::Trees::sizes))]
+/// Allocates the range of a search that starts at `start` in a leaf. Unless the leaf is the whole tree
+/// (`lone`), it updates what is stored beside the link.
+#[tactic(auto, using(crate::proofs::Allocating::settling_exact, crate::proofs::AllocatedLeaves::choosing))]
 #[inline(never)]
-fn exact_in_leaf(
+pub(crate) fn exact_in_leaf(
     tree: &mut Link,
+    lone: bool,
     start: u64,
     search: &Search,
     alloc: Global,
@@ -79,38 +80,13 @@ fn exact_in_leaf(
     requires search { IsSearch search.now }
     requires start { IsStartIn search.now start (blocks (side tree.old)) }
     requires leaf { height_of (side tree.old) < 2 }
-    requires full { HasFullLeaves (side tree.old) }
-    requires summed { IsSummed tree.old }
+    requires can { CanTakeFrom lone tree.old }
     ensures answer { AllocatesExact search.now start
         (blocks (side tree.old)) (blocks (side tree.new)) result }
-    ensures change { GrowsIfOk result (side tree.old) (side tree.new) }
-    ensures summed { IsSummed tree.new }
+    ensures left { LeavesLeaf lone result tree.old tree.new }
 {
     let site = site_from(leaf_of(tree), start, search)?;
-    place_at(tree, false, &site, search, alloc)
-}
-
-/// Allocates the range of a search that starts at `start` in a leaf that is the whole tree, and of which
-/// nothing correct is stored beside the link.
-#[tactic(auto, using(crate::proofs::Allocating::settling_exact, crate::proofs::Trees::sizes))]
-pub(crate) fn exact_in_root(
-    root: &mut Link,
-    start: u64,
-    search: &Search,
-    alloc: Global,
-) -> Result<Taken, Refusal>
-    requires search { IsSearch search.now }
-    requires start { IsStartIn search.now start (blocks (side root.old)) }
-    requires leaf { height_of (side root.old) < 2 }
-    requires tree { IsTree (side root.old) }
-    ensures answer { AllocatesExact search.now start
-        (blocks (side root.old)) (blocks (side root.new)) result }
-    ensures unchanged { OnErr result (root.new ≡ root.old) }
-    ensures tree { IfOk result (λ _. IsTree (side root.new) × (height_of (side root.new) ≤ 2)) }
-    ensures summed { 2 ≤ height_of (side root.new) → IsSummed root.new }
-{
-    let site = site_from(leaf_of(root), start, search)?;
-    place_at(root, true, &site, search, alloc)
+    place_at(tree, lone, &site, search, alloc)
 }
 
 /// Allocates the range of a search that starts at `start` below a node.
@@ -160,7 +136,7 @@ pub(crate) fn exact_at(
     count.enter();
     match tree {
         Link::Hole => unreachable!(),
-        Link::Leaf { .. } => exact_in_leaf(tree, start, search, alloc),
+        Link::Leaf { .. } => exact_in_leaf(tree, false, start, search, alloc),
         Link::Fork { node, .. } => {
             let node: &mut Node = node;
             let mut answer = exact_below(node, start, search, alloc, count);

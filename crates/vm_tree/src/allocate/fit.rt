@@ -2,14 +2,14 @@
 //!
 //! Both are one search from an end: from the lowest address up, or from the highest one down. The near child
 //! of a node is the one at that end.
-ghost use Rattle.std.specs.Prelude.{◌≡◌, ◌+◌, ◌<◌, ◌≤◌, true, length, OnErr, IfOk, MatchOption};
+ghost use Rattle.std.specs.Prelude.{◌≡◌, ◌+◌, ◌<◌, ◌≤◌, true, MatchOption};
 ghost use Rattle.vm_ranges.specs.Range.{MAX};
-ghost use Rattle.vm_tree.specs.Shape.{blocks, height_of, HasFullLeaves, IsTree};
+ghost use Rattle.vm_tree.specs.Shape.{blocks, height_of};
 ghost use Rattle.vm_tree.specs.Links.{side, IsSummed};
-ghost use Rattle.vm_tree.specs.Growth.{IsSubtree, IsChild, GrowsIfOk, GrowsBelowIfOk};
+ghost use Rattle.vm_tree.specs.Growth.{IsSubtree, IsChild, GrowsIfOk, GrowsBelowIfOk, CanTakeFrom, LeavesLeaf};
 ghost use Rattle.vm_tree.specs.Allocation.{window_of, IsSearch, HasNoPlace, AllocatesFit};
 ghost use Rattle.vm_tree.specs.NodeCounts.{may_fit_in, nodes_of_search};
-ghost use Rattle.vm_tree.specs.Placing.{site_of, IsClosestSite};
+ghost use Rattle.vm_tree.specs.Placing.{IsClosestSite};
 ghost use Rattle.vm_tree.specs.Ends.{opposite};
 ghost use Rattle.vm_tree.specs.Searching.{child_at, may_fit_in_child, nodes_of_child};
 
@@ -21,20 +21,7 @@ use crate::link::{Link, Node};
 use crate::search::{Refusal, Search, Taken};
 use crate::steps::Steps;
 use std::alloc::Global;
-use vm_leaf::{Leaf, Place};
-
-/// Returns the site of a place in a leaf.
-#[inline(always)]
-fn site_at(leaf: &Leaf, place: Place) -> Site
-    requires { place.index < length leaf.now }
-    ensures { result ≡ site_of leaf.now place }
-{
-    Site {
-        index: place.index,
-        gap: leaf.key_at(place.index),
-        start: place.start,
-    }
-}
+use vm_leaf::Leaf;
 
 /// Returns the site of the place of a search in a leaf that is closest to an end, or `None` if there is none.
 #[inline(always)]
@@ -43,57 +30,37 @@ fn site_in(leaf: &Leaf, end: End, search: &Search) -> Option<Site>
     requires search { IsSearch search.now }
     ensures { MatchOption result (HasNoPlace search.now leaf.now) (IsClosestSite end search.now leaf.now) }
 {
-    match end {
-        End::First => {
-            let place = leaf.first_fit_in(search.low, search.high, search.size, search.alignment)?;
-            Some(site_at(leaf, place))
-        }
-        End::Last => {
-            let place = leaf.last_fit_in(search.low, search.high, search.size, search.alignment)?;
-            Some(site_at(leaf, place))
-        }
-    }
+    let place = match end {
+        End::First => leaf.first_fit_in(search.low, search.high, search.size, search.alignment),
+        End::Last => leaf.last_fit_in(search.low, search.high, search.size, search.alignment),
+    }?;
+    Some(Site {
+        index: place.index,
+        gap: leaf.key_at(place.index),
+        start: place.start,
+    })
 }
 
-/// Allocates the place of a search in a leaf that is closest to an end, and updates what is stored beside
-/// the link.
-#[tactic(auto, using(crate::proofs::Trees::sizes))]
+/// Allocates the place of a search that is closest to an end, in a leaf. Unless the leaf is the whole tree
+/// (`lone`), it updates what is stored beside the link.
+#[tactic(auto, using(crate::proofs::AllocatedLeaves::choosing))]
 #[inline(never)]
-fn fit_in_leaf(tree: &mut Link, end: End, search: &Search, alloc: Global) -> Result<Taken, Refusal>
-    requires search { IsSearch search.now }
-    requires leaf { height_of (side tree.old) < 2 }
-    requires full { HasFullLeaves (side tree.old) }
-    requires summed { IsSummed tree.old }
-    ensures answer { AllocatesFit end search.now (blocks (side tree.old)) (blocks (side tree.new)) result }
-    ensures change { GrowsIfOk result (side tree.old) (side tree.new) }
-    ensures summed { IsSummed tree.new }
-{
-    match site_in(leaf_of(tree), end, search) {
-        None => Err(Refusal::NoPlace),
-        Some(site) => place_at(tree, false, &site, search, alloc),
-    }
-}
-
-/// Allocates the place of a search that is closest to an end, in a leaf that is the whole tree, and of which
-/// nothing correct is stored beside the link.
-#[tactic(auto, using(crate::proofs::Trees::sizes))]
-pub(crate) fn fit_in_root(
-    root: &mut Link,
+pub(crate) fn fit_in_leaf(
+    tree: &mut Link,
+    lone: bool,
     end: End,
     search: &Search,
     alloc: Global,
 ) -> Result<Taken, Refusal>
     requires search { IsSearch search.now }
-    requires leaf { height_of (side root.old) < 2 }
-    requires tree { IsTree (side root.old) }
-    ensures answer { AllocatesFit end search.now (blocks (side root.old)) (blocks (side root.new)) result }
-    ensures unchanged { OnErr result (root.new ≡ root.old) }
-    ensures tree { IfOk result (λ _. IsTree (side root.new) × (height_of (side root.new) ≤ 2)) }
-    ensures summed { 2 ≤ height_of (side root.new) → IsSummed root.new }
+    requires leaf { height_of (side tree.old) < 2 }
+    requires can { CanTakeFrom lone tree.old }
+    ensures answer { AllocatesFit end search.now (blocks (side tree.old)) (blocks (side tree.new)) result }
+    ensures left { LeavesLeaf lone result tree.old tree.new }
 {
-    match site_in(leaf_of(root), end, search) {
+    match site_in(leaf_of(tree), end, search) {
         None => Err(Refusal::NoPlace),
-        Some(site) => place_at(root, true, &site, search, alloc),
+        Some(site) => place_at(tree, lone, &site, search, alloc),
     }
 }
 
@@ -198,7 +165,7 @@ pub(crate) fn fit_at(
     count.enter();
     match tree {
         Link::Hole => unreachable!(),
-        Link::Leaf { .. } => fit_in_leaf(tree, end, search, alloc),
+        Link::Leaf { .. } => fit_in_leaf(tree, false, end, search, alloc),
         Link::Fork { node, .. } => {
             let node: &mut Node = node;
             let mut answer = fit_below(node, end, search, alloc, count);

@@ -290,26 +290,13 @@ impl Leaf {
         }
     }
 
-    /// Returns `true` if there is a block before block `i` and it is free.
+    /// Returns `true` if block `i` exists and is free.
     #[inline(always)]
-    fn is_free_before(&self, i: usize) -> bool {
-        if i == 0 {
+    fn is_free_at(&self, i: usize) -> bool {
+        if i >= self.len() {
             return false;
         }
-        match self.state_at(i - 1) {
-            NodeState::Free => true,
-            NodeState::Allocated => false,
-        }
-    }
-
-    /// Returns `true` if there is a block after block `i` and it is free.
-    #[inline(always)]
-    fn is_free_after(&self, i: usize) -> bool {
-        let len = self.len();
-        if i + 1 == len {
-            return false;
-        }
-        match self.state_at(i + 1) {
+        match self.state_at(i) {
             NodeState::Free => true,
             NodeState::Allocated => false,
         }
@@ -330,8 +317,8 @@ impl Leaf {
     pub(in crate::proved) fn join(&mut self, i: usize) -> RangeInclusive {
         // Proof: `len` gives the facts of a leaf.
         let _len = self.len();
-        let after = self.is_free_after(i);
-        if self.is_free_before(i) {
+        let after = self.is_free_at(i + 1);
+        if i > 0 && self.is_free_at(i - 1) {
             if after {
                 return self.join_blocks(i - 1, 3);
             }

@@ -1,11 +1,11 @@
 // Written by bindings/erase from crates/vm_tree/src/copy.rt: do not edit.
 
-//! Copies of trees.
+//! A copy of a tree, and a list of its blocks.
 
-use crate::rattle::Box;
+use crate::rattle::{Box, Vec};
 use crate::proved::vm_tree::link::{Link, Node};
 use crate::rattle::{AllocError, Global};
-use crate::proved::vm_leaf::Leaf;
+use crate::proved::vm_leaf::{Block, Leaf};
 
 /// Returns a copy of a tree with the same nodes, the same leaves and the same summaries.
 ///
@@ -45,6 +45,30 @@ pub(in crate::proved::vm_tree) fn copy(tree: &Link, alloc: Global) -> Result<Lin
                 height: *height,
                 node: Box::new(alloc, node)?,
             })
+        }
+    }
+}
+
+/// Appends the blocks of a leaf to a list, or returns an error if an allocation fails.
+fn append_leaf(leaf: &Leaf, list: &mut Vec<Block>) -> Result<(), AllocError> {
+    for block in leaf.part(0, leaf.len()) {
+        list.push(block)?;
+    }
+    Ok(())
+}
+
+/// Appends the blocks of a tree to a list, or returns an error if an allocation fails.
+pub(in crate::proved::vm_tree) fn append_blocks(tree: &Link, list: &mut Vec<Block>) -> Result<(), AllocError> {
+    match tree {
+        Link::Hole => Ok(()),
+        Link::Leaf { leaf, .. } => {
+            let leaf: &Leaf = leaf;
+            append_leaf(leaf, list)
+        }
+        Link::Fork { node, .. } => {
+            let node: &Node = node;
+            append_blocks(&node.left, list)?;
+            append_blocks(&node.right, list)
         }
     }
 }

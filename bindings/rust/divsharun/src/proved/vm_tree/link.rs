@@ -38,8 +38,7 @@ pub(in crate::proved::vm_tree) enum Link {
 /// Returns the height of the subtree at a link.
 pub(in crate::proved::vm_tree) fn height(link: &Link) -> u8 {
     match link {
-        Link::Hole => 1,
-        Link::Leaf { .. } => 1,
+        Link::Hole | Link::Leaf { .. } => 1,
         Link::Fork { height, node, .. } => {
             // Proof: a node that is read has two children.
             let node: &Node = node;
@@ -119,8 +118,7 @@ impl Node {
 pub(in crate::proved::vm_tree) fn into_fork(link: Link) -> Box<Node> {
     match link {
         Link::Fork { node, .. } => node,
-        Link::Leaf { .. } => unreachable!(),
-        Link::Hole => unreachable!(),
+        Link::Leaf { .. } | Link::Hole => unreachable!(),
     }
 }
 

@@ -43,7 +43,6 @@ mod end;
 mod find;
 mod free;
 mod link;
-mod list;
 mod mend;
 mod search;
 mod steps;

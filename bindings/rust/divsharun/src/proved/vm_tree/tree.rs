@@ -6,17 +6,16 @@
 //! calls pass the root to the recursive functions of this crate.
 
 use crate::rattle::{Box, Vec};
-use crate::proved::vm_tree::allocate::exact::{exact_at, exact_in_root};
-use crate::proved::vm_tree::allocate::fit::{fit_at, fit_in_root};
+use crate::proved::vm_tree::allocate::exact::{exact_at, exact_in_leaf};
+use crate::proved::vm_tree::allocate::fit::{fit_at, fit_in_leaf};
 use crate::proved::vm_tree::allocate::{count_place, fits};
 use crate::proved::vm_tree::build::build_tree;
 use crate::proved::vm_tree::change::free_summary;
-use crate::proved::vm_tree::copy::copy;
+use crate::proved::vm_tree::copy::{append_blocks, copy};
 use crate::proved::vm_tree::end::End;
 use crate::proved::vm_tree::find::block_at;
 use crate::proved::vm_tree::free::{free_at, free_in};
 use crate::proved::vm_tree::link::{Link, Node, height, leaf_link};
-use crate::proved::vm_tree::list::append_blocks;
 use crate::proved::vm_tree::search::{Refusal, Search, Taken};
 use crate::proved::vm_tree::steps::Steps;
 use crate::proved::vm_tree::walk::Walk;
@@ -150,7 +149,7 @@ impl Tree {
             Link::Hole => unreachable!(),
             Link::Leaf { .. } => {
                 count.enter();
-                exact_in_root(&mut self.root, start, search, alloc)
+                exact_in_leaf(&mut self.root, true, start, search, alloc)
             }
             Link::Fork { node, .. } => {
                 // Proof: a node that is read has two children.
@@ -178,7 +177,7 @@ impl Tree {
         match &mut self.root {
             Link::Hole => unreachable!(),
             Link::Leaf { .. } => {
-                let answer = fit_in_root(&mut self.root, end, search, alloc);
+                let answer = fit_in_leaf(&mut self.root, true, end, search, alloc);
                 count_place(&answer, count);
                 answer
             }

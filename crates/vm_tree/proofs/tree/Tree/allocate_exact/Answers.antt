@@ -6,11 +6,11 @@ use Rattle.vm_tree.proofs.tree.Tree.allocate_exact.Goals as goal
 
 pub invariant_of-self : goal.invariant_of-self
 invariant_of-self c =
-    let e = c.exact_in_root.ensures in
+    let e = c.exact_in_leaf.ensures in
     let old = c.self.inside.root in
-    let new = c.exact_in_root.new.root in
-    let a = exact_allocates c.args.search.now c.requires.search (blocks (side old)) (blocks (side new)) c.exact_in_root.result c.args.start e.answer in
-    lone_after c.args.search.now old new c.self.invariant c.exact_in_root.result a e.unchanged e.tree e.summed
+    let new = c.exact_in_leaf.new.tree in
+    let a = exact_allocates c.args.search.now c.requires.search (blocks (side old)) (blocks (side new)) c.exact_in_leaf.result c.args.start e.answer in
+    lone_after c.args.search.now old new c.self.invariant c.exact_in_leaf.result a e.left.0 e.left.1 e.left.2
 
 pub invariant_of-self-in-Fork : goal.invariant_of-self-in-Fork
 invariant_of-self-in-Fork c =

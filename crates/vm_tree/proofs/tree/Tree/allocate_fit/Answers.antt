@@ -11,11 +11,11 @@ use Rattle.vm_tree.proofs.tree.Tree.allocate_fit.Goals as goal
 
 pub invariant_of-self : goal.invariant_of-self
 invariant_of-self c =
-    let e = c.fit_in_root-answer.ensures in
+    let e = c.fit_in_leaf-answer.ensures in
     let old = c.self.inside.root in
-    let new = c.fit_in_root-answer.new.root in
-    let a = fit_allocates c.args.search.now c.requires.search (blocks (side old)) (blocks (side new)) c.fit_in_root-answer.result c.args.end e.answer in
-    lone_after c.args.search.now old new c.self.invariant c.fit_in_root-answer.result a e.unchanged e.tree e.summed
+    let new = c.fit_in_leaf-answer.new.tree in
+    let a = fit_allocates c.args.search.now c.requires.search (blocks (side old)) (blocks (side new)) c.fit_in_leaf-answer.result c.args.end e.answer in
+    lone_after c.args.search.now old new c.self.invariant c.fit_in_leaf-answer.result a e.left.0 e.left.1 e.left.2
 
 pub invariant_of-self-in-Fork : goal.invariant_of-self-in-Fork
 invariant_of-self-in-Fork c =
@@ -30,8 +30,8 @@ pub returns-in-Leaf-clause-count : goal.returns-in-Leaf-clause-count
 returns-in-Leaf-clause-count c =
     let seek = c.args.search.now in
     let old = side c.self.inside.root in
-    fit_lone c.args.end seek c.requires.search old (blocks (side c.fit_in_root-answer.new.root)) c.fit_in_root-answer.result c.count_place.new.count
-    (omega (arith, ap height_of (ap side c.in-Leaf.is))) c.fit_in_root-answer.ensures.answer (λ n. omega (arith, c.count_place.ensures.none n, c.requires.count)) (λ n. omega (arith, c.count_place.ensures.found n, c.requires.count)) ∙ ap (nodes_to_fit c.args.end (window_of seek) seek.size seek.alignment) c.self.view_is
+    fit_lone c.args.end seek c.requires.search old (blocks (side c.fit_in_leaf-answer.new.tree)) c.fit_in_leaf-answer.result c.count_place.new.count
+    (omega (arith, ap height_of (ap side c.in-Leaf.is))) c.fit_in_leaf-answer.ensures.answer (λ n. omega (arith, c.count_place.ensures.none n, c.requires.count)) (λ n. omega (arith, c.count_place.ensures.found n, c.requires.count)) ∙ ap (nodes_to_fit c.args.end (window_of seek) seek.size seek.alignment) c.self.view_is
 
 pub returns-in-Leaf-clause-bounds : goal.returns-in-Leaf-clause-bounds
 returns-in-Leaf-clause-bounds c =
@@ -39,8 +39,8 @@ returns-in-Leaf-clause-bounds c =
     let w = window_of seek in
     let old = side c.self.inside.root in
     let count = c.count_place.new.count in
-    let exact = fit_lone c.args.end seek c.requires.search old (blocks (side c.fit_in_root-answer.new.root)) c.fit_in_root-answer.result c.count_place.new.count
-    (omega (arith, ap height_of (ap side c.in-Leaf.is))) c.fit_in_root-answer.ensures.answer (λ n. omega (arith, c.count_place.ensures.none n, c.requires.count)) (λ n. omega (arith, c.count_place.ensures.found n, c.requires.count)) in
+    let exact = fit_lone c.args.end seek c.requires.search old (blocks (side c.fit_in_leaf-answer.new.tree)) c.fit_in_leaf-answer.result c.count_place.new.count
+    (omega (arith, ap height_of (ap side c.in-Leaf.is))) c.fit_in_leaf-answer.ensures.answer (λ n. omega (arith, c.count_place.ensures.none n, c.requires.count)) (λ n. omega (arith, c.count_place.ensures.found n, c.requires.count)) in
     subst (λ (v : Shape). IsSearchCount w seek.size seek.alignment (gaps_without_place w seek.size seek.alignment (blocks v)) v count) c.self.view_is
     (fit_bounds c.args.end seek c.requires.search old c.self.invariant.tree c.self.invariant.run c.self.invariant.height count exact)
 

@@ -22,7 +22,7 @@ impl IntervalTree {
         key: RangeInclusive,
         held: &[RangeInclusive],
     ) -> core::result::Result<Self, ListError> {
-        let count = count_blocks(&key, held)?;
+        let (count, left) = count_blocks(&key, held)?;
         if count >= TOO_MANY_BLOCKS {
             return Err(Error::Overflow.into());
         }
@@ -31,20 +31,20 @@ impl IntervalTree {
             space: key,
             held_count: held.len() as u64,
             gap_count: count - held.len() as u64,
-            free_len: count_left(&key, held),
+            free_len: left,
         })
     }
 }
 
-/// Returns the number of blocks of the space with these ranges allocated, or the error of the first
-/// range that cannot be allocated.
+/// Returns the numbers of blocks and of free addresses of the space with these ranges allocated, or the
+/// error of the first range that cannot be allocated.
 fn count_blocks(
     space: &RangeInclusive,
     held: &[RangeInclusive],
-) -> core::result::Result<u64, ListError> {
+) -> core::result::Result<(u64, u64), ListError> {
     let end = space.end();
     let mut next = space.start();
-    let mut count = 0;
+    let (mut count, mut left) = (0, 0);
     for (index, range) in held.iter().enumerate() {
         if let Err(error) = check_next(next, end, range) {
             let index = Some(index);
@@ -52,23 +52,16 @@ fn count_blocks(
         }
         if next < range.start() {
             count += 1;
+            left += range.start() - next;
         }
         count += 1;
         next = range.end() + 1;
     }
     if next <= end {
         count += 1;
+        left += end - next + 1;
     }
-    Ok(count)
-}
-
-/// Returns the number of addresses of a space that are in none of these ranges.
-fn count_left(space: &RangeInclusive, held: &[RangeInclusive]) -> u64 {
-    let mut left = space.len();
-    for range in held {
-        left -= range.len();
-    }
-    left
+    Ok((count, left))
 }
 
 /// Checks that a range can be allocated if it must start at `next` or later, in a space that ends at

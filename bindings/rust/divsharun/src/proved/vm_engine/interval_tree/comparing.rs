@@ -9,7 +9,7 @@ use crate::proved::vm_tree::Walk;
 impl PartialEq for IntervalTree {
     /// Returns `true` if both trees have the same blocks. It stops at the first difference.
     fn eq(&self, other: &IntervalTree) -> bool {
-        same_blocks(self.blocks(), other.blocks())
+        compare_blocks(self.blocks(), other.blocks()) == Ordering::Equal
     }
 }
 
@@ -29,19 +29,6 @@ impl Ord for IntervalTree {
     fn cmp(&self, other: &IntervalTree) -> Ordering {
         compare_blocks(self.blocks(), other.blocks())
     }
-}
-
-/// Returns `true` if two walks return the same blocks. It stops at the first difference.
-fn same_blocks(mut left: Walk<'_>, mut right: Walk<'_>) -> bool {
-    while let Some(x) = left.next() {
-        let Some(y) = right.next() else {
-            return false;
-        };
-        if x != y {
-            return false;
-        }
-    }
-    right.next().is_none()
 }
 
 /// Compares two walks by the first blocks that differ. If the blocks of one walk are a prefix of the

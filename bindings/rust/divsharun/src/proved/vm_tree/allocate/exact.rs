@@ -50,29 +50,18 @@ fn site_from(leaf: &Leaf, start: u64, search: &Search) -> Result<Site, Refusal> 
     }
 }
 
-/// Allocates the range of a search that starts at `start` in a leaf, and updates what is stored beside
-/// the link.
+/// Allocates the range of a search that starts at `start` in a leaf. Unless the leaf is the whole tree
+/// (`lone`), it updates what is stored beside the link.
 #[inline(never)]
-fn exact_in_leaf(
+pub(in crate::proved::vm_tree) fn exact_in_leaf(
     tree: &mut Link,
+    lone: bool,
     start: u64,
     search: &Search,
     alloc: Global,
 ) -> Result<Taken, Refusal> {
     let site = site_from(leaf_of(tree), start, search)?;
-    place_at(tree, false, &site, search, alloc)
-}
-
-/// Allocates the range of a search that starts at `start` in a leaf that is the whole tree, and of which
-/// nothing correct is stored beside the link.
-pub(in crate::proved::vm_tree) fn exact_in_root(
-    root: &mut Link,
-    start: u64,
-    search: &Search,
-    alloc: Global,
-) -> Result<Taken, Refusal> {
-    let site = site_from(leaf_of(root), start, search)?;
-    place_at(root, true, &site, search, alloc)
+    place_at(tree, lone, &site, search, alloc)
 }
 
 /// Allocates the range of a search that starts at `start` below a node.
@@ -100,7 +89,7 @@ pub(in crate::proved::vm_tree) fn exact_at(
     count.enter();
     match tree {
         Link::Hole => unreachable!(),
-        Link::Leaf { .. } => exact_in_leaf(tree, start, search, alloc),
+        Link::Leaf { .. } => exact_in_leaf(tree, false, start, search, alloc),
         Link::Fork { node, .. } => {
             let node: &mut Node = node;
             let mut answer = exact_below(node, start, search, alloc, count);

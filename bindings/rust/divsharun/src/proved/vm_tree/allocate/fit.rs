@@ -13,54 +13,35 @@ use crate::proved::vm_tree::link::{Link, Node};
 use crate::proved::vm_tree::search::{Refusal, Search, Taken};
 use crate::proved::vm_tree::steps::Steps;
 use crate::rattle::Global;
-use crate::proved::vm_leaf::{Leaf, Place};
-
-/// Returns the site of a place in a leaf.
-#[inline(always)]
-fn site_at(leaf: &Leaf, place: Place) -> Site {
-    Site {
-        index: place.index,
-        gap: leaf.key_at(place.index),
-        start: place.start,
-    }
-}
+use crate::proved::vm_leaf::Leaf;
 
 /// Returns the site of the place of a search in a leaf that is closest to an end, or `None` if there is none.
 #[inline(always)]
 fn site_in(leaf: &Leaf, end: End, search: &Search) -> Option<Site> {
-    match end {
-        End::First => {
-            let place = leaf.first_fit_in(search.low, search.high, search.size, search.alignment)?;
-            Some(site_at(leaf, place))
-        }
-        End::Last => {
-            let place = leaf.last_fit_in(search.low, search.high, search.size, search.alignment)?;
-            Some(site_at(leaf, place))
-        }
-    }
+    let place = match end {
+        End::First => leaf.first_fit_in(search.low, search.high, search.size, search.alignment),
+        End::Last => leaf.last_fit_in(search.low, search.high, search.size, search.alignment),
+    }?;
+    Some(Site {
+        index: place.index,
+        gap: leaf.key_at(place.index),
+        start: place.start,
+    })
 }
 
-/// Allocates the place of a search in a leaf that is closest to an end, and updates what is stored beside
-/// the link.
+/// Allocates the place of a search that is closest to an end, in a leaf. Unless the leaf is the whole tree
+/// (`lone`), it updates what is stored beside the link.
 #[inline(never)]
-fn fit_in_leaf(tree: &mut Link, end: End, search: &Search, alloc: Global) -> Result<Taken, Refusal> {
-    match site_in(leaf_of(tree), end, search) {
-        None => Err(Refusal::NoPlace),
-        Some(site) => place_at(tree, false, &site, search, alloc),
-    }
-}
-
-/// Allocates the place of a search that is closest to an end, in a leaf that is the whole tree, and of which
-/// nothing correct is stored beside the link.
-pub(in crate::proved::vm_tree) fn fit_in_root(
-    root: &mut Link,
+pub(in crate::proved::vm_tree) fn fit_in_leaf(
+    tree: &mut Link,
+    lone: bool,
     end: End,
     search: &Search,
     alloc: Global,
 ) -> Result<Taken, Refusal> {
-    match site_in(leaf_of(root), end, search) {
+    match site_in(leaf_of(tree), end, search) {
         None => Err(Refusal::NoPlace),
-        Some(site) => place_at(root, true, &site, search, alloc),
+        Some(site) => place_at(tree, lone, &site, search, alloc),
     }
 }
 
@@ -124,7 +105,7 @@ pub(in crate::proved::vm_tree) fn fit_at(
     count.enter();
     match tree {
         Link::Hole => unreachable!(),
-        Link::Leaf { .. } => fit_in_leaf(tree, end, search, alloc),
+        Link::Leaf { .. } => fit_in_leaf(tree, false, end, search, alloc),
         Link::Fork { node, .. } => {
             let node: &mut Node = node;
             let mut answer = fit_below(node, end, search, alloc, count);

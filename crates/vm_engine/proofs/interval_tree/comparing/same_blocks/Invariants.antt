@@ -1,8 +1,0 @@
-use Rattle.std.proofs.Common.{◌≡◌, ◌↔◌, length}
-use Rattle.vm_engine.proofs.interval_tree.comparing.same_blocks.Given as goal
-
-abbrev pub invariant-loop-x : goal.invariant-loop-x
-invariant-loop-x l = (l.left ≡ l.right) ↔ (l.initial.left ≡ l.initial.right)
-
-abbrev pub decreases-loop-x : goal.decreases-loop-x
-decreases-loop-x l = length l.left
