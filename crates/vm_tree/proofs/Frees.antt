@@ -10,7 +10,8 @@ use Rattle.vm_leaf.specs.Blocks.{Tiles, NotBothFree, nth, blank, start_of, freed
 use Rattle.vm_leaf.specs.Multiples.{alignment_count, most_alignments}
 use Rattle.vm_leaf.specs.Raises.{Raises}
 use Rattle.vm_leaf.proofs.Raised.{length_upto, alignments_upto}
-use Rattle.vm_tree.specs.Frees.{Frees, FreesEnd, EndHeld, JoinsGap, beyond, block_at_end, end_index, without_end}
+use Rattle.vm_tree.specs.Ends.{beyond}
+use Rattle.vm_tree.specs.Frees.{Frees, FreesEnd, EndHeld, JoinsGap, block_at_end, end_index, without_end}
 use Rattle.vm_tree.specs.declared.end.End.{End}
 use Rattle.vm_tree.specs.declared.end.End.TheVariants.{First, Last}
 use Rattle.vm_tree.specs.declared.free.Gap.{Gap}

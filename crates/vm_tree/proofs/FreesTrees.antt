@@ -9,7 +9,8 @@ use Rattle.vm_leaf.specs.Block.{held_block}
 use Rattle.vm_leaf.specs.Blocks.{Tiles, start_of, end_of, IsRun}
 use Rattle.vm_leaf.proofs.Tiles.{tiles_part}
 use Rattle.vm_tree.specs.Changes.{CanChange, Reduces}
-use Rattle.vm_tree.specs.Frees.{Frees, FreesEnd, EndHeld, CanExtend, beyond, block_at_end, without_end, inner, fork_at}
+use Rattle.vm_tree.specs.Ends.{beyond}
+use Rattle.vm_tree.specs.Frees.{Frees, FreesEnd, EndHeld, CanExtend, block_at_end, without_end, inner, fork_at}
 use Rattle.vm_tree.specs.declared.change.Change.{Change}
 use Rattle.vm_tree.specs.declared.free.Freed.{Freed}
 use Rattle.vm_tree.specs.declared.end.End.{End}

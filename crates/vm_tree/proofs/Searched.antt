@@ -12,9 +12,9 @@ use Rattle.vm_leaf.specs.Blocks.{nth, start_of, IsRun}
 use Rattle.vm_leaf.specs.Fit.{IsFit, IsLowestFit, IsHighestFit}
 use Rattle.vm_leaf.specs.Windows.{cut_to, HaveNoFitIn, IsFirstFitIn, IsLastFitIn}
 use Rattle.vm_leaf.specs.declared.leaf.Place.{Place}
-use Rattle.vm_tree.specs.Ends.{opposite}
+use Rattle.vm_tree.specs.Ends.{opposite, beyond}
 use Rattle.vm_tree.specs.Shape.{Shape, Tip, Fork, blocks, height_of}
-use Rattle.vm_tree.specs.Allocation.{Spot, IsClosestFit, blocks_to, HasNoPlace, HasNoFitIn, window_of, IsSearch, AllocatesFit}
+use Rattle.vm_tree.specs.Allocation.{Spot, IsClosestFit, HasNoPlace, HasNoFitIn, window_of, IsSearch, AllocatesFit}
 use Rattle.vm_tree.specs.Placing.{spot_at, site_of, IsClosestSite}
 use Rattle.vm_tree.specs.Searching.{child_at, reaches_child, may_fit_in_child, nodes_of_child}
 use Rattle.vm_tree.specs.NodeCounts.{may_fit_in, has_fit_in, nodes_of_search}
@@ -39,7 +39,7 @@ is_fit Last n a t b h = h.0
 -- ---- A leaf
 module _ (seek : Search) (bs : List Block) (place : Place) where
   closest_site : (end : End) → place.index < length bs → IsClosestFit end seek.size seek.alignment (cut_to (window_of seek) (nth bs place.index)) place.start
-      → HasNoPlace seek (blocks_to end (spot_at bs (site_of bs place))) → IsClosestSite end seek bs (site_of bs place)
+      → HasNoPlace seek (beyond end (spot_at bs (site_of bs place)).lower (spot_at bs (site_of bs place)).upper) → IsClosestSite end seek bs (site_of bs place)
   closest_site end within h none =
       let f = is_fit end seek.size seek.alignment place.start (cut_to (window_of seek) (nth bs place.index)) h in
       let gap = gap_of (nth bs place.index) f.0 in
@@ -69,11 +69,11 @@ module _ (seek : Search) where
   none_both : (l r : List Block) → HasNoPlace seek l → HasNoPlace seek r → HasNoPlace seek (l ++ r)
   none_both l r h k = All-append (HasNoFitIn (window_of seek) seek.size seek.alignment) l r h k
 
-  none_to_left : (end : End) (spot : Spot) (r : List Block) → HasNoPlace seek (blocks_to end spot) → (end ≡ Last → HasNoPlace seek r) → HasNoPlace seek (blocks_to end (record spot { upper = spot.upper ++ r }))
+  none_to_left : (end : End) (spot : Spot) (r : List Block) → HasNoPlace seek (beyond end spot.lower spot.upper) → (end ≡ Last → HasNoPlace seek r) → HasNoPlace seek (beyond end spot.lower (spot.upper ++ r))
   none_to_left First spot r h k = h
   none_to_left Last spot r h k = none_both spot.upper r h (k refl)
 
-  none_to_right : (end : End) (spot : Spot) (l : List Block) → HasNoPlace seek (blocks_to end spot) → (end ≡ First → HasNoPlace seek l) → HasNoPlace seek (blocks_to end (record spot { lower = l ++ spot.lower }))
+  none_to_right : (end : End) (spot : Spot) (l : List Block) → HasNoPlace seek (beyond end spot.lower spot.upper) → (end ≡ First → HasNoPlace seek l) → HasNoPlace seek (beyond end (l ++ spot.lower) spot.upper)
   none_to_right First spot l h k = none_both l spot.lower (k refl) h
   none_to_right Last spot l h k = h
 

@@ -11,6 +11,7 @@ use Rattle.vm_leaf.specs.Fit.{HasNoFit, IsLowestFit, IsHighestFit}
 use Rattle.vm_leaf.specs.Windows.{cut_to}
 use Rattle.vm_ranges.specs.declared.state.NodeState.{NodeState}
 use Rattle.vm_ranges.specs.declared.state.NodeState.TheVariants.{Free, Allocated}
+use Rattle.vm_tree.specs.Ends.{beyond}
 use Rattle.vm_tree.specs.declared.end.End.{End}
 use Rattle.vm_tree.specs.declared.end.End.TheVariants.{First, Last}
 use Rattle.vm_tree.specs.declared.search.Search.{Search}
@@ -46,15 +47,10 @@ abbrev pub IsClosestFit : End → ℕ → ℕ → Block → ℕ → Type 0
 IsClosestFit First n a b t = IsLowestFit n a b t
 IsClosestFit Last n a b t = IsHighestFit n a b t
 
--- The blocks between the end of the list and the gap of the spot.
-abbrev pub blocks_to : End → Spot → List Block
-blocks_to First spot = spot.lower
-blocks_to Last spot = spot.upper
-
 -- The spot is the place of the search in the list that is closest to the end.
 pub record IsClosestSpot (end : End) (search : Search) (bs : List Block) (spot : Spot) : Type 0 where
   pub cut : IsSpotIn bs spot
-  pub none : HasNoPlace search (blocks_to end spot)
+  pub none : HasNoPlace search (beyond end spot.lower spot.upper)
   pub fit : IsClosestFit end search.size search.alignment (cut_to (window_of search) (free_block spot.key)) spot.start
 
 -- The range of a search at a spot.

@@ -7,6 +7,7 @@ use Rattle.vm_leaf.specs.Blocks.{nth, start_of, end_of, freed_between, IsLeaf}
 use Rattle.vm_leaf.specs.Raises.{Raises}
 use Rattle.vm_tree.specs.Shape.{Shape, Fork, blocks}
 use Rattle.vm_tree.specs.Changes.{Loosens}
+use Rattle.vm_tree.specs.Ends.{beyond}
 use Rattle.vm_tree.specs.declared.end.End.{End}
 use Rattle.vm_tree.specs.declared.end.End.TheVariants.{First, Last}
 use Rattle.vm_tree.specs.declared.link.Link.{Link}
@@ -49,11 +50,6 @@ inner Last k = k.start
 abbrev pub CanExtend : End → Range → List Block → Type 0
 CanExtend First k bs = (k.start ≤ start_of bs) × IsRange k.start (end_of bs)
 CanExtend Last k bs = (end_of bs ≤ k.end) × IsRange (start_of bs) k.end
-
--- The blocks between a block and an end of the list: those before it, or those after it.
-abbrev pub beyond : End → List Block → List Block → List Block
-beyond First lower upper = lower
-beyond Last lower upper = upper
 
 -- The block at an end was held, and had the inner address of k. It became the gap k, joined with a gap next to it.
 pub record FreesEnd (end : End) (k : Range) (old new : List Block) : Type 0 where
