@@ -5,6 +5,7 @@ ghost use Rattle.vm_allocator.specs.Laws.GapLaws.{LongestDecides, LongGapSuffice
 /// exactly if it is longer than the longest gap.
 ///
 /// In a window, the longest part of a gap counts.
+#[tactic(auto, using(crate::proofs::Results::LongestGap::longest_decides))]
 fn longest_gap_decides()
     ensures { LongestDecides }
 {}
@@ -13,6 +14,7 @@ fn longest_gap_decides()
 /// for n addresses at alignment a: it is not `ResourceNotAvailable`.
 ///
 /// In a window, the part of the gap in the window counts.
+#[tactic(auto, using(crate::proofs::Results::LongestGap::long_gap_suffices))]
 fn long_gap_suffices()
     ensures { LongGapSuffices }
 {}

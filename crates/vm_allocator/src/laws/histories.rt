@@ -36,6 +36,7 @@ fn chosen_places_are_allocated()
 {}
 
 /// Proves that the places decide the result of each request, and that an error changes nothing.
+#[tactic(auto, using(crate::proofs::Histories::HistoryResults::places_answer, crate::proofs::Histories::HistoryResults::errors_change_nothing))]
 fn places_answer()
     ensures answers { PlacesAnswer }
     ensures refusals { ErrorsChangeNothing }
@@ -62,11 +63,13 @@ fn state_decides()
 ///
 /// An allocator that `from_nodes` restores has the state of the saved one. So later calls have the
 /// same results for both.
+#[tactic(auto, using(crate::proofs::Histories::SameCalls::same_results))]
 fn same_calls_have_same_results()
     ensures { SameCallsSameResults }
 {}
 
 /// Proves that freed ranges leave no trace, in whatever order they are freed.
+#[tactic(auto, using(crate::proofs::Histories::AlongHistories::release_undoes, crate::proofs::Histories::Releases::order_is_free))]
 fn frees_leave_no_trace()
     ensures undone { FreeUndoes }
     ensures order { FreesInAnyOrder }
@@ -81,6 +84,7 @@ fn every_call_is_answered()
 
 /// Proves that a clone is reached by a history. So what is true for every history is true for
 /// clones.
+#[tactic(auto, using(crate::proofs::Histories::AddressEnds::clone_is_reached))]
 fn clones_are_reached()
     ensures { CloneIsReached }
 {}

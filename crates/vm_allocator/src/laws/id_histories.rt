@@ -39,6 +39,7 @@ fn every_id_call_is_answered()
 
 /// Proves that the same list of calls in the same state has the same results and leads to the same
 /// state, if memory suffices.
+#[tactic(auto, using(crate::proofs::Ids::SameIdCalls::same_id_results))]
 fn same_id_calls_have_same_results()
     ensures { SameIdCallsSameResults }
 {}

@@ -62,6 +62,7 @@ fn texts_are_read()
 /// Proves that both readers return equal allocators, unless memory runs out.
 ///
 /// This is true for each value that `from_value` reads with at most 6,293,134,512 allocated ranges.
+#[tactic(auto, using(crate::proofs::Reading::ReadAgain::reads_alike))]
 fn both_readers_agree()
     ensures { ReadersAgree }
 {}

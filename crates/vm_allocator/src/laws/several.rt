@@ -31,6 +31,7 @@ fn several_are_allocated_in_turn()
 
 /// States that an allocator which is made of its free ranges is as one that is made with its holes
 /// allocated.
+#[tactic(auto, using(crate::proofs::Results::Holes::free_is_held))]
 fn free_is_held()
     ensures { FreeIsHeld }
 {}
