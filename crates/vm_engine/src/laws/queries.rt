@@ -39,12 +39,14 @@ fn longest_gap_fits()
 
 /// States that a request for n addresses at alignment a has a place if a gap has n + a - 1 addresses.
 /// In a window, the part of the gap in the window counts.
+#[tactic(auto, using(crate::proofs::Results::Capacity::long_gap_fits))]
 fn long_gap_fits()
     ensures { LongGapFits }
 {}
 
 /// States that k allocated ranges leave at most k + 1 times as many free addresses as the longest gap
 /// has.
+#[tactic(auto, using(crate::proofs::Results::Capacity::clear_are_few))]
 fn clear_addresses_are_few()
     ensures { ClearAreFew }
 {}
