@@ -47,7 +47,7 @@ pub struct Leaf {
 }
 
 /// A place in a leaf: the index of a block and an address in it.
-#[derive(Clone, Copy, Debug)]
+#[derive(Clone, Copy)]
 pub struct Place {
     /// The index of the block.
     pub index: usize,

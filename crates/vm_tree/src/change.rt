@@ -11,7 +11,7 @@ use std::mem;
 use vm_leaf::Summary;
 
 /// The parts of the summary of a subtree that a change has changed.
-#[derive(Clone, Copy, Debug)]
+#[derive(Clone, Copy)]
 pub(crate) enum Change {
     /// The summary is the same, so no link above changes either.
     Nothing,

@@ -3,7 +3,7 @@ ghost use Rattle.std.specs.Prelude.{◌≡◌};
 ghost use Rattle.vm_tree.specs.Ends.{opposite};
 
 /// An end of some things in ascending order: places, blocks, or the children of a node.
-#[derive(Clone, Copy, Debug)]
+#[derive(Clone, Copy)]
 pub enum End {
     /// The lowest one.
     First,

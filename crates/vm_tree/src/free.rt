@@ -21,7 +21,7 @@ use vm_leaf::{Block, CAPACITY, Leaf, Summary};
 use vm_ranges::{NodeState, RangeInclusive};
 
 /// A range of a tree that was freed.
-#[derive(Clone, Copy, Debug)]
+#[derive(Clone, Copy)]
 pub(crate) struct Freed {
     pub(crate) change: Change,
     /// The number of gaps that were joined with the range: 0, 1 or 2.
@@ -29,7 +29,7 @@ pub(crate) struct Freed {
 }
 
 /// The gap that a freed range became.
-#[derive(Clone, Copy, Debug)]
+#[derive(Clone, Copy)]
 pub(crate) struct Gap {
     pub(crate) range: RangeInclusive,
     /// The number of gaps that were joined with the freed range: 0, 1 or 2.

@@ -6,7 +6,7 @@ use crate::change::Change;
 use std::alloc::AllocFailed;
 
 /// A search for a place: `size` addresses at a multiple of `alignment`, between `low` and `high`.
-#[derive(Clone, Copy, Debug)]
+#[derive(Clone, Copy)]
 pub struct Search {
     /// The number of addresses, which is not 0.
     pub size: u64,
@@ -21,7 +21,7 @@ pub struct Search {
 }
 
 /// A range that was allocated.
-#[derive(Clone, Copy, Debug)]
+#[derive(Clone, Copy)]
 pub struct Taken {
     /// The first address.
     pub start: u64,
@@ -32,7 +32,7 @@ pub struct Taken {
 }
 
 /// The reason why no range was allocated.
-#[derive(Clone, Copy, Debug)]
+#[derive(Clone, Copy)]
 pub enum Refusal {
     /// The range does not fit anywhere, or is not free.
     NoPlace,

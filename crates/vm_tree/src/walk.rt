@@ -13,7 +13,7 @@ use vm_leaf::{Block, Blocks, Leaf};
 use vm_ranges::RangeInclusive;
 
 /// The addresses from `start` to `end`. All 2^64 addresses are a span too.
-#[derive(Clone, Copy, Debug)]
+#[derive(Clone, Copy)]
 struct Span {
     start: u64,
     end: u64,

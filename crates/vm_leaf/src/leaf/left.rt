@@ -6,7 +6,7 @@ ghost use Rattle.vm_leaf.specs.Left.{IsLeft, added_by};
 use vm_ranges::RangeInclusive;
 
 /// The parts of a gap that stay free when a range of it is allocated.
-#[derive(Clone, Copy, Debug)]
+#[derive(Clone, Copy)]
 pub enum Left {
     /// No part stays free: the range fills the gap.
     Nothing,

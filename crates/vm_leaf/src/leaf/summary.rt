@@ -9,7 +9,7 @@ use super::gaps::{lowest_one, without_lowest};
 use vm_ranges::RangeInclusive;
 
 /// The summary of some gaps. Both fields are 0 if there is no gap.
-#[derive(Clone, Copy, Debug)]
+#[derive(Clone, Copy)]
 pub struct Summary {
     /// The length of the longest gap, in addresses.
     pub longest: u64,

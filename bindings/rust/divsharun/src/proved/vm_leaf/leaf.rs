@@ -39,7 +39,7 @@ pub(in crate::proved) struct Leaf {
 }
 
 /// A place in a leaf: the index of a block and an address in it.
-#[derive(Clone, Copy, Debug)]
+#[derive(Clone, Copy)]
 pub(in crate::proved) struct Place {
     /// The index of the block.
     pub(in crate::proved) index: usize,

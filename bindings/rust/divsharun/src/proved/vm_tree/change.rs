@@ -8,7 +8,7 @@ use core::mem;
 use crate::proved::vm_leaf::Summary;
 
 /// The parts of the summary of a subtree that a change has changed.
-#[derive(Clone, Copy, Debug)]
+#[derive(Clone, Copy)]
 pub(in crate::proved::vm_tree) enum Change {
     /// The summary is the same, so no link above changes either.
     Nothing,

@@ -14,7 +14,7 @@ use crate::proved::vm_leaf::{Block, CAPACITY, Leaf, Summary};
 use crate::proved::vm_ranges::{NodeState, RangeInclusive};
 
 /// A range of a tree that was freed.
-#[derive(Clone, Copy, Debug)]
+#[derive(Clone, Copy)]
 pub(in crate::proved::vm_tree) struct Freed {
     pub(in crate::proved::vm_tree) change: Change,
     /// The number of gaps that were joined with the range: 0, 1 or 2.
@@ -22,7 +22,7 @@ pub(in crate::proved::vm_tree) struct Freed {
 }
 
 /// The gap that a freed range became.
-#[derive(Clone, Copy, Debug)]
+#[derive(Clone, Copy)]
 pub(in crate::proved::vm_tree) struct Gap {
     pub(in crate::proved::vm_tree) range: RangeInclusive,
     /// The number of gaps that were joined with the freed range: 0, 1 or 2.

@@ -6,7 +6,7 @@ use crate::proved::vm_tree::change::Change;
 use crate::rattle::AllocFailed;
 
 /// A search for a place: `size` addresses at a multiple of `alignment`, between `low` and `high`.
-#[derive(Clone, Copy, Debug)]
+#[derive(Clone, Copy)]
 pub(in crate::proved) struct Search {
     /// The number of addresses, which is not 0.
     pub(in crate::proved) size: u64,
@@ -21,7 +21,7 @@ pub(in crate::proved) struct Search {
 }
 
 /// A range that was allocated.
-#[derive(Clone, Copy, Debug)]
+#[derive(Clone, Copy)]
 pub(in crate::proved) struct Taken {
     /// The first address.
     pub(in crate::proved) start: u64,
@@ -32,7 +32,7 @@ pub(in crate::proved) struct Taken {
 }
 
 /// The reason why no range was allocated.
-#[derive(Clone, Copy, Debug)]
+#[derive(Clone, Copy)]
 pub(in crate::proved) enum Refusal {
     /// The range does not fit anywhere, or is not free.
     NoPlace,

@@ -8,7 +8,7 @@ use crate::proved::vm_leaf::{Block, Blocks, Leaf};
 use crate::proved::vm_ranges::RangeInclusive;
 
 /// The addresses from `start` to `end`. All 2^64 addresses are a span too.
-#[derive(Clone, Copy, Debug)]
+#[derive(Clone, Copy)]
 struct Span {
     start: u64,
     end: u64,

@@ -5,7 +5,7 @@
 use crate::proved::vm_ranges::RangeInclusive;
 
 /// The parts of a gap that stay free when a range of it is allocated.
-#[derive(Clone, Copy, Debug)]
+#[derive(Clone, Copy)]
 pub(in crate::proved) enum Left {
     /// No part stays free: the range fills the gap.
     Nothing,

@@ -7,7 +7,7 @@ use super::gaps::{lowest_one, without_lowest};
 use crate::proved::vm_ranges::RangeInclusive;
 
 /// The summary of some gaps. Both fields are 0 if there is no gap.
-#[derive(Clone, Copy, Debug)]
+#[derive(Clone, Copy)]
 pub(in crate::proved) struct Summary {
     /// The length of the longest gap, in addresses.
     pub(in crate::proved) longest: u64,
