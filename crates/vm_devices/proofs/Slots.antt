@@ -1,7 +1,7 @@
 -- Ranges of devices in a list of slots.
-use Rattle.std.proofs.Common.{◌≡◌, ◌==◌, ℕ, suc, nat_lt, ◌+◌, ◌-◌, ◌≤◌, ◌<◌, cond, slice_set, List, [], ◌∷◌, ◌++◌, length, map as map_list, get_or, Option, Some, None, refl, sym, ap, ◌∙◌, arith, Less}
+use Rattle.std.proofs.Common.{◌≡◌, ◌==◌, ℕ, suc, nat_lt, ◌+◌, ◌-◌, ◌≤◌, ◌<◌, cond, slice_set, List, [], ◌∷◌, ◌++◌, length, map as map_list, get_or, Option, Some, None, refl, sym, ap, ◌∙◌, append_assoc, append-nil, drop, arith, Less}
 use Rattle.std.proofs.lemmas.Grind.{common_steps}
-use Rattle.std.proofs.lemmas.List.{length_push, map-append}
+use Rattle.std.proofs.lemmas.List.{drop_all, drop_more, length_push, map-append}
 use Rattle.std.specs.Cmp.{nat_cmp_total, unsigned_tied}
 use Rattle.std.specs.List.{AllByRecursion}
 use Rattle.std.specs.List.Sorted.{IsStrictlySortedBy}
@@ -121,3 +121,25 @@ pub one_more_listed : (f : ℕ) (slots : List (Option Range)) (r : Range) → le
 one_more_listed f slots r = ap length (last_listed f slots r) ∙ length_push (map_list device_of (slot_entries f slots)) (device_of (f + length slots, r))
 
 pub ruleset last_slot = (empty_last, last_counted, last_listed, one_more_listed)
+
+-- ---- Slots that are copied behind empty slots
+-- One more empty slot in front leaves the entries of the next id.
+pub more_empty : (slots : List (Option Range)) (n : ℕ) → ((id : ℕ) (rest : List (Option Range)) → slot_entries id (slots ++ rest) ≡ slot_entries (id + n) rest) → (id : ℕ) (rest : List (Option Range)) → slot_entries id ((slots ++ None ∷ []) ++ rest) ≡ slot_entries (id + (n + 1)) rest
+more_empty slots n empty id rest =
+    let one : id + n + 1 ≡ id + (n + 1) = omega arith in
+    ap (slot_entries id) (append_assoc slots (None ∷ []) rest) ∙ empty id (None ∷ rest) ∙ ap (λ first. slot_entries first rest) one
+
+-- After the last slot is copied behind empty slots, the entries are those of a higher first id.
+pub all_copied : (all first slots : List (Option Range)) (i n : ℕ) → ((id : ℕ) (rest : List (Option Range)) → slot_entries id (first ++ rest) ≡ slot_entries (id + n) rest) → all ++ drop i slots ≡ first ++ slots → length slots ≤ i → (id : ℕ) → slot_entries id all ≡ slot_entries (id + n) slots
+all_copied all first slots i n empty same done id =
+    let whole : all ≡ first ++ slots = sym (append-nil all) ∙ ap (λ rest. all ++ rest) (sym (drop_all i slots done)) ∙ same in
+    ap (slot_entries id) whole ∙ empty id slots
+
+-- One more slot is copied to the end.
+pub slot_copied : (new all first slots : List (Option Range)) (i : ℕ) (slot : Option Range) → new ≡ all ++ slot ∷ [] → slot ≡ get_or slots i slot → i < length slots → all ++ drop i slots ≡ first ++ slots → new ++ drop (i + 1) slots ≡ first ++ slots
+slot_copied new all first slots i slot pushed is below same =
+    ap (λ copied. copied ++ drop (i + 1) slots) pushed
+    ∙ append_assoc all (slot ∷ []) (drop (i + 1) slots)
+    ∙ ap (λ next. all ++ next ∷ drop (i + 1) slots) is
+    ∙ ap (λ rest. all ++ rest) (sym (drop_more slots i slot below))
+    ∙ same

@@ -49,6 +49,17 @@ all_digits (x ∷ xs) (suc n) h = step (is_digit x) refl (all_digits xs n)
     step true e all = let rest : n ≤ leading_digits xs = omega (arith, rw e at h) in rw (e, all rest)
     step false e all = absurd (omega (arith, rw e at h))
 
+-- First bytes that are all digits are leading digits.
+pub digits_lead : (text : List ℕ) (n : ℕ) → n ≤ length text → list_all is_digit (take n text) ≡ true → n ≤ leading_digits text
+digits_lead text zero h all = omega arith
+digits_lead [] (suc n) h all = absurd (omega (arith, h))
+digits_lead (x ∷ xs) (suc n) h all = step (is_digit x) refl (digits_lead xs n (omega (arith, h)))
+  where
+    step : (b : Bool) → is_digit x ≡ b → (list_all is_digit (take n xs) ≡ true → n ≤ leading_digits xs)
+        → suc n ≤ leading_digits (x ∷ xs)
+    step true e lead = let rest : n ≤ leading_digits xs = lead (rw e at all) in rw e (omega (arith, rest))
+    step false e lead = let wrong : false ≡ true = rw e at all in cc
+
 -- Each byte of a list of digits is a digit.
 pub digit_at : (digits : List ℕ) (i : ℕ) → i < length digits → list_all is_digit digits ≡ true
     → is_digit (get_or digits i 0) ≡ true

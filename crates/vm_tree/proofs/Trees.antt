@@ -356,6 +356,19 @@ left_some l r h = full_some l h.leaves.0
 pub right_some : (l r : Shape) → IsTree (Fork l r) → 12 ≤ length (blocks r)
 right_some l r h = full_some r h.leaves.1
 
+-- The blocks of a leaf and of the next leaf, which is a child of the sibling, are a run.
+pub run_of_low : (xs ys : List Block) (r m z : Shape) → r ≡ Fork m z → m ≡ Tip ys → CanMend (Tip xs) r → IsRun (xs ++ ys)
+run_of_low xs ys r m z e f h =
+    let q : r ≡ Fork (Tip ys) z = e ∙ ap (λ (t : Shape). Fork t z) f in
+    let g : CanMend (Tip xs) (Fork (Tip ys) z) = subst (λ (t : Shape). CanMend (Tip xs) t) q h in
+    cover_low xs ys (blocks z) g.cover (omega (arith, h.left_some))
+
+pub run_of_high : (xs ys : List Block) (l a m : Shape) → l ≡ Fork a m → m ≡ Tip xs → CanMend l (Tip ys) → IsRun (xs ++ ys)
+run_of_high xs ys l a m e f h =
+    let q : l ≡ Fork a (Tip xs) = e ∙ ap (λ (t : Shape). Fork a t) f in
+    let g : CanMend (Fork a (Tip xs)) (Tip ys) = subst (λ (t : Shape). CanMend t (Tip ys)) q h in
+    cover_high (blocks a) xs ys g.cover (omega (arith, left_some a (Tip xs) g.left)) (omega (arith, right_some a (Tip xs) g.left))
+
 pub unchanged : (s : Shape) → IsTree s → Shrinks s s
 unchanged s h = record { tree = h; upto = omega arith; from = omega arith }
 
@@ -443,7 +456,12 @@ cover_of_right t l r q h c =
 
 pub ruleset sizes = (full_some, tall, rooted_full, high)
 
-pub ruleset rotating = (full_some, start_full, high, joined, rotated_right, rotated_left, rotated_twice_right, rotated_twice_left)
+-- The lemmas of each rotation. Those of its mirror image would slow the search.
+pub ruleset rotating_right = (start_full, high, rotated_right, rotated_twice_right)
+
+pub ruleset rotating_left = (start_full, high, rotated_left, rotated_twice_left)
+
+pub ruleset balancing = (high, joined)
 
 pub ruleset joining = (one_leaf, two_leaves)
 

@@ -9,7 +9,7 @@ use crate::link::{Link, Node, fork_link, height, into_fork};
 
 /// Rotates right a node whose left child is two levels higher than the right one. The node is stored in
 /// `spare`.
-#[tactic(auto, using(crate::proofs::Trees::rotating))]
+#[tactic(auto, using(crate::proofs::Trees::rotating_right))]
 fn rotate_right(mut left: Box<Node>, at: u64, spare: Box<Node>, right: Link) -> Link
     requires sides { CanBalance left.value (side right) }
     requires two_higher { height_of left.value ≡ height_of (side right) + 2 }
@@ -33,7 +33,7 @@ fn rotate_right(mut left: Box<Node>, at: u64, spare: Box<Node>, right: Link) -> 
 
 /// Rotates left a node whose right child is two levels higher than the left one. The node is stored in
 /// `spare`.
-#[tactic(auto, using(crate::proofs::Trees::rotating))]
+#[tactic(auto, using(crate::proofs::Trees::rotating_left))]
 fn rotate_left(left: Link, at: u64, spare: Box<Node>, mut right: Box<Node>) -> Link
     requires sides { CanBalance (side left) right.value }
     requires two_higher { height_of right.value ≡ height_of (side left) + 2 }
@@ -57,7 +57,7 @@ fn rotate_left(left: Link, at: u64, spare: Box<Node>, mut right: Box<Node>) -> L
 
 /// Returns a balanced tree of two trees whose heights differ by at most two. If a node over both is
 /// balanced, it is stored in `spare`.
-#[tactic(auto, using(crate::proofs::Trees::rotating))]
+#[tactic(auto, using(crate::proofs::Trees::balancing))]
 pub(crate) fn balance(left: Link, at: u64, spare: Box<Node>, right: Link) -> Link
     requires sides { CanBalance (side left) (side right) }
     requires at { at ≡ start_of (blocks (side right)) }

@@ -1,7 +1,7 @@
 -- A space in which given ranges are free.
-use Rattle.std.proofs.Common.{◌≡◌, ◌↔◌, ℕ, ◌+◌, ◌-◌, ◌*◌, ◌<◌, ◌≤◌, ◌^◌, ◌⊎◌, List, [], ◌∷◌, length, Option, Some, None, MatchOption, Result, Ok, Err, refl, sym, ap, ◌∙◌, subst, arith, inl, inr, ⊎_elim}
+use Rattle.std.proofs.Common.{◌≡◌, ◌↔◌, ℕ, ◌+◌, ◌-◌, ◌*◌, ◌<◌, ◌≤◌, ◌^◌, ◌⊎◌, List, [], ◌∷◌, ◌++◌, length, get_or, drop, Option, Some, None, MatchOption, Result, Ok, Err, refl, sym, ap, ◌∙◌, subst, arith, inl, inr, ⊎_elim}
 use Rattle.std.proofs.lemmas.Bool.{cases_eq, cases_lt, lt-ltb, le-ltb, ne_eqb}
-use Rattle.std.proofs.lemmas.List.{length-append}
+use Rattle.std.proofs.lemmas.List.{length-append, append_assoc, drop_more}
 use Rattle.std.proofs.lemmas.List.Elements.{All-nil, All-cons, All-head, All-tail}
 use Rattle.std.specs.List.{All, Contains}
 use Rattle.vm_ranges.specs.Cases.{Unless}
@@ -42,6 +42,26 @@ in_order_first i next r rs e =
 
 pub in_order_rest : (i next : ℕ) (r : Range) (rs : List Range) → wrong_index i next (r ∷ rs) ≡ None → wrong_index (i + 1) (r.end + 1) rs ≡ None
 in_order_rest i next r rs e = sym (right_here i next r rs (in_order_first i next r rs e)) ∙ e
+
+-- The ranges that are left begin with the range at the index.
+pub next_range : (all : List Range) (i : ℕ) (r : Range) → i < length all → r ≡ get_or all i r → drop i all ≡ r ∷ drop (i + 1) all
+next_range all i r l is = drop_more all i r l ∙ ap (λ (v : Range). v ∷ drop (i + 1) all) (sym is)
+
+-- The first hole, which `new` made, and then the holes of the rest.
+pub hole_made : (hs rs : List Range) (end start : ℕ) (r hole : Range) → start ≡ r.start → MakesRange (end + 1) (start - 1) (Ok hole) →
+    hs ++ holes_after (end + 1) (r ∷ rs) ≡ (hs ++ hole ∷ []) ++ holes_after (r.end + 1) rs
+hole_made hs rs end start r hole is made =
+    let k : IsRange (end + 1) (start - 1) × (hole ≡ record { start = end + 1; end = start - 1 }) = ⊎_elim (λ u. absurd (cc (u.1))) (λ u. (u.0, cc (u.1))) made in
+    let first : holes_after (end + 1) (r ∷ rs) ≡ hole ∷ holes_after (r.end + 1) rs = rw (k.1, is) (hole_here (end + 1) r rs (omega (arith, k.0.0, is))) in
+    ap (λ (v : List Range). hs ++ v) first ∙ sym (append_assoc hs (hole ∷ []) (holes_after (r.end + 1) rs))
+
+-- No hole, if `new` made none.
+pub none_made : (hs rs : List Range) (end start : ℕ) (r : Range) (e : Error) → start ≡ r.start → start < 2 ^ 64 → MakesRange (end + 1) (start - 1) (Err e) →
+    hs ++ holes_after (end + 1) (r ∷ rs) ≡ hs ++ holes_after (r.end + 1) rs
+none_made hs rs end start r e is word made =
+    let none : ¬ IsRange (end + 1) (start - 1) = ⊎_elim (λ u. u.0) (λ u. absurd (cc (u.1))) made in
+    let low : r.start ≤ end + 1 = ⊎_elim (λ (l : end + 1 < r.start). absurd (none (omega (arith, l, is), omega (arith, word), λ z. omega (arith, z)))) (λ (l : r.start ≤ end + 1). l) (cases_lt (end + 1) r.start) in
+    ap (λ (v : List Range). hs ++ v) (no_hole (end + 1) r rs low)
 
 -- The lists of a list in order end at its last range.
 last_above : (i end : ℕ) (rs : List Range) → wrong_index i (end + 1) rs ≡ None → AreRanges rs → end ≤ last_end end rs

@@ -5,7 +5,7 @@ use Rattle.vm_tree.specs.Shape.{Shape, blocks, height_of}
 use Rattle.vm_tree.specs.Links.{side}
 use Rattle.vm_tree.specs.Changes.{CanChange}
 use Rattle.vm_tree.proofs.Updates.{node_is, linked, changed, updated_blocks, can_update, update_reduces}
-use Rattle.vm_tree.proofs.FreesTrees.{edge_is, same_start, same_end}
+use Rattle.vm_tree.proofs.FreesTrees.{can_l, can_r, edge_is, same_start, same_end}
 use Rattle.vm_tree.proofs.FreesEdges.{under_inside, right_start}
 use Rattle.vm_tree.proofs.free.+free_at.Goals as goal
 
@@ -33,6 +33,25 @@ free_at-returns-in_ok-freed-in-Fork-clause-freed t c =
     let u = changed q g.1 f in
     let o = c.update-change in
     (rw (updated_blocks u _ o.ensures.tree, q) g.0, update_reduces u _ o.ensures.tree o.result o.ensures.reported)
+
+pub free_child-free_at-requires : goal.free_child-free_at-requires
+free_child-free_at-requires t c =
+    let l = side c.args.left.now in
+    let r = side c.args.right.now in
+    let s = c.start.ensures.value in
+    let at = c.requires.node.at in
+    let d = edge_is l r c.requires.can in
+    let w = c.requires.within in
+    (omega arith, (can_l l r c.requires.can, (c.requires.node.summed.left, ((w.0, omega (arith, c.if-start-edge.true)), omega arith))))
+
+pub free_child-free_at-requires-2 : goal.free_child-free_at-requires-2
+free_child-free_at-requires-2 t c =
+    let l = side c.args.left.now in
+    let r = side c.args.right.now in
+    let s = c.start.ensures.value in
+    let at = c.requires.node.at in
+    let w = c.requires.within in
+    (omega arith, (can_r l r c.requires.can, (c.requires.node.summed.right, ((omega (arith, c.if-start-edge.false), w.1), omega arith))))
 
 pub free_child-returns-then-start-edge-clause-freed : goal.free_child-returns-then-start-edge-clause-freed
 free_child-returns-then-start-edge-clause-freed t c =

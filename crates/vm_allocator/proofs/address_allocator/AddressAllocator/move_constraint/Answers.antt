@@ -1,0 +1,17 @@
+use Rattle.std.proofs.Common.{refl}
+use Rattle.std.specs.List.{Contains}
+use Rattle.vm_engine.specs.Address.{IsAddressState}
+use Rattle.vm_allocator.specs.Allocator.{state_of}
+use Rattle.vm_allocator.proofs.Results.Moves.{move_held, move_moves}
+use Rattle.vm_allocator.proofs.address_allocator.AddressAllocator.move_constraint.Goals as goal
+
+pub returns-clause-moved : goal.returns-clause-moved
+returns-clause-moved c =
+    let state : IsAddressState (state_of c.args.self.now) = rw (← c.self.view_is) c.self.invariant.state in
+    let held : Contains (state_of c.args.self.now).held c.args.key.now = rw (← c.self.view_is) (c.if-not-holds.ensures.0 refl) in
+    move_held _ (state_of c.allocate_constraint.new.self) _ _ _ c.args.request c.free.result state held c.in_ok-range.ensures.answer c.free.ensures.answer
+
+pub returns-clause-answer : goal.returns-clause-answer
+returns-clause-answer c =
+    let held : Contains (state_of c.args.self.now).held c.args.key.now = rw (← c.self.view_is) (c.if-not-holds.ensures.0 refl) in
+    move_moves _ (state_of c.allocate_constraint.new.self) _ _ _ c.args.request c.free.result held c.if-is_for.ensures c.in_ok-range.ensures.answer c.free.ensures.answer
