@@ -166,9 +166,7 @@ fn memory_of_sets() {
         let ((_, bytes), requests) = refusing(0, || peak_of(fill));
         assert!(requests as i64 <= blocks() - before + 16);
         let copied = peak_of(|| set.clone().map(drop)).1 as i64;
-        // The lowest chunk is in neither list. The other allocations are both lists, and what holds them.
-        let chunks = blocks() - before - 3;
-        assert_eq!(copied, chunks * (1024 + 24 + 4) - 24 - 4 + 48);
+        assert_eq!(copied, (blocks() - before - 2) * (1024 + 24 + 4) - 24 - 4);
         let most_bytes = most * set.len();
         assert!(bytes <= most_bytes, "{bytes} bytes instead of {most_bytes}");
         for value in (1..2 * VALUES as u32).step_by(101) {
@@ -179,6 +177,6 @@ fn memory_of_sets() {
         for value in (0..2 * VALUES as u32).filter(|value| value % 128 > 0) {
             set.remove(&value);
         }
-        assert!(blocks() - before - 3 <= set.len() as i64 / 64 * 2);
+        assert!(blocks() - before - 2 <= set.len() as i64 / 64 * 2);
     }
 }

@@ -7,7 +7,6 @@
 //! Keys descend along a chunk and from chunk to chunk. So the lowest key is at an end, and removing it
 //! moves nothing.
 
-use super::boxed::Box;
 use super::{AllocError, AllocFailed, Global};
 use alloc::vec::Vec;
 use core::fmt;
@@ -32,18 +31,12 @@ const FIRST_ENTRIES: usize = 16;
 pub struct BTreeMap<K, V> {
     // The chunk with the lowest keys. Only an empty map has an empty chunk.
     lowest: Vec<(K, V)>,
-    // The other chunks. A map that never had more than one chunk has no list of them, so it is small.
-    upper: Option<Box<Upper<K, V>>>,
-    len: usize,
-}
-
-/// The chunks of a map but the one with the lowest keys. If there are any, each chunk of the map has
-/// capacity for `MAX_ENTRIES`.
-struct Upper<K, V> {
-    chunks: Vec<Vec<(K, V)>>,
-    // A bound for each chunk of the map but the first: no key of the chunk is greater, and all keys of the
-    // chunk before it are greater.
+    // The other chunks. If there are any, each chunk has capacity for `MAX_ENTRIES`.
+    upper: Vec<Vec<(K, V)>>,
+    // A bound for each chunk but the first: no key of the chunk is greater, and all keys of the chunk
+    // before it are greater.
     bounds: Vec<K>,
+    len: usize,
 }
 
 /// The place of a key: the index of its chunk, and its index there. The last chunk is `lowest`.
@@ -61,7 +54,8 @@ impl<K: Ord + Copy, V> BTreeMap<K, V> {
     pub fn new(_alloc: Global) -> Self {
         BTreeMap {
             lowest: Vec::new(),
-            upper: None,
+            upper: Vec::new(),
+            bounds: Vec::new(),
             len: 0,
         }
     }
@@ -72,45 +66,32 @@ impl<K: Ord + Copy, V> BTreeMap<K, V> {
     where
         V: Copy,
     {
-        let lowest = copy_of(&self.lowest)?;
-        let upper = match &self.upper {
-            None => None,
-            Some(upper) => {
-                let mut copy = Upper::new();
-                reserve(&mut copy.chunks, upper.chunks.len())?;
-                reserve(&mut copy.bounds, upper.bounds.len())?;
-                for chunk in &upper.chunks {
-                    copy.chunks.push(copy_of(chunk)?);
-                }
-                copy.bounds.extend_from_slice(&upper.bounds);
-                Some(Box::new(Global, copy).map_err(|_| AllocError)?)
-            }
-        };
-        let len = self.len;
-        Ok(BTreeMap { lowest, upper, len })
-    }
-
-    /// Returns the chunks but the one with the lowest keys.
-    fn upper(&self) -> &[Vec<(K, V)>] {
-        self.upper.as_ref().map_or(&[], |upper| &upper.chunks)
+        let mut copy = BTreeMap::new(Global);
+        reserve(&mut copy.upper, self.upper.len())?;
+        reserve(&mut copy.bounds, self.bounds.len())?;
+        copy.lowest = copy_of(&self.lowest)?;
+        for chunk in &self.upper {
+            copy.upper.push(copy_of(chunk)?);
+        }
+        copy.bounds.extend_from_slice(&self.bounds);
+        copy.len = self.len;
+        Ok(copy)
     }
 
     fn chunk(&self, at: usize) -> &Vec<(K, V)> {
-        self.upper().get(at).unwrap_or(&self.lowest)
+        self.upper.get(at).unwrap_or(&self.lowest)
     }
 
     fn chunk_mut(&mut self, at: usize) -> &mut Vec<(K, V)> {
-        match &mut self.upper {
-            None => &mut self.lowest,
-            Some(upper) => upper.chunks.get_mut(at).unwrap_or(&mut self.lowest),
-        }
+        self.upper.get_mut(at).unwrap_or(&mut self.lowest)
     }
 
     /// Returns the place of a key, or the place where it would be inserted.
     fn place_of(&self, key: &K) -> Result<Place, Place> {
-        let at = match &self.upper {
-            None => 0,
-            Some(upper) => upper.bounds.partition_point(|bound| bound >= key),
+        // A small map has one chunk, and no bound to search.
+        let at = match self.bounds.is_empty() {
+            true => 0,
+            false => self.bounds.partition_point(|bound| bound >= key),
         };
         let in_chunk = |entry| Place { chunk: at, entry };
         let found = self.chunk(at).binary_search_by(|entry| key.cmp(&entry.0));
@@ -171,19 +152,10 @@ impl<K: Ord + Copy, V> BTreeMap<K, V> {
     fn split(&mut self, place: Place, key: K) -> Result<Place, AllocError> {
         let mut lower = Vec::new();
         reserve(&mut lower, Self::MAX_ENTRIES)?;
-        if self.upper.is_none() {
-            self.upper = Some(Box::new(Global, Upper::new()).map_err(|_| AllocError)?);
-        }
-        let Some(upper) = &mut self.upper else {
-            return Err(AllocError);
-        };
-        try_reserve(&mut upper.chunks)?;
-        try_reserve(&mut upper.bounds)?;
-        let is_last = place.chunk == upper.chunks.len();
-        let chunk = upper
-            .chunks
-            .get_mut(place.chunk)
-            .unwrap_or(&mut self.lowest);
+        try_reserve(&mut self.upper)?;
+        try_reserve(&mut self.bounds)?;
+        let is_last = place.chunk == self.upper.len();
+        let chunk = self.chunk_mut(place.chunk);
         let kept = match place {
             Place { chunk: 0, entry: 0 } => 0,
             _ if is_last && place.entry == chunk.len() => chunk.len(),
@@ -193,8 +165,8 @@ impl<K: Ord + Copy, V> BTreeMap<K, V> {
         lower.extend(chunk.drain(kept..));
         let bound = lower.first().map_or(key, |entry: &(K, V)| entry.0);
         let higher = core::mem::replace(chunk, lower);
-        upper.chunks.insert(place.chunk, higher);
-        upper.bounds.insert(place.chunk, bound);
+        self.upper.insert(place.chunk, higher);
+        self.bounds.insert(place.chunk, bound);
         if !goes_lower {
             return Ok(place);
         }
@@ -216,22 +188,19 @@ impl<K: Ord + Copy, V> BTreeMap<K, V> {
     /// Joins a chunk with one next to it, if both are small or one is empty. It does not allocate,
     /// because each chunk has the capacity for it.
     fn join(&mut self, at: usize) {
-        let Some(Upper { chunks, bounds }) = self.upper.as_deref_mut() else {
-            return;
-        };
-        let Some(last) = chunks.len().checked_sub(1) else {
+        let Some(last) = self.upper.len().checked_sub(1) else {
             return;
         };
         let at = at.min(last);
-        let (before, after) = chunks.split_at_mut(at + 1);
-        let higher = &mut before[at];
+        let (before, after) = self.upper.split_at_mut(at + 1);
+        let upper = &mut before[at];
         let lower = after.first_mut().unwrap_or(&mut self.lowest);
-        let are_small = higher.len() + lower.len() <= Self::MAX_ENTRIES / 2;
-        if are_small || higher.is_empty() || lower.is_empty() {
-            higher.append(lower);
-            core::mem::swap(higher, lower);
-            chunks.remove(at);
-            bounds.remove(at);
+        let are_small = upper.len() + lower.len() <= Self::MAX_ENTRIES / 2;
+        if are_small || upper.is_empty() || lower.is_empty() {
+            upper.append(lower);
+            core::mem::swap(upper, lower);
+            self.upper.remove(at);
+            self.bounds.remove(at);
         }
     }
 
@@ -240,11 +209,9 @@ impl<K: Ord + Copy, V> BTreeMap<K, V> {
         let entry = self.lowest.pop()?;
         self.len -= 1;
         if self.lowest.is_empty() {
-            if let Some(upper) = &mut self.upper {
-                if let Some(chunk) = upper.chunks.pop() {
-                    self.lowest = chunk;
-                    upper.bounds.pop();
-                }
+            if let Some(chunk) = self.upper.pop() {
+                self.lowest = chunk;
+                self.bounds.pop();
             }
         }
         Some(entry)
@@ -266,7 +233,7 @@ impl<K: Ord + Copy, V> BTreeMap<K, V> {
     #[must_use]
     pub fn iter(&self) -> btree_map::Iter<'_, K, V> {
         btree_map::Iter {
-            chunks: self.upper().iter(),
+            chunks: self.upper.iter(),
             lowest: self.lowest.iter(),
             highest: [].iter(),
         }
@@ -279,18 +246,9 @@ impl<K: Ord + Copy, V> BTreeMap<K, V> {
             Err(place) => (place.chunk, place.entry),
         };
         btree_map::Iter {
-            chunks: self.upper()[..chunk].iter(),
+            chunks: self.upper[..chunk].iter(),
             lowest: self.chunk(chunk)[..count].iter(),
             highest: [].iter(),
-        }
-    }
-}
-
-impl<K, V> Upper<K, V> {
-    fn new() -> Self {
-        Upper {
-            chunks: Vec::new(),
-            bounds: Vec::new(),
         }
     }
 }
