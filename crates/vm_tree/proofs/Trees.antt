@@ -356,13 +356,14 @@ left_some l r h = full_some l h.leaves.0
 pub right_some : (l r : Shape) → IsTree (Fork l r) → 12 ≤ length (blocks r)
 right_some l r h = full_some r h.leaves.1
 
--- The blocks of a leaf and of the next leaf, which is a child of the sibling, are a run.
+-- The blocks of a leaf and of the next leaf are a run, if the next leaf is the first child of the sibling.
 pub run_of_low : (xs ys : List Block) (r m z : Shape) → r ≡ Fork m z → m ≡ Tip ys → CanMend (Tip xs) r → IsRun (xs ++ ys)
 run_of_low xs ys r m z e f h =
     let q : r ≡ Fork (Tip ys) z = e ∙ ap (λ (t : Shape). Fork t z) f in
     let g : CanMend (Tip xs) (Fork (Tip ys) z) = subst (λ (t : Shape). CanMend (Tip xs) t) q h in
     cover_low xs ys (blocks z) g.cover (omega (arith, h.left_some))
 
+-- The blocks of a leaf and of the leaf before it are a run, if the leaf before it is the last child of the sibling.
 pub run_of_high : (xs ys : List Block) (l a m : Shape) → l ≡ Fork a m → m ≡ Tip xs → CanMend l (Tip ys) → IsRun (xs ++ ys)
 run_of_high xs ys l a m e f h =
     let q : l ≡ Fork a (Tip xs) = e ∙ ap (λ (t : Shape). Fork a t) f in
