@@ -1,5 +1,5 @@
 -- The results of the calls of a manager, case by case, and the results that follow from those of its parts.
-use Rattle.std.proofs.Common.{◌≡◌, ℕ, ◌≤◌, arith, refl, sym, ap, ⊎_elim, subst, Some, None, Result, Ok, Err, ◌%◌, inl, inr, ◌⊎◌, Option, MatchOption, IfSome, OnOk}
+use Rattle.std.proofs.Common.{◌≡◌, ℕ, ◌≤◌, arith, refl, sym, ap, ⊎_elim, subst, Some, None, Result, Ok, Err, ◌%◌, inl, inr, ◌⊎◌, Option, MatchOption, IfSome}
 use Rattle.std.proofs.lemmas.Bool.{both_ways}
 use Rattle.std.specs.List.{Contains}
 use Rattle.std.specs.Ordering.{nat_cmp}
@@ -99,15 +99,6 @@ released_outcome old new id answer (Some r) e h =
 pub releasing_outcome : (old new : DeviceState) (id : ℕ) (answer : Result (Unit {0}) Error) → Releases old id answer new → IsRefusedOrReleased old id answer new
 unfolding Releases
 releasing_outcome old new id answer h = released_outcome old new id answer (map.get old.devices id) refl h
-
--- A released device is removed, and nothing else changes.
-pub released_device : (old new : DeviceState) (id : ℕ) (answer : Result (Unit {0}) Error) → Releases old id answer new → OnOk answer ((r : Range) × IsDevice old id r × (new ≡ without_device id r old))
-released_device old new id (Ok u) h =
-    ⊎_elim
-    (λ r. absurd (cc (r.1)))
-    (λ k. (k.0, k.1, k.3))
-    (releasing_outcome old new id (Ok u) h)
-released_device old new id (Err e) h = tt
 
 -- ---- Each call preserves the pairs
 pub reserved_state : (old new : DeviceState) (request : Request) (answer : Result DeviceSlot Error) → IsDeviceState old → Reserves old request answer new → IsDeviceState new
@@ -237,7 +228,7 @@ range_freed old new r answer c f = grind arith
 -- The id and the range of a device are freed, and its entry is removed from the table.
 module _ (old : DeviceState) (id : ℕ) (r : Range) (ids : IdState) (space : AddressState) (slots : map.FinMap nat_cmp Range) (answer : Result (Unit {0}) Error)
     (i : IsDeviceState old) (d : IsDevice old id r) (e : ids ≡ releasing_id id old.ids) (f : Frees old.space r answer space) (g : slots ≡ map.remove old.devices id) where
-  left : devices_of ids space slots ≡ without_device id r old
+  pub left : devices_of ids space slots ≡ without_device id r old
   left = cc (e, range_freed old.space space r answer (i.pairs.held id r d) f, g)
 
   pub left_state : IsDeviceState (devices_of ids space slots)
@@ -246,5 +237,3 @@ module _ (old : DeviceState) (id : ℕ) (r : Range) (ids : IdState) (space : Add
   pub gone : Releases old id (Ok tt) (devices_of ids space slots)
   unfolding Releases
   gone = rw (left, d) (inl (refl, refl))
-
-pub ruleset releases = (no_device, release_refused, gone, released_device)

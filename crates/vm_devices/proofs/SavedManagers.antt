@@ -191,6 +191,10 @@ module _ (p : ℕ × Data × Data × Items) where
   ids_refused NotAState none = λ h. none (h.0.ids, h.1.ids)
   ids_refused OutOfMemory r = tt
 
+  pub space_refused : (e : ValueError) → Reads {X = AddressState} (EncodesAddresses p.2) (Err e) → ReadsInParts (EncodesFields p) (Err e)
+  space_refused NotAState none = λ h. none (h.0.space, h.1.space)
+  space_refused OutOfMemory r = tt
+
   pub slots_refused : (e : ValueError) → ReadsInParts (EncodesDevices p.3) (Err e) → ReadsInParts (EncodesFields p) (Err e)
   slots_refused NotAState none = λ h. none (h.1.devices, h.1.slots)
   slots_refused OutOfMemory r = tt

@@ -1,11 +1,14 @@
 -- Ids and numbers of words.
-use Rattle.std.proofs.Common.{◌≡◌, ℕ, ◌^◌, List, [], ◌∷◌, Option, Some, None, refl, sym, ap, ◌∙◌, arith}
+use Rattle.std.proofs.Common.{◌≡◌, ℕ, ◌<◌, ◌≤◌, ◌^◌, List, [], ◌∷◌, Option, Some, None, Result, Ok, Err, refl, sym, ap, ◌∙◌, arith}
 use Rattle.std.specs.Prelude.{if◌then◌else◌, nat_lt}
 use Rattle.std.specs.Option.{option_map, option_zip}
+use Rattle.std.specs.Result.{OkIff, result_ok}
+use Rattle.std.proofs.lemmas.Bool.{lt-ltb, le-ltb}
 use Rattle.std.proofs.lemmas.Bool.Decides.{nat_tests}
+use Rattle.std.proofs.lemmas.Result.{OkIff-at_ok, OkIff-at_err}
 use Rattle.vm_lines.specs.Numbers.{number_of, id_of}
 use Rattle.vm_lines.specs.Reading.{number_first}
-use Rattle.vm_lines.specs.Words.{one_in, two_in, three_in, four_in}
+use Rattle.vm_lines.specs.Words.{words_of, words_after, one_in, two_in, three_in, four_in}
 use Rattle.vm_lines.proofs.FirstNumber.{says_none, says_some}
 
 -- One id.
@@ -20,6 +23,11 @@ ids_in (Some p) = option_zip (id_in (Some p.0)) (id_in (Some p.1))
 
 id_is : (word : List ℕ) → id_of word ≡ id_in (number_of word)
 id_is word = grind (arith, nat_tests)
+
+-- The id of a number that is converted.
+pub converted : (E : Type 0) (n : ℕ) (r : Result ℕ E) → OkIff r (n < 2 ^ 32) n → result_ok r ≡ id_in (Some n)
+converted E n (Ok x) h = let is = OkIff-at_ok {E = E} (Ok x) (n < 2 ^ 32) n x h refl in rw (is.1, lt-ltb n (2 ^ 32) is.0) refl
+converted E n (Err e) h = let high : 2 ^ 32 ≤ n = omega (arith, OkIff-at_err {E = E} (Err e) (n < 2 ^ 32) n e h refl) in rw (le-ltb n (2 ^ 32) high) refl
 
 pub one_id : (words : List (List ℕ)) → one_in id_of words ≡ id_in (one_in number_of words)
 one_id [] = refl
@@ -79,3 +87,9 @@ four_some (word ∷ second ∷ words) behind number e =
 pub four_less : (words behind : List (List ℕ)) (number : ℕ) → number_first words ≡ Some (number, behind) → three_in number_of behind ≡ None
     → four_in id_of number_of words ≡ None
 four_less words behind number e less = four_some words behind number e ∙ ap (ids_among number) less
+
+-- The result from the two ids, either of which can be None.
+pub four_ids : (words : List (List ℕ)) (rest : Option (List ℕ)) (text : List ℕ) (number second third fourth : ℕ) (i j : Option ℕ) → number_first words ≡ Some (number, words_after rest) → rest ≡ Some text
+    → Some (second, third, fourth) ≡ three_in number_of (words_of text) → i ≡ id_in (Some number) → j ≡ id_in (Some second) → four_in id_of number_of words ≡ option_map (λ ids. (ids, (third, fourth))) (option_zip i j)
+four_ids words rest text number second third fourth i j first some three is js =
+    four_some words (words_after rest) number first ∙ ap (λ r. ids_among number (three_in number_of (words_after r))) some ∙ ap (ids_among number) (sym three) ∙ rw (is, js) refl

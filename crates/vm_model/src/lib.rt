@@ -15,7 +15,7 @@ pub const ADDRESSES: u64 = 64;
 pub const CALLS: u64 = 20_000;
 
 /// A call on the space.
-#[derive(Clone, Copy, Debug)]
+#[derive(Clone, Copy)]
 pub enum Call {
     /// Allocates the lowest range of a size and an alignment.
     First(u64, u64),
@@ -28,7 +28,7 @@ pub enum Call {
 }
 
 /// The expected result of a call.
-#[derive(Clone, Copy, Debug)]
+#[derive(Clone, Copy)]
 pub enum Answer {
     /// The first and the last address of an allocated range.
     Range(u64, u64),

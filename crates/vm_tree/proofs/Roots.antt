@@ -18,7 +18,7 @@ use Rattle.vm_tree.specs.declared.search.Refusal.{Refusal}
 use Rattle.vm_tree.specs.declared.search.Refusal.TheVariants.{NoPlace, Held, PastMax, OutOfMemory, TooHigh}
 use Rattle.vm_tree.proofs.Allocating.{IsAllocated, run_allocated, exact_allocated}
 use Rattle.vm_tree.proofs.Paths.{path_length, search_fits, fit_searches, fit_path}
-use Rattle.vm_tree.specs.Changes.{CanChange}
+use Rattle.vm_tree.specs.Changes.{CanChange, Reduces}
 use Rattle.vm_tree.specs.Frees.{Frees}
 use Rattle.vm_tree.specs.Roots.{IsBlockTree, IsPathLength, IsRoot}
 use Rattle.vm_tree.specs.Links.{side, IsSummed}
@@ -58,6 +58,13 @@ built_run space held s r o b =
       tiles = between_tiles space.start space.end held (omega arith) o;
       range = r;
     })
+
+-- The root after a range was freed under it.
+pub freed_root : (k : Range) (change : Change) (n : ℕ) (old new : Link) (v : Shape) → side old ≡ v → IsRoot (record { root = old }) → Frees k (blocks v) (blocks (side new)) → Reduces change n v (side new) → IsSummed new
+    → IsRoot (record { root = new })
+freed_root k change n old new v q root f h s =
+    let run = freed_run k (blocks v) (blocks (side new)) (subst (λ (t : Shape). IsRun (blocks t)) q root.run) f in
+    record { tree = h.shrinks.tree; run = run; height = omega (arith, root.height, ap height_of q, h.shrinks.upto); summed = λ t. s }
 
 pub ruleset making = (lone_tree, lone_run)
 

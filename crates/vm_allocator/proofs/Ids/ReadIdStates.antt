@@ -1,5 +1,5 @@
 -- The state that a value encodes, and the fields of an allocator with this state.
-use Rattle.std.proofs.Common.{◌≡◌, ℕ, zero, suc, ◌≤◌, ◌<◌, true, false, List, [], ◌∷◌, length, Option, Some, None, is_some, IsSome, Result, Ok, Err, codes, IsTrue, refl, sym, ap, ◌∙◌, subst, arith, true≢false}
+use Rattle.std.proofs.Common.{◌≡◌, ℕ, zero, suc, ◌≤◌, ◌<◌, true, false, List, [], ◌∷◌, length, Option, Some, None, is_some, IsSome, Result, Ok, Err, MatchResult, codes, IsTrue, refl, sym, ap, ◌∙◌, subst, arith, true≢false}
 use Rattle.std.proofs.lemmas.Option.{same_Some}
 use Rattle.std.proofs.lemmas.List.Elements.{All-contains}
 use Rattle.std.proofs.lemmas.Map.Views.{Contains-from_any, list_any-from_Contains}
@@ -112,23 +112,23 @@ in_order d p e = let c = checks d p e in widened p.0 (bound_of p.1 p.2) p.3 c.fr
 pub ids_listed_in : (d : Data) (p : Found) → decoded_ids d ≡ Some p → IsSome (ids_in p.3)
 ids_listed_in d p e = ap is_some (in_order d p e)
 
--- The state of the parts of a value that is decoded.
-pub state_read : (d : Data) (p : Found) (freed : List ℕ) (answer : Result IdState SavedError) → decoded_ids d ≡ Some p → ids_in p.3 ≡ Some freed → MakesOfIds p.0 p.2 p.1 freed answer → (state : IdState) × (answer ≡ Ok state) × EncodesIds d state
+-- The parts of a value that is decoded make a state, and it is the state that the value encodes.
+pub state_read : (d : Data) (p : Found) (freed : List ℕ) (answer : Result IdState SavedError) → decoded_ids d ≡ Some p → ids_in p.3 ≡ Some freed → MakesOfIds p.0 p.2 p.1 freed answer → MatchResult answer (EncodesIds d) (λ _. ⊥)
 state_read d p freed (Ok state) e i m =
     let c = checks d p e in
     let same : c.freed ≡ freed = same_Some c.freed freed (sym (in_order d p e) ∙ i) in
     let set : BTreeSet ℕ = record { keys = freed } in
-    (state, refl, subst (EncodesIds d) (sym m.1) (built_states d p set e (c.ascends ∙ ap Some same)))
+    subst (EncodesIds d) (sym m.1) (built_states d p set e (c.ascends ∙ ap Some same))
 state_read d p freed (Err (Violated v)) e i m =
     let c = checks d p e in
     let same : c.freed ≡ freed = same_Some c.freed freed (sym (in_order d p e) ∙ i) in
-    absurd (m.1 (subst (λ (ids : List ℕ). AreFreedOf p.0 p.2 p.1 ids) same (record {
+    m.1 (subst (λ (ids : List ℕ). AreFreedOf p.0 p.2 p.1 ids) same (record {
       range = c.valid.range;
       next_id = c.valid.next_id;
       ascending = c.valid.ascending;
       freed_ids = λ i k. All-contains (λ n. (p.0 ≤ n) × (n < bound_of p.1 p.2)) c.freed i c.valid.ever_allocated k;
-    })))
-state_read d p freed (Err OutOfMemory) e i m = absurd m
+    }))
+state_read d p freed (Err OutOfMemory) e i m = m
 
 pub encoded_state : (d : Data) (state : IdState) → EncodesIds d state → IsIdState state
 encoded_state d state s =

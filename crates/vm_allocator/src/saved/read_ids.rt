@@ -17,7 +17,7 @@ use vm_ranges::{Condition, SavedError};
 /// The freed ids of a saved id allocator that were read so far, in ascending order.
 ///
 /// Its model is the list of these ids.
-#[derive(Debug, Drop)]
+#[derive(Drop)]
 pub struct ReadIds {
     ids: BTreeSet<u32>,
     // The first and the last of the ids.
@@ -25,7 +25,7 @@ pub struct ReadIds {
 }
 
 /// The first and the last of several ids in ascending order.
-#[derive(Clone, Copy, Debug)]
+#[derive(Clone, Copy)]
 pub(super) struct Ends {
     first: u32,
     last: u32,

@@ -23,7 +23,7 @@ pub const SAVED_VERSION: u64 = 1;
 /// The devices of a saved manager that were read so far, in the order of their ids.
 ///
 /// Its model is the list of these devices.
-#[derive(Debug, Drop)]
+#[derive(Drop)]
 pub struct ReadDevices {
     devices: Vec<DeviceSlot>,
 }

@@ -2,7 +2,8 @@ use Rattle.std.proofs.Common.{rules, ◌≡◌, ◌∙◌, sym, ap, arith}
 use Rattle.vm_leaf.specs.declared.block.Block.{Block}
 use Rattle.vm_tree.specs.Links.{side}
 use Rattle.vm_tree.specs.Frees.{between}
-use Rattle.vm_tree.proofs.FreesEdges.{near_extends, edge_past, beside_edge, gap_beside, beside_held, beside_extends, beside_fits, beside_none, beside_few, beside_gap, beside_node}
+use Rattle.vm_tree.proofs.FreesTrees.{child_can}
+use Rattle.vm_tree.proofs.FreesEdges.{far_can, far_many, near_extends, edge_past, beside_edge, gap_beside, beside_held, beside_extends, beside_fits, beside_none, beside_few, beside_gap, beside_node}
 use Rattle.vm_tree.proofs.free.free_beside.Goals as goal
 
 pub free_end-requires-clause-extends : goal.free_end-requires-clause-extends
@@ -60,3 +61,21 @@ returns-after-end c =
       freed = beside_gap q c.free_end-in-Free.new.tree d.new.tree o.freed f d.result (ap (λ (x : Block). x.state) (sym b.ensures.block) ∙ c.in-Free.is) d.ensures.dropped d.ensures.reduces;
       count = search rules;
     }
+
+pub end_block-next-requires-clause-tree : goal.end_block-next-requires-clause-tree
+end_block-next-requires-clause-tree c = (far_can c.args.end (side c.args.near.now) (side c.args.far.now) c.requires.can).tree
+
+pub free_end-requires-clause-can : goal.free_end-requires-clause-can
+free_end-requires-clause-can c = child_can c.args.end (side c.args.near.now) (side c.args.far.now) c.requires.can
+
+pub free_end-requires-in-Free-clause-can : goal.free_end-requires-in-Free-clause-can
+free_end-requires-in-Free-clause-can c = child_can c.args.end (side c.args.near.now) (side c.args.far.now) c.requires.can
+
+pub drop_end-requires-clause-can : goal.drop_end-requires-clause-can
+drop_end-requires-clause-can c = far_can c.args.end (side c.args.near.now) (side c.args.far.now) c.requires.can
+
+pub drop_end-requires-clause-some : goal.drop_end-requires-clause-some
+drop_end-requires-clause-some c = far_many c.args.end (side c.args.near.now) (side c.args.far.now) c.requires.can
+
+pub returns-in_err-freed-in-Free-clause-count : goal.returns-in_err-freed-in-Free-clause-count
+returns-in_err-freed-in-Free-clause-count c = omega (arith, c.end_block-next.ensures.count, c.free_end-in-Free.ensures.count)

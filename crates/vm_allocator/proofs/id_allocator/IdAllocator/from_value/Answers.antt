@@ -2,7 +2,6 @@ use Rattle.std.proofs.Common.{◌≡◌, Some, Ok, Err, List, IsSome, sym, ap, �
 use Rattle.serde_json.specs.View.{view, items_view}
 use Rattle.serde_json.specs.declared.value.Value.{Value}
 use Rattle.vm_ranges.specs.declared.saved.ValueError.TheVariants.{OutOfMemory}
-use Rattle.vm_allocator.specs.Values.IdValues.{EncodesIds}
 use Rattle.vm_allocator.specs.Checks.IdChecks.{ids_in}
 use Rattle.vm_allocator.proofs.Ids.ReadIdStates.{none_encoded, some_encoded, ids_listed_in, state_read}
 use Rattle.vm_allocator.proofs.id_allocator.IdAllocator.from_value.Goals as goal
@@ -23,13 +22,10 @@ pub returns-in_err-from_ids-clause-answer : goal.returns-in_err-from_ids-clause-
 returns-in_err-from_ids-clause-answer c =
     let listed : ids_in (items_view c.in-Some.ids.freed.now.items) ≡ Some c.in_ok-freed.freed =
     ap (λ (vs : List Value). ids_in (items_view vs)) (sym c.deref.ensures.value) ∙ c.in_ok-freed.ensures in
-    let s = state_read (view c.args.value.now) (c.in-Some.ids.base, c.in-Some.ids.next, c.in-Some.ids.end, items_view c.in-Some.ids.freed.now.items) c.in_ok-freed.freed c.from_ids.result (sym c.in-Some.ensures) listed c.from_ids.ensures.answer in
-    absurd (let e = sym c.in_err-from_ids.was ∙ s.1 in cc)
+    absurd (state_read (view c.args.value.now) (c.in-Some.ids.base, c.in-Some.ids.next, c.in-Some.ids.end, items_view c.in-Some.ids.freed.now.items) c.in_ok-freed.freed (Err c.in_err-from_ids.field-0.0) (sym c.in-Some.ensures) listed c.in_err-from_ids.ensures.answer)
 
 pub returns-clause-answer : goal.returns-clause-answer
 returns-clause-answer c =
     let listed : ids_in (items_view c.in-Some.ids.freed.now.items) ≡ Some c.in_ok-freed.freed =
     ap (λ (vs : List Value). ids_in (items_view vs)) (sym c.deref.ensures.value) ∙ c.in_ok-freed.ensures in
-    let s = state_read (view c.args.value.now) (c.in-Some.ids.base, c.in-Some.ids.next, c.in-Some.ids.end, items_view c.in-Some.ids.freed.now.items) c.in_ok-freed.freed (Ok c.in_ok-from_ids.field-0) (sym c.in-Some.ensures) listed c.in_ok-from_ids.ensures.answer in
-    let same : s.0 ≡ c.in_ok-from_ids.field-0 = let e = s.1 in cc in
-    subst (EncodesIds (view c.args.value.now)) same s.2
+    state_read (view c.args.value.now) (c.in-Some.ids.base, c.in-Some.ids.next, c.in-Some.ids.end, items_view c.in-Some.ids.freed.now.items) c.in_ok-freed.freed (Ok c.in_ok-from_ids.field-0) (sym c.in-Some.ensures) listed c.in_ok-from_ids.ensures.answer

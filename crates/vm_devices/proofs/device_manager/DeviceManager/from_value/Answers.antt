@@ -5,7 +5,7 @@ use Rattle.vm_ranges.specs.Saving.{value_error}
 use Rattle.vm_devices.specs.Manager.{device_state}
 use Rattle.vm_devices.specs.Saved.{ReadsInParts}
 use Rattle.vm_devices.specs.SavedChecks.{EncodesDevices}
-use Rattle.vm_devices.proofs.SavedManagers.{fields_read, ids_refused, slots_refused, parts_refused, parts_read}
+use Rattle.vm_devices.proofs.SavedManagers.{fields_read, ids_refused, space_refused, slots_refused, parts_refused, parts_read}
 use Rattle.vm_devices.proofs.device_manager.DeviceManager.from_value.Goals as goal
 
 pub returns-in_err-ids-clause-answer : goal.returns-in_err-ids-clause-answer
@@ -13,6 +13,12 @@ returns-in_err-ids-clause-answer c =
     let e = c.in_err-ids.field-0.0 in
     let is : c.from_residual.result ≡ Err e = search rules in
     rw is (fields_read _ _ (sym c.in-Some.ensures) (Err e) (ids_refused _ e c.in_err-ids.ensures.answer))
+
+pub returns-in_err-space-clause-answer : goal.returns-in_err-space-clause-answer
+returns-in_err-space-clause-answer c =
+    let e = c.in_err-space.field-0.0 in
+    let is : c.from_residual-in_err-space.result ≡ Err e = search rules in
+    rw is (fields_read _ _ (sym c.in-Some.ensures) (Err e) (space_refused _ e c.in_err-space.ensures.answer))
 
 pub returns-in_err-devices-clause-answer : goal.returns-in_err-devices-clause-answer
 returns-in_err-devices-clause-answer c =

@@ -4,7 +4,7 @@ use Rattle.vm_allocator.specs.Allocator.{state_of}
 use Rattle.vm_allocator.specs.Ids.{IdState}
 use Rattle.vm_devices.specs.Devices.{devices_of}
 use Rattle.vm_devices.specs.Manager.{DevicesInTree}
-use Rattle.vm_devices.proofs.DeviceCalls.{release_refused, left_state}
+use Rattle.vm_devices.proofs.DeviceCalls.{release_refused, left, left_state, gone}
 use Rattle.vm_devices.proofs.device_manager.DeviceManager.release.Goals as goal
 
 pub returns-in_err-free_id-clause-answer : goal.returns-in_err-free_id-clause-answer
@@ -23,3 +23,13 @@ invariant_of-self-2 c =
 
 pub returns-clause-state : goal.returns-clause-state
 returns-clause-state c = invariant_of-self-2 c
+
+pub returns-clause-released : goal.returns-clause-released
+returns-clause-released c =
+    let device = ap (λ (v : DevicesInTree). map.get v.devices c.args.id) c.self.view_is ∙ sym c.in-Some.ensures.value in
+    rw (← c.self.view_is) (c.in-Some.range, device, left _ c.args.id c.in-Some.range _ _ _ c.free.result c.self.invariant device c.in_ok-free_id.ensures.freed.1 c.free.ensures.answer c.remove.ensures)
+
+pub returns-clause-answer : goal.returns-clause-answer
+returns-clause-answer c =
+    let device = ap (λ (v : DevicesInTree). map.get v.devices c.args.id) c.self.view_is ∙ sym c.in-Some.ensures.value in
+    rw (← c.self.view_is) (gone _ c.args.id c.in-Some.range _ _ _ c.free.result c.self.invariant device c.in_ok-free_id.ensures.freed.1 c.free.ensures.answer c.remove.ensures)

@@ -18,7 +18,7 @@ pub(super) const MAX_HEIGHT: u64 = 49;
 ///
 /// Its keys are in ascending order and share no address, no allocated key ends at `u64::MAX`, and
 /// its nodes are nested at most 50 deep.
-#[derive(Clone, Copy, Debug)]
+#[derive(Clone, Copy)]
 pub struct Span {
     /// The start of the first key.
     first: u64,

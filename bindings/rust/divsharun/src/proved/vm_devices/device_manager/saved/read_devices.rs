@@ -16,7 +16,6 @@ pub const SAVED_VERSION: u64 = 1;
 /// The devices of a saved manager that were read so far, in the order of their ids.
 ///
 /// Its model is the list of these devices.
-#[derive(Debug)]
 pub struct ReadDevices {
     devices: Vec<DeviceSlot>,
 }

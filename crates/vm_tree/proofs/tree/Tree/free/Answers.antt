@@ -1,0 +1,10 @@
+use Rattle.std.proofs.Common.{ap}
+use Rattle.vm_tree.specs.Links.{side}
+use Rattle.vm_tree.proofs.Roots.{freed_root}
+use Rattle.vm_tree.proofs.tree.Tree.free.Goals as goal
+
+pub invariant_of-self-in-Fork : goal.invariant_of-self-in-Fork
+invariant_of-self-in-Fork c =
+    let d = c.in_ok-freed-in-Fork.freed in
+    let e = c.in_ok-freed-in-Fork.ensures in
+    freed_root c.args.key.now d.change d.joined c.self.inside.root c.free_at.new.tree c.in-Fork.node.value (ap side c.in-Fork.is) c.self.invariant e.freed.0 e.freed.1 e.summed
