@@ -34,7 +34,7 @@ free_at-returns-in_ok-freed-in-Fork-clause-freed t c =
     let o = c.update-change in
     (rw (updated_blocks u _ o.ensures.tree, q) g.0, update_reduces u _ o.ensures.tree o.result o.ensures.reported)
 
--- What `free_at` requires is true for the child that contains the start of the range.
+-- The child that contains the start of the range meets what `free_at` requires.
 pub free_child-free_at-requires : goal.free_child-free_at-requires
 free_child-free_at-requires t c =
     let l = side c.args.left.now in
