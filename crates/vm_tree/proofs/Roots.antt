@@ -59,7 +59,7 @@ built_run space held s r o b =
       range = r;
     })
 
--- The root after a range was freed under it.
+-- A root stays valid when a range is freed under it.
 pub freed_root : (k : Range) (change : Change) (n : ℕ) (old new : Link) (v : Shape) → side old ≡ v → IsRoot (record { root = old }) → Frees k (blocks v) (blocks (side new)) → Reduces change n v (side new) → IsSummed new
     → IsRoot (record { root = new })
 freed_root k change n old new v q root f h s =

@@ -370,7 +370,7 @@ run_of_high xs ys l a m e f h =
     let g : CanMend (Fork a (Tip xs)) (Tip ys) = subst (λ (t : Shape). CanMend t (Tip ys)) q h in
     cover_high (blocks a) xs ys g.cover (omega (arith, left_some a (Tip xs) g.left)) (omega (arith, right_some a (Tip xs) g.left))
 
--- The first address of the second child is that of its first leaf, which was joined with the next leaf.
+-- The second leaf of a node starts at the same address after it was joined with the next leaf.
 pub joined_start : (xs ys : List Block) (l a m s : Shape) → l ≡ Fork a m → m ≡ Tip xs → CanMend l (Tip ys) → JoinsLeaves xs ys s → start_of (blocks m) ≡ start_of (blocks s)
 joined_start xs ys l a m s e f h j =
     let q : l ≡ Fork a (Tip xs) = e ∙ ap (λ (t : Shape). Fork a t) f in
