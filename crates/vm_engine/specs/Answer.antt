@@ -59,20 +59,23 @@ ByPlace request state refused takes =
     ⊎ ((s : ℕ) × IsChosen request state s ×
     IfElse (s + request.size - 1 ≡ MAX) (refused Overflow) (takes (span s request.size)))
 
--- The lowest number of held ranges with which a split can fail for the height of the tree: (F(50) - 1) / 2.
+-- The lowest number of held ranges with which no gap is split, so that no tree gets too high: (F(50) - 1) / 2.
 abbrev pub SPLIT_LIMIT_MIN_HELD : ℕ
 SPLIT_LIMIT_MIN_HELD = 6_293_134_512
 
--- A split fails: out of memory, or Overflow if so many ranges are held that the tree can be too high.
-abbrev pub IsSplitRefusal : AddressState → Result Range Error → Type 0
-IsSplitRefusal old answer =
-    (answer ≡ Err OutOfMemory) ⊎ ((SPLIT_LIMIT_MIN_HELD ≤ length old.held) × (answer ≡ Err Overflow))
-
--- The range r is allocated. It can fail, without any change, only if it splits its gap.
+-- The result for the range r. An error changes nothing. The first condition that is true decides:
+--
+-- | condition | result |
+-- |---|---|
+-- | r fills its gap | r is allocated |
+-- | SPLIT_LIMIT_MIN_HELD or more ranges are held | Overflow |
+-- | none of these | r is allocated, or OutOfMemory |
 unfoldable pub AllocatesAt : AddressState → Range → Result Range Error → AddressState → Type 0
 AllocatesAt old r answer new =
-    ((answer ≡ Ok r) × (new ≡ holding r old))
-    ⊎ (SplitsGap old r × (new ≡ old) × IsSplitRefusal old answer)
+    let taken : Type 0 = (answer ≡ Ok r) × (new ≡ holding r old) in
+    let refused : Error → Type 0 = λ e. (answer ≡ Err e) × (new ≡ old) in
+    Unless (SplitsGap old r) taken (
+    IfElse (SPLIT_LIMIT_MIN_HELD ≤ length old.held) (refused Overflow) (taken ⊎ refused OutOfMemory))
 
 -- The result of a valid request. An error changes nothing. The first condition that is true decides:
 --

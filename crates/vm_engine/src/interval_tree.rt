@@ -18,7 +18,7 @@ ghost use Rattle.vm_tree.specs.Shape.{blocks, height_of};
 ghost use Rattle.vm_tree.specs.Walks.{meeting_blocks};
 ghost use Rattle.vm_engine.specs.Address.{IsAddressState};
 ghost use Rattle.vm_engine.specs.Answer.{Grants, Frees};
-ghost use Rattle.vm_engine.specs.Counts.Steps.{IsBalancedTreeOf, SplitsIfFew};
+ghost use Rattle.vm_engine.specs.Counts.Steps.{IsBalancedTreeOf};
 ghost use Rattle.vm_engine.specs.Tree.SpaceTree.{tree_state, IsSpaceTree, MakesTree};
 
 use std::alloc::Global;
@@ -139,7 +139,6 @@ impl IntervalTree {
         ensures answer { Grants (tree_state self.old) constraint result (tree_state self.new) }
         ensures unchanged { OnErr result (self.new ≡ self.old) }
         ensures state { IsAddressState (tree_state self.new) }
-        ensures few { SplitsIfFew (tree_state self.old) constraint result }
     {
         self.allocate_counted(alloc, constraint).0
     }

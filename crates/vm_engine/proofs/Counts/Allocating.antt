@@ -1,14 +1,13 @@
 -- The number of nodes that `allocate` enters, for valid and for invalid requests.
-use Rattle.std.proofs.Common.{◌≡◌, ◌≢◌, ℕ, refl, subst, arith, inl, inr, Result, Ok, Err}
+use Rattle.std.proofs.Common.{◌≡◌, ℕ, refl, subst, arith, Result, Ok, Err}
 use Rattle.vm_ranges.specs.Range.{Range}
 use Rattle.vm_engine.specs.Address.{AddressState}
-use Rattle.vm_ranges.specs.Request.{Request, IsRequest, ByConstraint, MakesConstraint}
+use Rattle.vm_ranges.specs.Request.{Request, IsRequest, MakesConstraint}
 use Rattle.vm_tree.specs.Shape.{Shape, blocks}
 use Rattle.vm_engine.specs.Counts.NodeCounts.{nodes_of_request}
 use Rattle.vm_engine.specs.Tree.SpaceTree.{space_of}
-use Rattle.vm_engine.specs.Counts.Steps.{IsGrantCount, IsAllocationCount, EntersToAllocate, SplitsIfFew}
+use Rattle.vm_engine.specs.Counts.Steps.{IsGrantCount, IsAllocationCount, EntersToAllocate}
 use Rattle.vm_ranges.specs.declared.error.Error.{Error}
-use Rattle.vm_ranges.specs.declared.error.Error.TheVariants.{OutOfMemory}
 use Rattle.vm_ranges.proofs.Requests.{constraint_made}
 use Rattle.vm_engine.proofs.Results.Filling.{no_constraint_fault}
 
@@ -35,25 +34,6 @@ valid_entered s request k c m n =
       valid = λ r. subst (λ (v : Request). c ≡ nodes_of_request v (space_of (blocks s)) s) made.0 n;
     }
 
--- Making a constraint never runs out of memory.
-constraint_memory : (request : Request) (e : Error) → MakesConstraint request (Err e) → e ≢ OutOfMemory
-unfolding MakesConstraint ByConstraint
-constraint_memory request e (inl z) o = absurd (cc (o, z.1))
-constraint_memory request e (inr (some, inl z)) o = absurd (cc (o, z.1))
-constraint_memory request e (inr (some, inr (aligned, inl z))) o = absurd (cc (o, z.1))
-constraint_memory request e (inr (some, inr (aligned, inr (start, made)))) o = absurd (cc (made))
-
--- It fails only for an invalid request.
-pub invalid_few : (old : AddressState) (request : Request) (e : Error) → MakesConstraint request (Err e) → SplitsIfFew old request (Err e)
-invalid_few old request e m = record {
-  split = tt;
-  memory = λ o. absurd (constraint_memory request e m (cc (o)));
-  high = λ r o. absurd (no_constraint_fault request e m r);
-}
-
-pub valid_few : (old : AddressState) (request k : Request) (answer : Result Range Error) → MakesConstraint request (Ok k) → SplitsIfFew old k answer → SplitsIfFew old request answer
-valid_few old request k answer m s = subst (λ (v : Request). SplitsIfFew old v answer) (constraint_made request k m).0 s
-
 -- ---- Requests that are valid
 pub valid_count : (h : ℕ) (old : AddressState) (request : Request) (answer : Result Range Error) (c : ℕ) → IsRequest request → IsGrantCount h old request answer c → IsAllocationCount h old request answer c
 valid_count h old request answer c r s = record { granting = s; invalid = λ x f. absurd (no_constraint_fault request x f r) }
@@ -63,4 +43,4 @@ entered_if_valid s request c r n = record { invalid = λ x f. absurd (no_constra
 
 pub ruleset valid_allocations = (valid_count, entered_if_valid)
 
-pub ruleset allocations = (invalid_count, grant_count, invalid_entered, valid_entered, valid_few)
+pub ruleset allocations = (invalid_count, grant_count, invalid_entered, valid_entered)

@@ -25,7 +25,7 @@ use Rattle.vm_engine.proofs.Trees.Spaces.{state_of_tree}
 use Rattle.vm_engine.proofs.Counts.GapBounds.{aligned_searches}
 use Rattle.vm_engine.specs.Counts.GapSearch.{SearchesGaps, SearchesAligned}
 use Rattle.vm_engine.specs.Counts.NodeCounts.{nodes_of_request}
-use Rattle.vm_engine.specs.Counts.Steps.{IsGrantCount, SplitsIfFew}
+use Rattle.vm_engine.specs.Counts.Steps.{IsGrantCount}
 use Rattle.vm_ranges.proofs.RangeCalls.{same_range}
 
 -- ---- The number of parts
@@ -96,9 +96,6 @@ module _ (s m : Shape) (space : Range) (held gaps clear : ℕ) (request : Reques
 
   -- What is true for the state of the space is true for that of the tree.
   module _ (answer : Result Taken Error) (a : IsAllocation request space (ltb held SPLIT_LIMIT_MIN_HELD) s m answer count) where
-    pub few_tree : SplitsIfFew (tree_state s) request (taken_range request.size answer)
-    few_tree = subst (λ (v : AddressState). SplitsIfFew v request (taken_range request.size answer)) state_is a.few
-
     pub exact_tree : count ≡ nodes_of_request request (space_of (blocks s)) s
     exact_tree = subst (λ (v : Range). count ≡ nodes_of_request request v s) h.is_space a.exact
 

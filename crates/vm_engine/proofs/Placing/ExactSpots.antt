@@ -1,7 +1,7 @@
 -- From the result of a search at a start to the result of an ExactMatch request.
-use Rattle.std.proofs.Common.{Option, Some, None, ◌≡◌, ℕ, ◌+◌, ◌-◌, ◌%◌, ◌<◌, ◌≤◌, List, ◌∷◌, ◌++◌, length, false, refl, sym, ap, ◌∙◌, arith, inl, inr, ◌⊎◌, ⊎_elim, subst, Result, Ok, Err, OnErr}
+use Rattle.std.proofs.Common.{Option, Some, None, ◌≡◌, ℕ, ◌+◌, ◌-◌, ◌%◌, ◌<◌, ◌≤◌, List, ◌∷◌, ◌++◌, length, refl, sym, ap, ◌∙◌, arith, inl, inr, ◌⊎◌, ⊎_elim, subst, Result, Ok, Err, OnErr}
 use Rattle.std.proofs.lemmas.Bool.{cases_lt}
-use Rattle.vm_ranges.specs.Cases.{IfElse}
+use Rattle.vm_ranges.specs.Cases.{IfElse, IsTestOf}
 use Rattle.vm_ranges.specs.Range.{Range, MAX, IsIn, span}
 use Rattle.vm_ranges.specs.Request.{Request, IsRequest}
 use Rattle.vm_ranges.proofs.RangeCalls.{same_range}
@@ -70,7 +70,7 @@ beyond w n a t sp bs b x f i m o =
 
 module _ (sp : Range) (old : List Block) (tiles : TilesSpace sp old) (search : Search) (t a : ℕ) (w : Option Range) (z : 0 < search.size) (m : t < MAX) (upto : t + search.size - 1 ≤ MAX) (d : t % a ≡ 0)
     (within : (search.low ≤ t) × (t ≤ search.high)) (is : IsWindowOf w sp search)
-    (many : search.can_split ≡ false → SPLIT_LIMIT_MIN_HELD ≤ length (held_of old)) where
+    (few : IsTestOf search.can_split (length (held_of old) < SPLIT_LIMIT_MIN_HELD)) where
   abbrev n : ℕ
   n = search.size
 
@@ -141,12 +141,12 @@ module _ (sp : Range) (old : List Block) (tiles : TilesSpace sp old) (search : S
         taken_grants answer new k h = if_in_window o answer new (exact_taken sp old b search.size a t new answer here e l k d h)
 
         spot_grants : (new : List Block) (answer : Result Taken Refusal) → OnErr answer (new ≡ old) → SettlesAt search spot new answer → Grants (blocks_state sp old) (request_in w search.size a (ExactMatch t)) (taken_range search.size (with_error (span t search.size) answer)) (blocks_state sp new)
-        spot_grants new (Ok taken) u h = taken_grants (Ok (span taken.start search.size)) (blocks_state sp new) h.below (allocated sp old tiles search z spot is_cut in_gap new taken h)
+        spot_grants new (Ok taken) u h = taken_grants (Ok (span taken.start search.size)) (blocks_state sp new) h.below (allocated sp old tiles search z spot is_cut in_gap few new taken h)
         spot_grants new (Err NoPlace) u h = absurd h
         spot_grants new (Err Held) u h = absurd h
         spot_grants new (Err PastMax) u h = rw u (if_in_window o (Err Overflow) (blocks_state sp old) (exact_at_end sp old b search.size a t here e l h))
-        spot_grants new (Err NoMemory) u h = rw u (taken_grants (Err OutOfMemory) (blocks_state sp old) h.0.below (no_memory sp old tiles search z spot is_cut in_gap h.0))
-        spot_grants new (Err TooHigh) u h = rw u (taken_grants (Err Overflow) (blocks_state sp old) h.0.below (too_high sp old tiles search z spot is_cut in_gap h.0 (many h.1)))
+        spot_grants new (Err NoMemory) u h = rw u (taken_grants (Err OutOfMemory) (blocks_state sp old) h.0.below (no_memory sp old tiles search z spot is_cut in_gap few h.0 h.1))
+        spot_grants new (Err TooHigh) u h = rw u (taken_grants (Err Overflow) (blocks_state sp old) h.0.below (too_high sp old tiles search z spot is_cut in_gap few h.0 h.1))
 
       free_grants : (new : List Block) (answer : Result Taken Refusal) → OnErr answer (new ≡ old)
           → IfElse ((b.key.end < t + search.size - 1) ⊎ (search.high < t + search.size - 1)) (answer ≡ Err NoPlace) (SettlesAt search spot new answer)
@@ -169,12 +169,12 @@ module _ (sp : Range) (old : List Block) (tiles : TilesSpace sp old) (search : S
   exact_settles : (new : List Block) (answer : Result Taken Refusal) → OnErr answer (new ≡ old) → AllocatesExact search t old new answer → Grants (blocks_state sp old) (request_in w search.size a (ExactMatch t)) (taken_range search.size (with_error (span t search.size) answer)) (blocks_state sp new)
   exact_settles new answer u h = settled_in h.lower h.block h.upper h.block.state refl h.at new answer u h.settles
 
-pub exact_grants : (sp : Range) (old : List Block) → TilesSpace sp old → (request : Request) (search : Search) → IsRequest request → IsSearchOf request sp search → (search.can_split ≡ false → SPLIT_LIMIT_MIN_HELD ≤ length (held_of old))
+pub exact_grants : (sp : Range) (old : List Block) → TilesSpace sp old → (request : Request) (search : Search) → IsRequest request → IsSearchOf request sp search → IsTestOf search.can_split (length (held_of old) < SPLIT_LIMIT_MIN_HELD)
     → (t : ℕ) → request.policy ≡ ExactMatch t → t < MAX → t + search.size - 1 ≤ MAX → (search.low ≤ t) × (t ≤ search.high)
     → (new : List Block) (answer : Result Taken Refusal) → OnErr answer (new ≡ old) → AllocatesExact search t old new answer → Grants (blocks_state sp old) request (taken_range search.size (with_error (span t search.size) answer)) (blocks_state sp new)
-exact_grants sp old tiles request search r is many t p m upto i new answer u h =
+exact_grants sp old tiles request search r is few t p m upto i new answer u h =
     let z : 0 < search.size = omega (arith, r.some, is.size) in
     let d : t % request.align ≡ 0 = aligned_if request.align t request.policy p r.start in
-    let g = exact_settles sp old tiles search t request.align request.window z m upto d i (as_window request.window sp search is.window) many new answer u h in
+    let g = exact_settles sp old tiles search t request.align request.window z m upto d i (as_window request.window sp search is.window) few new answer u h in
     subst (λ (v : Request). Grants (blocks_state sp old) v (taken_range search.size (with_error (span t search.size) answer)) (blocks_state sp new)) (with_policy request (ExactMatch t) p)
     (subst (λ (n : ℕ). Grants (blocks_state sp old) (request_in request.window n request.align (ExactMatch t)) (taken_range search.size (with_error (span t search.size) answer)) (blocks_state sp new)) is.size g)

@@ -7,14 +7,14 @@ use Rattle.vm_ranges.specs.Cases.{IsTestOf}
 use Rattle.vm_ranges.specs.Range.{Range, MAX, IsIn, span}
 use Rattle.vm_ranges.specs.Request.{Request, IsRequest}
 use Rattle.vm_ranges.specs.declared.error.Error.{Error}
-use Rattle.vm_ranges.specs.declared.error.Error.TheVariants.{Overflow, ResourceNotAvailable, OutOfMemory}
+use Rattle.vm_ranges.specs.declared.error.Error.TheVariants.{Overflow, ResourceNotAvailable}
 use Rattle.vm_ranges.specs.declared.constraint.AllocPolicy.TheVariants.{ExactMatch}
 use Rattle.vm_ranges.specs.declared.state.NodeState.TheVariants.{Free, Allocated}
 use Rattle.vm_ranges.specs.declared.state.NodeState.{NodeState}
 use Rattle.vm_leaf.specs.declared.block.Block.{Block}
 use Rattle.vm_leaf.specs.Block.{free_block}
 use Rattle.vm_leaf.specs.Windows.{common}
-use Rattle.vm_tree.specs.Allocation.{Spot, window_of, IsSpotIn, IsTakenAt, SplitsAt, SettlesAt, SettlesIn, range_at, IsSearch, AllocatesExact, AllocatesFit, IsClosestSpot}
+use Rattle.vm_tree.specs.Allocation.{Spot, window_of, IsSpotIn, SettlesAt, SettlesIn, IsSearch, AllocatesExact, AllocatesFit, IsClosestSpot}
 use Rattle.vm_tree.specs.GapSearch.{IsSearchCount, gaps_without_place}
 use Rattle.vm_tree.specs.Heights.{held_blocks, one_if_held}
 use Rattle.vm_tree.specs.NodeCounts.{has_fit_in, nodes_to_address, nodes_to_fit}
@@ -29,20 +29,18 @@ use Rattle.vm_tree.specs.declared.search.Refusal.{Refusal}
 use Rattle.vm_tree.specs.declared.search.Refusal.TheVariants.{NoPlace, Held, PastMax, OutOfMemory as NoMemory, TooHigh}
 use Rattle.vm_tree.proofs.Searched.{none_missed, none_closest}
 use Rattle.vm_tree.proofs.Heights.{high_tree_held}
-use Rattle.vm_engine.specs.Address.{AddressState, SplitsGap}
-use Rattle.vm_engine.specs.Answer.{SPLIT_LIMIT_MIN_HELD, ByStart, ByExactPolicy, IsChosen, Grants}
+use Rattle.vm_engine.specs.Address.{AddressState}
+use Rattle.vm_engine.specs.Answer.{SPLIT_LIMIT_MIN_HELD, ByStart, ByExactPolicy, Grants}
 use Rattle.vm_engine.specs.Counts.GapSearch.{SearchesAligned}
 use Rattle.vm_engine.specs.Counts.NodeCounts.{nodes_of_request, nodes_by_policy, is_looked_for, has_address}
-use Rattle.vm_engine.specs.Counts.Steps.{max_entered, IsGrantCount, SplitsIfFew, NoneEndsBelowMax}
-use Rattle.vm_engine.specs.Engine.Allocation.{error_of, with_error, taken_range, IsSearchOf, Takes, IsAllocation}
+use Rattle.vm_engine.specs.Counts.Steps.{max_entered, IsGrantCount}
+use Rattle.vm_engine.specs.Engine.Allocation.{with_error, taken_range, IsSearchOf, Takes, IsAllocation}
 use Rattle.vm_engine.specs.Tree.Blocks.{range_if_held, held_of, blocks_state, TilesSpace}
 use Rattle.vm_engine.specs.Windows.{part_in, window_in}
 use Rattle.vm_engine.proofs.Blocks.OneList.{same_block}
 use Rattle.vm_engine.proofs.Counts.GapBounds.{searches, exact_searches}
-use Rattle.vm_engine.proofs.Counts.LeftClear.{needs_split}
-use Rattle.vm_engine.proofs.Placing.Spots.{policy_of, fit_grants, spot_chosen, taken_from}
+use Rattle.vm_engine.proofs.Placing.Spots.{policy_of, fit_grants, spot_chosen}
 use Rattle.vm_engine.proofs.Placing.ExactSpots.{exact_grants}
-use Rattle.vm_engine.proofs.Results.Once.{chosen_once}
 use Rattle.vm_engine.proofs.Results.Requests.{request_in, with_policy}
 use Rattle.vm_engine.proofs.Trees.Ends.{ends}
 
@@ -64,58 +62,15 @@ low_if_few s true h t e =
     (cases_lt (height_of s) 48)
 low_if_few s false h t e = absurd (cc e)
 
-few_if : (can_split : Bool) (k : ℕ) → IsTestOf can_split (k < SPLIT_LIMIT_MIN_HELD) → can_split ≡ true → k < SPLIT_LIMIT_MIN_HELD
-few_if true k t e = t
-few_if false k t e = absurd (cc e)
-
-many_if : (can_split : Bool) (k : ℕ) → IsTestOf can_split (k < SPLIT_LIMIT_MIN_HELD) → can_split ≡ false → SPLIT_LIMIT_MIN_HELD ≤ k
-many_if true k t e = absurd (cc e)
-many_if false k t e = omega (arith, t)
-
 -- ---- The meaning of a refusal and of a range
--- Only the start of the spot can be chosen.
-record IsSpotOf (request : Request) (search : Search) (sp : Range) (old : List Block) (spot : Spot) : Type 0 where
+-- The spot is in a gap of the list, and the range of the search lies in this gap.
+record IsSpotOf (search : Search) (old : List Block) (spot : Spot) : Type 0 where
   cut : IsSpotIn old spot
   in_gap : (spot.key.start ≤ spot.start) × (spot.start + search.size ≤ spot.key.end + 1)
-  only : (t : ℕ) → IsChosen request (blocks_state sp old) t → t ≡ spot.start
 
-module _ (sp : Range) (old new : List Block) (tiles : TilesSpace sp old) (request : Request) (search : Search) (valid : IsRequest request) (is : IsSearchOf request sp search) (few : IsTestOf search.can_split (length (held_of old) < SPLIT_LIMIT_MIN_HELD)) where
-  some : 0 < search.size
-  some = omega (arith, valid.some, is.size)
-
-  spot_takes : (spot : Spot) (taken : Taken) → IsSpotOf request search sp old spot → IsTakenAt search spot new taken → Takes search.can_split request.size old new taken
-  spot_takes spot taken s t = record { search = search; size = is.size; split = refl; range = record { spot = spot; cut = s.cut; in_gap = s.in_gap; at = t } }
-
-  -- A range that splits its gap in the state does not fill its block.
-  splits_at : (spot : Spot) → IsSpotOf request search sp old spot → SplitsGap (blocks_state sp old) (span spot.start request.size) → SplitsAt search spot
-  splits_at spot s g =
-      needs_split sp old spot.lower spot.upper (free_block spot.key) (range_at search spot) tiles s.cut refl
-      (taken_from sp old tiles search some spot s.cut s.in_gap)
-      (subst (λ (n : ℕ). SplitsGap (blocks_state sp old) (span spot.start n)) (sym is.size) g)
-
-  no_error : (e : Error) → e ≢ OutOfMemory → e ≢ Overflow → SplitsIfFew (blocks_state sp old) request (Err e)
-  no_error e m o = record { split = tt; memory = λ k. absurd (m (cc k)); high = λ v k. absurd (o (cc k)) }
-
-  settled_few : (range : Range) (spot : Spot) (found : Result Taken Refusal) → IsSpotOf request search sp old spot → SettlesAt search spot new found → SplitsIfFew (blocks_state sp old) request (taken_range request.size (with_error range found))
-  unfolding NoneEndsBelowMax
-  settled_few range spot (Ok taken) s h = record {
-    split = λ g. few_if search.can_split _ few (h.low (splits_at spot s (subst (λ (x : ℕ). SplitsGap (blocks_state sp old) (span x request.size)) h.start g)));
-    memory = λ k. absurd (cc k);
-    high = λ v k. absurd (cc k);
-  }
-  settled_few range spot (Err NoPlace) s h = absurd h
-  settled_few range spot (Err Held) s h = absurd h
-  settled_few range spot (Err PastMax) s h = record {
-    split = tt;
-    memory = λ k. absurd (cc k);
-    high = λ v k. inr (λ t c. omega (arith, s.only t c, h, is.size));
-  }
-  settled_few range spot (Err NoMemory) s h = record { split = tt; memory = λ k. few_if search.can_split _ few h.1; high = λ v k. absurd (cc k) }
-  settled_few range spot (Err TooHigh) s h = record { split = tt; memory = λ k. absurd (cc k); high = λ v k. inl (many_if search.can_split _ few h.1) }
-
-  settled_takes : (range : Range) (spot : Spot) (found : Result Taken Refusal) → IsSpotOf request search sp old spot → SettlesAt search spot new found → IfOk (with_error range found) (λ taken. Takes search.can_split request.size old new taken)
-  settled_takes range spot (Ok taken) s h = spot_takes spot taken s h
-  settled_takes range spot (Err e) s h = tt
+settled_takes : (search : Search) (n : ℕ) (old new : List Block) (range : Range) (spot : Spot) (found : Result Taken Refusal) → search.size ≡ n → IsSpotOf search old spot → SettlesAt search spot new found → IfOk (with_error range found) (λ taken. Takes search.can_split n old new taken)
+settled_takes search n old new range spot (Ok taken) e s h = record { search = search; size = e; split = refl; range = record { spot = spot; cut = s.cut; in_gap = s.in_gap; at = h } }
+settled_takes search n old new range spot (Err e) is s h = tt
 
 -- ---- The parts that do not depend on the policy
 unchanged_if : (range : Range) (old new : Shape) (found : Result Taken Refusal) → OnErr found (new ≡ old) → OnErr (with_error range found) (new ≡ old)
@@ -168,20 +123,16 @@ module _ (sp : Range) (old new : Shape) (tiles : TilesSpace sp (blocks old)) (ra
   upto_held : bounds → count ≤ 2 * length (held_of (blocks old)) + 1
   upto_held b = omega (arith, b.all, tree.low.few, held_blocks_are (blocks old))
 
-  few_none : found ≡ Err NoPlace → SplitsIfFew (blocks_state sp (blocks old)) request (taken_range request.size (with_error r found))
-  few_none e = rw e (record { split = tt; memory = λ k. absurd (cc k); high = λ v k. absurd (cc k) })
-
   takes_none : found ≡ Err NoPlace → IfOk (with_error r found) (λ taken. Takes search.can_split request.size (blocks old) (blocks new) taken)
   takes_none e = rw e tt
 
   all_of : Grants (blocks_state sp (blocks old)) request (taken_range search.size (with_error r found)) (blocks_state sp (blocks new)) → IfOk (with_error r found) (λ taken. Takes search.can_split request.size (blocks old) (blocks new) taken)
-      → SplitsIfFew (blocks_state sp (blocks old)) request (taken_range request.size (with_error r found)) → count ≡ nodes_of_request request sp old → IsGrantCount (height_of old) (blocks_state sp (blocks old)) request (taken_range request.size (with_error r found)) count
+      → count ≡ nodes_of_request request sp old → IsGrantCount (height_of old) (blocks_state sp (blocks old)) request (taken_range request.size (with_error r found)) count
       → SearchesAligned (height_of old) (blocks_state sp (blocks old)) request (taken_range request.size (with_error r found)) count → IsAllocation request sp search.can_split old new (with_error r found) count
-  all_of g t f e s a = record {
+  all_of g t e s a = record {
     granted = subst (λ (n : ℕ). Grants (blocks_state sp (blocks old)) request (taken_range n (with_error r found)) (blocks_state sp (blocks new))) is.size g;
     taken = t;
     unchanged = unchanged_if r old new found u;
-    few = f;
     exact = e;
     steps = s;
     search = a;
@@ -198,15 +149,14 @@ module _ (sp : Range) (old new : Shape) (tiles : TilesSpace sp (blocks old)) (ra
     pub fit_allocation : IsAllocation request sp search.can_split old new (with_error r found) count
     fit_allocation =
         all_of
-        (fit_grants sp (blocks old) tiles request search valid is (many_if search.can_split _ few) end r (blocks new) found policy (blocks_unchanged old new found u) h)
-        (⊎_elim (λ n. takes_none n.1) (λ s. settled_takes sp (blocks old) (blocks new) tiles request search valid is few r s.0 found (spot_of s.0 s.1) s.2) h)
-        (⊎_elim (λ n. few_none n.1) (λ s. settled_few sp (blocks old) (blocks new) tiles request search valid is few r s.0 found (spot_of s.0 s.1) s.2) h)
+        (fit_grants sp (blocks old) tiles request search valid is few end r (blocks new) found policy (blocks_unchanged old new found u) h)
+        (⊎_elim (λ n. takes_none n.1) (λ s. settled_takes search request.size (blocks old) (blocks new) r s.0 found is.size (spot_of s.0 s.1) s.2) h)
         fit_exact
         (steps_of request (blocks_state sp (blocks old)) old (taken_range request.size (with_error r found)) count fit_most (success_path request.size (height_of old) count r found path))
         (searches request sp old (taken_range request.size (with_error r found)) count tiles range (same_bounds b) (λ e. same_none (none_missed search searched (blocks old) (none_closest end search (blocks old) (blocks new) (subst (AllocatesFit end search (blocks old) (blocks new)) (no_place_if request.size r found e) h)))))
       where
-        spot_of : (spot : Spot) → IsClosestSpot end search (blocks old) spot → IsSpotOf request search sp (blocks old) spot
-        spot_of spot s = let k = spot_chosen sp (blocks old) tiles request search valid is (many_if search.can_split _ few) end policy spot s in record { cut = s.cut; in_gap = k.0; only = λ t c. chosen_once request t spot.start (blocks_state sp (blocks old)) c k.1 }
+        spot_of : (spot : Spot) → IsClosestSpot end search (blocks old) spot → IsSpotOf search (blocks old) spot
+        spot_of spot s = let k = spot_chosen sp (blocks old) tiles request search valid is few end policy spot s in record { cut = s.cut; in_gap = k.0 }
 
 -- ---- The named place
 -- Is looked for if it is in the space and in the window, and its range does not pass MAX.
@@ -249,31 +199,16 @@ module _ (sp : Range) (old : Shape) (request : Request) (search : Search) (t : �
   unfolding nodes_of_request
   some_entered count i m u e = rw (policy, ← is.window, ← is.size, looked_for seen search.size t i m u) e
 
-  chosen_is : (s : ℕ) → IsChosen request (blocks_state sp (blocks old)) s → s ≡ t
-  unfolding IsChosen
-  chosen_is s c = (subst (λ (v : Request). IsChosen v (blocks_state sp (blocks old)) s) (sym (with_policy request (ExactMatch t) policy)) c).0
-
-  past : MAX ≤ t + (search.size - 1) → NoneEndsBelowMax (blocks_state sp (blocks old)) request
-  unfolding NoneEndsBelowMax
-  past m s c = omega (arith, chosen_is s c, m, is.size, valid.some)
-
   -- An error before the search.
-  refused : (can_split : Bool) (e : Error) → Grants (blocks_state sp (blocks old)) request (Err e) (blocks_state sp (blocks old)) → SplitsIfFew (blocks_state sp (blocks old)) request (Err e) → 0 ≡ nodes_of_request request sp old → IsAllocation request sp can_split old old (Err e) 0
-  refused can_split e g f c = record {
+  refused : (can_split : Bool) (e : Error) → Grants (blocks_state sp (blocks old)) request (Err e) (blocks_state sp (blocks old)) → 0 ≡ nodes_of_request request sp old → IsAllocation request sp can_split old old (Err e) 0
+  refused can_split e g c = record {
     granted = g;
     taken = tt;
     unchanged = refl;
-    few = f;
     exact = c;
     steps = record { most = omega arith; success = λ o. absurd (cc o); path = λ o. absurd (cc o) };
     search = exact_searches request t (height_of old) (blocks_state sp (blocks old)) (Err e) 0 policy;
   }
-
-  overflow_few : MAX ≤ t + (search.size - 1) → SplitsIfFew (blocks_state sp (blocks old)) request (Err Overflow)
-  overflow_few m = record { split = tt; memory = λ k. absurd (cc k); high = λ v k. inr (past m) }
-
-  other_few : SplitsIfFew (blocks_state sp (blocks old)) request (Err ResourceNotAvailable)
-  other_few = record { split = tt; memory = λ k. absurd (cc k); high = λ v k. absurd (cc k) }
 
   by_start : (e : Error) → Grants (blocks_state sp (blocks old)) (request_in request.window request.size request.align (ExactMatch t)) (Err e) (blocks_state sp (blocks old)) → Grants (blocks_state sp (blocks old)) request (Err e) (blocks_state sp (blocks old))
   by_start e g = subst (λ (v : Request). Grants (blocks_state sp (blocks old)) v (Err e) (blocks_state sp (blocks old))) (with_policy request (ExactMatch t) policy) g
@@ -291,13 +226,13 @@ module _ (sp : Range) (old : Shape) (request : Request) (search : Search) (t : �
   over_grants m i o = inr (λ e. omega arith, inr (i, inl (o, (refl, refl))))
 
   pub exact_at_max : (can_split : Bool) → t ≡ MAX → IsAllocation request sp can_split old old (Err Overflow) 0
-  exact_at_max can_split e = refused can_split Overflow (by_start Overflow (at_max_grants e)) (overflow_few (omega arith)) (none_entered (λ i m u. omega (arith, e, m)))
+  exact_at_max can_split e = refused can_split Overflow (by_start Overflow (at_max_grants e)) (none_entered (λ i m u. omega (arith, e, m)))
 
   pub exact_outside : (can_split : Bool) → t < MAX → (IsIn seen t → ⊥) → IsAllocation request sp can_split old old (Err ResourceNotAvailable) 0
-  exact_outside can_split m out = refused can_split ResourceNotAvailable (by_start ResourceNotAvailable (outside_grants m (not_seen out))) other_few (none_entered (λ i m u. out i))
+  exact_outside can_split m out = refused can_split ResourceNotAvailable (by_start ResourceNotAvailable (outside_grants m (not_seen out))) (none_entered (λ i m u. out i))
 
   pub exact_over : (can_split : Bool) → t < MAX → IsIn seen t → MAX < t + (search.size - 1) → IsAllocation request sp can_split old old (Err Overflow) 0
-  exact_over can_split m i o = refused can_split Overflow (by_start Overflow (over_grants m (as_seen i) (omega (arith, o, is.size, valid.some)))) (overflow_few (omega arith)) (none_entered (λ i m u. omega (arith, u, o)))
+  exact_over can_split m i o = refused can_split Overflow (by_start Overflow (over_grants m (as_seen i) (omega (arith, o, is.size, valid.some)))) (none_entered (λ i m u. omega (arith, u, o)))
 
 module _ (sp : Range) (old new : Shape) (tiles : TilesSpace sp (blocks old)) (request : Request) (search : Search) (t : ℕ) (valid : IsRequest request) (is : IsSearchOf request sp search) (policy : request.policy ≡ ExactMatch t) (few : IsTestOf search.can_split (length (held_of (blocks old)) < SPLIT_LIMIT_MIN_HELD))
     (found : Result Taken Refusal) (u : OnErr found (new ≡ old)) (count : ℕ) (h : AllocatesExact search t (blocks old) (blocks new) found) (m : t < MAX) (i : IsIn (common (window_of search) sp) t) (upto : t + search.size ≤ MAX + 1) where
@@ -307,42 +242,34 @@ module _ (sp : Range) (old new : Shape) (tiles : TilesSpace sp (blocks old)) (re
   free_is : h.block.state ≡ Free → h.block ≡ free_block h.block.key
   free_is e = same_block h.block (free_block h.block.key) refl e
 
-  spot_at : h.block.state ≡ Free → range.end ≤ h.block.key.end → IsSpotOf request search sp (blocks old) (record { lower = h.lower; key = h.block.key; upper = h.upper; start = t })
+  spot_at : h.block.state ≡ Free → range.end ≤ h.block.key.end → IsSpotOf search (blocks old) (record { lower = h.lower; key = h.block.key; upper = h.upper; start = t })
   spot_at e l = record {
     cut = h.at.cut ∙ ap (λ (v : Block). h.lower ++ v ∷ h.upper) (free_is e);
     in_gap = (h.at.inside.0, omega (arith, l, valid.some, is.size));
-    only = chosen_is sp old request search t valid is policy;
   }
 
-  abbrev Facts : Type 0
-  Facts = (IfOk (with_error range found) (λ taken. Takes search.can_split request.size (blocks old) (blocks new) taken)) × SplitsIfFew (blocks_state sp (blocks old)) request (taken_range request.size (with_error range found))
+  abbrev TakesIfOk : Type 0
+  TakesIfOk = IfOk (with_error range found) (λ taken. Takes search.can_split request.size (blocks old) (blocks new) taken)
 
-  other_facts : (e : Refusal) → found ≡ Err e → error_of range e ≢ OutOfMemory → error_of range e ≢ Overflow → Facts
-  other_facts e is_e n o = rw is_e (tt, record { split = tt; memory = λ k. absurd (n (cc k)); high = λ v k. absurd (o (cc k)) })
+  other_error : (e : Refusal) → found ≡ Err e → TakesIfOk
+  other_error e is_e = rw is_e tt
 
-  facts_by : (s : NodeState) → s ≡ h.block.state → SettlesIn search t h.lower s h.block.key h.upper (blocks new) found → Facts
-  facts_by Allocated e k = ⊎_elim (λ l. other_facts Held l.1 (λ x. cc x) (λ x. cc x)) (λ l. other_facts NoPlace l.1 (λ x. cc x) (λ x. cc x)) k
-  facts_by Free e k =
+  taken_by : (s : NodeState) → s ≡ h.block.state → SettlesIn search t h.lower s h.block.key h.upper (blocks new) found → TakesIfOk
+  taken_by Allocated e k = ⊎_elim (λ l. other_error Held l.1) (λ l. other_error NoPlace l.1) k
+  taken_by Free e k =
       ⊎_elim
-      (λ l. other_facts NoPlace l.1 (λ x. cc x) (λ x. cc x))
+      (λ l. other_error NoPlace l.1)
       (λ l.
       let fits : range.end ≤ h.block.key.end = ⊎_elim (λ (x : h.block.key.end < range.end). absurd (l.0 (inl x))) (λ (x : range.end ≤ h.block.key.end). x) (cases_lt h.block.key.end range.end) in
-      let spot = spot_at (sym e) fits in (
-        settled_takes sp (blocks old) (blocks new) tiles request search valid is few range (record { lower = h.lower; key = h.block.key; upper = h.upper; start = t }) found spot l.1,
-        settled_few sp (blocks old) (blocks new) tiles request search valid is few range (record { lower = h.lower; key = h.block.key; upper = h.upper; start = t }) found spot l.1,
-      ))
+      settled_takes search request.size (blocks old) (blocks new) range (record { lower = h.lower; key = h.block.key; upper = h.upper; start = t }) found is.size (spot_at (sym e) fits) l.1)
       k
-
-  facts : Facts
-  facts = facts_by h.block.state refl h.settles
 
   pub exact_allocation : count ≡ nodes_to_address t old → IsPathLength old count → IsAllocation request sp search.can_split old new (with_error range found) count
   exact_allocation exact path = record {
     granted = subst (λ (n : ℕ). Grants (blocks_state sp (blocks old)) request (taken_range n (with_error range found)) (blocks_state sp (blocks new))) is.size
-        (exact_grants sp (blocks old) tiles request search valid is (many_if search.can_split _ few) t policy m (omega arith) (omega (arith, i.0), omega (arith, i.1)) (blocks new) found (blocks_unchanged old new found u) h);
-    taken = facts.0;
+        (exact_grants sp (blocks old) tiles request search valid is few t policy m (omega arith) (omega (arith, i.0), omega (arith, i.1)) (blocks new) found (blocks_unchanged old new found u) h);
+    taken = taken_by h.block.state refl h.settles;
     unchanged = unchanged_if range old new found u;
-    few = facts.1;
     exact = some_entered sp old request search t valid is policy count i m upto exact;
     steps = steps_of request (blocks_state sp (blocks old)) old (taken_range request.size (with_error range found)) count (rw policy path.upto) (λ o. path.least);
     search = exact_searches request t (height_of old) (blocks_state sp (blocks old)) (taken_range request.size (with_error range found)) count policy;

@@ -1,5 +1,7 @@
 -- From the spot that a search finds to the result of a request.
-use Rattle.std.proofs.Common.{Option, Some, None, ◌≡◌, ℕ, ◌+◌, ◌<◌, ◌≤◌, List, length, false, refl, sym, ap, ◌∙◌, arith, inl, inr, ⊎_elim, subst, Result, Ok, Err, OnErr}
+use Rattle.std.proofs.Common.{Option, Some, None, ◌≡◌, ℕ, ◌+◌, ◌<◌, ◌≤◌, Bool, true, false, List, length, refl, sym, ap, ◌∙◌, arith, inl, inr, ⊎_elim, subst, Result, Ok, Err, OnErr}
+use Rattle.std.proofs.lemmas.Bool.{cases_lt}
+use Rattle.vm_ranges.specs.Cases.{IsTestOf}
 use Rattle.vm_ranges.specs.Range.{Range, MAX, span}
 use Rattle.vm_ranges.specs.Request.{Request, IsRequest}
 use Rattle.vm_ranges.proofs.RangeCalls.{same_range}
@@ -24,10 +26,20 @@ use Rattle.vm_tree.specs.declared.search.Search.{Search}
 use Rattle.vm_tree.specs.declared.search.Taken.{Taken}
 use Rattle.vm_tree.specs.declared.search.Refusal.{Refusal}
 use Rattle.vm_tree.specs.declared.search.Refusal.TheVariants.{NoPlace, Held, PastMax, TooHigh, OutOfMemory as NoMemory}
+use Rattle.vm_engine.proofs.Counts.LeftClear.{needs_split}
 use Rattle.vm_engine.proofs.Splitting.TakenRanges.{blocks_split, leaves_clear, as_blocks}
 use Rattle.vm_engine.proofs.Choosing.WindowPlaces.{lowest_place_in, highest_place_in, no_place_in}
 use Rattle.vm_engine.proofs.Choosing.Searched.{IsNotExact, none_grants, chosen_grants, over_grants, lowest_chosen, highest_chosen}
 use Rattle.vm_engine.specs.Engine.Allocation.{with_error, taken_range, IsSearchOf}
+
+-- ---- The limit of splits
+few_if : (can_split : Bool) (k : ℕ) → IsTestOf can_split (k < SPLIT_LIMIT_MIN_HELD) → can_split ≡ true → k < SPLIT_LIMIT_MIN_HELD
+few_if true k t e = t
+few_if false k t e = absurd (cc e)
+
+many_if : (can_split : Bool) (k : ℕ) → IsTestOf can_split (k < SPLIT_LIMIT_MIN_HELD) → can_split ≡ false → SPLIT_LIMIT_MIN_HELD ≤ k
+many_if true k t e = absurd (cc e)
+many_if false k t e = omega (arith, t)
 
 -- ---- A range at a spot of a space
 module _ (sp : Range) (old : List Block) (tiles : TilesSpace sp old) (search : Search) (z : 0 < search.size) (spot : Spot) (cut : IsSpotIn old spot) (in_gap : (spot.key.start ≤ spot.start) × (spot.start + search.size ≤ spot.key.end + 1)) where
@@ -39,35 +51,53 @@ module _ (sp : Range) (old : List Block) (tiles : TilesSpace sp old) (search : S
       let k = blocks_split (blocks_state sp old) old spot.lower spot.upper (free_block spot.key) (range_at search spot) (as_blocks sp old tiles) cut refl taken_from in
       ap (λ (v : List Range). record { space = sp; held = v }) (ap held_of h.blocks ∙ k.held)
 
-  pub allocated : (new : List Block) (taken : Taken) → IsTakenAt search spot new taken → AllocatesAt (blocks_state sp old) (range_at search spot) (Ok (span taken.start search.size)) (blocks_state sp new)
-  unfolding AllocatesAt
-  allocated new taken h = inl (ap (λ (s : ℕ). Ok (span s search.size)) h.start, taken_state new taken h)
-
+  -- The range splits its gap if and only if it does not fill its block.
   splits : NeedsSplit spot.key (range_at search spot) → SplitsGap (blocks_state sp old) (range_at search spot)
   splits n = leaves_clear sp old spot.lower spot.upper (free_block spot.key) (range_at search spot) tiles cut refl taken_from n
 
-  pub no_memory : IsSplitAt search spot → AllocatesAt (blocks_state sp old) (range_at search spot) (Err OutOfMemory) (blocks_state sp old)
-  unfolding AllocatesAt
-  no_memory h = inr (splits h.splits, refl, inl refl)
+  splits_at : SplitsGap (blocks_state sp old) (range_at search spot) → NeedsSplit spot.key (range_at search spot)
+  splits_at g = needs_split sp old spot.lower spot.upper (free_block spot.key) (range_at search spot) tiles cut refl taken_from g
 
-  pub too_high : IsSplitAt search spot → SPLIT_LIMIT_MIN_HELD ≤ length (held_of old) → AllocatesAt (blocks_state sp old) (range_at search spot) (Err Overflow) (blocks_state sp old)
-  unfolding AllocatesAt
-  too_high h many = inr (splits h.splits, refl, inr (many, refl))
+  -- The result at the spot.
+  module _ (few : IsTestOf search.can_split (length (held_of old) < SPLIT_LIMIT_MIN_HELD)) where
+    pub allocated : (new : List Block) (taken : Taken) → IsTakenAt search spot new taken → AllocatesAt (blocks_state sp old) (range_at search spot) (Ok (span taken.start search.size)) (blocks_state sp new)
+    unfolding AllocatesAt
+    allocated new taken h =
+        let answer : Result Range Error = Ok (span taken.start search.size) in
+        let both : (answer ≡ Ok (range_at search spot)) × (blocks_state sp new ≡ holding (range_at search spot) (blocks_state sp old)) = (ap (λ (s : ℕ). Ok (span s search.size)) h.start, taken_state new taken h) in
+        let split : NeedsSplit spot.key (range_at search spot) → AllocatesAt (blocks_state sp old) (range_at search spot) answer (blocks_state sp new) =
+        λ n. inr (splits n, inr (λ many. let limit = few_if search.can_split _ few (h.low n) in omega (arith, many, limit), inl both)) in
+        ⊎_elim
+        (λ (l : spot.key.start < (range_at search spot).start). split (inl l))
+        (λ (l : (range_at search spot).start ≤ spot.key.start).
+        ⊎_elim
+        (λ (k : (range_at search spot).end < spot.key.end). split (inr k))
+        (λ (k : spot.key.end ≤ (range_at search spot).end). inl (λ g. ⊎_elim (λ a. omega (arith, a, l)) (λ a. omega (arith, a, k)) (splits_at g), both))
+        (cases_lt (range_at search spot).end spot.key.end))
+        (cases_lt spot.key.start (range_at search spot).start)
 
-  -- The result at the spot, if it is the chosen place of the request.
-  module _ (request : Request) (same : request.size ≡ search.size) (policy : IsNotExact request.policy) (chosen : IsChosen request (blocks_state sp old) spot.start) (many : search.can_split ≡ false → SPLIT_LIMIT_MIN_HELD ≤ length (held_of old)) where
-    at_range : (answer : Result Range Error) (new : AddressState) → (range_at search spot).end < MAX → AllocatesAt (blocks_state sp old) (range_at search spot) answer new → Grants (blocks_state sp old) request answer new
-    at_range answer new below h =
-        chosen_grants request (blocks_state sp old) policy spot.start new answer chosen (omega (arith, same))
-        (subst (λ (n : ℕ). AllocatesAt (blocks_state sp old) (span spot.start n) answer new) (sym same) h)
+    pub no_memory : IsSplitAt search spot → search.can_split ≡ true → AllocatesAt (blocks_state sp old) (range_at search spot) (Err OutOfMemory) (blocks_state sp old)
+    unfolding AllocatesAt
+    no_memory h e = inr (splits h.splits, inr (λ many. let limit = few_if search.can_split _ few e in omega (arith, many, limit), inr (refl, refl)))
 
-    pub settled : (r : Range) (new : List Block) (answer : Result Taken Refusal) → OnErr answer (new ≡ old) → SettlesAt search spot new answer → Grants (blocks_state sp old) request (taken_range search.size (with_error r answer)) (blocks_state sp new)
-    settled r new (Ok taken) u h = at_range (Ok (span taken.start search.size)) (blocks_state sp new) h.below (allocated new taken h)
-    settled r new (Err NoPlace) u h = absurd h
-    settled r new (Err Held) u h = absurd h
-    settled r new (Err PastMax) u h = rw u (over_grants request (blocks_state sp old) policy spot.start chosen (omega (arith, same, h)))
-    settled r new (Err NoMemory) u h = rw u (at_range (Err OutOfMemory) (blocks_state sp old) h.0.below (no_memory h.0))
-    settled r new (Err TooHigh) u h = rw u (at_range (Err Overflow) (blocks_state sp old) h.0.below (too_high h.0 (many h.1)))
+    pub too_high : IsSplitAt search spot → search.can_split ≡ false → AllocatesAt (blocks_state sp old) (range_at search spot) (Err Overflow) (blocks_state sp old)
+    unfolding AllocatesAt
+    too_high h e = inr (splits h.splits, inl (many_if search.can_split _ few e, (refl, refl)))
+
+    -- The result if the spot is the chosen place of the request.
+    module _ (request : Request) (same : request.size ≡ search.size) (policy : IsNotExact request.policy) (chosen : IsChosen request (blocks_state sp old) spot.start) where
+      at_range : (answer : Result Range Error) (new : AddressState) → (range_at search spot).end < MAX → AllocatesAt (blocks_state sp old) (range_at search spot) answer new → Grants (blocks_state sp old) request answer new
+      at_range answer new below h =
+          chosen_grants request (blocks_state sp old) policy spot.start new answer chosen (omega (arith, same))
+          (subst (λ (n : ℕ). AllocatesAt (blocks_state sp old) (span spot.start n) answer new) (sym same) h)
+
+      pub settled : (r : Range) (new : List Block) (answer : Result Taken Refusal) → OnErr answer (new ≡ old) → SettlesAt search spot new answer → Grants (blocks_state sp old) request (taken_range search.size (with_error r answer)) (blocks_state sp new)
+      settled r new (Ok taken) u h = at_range (Ok (span taken.start search.size)) (blocks_state sp new) h.below (allocated new taken h)
+      settled r new (Err NoPlace) u h = absurd h
+      settled r new (Err Held) u h = absurd h
+      settled r new (Err PastMax) u h = rw u (over_grants request (blocks_state sp old) policy spot.start chosen (omega (arith, same, h)))
+      settled r new (Err NoMemory) u h = rw u (at_range (Err OutOfMemory) (blocks_state sp old) h.0.below (no_memory h.0 h.1))
+      settled r new (Err TooHigh) u h = rw u (at_range (Err Overflow) (blocks_state sp old) h.0.below (too_high h.0 h.1))
 
 -- ---- The window of a search is that of its request
 seen_by : (w : Option Range) (sp : Range) (held : List Range) (search : Search) → window_of search ≡ window_in w sp
@@ -82,7 +112,7 @@ policy_of First = FirstMatch
 policy_of Last = LastMatch
 
 module _ (sp : Range) (old : List Block) (tiles : TilesSpace sp old) (request : Request) (search : Search) (valid : IsRequest request) (is : IsSearchOf request sp search)
-    (many : search.can_split ≡ false → SPLIT_LIMIT_MIN_HELD ≤ length (held_of old)) where
+    (few : IsTestOf search.can_split (length (held_of old) < SPLIT_LIMIT_MIN_HELD)) where
   some : 0 < search.size
   some = omega (arith, valid.some, is.size)
 
@@ -117,5 +147,5 @@ module _ (sp : Range) (old : List Block) (tiles : TilesSpace sp old) (request : 
       (λ n. none_granted r new answer (not_exact end policy) u n.0 n.1)
       (λ s.
       let k = spot_chosen end policy s.0 s.1 in
-      settled sp old tiles search some s.0 s.1.cut k.0 request (sym is.size) (not_exact end policy) k.1 many r new answer u s.2)
+      settled sp old tiles search some s.0 s.1.cut k.0 few request (sym is.size) (not_exact end policy) k.1 r new answer u s.2)
       h

@@ -56,7 +56,7 @@ keys_state d state range p =
     let in_order = keys_in_order state.space.start state.space.end (blocks p.tree) p.keys p.below in
     record { space = range; in_order = subst (λ (hs : List Range). AreInOrder state.space.start hs state.space.end) p.held in_order }
 
--- A value that is read without repairs is read with repairs to the same state, if the height never makes a split fail.
+-- A value that is read without repairs is read with repairs to the same state, if not too many ranges are held.
 pub strict_keys : (d : Data) (space : Range) (state : AddressState) → EncodesSpaceTree d space state → length state.held ≤ SPLIT_LIMIT_MIN_HELD → EncodesKeys d space state
 unfolding TilesSpace
 strict_keys d space state p few =

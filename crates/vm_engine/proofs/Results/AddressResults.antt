@@ -4,12 +4,11 @@ use Rattle.std.specs.List.{Contains}
 use Rattle.vm_ranges.specs.Range.{Range, MAX, Overlaps, span}
 use Rattle.vm_engine.specs.Address.{AddressState, IsPlace, IsAddressState, holding, releasing, with_range, without_range}
 use Rattle.vm_ranges.specs.Request.{Request, IsRequest}
-use Rattle.vm_engine.specs.Answer.{AllocatesAt, Allocates, Grants, Frees, Makes}
+use Rattle.vm_engine.specs.Answer.{Allocates, Grants, Frees, Makes}
 use Rattle.vm_engine.specs.Laws.AddressLaws.{HeldAreDisjoint, StateIsPreserved, AddsRange, AllocatingAddsRange, FreeingRemovesRange, FreeingUndoes}
 use Rattle.vm_ranges.specs.declared.error.Error.{Error}
-use Rattle.vm_ranges.specs.declared.error.Error.TheVariants.{Overflow, OutOfMemory}
 use Rattle.vm_engine.proofs.Blocks.PlainWords.{IsHeld, contains_held, held_contains, none_holds}
-use Rattle.vm_engine.proofs.Results.Outcomes.{IsRefused, IsTaken, allocates_outcome, grants_outcome}
+use Rattle.vm_engine.proofs.Results.Outcomes.{IsRefused, IsTaken, given_or_refused, allocates_outcome, grants_outcome}
 use Rattle.vm_ranges.proofs.RangeCalls.{covers}
 use Rattle.vm_engine.proofs.Results.Once.{chosen_place}
 use Rattle.vm_engine.proofs.Blocks.HeldChanges.{Misses, in_order_with, held_with, held_now, still_held_with, in_order_without, without_with, held_without, not_held_without, others_held}
@@ -26,12 +25,11 @@ pub record IsAllocation (old : AddressState) (request : Request) (answer : Resul
   pub left : new ≡ holding (span from request.size) old
 
 taken_outcome : (request : Request) (old new : AddressState) (answer : Result Range Error) → 0 < request.size → IsTaken request old answer new → IsRefused old answer new ⊎ IsAllocation old request answer new
-unfolding AllocatesAt
 taken_outcome request old new answer some t =
     ⊎_elim
     (λ g. inr (record { from = t.0; some = some; place = chosen_place request t.0 old t.1; not_max = t.2; given = g.0; left = g.1 }))
-    (λ x. ⊎_elim (λ m. inl (OutOfMemory, m, x.1)) (λ d. inl (Overflow, d.1, x.1)) x.2)
-    t.3
+    (λ l. inl l)
+    (given_or_refused old (span t.0 request.size) answer new t.3)
 
 pub outcome : (request : Request) (old new : AddressState) (answer : Result Range Error) → Allocates old request answer new → IsRefused old answer new ⊎ IsAllocation old request answer new
 outcome request old new answer h =

@@ -99,7 +99,7 @@ pub allocates_filling : (old new : AddressState) (request : Request) (s : ℕ) (
 unfolding AllocatesAt
 allocates_filling old new request s answer h f =
     let m : s + request.size - 1 < MAX = f.below in
-    ⊎_elim (λ k. rw k.0 refl) (λ k. absurd (f.fills k.0))
+    ⊎_elim (λ k. rw k.1.0 refl) (λ k. absurd (f.fills k.0))
     (otherwise _ _ _ (λ k. omega arith) (allocates_chosen request s old new answer f.valid (omega arith) f.chosen h))
 
 pub frees_held : (old new : AddressState) (r : Range) (answer : Result (Unit {0}) Error) → Frees old r answer new → Contains old.held r → IsOk answer

@@ -1,13 +1,13 @@
--- A call has one result and one next state, except that a split may fail.
-use Rattle.std.proofs.Common.{◌≡◌, ℕ, ◌+◌, ◌-◌, sym, ◌∙◌, arith, inl, inr, ⊎_elim, subst, Option, Some, None, Result, Err}
+-- A call has one result and one next state, unless memory runs out.
+use Rattle.std.proofs.Common.{◌≡◌, ℕ, ◌+◌, ◌-◌, sym, ◌∙◌, arith, inl, inr, ⊎_elim, subst, Option, Some, None, Result, Ok, Err}
 use Rattle.vm_ranges.specs.Cases.{IfElse, Unless}
 use Rattle.vm_ranges.specs.Range.{Range, MAX, span}
-use Rattle.vm_engine.specs.Address.{AddressState, IsClear, IsPlace, IsLowestPlace, IsHighestPlace}
+use Rattle.vm_engine.specs.Address.{AddressState, IsClear, IsPlace, IsLowestPlace, IsHighestPlace, holding}
 use Rattle.vm_ranges.specs.Request.{Request, ByConstraint}
 use Rattle.vm_engine.specs.Windows.{within}
 use Rattle.vm_engine.proofs.Results.Requests.{request_in}
 use Rattle.vm_engine.specs.Answer.{IsChosen, ByStart, ByExactPolicy, ByPlace, AllocatesAt, Grants, Allocates, Frees}
-use Rattle.vm_engine.specs.Laws.AddressLaws.{AgreeExceptSplits, AllocatesOnce, FreesOnce}
+use Rattle.vm_engine.specs.Laws.AddressLaws.{AgreeUnlessMemory, AllocatesOnce, FreesOnce}
 use Rattle.vm_ranges.specs.declared.error.Error.{Error}
 use Rattle.vm_ranges.specs.declared.error.Error.TheVariants.{Overflow, ResourceNotAvailable}
 use Rattle.vm_ranges.specs.declared.constraint.AllocPolicy.{AllocPolicy}
@@ -59,21 +59,20 @@ Refused old answer new e = (answer ≡ Err e) × (new ≡ old)
 -- Two results of one request, with the states after them.
 module _ (old new later : AddressState) (answer other : Result Range Error) where
   abbrev Agree : Type 0
-  Agree = AgreeExceptSplits old answer new other later
+  Agree = AgreeUnlessMemory answer new other later
 
   refused_once : (e : Error) → Refused old answer new e → Refused old other later e → Agree
   refused_once e p q = inl (p.0 ∙ sym q.0, p.1 ∙ sym q.1)
 
+  given_once : (r : Range) → (answer ≡ Ok r) × (new ≡ holding r old) → (other ≡ Ok r) × (later ≡ holding r old) → Agree
+  given_once r a b = inl (a.0 ∙ sym b.0, a.1 ∙ sym b.1)
+
   takes_once : (r : Range) → AllocatesAt old r answer new → AllocatesAt old r other later → Agree
   unfolding AllocatesAt
   takes_once r p q =
-      ⊎_elim
-      (λ a.
-      ⊎_elim
-      (λ b. inl (a.0 ∙ sym b.0, a.1 ∙ sym b.1))
-      (λ b. inr (record { range = r; split = b.0; first = p; second = q; refused = inr b.2 }))
-      q)
-      (λ a. inr (record { range = r; split = a.0; first = p; second = q; refused = inl a.2 })) p
+      both_unless _ _ _ _ _ Agree (given_once r)
+      (both _ _ _ _ _ Agree (refused_once Overflow)
+      (λ a b. ⊎_elim (λ g. ⊎_elim (given_once r g) (λ m. inr (inr m.0)) b) (λ m. inr (inl m.0)) a)) p q
 
   place_once : (request : Request) → ByPlace request old (Refused old answer new) (λ r. AllocatesAt old r answer new) → ByPlace request old (Refused old other later) (λ r. AllocatesAt old r other later) → Agree
   unfolding ByPlace

@@ -1,19 +1,33 @@
 -- A request fails, or the range at the chosen place is allocated.
-use Rattle.std.proofs.Common.{◌≡◌, ℕ, ◌+◌, ◌-◌, arith, inl, inr, ◌⊎◌, ⊎_elim, Option, Result, Err}
+use Rattle.std.proofs.Common.{◌≡◌, ℕ, ◌+◌, ◌-◌, arith, inl, inr, ◌⊎◌, ⊎_elim, Option, Result, Ok, Err}
 use Rattle.vm_ranges.specs.Range.{Range, MAX, span}
-use Rattle.vm_engine.specs.Address.{AddressState}
+use Rattle.vm_engine.specs.Address.{AddressState, holding}
 use Rattle.vm_ranges.specs.Request.{Request, IsRequest, ByConstraint}
 use Rattle.vm_engine.specs.Windows.{within}
 use Rattle.vm_engine.proofs.Results.Requests.{request_in}
 use Rattle.vm_engine.specs.Answer.{IsChosen, ByStart, ByExactPolicy, ByPlace, AllocatesAt, Grants, Allocates}
 use Rattle.vm_ranges.specs.declared.error.Error.{Error}
-use Rattle.vm_ranges.specs.declared.error.Error.TheVariants.{Overflow, ResourceNotAvailable}
+use Rattle.vm_ranges.specs.declared.error.Error.TheVariants.{Overflow, ResourceNotAvailable, OutOfMemory}
 use Rattle.vm_ranges.specs.declared.constraint.AllocPolicy.{AllocPolicy}
 use Rattle.vm_ranges.specs.declared.constraint.AllocPolicy.TheVariants.{FirstMatch, LastMatch, ExactMatch}
 
 -- The result is an error, and nothing changes.
 abbrev pub IsRefused : AddressState → Result Range Error → AddressState → Type 0
 IsRefused old answer new = (e : Error) × (answer ≡ Err e) × (new ≡ old)
+
+-- The range r is allocated.
+abbrev pub IsGiven : AddressState → Range → Result Range Error → AddressState → Type 0
+IsGiven old r answer new = (answer ≡ Ok r) × (new ≡ holding r old)
+
+pub given_or_refused : (old : AddressState) (r : Range) (answer : Result Range Error) (new : AddressState) → AllocatesAt old r answer new → IsGiven old r answer new ⊎ IsRefused old answer new
+unfolding AllocatesAt
+given_or_refused old r answer new (inl fills) = inl fills.1
+given_or_refused old r answer new (inr (splits, inl many)) = inr (Overflow, many.1.0, many.1.1)
+given_or_refused old r answer new (inr (splits, inr (few, inl given))) = inl given
+given_or_refused old r answer new (inr (splits, inr (few, inr memory))) = inr (OutOfMemory, memory.0, memory.1)
+
+pub given_is : (old : AddressState) (r p : Range) (new : AddressState) → AllocatesAt old r (Ok p) new → p ≡ r
+given_is old r p new h = ⊎_elim (λ l. cc (l.0)) (λ k. absurd (cc (k.1))) (given_or_refused old r (Ok p) new h)
 
 -- The range at the chosen place is allocated, and does not end at MAX.
 abbrev pub IsTaken : Request → AddressState → Result Range Error → AddressState → Type 0

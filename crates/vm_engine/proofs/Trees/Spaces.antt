@@ -15,7 +15,7 @@ use Rattle.vm_engine.specs.Engine.CountedTrees.{IsCountedTree}
 use Rattle.vm_engine.specs.Tree.Blocks.{TilesSpace, IsTiling}
 use Rattle.vm_engine.specs.Tree.SpaceTree.{last_end, space_of, tree_state, IsSpaceTree}
 use Rattle.vm_engine.proofs.Blocks.BlockStates.{is_state}
-use Rattle.vm_engine.proofs.Results.Outcomes.{IsRefused, IsTaken, grants_outcome}
+use Rattle.vm_engine.proofs.Results.Outcomes.{IsRefused, IsTaken, given_or_refused, grants_outcome}
 
 -- A tiling ends where the space ends.
 last_tile : (p : NodeState) (lo hi : ℕ) (bs : List Block) → Tiles p (lo + 1) bs hi → last_end lo bs ≡ hi
@@ -62,8 +62,7 @@ abbrev HasSpaceOf : AddressState → AddressState → Type 0
 HasSpaceOf old new = new.space ≡ old.space
 
 takes_space : (old new : AddressState) (r : Range) (answer : Result Range Error) → AllocatesAt old r answer new → HasSpaceOf old new
-unfolding AllocatesAt
-takes_space old new r answer h = ⊎_elim (λ l. ap (λ (v : AddressState). v.space) l.1) (λ r. ap (λ (v : AddressState). v.space) r.1) h
+takes_space old new r answer h = ⊎_elim (λ l. ap (λ (v : AddressState). v.space) l.1) (λ l. ap (λ (v : AddressState). v.space) l.2) (given_or_refused old r answer new h)
 
 grants_space : (request : Request) (old new : AddressState) (answer : Result Range Error) → Grants old request answer new → HasSpaceOf old new
 grants_space request old new answer h =

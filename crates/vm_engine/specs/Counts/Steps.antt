@@ -1,15 +1,13 @@
 -- The number of nodes that a call enters in a balanced tree.
-use Rattle.std.specs.Prelude.{◌≡◌, ℕ, ◌+◌, ◌-◌, ◌*◌, ◌^◌, ◌<◌, ◌≤◌, ◌⊎◌, Result, IfOk, IsOk, Err, length}
-use Rattle.vm_ranges.specs.Range.{Range, MAX}
+use Rattle.std.specs.Prelude.{◌≡◌, ℕ, ◌+◌, ◌*◌, ◌^◌, ◌<◌, ◌≤◌, Result, IsOk, Err, length}
+use Rattle.vm_ranges.specs.Range.{Range}
 use Rattle.vm_ranges.specs.Request.{Request, IsRequest, MakesConstraint}
 use Rattle.vm_ranges.specs.declared.error.Error.{Error}
-use Rattle.vm_ranges.specs.declared.error.Error.TheVariants.{OutOfMemory, Overflow}
 use Rattle.vm_ranges.specs.declared.constraint.AllocPolicy.{AllocPolicy}
 use Rattle.vm_ranges.specs.declared.constraint.AllocPolicy.TheVariants.{FirstMatch, LastMatch, ExactMatch}
 use Rattle.vm_tree.specs.Fibonacci.{fibonacci}
 use Rattle.vm_tree.specs.Shape.{Shape, MAX_HEIGHT, blocks, height_of, node_count, IsTree}
-use Rattle.vm_engine.specs.Address.{AddressState, SplitsGap}
-use Rattle.vm_engine.specs.Answer.{SPLIT_LIMIT_MIN_HELD, IsChosen}
+use Rattle.vm_engine.specs.Address.{AddressState}
 use Rattle.vm_engine.specs.Counts.NodeCounts.{nodes_of_request}
 use Rattle.vm_engine.specs.Tree.Blocks.{IsBlocksOf}
 use Rattle.vm_engine.specs.Tree.SpaceTree.{space_of}
@@ -57,14 +55,3 @@ pub record EntersToAllocate (s : Shape) (request : Request) (count : ℕ) : Type
 pub record IsFreeCount (h : ℕ) (answer : Result (Unit {0}) Error) (count : ℕ) : Type 0 where
   pub most : count ≤ 3 * h
   pub success : IsOk answer → 1 ≤ count
-
--- No chosen place of the request ends below MAX.
-unfoldable pub NoneEndsBelowMax : AddressState → Request → Type 0
-NoneEndsBelowMax old request = (s : ℕ) → IsChosen request old s → MAX ≤ s + request.size - 1
-
--- A split succeeds, or runs out of memory, only if fewer than SPLIT_LIMIT_MIN_HELD ranges are held. A valid request whose
--- chosen place ends below MAX has the error Overflow only if at least as many are held.
-pub record SplitsIfFew (old : AddressState) (request : Request) (answer : Result Range Error) : Type 0 where
-  pub split : IfOk answer (λ r. SplitsGap old r → length old.held < SPLIT_LIMIT_MIN_HELD)
-  pub memory : answer ≡ Err OutOfMemory → length old.held < SPLIT_LIMIT_MIN_HELD
-  pub high : IsRequest request → answer ≡ Err Overflow → (SPLIT_LIMIT_MIN_HELD ≤ length old.held) ⊎ NoneEndsBelowMax old request

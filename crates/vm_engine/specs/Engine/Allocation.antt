@@ -15,7 +15,7 @@ use Rattle.vm_tree.specs.declared.search.Refusal.TheVariants.{NoPlace, Held, Pas
 use Rattle.vm_engine.specs.Answer.{Grants}
 use Rattle.vm_engine.specs.Counts.GapSearch.{SearchesAligned}
 use Rattle.vm_engine.specs.Counts.NodeCounts.{nodes_of_request}
-use Rattle.vm_engine.specs.Counts.Steps.{IsGrantCount, SplitsIfFew}
+use Rattle.vm_engine.specs.Counts.Steps.{IsGrantCount}
 use Rattle.vm_engine.specs.Tree.Blocks.{blocks_state}
 use Rattle.vm_engine.specs.Windows.{window_in}
 
@@ -63,7 +63,6 @@ pub record IsAllocation (request : Request) (space : Range) (can_split : Bool) (
   pub granted : Grants (blocks_state space (blocks old)) request (taken_range request.size answer) (blocks_state space (blocks new))
   pub taken : IfOk answer (λ taken. Takes can_split request.size (blocks old) (blocks new) taken)
   pub unchanged : OnErr answer (new ≡ old)
-  pub few : SplitsIfFew (blocks_state space (blocks old)) request (taken_range request.size answer)
   pub exact : count ≡ nodes_of_request request space old
   pub steps : IsGrantCount (height_of old) (blocks_state space (blocks old)) request (taken_range request.size answer) count
   pub search : SearchesAligned (height_of old) (blocks_state space (blocks old)) request (taken_range request.size answer) count

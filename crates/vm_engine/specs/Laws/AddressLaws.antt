@@ -1,8 +1,8 @@
 -- Laws that follow from the definitions, for one call of an address allocator.
-use Rattle.std.specs.Prelude.{◌≡◌, ◌≢◌, ℕ, ◌<◌, ◌≤◌, ◌⊎◌, ◌↔◌, true, List, length, Result, Ok}
+use Rattle.std.specs.Prelude.{◌≡◌, ◌≢◌, ℕ, ◌<◌, ◌≤◌, ◌⊎◌, ◌↔◌, true, List, length, Result, Ok, Err}
 use Rattle.std.specs.List.{All, AllPairs, Contains}
 use Rattle.vm_ranges.specs.Range.{Range, MAX, Overlaps, Covers}
-use Rattle.vm_engine.specs.Address.{AddressState, IsClear, SplitsGap, IsAddressState}
+use Rattle.vm_engine.specs.Address.{AddressState, IsClear, IsAddressState}
 use Rattle.vm_leaf.specs.declared.block.Block.{Block}
 use Rattle.vm_leaf.specs.Block.{free_length}
 use Rattle.vm_leaf.specs.Fit.{HasNoFit}
@@ -13,32 +13,22 @@ use Rattle.vm_leaf.specs.Multiples.{HasMultiple}
 use Rattle.vm_engine.specs.Tree.Multiples.{multiples_in}
 use Rattle.vm_ranges.specs.Request.{Request}
 use Rattle.vm_engine.specs.Windows.{within}
-use Rattle.vm_engine.specs.Answer.{IsSplitRefusal, AllocatesAt, Allocates, Frees, Makes}
+use Rattle.vm_engine.specs.Answer.{Allocates, Frees, Makes}
 use Rattle.vm_ranges.specs.declared.error.Error.{Error}
+use Rattle.vm_ranges.specs.declared.error.Error.TheVariants.{OutOfMemory}
 use Rattle.vm_ranges.specs.declared.state.NodeState.TheVariants.{Free}
 
--- Two results differ because a split failed: both calls try to allocate the same range,
--- which splits its gap, and at least one of them failed.
-pub record DifferBySplit (old : AddressState) (answer : Result Range Error) (new : AddressState)
-    (other : Result Range Error) (later : AddressState) : Type 0 where
-  pub range : Range
-  pub split : SplitsGap old range
-  pub first : AllocatesAt old range answer new
-  pub second : AllocatesAt old range other later
-  pub refused : IsSplitRefusal old answer ⊎ IsSplitRefusal old other
+-- Two results and the states after them are equal, unless one of the results is OutOfMemory.
+abbrev pub AgreeUnlessMemory : {A S : Type 0} → Result A Error → S → Result A Error → S → Type 0
+AgreeUnlessMemory answer new other later =
+    ((answer ≡ other) × (new ≡ later)) ⊎ (answer ≡ Err OutOfMemory) ⊎ (other ≡ Err OutOfMemory)
 
--- Two results and the states after them are equal, except that a split may fail.
-abbrev pub AgreeExceptSplits : AddressState →
-    Result Range Error → AddressState → Result Range Error → AddressState → Type 0
-AgreeExceptSplits old answer new other later =
-    ((answer ≡ other) × (new ≡ later)) ⊎ DifferBySplit old answer new other later
-
--- A request has one result and one next state, except that a split may fail.
+-- A request has one result and one next state, unless memory runs out.
 abbrev pub AllocatesOnce : Type 0
 AllocatesOnce =
     (old new later : AddressState) (request : Request) (answer other : Result Range Error) →
     Allocates old request answer new → Allocates old request other later →
-    AgreeExceptSplits old answer new other later
+    AgreeUnlessMemory answer new other later
 
 -- A call of `free` has one result and one next state.
 abbrev pub FreesOnce : Type 0

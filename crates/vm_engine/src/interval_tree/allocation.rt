@@ -10,7 +10,7 @@ ghost use Rattle.vm_engine.specs.Address.{IsAddressState};
 ghost use Rattle.vm_engine.specs.Answer.{SPLIT_LIMIT_MIN_HELD, Grants};
 ghost use Rattle.vm_engine.specs.Counts.GapSearch.{SearchesGaps, SearchesAligned};
 ghost use Rattle.vm_engine.specs.Counts.NodeCounts.{nodes_of_request};
-ghost use Rattle.vm_engine.specs.Counts.Steps.{IsGrantCount, SplitsIfFew};
+ghost use Rattle.vm_engine.specs.Counts.Steps.{IsGrantCount};
 ghost use Rattle.vm_engine.specs.Engine.Allocation.{with_error, IsSearchOf, IsAllocation};
 ghost use Rattle.vm_engine.specs.Tree.Blocks.{IsTiling, held_of};
 ghost use Rattle.vm_engine.specs.Tree.SpaceTree.{space_of, tree_state};
@@ -34,7 +34,6 @@ impl IntervalTree {
         ensures valid { IsRequest constraint }
         ensures answer { Grants (tree_state self.old) constraint result.0 (tree_state self.new) }
         ensures unchanged { OnErr result.0 (self.new ≡ self.old) }
-        ensures few { SplitsIfFew (tree_state self.old) constraint result.0 }
         ensures count { result.1 ≡ nodes_of_request constraint (space_of (blocks self.old)) self.old }
         ensures steps { IsGrantCount (height_of self.old) (tree_state self.old) constraint result.0 result.1 }
         ensures search { SearchesGaps (height_of self.old) (tree_state self.old) constraint result.0 result.1

@@ -15,9 +15,7 @@ ghost use Rattle.vm_engine.specs.Laws.AddressLaws.{
 };
 ghost use Rattle.vm_engine.specs.Laws.CountLaws.{EntersFew, CountsAreDecided};
 
-/// States that an allocation has one result and one next state, except that a split may fail.
-///
-/// A split fails with `OutOfMemory`, or with `Overflow` if the tree is too high.
+/// States that an allocation has one result and one next state, unless memory runs out.
 #[tactic(auto, using(crate::proofs::Results::Once::allocates_once))]
 fn allocates_once()
     ensures { AllocatesOnce }
