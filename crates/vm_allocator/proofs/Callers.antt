@@ -1,5 +1,5 @@
 -- Facts for callers about allocated ranges and ids, and about allocators that were saved.
-use Rattle.std.proofs.Common.{◌≡◌, ℕ, ◌+◌, ◌-◌, ◌%◌, List, [], ◌∷◌, ◌<◌, ◌≤◌, ◌⊎◌, arith, refl, sym, ap, ◌∙◌, inl, inr, ⊎_elim, subst, Option, Some, None, Result, Ok, Err, IfSome, IfOk, IfErr, OnOk}
+use Rattle.std.proofs.Common.{◌≡◌, ℕ, ◌+◌, ◌-◌, ◌%◌, List, [], ◌∷◌, length, ◌<◌, ◌≤◌, ◌⊎◌, arith, refl, sym, ap, ◌∙◌, inl, inr, ⊎_elim, subst, Option, Some, None, Result, Ok, Err, IfSome, IfOk, IfErr, OnOk}
 use Rattle.std.specs.List.{Contains}
 use Rattle.serde_json.specs.Data.{Data}
 use Rattle.vm_ranges.proofs.NumberSets.{inserted_here}
@@ -8,7 +8,7 @@ use Rattle.vm_engine.specs.Address.{AddressState, AreClear, IsPlace, IsAddressSt
 use Rattle.vm_ranges.specs.Alignment.{IsAlignment}
 use Rattle.vm_ranges.specs.Request.{Request, request_for, IsRequest, IsStartAligned, ByConstraint}
 use Rattle.vm_engine.specs.Windows.{within}
-use Rattle.vm_engine.specs.Answer.{IsChosen, IsSplitRefusal, AllocatesAt, Grants, Allocates, Frees}
+use Rattle.vm_engine.specs.Answer.{SPLIT_LIMIT_MIN_HELD, IsChosen, AllocatesAt, Grants, Allocates, Frees}
 use Rattle.vm_allocator.specs.Ids.{IdState, IsIdState, IsHeld, IsLowestNotHeld, holding_id, releasing_id, ByLowestNotHeld, AllocatesId, FreesId}
 use Rattle.vm_allocator.specs.Values.AllocatorValues.{EncodesAddresses}
 use Rattle.vm_allocator.specs.Values.IdValues.{EncodesIds}
@@ -23,7 +23,7 @@ use Rattle.vm_engine.proofs.Results.AddressResults.{releases_held}
 use Rattle.vm_engine.proofs.Results.Once.{chosen_place, place_in_window}
 use Rattle.vm_engine.proofs.Choosing.WindowPlaces.{lies_in}
 use Rattle.vm_engine.proofs.Results.Filling.{allocates_chosen}
-use Rattle.vm_engine.proofs.Results.Outcomes.{allocates_outcome}
+use Rattle.vm_engine.proofs.Results.Outcomes.{given_or_refused, allocates_outcome}
 use Rattle.vm_allocator.proofs.Reading.ReadAllocators.{one_addresses, encoded_state as encoded_addresses}
 use Rattle.vm_allocator.proofs.Ids.ReadIdStates.{one_encoded, encoded_state as encoded_ids}
 -- A list of different held ranges or ids contains all of them if and only if its length is their number.
@@ -49,7 +49,6 @@ pub record IsAllocation (old : AddressState) (request : Request) (r : Range) (ne
   pub left : new ≡ holding r old
 
 pub given : (old new : AddressState) (request : Request) (r : Range) → Allocates old request (Ok r) new → IsAllocation old request r new
-unfolding AllocatesAt
 given old new request r h =
     ⊎_elim
     (λ l. absurd (cc (l.1)))
@@ -66,8 +65,8 @@ given old new request r h =
       place = subst (IsPlace request.size request.align old) start (chosen_place request s old k.1.1);
       left = t.1 ∙ ap (λ (v : Range). holding v old) e;
     })
-    (λ x. ⊎_elim (λ o. absurd (cc o)) (λ o. absurd (cc (o.1))) x.2)
-    k.1.3)
+    (λ x. absurd (cc (x.1)))
+    (given_or_refused old (span s request.size) (Ok r) new k.1.3))
     (allocates_outcome old new (Ok r) request h)
 
 -- An allocated range starts at a multiple of the alignment.
@@ -185,9 +184,20 @@ released_clear old r i h x low high =
           (one_held lo hi x old.held r q.0 i.in_order h (held_without r q.0 old.held q.1) inside q.2)),
     )
 
+-- A split fails: out of memory, or Overflow if too many ranges are held.
+abbrev pub IsSplitError : AddressState → Result Range Error → Type 0
+IsSplitError old answer = (answer ≡ Err OutOfMemory) ⊎ ((SPLIT_LIMIT_MIN_HELD ≤ length old.held) × (answer ≡ Err Overflow))
+
+at_place : (old new : AddressState) (r : Range) (answer : Result Range Error) → AllocatesAt old r answer new → (answer ≡ Ok r) ⊎ IsSplitError old answer
+unfolding AllocatesAt
+at_place old new r answer (inl k) = inl k.1.0
+at_place old new r answer (inr (s, inl k)) = inr (inr (k.0, k.1.0))
+at_place old new r answer (inr (s, inr (few, inl k))) = inl k.0
+at_place old new r answer (inr (s, inr (few, inr k))) = inr (inl k.0)
+
 -- A freed range can be allocated again, unless a split fails.
-pub allocated_again : (old mid new : AddressState) (r : Range) (freed : Result (Unit {0}) Error) (answer : Result Range Error) → IsAddressState old → Contains old.held r → Frees old r freed mid → Allocates mid (request_for (address_count r) 1 (ExactMatch r.start)) answer new → (answer ≡ Ok r) ⊎ IsSplitRefusal mid answer
-unfolding Frees AllocatesAt IsPlace IsChosen IsStartAligned IsAlignment
+pub allocated_again : (old mid new : AddressState) (r : Range) (freed : Result (Unit {0}) Error) (answer : Result Range Error) → IsAddressState old → Contains old.held r → Frees old r freed mid → Allocates mid (request_for (address_count r) 1 (ExactMatch r.start)) answer new → (answer ≡ Ok r) ⊎ IsSplitError mid answer
+unfolding Frees IsPlace IsChosen IsStartAligned IsAlignment
 allocated_again old mid new r freed answer i c f h =
     let held = held_contains old.held r c in
     let l = held_lies old.space.start old.space.end old.held r i.in_order held in
@@ -199,14 +209,14 @@ allocated_again old mid new r freed answer i c f h =
     let chosen : IsChosen request mid r.start = (refl, (one, clear)) in
     ⊎_elim
     (λ k. absurd (omega (arith, l.1, l.3, k.0)))
-    (λ k. ⊎_elim (λ t. inl (t.0 ∙ ap (λ (v : Range). Ok v) (same_range r l.1))) (λ t. inr t.2) k.1)
+    (λ k. ⊎_elim (λ t. inl (t ∙ ap (λ (v : Range). Ok v) (same_range r l.1))) (λ t. inr t) (at_place mid new (span r.start (address_count r)) answer k.1))
     (allocates_chosen request r.start mid new answer valid (omega (arith, l.1, l.3)) chosen h)
 
 -- An allocation of the range by its start returns it, or fails by a limit. A caller's proof finds the state before the
 -- range was freed by the first lemma, and the request by the second: one lemma over both would be tried too often.
 pub record FitsAgain (r : Range) (state : AddressState) : Type 0 where
   pub by : (new : AddressState) (answer : Result Range Error) → Allocates state (request_for (address_count r) 1 (ExactMatch r.start)) answer new →
-      (answer ≡ Ok r) ⊎ IsSplitRefusal state answer
+      (answer ≡ Ok r) ⊎ IsSplitError state answer
 
 pub freed_fits_again : (old mid : AddressState) (r : Range) (freed : Result (Unit {0}) Error) → IsAddressState old → Contains old.held r → Frees old r freed mid →
     FitsAgain r mid

@@ -1,10 +1,10 @@
 -- Decidable facts of the state of an allocator.
-use Rattle.std.proofs.Common.{◌≡◌, ℕ, ◌%◌, ◌<◌, ◌≤◌, List, [], ◌∷◌, ap, arith, inl, inr, ⊎_elim, Option, Some, None, IfSome}
+use Rattle.std.proofs.Common.{◌≡◌, ℕ, ◌+◌, ◌-◌, ◌%◌, ◌<◌, ◌≤◌, List, [], ◌∷◌, refl, ap, subst, arith, inl, inr, ⊎_elim, Option, Some, None, IfSome}
 use Rattle.std.proofs.lemmas.Bool.{cases_eq, cases_lt}
 use Rattle.std.specs.List.{Contains}
 use Rattle.vm_ranges.specs.Range.{Range, MAX, IsRange, IsIn, Covers, address_count}
 use Rattle.vm_ranges.specs.Request.{Request}
-use Rattle.vm_engine.specs.Address.{AddressState, IsClear, AreClear, IsPlace}
+use Rattle.vm_engine.specs.Address.{AddressState, IsClear, AreClear, IsPlace, SplitsGap}
 use Rattle.vm_ranges.specs.declared.constraint.AllocPolicy.{AllocPolicy}
 use Rattle.vm_ranges.specs.declared.constraint.AllocPolicy.TheVariants.{FirstMatch, LastMatch, ExactMatch}
 use Rattle.vm_allocator.specs.Moves.{IsFor}
@@ -28,6 +28,23 @@ decided_clear state x =
 
 pub decided_all_clear : (n : ℕ) (state : AddressState) (s : ℕ) → Decided (AreClear n state s)
 decided_all_clear n state s = decided_row (IsClear state) (decided_clear state) s n
+
+-- Whether a clear address is right before or right after the range.
+pub decided_split : (state : AddressState) (r : Range) → Decided (SplitsGap state r)
+unfolding SplitsGap
+decided_split state r =
+    let below = decided_both (0 < r.start) (IsClear state (r.start - 1)) (decided_below 0 r.start) (decided_clear state (r.start - 1)) in
+    ⊎_elim
+    (λ b. inl (r.start - 1, b.1, inl (omega (arith, b.0))))
+    (λ (n : (0 < r.start) × IsClear state (r.start - 1) → ⊥).
+    decided_if (IsClear state (r.end + 1)) (SplitsGap state r)
+    (λ c. (r.end + 1, c, inr refl))
+    (λ h. ⊎_elim
+    (λ (e : h.0 + 1 ≡ r.start). let same : h.0 ≡ r.start - 1 = omega (arith, e) in absurd (n (omega (arith, e), subst (λ (v : ℕ). IsClear state v) same h.1)))
+    (λ (e : h.0 ≡ r.end + 1). subst (λ (v : ℕ). IsClear state v) e h.1)
+    h.2)
+    (decided_clear state (r.end + 1)))
+    below
 
 pub decided_place : (n a : ℕ) (state : AddressState) (s : ℕ) → Decided (IsPlace n a state s)
 unfolding IsPlace

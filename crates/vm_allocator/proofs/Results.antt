@@ -1,6 +1,6 @@
 pub mod Making
 pub mod EveryAddressCall
-pub mod BelowLimits
+pub mod InMemory
 pub mod Moves
 pub mod Several
 pub mod SeveralParts

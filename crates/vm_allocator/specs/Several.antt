@@ -6,7 +6,6 @@ use Rattle.vm_engine.specs.Address.{AddressState, IsAddressState}
 use Rattle.vm_engine.specs.Answer.{Allocates}
 use Rattle.vm_tree.specs.Shape.{Shape}
 use Rattle.vm_engine.specs.Tree.SpaceTree.{tree_state}
-use Rattle.vm_engine.specs.Counts.Steps.{SplitsIfFew}
 use Rattle.vm_ranges.specs.declared.error.Error.{Error}
 use Rattle.vm_ranges.specs.declared.error.Error.TheVariants.{OutOfMemory}
 use Rattle.vm_ranges.specs.declared.error.ListError.{ListError}
@@ -28,37 +27,24 @@ RefusesOne old (q ∷ qs) e =
     Allocates old q (Err e) old
     ⊎ ((r : Range) × (mid : AddressState) × Allocates old q (Ok r) mid × RefusesOne mid qs e)
 
--- The result of one request, and of its split: it succeeds, or runs out of memory, only if few enough ranges are held.
-pub record AllocatesInTree (old : Shape) (request : Request) (answer : Result Range Error) (new : Shape) : Type 0 where
-  pub state : Allocates (tree_state old) request answer (tree_state new)
-  pub few : SplitsIfFew (tree_state old) request answer
-
--- The ranges that requests get in their order, by the trees of the allocator.
-abbrev pub AllocatesEachInTree : Shape → List Request → List Range → Shape → Type 0
-AllocatesEachInTree old [] [] new = new ≡ old
-AllocatesEachInTree old [] (r ∷ rs) new = ⊥
-AllocatesEachInTree old (q ∷ qs) [] new = ⊥
-AllocatesEachInTree old (q ∷ qs) (r ∷ rs) new =
-    (mid : Shape) × AllocatesInTree old q (Ok r) mid × AllocatesEachInTree mid qs rs new
-
 -- The request with this index fails with this error after the ones before it got their ranges: the requests are those before
 -- it, then the request, then those after it.
-pub record FailsAtIndex (old : Shape) (requests : List Request) (index : ℕ) (error : Error) : Type 0 where
+pub record FailsAtIndex (old : AddressState) (requests : List Request) (index : ℕ) (error : Error) : Type 0 where
   pub before : List Request
   pub request : Request
   pub after : List Request
   pub cut : requests ≡ before ++ request ∷ after
   pub index_is : index ≡ length before
   pub ranges : List Range
-  pub state : Shape
-  pub each : AllocatesEachInTree old before ranges state
-  pub fails : AllocatesInTree state request (Err error) state
+  pub state : AddressState
+  pub each : AllocatesEach old before ranges state
+  pub fails : Allocates state request (Err error) state
 
 -- The request that an error names fails with that error. An error that names none is OutOfMemory, and no request was tried:
 -- the allocator is as before.
 abbrev pub FailsAsNamed : Shape → List Request → ListError → Shape → Type 0
 FailsAsNamed old requests failure new =
-    MatchOption failure.index ((failure.error ≡ OutOfMemory) × (new ≡ old)) (λ index. FailsAtIndex old requests index failure.error)
+    MatchOption failure.index ((failure.error ≡ OutOfMemory) × (new ≡ old)) (λ index. FailsAtIndex (tree_state old) requests index failure.error)
 
 -- The requests fail together: out of memory, or with the error of the first request that fails. The state is that before.
 abbrev pub FailsAll : AddressState → List Request → Error → AddressState → Type 0

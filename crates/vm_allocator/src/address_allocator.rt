@@ -20,7 +20,7 @@ ghost use Rattle.vm_ranges.specs.Cloning.{Clones};
 ghost use Rattle.vm_tree.specs.Shape.{height_of};
 ghost use Rattle.vm_tree.specs.Building.{IsLowestTree};
 ghost use Rattle.vm_engine.specs.Counts.GapSearch.{SearchesGaps, SearchesAligned};
-ghost use Rattle.vm_engine.specs.Counts.Steps.{EntersToAllocate, IsAllocationCount, IsFreeCount, IsBalancedTreeOf, SplitsIfFew};
+ghost use Rattle.vm_engine.specs.Counts.Steps.{EntersToAllocate, IsAllocationCount, IsFreeCount, IsBalancedTreeOf};
 
 use std::alloc::Global;
 use std::marker::Model;
@@ -182,9 +182,6 @@ impl AddressAllocator {
         ensures filling { (start : ℕ) → FillsGap (state_of self.old) (request_for size alignment policy) start
             → IsOk result }
 
-        // The limit on the number of ranges is checked before memory is allocated.
-        ensures few { SplitsIfFew (state_of self.old)
-            (request_for size alignment policy) result }
         ensures state { IsAddressState (state_of self.new) }
 
         // Each result under its exact condition.
@@ -227,9 +224,6 @@ impl AddressAllocator {
         // A request that fills its gap needs no memory, so it succeeds.
         ensures filling { (start : ℕ) → FillsGap (state_of self.old) request start → IsOk result }
 
-        // The limit on the number of ranges is checked before memory is allocated.
-        ensures few { SplitsIfFew (state_of self.old) request result }
-
         // Each result under its exact condition.
         ensures answer { Allocates (state_of self.old) request result (state_of self.new) }
     {
@@ -271,10 +265,6 @@ impl AddressAllocator {
         // A request that fills its gap needs no memory, so it succeeds.
         ensures filling { (start : ℕ) → FillsGap (state_of self.old) (request_for size alignment policy) start
             → IsOk result.0 }
-
-        // The limit on the number of ranges is checked before memory is allocated.
-        ensures few { SplitsIfFew (state_of self.old)
-            (request_for size alignment policy) result.0 }
         ensures count { EntersToAllocate self.old.tree (request_for size alignment policy) result.1 }
         ensures steps { IsAllocationCount (height_of self.old.tree) (state_of self.old)
             (request_for size alignment policy) result.0 result.1 }
@@ -314,9 +304,6 @@ impl AddressAllocator {
 
         // A request that fills its gap needs no memory, so it succeeds.
         ensures filling { (start : ℕ) → FillsGap (state_of self.old) request start → IsOk result.0 }
-
-        // The limit on the number of ranges is checked before memory is allocated.
-        ensures few { SplitsIfFew (state_of self.old) request result.0 }
         ensures count { EntersToAllocate self.old.tree request result.1 }
         ensures steps { IsAllocationCount (height_of self.old.tree) (state_of self.old) request result.0 result.1 }
         ensures search { SearchesGaps (height_of self.old.tree) (state_of self.old)

@@ -1,5 +1,5 @@
 -- The results of the calls of a history.
-use Rattle.std.proofs.Common.{◌≡◌, ◌≢◌, ℕ, ◌+◌, ◌-◌, ◌<◌, arith, sym, ap, ◌∙◌, ◌⊎◌, ⊎_elim, subst, Option, Result, Ok, Err}
+use Rattle.std.proofs.Common.{◌≡◌, ◌≢◌, ℕ, ◌+◌, ◌-◌, ◌<◌, arith, sym, ap, ◌∙◌, ◌⊎◌, inl, inr, ⊎_elim, subst, Option, Result, Ok, Err}
 use Rattle.std.proofs.lemmas.Bool.{cases_eq}
 use Rattle.vm_ranges.specs.Range.{Range, MAX, IsIn, span}
 use Rattle.vm_engine.specs.Address.{AddressState, IsPlace, IsLowestPlace, IsHighestPlace, IsAddressState}
@@ -17,22 +17,18 @@ use Rattle.vm_engine.proofs.Blocks.PlainWords.{held_contains}
 use Rattle.vm_engine.proofs.Blocks.HeldSets.{held_lies}
 use Rattle.vm_engine.proofs.Results.Once.{place_in_window}
 use Rattle.vm_engine.proofs.Results.Filling.{otherwise, given, faulty, lacking, clear_not_held, request_grants, allocates_chosen}
-use Rattle.vm_engine.proofs.Results.Outcomes.{allocates_outcome}
+use Rattle.vm_engine.proofs.Results.Outcomes.{given_or_refused, given_is, allocates_outcome}
 use Rattle.vm_allocator.proofs.Histories.AlongHistories.{reached_state}
 use Rattle.vm_allocator.proofs.Histories.MoveSteps.{move_error_keeps}
 
 -- ---- An allocated range starts at the chosen place
-takes_given : (old new : AddressState) (r p : Range) → AllocatesAt old r (Ok p) new → p ≡ r
-unfolding AllocatesAt
-takes_given old new r p h = ⊎_elim (λ l. cc (l.0)) (λ k. ⊎_elim (λ o. absurd (cc o)) (λ o. absurd (cc (o.1))) k.2) h
-
 allocated_chosen : (request : Request) (old new : AddressState) (r : Range) → Allocates old request (Ok r) new → IsChosen request old r.start × (r ≡ span r.start request.size)
 allocated_chosen request old new r h =
     ⊎_elim
     (λ l. absurd (cc (l.1)))
     (λ k.
     let s = k.1.0 in
-    let e : r ≡ span s request.size = takes_given old new (span s request.size) r k.1.3 in
+    let e : r ≡ span s request.size = given_is old (span s request.size) r new k.1.3 in
     let start : s ≡ r.start = ap (λ (v : Range). v.start) (sym e) in
     (subst (IsChosen request old) start k.1.1, e ∙ ap (λ (s : ℕ). span s request.size) start))
     (allocates_outcome old new (Ok r) request h)
@@ -96,10 +92,13 @@ none_grants FirstMatch w n a old new answer p none h = none_by_place (request_in
 none_grants LastMatch w n a old new answer p none h = none_by_place (request_in w n a LastMatch) old new answer none h
 none_grants (ExactMatch t) w n a old new answer p none h = ⊎_elim (λ e. absurd (cc e)) (λ e. absurd (cc e)) p
 
--- If there is a place, an error is due to memory, the height or the end of the range.
+-- If there is a place, an error is due to memory, the limit of splits or the end of the range.
 taken_not_lacking : (old new : AddressState) (r : Range) (answer : Result Range Error) → AllocatesAt old r answer new → answer ≢ Err ResourceNotAvailable
 unfolding AllocatesAt
-taken_not_lacking old new r answer h e = ⊎_elim (λ l. cc (l.0, e)) (λ k. ⊎_elim (λ o. cc (o, e)) (λ o. cc (o.1, e)) k.2) h
+taken_not_lacking old new r answer (inl k) e = cc (k.1.0, e)
+taken_not_lacking old new r answer (inr (s, inl k)) e = cc (k.1.0, e)
+taken_not_lacking old new r answer (inr (s, inr (few, inl k))) e = cc (k.0, e)
+taken_not_lacking old new r answer (inr (s, inr (few, inr k))) e = cc (k.0, e)
 
 some_by_place : (request : Request) (old new : AddressState) (answer : Result Range Error) (s : ℕ) → IsPlace request.size request.align (within request.window old) s → ByPlace request old (λ e. (answer ≡ Err e) × (new ≡ old)) (λ r. AllocatesAt old r answer new) → answer ≢ Err ResourceNotAvailable
 unfolding ByPlace
@@ -164,8 +163,7 @@ places_answer old new request answer h = answered request old.state new answer (
 
 -- ---- An error changes nothing
 takes_refused : (old new : AddressState) (r : Range) (e : Error) → AllocatesAt old r (Err e) new → new ≡ old
-unfolding AllocatesAt
-takes_refused old new r e h = ⊎_elim (λ l. absurd (cc (l.0))) (λ k. k.1) h
+takes_refused old new r e h = ⊎_elim (λ l. absurd (cc (l.0))) (λ k. k.2) (given_or_refused old r (Err e) new h)
 
 allocation_refused : (request : Request) (old new : AddressState) (e : Error) → Allocates old request (Err e) new → new ≡ old
 allocation_refused request old new e h =

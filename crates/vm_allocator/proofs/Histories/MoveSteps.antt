@@ -5,6 +5,7 @@ use Rattle.vm_ranges.specs.Range.{Range}
 use Rattle.vm_ranges.specs.Request.{Request}
 use Rattle.vm_engine.specs.Address.{AddressState, IsAddressState, releasing, with_range}
 use Rattle.vm_engine.specs.Answer.{Allocates}
+use Rattle.vm_engine.specs.Laws.AddressLaws.{AgreeUnlessMemory}
 use Rattle.vm_ranges.specs.declared.error.Error.{Error}
 use Rattle.vm_ranges.proofs.TwoFacts.{if_same, unless_same}
 use Rattle.vm_engine.proofs.Blocks.PlainWords.{IsHeld, held_contains}
@@ -12,7 +13,6 @@ use Rattle.vm_engine.proofs.Blocks.HeldChanges.{held_now, still_held_with, held_
 use Rattle.vm_engine.proofs.Results.AddressResults.{allocated_state, freed_state, releases_held}
 use Rattle.vm_engine.proofs.Results.Once.{allocates_once}
 use Rattle.vm_allocator.specs.Moves.{IsFor, MovesRange}
-use Rattle.vm_allocator.specs.Laws.HistoryLaws.{MovesAgreeExceptSplits}
 use Rattle.vm_allocator.proofs.Callers.{given}
 
 -- A range was moved: another range was allocated for the request, and then it was freed.
@@ -95,8 +95,8 @@ left_once : (old mid after new later : AddressState) (r : Range) (answer : Resul
 left_once old mid after new later r (Ok q) e a b = a ∙ (ap (λ (v : AddressState). releasing r v) e ∙ sym b)
 left_once old mid after new later r (Err x) e a b = a ∙ sym b
 
--- A move has one result and one next state, except that the split of its allocation may fail.
-pub moves_once : (old new later : AddressState) (r : Range) (request : Request) (answer other : Result Range Error) → MovesRange old r request answer new → MovesRange old r request other later → MovesAgreeExceptSplits old answer new other later
+-- A move has one result and one next state, unless memory runs out.
+pub moves_once : (old new later : AddressState) (r : Range) (request : Request) (answer other : Result Range Error) → MovesRange old r request answer new → MovesRange old r request other later → AgreeUnlessMemory answer new other later
 unfolding MovesRange
 moves_once old new later r request answer other m n =
     unless_same _ _ _ _ _ m n (λ a b. inl (a.0 ∙ sym b.0, a.1 ∙ sym b.1)) (λ m n.
@@ -105,5 +105,5 @@ moves_once old new later r request answer other m n =
     (λ (same : (answer ≡ other) × (a.0 ≡ b.0)).
     let second : MatchResult answer (λ _. later ≡ releasing r b.0) (λ _. later ≡ old) = subst (λ (v : Result Range Error). MatchResult v (λ _. later ≡ releasing r b.0) (λ _. later ≡ old)) (sym same.0) b.2 in
     inl (same.0, left_once old a.0 b.0 new later r answer same.1 a.2 second))
-    (λ differ. inr (a.0, b.0, differ))
+    (λ memory. inr memory)
     (allocates_once old a.0 b.0 request answer other a.1 b.1)))

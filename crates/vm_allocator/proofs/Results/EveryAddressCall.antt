@@ -9,7 +9,8 @@ use Rattle.vm_ranges.specs.Request.{Request, IsStartAligned, ByConstraint}
 use Rattle.vm_engine.specs.Windows.{within}
 use Rattle.vm_engine.proofs.Results.Requests.{request_in}
 use Rattle.vm_engine.proofs.Results.AddressResults.{outcome}
-use Rattle.vm_engine.specs.Answer.{IsChosen, ByStart, ByExactPolicy, ByPlace, AllocatesAt, Grants, Allocates, Frees, Makes}
+use Rattle.vm_engine.proofs.Results.Outcomes.{IsGiven}
+use Rattle.vm_engine.specs.Answer.{SPLIT_LIMIT_MIN_HELD, IsChosen, ByStart, ByExactPolicy, ByPlace, AllocatesAt, Grants, Allocates, Frees, Makes}
 use Rattle.vm_ranges.specs.Cloning.{Clones}
 use Rattle.vm_engine.specs.Held.{first_fault, BySpace, MakesHeld, MakesWithHeld}
 use Rattle.vm_tree.specs.Building.{TOO_MANY_BLOCKS}
@@ -28,7 +29,7 @@ use Rattle.std.proofs.lemmas.List.Elements.{All-nil, All-cons}
 use Rattle.vm_ranges.proofs.Decisions.{Decided, decided_below, decided_up_to, decided_alignment, decided_start, lowest_or_none, highest_or_none}
 use Rattle.vm_engine.proofs.SavedNodes.HeldKeys.{first_fault_known}
 use Rattle.vm_allocator.proofs.Results.Moves.{move_refused, move_stays}
-use Rattle.vm_allocator.proofs.Decisions.{decided_all_clear, decided_place, decided_inside, decided_held, decided_for, decided_range}
+use Rattle.vm_allocator.proofs.Decisions.{decided_all_clear, decided_split, decided_place, decided_inside, decided_held, decided_for, decided_range}
 
 -- ---- A result of a relation, by deciding its conditions
 -- The relation is true for some result other than OutOfMemory and some next state.
@@ -53,7 +54,10 @@ total_unless old C P Q (inr n) p q = (p.0, p.1, inl (n, p.2), p.3)
 -- ---- Each request has a result
 taken : (old : AddressState) (r : Range) → IsTotal (AllocatesAt old r)
 unfolding AllocatesAt
-taken old r = (Ok r, holding r old, inl (refl, refl), λ h. absurd (cc h))
+taken old r =
+    total_unless old _ (IsGiven old r) _ (decided_split old r) (Ok r, holding r old, (refl, refl), λ h. absurd (cc h)) (λ _.
+    total_if old _ (Refuses old Overflow) _ (decided_up_to SPLIT_LIMIT_MIN_HELD (length old.held)) (refusal old Overflow (λ e. cc e)) (λ _.
+    (Ok r, holding r old, inl (refl, refl), λ h. absurd (cc h))))
 
 -- Either there is no place in the window, or the policy chooses a place.
 abbrev HasChoice : Request → AddressState → Type 0

@@ -95,14 +95,10 @@ start_is_valid n t e some m =
     z.1)
     m
 
--- The request to a start is for exactly the range if and only if the range starts there.
+-- The request to the start of a range is for exactly the range.
 pub own_start : (r : Range) (t : ℕ) → t ≡ r.start → IsFor r (request_to r t)
 unfolding IsFor
 own_start r t e = (ap (λ (v : ℕ). ExactMatch v) e, refl, tt)
-
-pub other_start : (r : Range) (t : ℕ) → t ≢ r.start → ¬ IsFor r (request_to r t)
-unfolding IsFor
-other_start r t d f = d (cc (f.0))
 
 -- The moved range starts at the start, and is as long as before.
 pub moved_to : (old new : AddressState) (r q : Range) (t : ℕ) → MovesRange old r (request_to r t) (Ok q) new → (q.start ≡ t) × (address_count q ≡ address_count r)

@@ -6,10 +6,7 @@ use Rattle.vm_ranges.specs.Range.{Range}
 use Rattle.vm_ranges.specs.Request.{Request, IsRequest, ByConstraint}
 use Rattle.vm_engine.specs.Address.{AddressState, IsAddressState}
 use Rattle.vm_engine.specs.Answer.{Grants, Allocates, Frees}
-use Rattle.vm_tree.specs.Shape.{Shape}
-use Rattle.vm_engine.specs.Counts.Steps.{SplitsIfFew}
-use Rattle.vm_engine.specs.Tree.SpaceTree.{tree_state}
-use Rattle.vm_allocator.specs.Several.{AllocatesEachInTree, FailsAtIndex, AllocatesEach, RefusesOne, AllocatesInTree}
+use Rattle.vm_allocator.specs.Several.{FailsAtIndex, AllocatesEach, RefusesOne}
 use Rattle.vm_ranges.specs.declared.error.Error.{Error}
 use Rattle.vm_engine.proofs.Results.AddressResults.{allocated_state, freeing_undoes}
 use Rattle.vm_allocator.proofs.Callers.{given}
@@ -20,24 +17,17 @@ unfolding Allocates ByConstraint
 request_allocates request old new answer v g = inr (λ e. omega (arith, e, v.some), inr (v.aligned, inr (v.start, g)))
 
 -- ---- One request more
-each_more : (qs : List Request) (rs : List Range) (old mid new : Shape) (q : Request) (r : Range) → AllocatesEachInTree old qs rs mid → AllocatesInTree mid q (Ok r) new → AllocatesEachInTree old (qs ++ q ∷ []) (rs ++ r ∷ []) new
-each_more [] [] old mid new q r e a = (new, subst (λ (v : Shape). AllocatesInTree v q (Ok r) new) e a, refl)
+each_more : (qs : List Request) (rs : List Range) (old mid new : AddressState) (q : Request) (r : Range) → AllocatesEach old qs rs mid → Allocates mid q (Ok r) new → AllocatesEach old (qs ++ q ∷ []) (rs ++ r ∷ []) new
+each_more [] [] old mid new q r e a = (new, subst (λ (v : AddressState). Allocates v q (Ok r) new) e a, refl)
 each_more [] (y ∷ rs) old mid new q r e a = absurd e
 each_more (x ∷ qs) [] old mid new q r e a = absurd e
 each_more (x ∷ qs) (y ∷ rs) old mid new q r e a = (e.0, e.1, each_more qs rs e.0 mid new q r e.2 a)
 
-one_refused : (qs : List Request) (rs : List Range) (old mid : Shape) (q : Request) (more : List Request) (e : Error) → AllocatesEachInTree old qs rs mid → AllocatesInTree mid q (Err e) mid → RefusesOne (tree_state old) (qs ++ q ∷ more) e
-one_refused [] [] old mid q more e s a = inl (subst (λ (v : Shape). Allocates (tree_state v) q (Err e) (tree_state v)) s a.state)
+one_refused : (qs : List Request) (rs : List Range) (old mid : AddressState) (q : Request) (more : List Request) (e : Error) → AllocatesEach old qs rs mid → Allocates mid q (Err e) mid → RefusesOne old (qs ++ q ∷ more) e
+one_refused [] [] old mid q more e s a = inl (subst (λ (v : AddressState). Allocates v q (Err e) v) s a)
 one_refused [] (y ∷ rs) old mid q more e s a = absurd s
 one_refused (x ∷ qs) [] old mid q more e s a = absurd s
-one_refused (x ∷ qs) (y ∷ rs) old mid q more e s a = inr (y, tree_state s.0, s.1.state, one_refused qs rs s.0 mid q more e s.2 a)
-
--- Requests that are allocated in trees are allocated in the states of the trees.
-pub each_state : (qs : List Request) (rs : List Range) (old new : Shape) → AllocatesEachInTree old qs rs new → AllocatesEach (tree_state old) qs rs (tree_state new)
-each_state [] [] old new e = ap tree_state e
-each_state [] (r ∷ rs) old new e = absurd e
-each_state (q ∷ qs) [] old new e = absurd e
-each_state (q ∷ qs) (r ∷ rs) old new e = (tree_state e.0, e.1.state, each_state qs rs e.0 new e.2)
+one_refused (x ∷ qs) (y ∷ rs) old mid q more e s a = inr (y, s.0, s.1, one_refused qs rs s.0 mid q more e s.2 a)
 
 -- After the last range is freed, the state is the one before its request.
 pub last_undone : (rs : List Range) (qs : List Request) (old mid new : AddressState) (r : Range) (answer : Result (Unit {0}) Error) → IsAddressState old → AllocatesEach old qs (rs ++ r ∷ []) mid → Frees mid r answer new → (ps : List Request) × AllocatesEach old ps rs new
@@ -71,27 +61,22 @@ take_more (y ∷ xs) (suc i) x l e = ap (λ v. y ∷ v) (take_more xs i x (omega
 cut_at : {A : Type 0} (xs : List A) (i : ℕ) (x : A) → i < length xs → x ≡ get_or xs i x → xs ≡ take i xs ++ x ∷ drop (suc i) xs
 cut_at xs i x l e = sym (take-append-drop i xs) ∙ ap (λ v. take i xs ++ v) (drop-cons xs i x l ∙ ap (λ v. v ∷ drop (suc i) xs) (sym e))
 
-pub all_taken : (qs : List Request) (i : ℕ) (rs : List Range) (old new : Shape) → i ≡ length qs → AllocatesEachInTree old (take i qs) rs new → AllocatesEachInTree old qs rs new
+pub all_taken : (qs : List Request) (i : ℕ) (rs : List Range) (old new : AddressState) → i ≡ length qs → AllocatesEach old (take i qs) rs new → AllocatesEach old qs rs new
 all_taken qs i rs old new e s =
     let none : drop i qs ≡ [] = ap (λ (v : ℕ). drop v qs) e ∙ drop-length qs in
     let same : take i qs ≡ qs = sym (append-nil (take i qs)) ∙ ap (λ (v : List Request). take i qs ++ v) (sym none) ∙ take-append-drop i qs in
-    subst (λ (v : List Request). AllocatesEachInTree old v rs new) same s
+    subst (λ (v : List Request). AllocatesEach old v rs new) same s
 
-pub one_more : (all : List Request) (i : ℕ) (rs : List Range) (old mid new : Shape) (q : Request) (r : Range) → i < length all → q ≡ get_or all i q → AllocatesEachInTree old (take i all) rs mid → AllocatesInTree mid q (Ok r) new → AllocatesEachInTree old (take (i + 1) all) (rs ++ r ∷ []) new
+pub one_more : (all : List Request) (i : ℕ) (rs : List Range) (old mid new : AddressState) (q : Request) (r : Range) → i < length all → q ≡ get_or all i q → AllocatesEach old (take i all) rs mid → Allocates mid q (Ok r) new → AllocatesEach old (take (i + 1) all) (rs ++ r ∷ []) new
 one_more all i rs old mid new q r l e s a =
     let next : i + 1 ≡ suc i = omega arith in
-    subst (λ (v : List Request). AllocatesEachInTree old v (rs ++ r ∷ []) new) (sym (ap (λ (n : ℕ). take n all) next ∙ take_more all i q l e)) (each_more (take i all) rs old mid new q r s a)
+    subst (λ (v : List Request). AllocatesEach old v (rs ++ r ∷ []) new) (sym (ap (λ (n : ℕ). take n all) next ∙ take_more all i q l e)) (each_more (take i all) rs old mid new q r s a)
 
-pub refused_by : (old : Shape) (all : List Request) (i : ℕ) (e : Error) → FailsAtIndex old all i e → RefusesOne (tree_state old) all e
-refused_by old all i e h = subst (λ (v : List Request). RefusesOne (tree_state old) v e) (sym h.cut) (one_refused h.before h.ranges old h.state h.request h.after e h.each h.fails)
+pub refused_by : (old : AddressState) (all : List Request) (i : ℕ) (e : Error) → FailsAtIndex old all i e → RefusesOne old all e
+refused_by old all i e h = subst (λ (v : List Request). RefusesOne old v e) (sym h.cut) (one_refused h.before h.ranges old h.state h.request h.after e h.each h.fails)
 
--- ---- One request in a tree
--- The result of a valid request in a tree.
-pub in_tree : (request : Request) (old new : Shape) (answer : Result Range Error) → IsRequest request → Grants (tree_state old) request answer (tree_state new) → SplitsIfFew (tree_state old) request answer → AllocatesInTree old request answer new
-in_tree request old new answer v g d = record { state = request_allocates request (tree_state old) (tree_state new) answer v g; few = d }
-
-pub failed_in_tree : (all : List Request) (i : ℕ) (rs : List Range) (old mid new : Shape) (q : Request) (e : Error) → i < length all → q ≡ get_or all i q → AllocatesEachInTree old (take i all) rs mid → AllocatesInTree mid q (Err e) new → new ≡ mid → FailsAtIndex old all i e
-failed_in_tree all i rs old mid new q e l is s a same = record {
+pub failed_at : (all : List Request) (i : ℕ) (rs : List Range) (old mid new : AddressState) (q : Request) (e : Error) → i < length all → q ≡ get_or all i q → AllocatesEach old (take i all) rs mid → Allocates mid q (Err e) new → new ≡ mid → FailsAtIndex old all i e
+failed_at all i rs old mid new q e l is s a same = record {
   before = take i all;
   request = q;
   after = drop (suc i) all;
@@ -100,9 +85,5 @@ failed_in_tree all i rs old mid new q e l is s a same = record {
   ranges = rs;
   state = mid;
   each = s;
-  fails = subst (λ (v : Shape). AllocatesInTree mid q (Err e) v) same a;
+  fails = subst (λ (v : AddressState). Allocates mid q (Err e) v) same a;
 }
-
--- The requests got their ranges up to this tree, so they did in the state of any equal tree.
-pub each_up_to : (qs : List Request) (rs : List Range) (old mid new : Shape) → AllocatesEachInTree old qs rs mid → new ≡ mid → AllocatesEach (tree_state old) qs rs (tree_state new)
-each_up_to qs rs old mid new s same = subst (λ (v : AddressState). AllocatesEach (tree_state old) qs rs v) (sym (ap tree_state same)) (each_state qs rs old mid s)

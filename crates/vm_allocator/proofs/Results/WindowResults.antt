@@ -15,6 +15,7 @@ use Rattle.vm_ranges.specs.declared.constraint.AllocPolicy.TheVariants.{FirstMat
 use Rattle.vm_ranges.proofs.Requests.{constraint_map}
 use Rattle.vm_ranges.proofs.RangeCalls.{same_range}
 use Rattle.vm_engine.proofs.Results.Once.{place_anywhere}
+use Rattle.vm_engine.proofs.Results.Outcomes.{given_is}
 use Rattle.vm_engine.proofs.Results.Requests.{request_in}
 use Rattle.vm_engine.proofs.Choosing.WindowPlaces.{LiesIn, place_lying}
 use Rattle.vm_engine.proofs.Choosing.ExactWindows.{narrow_grants}
@@ -59,10 +60,6 @@ whole_window old new request w answer p q =
     )
 
 -- ---- A range that lies in the window
-takes_given : (old new : AddressState) (r p : Range) → AllocatesAt old r (Ok p) new → p ≡ r
-unfolding AllocatesAt
-takes_given old new r p h = ⊎_elim (λ l. cc (l.0)) (λ k. ⊎_elim (λ o. absurd (cc o)) (λ o. absurd (cc (o.1))) k.2) h
-
 pub covered : (w : Range) (n s : ℕ) → 0 < n → Covers w (span s n) → LiesIn w n s
 unfolding Covers
 covered w n s z c =
@@ -83,7 +80,7 @@ module _ (w : Range) (n a : ℕ) (old new : AddressState) (r : Range) (z : 0 < n
       (λ k.
       ⊎_elim
       (λ o. absurd (cc (o.1.0)))
-      (λ o. inr (k.0, f k.0 (lies k.0 (takes_given old new (span k.0 n) r o.1)) k.1, inr o))
+      (λ o. inr (k.0, f k.0 (lies k.0 (given_is old (span k.0 n) r new o.1)) k.1, inr o))
       k.2)
       h
 

@@ -1,22 +1,22 @@
 -- Laws of every history of an address allocator that was made or read.
-use Rattle.std.specs.Prelude.{◌≡◌, ◌≢◌, ℕ, ◌+◌, ◌-◌, ◌<◌, ◌≤◌, ◌⊎◌, ◌↔◌, List, [], ◌∷◌, ◌++◌, length, map, Result, Ok, Err}
+use Rattle.std.specs.Prelude.{◌≡◌, ◌≢◌, ℕ, ◌+◌, ◌-◌, ◌<◌, ◌≤◌, ◌⊎◌, ◌↔◌, List, [], ◌∷◌, ◌++◌, map, Result, Ok, Err}
 use Rattle.std.specs.List.{All, Contains}
 use Rattle.std.specs.List.Sorted.{IsPermutation}
 use Rattle.serde_json.specs.Data.{Data}
 use Rattle.vm_ranges.specs.Range.{Range, MAX, IsRange, IsIn, span}
-use Rattle.vm_engine.specs.Address.{AddressState, AreClear, SplitsGap, IsPlace, IsLowestPlace, IsHighestPlace, IsAddressState}
+use Rattle.vm_engine.specs.Address.{AddressState, AreClear, IsPlace, IsLowestPlace, IsHighestPlace, IsAddressState}
 use Rattle.vm_engine.specs.Windows.{within}
 use Rattle.vm_ranges.specs.Request.{Request, IsRequest, MakesConstraint}
-use Rattle.vm_engine.specs.Answer.{SPLIT_LIMIT_MIN_HELD, IsChosen, AllocatesAt, Allocates, Frees, Makes}
+use Rattle.vm_engine.specs.Answer.{IsChosen, AllocatesAt, Allocates, Frees, Makes}
 use Rattle.vm_engine.specs.Held.{MakesWithHeld}
 use Rattle.vm_engine.specs.Values.SavedTrees.{Saved}
-use Rattle.vm_allocator.specs.Several.{AllocatesEach, AllocatesAll}
+use Rattle.vm_allocator.specs.Several.{AllocatesAll}
 use Rattle.vm_allocator.specs.Moves.{MovesRange}
 use Rattle.vm_allocator.specs.Holes.{MakesWithFree}
-use Rattle.vm_engine.specs.Laws.AddressLaws.{DifferBySplit, AgreeExceptSplits, AreDisjoint}
+use Rattle.vm_engine.specs.Laws.AddressLaws.{AgreeUnlessMemory, AreDisjoint}
 use Rattle.vm_ranges.specs.Cloning.{Clones}
 use Rattle.vm_engine.specs.Comparison.{AreEqual}
-use Rattle.vm_allocator.specs.Histories.AddressHistories.{Call, Cloning, Asked, Allocate, AllocateAll, Free, MoveTo, Clone, asked_by, RunsOutOfMemory, IsHistoryFrom, IsReached, Reached, WasAllocated, WasHeldFirst, releases}
+use Rattle.vm_allocator.specs.Histories.AddressHistories.{Call, Cloning, Asked, asked_by, RunsOutOfMemory, IsHistoryFrom, IsReached, Reached, WasAllocated, WasHeldFirst, releases}
 use Rattle.vm_ranges.specs.declared.error.Error.{Error}
 use Rattle.vm_ranges.specs.declared.error.Error.TheVariants.{Overflow, ResourceNotAvailable, InvalidStateTransition, OutOfMemory}
 use Rattle.vm_ranges.specs.declared.state.NodeState.TheVariants.{Allocated}
@@ -108,75 +108,30 @@ pub record HaveSameState (first second : AddressState) : Type 0 where
   pub space : first.space ≡ second.space
   pub held : (r : Range) → Contains first.held r ↔ Contains second.held r
 
--- Two moves have the same result and the same next state, except that the split of their allocations may fail.
-abbrev pub MovesAgreeExceptSplits : AddressState →
-    Result Range Error → AddressState → Result Range Error → AddressState → Type 0
-MovesAgreeExceptSplits old answer new other later =
-    ((answer ≡ other) × (new ≡ later))
-    ⊎ ((mid : AddressState) × (after : AddressState) × DifferBySplit old answer mid other after)
-
--- The split of one of the requests fails for the height of the tree, after the requests before it got their ranges. At least
--- SPLIT_LIMIT_MIN_HELD ranges are held then.
-pub record ReachesSplitLimit (old : AddressState) (requests : List Request) : Type 0 where
-  pub before : List Request
-  pub request : Request
-  pub after : List Request
-  pub cut : requests ≡ before ++ request ∷ after
-  pub ranges : List Range
-  pub mid : AddressState
-  pub each : AllocatesEach old before ranges mid
-  pub range : Range
-  pub split : SplitsGap mid range
-  pub fails : AllocatesAt mid range (Err Overflow) mid
-  pub many : SPLIT_LIMIT_MIN_HELD ≤ length mid.held
-
--- The state does not decide this error of several requests: memory runs out, or a split fails for the height of the tree.
-abbrev pub IsLimitOfAll : AddressState → List Request → Result (List Range) Error → Type 0
-IsLimitOfAll old requests answer =
-    (answer ≡ Err OutOfMemory) ⊎ ((answer ≡ Err Overflow) × ReachesSplitLimit old requests)
-
--- Two results of several requests and the states after them are equal, except that memory may run out or a split may fail.
-abbrev pub AllAgreeExceptSplits : AddressState → List Request →
-    Result (List Range) Error → AddressState → Result (List Range) Error → AddressState → Type 0
-AllAgreeExceptSplits old requests answer new other later =
-    ((answer ≡ other) × (new ≡ later)) ⊎ (IsLimitOfAll old requests answer ⊎ IsLimitOfAll old requests other)
-
--- The result of a call and the state after it depend only on the space and the held ranges, except whether a split
--- fails. Several requests can also fail because memory runs out for the list of their ranges.
+-- The result of a call and the state after it depend only on the space and the held ranges, unless memory runs out.
 pub record StateDecides : Type 0 where
   pub allocation : (first second : Reached) (new later : AddressState) (request : Request)
       (answer other : Result Range Error) → HaveSameState first.state second.state →
       Allocates first.state request answer new → Allocates second.state request other later →
-      AgreeExceptSplits first.state answer new other later
+      AgreeUnlessMemory answer new other later
   pub move : (first second : Reached) (new later : AddressState) (r : Range) (request : Request)
       (answer other : Result Range Error) → HaveSameState first.state second.state →
       MovesRange first.state r request answer new → MovesRange second.state r request other later →
-      MovesAgreeExceptSplits first.state answer new other later
+      AgreeUnlessMemory answer new other later
   pub several : (first second : Reached) (new later : AddressState) (requests : List Request)
       (answer other : Result (List Range) Error) → HaveSameState first.state second.state →
       AllocatesAll first.state requests answer new → AllocatesAll second.state requests other later →
-      AllAgreeExceptSplits first.state requests answer new other later
+      AgreeUnlessMemory answer new other later
   pub release : (first second : Reached) (new later : AddressState) (r : Range)
       (answer other : Result (Unit {0}) Error) → HaveSameState first.state second.state →
       Frees first.state r answer new → Frees second.state r other later → (answer ≡ other) × (new ≡ later)
 
--- The maximum number of ranges that the calls can add.
-abbrev pub added_at_most : List Asked → ℕ
-added_at_most [] = 0
-added_at_most (Allocate request ∷ asked) = added_at_most asked + 1
-added_at_most (AllocateAll requests ∷ asked) = added_at_most asked + length requests
-added_at_most (Free r ∷ asked) = added_at_most asked
-added_at_most (MoveTo r request ∷ asked) = added_at_most asked + 1
-added_at_most (Clone ∷ asked) = added_at_most asked
-
--- The same list of calls in the same state has the same results and the same last state. No call returns OutOfMemory, and
--- the calls hold too few ranges for a tree so high that a split fails.
+-- The same list of calls in the same state has the same results and the same last state, if no call returns OutOfMemory.
 abbrev pub SameCallsSameResults : Type 0
 SameCallsSameResults =
     (old new later : AddressState) (calls others : List Call) →
     IsHistoryFrom old calls new → IsHistoryFrom old others later → map asked_by calls ≡ map asked_by others →
     All (λ call. ¬ RunsOutOfMemory call) calls → All (λ call. ¬ RunsOutOfMemory call) others →
-    length old.held + added_at_most (map asked_by calls) ≤ SPLIT_LIMIT_MIN_HELD →
     (calls ≡ others) × (new ≡ later)
 
 -- Freeing the range that was just allocated succeeds, and leaves the state before the allocation.

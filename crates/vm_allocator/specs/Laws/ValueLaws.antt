@@ -39,7 +39,7 @@ ReadsText {X} States =
     (answer ≡ Ok old) ⊎ (answer ≡ Err OutOfMemory)) IsMemory
 
 -- A value that is read without repairs is read with repairs to the same state, unless memory runs out. At most
--- SPLIT_LIMIT_MIN_HELD ranges are held, so the height never makes a split fail.
+-- SPLIT_LIMIT_MIN_HELD ranges are held: a reader with repairs accepts no more.
 abbrev pub ReadersAgree : Type 0
 ReadersAgree =
     (value : Value) (state : AddressState) (answer : Result AddressState ValueError) →

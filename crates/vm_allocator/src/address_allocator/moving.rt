@@ -1,11 +1,10 @@
 //! The move of an allocated range to the place of a request.
-ghost use Rattle.std.specs.Prelude.{◌≡◌, ◌%◌, ◌≢◌, Ok, Err, OnErr, IfOk, IfSome};
+ghost use Rattle.std.specs.Prelude.{◌≡◌, ◌%◌, Ok, Err, OnErr, IfOk, IfSome};
 ghost use Rattle.std.specs.List.{Contains};
 ghost use Rattle.vm_ranges.specs.Cases.{IsTestOf};
 ghost use Rattle.vm_ranges.specs.Range.{Covers, address_count};
 ghost use Rattle.vm_engine.specs.Address.{IsAddressState};
 ghost use Rattle.vm_tree.specs.Shape.{height_of};
-ghost use Rattle.vm_engine.specs.Counts.Steps.{SplitsIfFew};
 ghost use Rattle.vm_allocator.specs.Allocator.{state_of};
 ghost use Rattle.vm_allocator.specs.Moves.{IsFor, request_to, replacing, MovesRange};
 
@@ -46,11 +45,8 @@ impl AddressAllocator {
         ensures stays { Contains (state_of self.old).held key.now → IsFor key.now request
             → (result ≡ Ok key.now) × (self.new ≡ self.old) }
 
-        // Each result under its exact condition. The limit on the height is checked before memory is
-        // allocated.
+        // Each result under its exact condition.
         ensures answer { MovesRange (state_of self.old) key.now request result (state_of self.new) }
-        ensures few { Contains (state_of self.old).held key.now → ¬ IsFor key.now request
-            → SplitsIfFew (state_of self.old) request result }
     {
         if !self.interval_tree.holds(key) {
             return Err(Error::ResourceNotAvailable);
@@ -101,10 +97,6 @@ impl AddressAllocator {
         ensures refused { ¬ Contains (state_of self.old).held key.now → result ≡ Err Error.ResourceNotAvailable }
         ensures stays { Contains (state_of self.old).held key.now → start ≡ key.now.start
             → (result ≡ Ok key.now) × (self.new ≡ self.old) }
-
-        // The limit on the number of ranges is checked before memory is allocated.
-        ensures few { Contains (state_of self.old).held key.now → start ≢ key.now.start
-            → SplitsIfFew (state_of self.old) (request_to key.now start) result }
 
         // Each result under its exact condition.
         ensures answer { MovesRange (state_of self.old) key.now (request_to key.now start) result

@@ -1,10 +1,10 @@
 //! Several allocations in one call: all or none.
-ghost use Rattle.std.specs.Prelude.{◌≡◌, List, IfErr, IfOk, MatchResult};
+ghost use Rattle.std.specs.Prelude.{◌≡◌, List, IfErr, MatchResult};
 ghost use Rattle.vm_ranges.specs.Request.{Request};
 ghost use Rattle.vm_engine.specs.Address.{AddressState, IsAddressState};
 ghost use Rattle.vm_engine.specs.Tree.SpaceTree.{tree_state};
 ghost use Rattle.vm_allocator.specs.Allocator.{state_of};
-ghost use Rattle.vm_allocator.specs.Several.{AllocatesEachInTree, FailsAsNamed, AllocatesEach, FailsAll};
+ghost use Rattle.vm_allocator.specs.Several.{FailsAsNamed, AllocatesEach, FailsAll};
 
 use super::AddressAllocator;
 use std::alloc::Global;
@@ -31,9 +31,6 @@ impl AddressAllocator {
         ensures answer { MatchResult result
             (λ ranges. AllocatesEach (state_of self.old) requests.now ranges.items (state_of self.new))
             (λ failure. FailsAll (state_of self.old) requests.now failure.error (state_of self.new)) }
-        // The limit on the number of ranges is checked before memory is allocated.
-        ensures few { IfOk result (λ ranges.
-            AllocatesEachInTree self.old.tree requests.now ranges.items self.new.tree) }
         ensures failed { IfErr result (λ failure.
             FailsAsNamed self.old.tree requests.now failure self.new.tree) }
         ensures state { IsAddressState (state_of self.new) }

@@ -51,15 +51,15 @@ fn held_are_valid()
     ensures { HeldAreValid }
 {}
 
-/// Proves that the result of a call depends only on the space and the allocated ranges, except
-/// whether a split fails, or whether `allocate_all` has memory for its list.
+/// Proves that the result of a call depends only on the space and the allocated ranges, unless
+/// memory runs out.
 #[tactic(auto, using(crate::proofs::Histories::AlongHistories::decided))]
 fn state_decides()
     ensures { StateDecides }
 {}
 
 /// Proves that the same list of calls in the same state has the same results and leads to the same
-/// state. No call may run out of memory, and at most 6,293,134,512 ranges may be held and requested.
+/// state, if no call runs out of memory.
 ///
 /// An allocator that `from_nodes` restores has the state of the saved one. So later calls have the
 /// same results for both.

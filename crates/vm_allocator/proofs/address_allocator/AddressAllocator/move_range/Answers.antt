@@ -1,9 +1,8 @@
 use Rattle.std.proofs.Common.{◌≡◌, sym, subst, arith}
 use Rattle.vm_ranges.specs.Request.{Request}
-use Rattle.vm_engine.specs.Counts.Steps.{SplitsIfFew}
 use Rattle.vm_allocator.specs.Allocator.{state_of}
 use Rattle.vm_allocator.specs.Moves.{IsFor, request_to, MovesRange}
-use Rattle.vm_allocator.proofs.Results.Moves.{start_is_valid, own_start, other_start, made_to, move_to_fits}
+use Rattle.vm_allocator.proofs.Results.Moves.{start_is_valid, own_start, made_to, move_to_fits}
 use Rattle.vm_allocator.proofs.address_allocator.AddressAllocator.move_range.Goals as goal
 
 -- The request is the one to the start.
@@ -26,8 +25,3 @@ returns-clause-fits c =
 pub returns-clause-stays : goal.returns-clause-stays
 returns-clause-stays c = λ held e.
     c.move_constraint.ensures.stays held (subst (IsFor c.args.key.now) (sym (made c)) (own_start c.args.key.now c.args.start e))
-
-pub returns-clause-few : goal.returns-clause-few
-returns-clause-few c = λ held d.
-    subst (λ (v : Request). SplitsIfFew (state_of c.args.self.now) v c.move_constraint.result) (made c)
-    (c.move_constraint.ensures.few held (λ f. other_start c.args.key.now c.args.start d (subst (IsFor c.args.key.now) (made c) f)))

@@ -1,9 +1,10 @@
--- A call has one result if memory suffices and few ranges are held. Some calls never return OutOfMemory.
-use Rattle.std.proofs.Common.{◌≡◌, ◌≢◌, ℕ, ◌<◌, length, sym, ◌∙◌, arith, inl, inr, ⊎_elim, Result, Err}
+-- A call has one result if memory suffices. Some calls never return OutOfMemory.
+use Rattle.std.proofs.Common.{◌≡◌, ◌≢◌, ℕ, sym, ◌∙◌, inl, inr, ⊎_elim, Result, Err}
 use Rattle.vm_ranges.specs.Range.{Range}
 use Rattle.vm_engine.specs.Address.{AddressState}
 use Rattle.vm_ranges.specs.Request.{Request}
-use Rattle.vm_engine.specs.Answer.{SPLIT_LIMIT_MIN_HELD, IsSplitRefusal, Allocates, Frees, Makes}
+use Rattle.vm_engine.specs.Answer.{Allocates, Frees, Makes}
+use Rattle.vm_engine.specs.Laws.AddressLaws.{AgreeUnlessMemory}
 use Rattle.vm_allocator.specs.Ids.{IdState, ByLowestNotHeld, AllocatesId, MakesIds}
 use Rattle.vm_ranges.specs.declared.error.Error.{Error}
 use Rattle.vm_ranges.specs.declared.error.Error.TheVariants.{OutOfMemory}
@@ -11,21 +12,18 @@ use Rattle.vm_ranges.proofs.TwoFacts.{if_same}
 use Rattle.vm_engine.proofs.Results.Once.{allocates_once}
 
 -- ---- One result
--- If few ranges are held, the height never makes a request fail.
-pub no_split_refusal : (old : AddressState) (answer : Result Range Error) → length old.held < SPLIT_LIMIT_MIN_HELD
-    → answer ≢ Err OutOfMemory → IsSplitRefusal old answer → ⊥
-no_split_refusal old answer few plain (inl e) = plain e
-no_split_refusal old answer few plain (inr p) = omega (arith, few, p.0)
+-- Results that agree unless memory runs out are equal if it does not.
+pub same_in_memory : {A : Type 0} (x y : Result A Error) (new later : AddressState) → x ≢ Err OutOfMemory → y ≢ Err OutOfMemory → AgreeUnlessMemory x new y later → (x ≡ y) × (new ≡ later)
+same_in_memory x y new later p q (inl same) = same
+same_in_memory x y new later p q (inr (inl e)) = absurd (p e)
+same_in_memory x y new later p q (inr (inr e)) = absurd (q e)
 
 -- So a request has one result and one next state.
 pub placed_once : (old m n : AddressState) (request : Request) (x y : Result Range Error)
-    → length old.held < SPLIT_LIMIT_MIN_HELD → x ≢ Err OutOfMemory → y ≢ Err OutOfMemory
+    → x ≢ Err OutOfMemory → y ≢ Err OutOfMemory
     → Allocates old request x m
     → Allocates old request y n → (x ≡ y) × (m ≡ n)
-placed_once old m n request x y few p q a b =
-    ⊎_elim (λ same. same)
-    (λ differ. absurd (⊎_elim (no_split_refusal old x few p) (no_split_refusal old y few q) differ.refused))
-    (allocates_once old m n request x y a b)
+placed_once old m n request x y p q a b = same_in_memory x y m n p q (allocates_once old m n request x y a b)
 
 -- Creating an allocator has one result, unless memory runs out.
 pub made_once : (base size : ℕ) (x y : Result AddressState Error) → x ≢ Err OutOfMemory → y ≢ Err OutOfMemory
