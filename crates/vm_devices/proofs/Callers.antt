@@ -30,7 +30,7 @@ devices_share_none old mid new first second slot other h k =
 pub device_again : (old mid new later : DeviceState) (request : Request) (slot : DeviceSlot) (answer : Result DeviceSlot Error) → IsDeviceState old →
     Reserves old request (Ok slot) mid → Releases mid slot.id (Ok tt) new → Reserves new request answer later → IfOk answer (λ again. again ≡ slot)
 device_again old mid new later request slot (Ok again) i s f t =
-    ⊎_elim (λ e. cc (e)) (λ x. absurd (⊎_elim (λ m. cc (m)) (λ d. cc (d.1)) x))
+    ⊎_elim (λ e. cc (e)) (λ m. absurd (cc (m)))
     (reserved_again old mid new later request slot (Ok tt) (Ok again) i s f (λ e. cc (e)) t)
 device_again old mid new later request slot (Err e) i s f t = tt
 

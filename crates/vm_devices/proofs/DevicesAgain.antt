@@ -5,12 +5,12 @@ use Rattle.vm_ranges.proofs.NumberSets.{inserted_other, removed_other, from_remo
 use Rattle.vm_ranges.specs.Range.{Range, address_count}
 use Rattle.vm_engine.specs.Address.{AddressState, holding, releasing}
 use Rattle.vm_ranges.specs.Request.{Request, request_for}
-use Rattle.vm_engine.specs.Answer.{IsSplitRefusal, Allocates}
+use Rattle.vm_engine.specs.Answer.{Allocates}
 use Rattle.vm_allocator.specs.Ids.{IdState, IsHeld, IsLowestNotHeld, AreAllHeld, ByLowestNotHeld, holding_id, releasing_id}
 use Rattle.vm_ranges.specs.declared.error.Error.{Error}
 use Rattle.vm_ranges.specs.declared.error.Error.TheVariants.{OutOfMemory}
 use Rattle.vm_ranges.specs.declared.constraint.AllocPolicy.TheVariants.{ExactMatch}
-use Rattle.vm_allocator.proofs.Callers.{allocated_held, allocated_again, frees_held}
+use Rattle.vm_allocator.proofs.Callers.{IsSplitError, allocated_held, allocated_again, frees_held}
 use Rattle.vm_engine.proofs.Results.Once.{allocates_once}
 use Rattle.vm_engine.proofs.Results.AddressResults.{freeing_undoes}
 use Rattle.vm_allocator.proofs.Ids.IdResults.{one_lowest}
@@ -27,9 +27,13 @@ device_released : (old new : DeviceState) (id : ℕ) (r : Range) (answer : Resul
 unfolding Releases
 device_released old new id r answer d h plain = ⊎_elim (λ t. t.1) (λ m. absurd (plain m.0)) (rw d at h)
 
--- The result of a reservation, if its request gets the range or its split fails.
+-- The result of a reservation, if its request gets the range or memory runs out, and if its split fails.
+told_in_memory : (old new : DeviceState) (id : ℕ) (given : Result Range Error) (answer : Result DeviceSlot Error) (r : Range) →
+    Pairs old id given answer new → (given ≡ Ok r) ⊎ (given ≡ Err OutOfMemory) → (answer ≡ Ok (record { id = id; range = r })) ⊎ (answer ≡ Err OutOfMemory)
+told_in_memory old new id given answer r p e = grind arith
+
 told : (old new : DeviceState) (id : ℕ) (given : Result Range Error) (answer : Result DeviceSlot Error) (r : Range) →
-    Pairs old id given answer new → (given ≡ Ok r) ⊎ IsSplitRefusal old.space given → (answer ≡ Ok (record { id = id; range = r })) ⊎ IsLimit old answer
+    Pairs old id given answer new → (given ≡ Ok r) ⊎ IsSplitError old.space given → (answer ≡ Ok (record { id = id; range = r })) ⊎ IsLimit old answer
 told old new id given answer r p e = grind arith
 
 -- ---- The same request
@@ -47,9 +51,9 @@ unfolding ByLowestNotHeld AreAllHeld IsLowestNotHeld
 for_lowest ids id takes refused lowest (inl h) = subst takes (one_lowest ids h.0 id h.1 lowest) h.2
 for_lowest ids id takes refused lowest (inr h) = absurd (lowest.0.1 (h.0 id lowest.0.0))
 
--- The same range is allocated, or its split fails.
+-- The same range is allocated, or memory runs out.
 same_given : (old new : AddressState) (request : Request) (r : Range) (given : Result Range Error) →
-    Allocates old request (Ok r) (holding r old) → Allocates old request given new → (given ≡ Ok r) ⊎ IsSplitRefusal old given
+    Allocates old request (Ok r) (holding r old) → Allocates old request given new → (given ≡ Ok r) ⊎ (given ≡ Err OutOfMemory)
 same_given old new request r given a b =
     let once = allocates_once old (holding r old) new request (Ok r) given a b in
     grind (arith, once)
@@ -69,7 +73,7 @@ reserved_again old mid new later request slot released answer i s f plain t =
     let lowest : IsLowestNotHeld new.ids id = subst (λ (v : IdState). IsLowestNotHeld v id) (sym (ap (λ (v : DeviceState). v.ids) left)) (lowest_again old.ids id m.lowest) in
     let u = for_lowest new.ids id _ _ lowest t in
     let first = subst (λ (v : AddressState). Allocates v request (Ok r) (holding r v)) (sym space) m.given in
-    told new later id u.0 answer r u.3 (same_given new.space u.1 request r u.0 first u.2)
+    told_in_memory new later id u.0 answer r u.3 (same_given new.space u.1 request r u.0 first u.2)
 
 -- ---- The same range
 -- After an id is freed, some id is not held.

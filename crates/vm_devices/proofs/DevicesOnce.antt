@@ -1,13 +1,12 @@
--- A call of a manager has one result, if memory suffices and few ranges are held.
-use Rattle.std.proofs.Common.{◌≡◌, ◌≢◌, ℕ, ◌<◌, length, sym, ap, ◌∙◌, arith, Result, Ok, Err}
+-- A call of a manager has one result, if memory suffices.
+use Rattle.std.proofs.Common.{◌≡◌, ◌≢◌, ℕ, sym, ap, ◌∙◌, arith, Result, Ok, Err}
 use Rattle.vm_ranges.specs.Range.{Range}
 use Rattle.vm_ranges.specs.Request.{Request}
 use Rattle.vm_engine.specs.Address.{AddressState}
 use Rattle.vm_allocator.specs.Ids.{IdState}
-use Rattle.vm_engine.specs.Answer.{SPLIT_LIMIT_MIN_HELD}
 use Rattle.vm_ranges.specs.declared.error.Error.{Error}
 use Rattle.vm_ranges.specs.declared.error.Error.TheVariants.{OutOfMemory}
-use Rattle.vm_allocator.proofs.Results.BelowLimits.{placed_once, made_once}
+use Rattle.vm_allocator.proofs.Results.InMemory.{placed_once, made_once}
 use Rattle.vm_allocator.proofs.Ids.IdResults.{making_is_determined, by_same_lowest}
 use Rattle.vm_devices.specs.declared.device_slot.DeviceSlot.{DeviceSlot}
 use Rattle.vm_devices.specs.Devices.{DeviceState, made_devices, MakesManager, Pairs, Reserves, Releases}
@@ -38,11 +37,11 @@ module _ (old new later : DeviceState) (id : ℕ) (answer other : Result DeviceS
       pairs_same again (rw one at a) b
 
 reserved_once : (old new later : DeviceState) (request : Request) (answer other : Result DeviceSlot Error) → answer ≢ Err OutOfMemory → other ≢ Err OutOfMemory →
-    length old.space.held < SPLIT_LIMIT_MIN_HELD → Reserves old request answer new → Reserves old request other later → (answer ≡ other) × (new ≡ later)
+    Reserves old request answer new → Reserves old request other later → (answer ≡ other) × (new ≡ later)
 unfolding Reserves
-reserved_once old new later request answer other p q few a b =
+reserved_once old new later request answer other p q a b =
     by_same_lowest old.ids _ _ _ _ ((answer ≡ other) × (new ≡ later)) a b
-    (λ id u v. pairs_once old new later id answer other p q u.0 v.0 (λ x y. (placed_once old.space u.1 v.1 request u.0 v.0 few x y u.2 v.2).0) u.3 v.3)
+    (λ id u v. pairs_once old new later id answer other p q u.0 v.0 (λ x y. (placed_once old.space u.1 v.1 request u.0 v.0 x y u.2 v.2).0) u.3 v.3)
     (λ e u v. (u.0 ∙ sym v.0, u.1 ∙ sym v.1))
 
 released_once : (old new later : DeviceState) (id : ℕ) (answer other : Result (Unit {0}) Error) → answer ≢ Err OutOfMemory → other ≢ Err OutOfMemory →

@@ -5,7 +5,6 @@ pub mod DevicesAgain
 pub mod DevicesOnce
 pub mod EveryDeviceCall
 pub mod DeviceCalls
-pub mod FewDevices
 pub mod Callers
 pub mod Entries
 pub mod AscendingIds

@@ -1,17 +1,16 @@
 -- Devices: ids and ranges, held in pairs, and the results of the calls of their manager.
-use Rattle.std.specs.Prelude.{◌≡◌, ℕ, ◌<◌, ◌≤◌, ◌⊎◌, ◌↔◌, Some, IsSome, IfOk, MatchOption, Result, Ok, Err, refl, length}
+use Rattle.std.specs.Prelude.{◌≡◌, ℕ, ◌⊎◌, ◌↔◌, Some, IsSome, MatchOption, Result, Ok, Err, refl}
 use Rattle.std.specs.List.{Contains}
 use Rattle.std.specs.Ordering.{nat_cmp}
 use Rattle.std.specs.Coded.{Coded, code_by, coded×, coded_ℕ}
 use Rattle.std.specs.FinMap as map
-use Rattle.vm_ranges.specs.Range.{Range, range_code, span}
-use Rattle.vm_engine.specs.Address.{AddressState, address_state_code, IsAddressState, SplitsGap, holding, releasing}
-use Rattle.vm_ranges.specs.Request.{Request, IsRequest}
-use Rattle.vm_engine.specs.Answer.{SPLIT_LIMIT_MIN_HELD, Allocates, Makes, IsChosen}
-use Rattle.vm_engine.specs.Counts.Steps.{NoneEndsBelowMax}
-use Rattle.vm_allocator.specs.Ids.{IdState, id_state_code, IsHeld, IsNotHeld, IsIdState, MakesIds, ByLowestNotHeld, holding_id, releasing_id}
+use Rattle.vm_ranges.specs.Range.{Range, range_code}
+use Rattle.vm_engine.specs.Address.{AddressState, address_state_code, IsAddressState, holding, releasing}
+use Rattle.vm_ranges.specs.Request.{Request}
+use Rattle.vm_engine.specs.Answer.{Allocates, Makes}
+use Rattle.vm_allocator.specs.Ids.{IdState, id_state_code, IsHeld, IsIdState, MakesIds, ByLowestNotHeld, holding_id, releasing_id}
 use Rattle.vm_ranges.specs.declared.error.Error.{Error}
-use Rattle.vm_ranges.specs.declared.error.Error.TheVariants.{Overflow, NeverAllocated, OutOfMemory}
+use Rattle.vm_ranges.specs.declared.error.Error.TheVariants.{NeverAllocated, OutOfMemory}
 use Rattle.vm_devices.specs.declared.device_slot.DeviceSlot.{DeviceSlot}
 
 -- The state of a manager: its ids, its space, and the range of each device by its id.
@@ -97,16 +96,6 @@ Reserves old request answer new =
     (given : Result Range Error) × (space : AddressState)
     × Allocates old.space request given space × Pairs old id given answer new)
     (λ e. (answer ≡ Err e) × (new ≡ old))
-
--- A range that splits its gap is reserved, or memory runs out for it, only if fewer than SPLIT_LIMIT_MIN_HELD ranges are held.
--- If an id is not held, a valid request whose chosen place ends below MAX has the error Overflow only if at least as many are
--- held.
-pub record ReservesIfFew (old : DeviceState) (request : Request) (answer : Result DeviceSlot Error) : Type 0 where
-  pub split : IfOk answer (λ slot. SplitsGap old.space slot.range → length old.space.held < SPLIT_LIMIT_MIN_HELD)
-  pub memory : (start : ℕ) → IsChosen request old.space start → SplitsGap old.space (span start request.size) →
-      answer ≡ Err OutOfMemory → length old.space.held < SPLIT_LIMIT_MIN_HELD
-  pub high : (id : ℕ) → IsNotHeld old.ids id → IsRequest request →
-      answer ≡ Err Overflow → (SPLIT_LIMIT_MIN_HELD ≤ length old.space.held) ⊎ NoneEndsBelowMax old.space request
 
 -- The result of `release`: NeverAllocated if no device has the id. Otherwise the id and the range are freed, or the
 -- result is OutOfMemory and nothing changes.

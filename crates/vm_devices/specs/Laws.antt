@@ -37,19 +37,19 @@ pub record DevicesAreValid : Type 0 where
   pub reserved : (calls : List DeviceCall) (old : DeviceState) (id : ℕ) (r : Range) (reached : AreDevicesReached calls old) →
       IsDevice old id r → WasReserved calls id r ⊎ WasThereFirst reached.first id r
 
--- The result is OutOfMemory, or it is Overflow and at least SPLIT_LIMIT_MIN_HELD ranges are held: the tree may be too
--- high.
+-- The result is OutOfMemory, or it is Overflow and at least SPLIT_LIMIT_MIN_HELD ranges are held.
 abbrev pub IsLimit : DeviceState → Result DeviceSlot Error → Type 0
 IsLimit old answer =
     (answer ≡ Err OutOfMemory) ⊎ ((SPLIT_LIMIT_MIN_HELD ≤ length old.space.held) × (answer ≡ Err Overflow))
 
--- If a device was just reserved and released, the same request reserves it again, with the same id and range.
+-- If a device was just reserved and released, the same request reserves it again, with the same id and range, unless memory
+-- runs out.
 abbrev pub ReservedAgain : Type 0
 ReservedAgain =
     (old mid new later : DeviceState) (request : Request) (slot : DeviceSlot)
     (released : Result (Unit {0}) Error) (answer : Result DeviceSlot Error) → IsDeviceState old →
     Reserves old request (Ok slot) mid → Releases mid slot.id released new → released ≢ Err OutOfMemory →
-    Reserves new request answer later → (answer ≡ Ok slot) ⊎ IsLimit new answer
+    Reserves new request answer later → (answer ≡ Ok slot) ⊎ (answer ≡ Err OutOfMemory)
 
 -- The range of a released device can be reserved at once, by its start.
 abbrev pub RangeIsReservedAgain : Type 0
@@ -60,13 +60,13 @@ RangeIsReservedAgain =
     Reserves new (request_for (address_count r) 1 (ExactMatch r.start)) answer later →
     ((some : ℕ) × (answer ≡ Ok (record { id = some; range = r }))) ⊎ IsLimit new answer
 
--- A call has one result and one next state in each state, if memory suffices and few ranges are held.
+-- A call has one result and one next state in each state, if memory suffices.
 pub record DevicesDecide : Type 0 where
   pub made : (lo hi base size : ℕ) (answer other : Result DeviceState Error) →
       answer ≢ Err OutOfMemory → other ≢ Err OutOfMemory →
       MakesManager lo hi base size answer → MakesManager lo hi base size other → answer ≡ other
   pub reserved : (old new later : DeviceState) (request : Request) (answer other : Result DeviceSlot Error) →
-      answer ≢ Err OutOfMemory → other ≢ Err OutOfMemory → length old.space.held < SPLIT_LIMIT_MIN_HELD →
+      answer ≢ Err OutOfMemory → other ≢ Err OutOfMemory →
       Reserves old request answer new → Reserves old request other later → (answer ≡ other) × (new ≡ later)
   pub released : (old new later : DeviceState) (id : ℕ) (answer other : Result (Unit {0}) Error) →
       answer ≢ Err OutOfMemory → other ≢ Err OutOfMemory →

@@ -14,7 +14,6 @@ ghost use Rattle.vm_devices.specs.Devices.{
   IsDevice,
   MakesManager,
   Reserves,
-  ReservesIfFew,
   Releases,
   with_device,
   without_device,
@@ -146,10 +145,6 @@ impl DeviceManager {
         ensures unchanged { OnErr result (device_state self.new ≡ device_state self.old) }
         ensures state { IsDeviceState (device_state self.new) }
 
-        // The limit on the number of ranges is checked before memory is allocated.
-        ensures few { ReservesIfFew (device_state self.old)
-            (request_for size align policy) result }
-
         // Each result under its exact condition.
         ensures answer { Reserves (device_state self.old) (request_for size align policy) result
             (device_state self.new) }
@@ -184,9 +179,6 @@ impl DeviceManager {
         ensures held { IfOk result (λ slot.
             device_state self.new ≡ with_device slot.id slot.range (device_state self.old)) }
         ensures unchanged { OnErr result (device_state self.new ≡ device_state self.old) }
-
-        // The limit on the number of ranges is checked before memory is allocated.
-        ensures few { ReservesIfFew (device_state self.old) request result }
 
         // Each result under its exact condition.
         ensures answer { Reserves (device_state self.old) request result (device_state self.new) }
@@ -236,11 +228,9 @@ impl DeviceManager {
 
     /// Makes a device of the lowest free id and of a range for the request. An error leaves ids, ranges
     /// and devices unchanged.
-    #[tactic(auto, using(crate::proofs::FewDevices::few_reserved))]
     fn reserve_range(&mut self, alloc: Global, id: u32, request: Constraint) -> Result<DeviceSlot>
         requires { PeeksId (device_state self.old).ids (Ok id) }
-        ensures answer { Reserves (device_state self.old) request result (device_state self.new) }
-        ensures few { ReservesIfFew (device_state self.old) request result }
+        ensures { Reserves (device_state self.old) request result (device_state self.new) }
     {
         let range = self.mmio_allocator.allocate_constraint(alloc, request)?;
         if let Err(refused) = self.slots.insert(alloc, id, range) {

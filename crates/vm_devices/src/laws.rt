@@ -33,8 +33,7 @@ fn released_devices_are_reserved_again()
     ensures range { RangeIsReservedAgain }
 {}
 
-/// Proves that the result of a call depends only on ids, space and devices, if memory suffices and
-/// few ranges are allocated.
+/// Proves that the result of a call depends only on ids, space and devices, if memory suffices.
 #[tactic(auto, using(crate::proofs::DevicesOnce::devices_decide))]
 fn devices_decide()
     ensures { DevicesDecide }

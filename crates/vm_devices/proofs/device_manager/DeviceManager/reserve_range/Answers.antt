@@ -4,22 +4,15 @@ use Rattle.vm_allocator.specs.Allocator.{state_of}
 use Rattle.vm_devices.specs.Devices.{devices_of}
 use Rattle.vm_devices.proofs.DeviceCalls.{id_peeked, entered, entered_state, undone, undone_state}
 use Rattle.vm_devices.proofs.DeviceStarts.{new_device}
-use Rattle.vm_devices.proofs.FewDevices.{few_without_range, few_without_table}
 use Rattle.vm_devices.proofs.device_manager.DeviceManager.reserve_range.Goals as goal
 
-pub returns-in_err-range-clause-answer : goal.returns-in_err-range-clause-answer
-returns-in_err-range-clause-answer c =
+pub returns-in_err-range : goal.returns-in_err-range
+returns-in_err-range c =
     let e = c.in_err-range.field-0.0 in
     let is : c.from_residual.result ≡ Err e = search rules in
     let same = ap (λ a. devices_of c.self.inside.id_allocator (state_of a) c.self.inside.slots) c.in_err-range.ensures.unchanged in
     rw (← c.self.view_is, is)
     (id_peeked _ _ c.args.request c.args.id (state_of c.allocate_constraint.new.self) (Err e) _ (rw (← c.self.view_is) at c.requires) c.in_err-range.ensures.answer (refl, same))
-
-pub returns-in_err-range-clause-few : goal.returns-in_err-range-clause-few
-returns-in_err-range-clause-few c =
-    let e = c.in_err-range.field-0.0 in
-    let is : c.from_residual.result ≡ Err e = search rules in
-    rw (← c.self.view_is, is) (few_without_range _ c.args.request e c.in_err-range.ensures.few)
 
 pub insert-requires : goal.insert-requires
 insert-requires c =
@@ -30,25 +23,20 @@ invariant_of-self-in-Err c =
     undone_state _ c.args.request c.args.id c.in_ok-range.range _ c.self.invariant (rw (← c.self.view_is) at c.requires) c.in_ok-range.ensures.answer _ _ _ c.free.result
     c.free.ensures.answer c.in-Err.ensures.err refl
 
-pub returns-in-Err-clause-answer : goal.returns-in-Err-clause-answer
-returns-in-Err-clause-answer c =
+pub returns-in-Err : goal.returns-in-Err
+returns-in-Err c =
     let is : c.into.result ≡ OutOfMemory = search rules in
     rw (← c.self.view_is, is)
     (undone _ c.args.request c.args.id c.in_ok-range.range _ c.self.invariant (rw (← c.self.view_is) at c.requires) c.in_ok-range.ensures.answer _ _ _ c.free.result
     c.free.ensures.answer c.in-Err.ensures.err refl)
-
-pub returns-in-Err-clause-few : goal.returns-in-Err-clause-few
-returns-in-Err-clause-few c =
-    let is : c.into.result ≡ OutOfMemory = search rules in
-    rw (← c.self.view_is, is) (few_without_table _ c.args.request c.in_ok-range.range _ c.in_ok-range.ensures.answer c.in_ok-range.ensures.few)
 
 pub invariant_of-self-2 : goal.invariant_of-self-2
 invariant_of-self-2 c =
     entered_state _ c.args.request c.args.id c.in_ok-range.range _ c.self.invariant (rw (← c.self.view_is) at c.requires) c.in_ok-range.ensures.answer _ _ _ c.allocate_id.result
     c.allocate_id.ensures.answer refl c.in_default.ensures.inserted
 
-pub returns-clause-answer : goal.returns-clause-answer
-returns-clause-answer c =
+pub returns : goal.returns
+returns c =
     rw (← c.self.view_is)
     (entered _ c.args.request c.args.id c.in_ok-range.range _ c.self.invariant (rw (← c.self.view_is) at c.requires) c.in_ok-range.ensures.answer _ _ _ c.allocate_id.result
     c.allocate_id.ensures.answer refl c.in_default.ensures.inserted)
