@@ -1,6 +1,5 @@
 -- Laws that follow only from the definitions.
-use Rattle.std.specs.Prelude.{◌≡◌, ◌≢◌, ℕ, ◌<◌, List, [], ◌∷◌, ◌++◌, length, IfSome}
-use Rattle.vm_engine.specs.Answer.{SPLIT_LIMIT_MIN_HELD}
+use Rattle.std.specs.Prelude.{◌≡◌, ◌≢◌, ℕ, List, [], ◌∷◌, ◌++◌}
 use Rattle.vm_ranges.specs.declared.error.Error.TheVariants.{OutOfMemory}
 use Rattle.vm_lines.specs.Commands.{command_of}
 use Rattle.vm_lines.specs.Lines.{newline}
@@ -9,12 +8,6 @@ use Rattle.vm_lines.specs.Replies.{text_of}
 use Rattle.vm_lines.specs.Runs.{MayAnswer}
 use Rattle.vm_lines.specs.declared.reply.Reply.{Reply}
 use Rattle.vm_lines.specs.declared.reply.Reply.TheVariants.{Failed}
-
--- The space and the devices hold fewer than SPLIT_LIMIT_MIN_HELD ranges each, so the height never makes a split fail.
-abbrev pub IsBelowLimits : Machine → Type 0
-IsBelowLimits machine =
-    IfSome machine.space (λ state. length state.held < SPLIT_LIMIT_MIN_HELD)
-    × IfSome machine.devices (λ state. length state.space.held < SPLIT_LIMIT_MIN_HELD)
 
 -- Like `AreAnswered`, and no reply is that memory ran out.
 abbrev pub AreAnsweredInMemory : Machine → List (List ℕ) → List ℕ → Machine → Type 0
@@ -26,22 +19,11 @@ AreAnsweredInMemory old (line ∷ lines) text new =
     × AreAnsweredInMemory mid lines rest new
     × (text ≡ text_of reply ++ newline ∷ rest)
 
--- Like `AreAnsweredInMemory`, and few ranges are held before each line.
-abbrev pub AreAnsweredBelowLimits : Machine → List (List ℕ) → List ℕ → Machine → Type 0
-AreAnsweredBelowLimits old [] text new = (text ≡ []) × (new ≡ old)
-AreAnsweredBelowLimits old (line ∷ lines) text new =
-    (reply : Reply) × (mid : Machine) × (rest : List ℕ)
-    × Does old (command_of line) reply mid
-    × (reply ≢ Failed OutOfMemory)
-    × IsBelowLimits old
-    × AreAnsweredBelowLimits mid lines rest new
-    × (text ≡ text_of reply ++ newline ∷ rest)
-
--- If few ranges are held, lines have no other output in which no line runs out of memory, and they leave one machine.
+-- Lines have at most one output in which no line runs out of memory, and they leave one machine.
 unfoldable pub OneText : Type 0
 OneText =
     (lines : List (List ℕ)) (text other : List ℕ) (new end : Machine) →
-    AreAnsweredBelowLimits start lines text new → AreAnsweredInMemory start lines other end → (text ≡ other) × (new ≡ end)
+    AreAnsweredInMemory start lines text new → AreAnsweredInMemory start lines other end → (text ≡ other) × (new ≡ end)
 
 -- For each machine, each line has a reply other than that memory ran out.
 unfoldable pub HasReply : Type 0

@@ -3,8 +3,7 @@
 //! Each law is the contract of a function that does nothing.
 ghost use Rattle.vm_lines.specs.Laws.{OneText, HasReply, HasText};
 
-/// Proves that an input has one output in which no line runs out of memory, if few ranges are
-/// allocated.
+/// Proves that an input has one output in which no line runs out of memory.
 #[tactic(auto, using(crate::proofs::OneText::one_text))]
 fn text_is_determined()
     ensures { OneText }
