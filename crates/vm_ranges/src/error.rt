@@ -13,8 +13,8 @@ use thiserror::Error;
 /// Errors are ordered by variant, then by fields.
 #[derive(Clone, Debug, Drop, PartialEq, Eq, PartialOrd, Ord, Error)]
 pub enum Error {
-    /// A range would end at or past `u64::MAX`, too few ids of a range up to `u32::MAX` are free, or the
-    /// tree is too high for a split.
+    /// A range would end at or past `u64::MAX`, too few ids of a range up to `u32::MAX` are free, or too
+    /// many ranges are allocated for a split.
     #[error("Management operations on desired resource resulted in overflow.")]
     Overflow,
     /// The id is outside the range of the allocator.

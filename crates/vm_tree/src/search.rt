@@ -42,7 +42,7 @@ pub enum Refusal {
     PastMax,
     /// An allocation of memory failed.
     OutOfMemory,
-    /// The range does not fill its gap, and the tree is too high to split it.
+    /// The range does not fill its gap, and gaps cannot be split.
     TooHigh,
 }
 

@@ -11,8 +11,8 @@ use crate::rattle::{AllocError, AllocFailed};
 /// Errors are ordered by variant, then by fields.
 #[derive(Clone, Debug, PartialEq, Eq, PartialOrd, Ord)]
 pub enum Error {
-    /// A range would end at or past `u64::MAX`, too few ids of a range up to `u32::MAX` are free, or the
-    /// tree is too high for a split.
+    /// A range would end at or past `u64::MAX`, too few ids of a range up to `u32::MAX` are free, or too
+    /// many ranges are allocated for a split.
     Overflow,
     /// The id is outside the range of the allocator.
     OutOfRange(u32),
