@@ -1,5 +1,5 @@
 -- Histories of an address allocator: lists of calls with their results. A history can go on with a clone.
-use Rattle.std.specs.Prelude.{◌≡◌, ℕ, ◌%◌, ◌≤◌, ◌⊎◌, List, [], ◌∷◌, Result, Ok, Err, IfSome, IfOk}
+use Rattle.std.specs.Prelude.{◌≡◌, ℕ, ◌%◌, ◌≤◌, ◌⊎◌, List, [], ◌∷◌, Result, Ok, Err, IfSome, MatchResult}
 use Rattle.std.specs.List.{All, Contains, zip}
 use Rattle.std.specs.Result.{result_unwrap_or}
 use Rattle.serde_json.specs.Data.{Data}
@@ -116,7 +116,8 @@ pub record Reached : Type 0 where
 -- The call allocated the range for the request.
 abbrev pub Gives : Call → Request → Range → Type 0
 Gives (Allocation asked answer) request r = (asked ≡ request) × (answer ≡ Ok r)
-Gives (Several requests answer) request r = IfOk answer (λ ranges. Contains (zip requests ranges) (request, r))
+Gives (Several requests answer) request r =
+    MatchResult answer (λ ranges. Contains (zip requests ranges) (request, r)) (λ e. ⊥)
 Gives (Release q answer) request r = ⊥
 Gives (Move q asked answer) request r = (asked ≡ request) × (answer ≡ Ok r)
 Gives (Cloning answer) request r = ⊥
