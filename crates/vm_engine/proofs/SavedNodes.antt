@@ -1,5 +1,3 @@
-pub mod Arranging
-pub mod Ending
 pub mod Heights
 pub mod HeldKeys
 pub mod KeyLists
@@ -7,6 +5,8 @@ pub mod Meanings
 pub mod Roots
 pub mod SavedTreeLaws
 pub mod Spans
+pub mod Stored
 pub mod ValueLaws
 pub mod ValueTrees
+pub mod WholeTrees
 pub mod Written

@@ -1,14 +1,11 @@
 //! Makes allocators of the nodes that a reader has read.
-ghost use Rattle.std.specs.Prelude.{◌≡◌, Err, IfOk, IfSome};
-ghost use Rattle.vm_ranges.specs.Saving.{ReadsParts};
+ghost use Rattle.std.specs.Prelude.{◌≡◌, IfOk};
 ghost use Rattle.vm_ranges.specs.declared.saved.Condition.TheVariants.{Inside, Tree};
 ghost use Rattle.vm_engine.specs.Address.{IsAddressState};
-ghost use Rattle.vm_ranges.specs.declared.saved.SavedError.TheVariants.{OutOfMemory};
-ghost use Rattle.vm_engine.specs.Checks.HeldKeys.{CanBeHeld};
 ghost use Rattle.vm_tree.specs.Shape.{blocks};
 ghost use Rattle.vm_tree.specs.Building.{IsLowestTree};
-ghost use Rattle.vm_engine.specs.Values.NodesRead.{AreNodesOf};
-ghost use Rattle.vm_engine.specs.Values.SavedTrees.{Saved, HasHeldKeys, HasTreeOf};
+ghost use Rattle.vm_engine.specs.Values.NodesRead.{MakesOfNodes};
+ghost use Rattle.vm_engine.specs.Values.SavedTrees.{HasHeldKeys, HasTreeOf};
 ghost use Rattle.vm_allocator.specs.Allocator.{state_of, made_state};
 
 use crate::address_allocator::AddressAllocator;
@@ -22,17 +19,15 @@ impl AddressAllocator {
     /// # Errors
     ///
     /// In this order:
-    /// - `Violated(Tree)` if the saved tree is none of the space, node for node.
-    /// - `OutOfMemory` if an allocation fails, or if one failed while the nodes were read.
+    /// - The error of reading the nodes.
+    /// - `Violated(Tree)` if the nodes are not one whole tree of the space.
+    /// - `OutOfMemory` if an allocation fails.
     pub fn from_nodes(
         alloc: Global,
         address_space: RangeInclusive,
         nodes: &ReadNodes,
     ) -> std::result::Result<Self, SavedError>
-        ensures answer { (t : Saved) → AreNodesOf nodes.now t
-            → ReadsParts (HasTreeOf address_space t) Tree (made_state result) }
-        // Memory can only run out if the keys can be held.
-        ensures memory { result ≡ Err OutOfMemory → IfSome nodes.now.held (CanBeHeld address_space) }
+        ensures answer { MakesOfNodes (HasTreeOf address_space) Tree nodes.now (made_state result) }
         ensures low { IfOk result (λ allocator. IsLowestTree allocator.tree) }
         ensures state { IfOk result (λ allocator. IsAddressState (state_of allocator)) }
     {
@@ -44,24 +39,22 @@ impl AddressAllocator {
     }
 
     /// Returns the allocator of a saved space in which the allocated keys of a saved tree are
-    /// allocated. The tree can have no nodes, gaps between keys, free neighbours, no balance and any
-    /// heights. Its tree has the minimum height.
+    /// allocated. The saved tree can be empty or unbalanced, with gaps, free neighbours and wrong heights.
+    /// The tree of the allocator has the minimum height.
     ///
     /// # Errors
     ///
     /// In this order:
-    /// - `Violated(Inside)` if a key is not in the space, or if more than 6,293,134,512 keys are
-    ///   allocated.
-    /// - `OutOfMemory` if an allocation fails, or if one failed while the nodes were read.
+    /// - The error of reading the nodes.
+    /// - `Violated(Inside)` if the nodes are not one whole tree, if a key is not in the space, or if more
+    ///   than 6,293,134,512 keys are allocated.
+    /// - `OutOfMemory` if an allocation fails.
     pub fn from_nodes_repaired(
         alloc: Global,
         address_space: RangeInclusive,
         nodes: &ReadNodes,
     ) -> std::result::Result<Self, SavedError>
-        ensures answer { (t : Saved) → AreNodesOf nodes.now t
-            → ReadsParts (HasHeldKeys address_space t) Inside (made_state result) }
-        // Memory can only run out if the keys can be held.
-        ensures memory { result ≡ Err OutOfMemory → IfSome nodes.now.held (CanBeHeld address_space) }
+        ensures answer { MakesOfNodes (HasHeldKeys address_space) Inside nodes.now (made_state result) }
         ensures low { IfOk result (λ allocator. IsLowestTree allocator.tree) }
         ensures state { IfOk result (λ allocator. IsAddressState (state_of allocator)) }
     {

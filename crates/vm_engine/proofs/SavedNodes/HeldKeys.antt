@@ -10,7 +10,7 @@ use Rattle.vm_tree.specs.Building.{TOO_MANY_BLOCKS}
 use Rattle.vm_engine.specs.Tree.Blocks.{blocks_of}
 use Rattle.vm_tree.specs.Shape.{Shape}
 use Rattle.vm_engine.specs.Tree.SpaceTree.{tree_state, made_tree}
-use Rattle.vm_engine.specs.Checks.HeldKeys.{CanBeHeld, HoldsKeys, HoldsKept}
+use Rattle.vm_engine.specs.Checks.HeldKeys.{CanBeHeld, HoldsKeys}
 use Rattle.vm_engine.specs.Checks.Spans.{StandsFor, is_inside, is_tree_of}
 use Rattle.vm_engine.specs.declared.saved.span.Span.{Span}
 use Rattle.vm_ranges.specs.Saving.{ReadsParts}
@@ -18,7 +18,6 @@ use Rattle.vm_ranges.specs.declared.saved.Condition.{Condition}
 use Rattle.vm_ranges.specs.declared.saved.Condition.TheVariants.{Inside, Tree}
 use Rattle.vm_ranges.specs.declared.saved.SavedError.{SavedError}
 use Rattle.vm_ranges.specs.declared.saved.SavedError.TheVariants as saved
-use Rattle.vm_engine.specs.Values.NodesRead.{NodesRead, AreNodesOf}
 use Rattle.vm_engine.specs.Values.SavedTrees.{Saved, shape_of, saved_blocks, held_keys, HasHeldKeys, HasTreeOf}
 use Rattle.vm_ranges.specs.declared.error.Error.{Error}
 use Rattle.vm_ranges.specs.declared.error.Error.TheVariants.{Overflow, ResourceNotAvailable, OutOfMemory}
@@ -105,35 +104,16 @@ can_hold_strict space t x keys range e h =
     record { in_order = no_fault space.start space.end keys (omega (arith, range.1)) order; few = omega (arith, few, ap length same) }
 
 -- ---- The result of a tree with the keys
-pub held_if_memory : (space : Range) (kept : Option (List Range)) (condition : Condition) (answer : Result Shape SavedError) → HoldsKept space kept condition (made_tree answer) → answer ≡ Err saved.OutOfMemory → IfSome kept (CanBeHeld space)
-held_if_memory space None condition answer h e = tt
-held_if_memory space (Some keys) condition answer h e = subst (λ (v : Result Shape SavedError). HoldsKeys space keys condition (made_tree v)) e h
+pub held_space : (space : Range) (keys : List Range) (condition : Condition) (answer : Result Shape SavedError) → HoldsKeys space keys condition (made_tree answer) → IfOk answer (λ tree. (tree_state tree).space ≡ space)
+held_space space keys condition (Ok tree) h = made_space space keys (tree_state tree) h
+held_space space keys condition (Err e) h = tt
 
-pub held_space : (space : Range) (kept : Option (List Range)) (condition : Condition) (answer : Result Shape SavedError) → HoldsKept space kept condition (made_tree answer) → IfOk answer (λ tree. (tree_state tree).space ≡ space)
-held_space space None condition (Ok tree) h = absurd (cc h)
-held_space space (Some keys) condition (Ok tree) h = made_space space keys (tree_state tree) h
-held_space space kept condition (Err e) h = tt
-
-strict_keys : (space : Range) (o : Option Span) (t : Saved) (keys : List Range) (answer : Result AddressState SavedError) → IsRange space.start space.end → StandsFor o t → keys ≡ held_keys t → is_tree_of space o ≡ true → HoldsKeys space keys Tree answer → ReadsParts (HasTreeOf space t) Tree answer
+pub strict_keys : (space : Range) (o : Option Span) (t : Saved) (keys : List Range) (answer : Result AddressState SavedError) → IsRange space.start space.end → StandsFor o t → keys ≡ held_keys t → is_tree_of space o ≡ true → HoldsKeys space keys Tree answer → ReadsParts (HasTreeOf space t) Tree answer
 strict_keys space o t keys (Ok made) range s e is h = strict_made space o t keys made s is e h
 strict_keys space o t keys (Err (saved.Violated c)) range s e is h = (h.0, λ x. h.1 (can_hold_strict space t x.0 keys range e x.1))
 strict_keys space o t keys (Err saved.OutOfMemory) range s e is h = strict_state space o t s is
 
-pub strict_answer : (space : Range) (t : Saved) (nodes : NodesRead) (answer : Result AddressState SavedError) → IsRange space.start space.end → AreNodesOf nodes t → is_tree_of space nodes.root ≡ true → HoldsKept space nodes.held Tree answer → ReadsParts (HasTreeOf space t) Tree answer
-strict_answer space t nodes answer range n is h =
-    elim nodes.held as (λ k. IfSome k (λ keys. keys ≡ held_keys t) → HoldsKept space k Tree answer → ReadsParts (HasTreeOf space t) Tree answer) [
-      | None ↦ λ k e. rw e (strict_state space nodes.root t n.span is)
-      | Some keys ↦ λ k e. strict_keys space nodes.root t keys answer range n.span k is e
-    ] n.keys h
-
-repaired_keys : (space : Range) (o : Option Span) (t : Saved) (keys : List Range) (answer : Result AddressState SavedError) → IsRange space.start space.end → StandsFor o t → keys ≡ held_keys t → is_inside space o ≡ true → HoldsKeys space keys Inside answer → ReadsParts (HasHeldKeys space t) Inside answer
+pub repaired_keys : (space : Range) (o : Option Span) (t : Saved) (keys : List Range) (answer : Result AddressState SavedError) → IsRange space.start space.end → StandsFor o t → keys ≡ held_keys t → is_inside space o ≡ true → HoldsKeys space keys Inside answer → ReadsParts (HasHeldKeys space t) Inside answer
 repaired_keys space o t keys (Ok made) range s e is h = repaired_made space o t keys made (omega (arith, range.1)) s is e h
 repaired_keys space o t keys (Err (saved.Violated c)) range s e is h = (h.0, λ x. h.1 (can_hold_repaired space t x.0 keys range e x.1))
 repaired_keys space o t keys (Err saved.OutOfMemory) range s e is h = repaired_state space o t (omega (arith, range.1)) s is
-
-pub repaired_answer : (space : Range) (t : Saved) (nodes : NodesRead) (answer : Result AddressState SavedError) → IsRange space.start space.end → AreNodesOf nodes t → is_inside space nodes.root ≡ true → HoldsKept space nodes.held Inside answer → ReadsParts (HasHeldKeys space t) Inside answer
-repaired_answer space t nodes answer range n is h =
-    elim nodes.held as (λ k. IfSome k (λ keys. keys ≡ held_keys t) → HoldsKept space k Inside answer → ReadsParts (HasHeldKeys space t) Inside answer) [
-      | None ↦ λ k e. rw e (repaired_state space nodes.root t (omega (arith, range.1)) n.span is)
-      | Some keys ↦ λ k e. repaired_keys space nodes.root t keys answer range n.span k is e
-    ] n.keys h

@@ -8,13 +8,13 @@ use Rattle.vm_ranges.specs.Saving.{Saves}
 use Rattle.vm_ranges.specs.declared.error.Error.{Error}
 use Rattle.vm_tree.specs.Shape.{Shape, blocks}
 use Rattle.vm_engine.specs.Address.{AddressState}
-use Rattle.vm_engine.specs.Checks.ValueNodes.{EncodesSaved}
+use Rattle.vm_engine.specs.Checks.ValueNodes.{EncodesSaved, WritesTree}
 use Rattle.vm_engine.specs.Laws.SavedLaws.{ValuesAreSavedTrees, ValuesHaveHeldKeys}
 use Rattle.vm_engine.specs.Tree.SpaceTree.{tree_state, IsSpaceTree}
 use Rattle.vm_engine.specs.Values.NodeTree.{Tip}
 use Rattle.vm_engine.specs.Values.SavedTrees.{Saved, Absent, Node, shape_of, HasTreeOf}
 use Rattle.vm_engine.specs.Values.TreeValues.{EncodesNode, EncodesSpaceTree}
-use Rattle.vm_engine.specs.Values.WrittenTrees.{IsWritten, WritesNode}
+use Rattle.vm_engine.specs.Values.WrittenTrees.{WritesNode}
 use Rattle.vm_engine.specs.declared.saved.written.WrittenNode.{WrittenNode}
 use Rattle.vm_leaf.specs.declared.block.Block.{Block}
 use Rattle.vm_engine.proofs.SavedNodes.SavedTreeLaws.{nodes_are_written, written_is_read}
@@ -78,13 +78,13 @@ values_have_held_keys = record {
 pub ruleset values = (values_are_saved_trees, values_have_held_keys)
 
 -- ---- The value that is written
-pub value_written : (s : Shape) (answer : Result Value Error) → IsSpaceTree s → Saves (λ d. (t : Saved) × IsWritten (blocks s) t × EncodesSaved d t) answer → Saves (λ d. EncodesSpaceTree d (tree_state s).space (tree_state s)) answer
+pub value_written : (s : Shape) (answer : Result Value Error) → IsSpaceTree s → Saves (WritesTree (blocks s)) answer → Saves (λ d. EncodesSpaceTree d (tree_state s).space (tree_state s)) answer
 value_written s (Ok v) h w = strict_value (view v) (tree_state s).space (tree_state s) w.0 w.2 (written_is_read s w.0 h w.1)
 value_written s (Err e) h w = w
 
 -- The value of a node, by the values of its children.
-pub node_written : (bs : List Block) (n : WrittenNode) (left right : Data) (answer : Result Value Error) → WritesNode bs (Some n) → ((x : Saved) × IsWritten n.left.blocks.now x × EncodesSaved left x) → ((x : Saved) × IsWritten n.right.blocks.now x × EncodesSaved right x)
-    → Saves (λ d. EncodesNode d (record { key = n.key; state = n.state }) (λ v. v ≡ left) (λ v. v ≡ right) n.height) answer → Saves (λ d. (x : Saved) × IsWritten bs x × EncodesSaved d x) answer
+pub node_written : (bs : List Block) (n : WrittenNode) (left right : Data) (answer : Result Value Error) → WritesNode bs (Some n) → WritesTree n.left.blocks.now left → WritesTree n.right.blocks.now right
+    → Saves (λ d. EncodesNode d (record { key = n.key; state = n.state }) (λ v. v ≡ left) (λ v. v ≡ right) n.height) answer → Saves (WritesTree bs) answer
 node_written bs n left right (Ok v) w l r e =
     let b : Block = record { key = n.key; state = n.state } in
     (Node l.0 b r.0 n.height, nodes_are_written bs n l.0 r.0 w l.1 r.1, encodes_fork (view v) left right n.height b l.0 r.0 e l.2 r.2)

@@ -1,5 +1,5 @@
 -- The keys of a saved tree as held ranges of a space.
-use Rattle.std.specs.Prelude.{◌≡◌, ◌<◌, List, length, Option, Some, None, Result, Ok, Err}
+use Rattle.std.specs.Prelude.{◌≡◌, ◌<◌, List, length, None, Result, Ok, Err}
 use Rattle.vm_ranges.specs.Range.{Range}
 use Rattle.vm_engine.specs.Address.{AddressState}
 use Rattle.vm_engine.specs.Held.{first_fault, MakesHeld}
@@ -20,8 +20,3 @@ abbrev pub HoldsKeys : Range → List Range → Condition → Result AddressStat
 HoldsKeys space keys condition (Ok state) = MakesHeld space keys (Ok state)
 HoldsKeys space keys condition (Err (Violated c)) = (c ≡ condition) × ¬ CanBeHeld space keys
 HoldsKeys space keys condition (Err OutOfMemory) = CanBeHeld space keys
-
--- The result of holding the keys that are kept. It is OutOfMemory if none are.
-abbrev pub HoldsKept : Range → Option (List Range) → Condition → Result AddressState SavedError → Type 0
-HoldsKept space None condition answer = answer ≡ Err OutOfMemory
-HoldsKept space (Some keys) condition answer = HoldsKeys space keys condition answer

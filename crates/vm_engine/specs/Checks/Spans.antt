@@ -1,9 +1,6 @@
 -- The span of a subtree that was read. Only this and the held keys are kept of it. The lemmas of proofs/SavedNodes show which
 -- subtrees have a span.
-use Rattle.std.specs.Prelude.{◌≡◌, ℕ, ◌+◌, min, max, Bool, true, false, not, ◌&&◌, ◌||◌, ◌==◌, nat_lt, nat_le, ◌^◌, ◌-◌, if◌then◌else◌, Option, Some, None, option_and_then, List, [], ◌∷◌, ◌++◌, length, ◌<◌, ◌⊎◌, IfSome, Result, MatchResult}
-use Rattle.vm_ranges.specs.declared.saved.SavedError.{SavedError}
-use Rattle.vm_ranges.specs.declared.saved.SavedError.TheVariants.{Violated}
-use Rattle.vm_ranges.specs.declared.saved.Condition.TheVariants.{Keys}
+use Rattle.std.specs.Prelude.{◌≡◌, ℕ, ◌+◌, min, max, Bool, true, false, not, ◌&&◌, ◌||◌, ◌==◌, nat_lt, nat_le, ◌^◌, ◌-◌, if◌then◌else◌, Option, Some, None, option_and_then}
 use Rattle.vm_ranges.specs.Range.{Range, MAX}
 use Rattle.vm_leaf.specs.declared.block.Block.{Block}
 use Rattle.vm_leaf.specs.Block.{is_free}
@@ -117,47 +114,3 @@ abbrev pub is_tree_of : Range → Option Span → Bool
 is_tree_of space None = false
 is_tree_of space (Some s) =
     (s.is_exact && nat_le s.nesting MAX_HEIGHT) && ((s.first == space.start) && (s.last == space.end))
-
--- The list is `before` and then the keys of both children, of the right child first if that was read first. In the example of
--- `StandsFor` the list is [0 to 3] before the root ends: `before` and `rights` are empty, and `lefts` is [0 to 3].
-abbrev pub EndsWithKeys : List Range → List Range → List Range → List Range → Type 0
-EndsWithKeys list before lefts rights =
-    (list ≡ before ++ (lefts ++ rights)) ⊎ (list ≡ before ++ (rights ++ lefts))
-
--- Each range of the list starts below n.
-abbrev pub StartBelow : ℕ → List Range → Type 0
-StartBelow n [] = Unit {0}
-StartBelow n (r ∷ rs) = (r.start < n) × StartBelow n rs
-
--- Each range of the list starts above n.
-abbrev pub StartAbove : ℕ → List Range → Type 0
-StartAbove n [] = Unit {0}
-StartAbove n (r ∷ rs) = (n < r.start) × StartAbove n rs
-
--- All keys of the first list start below k, and all of the second above.
-pub record AreAround (k : Range) (lefts rights : List Range) : Type 0 where
-  pub lefts_below : StartBelow k.start lefts
-  pub rights_above : StartAbove k.start rights
-
--- The old list ends with so many keys of the left and of the right child of a node with this key. Then the new one has them
--- in order, and the key's place is between them. Otherwise nothing is known.
-unfoldable pub Arranges : List Range → ℕ → Range → ℕ → Option ℕ → List Range → Type 0
-Arranges old left key right answer new =
-    (before lefts rights : List Range) → length lefts ≡ left → length rights ≡ right → AreAround key lefts rights →
-    EndsWithKeys old before lefts rights →
-    (answer ≡ Some (length (before ++ lefts))) × (new ≡ before ++ (lefts ++ rights))
-
--- The result of the end of a node, if its children are those of two saved trees. The keys that are kept are those of all
--- nodes that ended outside the node, and then those of its children.
--- - Ok if the tree of the node is readable. Then the span stands for it, and the keys that are kept have its keys in order.
--- - Violated Keys if it is not readable.
---
--- In the example of `StandsFor` the root ends with its span, and the keys that are kept are then [0 to 3, 4 to 9].
-unfoldable pub EndsNode : Option (List Range) → Option Span → Block → Option Span → ℕ → Result Span SavedError → Option (List Range) → Type 0
-EndsNode old left b right height answer new =
-    (before : List Range) (l r : Saved) → StandsFor left l → StandsFor right r →
-    IfSome old (λ keys. EndsWithKeys keys before (held_keys l) (held_keys r)) →
-    MatchResult answer
-    (λ s. StandsFor (Some s) (Node l b r height)
-    × IfSome new (λ keys. keys ≡ before ++ held_keys (Node l b r height)))
-    (λ e. (e ≡ Violated Keys) × ¬ ((s : Span) × StandsFor (Some s) (Node l b r height)))

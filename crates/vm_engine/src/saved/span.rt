@@ -2,7 +2,7 @@
 //!
 //! A node can be checked if its block and the spans of its children are known. So no tree is needed
 //! to decide whether a saved tree is valid.
-ghost use Rattle.std.specs.Prelude.{◌≡◌, ◌+◌, ◌<◌, ◌^◌, OnSome};
+ghost use Rattle.std.specs.Prelude.{◌≡◌, ◌+◌, ◌<◌, ◌^◌};
 ghost use Rattle.vm_ranges.specs.Range.{IsRange};
 ghost use Rattle.vm_engine.specs.Checks.NodeChecks.{is_correct_height};
 ghost use Rattle.vm_engine.specs.Checks.Spans.{nesting_of, held_in, ends_below, starts_above, can_join, joins_left, joins_right, is_exact_over, joined, span_over, is_inside, is_tree_of, held_over, first_of, last_of};
@@ -22,7 +22,7 @@ pub(super) const MAX_HEIGHT: u64 = 49;
 /// Its keys are in ascending order and share no address, no allocated key ends at `u64::MAX`, and
 /// its nodes are nested at most 50 deep.
 #[derive(Clone, Copy)]
-pub struct Span {
+pub(super) struct Span {
     /// The start of the first key.
     first: u64,
     /// The end of the last key.
@@ -52,12 +52,12 @@ pub(super) fn span_over(
     height: u64,
 ) -> Option<Span>
     ensures span { result ≡ span_over left.now (record { key = key.now; state = state }) right.now height }
-    ensures range { OnSome result (IsRange key.now.start key.now.end) }
+    ensures range { IsRange key.now.start key.now.end }
 {
+    let (first, first_state) = first_of(left, key, state);
     if !can_join(left, key, state, right) {
         return None;
     }
-    let (first, first_state) = first_of(left, key, state);
     let (last, last_state) = last_of(right, key, state);
     Some(Span {
         first,

@@ -1,26 +1,27 @@
 //! Encodes a tree as a value, and decodes it.
-ghost use Rattle.std.specs.Prelude.{◌≡◌, ◌≤◌, [], IfOk, IfSome};
+ghost use Rattle.std.specs.Prelude.{◌≡◌, ◌≤◌, ◌++◌, Option, IfOk, OnOk};
 ghost use Rattle.serde_json.specs.View.{view};
 ghost use Rattle.vm_ranges.specs.Saving.{Saves, Reads};
 ghost use Rattle.vm_tree.specs.Building.{IsLowestTree};
+ghost use Rattle.vm_tree.specs.Shape.{blocks};
 ghost use Rattle.vm_engine.specs.Address.{IsAddressState};
-ghost use Rattle.vm_engine.specs.Checks.ValueNodes.{EncodesSaved, ReadsNodes, ReadsValue};
+ghost use Rattle.vm_engine.specs.Checks.ValueNodes.{IsSavedIn, ReadsValue, WritesTree};
 ghost use Rattle.vm_engine.specs.Tree.SpaceTree.{tree_state, made_tree};
-ghost use Rattle.vm_engine.specs.Values.SavedTrees.{Saved};
+ghost use Rattle.vm_engine.specs.Values.SavedTrees.{Saved, held_keys};
+ghost use Rattle.vm_engine.specs.Tree.Blocks.{range_if_held};
+ghost use Rattle.vm_engine.specs.declared.saved.span.Span.{Span};
 ghost use Rattle.vm_engine.specs.Values.TreeValues.{EncodesSpaceTree};
 ghost use Rattle.vm_engine.specs.Values.KeyValues.{MAX_NESTING_REPAIRED, EncodesKeys};
-ghost use Rattle.vm_engine.specs.Values.NodesRead.{IsRootOf};
-ghost use Rattle.vm_engine.specs.Values.WrittenTrees.{IsWritten};
 
 use super::node::{decode_node, encode_node};
-use super::nodes::ReadNodes;
-use super::span::{Span, held_in, is_inside, is_tree_of};
+use super::nodes::tree_with;
+use super::span::{MAX_NESTING, Span, held_in, is_inside, is_tree_of, span_over};
 use super::written::{WrittenBlocks, WrittenTree};
 use crate::IntervalTree;
 use serde_json::Value;
-use std::alloc::Global;
+use std::alloc::{AllocError, Global};
 use vm_leaf::Block;
-use vm_ranges::{RangeInclusive, Result, ValueError};
+use vm_ranges::{Condition, NodeState, RangeInclusive, Result, ValueError};
 
 impl IntervalTree {
     /// Returns the value that encodes the tree, with one object for each block.
@@ -29,7 +30,9 @@ impl IntervalTree {
     ///
     /// - `OutOfMemory` if an allocation fails.
     pub fn to_root_value(&self, alloc: Global) -> Result<Value>
-        ensures { Saves (λ d. EncodesSpaceTree d (tree_state self.now).space (tree_state self.now)) result }
+        ensures answer { Saves (λ d. EncodesSpaceTree d (tree_state self.now).space (tree_state self.now)) result }
+        // The blocks decide the saved tree.
+        ensures written { Saves (WritesTree (blocks self.now)) result }
     {
         // Proof: this shows that the tree is valid.
         let _tree = &self.tree;
@@ -40,7 +43,7 @@ impl IntervalTree {
     /// Returns a tree of the space that a value encodes, with the same allocated ranges. It has the minimum
     /// height for its nodes.
     ///
-    /// The check of the value does not allocate, and descends at most 50 levels of the value.
+    /// The check of the value does not allocate, and descends at most 51 levels of the value.
     ///
     /// # Errors
     ///
@@ -58,13 +61,14 @@ impl IntervalTree {
     {
         // Proof: this shows that the space is a range.
         let _end = space.end();
-        let checked = read_nodes(None, value)?;
-        if !is_tree_of(space, &checked.root) {
+        let Some(root) = read_span(value, 0) else {
+            return Err(ValueError::NotAState);
+        };
+        if !is_tree_of(space, &root) {
             return Err(ValueError::NotAState);
         }
-        let list = Vec::with_capacity(alloc, held_in(&checked.root) as usize).ok();
-        let nodes = read_nodes(list, value)?;
-        Ok(Self::from_nodes(alloc, *space, &nodes)?)
+        let held = held_keys(alloc, held_in(&root), value)?;
+        Ok(tree_with(alloc, *space, &held, Condition::Tree)?)
     }
 
     /// Returns a tree of the space in which the allocated keys of a value are allocated. It has the minimum
@@ -95,64 +99,92 @@ impl IntervalTree {
     {
         // Proof: this shows that the space is a range.
         let _end = space.end();
-        let checked = read_nodes(None, value)?;
-        if !is_inside(space, &checked.root) {
+        let Some(root) = read_span(value, 0) else {
+            return Err(ValueError::NotAState);
+        };
+        if !is_inside(space, &root) {
             return Err(ValueError::NotAState);
         }
-        let list = Vec::with_capacity(alloc, held_in(&checked.root) as usize).ok();
-        let nodes = read_nodes(list, value)?;
-        Ok(Self::from_nodes_repaired(alloc, *space, &nodes)?)
+        let held = held_keys(alloc, held_in(&root), value)?;
+        Ok(tree_with(alloc, *space, &held, Condition::Inside)?)
     }
 }
 
-/// Reads the nodes of a value. Their keys are kept if there is a list for them, which must be empty.
-fn read_nodes(
-    held: Option<Vec<RangeInclusive>>,
-    value: &Value,
-) -> std::result::Result<ReadNodes, ValueError>
-    requires { IfSome held (λ list. list.items ≡ []) }
-    ensures { ReadsNodes (view value.now) result }
-{
-    let mut nodes = ReadNodes {
-        held,
-        depth: 0,
-        root: None,
-    };
-    if read_node(&mut nodes, value).is_none() {
-        return Err(ValueError::NotAState);
-    }
-    Ok(nodes)
-}
-
-/// Reads a node and all nodes below it, and returns the span of their tree. Returns `None` if the value does
-/// not have the fields of nodes, or if they are not those of a readable tree.
-fn read_node(nodes: &mut ReadNodes, value: &Value) -> Option<Option<Span>>
-    requires { nodes.old.depth ≤ MAX_NESTING_REPAIRED }
-    ensures value { ReadsValue (view value.now) nodes.old result nodes.new }
-    ensures root { IfSome result (IsRootOf nodes.old nodes.new) }
+/// Reads a node that is nested in `depth` nodes, with all nodes below it, and returns the span of their tree.
+/// Returns `None` if the value does not have the fields of nodes, or if they are not those of a readable tree.
+fn read_span(value: &Value, depth: u64) -> Option<Option<Span>>
+    requires { depth ≤ MAX_NESTING_REPAIRED }
+    ensures { ReadsValue depth (view value.now) result }
 {
     if value.is_null() {
         return Some(None);
     }
-    if nodes.begin().is_err() {
+    if depth >= MAX_NESTING {
         return None;
     }
     let Some(node) = decode_node(value) else {
         return None;
     };
-    let left = read_node(nodes, node.left)?;
-    let right = read_node(nodes, node.right)?;
-    let Ok(span) = nodes.end(left, node.key, node.state, right, node.height) else {
-        return None;
-    };
+    let left = read_span(node.left, depth + 1)?;
+    let right = read_span(node.right, depth + 1)?;
+    let span = span_over(&left, &node.key, node.state, &right, node.height)?;
     Some(Some(span))
+}
+
+/// Returns the allocated keys of a value with the nodes of a readable tree, in ascending order. `count` is
+/// their number.
+fn held_keys(
+    alloc: Global,
+    count: u64,
+    value: &Value,
+) -> std::result::Result<Vec<RangeInclusive>, AllocError>
+    ensures { IfOk result (λ list. (span : Option Span) (t : Saved) → IsSavedIn 0 (view value.now) span t
+        → list.items ≡ held_keys t) }
+{
+    let mut held = Vec::with_capacity(alloc, count as usize)?;
+    append_held(value, 0, &mut held)?;
+    Ok(held)
+}
+
+/// Appends the allocated keys of a value that is nested in `depth` nodes.
+fn append_held(
+    value: &Value,
+    depth: u64,
+    held: &mut Vec<RangeInclusive>,
+) -> std::result::Result<(), AllocError>
+    ensures { OnOk result ((span : Option Span) (t : Saved) → IsSavedIn depth (view value.now) span t
+        → held.new.items ≡ held.old.items ++ held_keys t) }
+{
+    let Some(node) = decode_node(value) else {
+        return Ok(());
+    };
+    if depth >= MAX_NESTING {
+        return Ok(());
+    }
+    append_held(node.left, depth + 1, held)?;
+    push_held(held, node.key, node.state)?;
+    append_held(node.right, depth + 1, held)
+}
+
+/// Appends the key of a node, if it is allocated.
+fn push_held(
+    held: &mut Vec<RangeInclusive>,
+    key: RangeInclusive,
+    state: NodeState,
+) -> std::result::Result<(), AllocError>
+    ensures { OnOk result (held.new.items ≡ held.old.items ++ range_if_held state key) }
+{
+    if state == NodeState::Allocated {
+        held.push(key)?;
+    }
+    Ok(())
 }
 
 /// Returns the value that encodes a saved tree.
 ///
 /// It returns `OutOfMemory` if an allocation fails.
 fn encode(tree: WrittenTree<'_>, alloc: Global) -> Result<Value>
-    ensures { Saves (λ d. (t : Saved) × IsWritten tree.entry.blocks.now t × EncodesSaved d t) result }
+    ensures { Saves (WritesTree tree.entry.blocks.now) result }
 {
     let Some(node) = tree.root() else {
         return Ok(Value::Null);

@@ -1,32 +1,29 @@
-use Rattle.std.proofs.Common.{sym, ◌∙◌, rules}
+use Rattle.std.proofs.Common.{◌≡◌, Some, Err, sym, ◌∙◌, rules}
+use Rattle.vm_ranges.specs.declared.saved.SavedError.TheVariants.{OutOfMemory}
 use Rattle.vm_leaf.specs.declared.block.Block.{Block}
-use Rattle.vm_engine.specs.Checks.Spans.{Arranges, held_in}
-use Rattle.vm_engine.proofs.SavedNodes.Ending.{end_none, end_unkept, end_lost, end_free, end_held}
+use Rattle.vm_engine.specs.Checks.Spans.{held_in}
+use Rattle.vm_engine.proofs.SavedNodes.Stored.{InsertsKey, OrdersKeys, child_is_there, not_readable, no_memory, node_ends}
 use Rattle.vm_engine.proofs.saved.nodes.end_in.Goals as goal
 
-pub returns-in_default : goal.returns-in_default
-returns-in_default c = end_none _ _ c.args.left c.args.right (record { key = c.args.key; state = c.args.state }) c.args.height (sym c.span_over.ensures.span ∙ c.in_default.is)
+pub returns-then-has_child : goal.returns-then-has_child
+returns-then-has_child c =
+    child_is_there c.args.side (record { key = c.args.key; state = c.args.state }) c.args.height _ _ _ _ _ c.in-Some.ensures.items (sym c.has_child.ensures ∙ c.if-has_child.true)
 
-pub returns-in_default-held : goal.returns-in_default-held
-returns-in_default-held c = rw c.in_default-held.is (end_unkept c.args.left c.args.right (record { key = c.args.key; state = c.args.state }) c.args.height c.in-Some.span (sym c.span_over.ensures.span ∙ c.in-Some.is) c.in-Some.ensures.range _)
+pub returns-in_default-span_over : goal.returns-in_default-span_over
+returns-in_default-span_over c =
+    not_readable c.args.side (record { key = c.args.key; state = c.args.state }) c.args.height _ _ _ _ _ c.in-Some.ensures.items (sym c.has_child.ensures ∙ c.if-has_child.false) c.span_over.ensures.range
+    (sym c.span_over.ensures.span ∙ c.in_default-span_over.is)
 
-pub returns-in_default-arrange : goal.returns-in_default-arrange
-returns-in_default-arrange c =
+pub returns-in_err-insert_key : goal.returns-in_err-insert_key
+returns-in_err-insert_key c =
+    let is : c.from_residual.result ≡ Err OutOfMemory = search rules in
+    rw is (no_memory c.args.side (record { key = c.args.key; state = c.args.state }) c.args.height _ _ _ _ _ c.in-Some.ensures.items (sym c.has_child.ensures ∙ c.if-has_child.false) c.span_over.ensures.range
+    c.in-Some-span_over.span (sym c.span_over.ensures.span ∙ c.in-Some-span_over.is))
+
+pub returns : goal.returns
+returns c =
     let b : Block = record { key = c.args.key; state = c.args.state } in
-    let arranged : Arranges c.in-Some-held.list.items (held_in c.args.left) c.args.key (held_in c.args.right) c.arrange.result c.arrange.new.list.items = rw (sym c.held_in.ensures, sym c.held_in-2.ensures) c.arrange.ensures.arranged in
-    rw c.in-Some-held.is (end_lost c.args.left c.args.right b c.args.height c.in-Some.span (sym c.span_over.ensures.span ∙ c.in-Some.is) c.in-Some.ensures.range c.in-Some-held.list.items c.arrange.result c.arrange.new.list.items arranged _ c.in_default-arrange.is)
-
-pub returns-then-eq : goal.returns-then-eq
-returns-then-eq c =
-    let b : Block = record { key = c.args.key; state = c.args.state } in
-    let arranged : Arranges c.in-Some-held.list.items (held_in c.args.left) c.args.key (held_in c.args.right) c.arrange.result c.arrange.new.list.items = rw (sym c.held_in.ensures, sym c.held_in-2.ensures) c.arrange.ensures.arranged in
-    rw c.in-Some-held.is (end_free c.args.left c.args.right b c.args.height c.in-Some.span (sym c.span_over.ensures.span ∙ c.in-Some.is) c.in-Some.ensures.range c.in-Some-held.list.items c.arrange.result c.arrange.new.list.items arranged (search rules))
-
-pub returns-then-is_err : goal.returns-then-is_err
-returns-then-is_err c = end_unkept c.args.left c.args.right (record { key = c.args.key; state = c.args.state }) c.args.height c.in-Some.span (sym c.span_over.ensures.span ∙ c.in-Some.is) c.in-Some.ensures.range _
-
-pub returns-else-is_err : goal.returns-else-is_err
-returns-else-is_err c =
-    let b : Block = record { key = c.args.key; state = c.args.state } in
-    let arranged : Arranges c.in-Some-held.list.items (held_in c.args.left) c.args.key (held_in c.args.right) c.arrange.result c.arrange.new.list.items = rw (sym c.held_in.ensures, sym c.held_in-2.ensures) c.arrange.ensures.arranged in
-    rw c.in-Some-held.is (end_held c.args.left c.args.right b c.args.height c.in-Some.span (sym c.span_over.ensures.span ∙ c.in-Some.is) c.in-Some.ensures.range c.in-Some-held.list.items c.arrange.result c.arrange.new.list.items arranged c.insert.new.self.items c.in-Some-arrange.place (search rules) c.in-Some-arrange.is (search rules))
+    let inserted : InsertsKey c.args.held.now.items (held_in c.args.children.now.right) b c.insert_key.new.held.items = rw (sym c.held_in.ensures) c.in_ok-insert_key.ensures in
+    let ordered : OrdersKeys c.insert_key.new.held.items (held_in c.in-Some.parent.right) (held_in (Some c.in-Some-span_over.span)) c.order_keys.new.held.items = rw (sym c.held_in-2.ensures, sym c.held_in-3.ensures) c.order_keys.ensures in
+    node_ends c.args.side b c.args.height _ _ _ _ _ c.in-Some.ensures.items (sym c.has_child.ensures ∙ c.if-has_child.false) c.span_over.ensures.range
+    c.in-Some-span_over.span (sym c.span_over.ensures.span ∙ c.in-Some-span_over.is) _ _ _ inserted ordered c.with_child.ensures
