@@ -1,10 +1,12 @@
 -- The fields that decoding an allocator's value finds, and the object that encoding builds.
-use Rattle.std.specs.Prelude.{◌≡◌, if◌then◌else◌, Option, Some, None, option_map, option_and_then, codes}
+use Rattle.std.specs.Prelude.{◌≡◌, if◌then◌else◌, List, Option, Some, None, option_map, option_and_then, codes}
 use Rattle.serde_json.specs.Data.{Data}
 use Rattle.serde_json.specs.Find.{get}
 use Rattle.vm_ranges.specs.Fields.{field_count, is_count}
 use Rattle.vm_ranges.specs.Range.{Range}
 use Rattle.vm_ranges.specs.RangeValues.{decoded_range}
+use Rattle.vm_leaf.specs.declared.block.Block.{Block}
+use Rattle.vm_engine.specs.Checks.ValueNodes.{WritesTree}
 
 -- The value is an object with exactly the two fields of an allocator, and a tree with exactly this root.
 pub record AllocatorParts (d space root : Data) : Type 0 where
@@ -25,3 +27,8 @@ decoded_parts d =
     (option_and_then decoded_root (get (codes "interval_tree") d)))
     (option_and_then decoded_range (get (codes "address_space") d))
     else None
+
+-- The value is an object with exactly the two fields of an allocator, and its tree is the one that is written for the blocks. They
+-- decide this tree.
+abbrev pub WritesAllocator : List Block → Data → Type 0
+WritesAllocator bs d = (space root : Data) × AllocatorParts d space root × WritesTree bs root

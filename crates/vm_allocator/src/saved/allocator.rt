@@ -1,13 +1,14 @@
 //! The saved value of an address allocator.
 ghost use Rattle.std.specs.Prelude.{◌≡◌, IfOk, option_map};
 ghost use Rattle.serde_json.specs.View.{view};
+ghost use Rattle.vm_tree.specs.Shape.{blocks};
 ghost use Rattle.vm_tree.specs.Building.{IsLowestTree};
 ghost use Rattle.vm_engine.specs.Address.{IsAddressState};
 ghost use Rattle.vm_ranges.specs.Saving.{Saves, Reads};
 ghost use Rattle.vm_allocator.specs.Allocator.{state_of, made_state};
 ghost use Rattle.vm_allocator.specs.Values.AllocatorValues.{EncodesAddresses};
 ghost use Rattle.vm_allocator.specs.Values.RepairedValues.{EncodesRepaired};
-ghost use Rattle.vm_allocator.specs.Checks.AllocatorChecks.{AllocatorParts, decoded_parts, decoded_root};
+ghost use Rattle.vm_allocator.specs.Checks.AllocatorChecks.{AllocatorParts, WritesAllocator, decoded_parts, decoded_root};
 
 use crate::address_allocator::AddressAllocator;
 use serde_json::{Value, json};
@@ -23,7 +24,9 @@ impl AddressAllocator {
     /// - `OutOfMemory` if an allocation fails.
     #[tactic(auto, using(crate::proofs::Reading::WrittenAllocators::allocators))]
     pub fn to_value(&self, alloc: Global) -> Result<Value>
-        ensures { Saves (λ d. EncodesAddresses d (state_of self.now)) result }
+        ensures answer { Saves (λ d. EncodesAddresses d (state_of self.now)) result }
+        // The blocks decide the saved tree.
+        ensures written { Saves (WritesAllocator (blocks self.now.tree)) result }
     {
         let root = self.interval_tree.to_root_value(alloc)?;
         let space = self.address_space.to_value(alloc)?;
@@ -34,7 +37,7 @@ impl AddressAllocator {
     /// height.
     ///
     /// The value can be untrusted input. All of it is checked before anything is allocated, and the
-    /// check descends at most 50 levels.
+    /// check descends at most 51 levels.
     ///
     /// # Errors
     ///
