@@ -99,7 +99,7 @@ settles_left seek spot m r (Ok taken) h =
 settles_left seek spot m r (Err NoPlace) h = h
 settles_left seek spot m r (Err Held) h = h
 settles_left seek spot m r (Err PastMax) h = h
-settles_left seek spot m r (Err OutOfMemory) h = (record { below = h.0.below; splits = h.0.splits }, h.1)
+settles_left seek spot m r (Err (OutOfMemory e)) h = (record { below = h.0.below; splits = h.0.splits }, h.1)
 settles_left seek spot m r (Err TooHigh) h = (record { below = h.0.below; splits = h.0.splits }, h.1)
 
 pub settles_right : (seek : Search) (spot : Spot) (l m : List Block) (answer : Result Taken Refusal) → SettlesAt seek spot m answer
@@ -116,7 +116,7 @@ settles_right seek spot l m (Ok taken) h =
 settles_right seek spot l m (Err NoPlace) h = h
 settles_right seek spot l m (Err Held) h = h
 settles_right seek spot l m (Err PastMax) h = h
-settles_right seek spot l m (Err OutOfMemory) h = (record { below = h.0.below; splits = h.0.splits }, h.1)
+settles_right seek spot l m (Err (OutOfMemory e)) h = (record { below = h.0.below; splits = h.0.splits }, h.1)
 settles_right seek spot l m (Err TooHigh) h = (record { below = h.0.below; splits = h.0.splits }, h.1)
 
 -- The result does not name the change.

@@ -149,7 +149,7 @@ no_place (Ok taken) = inr (λ e. absurd (cc))
 no_place (Err NoPlace) = inl refl
 no_place (Err Held) = inr (λ e. absurd (cc))
 no_place (Err PastMax) = inr (λ e. absurd (cc))
-no_place (Err OutOfMemory) = inr (λ e. absurd (cc))
+no_place (Err (OutOfMemory x)) = inr (λ e. absurd (cc))
 no_place (Err TooHigh) = inr (λ e. absurd (cc))
 
 -- ---- The place that is closest to an end

@@ -84,7 +84,7 @@ SettlesAt search spot new (Ok taken) = IsTakenAt search spot new taken
 SettlesAt search spot new (Err NoPlace) = ⊥
 SettlesAt search spot new (Err Held) = ⊥
 SettlesAt search spot new (Err PastMax) = (range_at search spot).end ≡ MAX
-SettlesAt search spot new (Err OutOfMemory) = IsSplitAt search spot × (search.can_split ≡ true)
+SettlesAt search spot new (Err (OutOfMemory e)) = IsSplitAt search spot × (search.can_split ≡ true)
 SettlesAt search spot new (Err TooHigh) = IsSplitAt search spot × (search.can_split ≡ false)
 
 -- The place of the search that is closest to the end is allocated, or its error is returned. NoPlace if there is no place.

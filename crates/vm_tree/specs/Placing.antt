@@ -56,7 +56,7 @@ RefusesClaim search claim None = (claim.range.end < MAX) × (0 < added_by claim.
 RefusesClaim search claim (Some NoPlace) = ⊥
 RefusesClaim search claim (Some Held) = ⊥
 RefusesClaim search claim (Some PastMax) = claim.range.end ≡ MAX
-RefusesClaim search claim (Some OutOfMemory) = ⊥
+RefusesClaim search claim (Some (OutOfMemory e)) = ⊥
 RefusesClaim search claim (Some TooHigh) = (claim.range.end < MAX) × (0 < added_by claim.left) × (search.can_split ≡ false)
 
 -- The start t of a search is in the blocks and in the window, and its range ends at most at MAX.

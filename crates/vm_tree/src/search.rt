@@ -3,7 +3,7 @@ ghost use Rattle.std.specs.Prelude.{◌≡◌};
 ghost use Rattle.vm_tree.specs.declared.search.Refusal.TheVariants.{OutOfMemory};
 
 use crate::change::Change;
-use std::alloc::AllocFailed;
+use std::alloc::AllocError;
 
 /// A search for a place: `size` addresses at a multiple of `alignment`, between `low` and `high`.
 #[derive(Clone, Copy)]
@@ -40,16 +40,16 @@ pub enum Refusal {
     Held,
     /// The range would end at `u64::MAX`.
     PastMax,
-    /// An allocation of memory failed.
-    OutOfMemory,
+    /// An allocation of memory failed, with this error.
+    OutOfMemory(AllocError),
     /// The range does not fill its gap, and gaps cannot be split.
     TooHigh,
 }
 
-impl<T: Drop> From<AllocFailed<T>> for Refusal {
-    ghost from_gives = { λ _ refusal. refusal ≡ OutOfMemory };
+impl From<AllocError> for Refusal {
+    ghost from_gives = { λ error refusal. refusal ≡ OutOfMemory error };
 
-    fn from(_error: AllocFailed<T>) -> Refusal {
-        Refusal::OutOfMemory
+    fn from(error: AllocError) -> Refusal {
+        Refusal::OutOfMemory(error)
     }
 }

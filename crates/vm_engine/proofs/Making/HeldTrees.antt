@@ -9,6 +9,7 @@ use Rattle.vm_tree.specs.Shape.{Shape, blocks}
 use Rattle.vm_engine.specs.Tree.SpaceTree.{tree_state, IsSpaceTree}
 use Rattle.vm_engine.specs.Queries.{count_of}
 use Rattle.vm_ranges.specs.Cases.{IfElse}
+use Rattle.vm_engine.specs.Checks.HeldKeys.{CanBeHeld}
 use Rattle.vm_engine.specs.Held.{first_fault, MakesHeld}
 use Rattle.vm_tree.specs.Building.{TOO_MANY_BLOCKS}
 use Rattle.vm_tree.specs.Building.{IsBuiltTree}
@@ -67,10 +68,6 @@ module _ (space : Range) (held : List Range) (range : IsRange space.start space.
       let e = space_tiled space (blocks s) tiling.tiles range.0 in
       ap (λ (v : Range). record { space = v; held = held_of (blocks s) }) e ∙ ap (λ (v : List Range). record { space = space; held = v }) held_are
 
-  pub makes_tree : first_fault space.start space.end held ≡ None → MakesHeld space held (Ok (tree_state s))
-  unfolding MakesHeld blocks_of
-  makes_tree f = rw f (inr (λ h. omega (arith, h), inl (ap (λ (v : AddressState). Ok v) built_state)))
-
   pub built_is_state : IsAddressState (tree_state s)
   built_is_state = subst IsAddressState (sym built_state) (record { space = range; in_order = order })
 
@@ -97,4 +94,16 @@ held_made space held made m =
     let state : AddressState = record { space = space; held = held } in
     made_is (first_fault space.start space.end held) (TOO_MANY_BLOCKS ≤ length (blocks_of state)) (Ok made) state made m refl
 
-pub ruleset makings = (built_tree, built_is_state, makes_tree, makes_fault, makes_high, makes_memory)
+pub makes_tree : (space : Range) (held : List Range) (n : ℕ) (made : AddressState) → first_fault space.start space.end held ≡ None → n ≡ length (blocks_between space.start held space.end) → n < 2 ^ 49 →
+    made ≡ record { space = space; held = held } → MakesHeld space held (Ok made)
+unfolding MakesHeld blocks_of
+makes_tree space held n made f c l e = rw f (inr (λ h. omega (arith, h), inl (ap (λ (v : AddressState). Ok v) e)))
+
+-- Ranges that can be held are counted, and their blocks are few.
+pub held_are_few : (space : Range) (held : List Range) (n : ℕ) → CanBeHeld space held → n ≡ length (blocks_between space.start held space.end) → n < 2 ^ 49
+unfolding blocks_of
+held_are_few space held n can c = let few = can.few in omega (arith, few)
+
+pub ruleset makings = (makes_tree, makes_fault, makes_high, makes_memory)
+
+pub ruleset holdings = (held_are_few)

@@ -145,7 +145,7 @@ module _ (sp : Range) (old : List Block) (tiles : TilesSpace sp old) (search : S
         spot_grants new (Err NoPlace) u h = absurd h
         spot_grants new (Err Held) u h = absurd h
         spot_grants new (Err PastMax) u h = rw u (if_in_window o (Err Overflow) (blocks_state sp old) (exact_at_end sp old b search.size a t here e l h))
-        spot_grants new (Err NoMemory) u h = rw u (taken_grants (Err OutOfMemory) (blocks_state sp old) h.0.below (no_memory sp old tiles search z spot is_cut in_gap few h.0 h.1))
+        spot_grants new (Err (NoMemory e)) u h = rw u (taken_grants (Err OutOfMemory) (blocks_state sp old) h.0.below (no_memory sp old tiles search z spot is_cut in_gap few h.0 h.1))
         spot_grants new (Err TooHigh) u h = rw u (taken_grants (Err Overflow) (blocks_state sp old) h.0.below (too_high sp old tiles search z spot is_cut in_gap few h.0 h.1))
 
       free_grants : (new : List Block) (answer : Result Taken Refusal) → OnErr answer (new ≡ old)

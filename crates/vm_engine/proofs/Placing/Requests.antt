@@ -86,7 +86,7 @@ no_place_if n range (Ok taken) e = absurd (cc e)
 no_place_if n range (Err NoPlace) e = refl
 no_place_if n range (Err Held) e = absurd (cc e)
 no_place_if n range (Err PastMax) e = absurd (cc e)
-no_place_if n range (Err NoMemory) e = absurd (cc e)
+no_place_if n range (Err (NoMemory x)) e = absurd (cc e)
 no_place_if n range (Err TooHigh) e = absurd (cc e)
 
 success_path : (n h count : ℕ) (range : Range) (found : Result Taken Refusal) → (found ≢ Err NoPlace → h ≤ 2 * count) → IsOk (taken_range n (with_error range found)) → h ≤ 2 * count

@@ -96,7 +96,7 @@ module _ (sp : Range) (old : List Block) (tiles : TilesSpace sp old) (search : S
       settled r new (Err NoPlace) u h = absurd h
       settled r new (Err Held) u h = absurd h
       settled r new (Err PastMax) u h = rw u (over_grants request (blocks_state sp old) policy spot.start chosen (omega (arith, same, h)))
-      settled r new (Err NoMemory) u h = rw u (at_range (Err OutOfMemory) (blocks_state sp old) h.0.below (no_memory h.0 h.1))
+      settled r new (Err (NoMemory e)) u h = rw u (at_range (Err OutOfMemory) (blocks_state sp old) h.0.below (no_memory h.0 h.1))
       settled r new (Err TooHigh) u h = rw u (at_range (Err Overflow) (blocks_state sp old) h.0.below (too_high h.0 h.1))
 
 -- ---- The window of a search is that of its request

@@ -1,10 +1,9 @@
 -- Which saved trees are accepted, by the span of the root.
-use Rattle.std.proofs.Common.{◌≡◌, ℕ, ◌+◌, ◌≤◌, true, false, ◌&&◌, leb, eqb, List, [], ◌∷◌, Option, Some, None, Ok, refl, sym, ap, ◌∙◌, subst, arith, true≢false}
+use Rattle.std.proofs.Common.{◌≡◌, ℕ, ◌+◌, ◌≤◌, true, false, ◌&&◌, leb, eqb, List, [], ◌∷◌, Option, Some, None, refl, sym, ap, ◌∙◌, subst, arith, true≢false}
 use Rattle.std.proofs.lemmas.Bool.{and_parts, and_from, leb-true, le-leb, eqb-true, eq-eqb}
 use Rattle.vm_ranges.specs.Range.{Range, MAX}
 use Rattle.vm_engine.specs.Address.{AddressState}
 use Rattle.vm_engine.specs.Answer.{SPLIT_LIMIT_MIN_HELD}
-use Rattle.vm_engine.specs.Held.{MakesHeld}
 use Rattle.vm_leaf.specs.declared.block.Block.{Block}
 use Rattle.vm_leaf.specs.Blocks.{Tiles}
 use Rattle.vm_engine.specs.Tree.Blocks.{TilesSpace, AreKeysIn}
@@ -13,7 +12,6 @@ use Rattle.vm_engine.specs.Values.SavedTrees.{Saved, Absent, saved_blocks, held_
 use Rattle.vm_engine.specs.Checks.Spans.{StandsFor, is_inside, is_tree_of}
 use Rattle.vm_engine.specs.declared.saved.span.Span.{Span}
 use Rattle.vm_ranges.specs.declared.state.NodeState.TheVariants.{Allocated}
-use Rattle.vm_engine.proofs.Making.HeldTrees.{held_made}
 use Rattle.vm_engine.proofs.SavedNodes.KeyLists.{keys_from, keys_to, last_above, tiles_cut}
 use Rattle.vm_engine.proofs.SavedNodes.Meanings.{MeansAll}
 use Rattle.vm_engine.proofs.SavedNodes.Spans.{sound}
@@ -65,9 +63,9 @@ repaired_state space o t v st e = (state_with space (held_keys t), root_inside s
 pub repaired_none : (space : Range) (o : Option Span) (t : Saved) → StandsFor o t → is_inside space o ≡ false → (x : AddressState) × HasHeldKeys space t x → ⊥
 repaired_none space o t st e h = true≢false (sym (inside_root space o t h.0 (sound t o st.ranges st.is_span) h.1) ∙ e)
 
-pub repaired_made : (space : Range) (o : Option Span) (t : Saved) (held : List Range) (made : AddressState) → space.end ≤ MAX → StandsFor o t → is_inside space o ≡ true → held ≡ held_keys t → MakesHeld space held (Ok made) → HasHeldKeys space t made
+pub repaired_made : (space : Range) (o : Option Span) (t : Saved) (held : List Range) (made : AddressState) → space.end ≤ MAX → StandsFor o t → is_inside space o ≡ true → held ≡ held_keys t → made ≡ state_with space held → HasHeldKeys space t made
 repaired_made space o t held made v st e h m =
-    subst (HasHeldKeys space t) (sym (held_made space held made m ∙ ap (state_with space) h)) (root_inside space o t v (sound t o st.ranges st.is_span) e)
+    subst (HasHeldKeys space t) (sym (m ∙ ap (state_with space) h)) (root_inside space o t v (sound t o st.ranges st.is_span) e)
 
 -- ---- Node for node
 
@@ -119,9 +117,6 @@ strict_state space o t st e = (state_with space (held_keys t), strict_with space
 pub strict_none : (space : Range) (o : Option Span) (t : Saved) → StandsFor o t → is_tree_of space o ≡ false → (x : AddressState) × HasTreeOf space t x → ⊥
 strict_none space o t st e h = true≢false (sym (tree_root space o t (sound t o st.ranges st.is_span) h.1.tree) ∙ e)
 
-pub strict_made : (space : Range) (o : Option Span) (t : Saved) (held : List Range) (made : AddressState) → StandsFor o t → is_tree_of space o ≡ true → held ≡ held_keys t → MakesHeld space held (Ok made) → HasTreeOf space t made
+pub strict_made : (space : Range) (o : Option Span) (t : Saved) (held : List Range) (made : AddressState) → StandsFor o t → is_tree_of space o ≡ true → held ≡ held_keys t → made ≡ state_with space held → HasTreeOf space t made
 strict_made space o t held made st e h m =
-    subst (HasTreeOf space t) (sym (held_made space held made m ∙ ap (state_with space) h)) (strict_with space o t st e)
-
-pub made_space : (space : Range) (held : List Range) (made : AddressState) → MakesHeld space held (Ok made) → made.space ≡ space
-made_space space held made m = ap (λ (x : AddressState). x.space) (held_made space held made m)
+    subst (HasTreeOf space t) (sym (m ∙ ap (state_with space) h)) (strict_with space o t st e)

@@ -1,7 +1,6 @@
 -- What a reader stores for the nodes that it has read.
-use Rattle.std.proofs.Common.{◌≡◌, ℕ, ◌+◌, ◌-◌, ◌≤◌, ◌<◌, ◌⊎◌, inl, inr, ⊎_elim, false, true, List, [], ◌∷◌, ◌++◌, length, is_some, Option, Some, None, Result, Ok, Err, refl, sym, ap, ◌∙◌, subst, arith}
-use Rattle.std.proofs.lemmas.List.{append_assoc, append-nil, length-append}
-use Rattle.std.proofs.lemmas.Option.{same_Some}
+use Rattle.std.proofs.Common.{◌≡◌, ℕ, ◌≤◌, ◌<◌, ◌⊎◌, inl, inr, false, true, List, [], ◌∷◌, ◌++◌, length, is_some, Option, Some, None, Result, Ok, Err, refl, sym, ap, ◌∙◌, subst, arith}
+use Rattle.std.proofs.lemmas.List.{append_assoc, append-nil}
 use Rattle.vm_ranges.specs.Range.{Range, IsRange}
 use Rattle.vm_ranges.specs.declared.saved.SavedError.{SavedError}
 use Rattle.vm_ranges.specs.declared.saved.SavedError.TheVariants.{Violated, OutOfMemory}
@@ -9,7 +8,7 @@ use Rattle.vm_ranges.specs.declared.saved.Condition.TheVariants.{Nesting, Keys, 
 use Rattle.vm_leaf.specs.declared.block.Block.{Block}
 use Rattle.vm_engine.specs.Tree.Blocks.{range_if_held}
 use Rattle.vm_engine.specs.Values.KeyValues.{MAX_NESTING_REPAIRED}
-use Rattle.vm_engine.specs.Values.SavedTrees.{Saved, Absent, Node, saved_blocks, held_keys, IsReadable}
+use Rattle.vm_engine.specs.Values.SavedTrees.{Saved, Absent, saved_blocks, held_keys, IsReadable}
 use Rattle.vm_engine.specs.Values.NodesRead.{BeginsNode, EndsNode, HasRead, IsReader, stored_unless, ReadChildren, NodesRead, childless, nothing_read, begun, child, with_child, node_of, CanEnd, ended, StandForBoth, StandForAll, keys_of, all_keys, Stored, IsStoredFor, EndFails, EndsStored, child_span, with_span}
 use Rattle.vm_engine.specs.Checks.Spans.{StandsFor, span_of, span_over, held_in}
 use Rattle.vm_engine.specs.declared.saved.nodes.Children.{Children}

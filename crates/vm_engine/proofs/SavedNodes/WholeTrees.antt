@@ -1,13 +1,12 @@
 -- Allocators of the nodes that a reader has read.
 use Rattle.std.proofs.Common.{◌≡◌, List, [], ◌∷◌, ◌++◌, Option, Some, None, Result, Ok, Err, refl, sym, ap, ◌∙◌, subst}
 use Rattle.std.proofs.lemmas.List.{append-nil}
-use Rattle.vm_ranges.specs.Range.{Range}
 use Rattle.vm_ranges.specs.Saving.{ReadsParts}
 use Rattle.vm_ranges.specs.declared.saved.Condition.{Condition}
 use Rattle.vm_ranges.specs.declared.saved.SavedError.{SavedError}
 use Rattle.vm_ranges.specs.declared.saved.SavedError.TheVariants as saved
 use Rattle.vm_engine.specs.Address.{AddressState}
-use Rattle.vm_engine.specs.Checks.Spans.{StandsFor, span_of}
+use Rattle.vm_engine.specs.Checks.Spans.{StandsFor}
 use Rattle.vm_engine.specs.Values.NodesRead.{ReadChildren, NodesRead, whole, StandForAll, keys_of, all_keys, Stored, IsStoredFor, stored_unless, IsReader, IsWholeTree, MakesOfNodes}
 use Rattle.vm_engine.specs.Values.SavedTrees.{Saved, Absent, held_keys}
 use Rattle.vm_engine.specs.declared.saved.nodes.Children.{Children}
@@ -67,6 +66,13 @@ whole_read States condition nodes t (Err (saved.Violated c)) e h =
 whole_read States condition nodes t (Err saved.OutOfMemory) e h = (h.0, (t, e, h.1))
 
 -- ---- The result of a reader
+-- The nodes of a reader are one whole tree, with the keys that are stored.
+pub whole_in : (failed : Option SavedError) (stored : Stored) (outer : List Children) → IsReader (stored_unless failed stored) → failed ≡ None → outer ≡ stored.outer → (outer ≡ []) × (stored.children.right ≡ None) →
+    (t : Saved) × StandsFor stored.children.left t × (stored.held ≡ held_keys t)
+whole_in failed stored outer reader none e w =
+    let read = subst (λ (f : Option SavedError). IsReader (stored_unless f stored)) none reader in
+    (read.0.children.left, read.1.children.left, whole_keys stored read.0 read.1 (sym e ∙ w.0) w.1)
+
 module _ (States : Saved → AddressState → Type 0) (condition : Condition) (value : Result Stored SavedError) (failed : Option SavedError) (stored : Stored) (is : stored_unless failed stored ≡ value) (none : failed ≡ None) (reader : IsReader (stored_unless failed stored)) where
   makes : (answer : Result AddressState SavedError) → ((nodes : NodesRead) → IsStoredFor stored nodes → ReadsParts (IsWholeTree States nodes) condition answer) → MakesOfNodes States condition value answer
   makes answer reads =

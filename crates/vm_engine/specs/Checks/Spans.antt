@@ -7,7 +7,7 @@ use Rattle.vm_leaf.specs.Block.{is_free}
 use Rattle.vm_tree.specs.Shape.{MAX_HEIGHT}
 use Rattle.vm_engine.specs.Answer.{SPLIT_LIMIT_MIN_HELD}
 use Rattle.vm_engine.specs.Values.KeyValues.{MAX_NESTING_REPAIRED}
-use Rattle.vm_engine.specs.Values.SavedTrees.{Saved, Absent, Node, held_keys, HasRanges}
+use Rattle.vm_engine.specs.Values.SavedTrees.{Saved, Absent, Node, HasRanges}
 use Rattle.vm_engine.specs.Checks.NodeChecks.{is_correct_height}
 use Rattle.vm_engine.specs.declared.saved.span.Span.{Span}
 use Rattle.vm_ranges.specs.declared.state.NodeState.{NodeState}

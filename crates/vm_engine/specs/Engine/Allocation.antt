@@ -24,7 +24,7 @@ abbrev pub error_of : Range → Refusal → Error
 error_of range NoPlace = ResourceNotAvailable
 error_of range Held = InvalidStateTransition range Allocated
 error_of range PastMax = Overflow
-error_of range NoMemory = OutOfMemory
+error_of range (NoMemory e) = OutOfMemory
 error_of range TooHigh = Overflow
 
 -- The result of a search, with the error of its refusal.

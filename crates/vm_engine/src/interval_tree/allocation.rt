@@ -164,6 +164,6 @@ fn with_error(found: std::result::Result<Taken, Refusal>, range: &RangeInclusive
         Refusal::NoPlace => Error::ResourceNotAvailable,
         Refusal::Held => Error::InvalidStateTransition(*range, NodeState::Allocated),
         Refusal::PastMax | Refusal::TooHigh => Error::Overflow,
-        Refusal::OutOfMemory => Error::OutOfMemory,
+        Refusal::OutOfMemory(failed) => Error::from(failed),
     })
 }

@@ -1,16 +1,17 @@
 //! Builds the tree of a space in which some ranges are allocated.
 //!
 //! A first pass checks and counts without allocating. A second pass builds the blocks into leaves.
-ghost use Rattle.std.specs.Prelude.{◌≡◌, ◌+◌, ◌≤◌, Some, None, IfOk, IfErr, MatchResult};
+ghost use Rattle.std.specs.Prelude.{◌≡◌, ◌+◌, ◌<◌, ◌≤◌, Some, None, Ok, IfOk, IfErr, MatchResult};
 ghost use Rattle.vm_ranges.specs.ListErrors.{by_error};
 ghost use Rattle.vm_ranges.specs.Range.{IsRange};
-ghost use Rattle.vm_tree.specs.Building.{IsLowestTree};
+ghost use Rattle.vm_tree.specs.Building.{IsLowestTree, TOO_MANY_BLOCKS};
+ghost use Rattle.vm_engine.specs.Checks.HeldKeys.{CanBeHeld};
 ghost use Rattle.vm_engine.specs.Address.{IsAddressState};
 ghost use Rattle.vm_engine.specs.Held.{MakesHeld, CountsBlocks, range_fault, fault_index};
 ghost use Rattle.vm_engine.specs.Tree.SpaceTree.{tree_state, made_tree};
 
 use super::IntervalTree;
-use std::alloc::Global;
+use std::alloc::{AllocError, Global};
 use vm_ranges::{Error, ListError, RangeInclusive, Result};
 use vm_tree::Tree;
 
@@ -37,14 +38,53 @@ impl IntervalTree {
         if count >= TOO_MANY_BLOCKS {
             return Err(Error::Overflow.into());
         }
-        Ok(IntervalTree {
-            tree: Tree::with_held(alloc, count, key, held)?,
-            space: key,
-            held_count: held.len() as u64,
-            gap_count: count - held.len() as u64,
-            free_len: left,
-        })
+        Ok(build(alloc, key, held, count, left)?)
     }
+
+    /// Creates the tree of a space with these ranges allocated, which can be. It has the minimum height for
+    /// its nodes.
+    #[tactic(auto, using(crate::proofs::Making::HeldTrees::holdings))]
+    pub(crate) fn of_held(
+        alloc: Global,
+        space: RangeInclusive,
+        held: &[RangeInclusive],
+    ) -> std::result::Result<Self, AllocError>
+        requires { CanBeHeld space held.now }
+        ensures made { IfOk result (λ tree. tree_state tree ≡ record { space = space; held = held.now }) }
+        ensures low { IfOk result IsLowestTree }
+        ensures state { IfOk result (λ tree. IsAddressState (tree_state tree)) }
+    {
+        let Ok((count, left)) = count_blocks(&space, held) else {
+            unreachable!()
+        };
+        build(alloc, space, held, count, left)
+    }
+}
+
+/// Builds the tree of a space with these ranges allocated. `count` is the number of its blocks, and `left`
+/// the number of its free addresses.
+fn build(
+    alloc: Global,
+    space: RangeInclusive,
+    held: &[RangeInclusive],
+    count: u64,
+    left: u64,
+) -> std::result::Result<IntervalTree, AllocError>
+    requires counted { CountsBlocks space held.now (Ok (count, left)) }
+    requires few { count < TOO_MANY_BLOCKS }
+    ensures made { IfOk result (λ tree. tree_state tree ≡ record { space = space; held = held.now }) }
+    ensures low { IfOk result IsLowestTree }
+    ensures state { IfOk result (λ tree. IsAddressState (tree_state tree)) }
+{
+    // Proof: this shows that the space is a range.
+    let _end = space.end();
+    Ok(IntervalTree {
+        tree: Tree::with_held(alloc, count, space, held)?,
+        space,
+        held_count: held.len() as u64,
+        gap_count: count - held.len() as u64,
+        free_len: left,
+    })
 }
 
 /// Returns the numbers of blocks and of free addresses of the space with these ranges allocated, or the

@@ -6,7 +6,6 @@ ghost use Rattle.std.specs.Prelude.{◌≡◌, ◌≢◌, ◌<◌, ◌≤◌, �
 ghost use Rattle.vm_ranges.specs.Range.{Range};
 ghost use Rattle.vm_tree.specs.Building.{IsLowestTree};
 ghost use Rattle.vm_engine.specs.Address.{IsAddressState};
-ghost use Rattle.vm_engine.specs.Checks.HeldKeys.{HoldsKeys};
 ghost use Rattle.vm_engine.specs.Tree.Blocks.{range_if_held};
 ghost use Rattle.vm_engine.specs.Tree.SpaceTree.{tree_state, made_tree};
 ghost use Rattle.vm_engine.specs.Values.KeyValues.{MAX_NESTING_REPAIRED};
@@ -19,7 +18,7 @@ use super::span::{MAX_NESTING, Span, held_in, is_inside, is_tree_of, span_over};
 use crate::IntervalTree;
 use std::alloc::{AllocError, Global};
 use std::marker::Model;
-use vm_ranges::{Condition, Error, NodeState, RangeInclusive, SavedError};
+use vm_ranges::{Condition, NodeState, RangeInclusive, SavedError};
 
 /// A side of a node, on which it can have a child.
 #[derive(Clone, Copy, PartialEq, Eq)]
@@ -279,7 +278,7 @@ impl IntervalTree {
         if !is_tree_of(&space, &root) {
             return Err(SavedError::Violated(Condition::Tree));
         }
-        tree_with(alloc, space, &nodes.held, Condition::Tree)
+        Ok(Self::of_held(alloc, space, &nodes.held)?)
     }
 
     /// Returns a tree of the space with the same allocated ranges as a saved tree. The saved tree can be
@@ -312,29 +311,6 @@ impl IntervalTree {
         if !is_inside(&space, &root) {
             return Err(SavedError::Violated(Condition::Inside));
         }
-        tree_with(alloc, space, &nodes.held, Condition::Inside)
-    }
-}
-
-/// Returns the tree of a space with these ranges allocated. If they cannot be, the condition is violated.
-#[tactic(auto, using(crate::proofs::SavedNodes::HeldKeys::holding_keys))]
-pub(super) fn tree_with(
-    alloc: Global,
-    space: RangeInclusive,
-    held: &[RangeInclusive],
-    condition: Condition,
-) -> std::result::Result<IntervalTree, SavedError>
-    ensures held { HoldsKeys space held.now condition (made_tree result) }
-    ensures low { IfOk result IsLowestTree }
-    ensures state { IfOk result (λ tree. IsAddressState (tree_state tree)) }
-{
-    match IntervalTree::with_held(alloc, space, held) {
-        Ok(tree) => Ok(tree),
-        Err(failure) => {
-            if failure.error == Error::OutOfMemory {
-                return Err(SavedError::OutOfMemory);
-            }
-            Err(SavedError::Violated(condition))
-        }
+        Ok(Self::of_held(alloc, space, &nodes.held)?)
     }
 }

@@ -14,14 +14,13 @@ ghost use Rattle.vm_engine.specs.Values.TreeValues.{EncodesSpaceTree};
 ghost use Rattle.vm_engine.specs.Values.KeyValues.{MAX_NESTING_REPAIRED, EncodesKeys};
 
 use super::node::{decode_node, encode_node};
-use super::nodes::tree_with;
 use super::span::{MAX_NESTING, Span, held_in, is_inside, is_tree_of, span_over};
 use super::written::{WrittenBlocks, WrittenTree};
 use crate::IntervalTree;
 use serde_json::Value;
 use std::alloc::{AllocError, Global};
 use vm_leaf::Block;
-use vm_ranges::{Condition, NodeState, RangeInclusive, Result, ValueError};
+use vm_ranges::{NodeState, RangeInclusive, Result, ValueError};
 
 impl IntervalTree {
     /// Returns the value that encodes the tree, with one object for each block.
@@ -68,7 +67,7 @@ impl IntervalTree {
             return Err(ValueError::NotAState);
         }
         let held = held_keys(alloc, held_in(&root), value)?;
-        Ok(tree_with(alloc, *space, &held, Condition::Tree)?)
+        Ok(Self::of_held(alloc, *space, &held)?)
     }
 
     /// Returns a tree of the space in which the allocated keys of a value are allocated. It has the minimum
@@ -106,7 +105,7 @@ impl IntervalTree {
             return Err(ValueError::NotAState);
         }
         let held = held_keys(alloc, held_in(&root), value)?;
-        Ok(tree_with(alloc, *space, &held, Condition::Inside)?)
+        Ok(Self::of_held(alloc, *space, &held)?)
     }
 }
 

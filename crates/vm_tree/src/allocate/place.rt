@@ -1,5 +1,5 @@
 //! The allocation of a range at a place in a leaf, which may split the leaf in two.
-ghost use Rattle.std.specs.Prelude.{◌≡◌, ◌+◌, ◌<◌, ◌≤◌, length, OnErr, IfErr, IfOk, MatchBool};
+ghost use Rattle.std.specs.Prelude.{◌≡◌, ◌+◌, ◌<◌, ◌≤◌, length, OnErr, IfOk, MatchBool};
 ghost use Rattle.vm_leaf.specs.Blocks.{with_parts, parts};
 ghost use Rattle.vm_leaf.specs.Left.{added_by};
 ghost use Rattle.vm_tree.specs.Shape.{Tip, blocks, height_of};
@@ -11,7 +11,7 @@ ghost use Rattle.vm_tree.specs.Placing.{spot_at, IsSiteIn, IsClaimIn, IsClaimAt,
 use crate::change::Change;
 use crate::link::{Link, Node, fork_link, into_leaf, leaf_link};
 use crate::search::{Refusal, Search, Taken};
-use std::alloc::Global;
+use std::alloc::{AllocError, Global};
 use std::mem;
 use vm_leaf::{Block, CAPACITY, Leaf, Left, Summary};
 use vm_ranges::{NodeState, RangeInclusive};
@@ -149,9 +149,7 @@ fn take(tree: &mut Link, lone: bool, claim: &Claim) -> Change
 }
 
 /// Allocates a box for a leaf and one for a node.
-fn spare_boxes(claim: &Claim, alloc: Global) -> Result<(Box<Leaf>, Box<Node>), Refusal>
-    ensures { IfErr result (λ refusal. refusal ≡ Refusal.OutOfMemory) }
-{
+fn spare_boxes(claim: &Claim, alloc: Global) -> Result<(Box<Leaf>, Box<Node>), AllocError> {
     let block = Block {
         key: claim.range,
         state: NodeState::Allocated,
@@ -188,7 +186,7 @@ fn halve(mut lower: Box<Leaf>, claim: &Claim, mut upper: Box<Leaf>, spare: Box<N
 ///
 /// All memory is allocated before the first change.
 #[inline(never)]
-fn split_leaf(tree: &mut Link, claim: Claim, alloc: Global) -> Result<(), Refusal>
+fn split_leaf(tree: &mut Link, claim: Claim, alloc: Global) -> Result<(), AllocError>
     requires leaf { height_of (side tree.old) < 2 }
     requires some { 0 < length (blocks (side tree.old)) }
     requires claim { IsClaimIn (blocks (side tree.old)) claim }
@@ -197,7 +195,6 @@ fn split_leaf(tree: &mut Link, claim: Claim, alloc: Global) -> Result<(), Refusa
         ≡ with_parts (blocks (side tree.old)) claim.index 1 (parts claim.gap claim.range)) }
     ensures grows { IfOk result (λ _. Grows (side tree.old) (side tree.new) × IsSummed tree.new
         × (2 ≤ height_of (side tree.new))) }
-    ensures error { IfErr result (λ refusal. refusal ≡ Refusal.OutOfMemory) }
     ensures unchanged { OnErr result (tree.new ≡ tree.old) }
 {
     let (upper, node) = spare_boxes(&claim, alloc)?;

@@ -1,15 +1,11 @@
-use Rattle.std.proofs.Common.{◌≡◌, List, Ok, subst, Err, sym, ◌∙◌, rules}
+use Rattle.std.proofs.Common.{◌≡◌, Err, sym, ◌∙◌, rules}
 use Rattle.serde_json.specs.View.{view}
-use Rattle.vm_ranges.specs.Range.{Range}
-use Rattle.vm_engine.specs.Checks.HeldKeys.{HoldsKeys}
-use Rattle.vm_ranges.specs.Saving.{value_error}
-use Rattle.vm_ranges.specs.declared.saved.Condition.TheVariants.{Tree}
 use Rattle.vm_ranges.specs.declared.saved.ValueError.TheVariants.{OutOfMemory}
 use Rattle.vm_engine.specs.Tree.SpaceTree.{tree_state}
-use Rattle.vm_engine.proofs.Reading.ReadSpaces.{tree_unread, not_tree, tree_refused}
-use Rattle.vm_engine.proofs.SavedNodes.Roots.{strict_state}
+use Rattle.vm_engine.proofs.Reading.ReadSpaces.{tree_unread, not_tree}
 use Rattle.vm_engine.proofs.SavedNodes.ValueLaws.{strict_value}
-use Rattle.vm_engine.proofs.SavedNodes.HeldKeys.{strict_keys}
+use Rattle.vm_engine.proofs.SavedNodes.HeldKeys.{can_hold_strict}
+use Rattle.vm_engine.proofs.SavedNodes.Roots.{strict_state, strict_made}
 use Rattle.vm_engine.proofs.interval_tree.IntervalTree.from_root_value.Goals as goal
 
 pub returns-in_default-clause-answer : goal.returns-in_default-clause-answer
@@ -23,22 +19,25 @@ returns-then-not-is_tree_of-clause-answer c =
 pub returns-in_err-held-clause-answer : goal.returns-in_err-held-clause-answer
 returns-in_err-held-clause-answer c =
     let read = c.in-Some.ensures in
-    let is : c.from_residual.result ≡ Err OutOfMemory = search rules in
-    let state = strict_state c.args.space.now c.in-Some.root read.0 read.1.stands (sym c.is_tree_of.ensures ∙ c.if-not-is_tree_of.false) in
-    rw is (state.0, strict_value (view c.args.value.now) c.args.space.now state.0 read.0 read.1.nodes state.1)
+    let memory : c.from_residual.result ≡ Err OutOfMemory = search rules in
+    let x = strict_state c.args.space.now c.in-Some.root read.0 read.1.stands (sym c.is_tree_of.ensures ∙ c.if-not-is_tree_of.false) in
+    rw memory (x.0, strict_value (view c.args.value.now) c.args.space.now x.0 read.0 read.1.nodes x.1)
 
-pub returns-in_err-tree_with-clause-answer : goal.returns-in_err-tree_with-clause-answer
-returns-in_err-tree_with-clause-answer c =
+pub of_held-requires : goal.of_held-requires
+of_held-requires c =
     let read = c.in-Some.ensures in
-    let e = c.in_err-tree_with.field-0.0 in
-    let is : c.from_residual-in_err-tree_with.result ≡ Err (value_error e) = search rules in
-    rw is (tree_refused (view c.args.value.now) c.args.space.now read.0 e read.1.nodes
-    (strict_keys c.args.space.now c.in-Some.root read.0 c.in_ok-held.held.items (Err e) c.end-end.ensures.range read.1.stands (c.in_ok-held.ensures c.in-Some.root read.0 read.1)
-    (sym c.is_tree_of.ensures ∙ c.if-not-is_tree_of.false) (subst (λ (v : List Range). HoldsKeys c.args.space.now v Tree (Err e)) c.deref.ensures.value c.in_err-tree_with.ensures.held)))
+    let x = strict_state c.args.space.now c.in-Some.root read.0 read.1.stands (sym c.is_tree_of.ensures ∙ c.if-not-is_tree_of.false) in
+    can_hold_strict c.args.space.now read.0 x.0 _ c.end-end.ensures.range (c.deref.ensures.value ∙ c.in_ok-held.ensures c.in-Some.root read.0 read.1) x.1
+
+pub returns-in_err-of_held-clause-answer : goal.returns-in_err-of_held-clause-answer
+returns-in_err-of_held-clause-answer c =
+    let read = c.in-Some.ensures in
+    let memory : c.from_residual-in_err-of_held.result ≡ Err OutOfMemory = search rules in
+    let x = strict_state c.args.space.now c.in-Some.root read.0 read.1.stands (sym c.is_tree_of.ensures ∙ c.if-not-is_tree_of.false) in
+    rw memory (x.0, strict_value (view c.args.value.now) c.args.space.now x.0 read.0 read.1.nodes x.1)
 
 pub returns-clause-answer : goal.returns-clause-answer
 returns-clause-answer c =
     let read = c.in-Some.ensures in
-    strict_value (view c.args.value.now) c.args.space.now (tree_state c.in_ok-tree_with.field-0) read.0 read.1.nodes
-    (strict_keys c.args.space.now c.in-Some.root read.0 c.in_ok-held.held.items (Ok (tree_state c.in_ok-tree_with.field-0)) c.end-end.ensures.range read.1.stands (c.in_ok-held.ensures c.in-Some.root read.0 read.1)
-    (sym c.is_tree_of.ensures ∙ c.if-not-is_tree_of.false) (rw (← c.deref.ensures.value) c.in_ok-tree_with.ensures.held))
+    strict_value (view c.args.value.now) c.args.space.now (tree_state c.in_ok-of_held.field-0) read.0 read.1.nodes
+    (strict_made c.args.space.now c.in-Some.root read.0 _ (tree_state c.in_ok-of_held.field-0) read.1.stands (sym c.is_tree_of.ensures ∙ c.if-not-is_tree_of.false) (c.deref.ensures.value ∙ c.in_ok-held.ensures c.in-Some.root read.0 read.1) c.in_ok-of_held.ensures.made)
