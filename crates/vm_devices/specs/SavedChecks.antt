@@ -15,7 +15,9 @@ use Rattle.vm_ranges.specs.declared.saved.Condition.TheVariants.{Devices}
 use Rattle.vm_ranges.specs.declared.saved.SavedError.{SavedError}
 use Rattle.vm_ranges.specs.declared.saved.SavedError.TheVariants.{Violated, OutOfMemory}
 use Rattle.vm_engine.specs.Address.{AddressState}
+use Rattle.vm_allocator.specs.Checks.AllocatorChecks.{WritesAllocator}
 use Rattle.vm_allocator.specs.Ids.{IdState, IsHeld}
+use Rattle.vm_leaf.specs.declared.block.Block.{Block}
 use Rattle.vm_devices.specs.declared.device_slot.DeviceSlot.{DeviceSlot}
 use Rattle.vm_devices.specs.Checks.{StartsAt}
 use Rattle.vm_devices.specs.Listed.{entries_of, HaveAscendingIds, AreDevicesOf}
@@ -70,3 +72,8 @@ pub record ManagerParts (d ids space slots : Data) : Type 0 where
   pub ids_is : get (codes "id_allocator") d ≡ Some ids
   pub space_is : get (codes "mmio_allocator") d ≡ Some space
   pub slots_is : get (codes "slots") d ≡ Some slots
+
+-- The value is an object with exactly the four fields of a manager, and the tree of its addresses is the one that is written for
+-- the blocks.
+abbrev pub WritesManager : List Block → Data → Type 0
+WritesManager bs d = (ids space slots : Data) × ManagerParts d ids space slots × WritesAllocator bs space

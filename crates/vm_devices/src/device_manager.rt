@@ -2,7 +2,7 @@
 //!
 //! Ids, ranges and the table of devices change together or not at all. Calls that can fail are
 //! first. The calls after them, and the call that undoes an allocation, always succeed.
-ghost use Rattle.std.specs.Prelude.{◌≡◌, ◌%◌, Ok, OnErr, OnOk, IfOk, IfSome};
+ghost use Rattle.std.specs.Prelude.{◌≡◌, ◌≢◌, ◌%◌, Ok, OnErr, OnOk, IfErr, IfOk, IfSome};
 ghost use Rattle.std.specs.FinMap as map;
 ghost use Rattle.vm_ranges.specs.Cloning.{Clones};
 ghost use Rattle.vm_ranges.specs.Range.{Range, Covers, address_count};
@@ -19,6 +19,7 @@ ghost use Rattle.vm_devices.specs.Devices.{
   without_device,
 };
 ghost use Rattle.vm_devices.specs.Manager.{device_state, made_manager};
+ghost use Rattle.vm_ranges.specs.declared.error.Error.TheVariants.{OutOfMemory};
 
 use crate::device_slot::DeviceSlot;
 use std::alloc::Global;
@@ -117,7 +118,8 @@ impl DeviceManager {
     ///
     /// # Errors
     ///
-    /// An error leaves ids, ranges and devices unchanged. In this order:
+    /// An error leaves ids, ranges and devices unchanged, and each error but `OutOfMemory` the same tree. In
+    /// this order:
     /// - `Overflow` if all ids are allocated and their range ends at `u32::MAX`.
     /// - `ResourceNotAvailable` if all ids are allocated and their range ends below `u32::MAX`.
     /// - The errors of `AddressAllocator::allocate`, in the order of its documentation.
@@ -143,6 +145,7 @@ impl DeviceManager {
         ensures held { IfOk result (λ slot.
             device_state self.new ≡ with_device slot.id slot.range (device_state self.old)) }
         ensures unchanged { OnErr result (device_state self.new ≡ device_state self.old) }
+        ensures same { IfErr result (λ error. error ≢ OutOfMemory → self.new ≡ self.old) }
         ensures state { IsDeviceState (device_state self.new) }
 
         // Each result under its exact condition.
@@ -159,7 +162,8 @@ impl DeviceManager {
     ///
     /// # Errors
     ///
-    /// An error leaves ids, ranges and devices unchanged. In this order:
+    /// An error leaves ids, ranges and devices unchanged, and each error but `OutOfMemory` the same tree. In
+    /// this order:
     /// - `Overflow` if all ids are allocated and their range ends at `u32::MAX`.
     /// - `ResourceNotAvailable` if all ids are allocated and their range ends below `u32::MAX`.
     /// - The errors of `AddressAllocator::allocate_constraint`, in the order of its documentation.
@@ -179,6 +183,7 @@ impl DeviceManager {
         ensures held { IfOk result (λ slot.
             device_state self.new ≡ with_device slot.id slot.range (device_state self.old)) }
         ensures unchanged { OnErr result (device_state self.new ≡ device_state self.old) }
+        ensures same { IfErr result (λ error. error ≢ OutOfMemory → self.new ≡ self.old) }
 
         // Each result under its exact condition.
         ensures answer { Reserves (device_state self.old) request result (device_state self.new) }
@@ -230,7 +235,8 @@ impl DeviceManager {
     /// and devices unchanged.
     fn reserve_range(&mut self, alloc: Global, id: u32, request: Constraint) -> Result<DeviceSlot>
         requires { PeeksId (device_state self.old).ids (Ok id) }
-        ensures { Reserves (device_state self.old) request result (device_state self.new) }
+        ensures answer { Reserves (device_state self.old) request result (device_state self.new) }
+        ensures same { IfErr result (λ error. error ≢ OutOfMemory → self.new ≡ self.old) }
     {
         let range = self.mmio_allocator.allocate_constraint(alloc, request)?;
         if let Err(refused) = self.slots.insert(alloc, id, range) {

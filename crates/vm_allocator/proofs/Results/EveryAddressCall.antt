@@ -27,7 +27,7 @@ use Rattle.vm_ranges.specs.declared.constraint.AllocPolicy.{AllocPolicy}
 use Rattle.vm_ranges.specs.declared.constraint.AllocPolicy.TheVariants.{FirstMatch, LastMatch, ExactMatch}
 use Rattle.std.proofs.lemmas.List.Elements.{All-nil, All-cons}
 use Rattle.vm_ranges.proofs.Decisions.{Decided, decided_below, decided_up_to, decided_alignment, decided_start, lowest_or_none, highest_or_none}
-use Rattle.vm_engine.proofs.SavedNodes.HeldKeys.{first_fault_known}
+use Rattle.vm_engine.proofs.Making.HeldTrees.{first_fault_known}
 use Rattle.vm_allocator.proofs.Results.Moves.{move_refused, move_stays}
 use Rattle.vm_allocator.proofs.Decisions.{decided_all_clear, decided_split, decided_place, decided_inside, decided_held, decided_for, decided_range}
 

@@ -2,10 +2,12 @@
 ghost use Rattle.std.specs.Prelude.{◌≡◌, IfOk, option_map};
 ghost use Rattle.serde_json.specs.View.{view, items_view};
 ghost use Rattle.vm_ranges.specs.Saving.{Saves};
+ghost use Rattle.vm_tree.specs.Building.{IsLowestTree};
+ghost use Rattle.vm_tree.specs.Shape.{blocks};
 ghost use Rattle.vm_devices.specs.Devices.{IsDeviceState};
 ghost use Rattle.vm_devices.specs.Manager.{device_state, made_manager};
 ghost use Rattle.vm_devices.specs.Saved.{EncodesManager, ReadsInParts};
-ghost use Rattle.vm_devices.specs.SavedChecks.{decoded_manager, ManagerParts};
+ghost use Rattle.vm_devices.specs.SavedChecks.{decoded_manager, ManagerParts, WritesManager};
 
 pub(super) mod read_devices;
 mod slots;
@@ -26,7 +28,9 @@ impl DeviceManager {
     ///
     /// - `OutOfMemory` if an allocation fails.
     pub fn to_value(&self, alloc: Global) -> Result<Value>
-        ensures { Saves (λ d. EncodesManager d (device_state self.now)) result }
+        ensures answer { Saves (λ d. EncodesManager d (device_state self.now)) result }
+        // The blocks decide the saved tree.
+        ensures written { Saves (WritesManager (blocks self.now.addresses.tree)) result }
     {
         let ids = self.id_allocator.to_value(alloc)?;
         let space = self.mmio_allocator.to_value(alloc)?;
@@ -34,7 +38,8 @@ impl DeviceManager {
         Ok(manager_object(alloc, ids, space, slots)?)
     }
 
-    /// Decodes a manager from a value: its ids, its space and its devices.
+    /// Decodes a manager from a value: its ids, its space and its devices. The tree of its addresses has the
+    /// minimum height.
     ///
     /// The value can be untrusted input. Its parts are read one after the other, so `OutOfMemory`
     /// is possible for every value.
@@ -52,6 +57,7 @@ impl DeviceManager {
     #[tactic(auto, using(crate::proofs::SavedManagers::no_fields))]
     pub fn from_value(alloc: Global, value: &Value) -> std::result::Result<Self, ValueError>
         ensures answer { ReadsInParts (EncodesManager (view value.now)) (made_manager result) }
+        ensures low { IfOk result (λ manager. IsLowestTree manager.addresses.tree) }
         ensures state { IfOk result (λ manager. IsDeviceState (device_state manager)) }
     {
         let Some(fields) = decode_fields(value) else {

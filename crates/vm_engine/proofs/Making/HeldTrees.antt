@@ -1,6 +1,6 @@
 -- The tree of the blocks of a space with some ranges held.
-use Rattle.std.proofs.Common.{◌≡◌, ℕ, ◌+◌, ◌-◌, ◌^◌, ◌≤◌, ◌<◌, List, [], ◌∷◌, length, Some, None, Option, MatchOption, ◌⊎◌, Result, Ok, Err, refl, sym, ap, ◌∙◌, arith, subst, ⊎_elim, inl, inr}
-use Rattle.vm_ranges.specs.Range.{Range, IsRange, address_count}
+use Rattle.std.proofs.Common.{◌≡◌, ◌≢◌, ltb, eqb, cond, true, false, ℕ, ◌+◌, ◌-◌, ◌^◌, ◌≤◌, ◌<◌, List, [], ◌∷◌, length, Some, None, Option, MatchOption, ◌⊎◌, Result, Ok, Err, refl, sym, ap, ◌∙◌, arith, subst, ⊎_elim, inl, inr}
+use Rattle.vm_ranges.specs.Range.{Range, MAX, IsRange, address_count}
 use Rattle.vm_engine.specs.Address.{AddressState, IsAddressState}
 use Rattle.vm_tree.specs.Building.{AreInOrder}
 use Rattle.vm_tree.specs.Building.{blocks_between}
@@ -10,13 +10,13 @@ use Rattle.vm_engine.specs.Tree.SpaceTree.{tree_state, IsSpaceTree}
 use Rattle.vm_engine.specs.Queries.{count_of}
 use Rattle.vm_ranges.specs.Cases.{IfElse}
 use Rattle.vm_engine.specs.Checks.HeldKeys.{CanBeHeld}
-use Rattle.vm_engine.specs.Held.{first_fault, MakesHeld}
+use Rattle.vm_engine.specs.Held.{range_fault, or_else, first_fault, MakesHeld}
 use Rattle.vm_tree.specs.Building.{TOO_MANY_BLOCKS}
 use Rattle.vm_tree.specs.Building.{IsBuiltTree}
 use Rattle.vm_engine.specs.Engine.CountedTrees.{IsCountedTree}
 use Rattle.vm_ranges.specs.declared.state.NodeState.TheVariants.{Allocated}
 use Rattle.vm_ranges.specs.declared.error.Error.{Error}
-use Rattle.vm_ranges.specs.declared.error.Error.TheVariants.{Overflow, OutOfMemory}
+use Rattle.vm_ranges.specs.declared.error.Error.TheVariants.{Overflow, ResourceNotAvailable, OutOfMemory}
 use Rattle.vm_engine.proofs.Blocks.GapLists.{all_counted}
 use Rattle.vm_engine.proofs.Comparing.Tilings.{held_of-blocks_of}
 use Rattle.vm_engine.proofs.Walking.HeldInTrees.{all_blocks}
@@ -70,6 +70,31 @@ module _ (space : Range) (held : List Range) (range : IsRange space.start space.
 
   pub built_is_state : IsAddressState (tree_state s)
   built_is_state = subst IsAddressState (sym built_state) (record { space = range; in_order = order })
+
+-- The error of ranges that cannot be held is never OutOfMemory.
+range_fault_known : (lo hi : ℕ) (r : Range) → range_fault lo hi r ≢ Some OutOfMemory
+range_fault_known lo hi r =
+    elim (ltb r.start lo) as (λ v. cond v (Some ResourceNotAvailable) (cond (eqb r.start MAX) (Some Overflow) (cond (ltb hi r.end) (Some ResourceNotAvailable) (cond (eqb r.end MAX) (Some Overflow) None))) ≢ Some OutOfMemory) [
+      | true ↦ λ k. cc k
+      | false ↦ elim (eqb r.start MAX) as (λ v. cond v (Some Overflow) (cond (ltb hi r.end) (Some ResourceNotAvailable) (cond (eqb r.end MAX) (Some Overflow) None)) ≢ Some OutOfMemory) [
+        | true ↦ λ k. cc k
+        | false ↦ elim (ltb hi r.end) as (λ v. cond v (Some ResourceNotAvailable) (cond (eqb r.end MAX) (Some Overflow) None) ≢ Some OutOfMemory) [
+          | true ↦ λ k. cc k
+          | false ↦ elim (eqb r.end MAX) as (λ v. cond v (Some Overflow) None ≢ Some OutOfMemory) [
+            | true ↦ λ k. cc k
+            | false ↦ λ k. cc k
+          ]
+        ]
+      ]
+    ]
+
+pub first_fault_known : (lo hi : ℕ) (rs : List Range) → first_fault lo hi rs ≢ Some OutOfMemory
+first_fault_known lo hi [] = λ k. cc k
+first_fault_known lo hi (r ∷ rs) =
+    elim (range_fault lo hi r) as (λ v. v ≢ Some OutOfMemory → or_else v (first_fault (r.end + 1) hi rs) ≢ Some OutOfMemory) [
+      | None ↦ λ n. first_fault_known (r.end + 1) hi rs
+      | Some e ↦ λ n. n
+    ] (range_fault_known lo hi r)
 
 pub makes_fault : (space : Range) (held : List Range) (e : Error) → first_fault space.start space.end held ≡ Some e → MakesHeld space held (Err e)
 unfolding MakesHeld

@@ -106,6 +106,7 @@ impl DeviceManager {
         devices: &ReadDevices,
     ) -> Result<Self, SavedError>
         ensures answer { MakesOfDevices version ids (state_of space) devices.now (made_manager result) }
+        ensures same { IfOk result (λ manager. manager.addresses ≡ space) }
         ensures state { IfOk result (λ manager. IsDeviceState (device_state manager)) }
     {
         if version != SAVED_VERSION {

@@ -6,8 +6,8 @@ use Rattle.vm_devices.proofs.DeviceCalls.{id_peeked, entered, entered_state, und
 use Rattle.vm_devices.proofs.DeviceStarts.{new_device}
 use Rattle.vm_devices.proofs.device_manager.DeviceManager.reserve_range.Goals as goal
 
-pub returns-in_err-range : goal.returns-in_err-range
-returns-in_err-range c =
+pub returns-in_err-range-clause-answer : goal.returns-in_err-range-clause-answer
+returns-in_err-range-clause-answer c =
     let e = c.in_err-range.field-0.0 in
     let is : c.from_residual.result ≡ Err e = search rules in
     let same = ap (λ a. devices_of c.self.inside.id_allocator (state_of a) c.self.inside.slots) c.in_err-range.ensures.unchanged in
@@ -23,8 +23,8 @@ invariant_of-self-in-Err c =
     undone_state _ c.args.request c.args.id c.in_ok-range.range _ c.self.invariant (rw (← c.self.view_is) at c.requires) c.in_ok-range.ensures.answer _ _ _ c.free.result
     c.free.ensures.answer c.in-Err.ensures.err refl
 
-pub returns-in-Err : goal.returns-in-Err
-returns-in-Err c =
+pub returns-in-Err-clause-answer : goal.returns-in-Err-clause-answer
+returns-in-Err-clause-answer c =
     let is : c.into.result ≡ OutOfMemory = search rules in
     rw (← c.self.view_is, is)
     (undone _ c.args.request c.args.id c.in_ok-range.range _ c.self.invariant (rw (← c.self.view_is) at c.requires) c.in_ok-range.ensures.answer _ _ _ c.free.result
@@ -35,8 +35,8 @@ invariant_of-self-2 c =
     entered_state _ c.args.request c.args.id c.in_ok-range.range _ c.self.invariant (rw (← c.self.view_is) at c.requires) c.in_ok-range.ensures.answer _ _ _ c.allocate_id.result
     c.allocate_id.ensures.answer refl c.in_default.ensures.inserted
 
-pub returns : goal.returns
-returns c =
+pub returns-clause-answer : goal.returns-clause-answer
+returns-clause-answer c =
     rw (← c.self.view_is)
     (entered _ c.args.request c.args.id c.in_ok-range.range _ c.self.invariant (rw (← c.self.view_is) at c.requires) c.in_ok-range.ensures.answer _ _ _ c.allocate_id.result
     c.allocate_id.ensures.answer refl c.in_default.ensures.inserted)
