@@ -1,7 +1,7 @@
 //! A reader of JSON after RFC 8259. It visits a text once and does not allocate.
 
 use crate::conditions;
-use crate::proved::vm_allocator::SavedError;
+use crate::proved::vm_allocator::{Condition, SavedError};
 use crate::status::{
     dvs_status, DVS_LIMIT_EXCEEDED, DVS_NOT_A_STATE, DVS_NOT_JSON, DVS_OUT_OF_MEMORY,
 };
@@ -55,6 +55,24 @@ impl TextFault {
     }
 }
 
+/// Returns the field that violates a condition of an object. It is empty if that is the field which is
+/// being read.
+fn field_of(condition: Condition) -> &'static CStr {
+    match condition {
+        Condition::Nesting | Condition::Order => c"",
+        Condition::Keys => c"key",
+        Condition::Inside | Condition::Tree => c"root",
+        Condition::IdRange => c"range_base",
+        Condition::NextId => c"next_id",
+        Condition::FreedIds => c"freed_ids",
+        Condition::Version => c"version",
+        Condition::Devices => c"slots",
+    }
+}
+
+/// The name of a field that was read, and the offset of its value.
+pub(crate) type Field = (&'static CStr, usize);
+
 /// The result of reading a part of a text.
 pub(crate) type Read<T> = Result<T, TextFault>;
 
@@ -94,11 +112,16 @@ impl<'a> Reader<'a> {
         self.fault(DVS_NOT_A_STATE, reason)
     }
 
-    /// Returns the fault of parts that end before the rest.
-    pub(crate) fn of_parts(&self, error: SavedError) -> TextFault {
-        match error {
-            SavedError::Violated(condition) => self.not_a_state(conditions::text_of(condition)),
-            SavedError::OutOfMemory => DVS_OUT_OF_MEMORY.into(),
+    /// Returns the fault of an object with these fields, or of an item without fields.
+    pub(crate) fn of_parts(&self, error: SavedError, fields: &[Field]) -> TextFault {
+        let SavedError::Violated(condition) = error else {
+            return DVS_OUT_OF_MEMORY.into();
+        };
+        let fault = self.not_a_state(conditions::text_of(condition));
+        let name = field_of(condition);
+        match fields.iter().find(|(other, _)| *other == name) {
+            Some((_, start)) => fault.at(*start).in_field(name),
+            None => fault,
         }
     }
 
@@ -153,14 +176,15 @@ impl<'a> Reader<'a> {
         Ok(false)
     }
 
-    /// Reads an object that has each of these fields once, in any order. `read` reads the value of
-    /// the field with an index.
+    /// Reads an object that has each of these fields once, in any order, and returns the fields. `read`
+    /// reads the value of the field with an index.
     pub(crate) fn object<const N: usize>(
         &mut self,
         names: [&'static CStr; N],
         mut read: impl FnMut(&mut Self, usize) -> Read<()>,
-    ) -> Read<()> {
-        let mut is_read = [false; N];
+    ) -> Read<[Field; N]> {
+        // No value is at offset 0.
+        let mut fields = names.map(|name| (name, 0));
         let mut is_more = self.open(b'{', b'}', c"an object is expected")?;
         while is_more {
             self.peek();
@@ -168,22 +192,20 @@ impl<'a> Reader<'a> {
             let Some(place) = self.string(&names)? else {
                 return Err(self.not_a_state(c"the field is unknown").at(start));
             };
-            let name = names[place];
-            if is_read[place] {
+            let (name, value) = &mut fields[place];
+            if *value > 0 {
                 let fault = self.not_a_state(c"the field is duplicate");
                 return Err(fault.at(start).in_field(name));
             }
-            is_read[place] = true;
             self.expect_colon()?;
+            self.peek();
+            *value = self.at;
             read(self, place).map_err(|fault| fault.in_field(name))?;
             is_more = self.next(b'}')?;
         }
-        match is_read.iter().position(|is_read| !is_read) {
-            None => Ok(()),
-            Some(missing) => {
-                let fault = self.not_a_state(c"the field is missing");
-                Err(fault.in_field(names[missing]))
-            }
+        match fields.iter().find(|(_, value)| *value == 0) {
+            None => Ok(fields),
+            Some((name, _)) => Err(self.not_a_state(c"the field is missing").in_field(name)),
         }
     }
 

@@ -58,7 +58,10 @@ fn end(line: &str) -> ! {
 
 #[panic_handler]
 fn panic(_: &PanicInfo) -> ! {
-    end("divsharun: the process ends because of a bug in the library\n")
+    end(concat!(
+        "divsharun: the process ends because of a bug in the library, ",
+        "or because a destroyed object or a pointer to no object was used\n"
+    ))
 }
 
 // Another library in the same program can have a function of this name.

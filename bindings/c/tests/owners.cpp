@@ -497,6 +497,8 @@ static void compare_errors() {
         CHECK((dvs::code(status) == std::errc::not_enough_memory) == (status == DVS_OUT_OF_MEMORY));
         CHECK(dvs::code(status) != status + 1 && dvs::code(status) != dvs::code(status + 1));
     }
+    CHECK(failure.name() == std::string("DVS_OVERFLOW"));
+    CHECK(dvs::text_of(dvs::cause::allocated) == std::string("An address is allocated."));
     CHECK(space.make(UINT64_MAX, 1) == DVS_OK);
     std::error_code plain = failure;
     CHECK(plain == failure && plain.message() == dvs_status_text(DVS_OVERFLOW));
