@@ -41,7 +41,7 @@ static void allocate() {
     CHECK(!space.allocate_exact(0x10, 1, 0x1200, range));
     std::error_code again = space.allocate_exact(0x10, 1, 0x1200, range);
     CHECK(again == dvs::code(DVS_INVALID_STATE_TRANSITION));
-    CHECK(again.message() == "The range is already allocated.");
+    CHECK(again.message() == "Exactly the requested range is already allocated.");
     CHECK(std::string(again.category().name()) == "divsharun");
     CHECK(ranges_of(space).size() == 3 && is_range(ranges_of(space)[1], 0x1200, 0x120f));
     CHECK(gaps_of(space).size() == 2 && !space.longest_gap(length) && length == 0x1f00 - 0x1210);
