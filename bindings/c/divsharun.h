@@ -289,9 +289,9 @@ typedef struct dvs_id_allocator dvs_id_allocator;
 typedef struct dvs_device_manager dvs_device_manager;
 
 /*
- * Returns the name of a status, such as "DVS_OVERFLOW". This and the two texts below
- * are never null and have static storage duration. For a number without a meaning they
- * are "unknown", "Unknown status." and "Unknown cause.".
+ * Returns the name of a status, such as "DVS_OVERFLOW". This and the two texts below are
+ * never null and have static storage duration. For a number without a meaning, the name
+ * is "unknown" and the texts are "Unknown number.".
  */
 const char *dvs_status_name(dvs_status status);
 

@@ -1,7 +1,7 @@
 //! A reader of JSON after RFC 8259. It visits a text once and does not allocate.
 
-use crate::conditions;
-use crate::proved::vm_allocator::{Condition, SavedError};
+use crate::conditions::field_and_text;
+use crate::proved::vm_allocator::SavedError;
 use crate::status::{
     dvs_status, DVS_LIMIT_EXCEEDED, DVS_NOT_A_STATE, DVS_NOT_JSON, DVS_OUT_OF_MEMORY,
 };
@@ -55,21 +55,6 @@ impl TextFault {
     }
 }
 
-/// Returns the field that violates a condition of an object. It is empty if that is the field which is
-/// being read.
-fn field_of(condition: Condition) -> &'static CStr {
-    match condition {
-        Condition::Nesting | Condition::Order => c"",
-        Condition::Keys => c"key",
-        Condition::Inside | Condition::Tree => c"root",
-        Condition::IdRange => c"range_base",
-        Condition::NextId => c"next_id",
-        Condition::FreedIds => c"freed_ids",
-        Condition::Version => c"version",
-        Condition::Devices => c"slots",
-    }
-}
-
 /// The name of a field that was read, and the offset of its value.
 pub(crate) type Field = (&'static CStr, usize);
 
@@ -117,8 +102,8 @@ impl<'a> Reader<'a> {
         let SavedError::Violated(condition) = error else {
             return DVS_OUT_OF_MEMORY.into();
         };
-        let fault = self.not_a_state(conditions::text_of(condition));
-        let name = field_of(condition);
+        let (name, text) = field_and_text(condition);
+        let fault = self.not_a_state(text);
         match fields.iter().find(|(other, _)| *other == name) {
             Some((_, start)) => fault.at(*start).in_field(name),
             None => fault,

@@ -58,10 +58,7 @@ fn end(line: &str) -> ! {
 
 #[panic_handler]
 fn panic(_: &PanicInfo) -> ! {
-    end(concat!(
-        "divsharun: the process ends because of a bug in the library, ",
-        "or because a destroyed object or a pointer to no object was used\n"
-    ))
+    end("divsharun: the process ends because of a bug in the library, or a pointer to no object or a destroyed one\n")
 }
 
 // Another library in the same program can have a function of this name.

@@ -318,16 +318,14 @@ pub(crate) fn read_space(
     from: &mut Reader<'_>,
     made: impl FnOnce(Global, RangeInclusive, &ReadNodes) -> Result<AddressAllocator, SavedError>,
 ) -> Read<AddressAllocator> {
-    let (mut nodes, mut space) = (ReadNodes::new(Global), None);
-    let mut tree = [(c"root", 0)];
+    let (mut nodes, mut space, mut tree) = (ReadNodes::new(Global), None, [(c"root", 0)]);
     from.object([c"address_space", c"interval_tree"], |from, at| {
-        match at {
-            0 => space = Some(read_range(from)?),
-            _ => {
-                tree = from.object([c"root"], |from, _| {
-                    read_subtree(from, &mut nodes).map(|_| ())
-                })?;
-            }
+        if at == 0 {
+            space = Some(read_range(from)?);
+        } else {
+            tree = from.object([c"root"], |from, _| {
+                read_subtree(from, &mut nodes).map(drop)
+            })?;
         }
         Ok(())
     })?;

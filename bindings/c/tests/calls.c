@@ -1037,8 +1037,8 @@ static void say_words(void) {
 
     for (i = 0; i < sizeof unknown / sizeof unknown[0]; i++) {
         CHECK(strcmp(dvs_status_name(unknown[i]), "unknown") == 0);
-        CHECK(strcmp(dvs_status_text(unknown[i]), "Unknown status.") == 0);
-        CHECK(strcmp(dvs_cause_text(unknown[i]), "Unknown cause.") == 0);
+        CHECK(strcmp(dvs_status_text(unknown[i]), "Unknown number.") == 0);
+        CHECK(strcmp(dvs_cause_text(unknown[i]), "Unknown number.") == 0);
     }
     sprintf(version, "%d.%d.%d", DVS_VERSION_MAJOR, DVS_VERSION_MINOR, DVS_VERSION_PATCH);
     CHECK(strcmp(version, DVS_VERSION_TEXT) == 0 && strcmp(version, dvs_version_text()) == 0);

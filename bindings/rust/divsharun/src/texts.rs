@@ -8,15 +8,11 @@ pub(crate) fn pad(
     f: &mut fmt::Formatter<'_>,
     text: impl Fn(&mut dyn Write) -> fmt::Result,
 ) -> fmt::Result {
-    let most = f.precision().unwrap_or(usize::MAX);
-    let mut missing = 0;
+    let (most, mut missing) = (f.precision().unwrap_or(usize::MAX), 0);
     if let Some(width) = f.width() {
-        let mut counted = Prefix {
-            to: None,
-            left: most,
-        };
+        let mut counted = Prefix(None, most);
         text(&mut counted)?;
-        missing = width.saturating_sub(most - counted.left);
+        missing = width.saturating_sub(most - counted.1);
     }
     let before = match f.align() {
         Some(Alignment::Right) => missing,
@@ -24,10 +20,7 @@ pub(crate) fn pad(
         Some(Alignment::Left) | None => 0,
     };
     fill(f, before)?;
-    text(&mut Prefix {
-        to: Some(f),
-        left: most,
-    })?;
+    text(&mut Prefix(Some(f), most))?;
     fill(f, missing - before)
 }
 
@@ -37,21 +30,15 @@ fn fill(f: &mut fmt::Formatter<'_>, count: usize) -> fmt::Result {
     (0..count).try_for_each(|_| f.write_char(fill))
 }
 
-/// Passes on the first characters of a text, or only counts them.
-struct Prefix<'a> {
-    to: Option<&'a mut dyn Write>,
-    /// The number of characters that can follow.
-    left: usize,
-}
+/// Passes on at most this number of characters, or only counts them down.
+struct Prefix<'a>(Option<&'a mut dyn Write>, usize);
 
 impl Write for Prefix<'_> {
     fn write_str(&mut self, text: &str) -> fmt::Result {
-        let end = text.char_indices().nth(self.left);
+        let Prefix(to, left) = self;
+        let end = text.char_indices().nth(*left);
         let text = end.map_or(text, |(end, _)| &text[..end]);
-        self.left -= text.chars().count();
-        match &mut self.to {
-            Some(to) => to.write_str(text),
-            None => Ok(()),
-        }
+        *left -= text.chars().count();
+        to.as_mut().map_or(Ok(()), |to| to.write_str(text))
     }
 }
