@@ -127,7 +127,10 @@ enum {
     DVS_ALREADY_RELEASED = 3,
     /* The id was never allocated, or no device has it. */
     DVS_NEVER_ALLOCATED = 4,
-    /* No free range or id fits, or the given one is allocated, not found or out of order. */
+    /*
+     * No free range or id fits, or the given range, id or address is allocated, not found
+     * or out of order.
+     */
     DVS_RESOURCE_NOT_AVAILABLE = 5,
     /*
      * The start of a range is past its end, or the range has all 2^64 addresses. A window
@@ -259,7 +262,7 @@ typedef struct dvs_text_limits {
 
 /* Why a text was not read. */
 typedef struct dvs_text_fault {
-    /* The number of bytes before the place of the fault. */
+    /* The number of bytes before the fault. A wrong value begins there. */
     size_t offset;
     /* The condition that is violated, with static storage duration. */
     const char *reason;

@@ -44,7 +44,7 @@ impl From<dvs_status> for TextFault {
 
 impl TextFault {
     /// Returns the fault at another offset.
-    fn at(self, offset: usize) -> TextFault {
+    pub(crate) fn at(self, offset: usize) -> TextFault {
         TextFault { offset, ..self }
     }
 
@@ -55,8 +55,8 @@ impl TextFault {
     }
 }
 
-/// The name of a field that was read, and the offset of its value.
-pub(crate) type Field = (&'static CStr, usize);
+/// The name of a field that was read, and the offset of its value. An item has no name.
+pub(crate) type Field = (Option<&'static CStr>, usize);
 
 /// The result of reading a part of a text.
 pub(crate) type Read<T> = Result<T, TextFault>;
@@ -97,16 +97,18 @@ impl<'a> Reader<'a> {
         self.fault(DVS_NOT_A_STATE, reason)
     }
 
-    /// Returns the fault of an object with these fields, or of an item without fields.
+    /// Returns the fault of an object with these fields, or of one item.
     pub(crate) fn of_parts(&self, error: SavedError, fields: &[Field]) -> TextFault {
         let SavedError::Violated(condition) = error else {
             return DVS_OUT_OF_MEMORY.into();
         };
-        let (name, text) = field_and_text(condition);
-        let fault = self.not_a_state(text);
-        match fields.iter().find(|(other, _)| *other == name) {
-            Some((_, start)) => fault.at(*start).in_field(name),
-            None => fault,
+        let (field, text) = field_and_text(condition);
+        let wrong = fields.iter().find(|(name, _)| *name == field);
+        let offset = wrong.map_or(self.at, |(_, value)| *value);
+        TextFault {
+            offset,
+            field,
+            ..self.not_a_state(text)
         }
     }
 
@@ -116,6 +118,12 @@ impl<'a> Reader<'a> {
             self.at += 1;
         }
         self.text.get(self.at).copied()
+    }
+
+    /// Returns the offset of the next value or name.
+    pub(crate) fn start(&mut self) -> usize {
+        self.peek();
+        self.at
     }
 
     /// Reads a byte if it is next after white space, and returns whether it was.
@@ -169,28 +177,29 @@ impl<'a> Reader<'a> {
         mut read: impl FnMut(&mut Self, usize) -> Read<()>,
     ) -> Read<[Field; N]> {
         // No value is at offset 0.
-        let mut fields = names.map(|name| (name, 0));
+        let mut fields = names.map(|name| (Some(name), 0));
         let mut is_more = self.open(b'{', b'}', c"an object is expected")?;
         while is_more {
-            self.peek();
-            let start = self.at;
+            let start = self.start();
             let Some(place) = self.string(&names)? else {
                 return Err(self.not_a_state(c"the field is unknown").at(start));
             };
-            let (name, value) = &mut fields[place];
+            let (name, value) = (names[place], &mut fields[place].1);
             if *value > 0 {
                 let fault = self.not_a_state(c"the field is duplicate");
                 return Err(fault.at(start).in_field(name));
             }
             self.expect_colon()?;
-            self.peek();
-            *value = self.at;
+            *value = self.start();
             read(self, place).map_err(|fault| fault.in_field(name))?;
             is_more = self.next(b'}')?;
         }
-        match fields.iter().find(|(_, value)| *value == 0) {
+        match fields.iter().position(|(_, value)| *value == 0) {
             None => Ok(fields),
-            Some((name, _)) => Err(self.not_a_state(c"the field is missing").in_field(name)),
+            Some(missing) => {
+                let fault = self.not_a_state(c"the field is missing");
+                Err(fault.in_field(names[missing]))
+            }
         }
     }
 

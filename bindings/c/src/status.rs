@@ -30,7 +30,7 @@ numbers! { STATUSES:
     DVS_OUT_OF_RANGE = 2, "The id is outside the range of the allocator.";
     DVS_ALREADY_RELEASED = 3, "The id is already freed.";
     DVS_NEVER_ALLOCATED = 4, "The id was never allocated, or no device has it.";
-    DVS_RESOURCE_NOT_AVAILABLE = 5, "No free range or id fits, or the given one is allocated, not found or out of order.";
+    DVS_RESOURCE_NOT_AVAILABLE = 5, "No free range or id fits, or the given range, id or address is allocated, not found or out of order.";
     DVS_INVALID_RANGE = 6, "The start of a range is past its end, or the range has all 2^64 addresses.";
     DVS_INVALID_ALIGNMENT = 7, "The alignment is not a power of two.";
     DVS_OVERLAP = 8, "Two ranges share an address.";
@@ -108,11 +108,12 @@ impl CallError {
 /// Returns the error of a call that names an id. The details of `ResourceNotAvailable` have the id.
 #[cold]
 pub(crate) fn refused_id(error: Error, id: u32) -> CallError {
+    let details = dvs_refusal {
+        id,
+        ..dvs_refusal::default()
+    };
     match error {
-        Error::ResourceNotAvailable => CallError::NotAvailable(dvs_refusal {
-            id,
-            ..dvs_refusal::default()
-        }),
+        Error::ResourceNotAvailable => CallError::NotAvailable(details),
         _ => error.into(),
     }
 }

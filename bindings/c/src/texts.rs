@@ -282,13 +282,13 @@ fn read_all<T>(
 }
 
 fn read_range(from: &mut Reader<'_>) -> Read<RangeInclusive> {
-    let mut ends = [0; 2];
+    let (start, mut ends) = (from.start(), [0; 2]);
     from.object([c"start", c"end"], |from, at| {
         ends[at] = from.whole(u64::MAX)?;
         Ok(())
     })?;
-    let [start, end] = ends;
-    RangeInclusive::new(start, end).map_err(|_| from.not_a_state(c"the range is not valid"))
+    let range = RangeInclusive::new(ends[0], ends[1]);
+    range.map_err(|_| from.not_a_state(c"the range is not valid").at(start))
 }
 
 fn read_subtree(from: &mut Reader<'_>, nodes: &mut ReadNodes) -> Read<Option<Span>> {
@@ -318,7 +318,7 @@ pub(crate) fn read_space(
     from: &mut Reader<'_>,
     made: impl FnOnce(Global, RangeInclusive, &ReadNodes) -> Result<AddressAllocator, SavedError>,
 ) -> Read<AddressAllocator> {
-    let (mut nodes, mut space, mut tree) = (ReadNodes::new(Global), None, [(c"root", 0)]);
+    let (mut nodes, mut space, mut tree) = (ReadNodes::new(Global), None, [(None, 0)]);
     from.object([c"address_space", c"interval_tree"], |from, at| {
         if at == 0 {
             space = Some(read_range(from)?);
@@ -346,8 +346,9 @@ pub(crate) fn read_ids(from: &mut Reader<'_>) -> Read<IdAllocator> {
             2 if from.skip_null()? => {}
             2 => next = Some(read_id(from)?),
             _ => from.list(|from| {
-                let id = read_id(from)?;
-                freed.push(id).map_err(|error| from.of_parts(error, &[]))
+                let item = [(None, from.start())];
+                let pushed = freed.push(read_id(from)?);
+                pushed.map_err(|error| from.of_parts(error, &item))
             })?,
         }
         Ok(())
@@ -379,8 +380,9 @@ pub(crate) fn read_devices(from: &mut Reader<'_>) -> Read<DeviceManager> {
             1 => ids = Some(read_ids(from)?),
             2 => space = Some(read_space(from, AddressAllocator::from_nodes)?),
             _ => from.list(|from| {
-                let slot = read_slot(from)?;
-                slots.push(slot).map_err(|error| from.of_parts(error, &[]))
+                let item = [(None, from.start())];
+                let pushed = slots.push(read_slot(from)?);
+                pushed.map_err(|error| from.of_parts(error, &item))
             })?,
         }
         Ok(())

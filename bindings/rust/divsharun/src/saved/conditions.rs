@@ -5,36 +5,36 @@
 use crate::proved::vm_allocator::Condition;
 use core::ffi::CStr;
 
-/// Returns the field that violates a condition, and the text of the condition. The field is empty if it
-/// is the one whose item or node is read.
-pub(super) fn field_and_text(condition: Condition) -> (&'static CStr, &'static CStr) {
+/// Returns the field of an object that violates a condition, and the text of the condition. There is no
+/// field if an item or a node as a whole violates it.
+pub(super) fn field_and_text(condition: Condition) -> (Option<&'static CStr>, &'static CStr) {
     match condition {
-        Condition::Nesting => (c"", c"nodes are nested more than 50 deep"),
+        Condition::Nesting => (None, c"nodes are nested more than 50 deep"),
         Condition::Keys => (
-            c"key",
+            Some(c"key"),
             c"the keys do not ascend or share an address, or an allocated key ends at u64::MAX",
         ),
         Condition::Inside => (
-            c"root",
+            Some(c"root"),
             c"a key is outside the space, or more than 6,293,134,512 keys are allocated",
         ),
         Condition::Tree => (
-            c"root",
+            Some(c"root"),
             c"the tree is unbalanced, a height is wrong, or it has a gap or free neighbours",
         ),
-        Condition::Order => (c"", c"the ids of a list do not ascend"),
-        Condition::IdRange => (c"range_base", c"range_base is past range_end"),
+        Condition::Order => (None, c"the ids of a list do not ascend"),
+        Condition::IdRange => (Some(c"range_base"), c"range_base is past range_end"),
         Condition::NextId => (
-            c"next_id",
+            Some(c"next_id"),
             c"next_id is neither in the range nor right after it",
         ),
         Condition::FreedIds => (
-            c"freed_ids",
+            Some(c"freed_ids"),
             c"a freed id is outside the range or not below next_id",
         ),
-        Condition::Version => (c"version", c"the version is not 1"),
+        Condition::Version => (Some(c"version"), c"the version is not 1"),
         Condition::Devices => (
-            c"slots",
+            Some(c"slots"),
             c"the devices do not pair the allocated ids with the allocated ranges",
         ),
     }
