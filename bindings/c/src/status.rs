@@ -108,12 +108,9 @@ impl CallError {
 /// Returns the error of a call that names an id. The details of `ResourceNotAvailable` have the id.
 #[cold]
 pub(crate) fn refused_id(error: Error, id: u32) -> CallError {
-    let details = dvs_refusal {
-        id,
-        ..dvs_refusal::default()
-    };
+    let none = dvs_refusal::default();
     match error {
-        Error::ResourceNotAvailable => CallError::NotAvailable(details),
+        Error::ResourceNotAvailable => CallError::NotAvailable(dvs_refusal { id, ..none }),
         _ => error.into(),
     }
 }
