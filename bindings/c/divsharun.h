@@ -71,9 +71,10 @@
  *
  * Stack. 64 KiB are enough for every call.
  *
- * Bugs. No call is known to fail other than by its status. If the library
- * detects a bug in itself, it ends the process with abort(). It never throws
- * into C or C++.
+ * Bugs. No call is known to fail other than by its status. If the library detects a bug
+ * in itself, it ends the process with abort(). It writes a line to the standard error
+ * stream first. A destroyed object, or a pointer to no object, can look like a bug, so
+ * the line names both. It never throws into C or C++.
  */
 #ifndef DIVSHARUN_H
 #define DIVSHARUN_H
@@ -106,25 +107,34 @@
 extern "C" {
 #endif
 
-/* The result of a call: one of the constants below. The meaning of a number never changes. */
+/*
+ * The result of a call: one of the constants below. The meaning of a number never changes.
+ * dvs_status_text() returns the first sentence of a comment.
+ */
 typedef uint32_t dvs_status;
 
 enum {
+    /* The call succeeded. */
     DVS_OK = 0,
-    /* A range would end at or past UINT64_MAX, or too few ids up to UINT32_MAX are free. */
+    /*
+     * A range would end at or past UINT64_MAX, too few ids up to UINT32_MAX are free, or
+     * too many ranges are allocated.
+     */
     DVS_OVERFLOW = 1,
     /* The id is outside the range of the allocator. */
     DVS_OUT_OF_RANGE = 2,
-    /* The id to free was allocated and is already freed. */
+    /* The id is already freed. */
     DVS_ALREADY_RELEASED = 3,
-    /* The id to free was never allocated, or no device has it. */
+    /* The id was never allocated, or no device has it. */
     DVS_NEVER_ALLOCATED = 4,
     /*
-     * No free range fits, the range to free is not allocated, too few ids are
-     * free, or the requested id is already allocated.
+     * No free range or id fits, or the given range, id or address is allocated, not found
+     * or out of order.
      */
     DVS_RESOURCE_NOT_AVAILABLE = 5,
-    /* The start is past the end, or the range has all 2^64 addresses. A window can have them all.
+    /*
+     * The start of a range is past its end, or the range has all 2^64 addresses. A window
+     * can have them all.
      */
     DVS_INVALID_RANGE = 6,
     /* The alignment is not a power of two. */
@@ -146,9 +156,8 @@ enum {
     /* The object is being visited, so it cannot be changed or destroyed. */
     DVS_BUSY = 15,
     /*
-     * The text is not JSON of RFC 8259 in UTF-8, is nested more than 128 deep,
-     * has a number greater than any double, or has an unpaired surrogate
-     * escape.
+     * The text is not JSON. It must be JSON of RFC 8259 in UTF-8, nested at most 128 deep,
+     * without a number greater than any double and without an unpaired surrogate escape.
      */
     DVS_NOT_JSON = 16,
     /* The text is JSON, but does not encode an object of the type. */
@@ -177,7 +186,10 @@ typedef struct dvs_refusal {
     dvs_range other;
     /* DVS_INVALID_SIZE: the size. */
     uint64_t size;
-    /* DVS_OUT_OF_RANGE, DVS_ALREADY_RELEASED, DVS_NEVER_ALLOCATED: the id. */
+    /*
+     * DVS_OUT_OF_RANGE, DVS_ALREADY_RELEASED, DVS_NEVER_ALLOCATED: the id.
+     * DVS_RESOURCE_NOT_AVAILABLE: the id, if the call was given one.
+     */
     uint32_t id;
     /* DVS_RESOURCE_NOT_AVAILABLE: why the range at a given start is not available. */
     uint32_t cause;
@@ -186,12 +198,12 @@ typedef struct dvs_refusal {
 /*
  * The causes. The first one that applies is written, in this order: outside the space,
  * outside the window, allocated, an earlier request. A call looks for the cause only if
- * its `refusal` is not null.
+ * its `refusal` is not null. dvs_cause_text() returns the first sentence of a comment.
  */
 enum {
     /*
-     * No conflict, another error, no given start, no free id, or the range to move is
-     * not allocated.
+     * There is no cause. The call has no conflict, another error, no given start or no
+     * free id, or the range to move is not allocated.
      */
     DVS_CAUSE_NONE = 0,
     /* An address is allocated. `other` is the lowest allocated range that has one. */
@@ -250,13 +262,22 @@ typedef struct dvs_text_limits {
 
 /* Why a text was not read. */
 typedef struct dvs_text_fault {
-    /* The number of bytes before the place of the fault. */
+    /* The number of bytes before the fault. A wrong value begins there. */
     size_t offset;
     /* The condition that is violated, with static storage duration. */
     const char *reason;
     /*
-     * DVS_NOT_A_STATE: the innermost field whose value is wrong, or which is
-     * missing or duplicate, with static storage duration. Otherwise NULL.
+     * DVS_NOT_A_STATE: the innermost field whose value is wrong, or which is missing or
+     * duplicate, with static storage duration. NULL for other errors, and if the value of
+     * the text is not an object or has an unknown field.
+     *
+     * If values do not fit together, it is one of these:
+     * - the field of the range, if the start of a range is past its end;
+     * - `key`, if the key of a node does not fit its children;
+     * - `root`, if the tree is wrong in another way;
+     * - `range_base`, if it is past `range_end`;
+     * - `next_id` or `freed_ids`, if it does not fit the other ids;
+     * - `slots`, if the devices do not fit the ids and the ranges.
      */
     const char *field;
 } dvs_text_fault;
@@ -271,10 +292,17 @@ typedef struct dvs_id_allocator dvs_id_allocator;
 typedef struct dvs_device_manager dvs_device_manager;
 
 /*
- * Returns a description of a status, also for a number that is not a status.
- * The text has static storage duration.
+ * Returns the name of a status, such as "DVS_OVERFLOW". This and the two texts below are
+ * never null and have static storage duration. For a number without a meaning, the name
+ * is "unknown" and the texts are "Unknown number.".
  */
+const char *dvs_status_name(dvs_status status);
+
+/* Returns a description of a status. */
 const char *dvs_status_text(dvs_status status);
+
+/* Returns a description of the cause in a refusal. */
+const char *dvs_cause_text(uint32_t cause);
 
 /*
  * Returns the version of the library that runs, like DVS_VERSION_TEXT. It has
@@ -755,7 +783,7 @@ dvs_status dvs_id_allocator_new(uint32_t first, uint32_t last, dvs_id_allocator 
  * - DVS_INVALID_RANGE, with both ids, if `last` is less than `first`.
  * - For the first id that is wrong:
  *   - DVS_OUT_OF_RANGE, with the id, if it is not between the first and the last.
- *   - DVS_RESOURCE_NOT_AVAILABLE if it is not greater than the id before it.
+ *   - DVS_RESOURCE_NOT_AVAILABLE, with the id, if it is not greater than the id before it.
  * - DVS_OUT_OF_MEMORY.
  */
 DVS_WARN_UNUSED
@@ -788,7 +816,7 @@ dvs_status dvs_id_allocate(dvs_id_allocator *allocator, uint32_t *id);
  *
  * Errors, in order:
  * - DVS_OUT_OF_RANGE, with the id, if it is not between the first and the last.
- * - DVS_RESOURCE_NOT_AVAILABLE if the id is already allocated.
+ * - DVS_RESOURCE_NOT_AVAILABLE, with the id, if it is already allocated.
  * - DVS_OUT_OF_MEMORY.
  */
 DVS_WARN_UNUSED

@@ -40,6 +40,9 @@ class DVS_MUST_CHECK error : public std::error_code {
     error() noexcept = default;
     error(int status, const std::error_category &owner) noexcept : std::error_code(status, owner) {}
 
+    /* The name of the status, such as "DVS_OVERFLOW". */
+    const char *name() const noexcept { return dvs_status_name(static_cast<dvs_status>(value())); }
+
     friend bool operator==(const error &code, dvs_status status) noexcept {
         return code.value() == static_cast<int>(status);
     }
@@ -89,6 +92,9 @@ enum class cause : uint32_t {
 
 inline cause cause_of(const dvs_refusal &refusal) noexcept {
     return static_cast<cause>(refusal.cause);
+}
+inline const char *text_of(cause found) noexcept {
+    return dvs_cause_text(static_cast<uint32_t>(found));
 }
 
 inline error range_from(uint64_t start, uint64_t length, dvs_range &range) noexcept {

@@ -5,6 +5,7 @@ use crate::lists::array;
 use crate::objects::{calls, functions, object_calls, visits};
 use crate::proved::vm_allocator::IdAllocator;
 use crate::rattle::Global;
+use crate::status::refused_id;
 use crate::texts::{read_ids, save_ids};
 use crate::{dvs_refusal, dvs_status, status_of, CallError, Out};
 use core::ffi::{c_int, c_void};
@@ -14,6 +15,14 @@ pub type dvs_id_allocator = Handle<IdAllocator>;
 
 /// The visitor that C passes for allocated ids. If it unwinds, the process ends.
 pub type dvs_id_visitor = extern "C-unwind" fn(context: *mut c_void, id: u32) -> c_int;
+
+/// Returns the first id of a list that is not greater than the id before it, or 0 if there is none.
+fn first_not_above(ids: &[u32]) -> u32 {
+    let mut pairs = ids.windows(2);
+    pairs
+        .find(|pair| pair[0] >= pair[1])
+        .map_or(0, |pair| pair[1])
+}
 
 /// # Safety
 ///
@@ -30,7 +39,8 @@ pub unsafe extern "C" fn dvs_id_allocator_with_held(
     let make = || {
         // SAFETY: the caller's contract.
         let held = unsafe { array(held, count) }?;
-        Handle::new(IdAllocator::with_held(Global, first, last, held)?)
+        let made = IdAllocator::with_held(Global, first, last, held);
+        Handle::new(made.map_err(|error| refused_id(error, first_not_above(held)))?)
     };
     status_of(with_out(allocator, make), refusal)
 }
@@ -84,7 +94,7 @@ calls! {
         Ok(ids.allocate_in(first, last)?)
     }
     with_mut_unit dvs_id_allocate_exact(ids: dvs_id_allocator, id: u32) [refusal] {
-        Ok(ids.allocate_exact(id).map(drop)?)
+        ids.allocate_exact(id).map(drop).map_err(|error| refused_id(error, id))
     }
     with_mut_unit dvs_id_free(ids: dvs_id_allocator, id: u32) [refusal] {
         Ok(ids.free_id(id).map(drop)?)

@@ -1,6 +1,6 @@
 //! A reader of JSON after RFC 8259. It visits a text once and does not allocate.
 
-use crate::conditions;
+use crate::conditions::field_and_text;
 use crate::proved::vm_allocator::SavedError;
 use crate::status::{
     dvs_status, DVS_LIMIT_EXCEEDED, DVS_NOT_A_STATE, DVS_NOT_JSON, DVS_OUT_OF_MEMORY,
@@ -44,7 +44,7 @@ impl From<dvs_status> for TextFault {
 
 impl TextFault {
     /// Returns the fault at another offset.
-    fn at(self, offset: usize) -> TextFault {
+    pub(crate) fn at(self, offset: usize) -> TextFault {
         TextFault { offset, ..self }
     }
 
@@ -54,6 +54,9 @@ impl TextFault {
         TextFault { field, ..self }
     }
 }
+
+/// The name of a field that was read, and the offset of its value. An item has no name.
+pub(crate) type Field = (Option<&'static CStr>, usize);
 
 /// The result of reading a part of a text.
 pub(crate) type Read<T> = Result<T, TextFault>;
@@ -94,11 +97,18 @@ impl<'a> Reader<'a> {
         self.fault(DVS_NOT_A_STATE, reason)
     }
 
-    /// Returns the fault of parts that end before the rest.
-    pub(crate) fn of_parts(&self, error: SavedError) -> TextFault {
-        match error {
-            SavedError::Violated(condition) => self.not_a_state(conditions::text_of(condition)),
-            SavedError::OutOfMemory => DVS_OUT_OF_MEMORY.into(),
+    /// Returns the fault of an object with these fields, or of one item.
+    pub(crate) fn of_parts(&self, error: SavedError, fields: &[Field]) -> TextFault {
+        let SavedError::Violated(condition) = error else {
+            return DVS_OUT_OF_MEMORY.into();
+        };
+        let (field, text) = field_and_text(condition);
+        let wrong = fields.iter().find(|(name, _)| *name == field);
+        let offset = wrong.map_or(self.at, |(_, value)| *value);
+        TextFault {
+            offset,
+            field,
+            ..self.not_a_state(text)
         }
     }
 
@@ -108,6 +118,12 @@ impl<'a> Reader<'a> {
             self.at += 1;
         }
         self.text.get(self.at).copied()
+    }
+
+    /// Returns the offset of the next value or name.
+    pub(crate) fn start(&mut self) -> usize {
+        self.peek();
+        self.at
     }
 
     /// Reads a byte if it is next after white space, and returns whether it was.
@@ -153,33 +169,33 @@ impl<'a> Reader<'a> {
         Ok(false)
     }
 
-    /// Reads an object that has each of these fields once, in any order. `read` reads the value of
-    /// the field with an index.
+    /// Reads an object that has each of these fields once, in any order, and returns the fields. `read`
+    /// reads the value of the field with an index.
     pub(crate) fn object<const N: usize>(
         &mut self,
         names: [&'static CStr; N],
         mut read: impl FnMut(&mut Self, usize) -> Read<()>,
-    ) -> Read<()> {
-        let mut is_read = [false; N];
+    ) -> Read<[Field; N]> {
+        // No value is at offset 0.
+        let mut fields = names.map(|name| (Some(name), 0));
         let mut is_more = self.open(b'{', b'}', c"an object is expected")?;
         while is_more {
-            self.peek();
-            let start = self.at;
+            let start = self.start();
             let Some(place) = self.string(&names)? else {
                 return Err(self.not_a_state(c"the field is unknown").at(start));
             };
-            let name = names[place];
-            if is_read[place] {
+            let (name, value) = (names[place], &mut fields[place].1);
+            if *value > 0 {
                 let fault = self.not_a_state(c"the field is duplicate");
                 return Err(fault.at(start).in_field(name));
             }
-            is_read[place] = true;
             self.expect_colon()?;
+            *value = self.start();
             read(self, place).map_err(|fault| fault.in_field(name))?;
             is_more = self.next(b'}')?;
         }
-        match is_read.iter().position(|is_read| !is_read) {
-            None => Ok(()),
+        match fields.iter().position(|(_, value)| *value == 0) {
+            None => Ok(fields),
             Some(missing) => {
                 let fault = self.not_a_state(c"the field is missing");
                 Err(fault.in_field(names[missing]))

@@ -3,16 +3,15 @@
 use crate::proved::vm_allocator::{
     AddressAllocator, AllocPolicy, Conflict, Constraint, Error, RangeInclusive,
 };
+use crate::status::{
+    DVS_CAUSE_ALLOCATED, DVS_CAUSE_EARLIER_REQUEST, DVS_CAUSE_OUTSIDE_SPACE,
+    DVS_CAUSE_OUTSIDE_WINDOW,
+};
 use crate::{dvs_range, dvs_refusal, CallError};
 
 const DVS_FIRST: u32 = 0;
 const DVS_LAST: u32 = 1;
 const DVS_EXACT: u32 = 2;
-
-const DVS_CAUSE_ALLOCATED: u32 = 1;
-const DVS_CAUSE_OUTSIDE_SPACE: u32 = 2;
-const DVS_CAUSE_OUTSIDE_WINDOW: u32 = 3;
-const DVS_CAUSE_EARLIER_REQUEST: u32 = 4;
 
 /// A request for a range.
 #[repr(C)]
@@ -63,7 +62,7 @@ pub(crate) fn refused(
 ) -> CallError {
     match (&error, request.policy()) {
         (Error::ResourceNotAvailable, AllocPolicy::ExactMatch(start)) if wants_details => {
-            CallError::InTheWay(in_the_way(start, request, space.conflict(request)))
+            CallError::NotAvailable(in_the_way(start, request, space.conflict(request)))
         }
         _ => error.into(),
     }

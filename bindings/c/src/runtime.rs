@@ -58,7 +58,7 @@ fn end(line: &str) -> ! {
 
 #[panic_handler]
 fn panic(_: &PanicInfo) -> ! {
-    end("divsharun: the process ends because of a bug in the library\n")
+    end("divsharun: the process ends because of a bug in the library, or a pointer to no object or a destroyed one\n")
 }
 
 // Another library in the same program can have a function of this name.

@@ -3,41 +3,56 @@
 use crate::proved::vm_allocator::Error;
 use crate::rattle::AllocError;
 use crate::{dvs_range, Out};
-use core::ffi::{c_char, CStr};
+use core::ffi::c_char;
 
 /// The result of a call.
 pub type dvs_status = u32;
 
-/// Defines the statuses, each with its text.
-macro_rules! statuses {
-    ($($name:ident = $number:literal, $text:literal;)+) => {
-        $(pub(crate) const $name: dvs_status = $number;)+
+/// A number of the header, its name and its text. Both end with a zero byte.
+type Row = (u32, &'static str, &'static str);
 
-        const TEXTS: &[(dvs_status, &CStr)] = &[$(($name, $text)),+];
+/// The row of any other number.
+static UNKNOWN: Row = (0, "unknown\0", "Unknown number.\0");
+
+/// Defines the numbers of an `enum` of the header. The comment of each there begins with its text.
+macro_rules! numbers {
+    ($table:ident: $($name:ident = $number:literal, $text:literal;)+) => {
+        $(pub(crate) const $name: u32 = $number;)+
+
+        static $table: &[Row] =
+            &[$(($name, concat!(stringify!($name), "\0"), concat!($text, "\0"))),+];
     };
 }
 
-statuses! {
-    DVS_OK = 0, c"The call succeeded.";
-    DVS_OVERFLOW = 1, c"Management operations on desired resource resulted in overflow.";
-    DVS_OUT_OF_RANGE = 2, c"The id is not in the range.";
-    DVS_ALREADY_RELEASED = 3, c"The id is already released.";
-    DVS_NEVER_ALLOCATED = 4, c"The id was never allocated, can't release it.";
-    DVS_RESOURCE_NOT_AVAILABLE = 5, c"The requested resource is not available.";
-    DVS_INVALID_RANGE = 6, c"The range is not valid.";
-    DVS_INVALID_ALIGNMENT = 7, c"Alignment value is invalid.";
-    DVS_OVERLAP = 8, c"Addresses are overlapping.";
-    DVS_INVALID_STATE_TRANSITION = 9, c"The range is already allocated.";
-    DVS_UNALIGNED_ADDRESS = 10, c"The address is not aligned.";
-    DVS_UNDERFLOW = 11, c"Management operations on desired resource resulted in underflow.";
-    DVS_INVALID_SIZE = 12, c"The size is not valid.";
-    DVS_OUT_OF_MEMORY = 13, c"There is not enough memory.";
-    DVS_NULL = 14, c"A pointer is null.";
-    DVS_BUSY = 15, c"The object is being visited and cannot be changed.";
-    DVS_NOT_JSON = 16, c"The text is not JSON.";
-    DVS_NOT_A_STATE = 17, c"The value does not encode a valid object.";
-    DVS_INVALID_POLICY = 18, c"The policy is not valid.";
-    DVS_LIMIT_EXCEEDED = 19, c"The text exceeds a limit.";
+numbers! { STATUSES:
+    DVS_OK = 0, "The call succeeded.";
+    DVS_OVERFLOW = 1, "A range would end at or past UINT64_MAX, too few ids up to UINT32_MAX are free, or too many ranges are allocated.";
+    DVS_OUT_OF_RANGE = 2, "The id is outside the range of the allocator.";
+    DVS_ALREADY_RELEASED = 3, "The id is already freed.";
+    DVS_NEVER_ALLOCATED = 4, "The id was never allocated, or no device has it.";
+    DVS_RESOURCE_NOT_AVAILABLE = 5, "No free range or id fits, or the given range, id or address is allocated, not found or out of order.";
+    DVS_INVALID_RANGE = 6, "The start of a range is past its end, or the range has all 2^64 addresses.";
+    DVS_INVALID_ALIGNMENT = 7, "The alignment is not a power of two.";
+    DVS_OVERLAP = 8, "Two ranges share an address.";
+    DVS_INVALID_STATE_TRANSITION = 9, "Exactly the requested range is already allocated.";
+    DVS_UNALIGNED_ADDRESS = 10, "The requested start is not a multiple of the alignment.";
+    DVS_UNDERFLOW = 11, "The size of a space is 0.";
+    DVS_INVALID_SIZE = 12, "The size of a requested range is 0.";
+    DVS_OUT_OF_MEMORY = 13, "Memory ran out.";
+    DVS_NULL = 14, "A pointer is null that must not be.";
+    DVS_BUSY = 15, "The object is being visited, so it cannot be changed or destroyed.";
+    DVS_NOT_JSON = 16, "The text is not JSON.";
+    DVS_NOT_A_STATE = 17, "The text is JSON, but does not encode an object of the type.";
+    DVS_INVALID_POLICY = 18, "The policy of a request is not one of the constants.";
+    DVS_LIMIT_EXCEEDED = 19, "The text is longer or nested deeper than the caller allows.";
+}
+
+numbers! { CAUSES:
+    DVS_CAUSE_NONE = 0, "There is no cause.";
+    DVS_CAUSE_ALLOCATED = 1, "An address is allocated.";
+    DVS_CAUSE_OUTSIDE_SPACE = 2, "An address is outside the space.";
+    DVS_CAUSE_OUTSIDE_WINDOW = 3, "An address is outside the window of the request.";
+    DVS_CAUSE_EARLIER_REQUEST = 4, "An address is in the range of an earlier request of the same call.";
 }
 
 /// The details of an error.
@@ -57,8 +72,8 @@ pub(crate) enum CallError {
     Busy,
     InvalidPolicy,
     Call(Error),
-    /// The range of a request is not available, with the cause in these details.
-    InTheWay(dvs_refusal),
+    /// The range or the id that a call names is not available, with these details.
+    NotAvailable(dvs_refusal),
 }
 
 impl From<Error> for CallError {
@@ -85,8 +100,18 @@ impl CallError {
             CallError::Busy => (DVS_BUSY, none),
             CallError::InvalidPolicy => (DVS_INVALID_POLICY, none),
             CallError::Call(error) => parts_of(error),
-            CallError::InTheWay(details) => (DVS_RESOURCE_NOT_AVAILABLE, *details),
+            CallError::NotAvailable(details) => (DVS_RESOURCE_NOT_AVAILABLE, *details),
         }
+    }
+}
+
+/// Returns the error of a call that names an id. The details of `ResourceNotAvailable` have the id.
+#[cold]
+pub(crate) fn refused_id(error: Error, id: u32) -> CallError {
+    let none = dvs_refusal::default();
+    match error {
+        Error::ResourceNotAvailable => CallError::NotAvailable(dvs_refusal { id, ..none }),
+        _ => error.into(),
     }
 }
 
@@ -137,11 +162,25 @@ fn report(refused: &CallError, refusal: Out<dvs_refusal>) -> dvs_status {
     status
 }
 
-/// The number is from C, so it can be one that is not a status.
+/// Returns the row of a number, which is from C, so it can be any.
+fn row(table: &'static [Row], number: u32) -> &'static Row {
+    let row = table.iter().find(|row| row.0 == number);
+    row.unwrap_or(&UNKNOWN)
+}
+
+#[unsafe(no_mangle)]
+pub extern "C" fn dvs_status_name(status: u32) -> *const c_char {
+    row(STATUSES, status).1.as_ptr().cast()
+}
+
 #[unsafe(no_mangle)]
 pub extern "C" fn dvs_status_text(status: u32) -> *const c_char {
-    let row = TEXTS.iter().find(|(number, _)| *number == status);
-    row.map_or(c"Unknown status.", |(_, text)| text).as_ptr()
+    row(STATUSES, status).2.as_ptr().cast()
+}
+
+#[unsafe(no_mangle)]
+pub extern "C" fn dvs_cause_text(cause: u32) -> *const c_char {
+    row(CAUSES, cause).2.as_ptr().cast()
 }
 
 #[unsafe(no_mangle)]

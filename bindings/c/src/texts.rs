@@ -282,23 +282,23 @@ fn read_all<T>(
 }
 
 fn read_range(from: &mut Reader<'_>) -> Read<RangeInclusive> {
-    let mut ends = [0; 2];
+    let (start, mut ends) = (from.start(), [0; 2]);
     from.object([c"start", c"end"], |from, at| {
         ends[at] = from.whole(u64::MAX)?;
         Ok(())
     })?;
-    let [start, end] = ends;
-    RangeInclusive::new(start, end).map_err(|_| from.not_a_state(c"the range is not valid"))
+    let range = RangeInclusive::new(ends[0], ends[1]);
+    range.map_err(|_| from.not_a_state(c"the range is not valid").at(start))
 }
 
 fn read_subtree(from: &mut Reader<'_>, nodes: &mut ReadNodes) -> Read<Option<Span>> {
     if from.skip_null()? {
         return Ok(None);
     }
-    nodes.begin().map_err(|error| from.of_parts(error))?;
+    nodes.begin().map_err(|error| from.of_parts(error, &[]))?;
     let (mut key, mut state, mut children, mut height) = (None, NodeState::Free, [None; 2], 0);
     let names = [c"key", c"node_state", c"left", c"right", c"height"];
-    from.object(names, |from, at| {
+    let fields = from.object(names, |from, at| {
         match at {
             0 => key = Some(read_range(from)?),
             1 => state = [NodeState::Free, NodeState::Allocated][from.one_of(&STATES)?],
@@ -309,7 +309,8 @@ fn read_subtree(from: &mut Reader<'_>, nodes: &mut ReadNodes) -> Read<Option<Spa
     })?;
     let (key, [left, right]) = (from.some(key)?, children);
     let span = nodes.end(left, key, state, right, height);
-    span.map(Some).map_err(|error| from.of_parts(error))
+    span.map(Some)
+        .map_err(|error| from.of_parts(error, &fields))
 }
 
 /// Reads an address allocator, which `made` makes of its space and its nodes.
@@ -317,18 +318,19 @@ pub(crate) fn read_space(
     from: &mut Reader<'_>,
     made: impl FnOnce(Global, RangeInclusive, &ReadNodes) -> Result<AddressAllocator, SavedError>,
 ) -> Read<AddressAllocator> {
-    let (mut nodes, mut space) = (ReadNodes::new(Global), None);
+    let (mut nodes, mut space, mut tree) = (ReadNodes::new(Global), None, [(None, 0)]);
     from.object([c"address_space", c"interval_tree"], |from, at| {
         if at == 0 {
             space = Some(read_range(from)?);
-            return Ok(());
+        } else {
+            tree = from.object([c"root"], |from, _| {
+                read_subtree(from, &mut nodes).map(drop)
+            })?;
         }
-        from.object([c"root"], |from, _| {
-            read_subtree(from, &mut nodes).map(|_| ())
-        })
+        Ok(())
     })?;
     let made = made(Global, from.some(space)?, &nodes);
-    made.map_err(|error| from.of_parts(error))
+    made.map_err(|error| from.of_parts(error, &tree))
 }
 
 fn read_id(from: &mut Reader<'_>) -> Read<u32> {
@@ -338,20 +340,21 @@ fn read_id(from: &mut Reader<'_>) -> Read<u32> {
 pub(crate) fn read_ids(from: &mut Reader<'_>) -> Read<IdAllocator> {
     let (mut ends, mut next, mut freed) = ([0; 2], None, ReadIds::new(Global));
     let names = [c"range_base", c"range_end", c"next_id", c"freed_ids"];
-    from.object(names, |from, at| {
+    let fields = from.object(names, |from, at| {
         match at {
             0 | 1 => ends[at] = read_id(from)?,
             2 if from.skip_null()? => {}
             2 => next = Some(read_id(from)?),
             _ => from.list(|from| {
-                let id = read_id(from)?;
-                freed.push(id).map_err(|error| from.of_parts(error))
+                let item = [(None, from.start())];
+                let pushed = freed.push(read_id(from)?);
+                pushed.map_err(|error| from.of_parts(error, &item))
             })?,
         }
         Ok(())
     })?;
     let made = IdAllocator::from_ids(ends[0], next, ends[1], freed);
-    made.map_err(|error| from.of_parts(error))
+    made.map_err(|error| from.of_parts(error, &fields))
 }
 
 fn read_slot(from: &mut Reader<'_>) -> Read<DeviceSlot> {
@@ -371,21 +374,22 @@ pub(crate) fn read_devices(from: &mut Reader<'_>) -> Read<DeviceManager> {
     let (mut version, mut ids, mut space) = (0, None, None);
     let mut slots = ReadDevices::new(Global);
     let names = [c"version", c"id_allocator", c"mmio_allocator", c"slots"];
-    from.object(names, |from, at| {
+    let fields = from.object(names, |from, at| {
         match at {
             0 => version = from.whole(u64::MAX)?,
             1 => ids = Some(read_ids(from)?),
             2 => space = Some(read_space(from, AddressAllocator::from_nodes)?),
             _ => from.list(|from| {
-                let slot = read_slot(from)?;
-                slots.push(slot).map_err(|error| from.of_parts(error))
+                let item = [(None, from.start())];
+                let pushed = slots.push(read_slot(from)?);
+                pushed.map_err(|error| from.of_parts(error, &item))
             })?,
         }
         Ok(())
     })?;
     let (ids, space) = (from.some(ids)?, from.some(space)?);
     let made = DeviceManager::from_devices(Global, version, ids, space, &slots);
-    made.map_err(|error| from.of_parts(error))
+    made.map_err(|error| from.of_parts(error, &fields))
 }
 
 /// # Safety

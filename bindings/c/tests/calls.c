@@ -93,7 +93,7 @@ static const struct step on_none[] = {
     {WITH_IDS, {23, 5}, TELLS(DVS_INVALID_RANGE, 23, 5)},
     {WITH_IDS, {10, 12}, TELLS_ID(DVS_OUT_OF_RANGE, 9)},
     {WITH_IDS, {5, 12}, TELLS_ID(DVS_OUT_OF_RANGE, 3)},
-    {WITH_IDS, {3, 12}, NO_PLACE},
+    {WITH_IDS, {3, 12}, TELLS_ID(DVS_RESOURCE_NOT_AVAILABLE, 3)},
     {WITH_RANGES, {0, 0}, TELLS(DVS_INVALID_RANGE, 2, 1)},
     {WITH_FREE, {0}, TELLS(DVS_INVALID_RANGE, 2, 1)},
     {DESTROY_SPACE, {0}, SUCCEEDS},
@@ -255,7 +255,7 @@ static const struct step of_given_ids[] = {
     {ID_EXACT, {24}, TELLS_ID(DVS_OUT_OF_RANGE, 24)},
     {ID_EXACT, {8}, SUCCEEDS},
     {FREE_COUNT, {0}, GETS_NUMBER(18)},
-    {ID_EXACT, {8}, NO_PLACE},
+    {ID_EXACT, {8}, TELLS_ID(DVS_RESOURCE_NOT_AVAILABLE, 8)},
     {FREE_ID, {5}, TELLS_ID(DVS_ALREADY_RELEASED, 5)},
     {FREE_ID, {9}, TELLS_ID(DVS_NEVER_ALLOCATED, 9)},
     {ID_IN, {6, 8}, GETS_ID(6)},
@@ -848,11 +848,22 @@ static void be_quick(void) {
     "{\"key\":{\"start\":16,\"end\":19},\"node_state\":\"Free\",\"left\":null,\"right\":null,"     \
     "\"height\":1}}}"
 #define EMPTY "{\"address_space\":{\"end\":19,\"start\":16},\"interval_tree\":{\"root\":null}}"
-#define IDS_TEXT "{\"range_base\":5,\"next_id\":7,\"range_end\":23,\"freed_ids\":[5]}"
-#define MANAGER_TEXT                                                                               \
-    "{\"version\":1,\"id_allocator\":{\"range_base\":5,\"next_id\":5,\"range_end\":23,\"freed_"    \
-    "ids\":[]},"                                                                                   \
-    "\"mmio_allocator\":" SPACE_TEXT ",\"slots\":[]}"
+#define IDS(base, next, freed)                                                                     \
+    "{\"range_base\":" base ",\"next_id\":" next ",\"range_end\":23,\"freed_ids\":" freed "}"
+#define IDS_TEXT IDS("5", "7", "[5]")
+#define MANAGER(version, ids, slots)                                                               \
+    "{\"version\":" version ",\"id_allocator\":" ids ",\"mmio_allocator\":" SPACE_TEXT             \
+    ",\"slots\":" slots "}"
+#define MANAGER_TEXT MANAGER("1", IDS("5", "5", "[]"), "[]")
+#define DEVICE "{\"id\":6,\"mmio_range\":{\"start\":1,\"end\":1}}"
+/* An allocated node with a left child, and the tree of it in the space from 16 to 19. */
+#define NODE(key, left)                                                                            \
+    "{\"key\":{\"start\":" key "},\"node_state\":\"Allocated\",\"left\":" left                     \
+    ",\"right\":null,\"height\":1}"
+#define TREE(key, left)                                                                            \
+    "{\"address_space\":{\"start\":16,\"end\":19},\"interval_tree\":{\"root\":" NODE(key, left) "}}"
+#define FIFTY(text) TEN(text) TEN(text) TEN(text) TEN(text) TEN(text)
+#define TEN(text) text text text text text text text text text text
 
 /* Texts that are read, saved texts of the objects, and how deep a value of the text is nested. */
 static const struct {
@@ -891,17 +902,36 @@ static const struct {
     {IDS_WITHIN, "{\"range_base\":null}", DVS_NOT_A_STATE, 14, "range_base", "a whole number"},
     {IDS_WITHIN, "{\"range_base\":4294967296}", DVS_NOT_A_STATE, 14, "range_base", "in its range"},
     {IDS_WITHIN, "{\"freed_ids\":{}}", DVS_NOT_A_STATE, 13, "freed_ids", "a list"},
-    {IDS_WITHIN, "{\"freed_ids\":[6,6]}", DVS_NOT_A_STATE, 17, "freed_ids", "ascend"},
-    {IDS_WITHIN, "{\"range_base\":5,\"next_id\":7,\"range_end\":4,\"freed_ids\":[]}",
-     DVS_NOT_A_STATE, 57, NULL, "range_base is past range_end"},
+    {IDS_WITHIN, "{\"freed_ids\":[6, 6]}", DVS_NOT_A_STATE, 17, "freed_ids", "ascend"},
     {IDS_WITHIN, SPACE_TEXT, DVS_NOT_A_STATE, 1, NULL, "unknown"},
     {MANAGER_WITHIN, SPACE_TEXT, DVS_NOT_A_STATE, 1, NULL, "unknown"},
     {MANAGER_WITHIN, "{\"\\u006dmio_allocatorx\":0}", DVS_NOT_A_STATE, 1, NULL, "unknown"},
     {MANAGER_WITHIN, "{\"mmio_allocator\":{\"address_space\":{\"start\":-0}}}", DVS_NOT_A_STATE, 44,
      "start", "a whole number"},
-    {SPACE_WITHIN, "{\"address_space\":{\"start\":1,\"end\":0}}", DVS_NOT_A_STATE, 36,
+    {SPACE_WITHIN, "{\"address_space\":{\"start\":1,\"end\":0}}", DVS_NOT_A_STATE, 17,
      "address_space", "range"},
-    {SPACE_WITHIN, EMPTY, DVS_NOT_A_STATE, 69, NULL, "it has a gap"},
+    /* Each condition that the parts of an object can violate. */
+    {SPACE_WITHIN, "{\"interval_tree\":{\"root\":" FIFTY("{\"left\":") "0" FIFTY("}") "}}",
+     DVS_NOT_A_STATE, 425, "left", "nested more than 50 deep"},
+    {SPACE_WITHIN, TREE("16,\"end\":19", NODE("15,\"end\":16", "null")), DVS_NOT_A_STATE, 70, "key",
+     "the keys do not ascend"},
+    {REPAIR_WITHIN, TREE("16,\"end\":18446744073709551615", "null"), DVS_NOT_A_STATE, 70, "key",
+     "ends at u64::MAX"},
+    {REPAIR_WITHIN, TREE("16,\"end\":20", "null"), DVS_NOT_A_STATE, 63, "root",
+     "outside the space"},
+    {SPACE_WITHIN, TREE("16,\"end\":18", "null"), DVS_NOT_A_STATE, 63, "root", "it has a gap"},
+    {SPACE_WITHIN, EMPTY, DVS_NOT_A_STATE, 63, "root", "it has a gap"},
+    {IDS_WITHIN, IDS("24", "7", "[5]"), DVS_NOT_A_STATE, 14, "range_base", "past range_end"},
+    {IDS_WITHIN, IDS("5", "25", "[5]"), DVS_NOT_A_STATE, 26, "next_id", "neither in the range"},
+    {IDS_WITHIN, IDS("5", "null", "[5]"), DVS_NOT_A_STATE, 26, "next_id", "neither in the range"},
+    {IDS_WITHIN, IDS("5", "7", " [7]"), DVS_NOT_A_STATE, 56, "freed_ids", "not below next_id"},
+    {MANAGER_WITHIN, MANAGER("9", IDS("5", "5", "[]"), "[]"), DVS_NOT_A_STATE, 11, "version",
+     "the version is not 1"},
+    {MANAGER_WITHIN, MANAGER("1", IDS("24", "5", "[]"), "[]"), DVS_NOT_A_STATE, 42, "range_base",
+     "past range_end"},
+    {MANAGER_WITHIN, "{\"slots\":[" DEVICE "," DEVICE "]}", DVS_NOT_A_STATE, 52, "slots", "ascend"},
+    {MANAGER_WITHIN, MANAGER("1", IDS("5", "6", "[]"), "[]"), DVS_NOT_A_STATE, 263, "slots",
+     "do not pair"},
 };
 
 /* Sets the text of calls, with a limit of nesting. */
@@ -1000,38 +1030,16 @@ static void read_again(void) {
 
 /* ---- Words ---- */
 
-static const char *const words[STATUSES] = {
-    "The call succeeded.",
-    "Management operations on desired resource resulted in overflow.",
-    "The id is not in the range.",
-    "The id is already released.",
-    "The id was never allocated, can't release it.",
-    "The requested resource is not available.",
-    "The range is not valid.",
-    "Alignment value is invalid.",
-    "Addresses are overlapping.",
-    "The range is already allocated.",
-    "The address is not aligned.",
-    "Management operations on desired resource resulted in underflow.",
-    "The size is not valid.",
-    "There is not enough memory.",
-    "A pointer is null.",
-    "The object is being visited and cannot be changed.",
-    "The text is not JSON.",
-    "The value does not encode a valid object.",
-    "The policy is not valid.",
-    "The text exceeds a limit."};
-
 static void say_words(void) {
-    static const dvs_status unknown[] = {STATUSES, 99, 256, 65536, UINT32_MAX};
+    static const uint32_t unknown[] = {STATUSES, 99, 256, 65536, UINT32_MAX};
     char version[32];
-    dvs_status status;
     size_t i;
 
-    for (status = 0; status < STATUSES; status++)
-        CHECK(strcmp(dvs_status_text(status), words[status]) == 0);
-    for (i = 0; i < sizeof unknown / sizeof unknown[0]; i++)
-        CHECK(strcmp(dvs_status_text(unknown[i]), "Unknown status.") == 0);
+    for (i = 0; i < sizeof unknown / sizeof unknown[0]; i++) {
+        CHECK(strcmp(dvs_status_name(unknown[i]), "unknown") == 0);
+        CHECK(strcmp(dvs_status_text(unknown[i]), "Unknown number.") == 0);
+        CHECK(strcmp(dvs_cause_text(unknown[i]), "Unknown number.") == 0);
+    }
     sprintf(version, "%d.%d.%d", DVS_VERSION_MAJOR, DVS_VERSION_MINOR, DVS_VERSION_PATCH);
     CHECK(strcmp(version, DVS_VERSION_TEXT) == 0 && strcmp(version, dvs_version_text()) == 0);
 }

@@ -191,7 +191,7 @@ static void refuse_ids(void) {
         dvs_status status;
         uint32_t id;
     } rows[] = {
-        {{9, 9, 20}, DVS_RESOURCE_NOT_AVAILABLE, 0}, {{9, 8, 4}, DVS_RESOURCE_NOT_AVAILABLE, 0},
+        {{9, 9, 20}, DVS_RESOURCE_NOT_AVAILABLE, 9}, {{9, 8, 4}, DVS_RESOURCE_NOT_AVAILABLE, 8},
         {{9, 20, 9}, DVS_OUT_OF_RANGE, 20},          {{9, 4, 8}, DVS_OUT_OF_RANGE, 4},
         {{4, 4, 20}, DVS_OUT_OF_RANGE, 4},
     };

@@ -1,6 +1,11 @@
-/* Makes the mistake whose number is the argument. Valgrind must notice it in a call. */
+/*
+ * Makes the mistake whose number is the argument. Valgrind must notice it in a call, and
+ * the library itself must notice the last one.
+ */
 
 #include "check.h"
+
+#include <malloc.h>
 
 SAVED(saved, dvs_address_allocator)
 
@@ -26,12 +31,16 @@ int main(int argc, char **argv) {
     if (mistake == 6)
         CHECK(dvs_address_allocator_read(text, length + 2, &other) == DVS_NOT_JSON);
     CHECK(dvs_id_allocator_destroy(ids) == DVS_OK);
+    length = malloc_usable_size(space);
     CHECK(dvs_address_allocator_destroy(space) == DVS_OK);
     /* An object that is used, or destroyed again, after it was destroyed. */
     if (mistake == 2)
         (void)!dvs_range_count(space, &count);
     if (mistake == 3)
         (void)!dvs_address_allocator_destroy(space);
+    /* Its memory has been cleared since. */
+    if (mistake == 7)
+        (void)!dvs_range_at((dvs_address_allocator *)memset(space, 0, length), 1, one);
     dvs_text_destroy(text);
     if (mistake == 4)
         dvs_text_destroy(text);

@@ -41,7 +41,7 @@ static void allocate() {
     CHECK(!space.allocate_exact(0x10, 1, 0x1200, range));
     std::error_code again = space.allocate_exact(0x10, 1, 0x1200, range);
     CHECK(again == dvs::code(DVS_INVALID_STATE_TRANSITION));
-    CHECK(again.message() == "The range is already allocated.");
+    CHECK(again.message() == "Exactly the requested range is already allocated.");
     CHECK(std::string(again.category().name()) == "divsharun");
     CHECK(ranges_of(space).size() == 3 && is_range(ranges_of(space)[1], 0x1200, 0x120f));
     CHECK(gaps_of(space).size() == 2 && !space.longest_gap(length) && length == 0x1f00 - 0x1210);
@@ -497,6 +497,8 @@ static void compare_errors() {
         CHECK((dvs::code(status) == std::errc::not_enough_memory) == (status == DVS_OUT_OF_MEMORY));
         CHECK(dvs::code(status) != status + 1 && dvs::code(status) != dvs::code(status + 1));
     }
+    CHECK(failure.name() == std::string("DVS_OVERFLOW"));
+    CHECK(dvs::text_of(dvs::cause::allocated) == std::string("An address is allocated."));
     CHECK(space.make(UINT64_MAX, 1) == DVS_OK);
     std::error_code plain = failure;
     CHECK(plain == failure && plain.message() == dvs_status_text(DVS_OVERFLOW));

@@ -8,7 +8,7 @@ a valid one, or reads another object. Each text is from a list below, or encodes
 any order, any blanks, and damage in most cases. Three results are wrong:
 
 - another status than `NOT_JSON` if and only if Python does not read the text,
-- an error for a text without damage,
+- an error for a text without damage, or without a field although an object with known fields is read,
 - an object with other parts than the text, or a text with a field that no object has.
 
 The seed is printed. The exit status is 1 at the first text with a wrong result."""
@@ -46,6 +46,10 @@ NODE = {"key", "node_state", "left", "right", "height"}
 FIELDS = [
     {"start", "end"}, NODE, {"root"}, {"address_space", "interval_tree"}, {"id", "mmio_range"},
     {"range_base", "next_id", "range_end", "freed_ids"}, {"version", "id_allocator", "mmio_allocator", "slots"}]
+
+
+# The fields of the outermost object that each reader reads.
+OUTERMOST = {"s": FIELDS[3], "r": FIELDS[3], "i": FIELDS[5], "d": FIELDS[6]}
 
 
 class Wrong(Exception):
@@ -89,6 +93,12 @@ def parsed(text):
     except (ValueError, Wrong, RecursionError):
         return None
     return [value] if depth(value) <= DEEPEST else None
+
+
+def names_field(reader, text):
+    """Returns whether an error of this text has a field."""
+    [value] = parsed(text) or [None]
+    return isinstance(value, Object) and {name for name, _ in value} <= OUTERMOST[reader]
 
 
 def blocks_in(node, is_strict):
@@ -200,7 +210,8 @@ def fault(reader, valid, text, answer):
     status, is_json, have = int(status), parsed(text) is not None, parts_of(reader, text)
     if status not in ((OK, NOT_A_STATE) if is_json else (NOT_JSON,)):
         return f"status {status}"
-    if int(offset) > len(text) or not is_json and field != b"-":
+    is_unnamed = status == NOT_A_STATE and field == b"-"
+    if int(offset) > len(text) or not is_json and field != b"-" or is_unnamed and names_field(reader, text):
         return f"a fault at {int(offset)} in the field {field!r}"
     if status == OK and (have is None or have != parts_of(reader, saved)):
         return f"another object is read, and saved as {saved!r}"

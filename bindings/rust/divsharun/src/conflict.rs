@@ -1,9 +1,26 @@
+use crate::texts::pad;
 use crate::RangeInclusive;
+use core::fmt;
 
 /// The reason why the range of an `ExactMatch` request is not free.
 ///
 /// [`AddressAllocator::conflict`](crate::AddressAllocator::conflict) and
 /// [`DeviceManager::conflict`](crate::DeviceManager::conflict) return it.
+///
+/// `Display` writes all numbers in hexadecimal. A `match` needs an arm for the reasons of later
+/// versions:
+///
+/// ```compile_fail
+/// use divsharun::{Conflict, RangeInclusive};
+///
+/// fn other(conflict: Conflict) -> RangeInclusive {
+///     match conflict {
+///         Conflict::OutsideSpace(range) => range,
+///         Conflict::OutsideWindow(range) => range,
+///         Conflict::Allocated(range) => range,
+///     }
+/// }
+/// ```
 ///
 /// # Example
 ///
@@ -20,9 +37,12 @@ use crate::RangeInclusive;
 /// let io_apic = Constraint::new(0x1000, 0x1000, AllocPolicy::ExactMatch(0xfec0_0000))?;
 /// let space = RangeInclusive::new(mmio.base(), mmio.end())?;
 /// assert_eq!(mmio.conflict(io_apic), Some(Conflict::OutsideSpace(space)));
+/// let text = "an address is outside the space 0xd0000000-0xfebfffff";
+/// assert_eq!(Conflict::OutsideSpace(space).to_string(), text);
 /// # Ok::<(), divsharun::Error>(())
 /// ```
 #[derive(Clone, Copy, Debug, PartialEq, Eq, Hash)]
+#[non_exhaustive]
 pub enum Conflict {
     /// The range is not in the space. This is the space.
     OutsideSpace(RangeInclusive),
@@ -30,4 +50,15 @@ pub enum Conflict {
     OutsideWindow(RangeInclusive),
     /// This allocated range has an address in common with the range. It is the lowest of them.
     Allocated(RangeInclusive),
+}
+
+impl fmt::Display for Conflict {
+    fn fmt(&self, f: &mut fmt::Formatter<'_>) -> fmt::Result {
+        let (relation, range) = match self {
+            Conflict::OutsideSpace(space) => ("outside the space", space),
+            Conflict::OutsideWindow(window) => ("outside the window", window),
+            Conflict::Allocated(held) => ("in the allocated range", held),
+        };
+        pad(f, |to| write!(to, "an address is {relation} {range:#x}"))
+    }
 }

@@ -1,4 +1,5 @@
 use crate::proved::vm_allocator as proved;
+use crate::texts::pad;
 use crate::{Error, RangeInclusive, Result};
 use core::fmt;
 use core::hash::{Hash, Hasher};
@@ -228,7 +229,17 @@ impl Constraint {
 /// The window of a request: a range of addresses, with or without a limit at each end.
 ///
 /// Each range of `u64` is one, such as `..=max` and `base..`, and so is a [`RangeInclusive`].
-/// [`Constraint::within`] takes it.
+/// [`Constraint::within`] takes it. Other crates cannot implement it:
+///
+/// ```compile_fail
+/// struct Below4Gib;
+///
+/// impl divsharun::Window for Below4Gib {
+///     fn limits(&self) -> (u64, u64) {
+///         (0, 0xffff_ffff)
+///     }
+/// }
+/// ```
 ///
 /// # Example
 ///
@@ -240,10 +251,18 @@ impl Constraint {
 /// assert_eq!(RangeInclusive::new(0x3f8, 0x3ff)?.limits(), (0x3f8, 0x3ff));
 /// # Ok::<(), divsharun::Error>(())
 /// ```
-pub trait Window {
+pub trait Window: sealed::Sealed {
     /// Returns the first and the last address. 0 is no lower limit, and `u64::MAX` no upper limit. If
     /// there is no address, the last one is below the first.
     fn limits(&self) -> (u64, u64);
+}
+
+mod sealed {
+    pub trait Sealed {}
+
+    impl<R: core::ops::RangeBounds<u64>> Sealed for R {}
+    impl Sealed for crate::RangeInclusive {}
+    impl Sealed for &crate::RangeInclusive {}
 }
 
 impl<R: RangeBounds<u64>> Window for R {
@@ -293,14 +312,16 @@ impl fmt::Debug for Constraint {
 impl fmt::Display for Constraint {
     fn fmt(&self, f: &mut fmt::Formatter<'_>) -> fmt::Result {
         let (size, align) = (self.size(), self.align());
-        write!(f, "size {size:#x}, alignment {align:#x}, ")?;
-        match self.policy() {
-            AllocPolicy::ExactMatch(start) => write!(f, "ExactMatch({start:#x})")?,
-            policy => write!(f, "{policy:?}")?,
-        }
-        match self.window() {
-            Some(window) => write!(f, ", window {window:#x}"),
-            None => Ok(()),
-        }
+        pad(f, |to| {
+            write!(to, "size {size:#x}, alignment {align:#x}, ")?;
+            match self.policy() {
+                AllocPolicy::ExactMatch(start) => write!(to, "ExactMatch({start:#x})")?,
+                policy => write!(to, "{policy:?}")?,
+            }
+            match self.window() {
+                Some(window) => write!(to, ", window {window:#x}"),
+                None => Ok(()),
+            }
+        })
     }
 }

@@ -50,7 +50,7 @@ pub enum Error {
 // The proved code has the texts.
 impl fmt::Display for Error {
     fn fmt(&self, f: &mut fmt::Formatter<'_>) -> fmt::Result {
-        pad(f, format_args!("{}", Proved::from(*self)))
+        pad(f, |to| write!(to, "{}", Proved::from(*self)))
     }
 }
 
@@ -79,6 +79,8 @@ pub(crate) type TryListResult<T> = core::result::Result<T, ListError<TryError>>;
 
 /// The error of a call with the prefix `try_`. A call that returns an error leaves the same ranges and
 /// ids allocated.
+///
+/// `Display` writes its error, so it has no `source`.
 ///
 /// # Example
 ///
@@ -132,20 +134,12 @@ impl fmt::Display for TryError {
     fn fmt(&self, f: &mut fmt::Formatter<'_>) -> fmt::Result {
         match self {
             TryError::Refused(error) => error.fmt(f),
-            TryError::OutOfMemory => pad(f, format_args!("{}", Proved::OutOfMemory)),
+            TryError::OutOfMemory => pad(f, |to| write!(to, "{}", Proved::OutOfMemory)),
         }
     }
 }
 
-impl core::error::Error for TryError {
-    /// Returns the error that the call without `try_` would return, or `None` if memory ran out.
-    fn source(&self) -> Option<&(dyn core::error::Error + 'static)> {
-        match self {
-            TryError::Refused(error) => Some(error),
-            TryError::OutOfMemory => None,
-        }
-    }
-}
+impl core::error::Error for TryError {}
 
 impl From<Error> for TryError {
     fn from(error: Error) -> TryError {
@@ -156,6 +150,7 @@ impl From<Error> for TryError {
 /// The error of a call with a list. It names the item of the list that failed.
 ///
 /// `E` is [`TryError`] for a call with the prefix `try_`. The operator `?` converts it to its error.
+/// `Display` writes that error after the item, so it has no `source`.
 ///
 /// # Example
 ///
@@ -220,7 +215,7 @@ pub struct ListError<E = Error> {
 impl<E: fmt::Display> fmt::Display for ListError<E> {
     fn fmt(&self, f: &mut fmt::Formatter<'_>) -> fmt::Result {
         match self.index {
-            Some(index) => pad(f, format_args!("item {index}: {}", self.error)),
+            Some(index) => pad(f, |to| write!(to, "item {index}: {}", self.error)),
             None => self.error.fmt(f),
         }
     }

@@ -251,8 +251,8 @@ impl fmt::LowerHex for RangeInclusive {
 impl fmt::Display for RangeInclusive {
     fn fmt(&self, f: &mut fmt::Formatter<'_>) -> fmt::Result {
         match f.alternate() {
-            true => pad(f, format_args!("{self:#x}")),
-            false => pad(f, format_args!("{self:x}")),
+            true => pad(f, |to| write!(to, "{self:#x}")),
+            false => pad(f, |to| write!(to, "{self:x}")),
         }
     }
 }

@@ -36,7 +36,21 @@ use core::fmt;
 use std::io::{Read, Write};
 
 /// The reason why a run ended before the end of its input.
+///
+/// A `match` needs an arm for the reasons of later versions:
+///
+/// ```compile_fail
+/// use divsharun::replay::ReplayError;
+///
+/// fn is_read(error: ReplayError) -> bool {
+///     match error {
+///         ReplayError::Read => true,
+///         ReplayError::Write => false,
+///     }
+/// }
+/// ```
 #[derive(Clone, Copy, Debug, PartialEq, Eq)]
+#[non_exhaustive]
 pub enum ReplayError {
     /// A read failed, or `u64::MAX` reads did not reach the end.
     Read,

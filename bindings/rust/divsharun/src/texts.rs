@@ -1,36 +1,44 @@
 //! Texts of several parts that are padded as a whole.
 
-use core::fmt::{self, Write};
+use core::fmt::{self, Alignment, Write};
 
-/// More bytes than the longest text of an error has.
-const LONGEST: usize = 256;
-
-/// Writes a text by the width, the fill and the precision of a format.
-pub(crate) fn pad(f: &mut fmt::Formatter<'_>, text: fmt::Arguments<'_>) -> fmt::Result {
-    if f.width().is_none() && f.precision().is_none() {
-        return f.write_fmt(text);
+/// Writes a text by the width, the fill, the alignment and the precision of a format. If there is a
+/// width, `text` is called twice, because its characters are counted first.
+pub(crate) fn pad(
+    f: &mut fmt::Formatter<'_>,
+    text: impl Fn(&mut dyn Write) -> fmt::Result,
+) -> fmt::Result {
+    let (most, mut missing) = (f.precision().unwrap_or(usize::MAX), 0);
+    if let Some(width) = f.width() {
+        let mut counted = Prefix(None, most);
+        text(&mut counted)?;
+        missing = width.saturating_sub(most - counted.1);
     }
-    let mut line = Line {
-        bytes: [0; LONGEST],
-        len: 0,
+    let before = match f.align() {
+        Some(Alignment::Right) => missing,
+        Some(Alignment::Center) => missing / 2,
+        Some(Alignment::Left) | None => 0,
     };
-    line.write_fmt(text)?;
-    let written = &line.bytes[..line.len];
-    f.pad(core::str::from_utf8(written).map_err(|_| fmt::Error)?)
+    fill(f, before)?;
+    text(&mut Prefix(Some(f), most))?;
+    fill(f, missing - before)
 }
 
-/// A text without an allocation.
-struct Line {
-    bytes: [u8; LONGEST],
-    len: usize,
+/// Writes the fill of a format this number of times.
+fn fill(f: &mut fmt::Formatter<'_>, count: usize) -> fmt::Result {
+    let fill = f.fill();
+    (0..count).try_for_each(|_| f.write_char(fill))
 }
 
-impl Write for Line {
+/// Passes on at most this number of characters, or only counts them down.
+struct Prefix<'a>(Option<&'a mut dyn Write>, usize);
+
+impl Write for Prefix<'_> {
     fn write_str(&mut self, text: &str) -> fmt::Result {
-        let end = self.len + text.len();
-        let free = self.bytes.get_mut(self.len..end).ok_or(fmt::Error)?;
-        free.copy_from_slice(text.as_bytes());
-        self.len = end;
-        Ok(())
+        let Prefix(to, left) = self;
+        let end = text.char_indices().nth(*left);
+        let text = end.map_or(text, |(end, _)| &text[..end]);
+        *left -= text.chars().count();
+        to.as_mut().map_or(Ok(()), |to| to.write_str(text))
     }
 }

@@ -16,7 +16,7 @@ use draw::Draw;
 use items::{exact, expect_in_order, expect_items, inexact};
 use model::{refused, Model, Scale, WIDTH};
 use std::collections::{BTreeSet, HashSet};
-use std::fmt::Debug;
+use std::fmt::{Debug, Display};
 
 const BASE: u64 = 1000;
 
@@ -717,29 +717,45 @@ fn ranges_convert_and_are_written_in_hexadecimal() {
     assert_eq!(RangeInclusive::try_from(spent), refused(7, 7));
 }
 
-/// Checks that an error of a `try_` call gives the error that is its cause.
+/// Checks that a report of an error and its sources has each text once.
 #[test]
-fn causes_of_errors() {
-    use std::error::Error as _;
-
+fn errors_that_write_another_have_no_source() {
     let error = TryError::Refused(Error::Overflow);
     let of_item = ListError {
         index: Some(1),
         error,
     };
-    assert!(Error::Overflow.source().is_none() && of_item.source().is_none());
+    let errors: [&dyn std::error::Error; 4] =
+        [&Error::Overflow, &error, &TryError::OutOfMemory, &of_item];
+    assert!(errors.iter().all(|error| error.source().is_none()));
     assert_eq!(error.error(), Some(Error::Overflow));
-    let source = error.source().and_then(|source| source.downcast_ref());
-    assert_eq!(source, Some(&Error::Overflow));
     assert_eq!(TryError::OutOfMemory.error(), None);
-    assert!(TryError::OutOfMemory.source().is_none());
+}
+
+/// Checks that a format has the same result for an object and for its text.
+fn expect_formats(object: impl Display, text: &str) {
+    macro_rules! expect_same {
+        ($($format:literal)*) => {$(assert_eq!(format!($format, object), format!($format, text));)*};
+    }
+    expect_same!(
+        "{}" "{:3}" "{:160}" "{:<400}" "{:>400}" "{:^400}" "{:é^401}" "{:.0}" "{:.3}" "{:.290}"
+        "{:*>9.4}" "{:€<9.4}" "{:0^10.5}"
+    );
 }
 
 /// Checks each text, and that a width applies to a whole text.
 #[test]
 fn texts_are_padded_as_a_whole() {
     let range = RangeInclusive::new(0xd0, 0xd7).unwrap();
-    let texts: [(&dyn std::fmt::Display, &str); 16] = [
+    let long = ["x".repeat(300), "é€😀".repeat(100)];
+    let of_long = long.each_ref().map(|error| ListError {
+        index: Some(usize::MAX),
+        error,
+    });
+    let long_texts = long
+        .each_ref()
+        .map(|text| format!("item {}: {text}", usize::MAX));
+    let texts: [(&dyn Display, &str); 21] = [
         (&range, "d0-d7"),
         (
             &Error::Overflow,
@@ -800,26 +816,27 @@ fn texts_are_padded_as_a_whole() {
             "Addresses are overlapping.RangeInclusive { start: 208, end: 215 } intersects with \
              existing RangeInclusive { start: 208, end: 215 }",
         ),
+        (&of_long[0], &long_texts[0]),
+        (&of_long[1], &long_texts[1]),
+        (
+            &Conflict::OutsideSpace(range),
+            "an address is outside the space 0xd0-0xd7",
+        ),
+        (
+            &Conflict::OutsideWindow(range),
+            "an address is outside the window 0xd0-0xd7",
+        ),
+        (
+            &Conflict::Allocated(range),
+            "an address is in the allocated range 0xd0-0xd7",
+        ),
     ];
-    // The longest text.
-    let range = RangeInclusive::new(u64::MAX - 1, u64::MAX).unwrap();
-    let longest = ListError {
-        index: Some(usize::MAX),
-        error: Error::Overlap(range, range),
-    };
-    assert_eq!(format!("{longest:<300}").trim_end(), longest.to_string());
     assert_eq!(format!("{range:#}"), format!("{range:#x}"));
     for (object, text) in texts {
-        let padding = " ".repeat(160 - text.len());
-        assert_eq!(format!("{object:>160}"), format!("{padding}{text}"));
-        assert_eq!(format!("{object:<160}"), format!("{text}{padding}"));
-        assert_eq!(format!("{object:.3}"), text[..3]);
-        assert_eq!(object.to_string(), text);
+        expect_formats(object, text);
     }
     let space = AddressAllocator::new(0, 8).unwrap();
-    let layout = space.layout();
-    let gap = layout.blocks().next().unwrap();
-    assert_eq!(format!("{gap:>5}|{gap:^5}|"), "  gap| gap |");
+    expect_formats(space.layout().blocks().next().unwrap(), "gap");
 }
 
 /// Requests by size, alignment and policy, with a window or without, and their texts.
@@ -867,7 +884,7 @@ fn requests_are_written_in_one_line_and_hashed() {
             request = request.within(5..=6).unwrap().within(window).unwrap();
             assert_eq!(request.window(), Some(window));
         }
-        assert_eq!(request.to_string(), text);
+        expect_formats(request, text);
         let numbers = (request.size(), request.align(), request.policy());
         assert_eq!(numbers, (size, align, policy));
         assert!(seen.insert(request) && !seen.insert(request));

@@ -15,6 +15,7 @@ use std::array::from_fn;
 use std::cell::RefCell;
 use std::env;
 use std::fmt::Debug;
+use std::io::Write;
 use std::os::unix::process::ExitStatusExt;
 use std::process::Command;
 use AllocPolicy::{ExactMatch, FirstMatch, LastMatch};
@@ -416,6 +417,9 @@ fn no_request_is_made() {
         let exact = request(8, ExactMatch(9));
         assert_eq!(space.conflict(exact), Some(Conflict::Allocated(held[0])));
         assert_eq!(devices.conflict(exact), None);
+        let error = Error::Overlap(held[0], held[1]);
+        let failure = ListError { index: None, error };
+        assert!(write!(&mut [0; 500][..], "{failure:^300}{exact:>100.9}").is_ok());
         assert!(devices.devices().rev().eq([]) && devices.device_at(9).is_none());
         assert!(space.held_ranges_in(&held[1]).rev().eq([held[1]]));
         assert!(space.gaps().rev().eq(three_gaps().into_iter().rev()));

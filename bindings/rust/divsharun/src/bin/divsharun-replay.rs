@@ -50,7 +50,7 @@ fn replay(lines: impl Read, name: &str) -> ExitCode {
     match run(lines, io::stdout().lock()) {
         Ok(()) => ExitCode::SUCCESS,
         Err(error @ ReplayError::Read) => fail(1, &format!("divsharun-replay: {name}: {error}")),
-        Err(error @ ReplayError::Write) => fail(2, &format!("divsharun-replay: {error}")),
+        Err(error) => fail(2, &format!("divsharun-replay: {error}")),
     }
 }
 

@@ -1,6 +1,6 @@
 //! Reads objects with serde. Fields can come in any order, and are checked as they come.
 
-use super::conditions::text_of;
+use super::conditions::field_and_text;
 use crate::proved::vm_allocator::{
     AddressAllocator, IdAllocator, RangeInclusive, ReadIds, ReadNodes, SavedError, Span,
 };
@@ -15,7 +15,7 @@ use serde::{Deserialize, Deserializer};
 #[cold]
 fn invalid<E: Error>(error: SavedError) -> E {
     match error {
-        SavedError::Violated(condition) => E::custom(text_of(condition).to_string_lossy()),
+        SavedError::Violated(condition) => E::custom(field_and_text(condition).1.to_string_lossy()),
         SavedError::OutOfMemory => E::custom(TryError::OutOfMemory),
     }
 }

@@ -259,6 +259,7 @@ impl Scale {
             Conflict::OutsideSpace(space) => Conflict::OutsideSpace(self.range(space)),
             Conflict::OutsideWindow(window) => Conflict::OutsideWindow(self.range(window)),
             Conflict::Allocated(range) => Conflict::Allocated(self.range(range)),
+            other => panic!("{other}"),
         }
     }
 }
