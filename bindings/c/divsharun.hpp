@@ -195,8 +195,8 @@ class owner {
     }
 
     /* Calls `action` with each item until it returns false. An exception ends the visit. */
-    template <typename Item, typename Visit, typename Action>
-    error visit_by(Visit call, Action action) const {
+    template <typename Item, typename Visit, typename Action, typename... Address>
+    error visit_by(Visit call, Action action, Address... address) const {
         struct visit {
             Action action;
             std::exception_ptr thrown;
@@ -214,7 +214,7 @@ class owner {
 #endif
             }
         } all = {std::move(action), nullptr};
-        dvs_status status = call(object, visit::one, &all);
+        dvs_status status = call(object, address..., visit::one, &all);
         if (all.thrown)
             std::rethrow_exception(all.thrown);
         return code(status);
@@ -455,28 +455,19 @@ class address_allocator : public space_owner {
     }
     /* The ranges or the gaps from an address upwards, or back from it downwards. */
     template <typename Action> error for_each_from(uint64_t address, Action action) const {
-        return visit_at(dvs_range_visit_from, address, std::move(action));
+        return visit_by<dvs_range>(dvs_range_visit_from, std::move(action), address);
     }
     template <typename Action> error for_each_back(uint64_t address, Action action) const {
-        return visit_at(dvs_range_visit_back, address, std::move(action));
+        return visit_by<dvs_range>(dvs_range_visit_back, std::move(action), address);
     }
     template <typename Action> error for_each_gap_from(uint64_t address, Action action) const {
-        return visit_at(dvs_gap_visit_from, address, std::move(action));
+        return visit_by<dvs_range>(dvs_gap_visit_from, std::move(action), address);
     }
     template <typename Action> error for_each_gap_back(uint64_t address, Action action) const {
-        return visit_at(dvs_gap_visit_back, address, std::move(action));
+        return visit_by<dvs_range>(dvs_gap_visit_back, std::move(action), address);
     }
 
   private:
-    template <typename Visit, typename Action>
-    error visit_at(Visit call, uint64_t address, Action action) const {
-        return visit_by<dvs_range>(
-            [=](const object *from, dvs_range_visitor *visitor, void *context) {
-                return call(from, address, visitor, context);
-            },
-            std::move(action));
-    }
-
     template <typename Visit>
     error list_in(Visit call, dvs_range within, std::vector<dvs_range> &ranges,
                   dvs_refusal *refusal) const {
