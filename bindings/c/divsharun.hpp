@@ -6,8 +6,8 @@
  *
  * A method has the rules of its call. It returns the code of the status, which
  * converts to false for DVS_OK, and the compiler warns if the code is ignored.
- * Only methods with a vector, a string or a function of the caller can throw. The
- * code of DVS_OUT_OF_MEMORY equals std::errc::not_enough_memory.
+ * Only methods that fill a vector or a string, or call a function of the caller, can
+ * throw. The code of DVS_OUT_OF_MEMORY equals std::errc::not_enough_memory.
  */
 #ifndef DIVSHARUN_HPP
 #define DIVSHARUN_HPP
