@@ -1,6 +1,6 @@
 /*
- * Guards against owners of divsharun.hpp that leak, destroy an object twice or in a
- * visit, and against lists and codes of errors that differ from those of the calls.
+ * Guards against owners of divsharun.hpp that leak, or destroy an object twice or in a
+ * visit. The lists and the codes of errors must be those of the calls.
  */
 #include "check.h"
 
