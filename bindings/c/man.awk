@@ -1,3 +1,4 @@
+# SPDX-License-Identifier: Apache-2.0 OR BSD-3-Clause
 # Makes a man page from Markdown, which begins with a name, a colon and a description.
 BEGIN { printf ".TH %s %s \"\" \"divsharun %s\"\n.SH NAME\n", name, section, version }
 { gsub(/\\/, "\\e"); is_code = /^    / }

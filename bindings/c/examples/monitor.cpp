@@ -1,3 +1,4 @@
+/* SPDX-License-Identifier: Apache-2.0 OR BSD-3-Clause */
 /* The resources of a small monitor: cards with BARs and an interrupt, a snapshot, and a device. */
 #include <divsharun.hpp>
 

@@ -1,3 +1,4 @@
+/* SPDX-License-Identifier: Apache-2.0 OR BSD-3-Clause */
 /*
  * A program with this library, and with a plugin that uses another major version of it.
  * OTHER makes that library of this file, and PLUGIN the plugin.

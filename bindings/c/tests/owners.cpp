@@ -1,3 +1,4 @@
+/* SPDX-License-Identifier: Apache-2.0 OR BSD-3-Clause */
 /*
  * Guards against owners of divsharun.hpp that leak, or destroy an object twice or in a
  * visit. The lists and the codes of errors must be those of the calls.

@@ -1,3 +1,4 @@
+/* SPDX-License-Identifier: Apache-2.0 OR BSD-3-Clause */
 /*
  * Guards against a visitor that does not return without notice: the process must end
  * with abort(), after a line that gives the reason. A visitor can call exit().

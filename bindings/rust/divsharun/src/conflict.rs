@@ -1,3 +1,4 @@
+// SPDX-License-Identifier: Apache-2.0 OR BSD-3-Clause
 use crate::RangeInclusive;
 
 /// The reason why the range of an `ExactMatch` request is not free.
