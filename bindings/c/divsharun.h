@@ -71,6 +71,10 @@
  *
  * Stack. 64 KiB are enough for every call.
  *
+ * Environment. A call can set errno if it allocates or frees memory, and never reads it.
+ * No call depends on the locale. The library is tested on x86-64 Linux with glibc, and
+ * on no other system.
+ *
  * Bugs. No call is known to fail other than by its status. If the library detects a bug
  * in itself, it ends the process with abort(). It writes a line to the standard error
  * stream first. A destroyed object, or a pointer to no object, can look like a bug, so

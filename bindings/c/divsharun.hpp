@@ -6,8 +6,8 @@
  *
  * A method has the rules of its call. It returns the code of the status, which
  * converts to false for DVS_OK, and the compiler warns if the code is ignored.
- * Only methods with a vector, a string or a function of the caller can throw. The
- * code of DVS_OUT_OF_MEMORY equals std::errc::not_enough_memory.
+ * Only methods that fill a vector or a string, or call a function of the caller, can
+ * throw. The code of DVS_OUT_OF_MEMORY equals std::errc::not_enough_memory.
  */
 #ifndef DIVSHARUN_HPP
 #define DIVSHARUN_HPP
@@ -15,8 +15,7 @@
 #include "divsharun.h"
 
 #include <cstddef>
-#include <cstdio>
-#include <cstdlib>
+#include <cstring>
 #include <exception>
 #include <iterator>
 #include <memory>
@@ -104,13 +103,24 @@ inline error offset_of(dvs_range range, uint64_t address, uint64_t &offset) noex
     return code(dvs_range_offset_of(range, address, &offset));
 }
 
+/* A text to read: a literal, a std::string, a std::string_view, or a pointer and a length. */
+struct saved_text {
+    const char *start;
+    std::size_t length;
+
+    saved_text(const char *text, std::size_t bytes) noexcept : start(text), length(bytes) {}
+    saved_text(const char *text) noexcept : saved_text(text, std::strlen(text)) {}
+    template <typename Text, typename = decltype(std::declval<const Text &>().data())>
+    saved_text(const Text &text) noexcept : saved_text(text.data(), text.size()) {}
+};
+
 /*
  * Owns an object, and destroys it. It is empty until a method has created the object.
  *
  * A method that replaces the object returns DVS_BUSY, after every other error, during
  * a visit of the object. Then it changes nothing. A move assignment exchanges two
- * objects, so that none is lost. The destructor of an owner ends the process with
- * abort(), after a line that gives the reason, if its object is being visited.
+ * objects, so that none is lost. The destructor of an owner destroys nothing during a
+ * visit of the object. So a visitor can call exit(), and the object lives on then.
  */
 template <typename T, dvs_status (*Destroy)(T *), dvs_status (*Copy)(const T *, T **),
           dvs_status (*Equal)(const T *, const T *, bool *),
@@ -118,49 +128,45 @@ template <typename T, dvs_status (*Destroy)(T *), dvs_status (*Copy)(const T *, 
           dvs_status (*Read)(const char *, std::size_t, const dvs_text_limits *, T **,
                              dvs_text_fault *)>
 class owner {
-    struct destroyer {
-        void operator()(T *owned) const noexcept {
-            if (Destroy(owned) == DVS_OK)
-                return;
-            std::fputs("divsharun: the process ends because a visitor destroyed an owner\n",
-                       stderr);
-            std::abort();
-        }
-    };
-    std::unique_ptr<T, destroyer> object;
+    T *object = nullptr;
 
   public:
     owner() noexcept = default;
-    owner(owner &&other) noexcept = default;
+    owner(owner &&other) noexcept : object(other.detach()) {}
     owner &operator=(owner &&other) noexcept {
-        object.swap(other.object);
+        std::swap(object, other.object);
         return *this;
     }
-    T *get() const noexcept { return object.get(); }
+    ~owner() { Destroy(object); }
+    T *get() const noexcept { return object; }
     explicit operator bool() const noexcept { return object != nullptr; }
-    /* Takes over an object that a call of C created, and destroys the old one. */
+    /* Takes over an object that a call of C created, and destroys the old one if it is another. */
     error adopt(T *made) noexcept {
-        dvs_status status = Destroy(get());
-        if (status == DVS_OK) {
-            static_cast<void>(object.release());
-            object.reset(made);
-        }
+        dvs_status status = DVS_OK;
+        if (made != object)
+            status = Destroy(object);
+        if (status == DVS_OK)
+            object = made;
         return code(status);
     }
     /* Returns the object, and leaves the owner empty. The caller must destroy the object. */
-    T *release() noexcept { return object.release(); }
-    /* Replaces the object by a copy of another one. */
-    error make_copy(const owner &other) {
-        return create([&](T **out) { return Copy(other.get(), out); });
+    T *detach() noexcept {
+        T *detached = object;
+        object = nullptr;
+        return detached;
     }
-    error read(const std::string &text, dvs_text_fault *fault = nullptr,
-               const dvs_text_limits *limits = nullptr) {
+    /* Replaces the object by a copy of another one. */
+    error make_copy(const owner &other) noexcept {
+        return create([&](T **out) { return Copy(other.object, out); });
+    }
+    error read(saved_text text, dvs_text_fault *fault = nullptr,
+               const dvs_text_limits *limits = nullptr) noexcept {
         return read_by(Read, text, fault, limits);
     }
     error save(std::string &text) const {
         char *saved = nullptr;
         std::size_t length = 0;
-        dvs_status status = Save(get(), &saved, &length);
+        dvs_status status = Save(object, &saved, &length);
         std::unique_ptr<char, void (*)(char *)> owned(saved, dvs_text_destroy);
         if (status == DVS_OK)
             text.assign(saved, length);
@@ -169,8 +175,8 @@ class owner {
     /* An empty owner equals only empty ones. */
     friend bool operator==(const owner &one, const owner &other) noexcept {
         bool are_equal = false;
-        dvs_status status = Equal(one.get(), other.get(), &are_equal);
-        return status == DVS_OK ? are_equal : one.get() == other.get();
+        dvs_status status = Equal(one.object, other.object, &are_equal);
+        return status == DVS_OK ? are_equal : one.object == other.object;
     }
     friend bool operator!=(const owner &one, const owner &other) noexcept {
         return !(one == other);
@@ -178,26 +184,25 @@ class owner {
 
   protected:
     /* Replaces the object by a new one, if the call that creates it succeeds. */
-    template <typename Call> error create(Call call) {
-        T *made = nullptr;
-        error failed = code(call(&made));
-        std::unique_ptr<T, destroyer> owned(made);
+    template <typename Call> error create(Call call) noexcept {
+        owner made;
+        error failed = code(call(&made.object));
         if (!failed)
-            failed = adopt(made);
+            failed = adopt(made.object);
         if (!failed)
-            static_cast<void>(owned.release());
+            made.object = nullptr;
         return failed;
     }
 
     template <typename Call>
-    error read_by(Call call, const std::string &text, dvs_text_fault *fault,
-                  const dvs_text_limits *limits) {
-        return create([&](T **out) { return call(text.data(), text.size(), limits, out, fault); });
+    error read_by(Call call, saved_text text, dvs_text_fault *fault,
+                  const dvs_text_limits *limits) noexcept {
+        return create([=](T **out) { return call(text.start, text.length, limits, out, fault); });
     }
 
     /* Calls `action` with each item until it returns false. An exception ends the visit. */
-    template <typename Item, typename Visit, typename Action>
-    error visit_by(Visit call, Action action) const {
+    template <typename Item, typename Visit, typename Action, typename... Address>
+    error visit_by(Visit call, Action action, Address... address) const {
         struct visit {
             Action action;
             std::exception_ptr thrown;
@@ -215,7 +220,7 @@ class owner {
 #endif
             }
         } all = {std::move(action), nullptr};
-        dvs_status status = call(get(), visit::one, &all);
+        dvs_status status = call(object, address..., visit::one, &all);
         if (all.thrown)
             std::rethrow_exception(all.thrown);
         return code(status);
@@ -238,35 +243,43 @@ class owner {
  *
  *     space.allocate(dvs::request::first(0x1000, 0x1000).within({0, UINT32_MAX}), bar);
  *
- * Without within() it has no window.
+ * Without within() it has no window. A list of requests is a std::vector<dvs::request>.
  */
 class request {
-    dvs_request asked;
+    uint64_t size, alignment, start;
+    uint32_t policy;
     dvs_range window;
 
-    request(const dvs_request &members, dvs_range limits) noexcept
-        : asked(members), window(limits) {}
-    static request of(uint64_t size, uint64_t alignment, uint64_t start, uint32_t policy) noexcept {
-        return {{size, alignment, start, policy, nullptr}, {0, UINT64_MAX}};
-    }
+    friend class address_allocator;
+    friend class device_manager;
+    /* Returns the request for one call of C. It points to the window of this object. */
+    dvs_request for_call() const noexcept { return {size, alignment, start, policy, &window}; }
 
   public:
+    /* Copies a request of C, and its window. */
+    request(const dvs_request &asked) noexcept
+        : size(asked.size), alignment(asked.alignment), start(asked.start), policy(asked.policy),
+          window(asked.window ? *asked.window : dvs_range{0, UINT64_MAX}) {}
     static request first(uint64_t size, uint64_t alignment) noexcept {
-        return of(size, alignment, 0, DVS_FIRST);
+        return dvs_request{size, alignment, 0, DVS_FIRST, nullptr};
     }
     static request last(uint64_t size, uint64_t alignment) noexcept {
-        return of(size, alignment, 0, DVS_LAST);
+        return dvs_request{size, alignment, 0, DVS_LAST, nullptr};
     }
     static request exact(uint64_t size, uint64_t alignment, uint64_t start) noexcept {
-        return of(size, alignment, start, DVS_EXACT);
+        return dvs_request{size, alignment, start, DVS_EXACT, nullptr};
     }
     /* Returns this request with a window, which replaces the one that it had. */
-    request within(dvs_range limits) const noexcept { return {asked, limits}; }
-    /* Returns the request for C. It points to the window of this request. */
-    dvs_request get() const noexcept {
-        return {asked.size, asked.alignment, asked.start, asked.policy, &window};
+    request within(dvs_range limits) const noexcept {
+        request limited = *this;
+        limited.window = limits;
+        return limited;
     }
 };
+
+using space_owner = owner<dvs_address_allocator, dvs_address_allocator_destroy,
+                          dvs_address_allocator_copy, dvs_address_allocator_equal,
+                          dvs_address_allocator_save, dvs_address_allocator_read_within>;
 
 /*
  * The allocated ranges or the gaps from an address upwards, for a range-based for:
@@ -276,13 +289,13 @@ class request {
  *         for (dvs_range range : ranges)
  *
  * It is an input iterator. A step makes one call, in logarithmic time. It does not
- * allocate memory, and cannot throw. The allocator must exist during the loop, and the
- * loop can change it: the next item is the first one that has an address above the last
- * item. for_each() is faster if the allocator does not change.
+ * allocate memory, and cannot throw. The owner must exist during the loop, and the loop
+ * can change or replace its object: the next item is the first one that has an address
+ * above the last item. for_each() is faster if the allocator does not change.
  */
 template <dvs_status (*Visit)(const dvs_address_allocator *, uint64_t, dvs_range_visitor *, void *)>
 class each {
-    const dvs_address_allocator *visited = nullptr;
+    const space_owner *visited = nullptr;
     /* At the end, its start is past its end. */
     dvs_range item = {1, 0};
 
@@ -299,10 +312,10 @@ class each {
     using reference = const dvs_range &;
 
     /* Begins at the first item that has an address at this one or above it. */
-    error start(const dvs_address_allocator *allocator, uint64_t address) noexcept {
+    error start(const space_owner &owner, uint64_t address) noexcept {
         each first;
-        first.visited = allocator;
-        error failed = code(Visit(allocator, address, keep, &first.item));
+        first.visited = &owner;
+        error failed = code(Visit(owner.get(), address, keep, &first.item));
         if (!failed)
             *this = first;
         return failed;
@@ -315,7 +328,7 @@ class each {
         uint64_t last = item.end;
         item = each().item;
         if (last < UINT64_MAX)
-            Visit(visited, last + 1, keep, &item);
+            Visit(visited->get(), last + 1, keep, &item);
         return *this;
     }
     each operator++(int) noexcept {
@@ -331,144 +344,141 @@ class each {
 using each_range = each<dvs_range_visit_from>;
 using each_gap = each<dvs_gap_visit_from>;
 
-class address_allocator
-    : public owner<dvs_address_allocator, dvs_address_allocator_destroy, dvs_address_allocator_copy,
-                   dvs_address_allocator_equal, dvs_address_allocator_save,
-                   dvs_address_allocator_read_within> {
+class address_allocator : public space_owner {
     using object = dvs_address_allocator;
 
   public:
-    error make(uint64_t base, uint64_t size) {
+    error make(uint64_t base, uint64_t size) noexcept {
         return create([=](object **out) { return dvs_address_allocator_new(base, size, out); });
     }
     error make_with_held(uint64_t base, uint64_t size, const std::vector<dvs_range> &held,
-                         std::size_t *failed = nullptr, dvs_refusal *refusal = nullptr) {
+                         std::size_t *failed = nullptr, dvs_refusal *refusal = nullptr) noexcept {
         return create([&](object **out) {
             return dvs_address_allocator_with_held(base, size, held.data(), held.size(), out,
                                                    failed, refusal);
         });
     }
     error make_with_free(const std::vector<dvs_range> &ranges, std::size_t *failed = nullptr,
-                         dvs_refusal *refusal = nullptr) {
+                         dvs_refusal *refusal = nullptr) noexcept {
         return create([&](object **out) {
             return dvs_address_allocator_with_free(ranges.data(), ranges.size(), out, failed,
                                                    refusal);
         });
     }
-    error read_repaired(const std::string &text, dvs_text_fault *fault = nullptr,
-                        const dvs_text_limits *limits = nullptr) {
+    error read_repaired(saved_text text, dvs_text_fault *fault = nullptr,
+                        const dvs_text_limits *limits = nullptr) noexcept {
         return read_by(dvs_address_allocator_read_repaired_within, text, fault, limits);
     }
-    error allocate_first(uint64_t size, uint64_t alignment, dvs_range &range) {
-        return code(dvs_range_allocate_first(get(), size, alignment, &range, nullptr));
+    error allocate_first(uint64_t size, uint64_t alignment, dvs_range &range,
+                         dvs_refusal *refusal = nullptr) noexcept {
+        return code(dvs_range_allocate_first(get(), size, alignment, &range, refusal));
     }
-    error allocate_last(uint64_t size, uint64_t alignment, dvs_range &range) {
-        return code(dvs_range_allocate_last(get(), size, alignment, &range, nullptr));
+    error allocate_last(uint64_t size, uint64_t alignment, dvs_range &range,
+                        dvs_refusal *refusal = nullptr) noexcept {
+        return code(dvs_range_allocate_last(get(), size, alignment, &range, refusal));
     }
     error allocate_exact(uint64_t size, uint64_t alignment, uint64_t start, dvs_range &range,
-                         dvs_refusal *refusal = nullptr) {
+                         dvs_refusal *refusal = nullptr) noexcept {
         return code(dvs_range_allocate_exact(get(), size, alignment, start, &range, refusal));
     }
-    error allocate(const dvs_request &asked, dvs_range &range, dvs_refusal *refusal = nullptr) {
-        return code(dvs_range_allocate(get(), &asked, &range, refusal));
-    }
-    error allocate(const request &asked, dvs_range &range, dvs_refusal *refusal = nullptr) {
-        return allocate(asked.get(), range, refusal);
-    }
-    error allocate_all(const std::vector<dvs_request> &requests, std::vector<dvs_range> &ranges,
-                       std::size_t *failed = nullptr, dvs_refusal *refusal = nullptr) {
-        std::vector<dvs_range> allocated(requests.size());
-        error failure = code(dvs_address_allocator_allocate_all(
-            get(), requests.data(), requests.size(), allocated.data(), failed, refusal));
-        if (!failure)
-            ranges = std::move(allocated);
-        return failure;
+    error allocate(const request &asked, dvs_range &range,
+                   dvs_refusal *refusal = nullptr) noexcept {
+        const dvs_request one = asked.for_call();
+        return code(dvs_range_allocate(get(), &one, &range, refusal));
     }
     error allocate_all(const std::vector<request> &requests, std::vector<dvs_range> &ranges,
                        std::size_t *failed = nullptr, dvs_refusal *refusal = nullptr) {
         std::vector<dvs_request> all;
+        std::vector<dvs_range> allocated(requests.size());
         for (const request &one : requests)
-            all.push_back(one.get());
-        return allocate_all(all, ranges, failed, refusal);
+            all.push_back(one.for_call());
+        error failure = code(dvs_address_allocator_allocate_all(get(), all.data(), all.size(),
+                                                                allocated.data(), failed, refusal));
+        if (!failure)
+            ranges = std::move(allocated);
+        return failure;
     }
-    error free(dvs_range range) { return code(dvs_range_free(get(), range, nullptr)); }
+    error free(dvs_range range, dvs_refusal *refusal = nullptr) noexcept {
+        return code(dvs_range_free(get(), range, refusal));
+    }
     error move_range(dvs_range range, uint64_t start, dvs_range &moved,
-                     dvs_refusal *refusal = nullptr) {
+                     dvs_refusal *refusal = nullptr) noexcept {
         return code(dvs_range_move(get(), range, start, &moved, refusal));
     }
-    error move_range(dvs_range range, const dvs_request &asked, dvs_range &moved,
-                     dvs_refusal *refusal = nullptr) {
-        return code(dvs_range_move_request(get(), range, &asked, &moved, refusal));
-    }
     error move_range(dvs_range range, const request &asked, dvs_range &moved,
-                     dvs_refusal *refusal = nullptr) {
-        return move_range(range, asked.get(), moved, refusal);
+                     dvs_refusal *refusal = nullptr) noexcept {
+        const dvs_request one = asked.for_call();
+        return code(dvs_range_move_request(get(), range, &one, &moved, refusal));
     }
-    error conflict(const dvs_request &asked, dvs_refusal &found) const {
-        return code(dvs_range_conflict(get(), &asked, &found));
+    error conflict(const request &asked, dvs_refusal &found) const noexcept {
+        const dvs_request one = asked.for_call();
+        return code(dvs_range_conflict(get(), &one, &found));
     }
-    error conflict(const request &asked, dvs_refusal &found) const {
-        return conflict(asked.get(), found);
+    error space(dvs_range &space) const noexcept {
+        return code(dvs_address_allocator_space(get(), &space));
     }
-    error space(dvs_range &space) const { return code(dvs_address_allocator_space(get(), &space)); }
-    error is_allocated(dvs_range range, bool &is_allocated) const {
-        return code(dvs_range_is_allocated(get(), range, &is_allocated, nullptr));
+    error is_allocated(dvs_range range, bool &is_allocated,
+                       dvs_refusal *refusal = nullptr) const noexcept {
+        return code(dvs_range_is_allocated(get(), range, &is_allocated, refusal));
     }
-    error at(uint64_t address, dvs_range &range) const {
+    error at(uint64_t address, dvs_range &range) const noexcept {
         return code(dvs_range_at(get(), address, &range));
     }
-    error gap_at(uint64_t address, dvs_range &gap) const {
+    error gap_at(uint64_t address, dvs_range &gap) const noexcept {
         return code(dvs_gap_at(get(), address, &gap));
     }
-    error longest_gap(uint64_t &length) const { return code(dvs_longest_gap(get(), &length)); }
-    error held_count(uint64_t &count) const { return code(dvs_range_count(get(), &count)); }
-    error gap_count(uint64_t &count) const { return code(dvs_gap_count(get(), &count)); }
-    error free_length(uint64_t &length) const { return code(dvs_free_length(get(), &length)); }
+    error longest_gap(uint64_t &length) const noexcept {
+        return code(dvs_longest_gap(get(), &length));
+    }
+    error range_count(uint64_t &count) const noexcept {
+        return code(dvs_range_count(get(), &count));
+    }
+    error gap_count(uint64_t &count) const noexcept { return code(dvs_gap_count(get(), &count)); }
+    error free_length(uint64_t &length) const noexcept {
+        return code(dvs_free_length(get(), &length));
+    }
     error ranges(std::vector<dvs_range> &ranges) const { return list_by(dvs_range_visit, ranges); }
     error gaps(std::vector<dvs_range> &gaps) const { return list_by(dvs_gap_visit, gaps); }
-    error ranges_in(dvs_range within, std::vector<dvs_range> &ranges) const {
-        return list_in(dvs_range_visit_in, within, ranges);
+    error ranges_in(dvs_range within, std::vector<dvs_range> &ranges,
+                    dvs_refusal *refusal = nullptr) const {
+        return list_in(dvs_range_visit_in, within, ranges, refusal);
     }
-    error gaps_in(dvs_range within, std::vector<dvs_range> &gaps) const {
-        return list_in(dvs_gap_visit_in, within, gaps);
+    error gaps_in(dvs_range within, std::vector<dvs_range> &gaps,
+                  dvs_refusal *refusal = nullptr) const {
+        return list_in(dvs_gap_visit_in, within, gaps, refusal);
     }
     error ranges_from(uint64_t address, each_range &ranges) const noexcept {
-        return ranges.start(get(), address);
+        return ranges.start(*this, address);
     }
     error gaps_from(uint64_t address, each_gap &gaps) const noexcept {
-        return gaps.start(get(), address);
+        return gaps.start(*this, address);
     }
     template <typename Action> error for_each(Action action) const {
         return visit_by<dvs_range>(dvs_range_visit, std::move(action));
     }
+    template <typename Action> error for_each_gap(Action action) const {
+        return visit_by<dvs_range>(dvs_gap_visit, std::move(action));
+    }
     /* The ranges or the gaps from an address upwards, or back from it downwards. */
     template <typename Action> error for_each_from(uint64_t address, Action action) const {
-        return visit_at(dvs_range_visit_from, address, std::move(action));
+        return visit_by<dvs_range>(dvs_range_visit_from, std::move(action), address);
     }
     template <typename Action> error for_each_back(uint64_t address, Action action) const {
-        return visit_at(dvs_range_visit_back, address, std::move(action));
+        return visit_by<dvs_range>(dvs_range_visit_back, std::move(action), address);
     }
     template <typename Action> error for_each_gap_from(uint64_t address, Action action) const {
-        return visit_at(dvs_gap_visit_from, address, std::move(action));
+        return visit_by<dvs_range>(dvs_gap_visit_from, std::move(action), address);
     }
     template <typename Action> error for_each_gap_back(uint64_t address, Action action) const {
-        return visit_at(dvs_gap_visit_back, address, std::move(action));
+        return visit_by<dvs_range>(dvs_gap_visit_back, std::move(action), address);
     }
 
   private:
-    template <typename Visit, typename Action>
-    error visit_at(Visit call, uint64_t address, Action action) const {
-        return visit_by<dvs_range>(
-            [=](const object *from, dvs_range_visitor *visitor, void *context) {
-                return call(from, address, visitor, context);
-            },
-            std::move(action));
-    }
-
     template <typename Visit>
-    error list_in(Visit call, dvs_range within, std::vector<dvs_range> &ranges) const {
-        return list_by([&](const object *from, dvs_range_visitor *visitor,
-                           void *context) { return call(from, within, visitor, context, nullptr); },
+    error list_in(Visit call, dvs_range within, std::vector<dvs_range> &ranges,
+                  dvs_refusal *refusal) const {
+        return list_by([=](const object *from, dvs_range_visitor *visitor,
+                           void *context) { return call(from, within, visitor, context, refusal); },
                        ranges);
     }
 };
@@ -479,36 +489,46 @@ class id_allocator
     using object = dvs_id_allocator;
 
   public:
-    error make(uint32_t first, uint32_t last) {
+    error make(uint32_t first, uint32_t last, dvs_refusal *refusal = nullptr) noexcept {
         return create(
-            [=](object **out) { return dvs_id_allocator_new(first, last, out, nullptr); });
+            [=](object **out) { return dvs_id_allocator_new(first, last, out, refusal); });
     }
     error make_with_held(uint32_t first, uint32_t last, const std::vector<uint32_t> &held,
-                         dvs_refusal *refusal = nullptr) {
+                         dvs_refusal *refusal = nullptr) noexcept {
         return create([&](object **out) {
             return dvs_id_allocator_with_held(first, last, held.data(), held.size(), out, refusal);
         });
     }
-    error range(uint32_t &first, uint32_t &last) const {
+    error range(uint32_t &first, uint32_t &last) const noexcept {
         return code(dvs_id_allocator_range(get(), &first, &last));
     }
-    error peek(uint32_t &id) const { return code(dvs_id_peek(get(), &id)); }
-    error allocate(uint32_t &id) { return code(dvs_id_allocate(get(), &id)); }
-    error allocate_exact(uint32_t id) { return code(dvs_id_allocate_exact(get(), id, nullptr)); }
-    error allocate_in(uint32_t first, uint32_t last, uint32_t &id) {
-        return code(dvs_id_allocate_in(get(), first, last, &id, nullptr));
+    error peek(uint32_t &id) const noexcept { return code(dvs_id_peek(get(), &id)); }
+    error allocate(uint32_t &id) noexcept { return code(dvs_id_allocate(get(), &id)); }
+    error allocate_exact(uint32_t id, dvs_refusal *refusal = nullptr) noexcept {
+        return code(dvs_id_allocate_exact(get(), id, refusal));
+    }
+    error allocate_in(uint32_t first, uint32_t last, uint32_t &id,
+                      dvs_refusal *refusal = nullptr) noexcept {
+        return code(dvs_id_allocate_in(get(), first, last, &id, refusal));
     }
     /* Allocates an id for each member of `ids`, or none. */
-    error allocate_all(std::vector<uint32_t> &ids) {
+    error allocate_all(std::vector<uint32_t> &ids) noexcept {
         return code(dvs_ids_allocate(get(), ids.data(), ids.size()));
     }
-    error free(uint32_t id) { return code(dvs_id_free(get(), id, nullptr)); }
-    error is_allocated(uint32_t id, bool &is_allocated) const {
+    error free(uint32_t id, dvs_refusal *refusal = nullptr) noexcept {
+        return code(dvs_id_free(get(), id, refusal));
+    }
+    error is_allocated(uint32_t id, bool &is_allocated) const noexcept {
         return code(dvs_id_is_allocated(get(), id, &is_allocated));
     }
-    error held_count(uint64_t &count) const { return code(dvs_id_count(get(), &count)); }
-    error free_count(uint64_t &count) const { return code(dvs_id_free_count(get(), &count)); }
+    error id_count(uint64_t &count) const noexcept { return code(dvs_id_count(get(), &count)); }
+    error free_count(uint64_t &count) const noexcept {
+        return code(dvs_id_free_count(get(), &count));
+    }
     error ids(std::vector<uint32_t> &ids) const { return list_by(dvs_id_visit, ids); }
+    template <typename Action> error for_each(Action action) const {
+        return visit_by<uint32_t>(dvs_id_visit, std::move(action));
+    }
 };
 
 class device_manager : public owner<dvs_device_manager, dvs_device_manager_destroy,
@@ -517,50 +537,99 @@ class device_manager : public owner<dvs_device_manager, dvs_device_manager_destr
     using object = dvs_device_manager;
 
   public:
-    using owner::release;
-    error make(uint32_t first_id, uint32_t last_id, uint64_t base, uint64_t size) {
+    error make(uint32_t first_id, uint32_t last_id, uint64_t base, uint64_t size,
+               dvs_refusal *refusal = nullptr) noexcept {
         return create([=](object **out) {
-            return dvs_device_manager_new(first_id, last_id, base, size, out, nullptr);
+            return dvs_device_manager_new(first_id, last_id, base, size, out, refusal);
         });
     }
-    error reserve_first(uint64_t size, uint64_t alignment, dvs_device &device) {
-        return code(dvs_device_reserve_first(get(), size, alignment, &device, nullptr));
+    error reserve_first(uint64_t size, uint64_t alignment, dvs_device &device,
+                        dvs_refusal *refusal = nullptr) noexcept {
+        return code(dvs_device_reserve_first(get(), size, alignment, &device, refusal));
     }
-    error reserve_last(uint64_t size, uint64_t alignment, dvs_device &device) {
-        return code(dvs_device_reserve_last(get(), size, alignment, &device, nullptr));
+    error reserve_last(uint64_t size, uint64_t alignment, dvs_device &device,
+                       dvs_refusal *refusal = nullptr) noexcept {
+        return code(dvs_device_reserve_last(get(), size, alignment, &device, refusal));
     }
     error reserve_exact(uint64_t size, uint64_t alignment, uint64_t start, dvs_device &device,
-                        dvs_refusal *refusal = nullptr) {
+                        dvs_refusal *refusal = nullptr) noexcept {
         return code(dvs_device_reserve_exact(get(), size, alignment, start, &device, refusal));
     }
-    error reserve(const dvs_request &asked, dvs_device &device, dvs_refusal *refusal = nullptr) {
-        return code(dvs_device_reserve(get(), &asked, &device, refusal));
+    error reserve(const request &asked, dvs_device &device,
+                  dvs_refusal *refusal = nullptr) noexcept {
+        const dvs_request one = asked.for_call();
+        return code(dvs_device_reserve(get(), &one, &device, refusal));
     }
-    error reserve(const request &asked, dvs_device &device, dvs_refusal *refusal = nullptr) {
-        return reserve(asked.get(), device, refusal);
+    error conflict(const request &asked, dvs_refusal &found) const noexcept {
+        const dvs_request one = asked.for_call();
+        return code(dvs_device_conflict(get(), &one, &found));
     }
-    error conflict(const dvs_request &asked, dvs_refusal &found) const {
-        return code(dvs_device_conflict(get(), &asked, &found));
+    error release(uint32_t id, dvs_refusal *refusal = nullptr) noexcept {
+        return code(dvs_device_release(get(), id, refusal));
     }
-    error conflict(const request &asked, dvs_refusal &found) const {
-        return conflict(asked.get(), found);
-    }
-    error release(uint32_t id) { return code(dvs_device_release(get(), id, nullptr)); }
-    error ids(uint32_t &first, uint32_t &last) const {
+    error ids(uint32_t &first, uint32_t &last) const noexcept {
         return code(dvs_device_manager_ids(get(), &first, &last));
     }
-    error space(dvs_range &space) const { return code(dvs_device_manager_space(get(), &space)); }
-    error slot(uint32_t id, dvs_range &range) const {
-        return code(dvs_device_slot(get(), id, &range, nullptr));
+    error space(dvs_range &space) const noexcept {
+        return code(dvs_device_manager_space(get(), &space));
     }
-    error device_count(uint64_t &count) const { return code(dvs_device_count(get(), &count)); }
-    error at(uint64_t address, dvs_device &device) const {
+    error slot(uint32_t id, dvs_range &range, dvs_refusal *refusal = nullptr) const noexcept {
+        return code(dvs_device_slot(get(), id, &range, refusal));
+    }
+    error device_count(uint64_t &count) const noexcept {
+        return code(dvs_device_count(get(), &count));
+    }
+    error at(uint64_t address, dvs_device &device) const noexcept {
         return code(dvs_device_at(get(), address, &device));
     }
     error devices(std::vector<dvs_device> &devices) const {
         return list_by(dvs_device_visit, devices);
     }
+    template <typename Action> error for_each(Action action) const {
+        return visit_by<dvs_device>(dvs_device_visit, std::move(action));
+    }
 };
+
+/*
+ * Frees an allocated range or id, or releases the device of an id, when it is destroyed:
+ *
+ *     dvs_range bar;
+ *     if (!space.allocate_first(0x1000, 0x1000, bar))
+ *         cards.emplace_back(dvs::range_lease(space, bar));
+ *
+ * The owner must outlive the lease, with the same object, and no other call must free the
+ * resource. The destructor frees nothing during a visit of the object.
+ */
+template <typename Owner, typename Object, typename Item,
+          dvs_status (*Free)(Object *, Item, dvs_refusal *)>
+class lease {
+    Owner *lender = nullptr;
+    Item item = {};
+
+  public:
+    lease() noexcept = default;
+    lease(Owner &owner, Item allocated) noexcept : lender(&owner), item(allocated) {}
+    lease(lease &&other) noexcept : lender(other.lender), item(other.keep()) {}
+    lease &operator=(lease &&other) noexcept {
+        std::swap(lender, other.lender);
+        std::swap(item, other.item);
+        return *this;
+    }
+    ~lease() {
+        if (lender != nullptr)
+            Free(lender->get(), item, nullptr);
+    }
+    const Item &get() const noexcept { return item; }
+    explicit operator bool() const noexcept { return lender != nullptr; }
+    /* Returns the resource, and leaves the lease empty. The caller must free the resource. */
+    Item keep() noexcept {
+        lender = nullptr;
+        return item;
+    }
+};
+using range_lease = lease<address_allocator, dvs_address_allocator, dvs_range, dvs_range_free>;
+using id_lease = lease<id_allocator, dvs_id_allocator, uint32_t, dvs_id_free>;
+using device_lease = lease<device_manager, dvs_device_manager, uint32_t, dvs_device_release>;
 
 } // namespace dvs
 

@@ -1,3 +1,4 @@
+/* SPDX-License-Identifier: Apache-2.0 OR BSD-3-Clause */
 /*
  * Prints the time of a call through C and of the same call through Rust. Rounds
  * of both alternate in one process. The fastest round of each counts, because

@@ -1,3 +1,4 @@
+// SPDX-License-Identifier: Apache-2.0 OR BSD-3-Clause
 //! The two rounds of `speed.c` as direct calls of the Rust crate.
 
 use crate::proved::vm_allocator::{AddressAllocator, AllocPolicy, RangeInclusive, Result};

@@ -1,3 +1,4 @@
+// SPDX-License-Identifier: Apache-2.0 OR BSD-3-Clause
 //! The device manager: an id and a range for each device.
 
 use crate::handle::{found, Handle};

@@ -1,3 +1,4 @@
+// SPDX-License-Identifier: Apache-2.0 OR BSD-3-Clause
 //! The objects that C has pointers to.
 
 use crate::proved::vm_allocator::{Conflict, Constraint, Error, Result as Answer};

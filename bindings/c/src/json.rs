@@ -1,3 +1,4 @@
+// SPDX-License-Identifier: Apache-2.0 OR BSD-3-Clause
 //! A reader of JSON after RFC 8259. It visits a text once and does not allocate.
 
 use crate::conditions::field_and_text;

@@ -1,3 +1,4 @@
+// SPDX-License-Identifier: Apache-2.0 OR BSD-3-Clause
 //! The proved allocators for C.
 //!
 //! `divsharun.h` documents the calls and what they require of their caller.

@@ -1,3 +1,4 @@
+// SPDX-License-Identifier: Apache-2.0 OR BSD-3-Clause
 //! Calls with arrays of ranges and of requests.
 
 use crate::handle::{non_null, Handle};

@@ -1,3 +1,4 @@
+// SPDX-License-Identifier: Apache-2.0 OR BSD-3-Clause
 //! The calls that each kind of object has.
 
 /// Defines the calls that destroy, copy, compare, save and read objects of one kind.

@@ -1,3 +1,4 @@
+// SPDX-License-Identifier: Apache-2.0 OR BSD-3-Clause
 //! Memory from the C library, and the end of the process after a panic: what `std` does otherwise.
 //!
 //! Without `std`, the libraries have a third of the size and need only the C library.

@@ -1,3 +1,4 @@
+// SPDX-License-Identifier: Apache-2.0 OR BSD-3-Clause
 //! The errors of calls, as statuses and details.
 
 use crate::proved::vm_allocator::Error;

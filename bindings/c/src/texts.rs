@@ -1,3 +1,4 @@
+// SPDX-License-Identifier: Apache-2.0 OR BSD-3-Clause
 //! Saving objects as JSON, and reading them.
 
 use crate::handle::{non_null, Handle};

@@ -1,3 +1,4 @@
+/* SPDX-License-Identifier: Apache-2.0 OR BSD-3-Clause */
 /*
  * Guards against a library that clashes with another Rust library in one program:
  * beside.rs must still catch its own panic.

@@ -1,3 +1,4 @@
+// SPDX-License-Identifier: Apache-2.0 OR BSD-3-Clause
 //! Another Rust library in the same program. It catches its own panic.
 
 use std::panic;

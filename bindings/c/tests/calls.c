@@ -1,3 +1,4 @@
+/* SPDX-License-Identifier: Apache-2.0 OR BSD-3-Clause */
 /*
  * Guards against a call with another status or result than in divsharun.h, and against
  * an error that writes to a result or changes the object. Most calls are the rows of

@@ -1,3 +1,4 @@
+/* SPDX-License-Identifier: Apache-2.0 OR BSD-3-Clause */
 /* Functions and macros that the tests share. */
 #ifndef CHECK_H
 #define CHECK_H

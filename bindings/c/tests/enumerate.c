@@ -1,3 +1,4 @@
+/* SPDX-License-Identifier: Apache-2.0 OR BSD-3-Clause */
 /*
  * Tests of the calls that list, look up and count items, and of those with arrays. They
  * guard against an item that is left out or repeated.

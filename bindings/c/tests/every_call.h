@@ -1,3 +1,4 @@
+/* SPDX-License-Identifier: Apache-2.0 OR BSD-3-Clause */
 /* Every call by a number, so that a test can make many calls in the same way. */
 #ifndef EVERY_CALL_H
 #define EVERY_CALL_H

@@ -1,3 +1,4 @@
+/* SPDX-License-Identifier: Apache-2.0 OR BSD-3-Clause */
 /* Ignores an error in each function. Every compiler must warn. */
 #include <divsharun.hpp>
 

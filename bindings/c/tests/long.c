@@ -1,3 +1,4 @@
+/* SPDX-License-Identifier: Apache-2.0 OR BSD-3-Clause */
 /*
  * Guards against a fault that only many calls reach, such as one of a tree with many leaves.
  * Random calls of every kind are compared with arrays, and large spaces are filled and

@@ -1,3 +1,4 @@
+/* SPDX-License-Identifier: Apache-2.0 OR BSD-3-Clause */
 /*
  * Guards against a call that ends the process, loses memory or changes its object when
  * memory runs out. Each allocation of each call fails in turn. The call must return

@@ -1,3 +1,4 @@
+/* SPDX-License-Identifier: Apache-2.0 OR BSD-3-Clause */
 /*
  * Makes the mistake whose number is the argument. Valgrind must notice it in a call, and
  * the library itself must notice the last one.

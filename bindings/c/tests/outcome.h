@@ -1,3 +1,4 @@
+/* SPDX-License-Identifier: Apache-2.0 OR BSD-3-Clause */
 /* The outcome of a call. Before each call all results and details have the same byte. */
 #ifndef OUTCOME_H
 #define OUTCOME_H

@@ -1,6 +1,7 @@
+/* SPDX-License-Identifier: Apache-2.0 OR BSD-3-Clause */
 /*
- * Guards against owners of divsharun.hpp that leak, destroy an object twice or in a
- * visit, and against lists and codes of errors that differ from those of the calls.
+ * Guards against owners of divsharun.hpp that leak, or destroy an object twice or in a
+ * visit. The lists and the codes of errors must be those of the calls.
  */
 #include "check.h"
 
@@ -8,6 +9,10 @@
 
 #include <algorithm>
 #include <stdexcept>
+#include <type_traits>
+#if __cplusplus >= 201703L
+#include <string_view>
+#endif
 
 /* Returns the items that a list has. */
 template <typename Owner, typename Item>
@@ -61,15 +66,14 @@ static void allocate() {
     dvs::request place = dvs::request::last(0x80, 0x80).within({0, 0x1fff});
     CHECK(!space.move_range(range, place, range) && is_range(range, 0x1e80, 0x1eff));
     CHECK(space.move_range({0x1000, 0x10ff}, place, range) == DVS_RESOURCE_NOT_AVAILABLE);
-    CHECK(!space.move_range(range, {0x100, 0x100, 0x1000, DVS_EXACT, nullptr}, range));
+    CHECK(!space.move_range(range, {{0x100, 0x100, 0x1000, DVS_EXACT, nullptr}}, range));
     CHECK(is_range(range, 0x1000, 0x10ff));
     std::size_t failed = 9;
-    CHECK(!space.allocate_all({{1, 1, 0, DVS_FIRST, nullptr}, {2, 1, 0, DVS_LAST, nullptr}}, ranges,
-                              &failed));
+    using dvs::request;
+    CHECK(!space.allocate_all({request::first(1, 1), request::last(2, 1)}, ranges, &failed));
     CHECK(failed == 2 && is_range(ranges[1], 0x1efe, 0x1eff));
-    CHECK(space.allocate_all({{1, 1, 0, DVS_FIRST, nullptr}, {0, 1, 0, DVS_LAST, nullptr}}, ranges,
-                             &failed) &&
-          failed == 1);
+    CHECK(space.allocate_all({request::first(1, 1), request::last(0, 1)}, ranges, &failed));
+    CHECK(failed == 1 && !space.allocate_all({}, ranges) && ranges.empty());
 }
 
 static void allocate_in_windows() {
@@ -86,7 +90,7 @@ static void allocate_in_windows() {
     CHECK(!space.allocate(request::last(0x10, 1).within(low).within({0, UINT32_MAX}), range));
     CHECK(is_range(range, 0x3ff0, 0x3fff));
     CHECK(!space.allocate(request::first(0x10, 1), range) && is_range(range, 0x1000, 0x100f));
-    CHECK(!space.allocate({0x20, 0x20, 0, DVS_LAST, &low}, range));
+    CHECK(!space.allocate({{0x20, 0x20, 0, DVS_LAST, &low}}, range));
     CHECK(is_range(range, 0x1fc0, 0x1fdf));
     CHECK(space.allocate(request::exact(0x20, 1, 0x1fc0).within({0x1fc0, 0x1fc0}), range,
                          &refusal) == dvs::code(DVS_INVALID_STATE_TRANSITION));
@@ -95,7 +99,7 @@ static void allocate_in_windows() {
           dvs::code(DVS_INVALID_RANGE));
     CHECK(is_range(refusal.range, 9, 8) && is_range(refusal.other, 0, 0) && refusal.size == 0 &&
           refusal.id == 0);
-    CHECK(space.allocate({1, 1, 0, 3, nullptr}, range) == dvs::code(DVS_INVALID_POLICY));
+    CHECK(space.allocate({{1, 1, 0, 3, nullptr}}, range) == dvs::code(DVS_INVALID_POLICY));
     CHECK(dvs::cause_of(refusal) == dvs::cause::none);
     CHECK(space.allocate(request::exact(2, 1, 0x1fdf), range, &refusal) ==
           DVS_RESOURCE_NOT_AVAILABLE);
@@ -111,9 +115,9 @@ static void allocate_in_windows() {
           is_range(refusal.other, 0x1000, 0x1fff));
     CHECK(!space.conflict(request::exact(2, 1, 0x1fff).within(low), conflict));
     CHECK(memcmp(&conflict, &refusal, sizeof conflict) == 0);
-    CHECK(!space.conflict({2, 1, 0x1102, DVS_EXACT, &low}, conflict));
+    CHECK(!space.conflict({{2, 1, 0x1102, DVS_EXACT, &low}}, conflict));
     CHECK(dvs::cause_of(conflict) == dvs::cause::none && is_range(conflict.range, 0, 0));
-    CHECK(space.conflict({2, 1, 0, 3, nullptr}, conflict) == DVS_INVALID_POLICY);
+    CHECK(space.conflict({{2, 1, 0, 3, nullptr}}, conflict) == DVS_INVALID_POLICY);
     CHECK(space.move_range(range, request::exact(2, 1, 0xfff).within(low), range, &refusal) ==
           DVS_RESOURCE_NOT_AVAILABLE);
     CHECK(dvs::cause_of(refusal) == dvs::cause::outside_space);
@@ -144,6 +148,38 @@ static void allocate_all_in_windows() {
     CHECK(failed == 2 && is_range(refusal.range, 2, 1) && ranges_of(space).size() == 4);
 }
 
+template <typename Request, typename = decltype(std::declval<Request>().get())>
+static std::true_type has_get(int);
+template <typename> static std::false_type has_get(...);
+static_assert(!decltype(has_get<dvs::request>(0))::value &&
+                  !std::is_convertible<dvs::request, dvs_request>::value,
+              "a request of C would point to a window that is destroyed");
+
+/* Checks that a request copies its window, so that it refers to no temporary and no other window.
+ */
+static void copy_windows() {
+    using dvs::request;
+    dvs::address_allocator space;
+    std::vector<request> bars;
+    std::vector<dvs_range> ranges;
+    dvs_range window, range;
+
+    CHECK(!space.make(0, 0x100000));
+    for (uint64_t i = 1; i < 4; i++)
+        bars.push_back(request::first(0x1000, 0x1000).within({0x10000 * i, 0xfffff}));
+    for (uint64_t i = 4; i < 6; i++) {
+        window = range_of(0x10000 * i, 0xfffff);
+        bars.push_back(dvs_request{0x1000, 0x1000, 0, DVS_FIRST, &window});
+    }
+    CHECK(!space.allocate_all(bars, ranges) && ranges.size() == 5);
+    for (uint64_t i = 0; i < 5; i++)
+        CHECK(is_range(ranges[i], 0x10000 * (i + 1), 0x10000 * (i + 1) + 0xfff));
+    const request high = request::last(0x10, 1).within({0xf0000, 0xfffff});
+    CHECK(!space.allocate(high.within({0xe0000, 0xeffff}), range) && range.end == 0xeffff);
+    CHECK(!space.allocate(high.within({0, UINT64_MAX}), range) && range.end == 0xfffff);
+    CHECK(!space.allocate(high, range) && range.end == 0xfffef);
+}
+
 static void reserve_in_windows() {
     using dvs::request;
     dvs::device_manager devices;
@@ -162,9 +198,9 @@ static void reserve_in_windows() {
     CHECK(dvs::cause_of(refusal) == dvs::cause::allocated && is_range(refusal.other, 16, 23));
     CHECK(!devices.conflict(request::exact(8, 8, 16).within({0, 20}), refusal));
     CHECK(dvs::cause_of(refusal) == dvs::cause::outside_window && refusal.other.end == 20);
-    CHECK(!devices.conflict({8, 8, 64, DVS_EXACT, nullptr}, refusal));
+    CHECK(!devices.conflict({{8, 8, 64, DVS_EXACT, nullptr}}, refusal));
     CHECK(dvs::cause_of(refusal) == dvs::cause::outside_space && is_range(refusal.other, 0, 63));
-    CHECK(!devices.reserve({8, 8, 0, DVS_FIRST, nullptr}, device) && device.id == 6);
+    CHECK(!devices.reserve({{8, 8, 0, DVS_FIRST, nullptr}}, device) && device.id == 6);
     CHECK(list(devices, &dvs::device_manager::devices).size() == 2 && is_range(device.range, 0, 7));
 }
 
@@ -189,7 +225,7 @@ static void save() {
     CHECK(!copy.read(text) && ranges_of(copy).size() == 2);
     CHECK(copy.read("{}") == dvs::code(DVS_NOT_A_STATE) && ranges_of(copy).size() == 2);
     uint64_t count = 0;
-    CHECK(!copy.held_count(count) && count == 2 && !copy.free_length(count) && count == 13);
+    CHECK(!copy.range_count(count) && count == 2 && !copy.free_length(count) && count == 13);
     CHECK(!copy.gap_count(count) && count == 3);
     dvs_text_fault fault;
     dvs_text_limits limits = {text.size() - 1, 0};
@@ -278,7 +314,7 @@ static void walk(const dvs::address_allocator &space, uint64_t address,
         }
         CHECK(are_same(seen, above));
     }
-    CHECK(!(space.*list_in)({std::max<uint64_t>(address, 1), UINT64_MAX}, seen));
+    CHECK(!(space.*list_in)({std::max<uint64_t>(address, 1), UINT64_MAX}, seen, nullptr));
     CHECK(are_same(seen, above));
     while (address % 2 == 1 && each != each.end())
         ++each;
@@ -336,7 +372,7 @@ static void count_steps() {
     CHECK(!space.make(0, 100));
     while (!space.allocate_first(1, 2, range))
         continue;
-    CHECK(!ranges.start(space.get(), 0) && std::distance(ranges.begin(), ranges.end()) == 50);
+    CHECK(!ranges.start(space, 0) && std::distance(ranges.begin(), ranges.end()) == 50);
     CHECK(visit_calls == 51 && visit_items == 50);
 }
 
@@ -375,6 +411,39 @@ static void loop() {
     CHECK(ranges_of(space).size() == 1 && gaps_of(space).size() == 1);
 }
 
+/* Calls `replace` at the first item of a loop over 1, 3 and 5. The loop goes on in the new object.
+ */
+template <typename Replace> static void replace_in_a_loop(Replace replace) {
+    dvs::address_allocator space, other;
+    dvs::each_range ranges;
+    std::vector<dvs_range> seen;
+    const std::vector<dvs_range> expected = {range_of(1, 1), range_of(2, 2), range_of(7, 7)};
+
+    CHECK(!space.make_with_held(0, 9, {range_of(1, 1), range_of(3, 3), range_of(5, 5)}));
+    CHECK(!other.make_with_held(0, 9, {range_of(0, 0), range_of(2, 2), range_of(7, 7)}));
+    CHECK(!space.ranges_from(0, ranges));
+    for (dvs_range range : ranges) {
+        if (range.start == 1)
+            replace(space, other);
+        seen.push_back(range);
+    }
+    CHECK(are_same(seen, expected));
+}
+
+static void replace_in_loops() {
+    using owner = dvs::address_allocator;
+    replace_in_a_loop([](owner &space, owner &other) { CHECK(!space.make_copy(other)); });
+    replace_in_a_loop([](owner &space, owner &other) { space = std::move(other); });
+    replace_in_a_loop([](owner &space, owner &other) { CHECK(!space.adopt(other.detach())); });
+    replace_in_a_loop([](owner &space, owner &other) {
+        std::string text;
+        CHECK(!other.save(text) && !space.read(text));
+    });
+    replace_in_a_loop([](owner &space, owner &) {
+        CHECK(!space.make_with_held(0, 9, {range_of(2, 2), range_of(7, 7)}));
+    });
+}
+
 /* Checks that methods pass on numbers above 2^40, up to UINT64_MAX. */
 static void pass_large_numbers() {
     using dvs::request;
@@ -405,7 +474,7 @@ static void pass_large_numbers() {
         !space.move_range(moved, request::last(much, much).within({half, half + 8 * much}), range));
     CHECK(is_range(range, half + 7 * much, half + 8 * much - 1));
     CHECK(!space.at(range.end, moved) && moved.start == range.start && !space.gap_at(top, moved));
-    CHECK(is_range(moved, top, top) && !space.free(range) && !space.held_count(number));
+    CHECK(is_range(moved, top, top) && !space.free(range) && !space.range_count(number));
     CHECK(number == 3 && !space.free_length(number) && number == top - 4 * much + 2);
     CHECK(!devices.make(1, 9, much, top - much + 1) && !devices.space(range));
     CHECK(is_range(range, much, top) && !devices.reserve_first(much, half, device));
@@ -444,7 +513,7 @@ static void pass_large_ids() {
     CHECK(!ids.make(0, last) && !ids.free_count(count) && count == (uint64_t)1 << 32);
     CHECK(
         !ids.read("{\"range_base\":0,\"next_id\":null,\"range_end\":4294967295,\"freed_ids\":[]}"));
-    CHECK(!ids.held_count(count) && count == (uint64_t)1 << 32);
+    CHECK(!ids.id_count(count) && count == (uint64_t)1 << 32);
 }
 
 /* Checks that methods pass on lists and texts of more members than 16 bits can count. */
@@ -526,7 +595,7 @@ static void ask() {
           !space.is_allocated({1, 1}, is_allocated) && !is_allocated);
     CHECK(space.is_allocated({2, 1}, is_allocated) == DVS_INVALID_RANGE);
     CHECK(!ids.make_with_held(5, 9, {5}) && !ids.range(first, last) && first == 5 && last == 9);
-    CHECK(!ids.peek(id) && id == 6 && !ids.held_count(count) && count == 1);
+    CHECK(!ids.peek(id) && id == 6 && !ids.id_count(count) && count == 1);
     CHECK(!ids.is_allocated(5, is_allocated) && is_allocated &&
           !ids.is_allocated(6, is_allocated) && !is_allocated);
     CHECK(!devices.make(5, 9, 16, 16) && !devices.reserve_last(4, 4, device));
@@ -542,7 +611,7 @@ static void ask() {
 
 /* Checks that a method passes on the whole text, the limits and the fault. */
 template <typename Owner>
-static void check_reader(dvs::error (Owner::*read)(const std::string &, dvs_text_fault *,
+static void check_reader(dvs::error (Owner::*read)(dvs::saved_text, dvs_text_fault *,
                                                    const dvs_text_limits *)) {
     const dvs_text_limits limits[] = {{2, 0}, {0, 1}};
     dvs_text_fault fault = {9, "", ""};
@@ -550,12 +619,54 @@ static void check_reader(dvs::error (Owner::*read)(const std::string &, dvs_text
 
     CHECK((owner.*read)(std::string("{}\0", 3), &fault, nullptr) == DVS_NOT_JSON);
     CHECK(fault.offset == 2 && fault.field == nullptr);
+    CHECK((owner.*read)({"{}[", 2}, &fault, nullptr) == DVS_NOT_A_STATE);
+    CHECK((owner.*read)(std::vector<char>(3, '{'), &fault, nullptr) == DVS_NOT_JSON);
+#if __cplusplus >= 201703L
+    CHECK((owner.*read)(std::string_view("{}[").substr(1, 1), &fault, nullptr) == DVS_NOT_JSON);
+    CHECK(fault.offset == 0);
+#endif
     CHECK((owner.*read)("{} ", &fault, &limits[0]) == DVS_LIMIT_EXCEEDED && fault.offset == 2);
     CHECK((owner.*read)("[[]]", &fault, &limits[1]) == DVS_LIMIT_EXCEEDED && fault.offset == 1);
 }
 
 static bool tells(const dvs_refusal &refusal, uint64_t start, uint64_t end, uint32_t id = 0) {
     return is_range(refusal.range, start, end) && refusal.id == id;
+}
+
+/* Checks the details of calls that have no other error with a detail. */
+static void tell_more_details() {
+    dvs::address_allocator space;
+    dvs::id_allocator ids;
+    dvs::device_manager devices;
+    dvs_range range;
+    dvs_device device;
+    dvs_refusal refusal = {{9, 9}, {9, 9}, 9, 9, 9};
+    std::vector<dvs_range> ranges;
+    uint32_t id = 0;
+    bool is_allocated = false;
+    const dvs_range wrong = {7, 6};
+
+    CHECK(!space.make(0, 64) && !ids.make(5, 9) && !devices.make(5, 9, 0, 64));
+    CHECK(space.allocate_first(0, 1, range, &refusal) == DVS_INVALID_SIZE && refusal.size == 0);
+    CHECK(space.free(wrong, &refusal) == DVS_INVALID_RANGE && tells(refusal, 7, 6));
+    CHECK(space.allocate_last(1, 3, range, &refusal) && tells(refusal, 0, 0));
+    CHECK(space.is_allocated(wrong, is_allocated, &refusal) && tells(refusal, 7, 6));
+    CHECK(devices.reserve_first(0, 1, device, &refusal) && tells(refusal, 0, 0));
+    CHECK(space.ranges_in(wrong, ranges, &refusal) && tells(refusal, 7, 6));
+    CHECK(ids.make(9, 5, &refusal) == DVS_INVALID_RANGE && tells(refusal, 9, 5));
+    CHECK(ids.allocate_exact(4, &refusal) == DVS_OUT_OF_RANGE && tells(refusal, 0, 0, 4));
+    CHECK(ids.allocate_in(8, 7, id, &refusal) && tells(refusal, 8, 7));
+    CHECK(space.gaps_in({9, 8}, ranges, &refusal) && tells(refusal, 9, 8));
+    CHECK(ids.free(6, &refusal) == DVS_NEVER_ALLOCATED && tells(refusal, 0, 0, 6));
+    CHECK(devices.make(3, 2, 0, 1, &refusal) == DVS_INVALID_RANGE && tells(refusal, 3, 2));
+    CHECK(devices.reserve_last(0, 1, device, &refusal) && tells(refusal, 0, 0));
+    CHECK(devices.release(7, &refusal) == DVS_NEVER_ALLOCATED && tells(refusal, 0, 0, 7));
+    CHECK(devices.slot(8, range, &refusal) == DVS_NEVER_ALLOCATED && tells(refusal, 0, 0, 8));
+    static_assert(
+        noexcept(space.make(0, 1)) &&noexcept(space.free(wrong)) &&noexcept(space.read(""))
+            &&noexcept(space.make_copy(space)) &&noexcept(ids.allocate(id)) &&noexcept(ids.id_count(
+                refusal.size)) &&noexcept(devices.release(1)) &&noexcept(devices.slot(1, range)),
+        "calls without a vector, a string and a function cannot throw");
 }
 
 /* Checks that methods pass on the alignment, and the details of an error. */
@@ -568,7 +679,7 @@ static void tell_details() {
     dvs_device device;
     dvs_refusal refusal;
     std::vector<dvs_range> ranges;
-    const std::vector<dvs_request> twice(2, {1, 1, 99, DVS_EXACT, nullptr});
+    const std::vector<request> twice(2, request::exact(1, 1, 99));
 
     CHECK(space.make_with_held(0, 9, {{2, 1}}, nullptr, &refusal) && tells(refusal, 2, 1));
     CHECK(space.make_with_free({{4, 3}}, nullptr, &refusal) && tells(refusal, 4, 3));
@@ -581,7 +692,7 @@ static void tell_details() {
     CHECK(!space.allocate(request::first(16, 64), range) && is_range(range, 128, 143));
     CHECK(!space.allocate(request::last(16, 64), range) && is_range(range, 0xf80, 0xf8f));
     CHECK(space.allocate(request::exact(16, 64, 65), range) == DVS_UNALIGNED_ADDRESS);
-    CHECK(space.allocate({8, 1, 130, DVS_EXACT, nullptr}, range, &refusal) &&
+    CHECK(space.allocate({{8, 1, 130, DVS_EXACT, nullptr}}, range, &refusal) &&
           tells(refusal, 130, 137));
     CHECK(space.allocate_all(twice, ranges, nullptr, &refusal) && ranges.empty());
     CHECK(tells(refusal, 99, 99));
@@ -589,8 +700,9 @@ static void tell_details() {
     CHECK(!devices.reserve_last(16, 64, device) && is_range(device.range, 0xfc0, 0xfcf));
     CHECK(devices.reserve_exact(16, 64, 65, device) == DVS_UNALIGNED_ADDRESS);
     CHECK(devices.reserve_exact(16, 64, 64, device, &refusal) && tells(refusal, 64, 79));
-    CHECK(devices.reserve({8, 1, 70, DVS_EXACT, nullptr}, device, &refusal) &&
+    CHECK(devices.reserve({{8, 1, 70, DVS_EXACT, nullptr}}, device, &refusal) &&
           tells(refusal, 70, 77));
+    tell_more_details();
     check_reader(&dvs::address_allocator::read);
     check_reader(&dvs::address_allocator::read_repaired);
     check_reader(&dvs::id_allocator::read);
@@ -622,7 +734,7 @@ static void ask_empty(const dvs::address_allocator &space, const dvs::id_allocat
                               space.at(0, range),
                               space.gap_at(0, range),
                               space.longest_gap(count),
-                              space.held_count(count),
+                              space.range_count(count),
                               space.free_length(count),
                               space.ranges(ranges),
                               space.gaps(ranges),
@@ -630,6 +742,7 @@ static void ask_empty(const dvs::address_allocator &space, const dvs::id_allocat
                               space.gaps_from(0, each_gap),
                               space.ranges_in(range, ranges),
                               space.for_each(see),
+                              space.for_each_gap(see),
                               space.gaps_in(range, ranges),
                               space.for_each_from(0, see),
                               space.for_each_back(0, see),
@@ -640,15 +753,17 @@ static void ask_empty(const dvs::address_allocator &space, const dvs::id_allocat
                               ids.range(id, id),
                               ids.peek(id),
                               ids.is_allocated(0, is_allocated),
-                              ids.held_count(count),
+                              ids.id_count(count),
                               ids.free_count(count),
                               ids.ids(numbers),
+                              ids.for_each([](uint32_t) { return true; }),
                               devices.save(text),
                               devices.ids(id, id),
                               devices.space(range),
                               devices.slot(0, range),
                               devices.device_count(count),
                               devices.devices(slots),
+                              devices.for_each([](dvs_device) { return true; }),
                               devices.conflict(dvs::request::first(1, 1), refusal),
                               devices.at(0, device)};
 
@@ -657,6 +772,89 @@ static void ask_empty(const dvs::address_allocator &space, const dvs::id_allocat
     CHECK(is_range(ranges[0], 1, 2) && numbers[0] == 3 && slots[0].id == 4);
     CHECK(is_range(*each_range.begin(), 5, 6) && is_range(*each_gap.begin(), 7, 7));
     CHECK(space == space && !(ids != ids) && text == "kept");
+}
+
+/* Calls `action` in a visit of an owner's object, which has an item. */
+template <typename Action> static void visit(const dvs::address_allocator &space, Action action) {
+    auto one = [](void *context, dvs_range) { return (*static_cast<Action *>(context))(), 1; };
+    CHECK(dvs_range_visit(space.get(), one, &action) == DVS_OK);
+}
+template <typename Action> static void visit(const dvs::id_allocator &ids, Action action) {
+    auto one = [](void *context, uint32_t) { return (*static_cast<Action *>(context))(), 1; };
+    CHECK(dvs_id_visit(ids.get(), one, &action) == DVS_OK);
+}
+template <typename Action> static void visit(const dvs::device_manager &devices, Action action) {
+    auto one = [](void *context, dvs_device) { return (*static_cast<Action *>(context))(), 1; };
+    CHECK(dvs_device_visit(devices.get(), one, &action) == DVS_OK);
+}
+
+/* Visits ids, devices and gaps until the second item. */
+static void visit_each() {
+    dvs::address_allocator space;
+    dvs::id_allocator ids;
+    dvs::device_manager devices;
+    dvs_device device;
+    std::vector<uint32_t> seen;
+    std::vector<dvs_range> gaps;
+
+    CHECK(!space.make_with_held(0, 9, {range_of(1, 1), range_of(3, 3)}));
+    CHECK(!space.for_each_gap(take_two(gaps)) && gaps.size() == 2);
+    CHECK(is_range(gaps[0], 0, 0) && is_range(gaps[1], 2, 2));
+    CHECK(!ids.make_with_held(1, 9, {2, 4, 6}) && !devices.make(1, 9, 0, 64));
+    auto see = [&seen](uint32_t id) { return seen.push_back(id), seen.size() % 2 == 1; };
+    CHECK(!ids.for_each(see));
+    for (int i = 0; i < 3; i++)
+        CHECK(!devices.reserve_last(8, 8, device));
+    CHECK(!devices.for_each([see](dvs_device one) { return see(one.range.start); }));
+    CHECK(seen == std::vector<uint32_t>({2, 4, 56, 48}));
+}
+
+/* Checks that a lease frees its item once, and only if it still has it. */
+template <typename Lease, typename Owner, typename Item>
+static void lend(Owner &owner, Item item, const Owner &without) {
+    Owner with;
+
+    CHECK(!with.make_copy(owner));
+    { Lease empty, lent(owner, item); }
+    CHECK(owner == without && !owner.make_copy(with));
+    {
+        std::vector<Lease> all;
+        Lease other, lent(owner, item);
+        all.push_back(std::move(lent));
+        CHECK(!lent && all[0] && memcmp(&all[0].get(), &item, sizeof item) == 0);
+        other = std::move(all[0]);
+        all.clear();
+        CHECK(other && owner == with);
+        lent = std::move(other);
+        Item kept = lent.keep();
+        CHECK(!lent && memcmp(&kept, &item, sizeof item) == 0);
+    }
+    CHECK(owner == with);
+    visit(owner, [&] { Lease(owner, item); });
+    CHECK(owner == with);
+    static_assert(std::is_nothrow_move_constructible<Lease>::value &&
+                      !std::is_copy_constructible<Lease>::value,
+                  "two leases would free one item");
+}
+
+static void lend_each() {
+    dvs::address_allocator space, no_range;
+    dvs::id_allocator ids, no_id;
+    dvs::device_manager devices, no_device;
+    dvs_device device;
+    dvs_range range;
+    uint32_t id = 0;
+
+    CHECK(!space.make(0, 64) && !no_range.make(0, 64) && !space.allocate_first(8, 8, range));
+    lend<dvs::range_lease>(space, range, no_range);
+    /* Equal id allocators have the same freed ids. */
+    CHECK(!ids.make(5, 9) && !ids.allocate(id) && !ids.free(id) && !no_id.make_copy(ids));
+    CHECK(!ids.allocate(id));
+    lend<dvs::id_lease>(ids, id, no_id);
+    CHECK(!devices.make(5, 9, 0, 64) && !devices.reserve_first(8, 8, device));
+    CHECK(!devices.release(5) && !no_device.make_copy(devices));
+    CHECK(!devices.reserve_first(8, 8, device));
+    lend<dvs::device_lease>(devices, device.id, no_device);
 }
 
 static void throw_in_a_visit() {
@@ -679,20 +877,6 @@ static void throw_in_a_visit() {
     CHECK(!space.for_each([&calls](dvs_range) { return ++calls < 3; }) && calls == 3);
 }
 
-/* Calls `action` in a visit of an owner's object, which has an item. */
-template <typename Action> static void visit(const dvs::address_allocator &space, Action action) {
-    auto one = [](void *context, dvs_range) { return (*static_cast<Action *>(context))(), 1; };
-    CHECK(dvs_range_visit(space.get(), one, &action) == DVS_OK);
-}
-template <typename Action> static void visit(const dvs::id_allocator &ids, Action action) {
-    auto one = [](void *context, uint32_t) { return (*static_cast<Action *>(context))(), 1; };
-    CHECK(dvs_id_visit(ids.get(), one, &action) == DVS_OK);
-}
-template <typename Action> static void visit(const dvs::device_manager &devices, Action action) {
-    auto one = [](void *context, dvs_device) { return (*static_cast<Action *>(context))(), 1; };
-    CHECK(dvs_device_visit(devices.get(), one, &action) == DVS_OK);
-}
-
 /* A visitor replaces an owner, and then calls `change`. A refused call destroys no object. */
 template <typename Owner, typename Change>
 static void keep_in_a_visit(Owner &owner, Change change) {
@@ -702,8 +886,9 @@ static void keep_in_a_visit(Owner &owner, Change change) {
 
     CHECK(!second.make_copy(owner) && !before.make_copy(owner) && !owner.save(text));
     visit(owner, [&] {
-        auto *const made = second.release();
+        auto *const made = second.detach();
         CHECK(owner.adopt(made) == DVS_BUSY && owner.adopt(nullptr) == DVS_BUSY);
+        CHECK(owner.adopt(kept) == DVS_OK && owner.get() == kept);
         CHECK(!second && !second.adopt(made) && second.get() == made && second == before);
         CHECK(owner.make_copy(second) == DVS_BUSY && owner.make_copy(owner) == DVS_BUSY);
         CHECK(owner.make_copy(Owner()) == DVS_NULL && owner.read("{}") == DVS_NOT_A_STATE);
@@ -713,12 +898,12 @@ static void keep_in_a_visit(Owner &owner, Change change) {
         owner = std::move(second);
         CHECK(owner.get() == kept && second == before);
         Owner moved(std::move(owner));
-        CHECK(!owner && moved.get() == kept && owner.adopt(moved.release()) == DVS_OK);
+        CHECK(!owner && moved.get() == kept && owner.adopt(moved.detach()) == DVS_OK);
         CHECK(!moved && owner.get() == kept && !second.make_copy(owner));
         change();
         CHECK(owner.get() == kept && owner == before);
     });
-    CHECK(!owner.adopt(second.release()) && owner == before && !owner.make_copy(before));
+    CHECK(!owner.adopt(second.detach()) && owner == before && !owner.make_copy(before));
 }
 
 /* Calls each other method that changes an object, also with nothing to do. */
@@ -733,7 +918,6 @@ static void change_in_a_visit() {
     std::vector<dvs_range> ranges;
     std::vector<uint32_t> several(2), none;
     std::string text;
-    const dvs_request asked = {1, 1, 1, DVS_EXACT, nullptr};
 
     CHECK(!space.make_with_held(0, 16, {range}) && !ids.make_with_held(5, 9, {5}));
     CHECK(!devices.make(5, 9, 0, 16) && !devices.reserve_first(1, 1, device) && !space.save(text));
@@ -745,12 +929,10 @@ static void change_in_a_visit() {
                                   space.allocate_first(1, 1, range),
                                   space.allocate_last(1, 1, range),
                                   space.allocate_exact(1, 1, 2, range),
-                                  space.allocate(asked, range),
                                   space.allocate(request::first(1, 1), range),
-                                  space.allocate_all(std::vector<dvs_request>(), ranges),
+                                  space.allocate_all({}, ranges),
                                   space.allocate_all({request::first(1, 1)}, ranges),
                                   space.move_range(range, 1, range),
-                                  space.move_range(range, asked, range),
                                   space.move_range(range, request::exact(1, 1, 1), range),
                                   space.free(range)};
         for (const dvs::error &one : all)
@@ -775,7 +957,6 @@ static void change_in_a_visit() {
                                   devices.reserve_first(1, 1, device),
                                   devices.reserve_last(1, 1, device),
                                   devices.reserve_exact(1, 1, 1, device),
-                                  devices.reserve(asked, device),
                                   devices.reserve(request::first(1, 1), device),
                                   devices.release(5)};
         for (const dvs::error &one : all)
@@ -800,18 +981,31 @@ static void replace_in_a_visit() {
     dvs::address_allocator &itself = space;
     space = std::move(itself);
     CHECK(space && gaps_of(space).size() == 1);
-    dvs_address_allocator *object = space.release();
+    dvs_address_allocator *object = space.detach();
     CHECK(!space && !other.adopt(object) && other.get() == object);
+    CHECK(!other.adopt(object) && gaps_of(other).size() == 1);
+}
+
+/* Destroys an owner in a visit. The object exists after it. */
+static void destroy_in_a_visit() {
+    dvs::address_allocator *owner = new dvs::address_allocator, kept;
+
+    CHECK(!owner->make_with_held(0, 9, {range_of(1, 1), range_of(3, 3)}));
+    dvs_address_allocator *const object = owner->get();
+    CHECK(!owner->for_each([&owner](dvs_range) { return delete owner, owner = nullptr, true; }));
+    CHECK(!kept.adopt(object) && ranges_of(kept).size() == 2);
 }
 
 int main() {
     allocate();
     allocate_in_windows();
     allocate_all_in_windows();
+    copy_windows();
     copy();
     /* A walk without end fails here, and loop() would take all memory. */
     walk_from_addresses();
     loop();
+    replace_in_loops();
     count_steps();
     pass_large_numbers();
     pass_large_ids();
@@ -823,9 +1017,12 @@ int main() {
     save();
     tell_details();
     ask_empty({}, {}, {});
+    visit_each();
+    lend_each();
     throw_in_a_visit();
     change_in_a_visit();
     replace_in_a_visit();
+    destroy_in_a_visit();
     puts("owners: the header for C++ checked");
     return 0;
 }

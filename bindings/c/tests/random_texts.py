@@ -1,4 +1,5 @@
 #!/usr/bin/env python3
+# SPDX-License-Identifier: Apache-2.0 OR BSD-3-Clause
 """Reads random texts by the C library, and compares the results with those of Python's reader of JSON.
 
     random_texts.py [--texts N] [--seed N] PROGRAM ..

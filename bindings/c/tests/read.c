@@ -1,3 +1,4 @@
+/* SPDX-License-Identifier: Apache-2.0 OR BSD-3-Clause */
 /*
  * Reads texts for random_texts.py. The input is a line with the reader and the
  * number of bytes, and then these bytes. The output is a line with the status,

@@ -1,3 +1,4 @@
+/* SPDX-License-Identifier: Apache-2.0 OR BSD-3-Clause */
 /*
  * Counts allocations and their bytes, and fails one of them. The linker option --wrap directs all
  * allocations to this file.

@@ -1,3 +1,4 @@
+/* SPDX-License-Identifier: Apache-2.0 OR BSD-3-Clause */
 /*
  * Guards against state that calls share. Each thread uses its own object, an object is
  * passed from thread to thread, and all threads query and visit one at the same time.

@@ -1,6 +1,7 @@
+/* SPDX-License-Identifier: Apache-2.0 OR BSD-3-Clause */
 /*
- * Guards against a visitor that does not return, or destroys its owner, without notice:
- * the process must end with abort(), after a line that gives the reason.
+ * Guards against a visitor that does not return without notice: the process must end
+ * with abort(), after a line that gives the reason. A visitor can call exit().
  */
 #include "check.h"
 
@@ -25,11 +26,12 @@ static int cancel_thread(void *, dvs_range) {
     return 0;
 }
 
-static int destroy_owner(void *, dvs_range range) {
-    dvs::address_allocator *space = new dvs::address_allocator;
+/* exit() destroys this owner in a visit of its object. */
+static dvs::address_allocator kept;
 
-    CHECK(!space->make_with_held(0, 10, {range}));
-    CHECK(!space->for_each([space](dvs_range) { return delete space, true; }));
+static int exit_process(void *, dvs_range range) {
+    CHECK(!kept.make_with_held(0, 10, {range}));
+    CHECK(!kept.for_each([](dvs_range) -> bool { exit(0); }));
     return 0;
 }
 
@@ -58,7 +60,8 @@ static void visit_in_child(dvs_range_visitor *visitor, FILE *said) {
     _exit(2);
 }
 
-static void check_aborts(dvs_range_visitor *visitor, const char *reason) {
+/* Checks how a process ends, and what it writes to the standard error stream. */
+static void check_ends(dvs_range_visitor *visitor, int signal, const std::string &text) {
     FILE *said = tmpfile();
     char line[100] = "";
     pid_t child = fork();
@@ -68,16 +71,18 @@ static void check_aborts(dvs_range_visitor *visitor, const char *reason) {
     if (child == 0)
         visit_in_child(visitor, said);
     CHECK(waitpid(child, &ended, 0) == child);
-    CHECK(WIFSIGNALED(ended) && WTERMSIG(ended) == SIGABRT);
+    CHECK(signal == 0 ? ended == 0 : WIFSIGNALED(ended) && WTERMSIG(ended) == signal);
     rewind(said);
-    CHECK(fgets(line, sizeof line, said) != nullptr && fclose(said) == 0);
-    CHECK(line == std::string("divsharun: the process ends because ") + reason + "\n");
+    CHECK((fgets(line, sizeof line, said) != nullptr) == !text.empty() && line == text);
+    CHECK(fclose(said) == 0);
 }
 
 int main() {
-    check_aborts(throw_one, "a visitor did not return");
-    check_aborts(exit_thread, "a visitor did not return");
-    check_aborts(cancel_thread, "a visitor did not return");
-    check_aborts(destroy_owner, "a visitor destroyed an owner");
+    const char *reason = "divsharun: the process ends because a visitor did not return\n";
+
+    check_ends(throw_one, SIGABRT, reason);
+    check_ends(exit_thread, SIGABRT, reason);
+    check_ends(cancel_thread, SIGABRT, reason);
+    check_ends(exit_process, 0, "");
     return 0;
 }

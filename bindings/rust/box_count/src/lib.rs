@@ -1,3 +1,4 @@
+// SPDX-License-Identifier: Apache-2.0 OR BSD-3-Clause
 //! The proved code with the tests of its sources, as plain Rust.
 #![no_std]
 

@@ -1,3 +1,4 @@
+// SPDX-License-Identifier: Apache-2.0 OR BSD-3-Clause
 //! Items that the tests of the sources use. They are in scope in every test, as in Rattle's prelude.
 use core::fmt;
 use core::ops::Deref;

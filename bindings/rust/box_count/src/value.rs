@@ -1,3 +1,4 @@
+// SPDX-License-Identifier: Apache-2.0 OR BSD-3-Clause
 //! JSON values, which stand for those of Rattle in the tests of the proved readers and writers.
 //!
 //! The texts of tests are read, which have no escapes.

@@ -1,3 +1,4 @@
+// SPDX-License-Identifier: Apache-2.0 OR BSD-3-Clause
 //! Prints nanoseconds per call for 10 to 10^5 allocated ranges or ids, with a warm and with a cold
 //! cache, by `cargo bench`. Without `--bench`, as in `cargo test`, it runs one short round.
 

@@ -1,3 +1,4 @@
+// SPDX-License-Identifier: Apache-2.0 OR BSD-3-Clause
 //! Draws an address space as SVG, to scale.
 //!
 //! It reads lines of the replay language from standard input, makes the calls of `space`, `first`,

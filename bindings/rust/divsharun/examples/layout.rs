@@ -1,3 +1,4 @@
+// SPDX-License-Identifier: Apache-2.0 OR BSD-3-Clause
 //! Prints the address space of a machine like `/proc/iomem`, with the names of its devices.
 
 use divsharun::{AddressAllocator, AllocPolicy, Result};

@@ -1,3 +1,4 @@
+// SPDX-License-Identifier: Apache-2.0 OR BSD-3-Clause
 //! The example of the repository's README.md.
 use divsharun::{AddressAllocator, AllocPolicy, DeviceManager, RangeInclusive, Result};
 

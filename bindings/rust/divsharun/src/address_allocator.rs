@@ -1,3 +1,4 @@
+// SPDX-License-Identifier: Apache-2.0 OR BSD-3-Clause
 use crate::convert::unless_list_out_of_memory;
 use crate::error::{ListResult, TryListResult, TryResult};
 use crate::objects::{allocator, iterate, DebugList};

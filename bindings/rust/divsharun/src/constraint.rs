@@ -1,3 +1,4 @@
+// SPDX-License-Identifier: Apache-2.0 OR BSD-3-Clause
 use crate::proved::vm_allocator as proved;
 use crate::texts::pad;
 use crate::{Error, RangeInclusive, Result};

@@ -1,3 +1,4 @@
+// SPDX-License-Identifier: Apache-2.0 OR BSD-3-Clause
 //! Converts values and errors of the proved code to those of callers.
 
 use crate::error::{ListResult, TryListResult};

@@ -1,3 +1,4 @@
+// SPDX-License-Identifier: Apache-2.0 OR BSD-3-Clause
 use crate::address_allocator::ShortDebug;
 use crate::error::TryResult;
 use crate::objects::{allocator, iterate, DebugList};

@@ -1,3 +1,4 @@
+// SPDX-License-Identifier: Apache-2.0 OR BSD-3-Clause
 use crate::convert::out_of_memory;
 use crate::rattle::{BTreeMap, Global};
 use crate::{AddressAllocator, HeldRanges, NodeState, RangeInclusive, TryError};

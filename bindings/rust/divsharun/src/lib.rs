@@ -1,3 +1,4 @@
+// SPDX-License-Identifier: Apache-2.0 OR BSD-3-Clause
 //! Allocators of address ranges and ids for the devices of a virtual machine: MMIO and PIO windows,
 //! PCI BARs, interrupts and memory slots.
 //!

@@ -1,3 +1,4 @@
+// SPDX-License-Identifier: Apache-2.0 OR BSD-3-Clause
 /// Whether a block of a space is free or allocated. `Free` is less than `Allocated`.
 ///
 /// # Example

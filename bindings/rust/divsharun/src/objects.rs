@@ -1,3 +1,4 @@
+// SPDX-License-Identifier: Apache-2.0 OR BSD-3-Clause
 //! Implements the traits of the allocators, and of the iterators over their items.
 
 use core::fmt;

@@ -1,3 +1,4 @@
+// SPDX-License-Identifier: Apache-2.0 OR BSD-3-Clause
 //! The replay language: one call per line, and one line of output for each.
 //!
 //! A line creates an object, or calls the last object of its kind:

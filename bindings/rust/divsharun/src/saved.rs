@@ -1,3 +1,4 @@
+// SPDX-License-Identifier: Apache-2.0 OR BSD-3-Clause
 //! The feature `serde`.
 //!
 //! Ranges, states and allocators have the names and fields that the derives of `vm-allocator`

@@ -1,3 +1,4 @@
+// SPDX-License-Identifier: Apache-2.0 OR BSD-3-Clause
 //! Texts of several parts that are padded as a whole.
 
 use core::fmt::{self, Alignment, Write};

@@ -1,3 +1,4 @@
+// SPDX-License-Identifier: Apache-2.0 OR BSD-3-Clause
 //! Guards against a wrapper that passes on a wrong argument, or converts a result wrongly.
 //!
 //! Calls are compared with a plain model of a small space. Those that `vm-allocator` does not have, and

@@ -1,3 +1,4 @@
+// SPDX-License-Identifier: Apache-2.0 OR BSD-3-Clause
 //! Guards against a call that goes through all items, although it takes constant or logarithmic
 //! time, and against calls that take quadratic time.
 

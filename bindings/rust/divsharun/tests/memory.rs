@@ -1,3 +1,4 @@
+// SPDX-License-Identifier: Apache-2.0 OR BSD-3-Clause
 //! Guards against a call that loses an object, or ends the process without need, if memory runs out,
 //! and against needless allocations.
 //!

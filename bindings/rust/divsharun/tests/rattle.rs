@@ -1,3 +1,4 @@
+// SPDX-License-Identifier: Apache-2.0 OR BSD-3-Clause
 //! Guards against sets, maps and lists with other results than Rust's library. If an allocation fails, a
 //! call must change nothing, and lose neither its argument nor a block.
 

@@ -1,3 +1,4 @@
+// SPDX-License-Identifier: Apache-2.0 OR BSD-3-Clause
 //! Guards against a replay program that differs from the proved one: its results, and its exit status
 //! if a read or a write fails. The arguments are only of this program.
 

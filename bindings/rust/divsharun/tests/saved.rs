@@ -1,3 +1,4 @@
+// SPDX-License-Identifier: Apache-2.0 OR BSD-3-Clause
 //! Guards against saved objects that another version or `vm-allocator` cannot read, and against values
 //! that are accepted although they are invalid.
 //!

@@ -1,3 +1,4 @@
+// SPDX-License-Identifier: Apache-2.0 OR BSD-3-Clause
 //! Guards against a form of a call that loses the window, the policy or the alignment of its request.
 //!
 //! Requests in each form, with a window or without, and moves by them are compared with tables.

@@ -1,3 +1,4 @@
+// SPDX-License-Identifier: Apache-2.0 OR BSD-3-Clause
 //! Guards against a dependency that still gets the original `vm-allocator`, although a `[patch]` replaces
 //! it: two crates share one allocator.
 

@@ -1,3 +1,4 @@
+// SPDX-License-Identifier: Apache-2.0 OR BSD-3-Clause
 //! Guards against a reader of saved objects that accepts what is not valid, rejects what is valid, or
 //! reads another object, and against needless allocations of the proved readers.
 //!

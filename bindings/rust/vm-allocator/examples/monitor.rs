@@ -1,3 +1,4 @@
+// SPDX-License-Identifier: Apache-2.0 OR BSD-3-Clause
 //! The resources of a virtual machine monitor: one space for the BARs of devices and for memory,
 //! interrupts, and slots for memory.
 //!

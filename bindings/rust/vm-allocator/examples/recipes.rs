@@ -1,3 +1,4 @@
+// SPDX-License-Identifier: Apache-2.0 OR BSD-3-Clause
 //! Short recipes for a monitor. `monitor.rs` has most of them together.
 
 use std::sync::{Arc, Mutex};

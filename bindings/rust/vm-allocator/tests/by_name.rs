@@ -1,3 +1,4 @@
+// SPDX-License-Identifier: Apache-2.0 OR BSD-3-Clause
 //! Tests of `vm-allocator` 0.1.4, by their names. The sources in Rattle have the others, with their rows.
 
 use vm_allocator::{Error, IdAllocator, RangeInclusive};

@@ -1,3 +1,4 @@
+// SPDX-License-Identifier: Apache-2.0 OR BSD-3-Clause
 //! Uses each public item of `vm-allocator` 0.1.4 with its signature and its traits. It compiles
 //! with both libraries, so callers of one can call the other.
 

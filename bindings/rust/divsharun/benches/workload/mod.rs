@@ -1,3 +1,4 @@
+// SPDX-License-Identifier: Apache-2.0 OR BSD-3-Clause
 //! Measures a library that allocates ranges and ids: the time of a call while many are allocated.
 //!
 //! Every library gets the same calls. Their results are kept, so that two libraries can be

@@ -1,3 +1,4 @@
+// SPDX-License-Identifier: Apache-2.0 OR BSD-3-Clause
 //! Measures saving and restoring a space with both libraries: the time, and the memory at its peak.
 
 use crate::packed;

@@ -1,3 +1,4 @@
+// SPDX-License-Identifier: Apache-2.0 OR BSD-3-Clause
 //! Finds the number in docs/DIFFERENCES.md of a difference between two results, or between the
 //! blocks that they leave.
 

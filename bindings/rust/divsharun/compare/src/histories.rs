@@ -1,3 +1,4 @@
+// SPDX-License-Identifier: Apache-2.0 OR BSD-3-Clause
 //! Makes random histories of calls on both libraries.
 //!
 //! After a difference, the allocator of `vm-allocator` is read from the one that divsharun saves,

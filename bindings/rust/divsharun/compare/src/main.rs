@@ -1,3 +1,4 @@
+// SPDX-License-Identifier: Apache-2.0 OR BSD-3-Clause
 //! Makes the same calls with divsharun and with `vm-allocator` 0.1.4, compares the results, and
 //! measures both.
 //!

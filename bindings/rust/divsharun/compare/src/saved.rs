@@ -1,3 +1,4 @@
+// SPDX-License-Identifier: Apache-2.0 OR BSD-3-Clause
 //! Checks that each library reads what the other saves.
 
 use crate::difference::Tally;

@@ -1,3 +1,4 @@
+// SPDX-License-Identifier: Apache-2.0 OR BSD-3-Clause
 //! Replays calls: each line of a file or of the standard input is a call, and has one line in the standard
 //! output.
 //!

@@ -1,3 +1,4 @@
+// SPDX-License-Identifier: Apache-2.0 OR BSD-3-Clause
 use super::{AllocFailed, Global};
 use core::fmt;
 use core::ops::{Deref, DerefMut};

@@ -1,3 +1,4 @@
+// SPDX-License-Identifier: Apache-2.0 OR BSD-3-Clause
 //! An ordered set and an ordered map that report a failed allocation. Those of Rust end the process.
 //!
 //! The entries are in chunks of 1 KiB. A look-up finds the chunk in a list of bounds, and then the entry

@@ -1,3 +1,4 @@
+// SPDX-License-Identifier: Apache-2.0 OR BSD-3-Clause
 //! Replacements for the items of Rattle's library that Rust does not have or defines differently.
 //!
 //! Boxes, vectors, sets and maps report a failed allocation, as in Rattle.

@@ -1,3 +1,4 @@
+// SPDX-License-Identifier: Apache-2.0 OR BSD-3-Clause
 //! A vector of bytes, because `std::simd` is not stable.
 #![allow(non_camel_case_types)]
 

@@ -1,3 +1,4 @@
+// SPDX-License-Identifier: Apache-2.0 OR BSD-3-Clause
 //! The conditions that saved values can violate. Proved code chooses the condition.
 //!
 //! The C library also has this file.

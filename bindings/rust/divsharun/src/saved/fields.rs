@@ -1,3 +1,4 @@
+// SPDX-License-Identifier: Apache-2.0 OR BSD-3-Clause
 //! The fields of saved objects, in the order in which they are written.
 //!
 //! The C library also has this file. The module that includes it defines `write_fields!`, which implements

@@ -1,3 +1,4 @@
+// SPDX-License-Identifier: Apache-2.0 OR BSD-3-Clause
 //! Reads objects with serde. Fields can come in any order, and are checked as they come.
 
 use super::conditions::field_and_text;

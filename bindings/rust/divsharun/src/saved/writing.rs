@@ -1,3 +1,4 @@
+// SPDX-License-Identifier: Apache-2.0 OR BSD-3-Clause
 //! Writes objects with serde.
 
 use crate::proved::vm_allocator::allocation_engine::NodeState;

@@ -1,3 +1,4 @@
+// SPDX-License-Identifier: Apache-2.0 OR BSD-3-Clause
 //! Tests that compare public calls with those of the proved code.
 
 use crate::proved::vm_allocator::{self as proved, allocation_engine::NodeState, Error as Proved};

@@ -1,3 +1,4 @@
+// SPDX-License-Identifier: Apache-2.0 OR BSD-3-Clause
 //! Pseudo-random numbers, the same in every run from the same seed.
 
 #[derive(Clone)]

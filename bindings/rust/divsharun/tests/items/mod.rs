@@ -1,3 +1,4 @@
+// SPDX-License-Identifier: Apache-2.0 OR BSD-3-Clause
 //! Compares an iterator with a list of its items, so that no item is lost or repeated if both ends,
 //! `nth`, `fold` and `len` are used in turn.
 

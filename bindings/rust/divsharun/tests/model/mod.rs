@@ -1,3 +1,4 @@
+// SPDX-License-Identifier: Apache-2.0 OR BSD-3-Clause
 //! Plain models: the list of the allocated ranges of a space, and the set of allocated ids.
 #![allow(dead_code)]
 

@@ -1,3 +1,4 @@
+// SPDX-License-Identifier: Apache-2.0 OR BSD-3-Clause
 //! A format without names, like bincode.
 //!
 //! Numbers are little endian. A list starts with its length, a variant is its index, and an option

@@ -1,3 +1,4 @@
+// SPDX-License-Identifier: Apache-2.0 OR BSD-3-Clause
 //! The processor time of a thread, which other processes do not lengthen much.
 
 /// Returns the processor time of the thread in nanoseconds.

@@ -1,3 +1,4 @@
+// SPDX-License-Identifier: Apache-2.0 OR BSD-3-Clause
 //! A global allocator that counts the allocations of a thread and their bytes, and can fail one of
 //! them. So a test can make memory run out in the middle of a call.
 #![allow(dead_code)]

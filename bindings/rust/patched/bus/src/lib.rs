@@ -1,3 +1,4 @@
+// SPDX-License-Identifier: Apache-2.0 OR BSD-3-Clause
 //! A crate that allocates from the allocator of its caller.
 use vm_allocator::{AddressAllocator, AllocPolicy, RangeInclusive, Result};
 

@@ -1,3 +1,4 @@
+/* SPDX-License-Identifier: Apache-2.0 OR BSD-3-Clause */
 /* Plugs the cards and the devices of a small machine, and saves and restores its addresses. */
 #include <divsharun.h>
 
