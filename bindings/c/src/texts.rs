@@ -5,7 +5,7 @@ use crate::handle::{non_null, Handle};
 use crate::json::{dvs_text_limits, Read, Reader, TextFault};
 use crate::proved::vm_allocator::allocation_engine::NodeState;
 use crate::proved::vm_allocator::{
-    AddressAllocator, Error, IdAllocator, RangeInclusive, ReadIds, ReadNodes, SavedError, Span,
+    AddressAllocator, Error, IdAllocator, RangeInclusive, ReadIds, ReadNodes, SavedError, Side,
     WrittenTree,
 };
 use crate::proved::vm_devices::{DeviceManager, DeviceSlot, ReadDevices};
@@ -292,26 +292,26 @@ fn read_range(from: &mut Reader<'_>) -> Read<RangeInclusive> {
     range.map_err(|_| from.not_a_state(c"the range is not valid").at(start))
 }
 
-fn read_subtree(from: &mut Reader<'_>, nodes: &mut ReadNodes) -> Read<Option<Span>> {
+/// Reads a node, with all nodes below it, as the child on this side of the node around it.
+fn read_subtree(from: &mut Reader<'_>, nodes: &mut ReadNodes, side: Side) -> Read<()> {
     if from.skip_null()? {
-        return Ok(None);
+        return Ok(());
     }
     nodes.begin().map_err(|error| from.of_parts(error, &[]))?;
-    let (mut key, mut state, mut children, mut height) = (None, NodeState::Free, [None; 2], 0);
+    let (mut key, mut state, mut height) = (None, NodeState::Free, 0);
     let names = [c"key", c"node_state", c"left", c"right", c"height"];
     let fields = from.object(names, |from, at| {
         match at {
             0 => key = Some(read_range(from)?),
             1 => state = [NodeState::Free, NodeState::Allocated][from.one_of(&STATES)?],
-            2 | 3 => children[at - 2] = read_subtree(from, nodes)?,
+            2 => read_subtree(from, nodes, Side::Left)?,
+            3 => read_subtree(from, nodes, Side::Right)?,
             _ => height = from.whole(u64::MAX)?,
         }
         Ok(())
     })?;
-    let (key, [left, right]) = (from.some(key)?, children);
-    let span = nodes.end(left, key, state, right, height);
-    span.map(Some)
-        .map_err(|error| from.of_parts(error, &fields))
+    let ended = nodes.end(side, from.some(key)?, state, height);
+    ended.map_err(|error| from.of_parts(error, &fields))
 }
 
 /// Reads an address allocator, which `made` makes of its space and its nodes.
@@ -324,8 +324,9 @@ pub(crate) fn read_space(
         if at == 0 {
             space = Some(read_range(from)?);
         } else {
+            // The root ends as a left child.
             tree = from.object([c"root"], |from, _| {
-                read_subtree(from, &mut nodes).map(drop)
+                read_subtree(from, &mut nodes, Side::Left)
             })?;
         }
         Ok(())

@@ -328,5 +328,5 @@ addresses_encoded d state s = encoded_addresses d state s
 
 pub ruleset callers = (allocated_held, allocated_apart, allocated_same, freed_fits_again, fits_again_or_limit, id_was_free, id_is_held, addresses_again, ids_again, text_gives_again, text_has_value)
 
--- A value that is written, and read from its text, is the same.
+-- A value survives being written as text and read back.
 pub ruleset through_text = (allocator_through_text, ids_through_text)

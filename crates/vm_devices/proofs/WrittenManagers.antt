@@ -77,7 +77,7 @@ entry_cmp-exact x y h =
     λ i. (id i, range i)
 
 -- ---- States
--- The order returns Equal exactly if both states are the same.
+-- The order returns Equal if and only if both states are the same.
 device_state_cmp-Equal : (a b : DeviceState) → IsDeviceState a → IsDeviceState b → (device_state_cmp a b ≡ Equal) ↔ (a ≡ b)
 device_state_cmp-Equal a b s t = (
   λ h.

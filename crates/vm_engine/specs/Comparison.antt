@@ -35,7 +35,7 @@ pub record IsOrder (compare : AddressState → AddressState → Ordering) : Type
   pub transitive : (a b c : AddressState) (answer : Ordering) →
       compare a b ≡ answer → compare b c ≡ answer → compare a c ≡ answer
 
--- The order returns Equal exactly if both states are equal.
+-- The order returns Equal if and only if both states are equal.
 abbrev pub OrderAgreesWithEquality : Type 0
 OrderAgreesWithEquality = (a b : AddressState) → (state_cmp a b ≡ Equal) ↔ AreEqual a b
 

@@ -31,7 +31,7 @@ same_held a b s t e =
 same_state : (a b : IdState) → a.lo ≡ b.lo → a.hi ≡ b.hi → a.bound ≡ b.bound → a.held ≡ b.held → a ≡ b
 same_state a b l h n s = λ i. record { lo = l i; hi = h i; bound = n i; held = s i }
 
--- The order returns Equal exactly if both states are the same.
+-- The order returns Equal if and only if both states are the same.
 pub id_state_cmp-Equal : (a b : IdState) → IsIdState a → IsIdState b → (id_state_cmp a b ≡ Equal) ↔ (a ≡ b)
 id_state_cmp-Equal a b s t = (
   λ h.

@@ -38,7 +38,7 @@ module _ (state : AddressState) (n a s : ℕ) (some : 0 < n) (aligned : s % a �
   clear_or_not : Covers state.space (span s n) → AreClear n state s ↔ (meeting (span s n) state.held ≡ [])
   clear_or_not c = subst (λ (v : ℕ). AreClear v state s ↔ (meeting (span s n) state.held ≡ [])) long (clear_if_none_meets state (span s n) valid (omega (arith, some)) c).clear
 
-  -- A range of the space has no conflict exactly if it is clear.
+  -- A range of the space has no conflict if and only if it is clear.
   free_decides : Unless (Covers state.space (span s n)) (answer ≡ Some (OutsideSpace state.space)) (answer ≡ with_first (meeting (span s n) state.held)) → (answer ≡ None) ↔ IsPlace n a state s
   unfolding IsPlace
   free_decides (inl o) = (λ e. absurd (cc (e, o.1)), λ p. absurd (o.0 (in_space None p)))
@@ -48,7 +48,7 @@ module _ (state : AddressState) (n a s : ℕ) (some : 0 < n) (aligned : s % a �
         λ p. i.1 ∙ ap with_first (clear.0 p.1),
       )
 
-  -- A range of the window has no conflict exactly if it is clear.
+  -- A range of the window has no conflict if and only if it is clear.
   window_decides : (window : Option Range) → IsConflictOf state window (span s n) answer → (answer ≡ None) ↔ IsPlace n a (within window state) s
   unfolding IsConflictOf
   window_decides None h = free_decides h

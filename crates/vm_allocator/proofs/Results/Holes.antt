@@ -158,7 +158,7 @@ hole_not_before i next (r ∷ rs) x e v h =
     (λ k. omega (arith, first, some, hole_not_before (i + 1) (r.end + 1) rs x (in_order_rest i next r rs e) v.1 k))
     ((in_holes next r rs x).0 h)
 
--- An address from `next` on is in one of the ranges exactly if it is in none of the holes, and not past the last range.
+-- An address from `next` on is in one of the ranges if and only if it is in none of the holes, and not past the last range.
 abbrev AreClearFrom : ℕ → ℕ → List Range → ℕ → Type 0
 AreClearFrom next end rs x = ((x ≤ last_end end rs) × ¬ IsHeldAddress (holes_after next rs) x) ↔ IsHeldAddress rs x
 
@@ -196,7 +196,7 @@ clear_above i end [] x e v above = (λ h. absurd (omega (arith, h.0, above)), λ
 clear_above i end (r ∷ rs) x e v above =
     clear_step i (end + 1) end r rs x e v (omega (arith, above)) (λ past. clear_above (i + 1) r.end rs x (in_order_rest i (end + 1) r rs e) v.1 past)
 
--- An address of the space is clear exactly if it is in one of the free ranges.
+-- An address of the space is clear if and only if it is in one of the free ranges.
 pub free_clear : (r : Range) (rs : List Range) (x : ℕ) → wrong_index 0 0 (r ∷ rs) ≡ None → AreRanges (r ∷ rs) →
     IsClear (record { space = record { start = r.start; end = last_end r.end rs }; held = holes_after (r.end + 1) rs }) x ↔ ((q : Range) × Contains (r ∷ rs) q × IsIn q x)
 free_clear r rs x e v =

@@ -1,4 +1,4 @@
--- A request at alignment 1 has a place exactly if it is at most as long as the longest gap. In a window, the longest part of
+-- A request at alignment 1 has a place if and only if it is at most as long as the longest gap. In a window, the longest part of
 -- a gap counts.
 use Rattle.std.proofs.Common.{ℕ, ◌<◌, ◌≤◌, sym, arith, subst, ⊎_elim}
 use Rattle.std.proofs.lemmas.Bool.{cases_lt}

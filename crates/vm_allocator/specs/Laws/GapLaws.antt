@@ -9,7 +9,7 @@ use Rattle.vm_ranges.specs.declared.error.Error.{Error}
 use Rattle.vm_ranges.specs.declared.error.Error.TheVariants.{ResourceNotAvailable}
 use Rattle.vm_ranges.specs.declared.constraint.AllocPolicy.TheVariants.{FirstMatch, LastMatch}
 
--- A valid request at alignment 1 returns ResourceNotAvailable exactly if it is longer than the longest gap, or than the
+-- A valid request at alignment 1 returns ResourceNotAvailable if and only if it is longer than the longest gap, or than the
 -- longest part of a gap in its window. This is true for FirstMatch and LastMatch.
 abbrev pub LongestDecides : Type 0
 LongestDecides =

@@ -12,7 +12,7 @@ use Rattle.vm_engine.specs.Values.WrittenTrees.{IsWritten}
 use Rattle.vm_allocator.specs.Histories.AddressHistories.{Call, IsHistoryFrom}
 
 -- The object that is restored from the value of a saved object is the saved object. So a list of calls with its results is a
--- history of the one exactly if it is a history of the other.
+-- history of the one if and only if it is a history of the other.
 abbrev pub RestoredIsSaved : {X C : Type 0} → (Data → X → Type 0) → (X → List C → X → Type 0) → Type 0
 RestoredIsSaved {X} {C} States History =
     (saved restored last : X) (value : Value) (calls : List C) →
@@ -20,7 +20,7 @@ RestoredIsSaved {X} {C} States History =
     (restored ≡ saved) × (History restored calls last ↔ History saved calls last)
 
 -- An allocator that is restored node by node, from the tree that is written for the saved one, has the state of the saved
--- one. So a list of calls with its results is a history of the one exactly if it is a history of the other.
+-- one. So a list of calls with its results is a history of the one if and only if it is a history of the other.
 abbrev pub RestoredNodesHaveState : Type 0
 RestoredNodesHaveState =
     (saved : Shape) (t : Saved) (restored last : AddressState) (calls : List Call) →

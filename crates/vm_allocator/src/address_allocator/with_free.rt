@@ -14,7 +14,7 @@ use std::alloc::{AllocError, Global};
 use vm_engine::IntervalTree;
 use vm_ranges::{Error, ListError, RangeInclusive};
 
-/// More holes than this number make the tree too high.
+/// The maximum number of holes.
 const MAX_HOLES: u64 = (1 << 48) - 1;
 
 impl AddressAllocator {

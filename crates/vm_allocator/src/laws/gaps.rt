@@ -2,7 +2,7 @@
 ghost use Rattle.vm_allocator.specs.Laws.GapLaws.{LongestDecides, LongGapSuffices};
 
 /// States when a valid request of `FirstMatch` or `LastMatch` at alignment 1 is `ResourceNotAvailable`:
-/// exactly if it is longer than the longest gap.
+/// if and only if it is longer than the longest gap.
 ///
 /// In a window, the longest part of a gap counts.
 #[tactic(auto, using(crate::proofs::Results::LongestGap::longest_decides))]

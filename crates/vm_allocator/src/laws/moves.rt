@@ -2,7 +2,7 @@
 ghost use Rattle.vm_allocator.specs.Laws.MoveLaws.{MovedIsHeld, OldPlaceIsClear, MoveIsTwoCalls};
 
 /// Proves that a moved range is allocated at its new start, and that the addresses that it had before
-/// are free.
+/// are free, unless the request was for exactly this range.
 fn moved_ranges_leave_their_place()
     ensures held { MovedIsHeld }
     ensures clear { OldPlaceIsClear }

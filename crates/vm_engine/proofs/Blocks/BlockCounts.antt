@@ -186,7 +186,7 @@ held_address_after r x (y ∷ ys) h =
     rw e (⊎_elim (λ (i : IsIn y x). inl i) (λ (i : IsHeldAddress ys x). inr (held_address_after r x ys i)) h))
     (cases_lt r.start y.start)
 
--- The addresses beside a range are clear before it is added exactly if they are clear after.
+-- The addresses beside a range are clear before it is added if and only if they are clear after.
 beside_after : (state : AddressState) (r : Range) (n : ℕ) → r.start ≤ r.end → AreClearBeside state r n → AreClearBeside (holding r state) r n
 beside_after state r n l p =
     let later : (x : ℕ) → ¬ IsIn r x → IsClear state x → IsClear (holding r state) x =

@@ -1,4 +1,4 @@
--- A list of different held ranges is complete exactly if its length is the number of held ranges.
+-- A list of different held ranges is complete if and only if its length is the number of held ranges.
 use Rattle.std.proofs.Common.{◌≡◌, ◌≢◌, ℕ, ◌+◌, Bool, true, List, [], ◌∷◌, length, sym, subst, arith}
 use Rattle.std.proofs.lemmas.Cmp.{eq_by_cmp_equiv}
 use Rattle.std.proofs.lemmas.List.Elements.{Contains-get_or}

@@ -116,7 +116,7 @@ same_run p lo hi s e b (y ∷ xs) ys t l i f =
     ⊎_elim (λ (g : (y.state ≡ Free) × (y.key.start ≤ s) × (e ≤ y.key.end)). absurd (omega (arith, g.2, i.0)))
     (λ (g : InFreeBlock (xs ++ b ∷ ys) s e). same_run y.state (y.key.end + 1) hi s e b xs ys t.3 l i g) f
 
--- The addresses are clear exactly if the block is free and they lie in it.
+-- The addresses are clear if and only if the block is free and they lie in it.
 pub clear_in_block : (sp : Range) (bs : List Block) (b : Block) (n t : ℕ) → IsWithin sp bs b n t → AreClear n (blocks_state sp bs) t → (b.state ≡ Free) × (t + n - 1 ≤ b.key.end)
 unfolding TilesSpace
 clear_in_block sp bs b n t w c =

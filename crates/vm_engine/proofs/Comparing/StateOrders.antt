@@ -29,7 +29,7 @@ equal_states a b e = record { space = ap (λ (s : AddressState). s.space) e; hel
 same_held : (a b : AddressState) → blocks_of a ≡ blocks_of b → a.held ≡ b.held
 same_held a b e = sym (held_of-blocks_of a) ∙ ap held_of e ∙ held_of-blocks_of b
 
--- The order returns Equal exactly if both states are equal.
+-- The order returns Equal if and only if both states are equal.
 pub state_cmp-Equal : (a b : AddressState) → (state_cmp a b ≡ Equal) ↔ AreEqual a b
 state_cmp-Equal a b = (
   λ h.
@@ -57,14 +57,14 @@ same_state s t e = equal_states (tree_state s) (tree_state t) (ap (λ (bs : List
 pub blocks_ordered : (s t : Shape) → IsSpaceTree s → IsSpaceTree t → blocks_cmp (blocks s) (blocks t) ≡ layout_cmp (tree_state s) (tree_state t)
 blocks_ordered s t p q = ap (λ (bs : List Block). blocks_cmp bs (blocks t)) (sym (tree_blocks s p)) ∙ ap (blocks_cmp (blocks_of (tree_state s))) (sym (tree_blocks t q))
 
--- It returns Equal exactly if the states are equal.
+-- It returns Equal if and only if the states are equal.
 pub trees_Equal : (s t : Shape) → IsSpaceTree s → IsSpaceTree t → (layout_cmp (tree_state s) (tree_state t) ≡ Equal) ↔ AreEqual (tree_state s) (tree_state t)
 trees_Equal s t p q = (
   λ h. same_state s t (sym (tree_blocks s p) ∙ blocks_cmp-exact (blocks_of (tree_state s)) (blocks_of (tree_state t)) h ∙ tree_blocks t q),
   λ e. ap (layout_cmp (tree_state s)) (sym (one_state (tree_state s) (tree_state t) e)) ∙ tied_itself layout_cmp-total (tree_state s),
 )
 
--- The order of two lists of blocks returns Equal exactly if they are the same.
+-- The order of two lists of blocks returns Equal if and only if they are the same.
 pub tested_blocks : (bs cs : List Block) (r : Bool) → IsTrue r ↔ (blocks_cmp bs cs ≡ Equal) → IsTrue r ↔ (bs ≡ cs)
 tested_blocks bs cs r h = (λ t. blocks_cmp-exact bs cs (h.0 t), λ e. h.1 (ap (blocks_cmp bs) (sym e) ∙ tied_itself blocks_cmp-total bs))
 

@@ -34,7 +34,7 @@ module _ (state : AddressState) (valid : IsAddressState state) where
   unfolding blocks_of
   tiles = between_tiles lo hi state.held (omega (arith, valid.space.0)) valid.in_order
 
-  -- An address is held in the state exactly if a held block contains it.
+  -- An address is held in the state if and only if a held block contains it.
   block_held : (x : ℕ) → IsHeldAddress state.held x → IsHeldAddress (held_of (blocks_of state)) x
   block_held x h = subst (λ (v : List Range). IsHeldAddress v x) (sym (held_of-blocks_of state)) h
 

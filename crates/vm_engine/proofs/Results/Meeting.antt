@@ -59,7 +59,7 @@ module _ (w : Range) where
     λ c. contains_held (meeting w rs) r (listed rs r (held_contains rs r c.0) (meets_if w r c.1.0 c.1.1 c.1.2)),
   )
 
-  -- No address of the window is in a range exactly if no range is listed.
+  -- No address of the window is in a range if and only if no range is listed.
   missed_if : (rs : List Range) → meeting w rs ≡ [] → (x : ℕ) → IsIn w x → ¬ IsHeldAddress rs x
   missed_if rs e x i h =
       let f = held_range rs x h in

@@ -94,7 +94,7 @@ abbrev pub NoneIsMisalignedAtOne : Type 0
 NoneIsMisalignedAtOne =
     (state : AddressState) (request : Request) → 0 < request.size → request.align ≡ 1 → misaligned_gaps state request ≡ 0
 
--- A list of different held ranges has every held range exactly if its length is the number of held ranges.
+-- A list of different held ranges has every held range if and only if its length is the number of held ranges.
 abbrev pub CountFindsAll : Type 0
 CountFindsAll =
     (state : AddressState) (list : List Range) → IsAddressState state →

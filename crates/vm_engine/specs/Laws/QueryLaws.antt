@@ -72,13 +72,13 @@ pub record IsInBlocks (state : AddressState) : Type 0 where
 abbrev pub HeldAndGapsAreBlocks : Type 0
 HeldAndGapsAreBlocks = (state : AddressState) → IsAddressState state → IsInBlocks state
 
--- The length of the longest gap is 0 exactly if no address is clear.
+-- The length of the longest gap is 0 if and only if no address is clear.
 abbrev pub LongestIsZero : Type 0
 LongestIsZero =
     (state : AddressState) → IsAddressState state →
     (longest_of (gaps_of state) ≡ 0) ↔ ((x : ℕ) → ¬ IsClear state x)
 
--- There is a place for n addresses at alignment 1 exactly if n is at most the length of the longest gap. In a window, the
+-- There is a place for n addresses at alignment 1 if and only if n is at most the length of the longest gap. In a window, the
 -- parts of the gaps in the window count.
 abbrev pub LongestFits : Type 0
 LongestFits =
@@ -113,8 +113,8 @@ abbrev pub MeetingIsOverlap : Type 0
 MeetingIsOverlap =
     (state : AddressState) (window : Range) → IsAddressState state → window.start ≤ window.end → ListsOverlaps state window
 
--- The addresses of a range in the space are all clear exactly if no held range meets it, and none of them is clear
--- exactly if no gap meets it.
+-- The addresses of a range in the space are all clear if and only if no held range meets it, and none of them is clear
+-- if and only if no gap meets it.
 pub record IsClearIfNoneMeets (state : AddressState) (window : Range) : Type 0 where
   pub clear : AreClear (address_count window) state window.start ↔ (meeting window state.held ≡ [])
   pub held : ((x : ℕ) → IsIn window x → ¬ IsClear state x) ↔ (meeting window (gaps_of state) ≡ [])

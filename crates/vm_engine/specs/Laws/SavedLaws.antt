@@ -15,7 +15,7 @@ use Rattle.vm_engine.specs.Checks.Spans.{StandsFor}
 use Rattle.vm_engine.specs.declared.saved.span.Span.{Span}
 use Rattle.vm_engine.specs.declared.saved.written.WrittenNode.{WrittenNode}
 
--- A saved tree of ranges is accepted exactly if it is readable: a span stands for it if it is, and for no other tree.
+-- A saved tree of ranges is accepted if and only if it is readable: a span stands for it if it is, and for no other tree.
 pub record SpansAreExact : Type 0 where
   pub some : (t : Saved) → HasRanges t → IsReadable t → (span : Option Span) × StandsFor span t
   pub readable : (t : Saved) (span : Option Span) → StandsFor span t → IsReadable t
@@ -38,14 +38,14 @@ EqualAreWrittenEqually =
     (s other : Shape) (t u : Saved) → IsSpaceTree s → IsSpaceTree other → tree_state s ≡ tree_state other →
     IsWritten (blocks s) t → IsWritten (blocks other) u → t ≡ u
 
--- A value encodes a tree of a space exactly if it has the nodes of a saved tree of the space.
+-- A value encodes a tree of a space if and only if it has the nodes of a saved tree of the space.
 pub record ValuesAreSavedTrees : Type 0 where
   pub nodes : (d : Data) (space : Range) (state : AddressState) → EncodesSpaceTree d space state →
       (t : Saved) × EncodesSaved d t × HasTreeOf space t state
   pub tree : (d : Data) (space : Range) (state : AddressState) (t : Saved) → EncodesSaved d t → HasTreeOf space t state →
       EncodesSpaceTree d space state
 
--- A value encodes the held keys of a space exactly if it has the nodes of a saved tree with these keys.
+-- A value encodes the held keys of a space if and only if it has the nodes of a saved tree with these keys.
 pub record ValuesHaveHeldKeys : Type 0 where
   pub nodes : (d : Data) (space : Range) (state : AddressState) → EncodesKeys d space state →
       (t : Saved) × EncodesSaved d t × HasHeldKeys space t state

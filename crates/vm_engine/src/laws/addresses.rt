@@ -53,7 +53,7 @@ fn misaligned_gaps_are_exact()
     ensures none { NoneIsMisalignedAtOne }
 {}
 
-/// States that a list of different allocated ranges is complete exactly if its length is the number
+/// States that a list of different allocated ranges is complete if and only if its length is the number
 /// of allocated ranges.
 #[tactic(auto, using(crate::proofs::Blocks::HeldLists::listings))]
 fn counts_find_all()

@@ -3,7 +3,7 @@ ghost use Rattle.vm_engine.specs.Comparison.{layout_cmp, state_cmp, IsOrder, Ord
 
 /// States that the orders of allocators and of trees are total and transitive.
 ///
-/// The order of allocators returns `Equal` exactly if `==` returns `true`.
+/// The order of allocators returns `Equal` if and only if `==` returns `true`.
 fn orders_are_orders()
     ensures allocators { IsOrder state_cmp }
     ensures trees { IsOrder layout_cmp }

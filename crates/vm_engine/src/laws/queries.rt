@@ -30,8 +30,8 @@ fn gaps_are_longest()
     ensures blocks { HeldAndGapsAreBlocks }
 {}
 
-/// States that a request at alignment 1 has a place exactly if it is at most as long as the longest
-/// gap. The length of the longest gap is 0 exactly if no address is free.
+/// States that a request at alignment 1 has a place if and only if it is at most as long as the longest
+/// gap. The length of the longest gap is 0 if and only if no address is free.
 fn longest_gap_fits()
     ensures zero { LongestIsZero }
     ensures fits { LongestFits }
@@ -59,7 +59,7 @@ fn counts_add_up()
 {}
 
 /// States that `held_ranges_in` and `gaps_in` return exactly the ranges that overlap the given range.
-/// If that range is in the space, it is free exactly if `held_ranges_in` returns nothing.
+/// If that range is in the space, it is free if and only if `held_ranges_in` returns nothing.
 fn ranges_meet_windows()
     ensures overlaps { MeetingIsOverlap }
     ensures clear { ClearIfNoneMeets }

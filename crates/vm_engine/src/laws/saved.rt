@@ -9,7 +9,7 @@ ghost use Rattle.vm_engine.specs.Laws.SavedLaws.{
 };
 
 /// States what is read and what is written:
-/// - A saved tree of ranges has a span exactly if these are true: its keys are in ascending order and
+/// - A saved tree of ranges has a span if and only if these are true: its keys are in ascending order and
 ///   share no address, no allocated key ends at `u64::MAX`, and nodes are nested at most 50 deep.
 /// - `root` returns, node for node, one saved tree.
 /// - What is written of a tree is a saved tree of its space, node for node, with its state. So the
@@ -23,7 +23,7 @@ fn saved_trees()
     ensures equal { EqualAreWrittenEqually }
 {}
 
-/// States that a value is accepted exactly if a reader of another format accepts its nodes, with and
+/// States that a value is accepted if and only if a reader of another format accepts its nodes, with and
 /// without repairs.
 #[tactic(auto, using(crate::proofs::SavedNodes::ValueLaws::values))]
 fn values_are_saved_trees()

@@ -1,6 +1,6 @@
 //! Tests of the allocated ranges and of their number.
 //!
-//! They guard against a part of an allocated range, or two ranges together, that count as allocated.
+//! They check that neither a part of a range nor two adjacent ranges count as an allocated range.
 use super::*;
 use crate::fixtures::range;
 use Row::{Ask, Count, Holds};

@@ -23,7 +23,7 @@ use crate::steps::Steps;
 use std::alloc::Global;
 use vm_leaf::Leaf;
 
-/// Returns the site of the place of a search in a leaf that is closest to an end, or `None` if there is none.
+/// Returns the site of the place of a search that is closest to an end of a leaf, or `None` if there is none.
 #[inline(always)]
 #[tactic(auto, using(crate::proofs::Searched::sites))]
 fn site_in(leaf: &Leaf, end: End, search: &Search) -> Option<Site>
@@ -141,7 +141,7 @@ fn fit_below(
 }
 
 /// Allocates the place of a search that is closest to an end, and updates what is stored beside the link.
-/// The search may find a place.
+/// The summary of the tree does not exclude a place.
 #[cycle(fit_at)]
 #[tactic(auto, using(crate::proofs::Searched::roots))]
 pub(crate) fn fit_at(

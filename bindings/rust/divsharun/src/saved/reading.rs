@@ -3,12 +3,12 @@
 
 use super::conditions::field_and_text;
 use crate::proved::vm_allocator::{
-    AddressAllocator, IdAllocator, RangeInclusive, ReadIds, ReadNodes, SavedError, Span,
+    AddressAllocator, IdAllocator, RangeInclusive, ReadIds, ReadNodes, SavedError, Side,
 };
 use crate::proved::vm_devices::{DeviceManager, ReadDevices};
 use crate::rattle::Global;
 use crate::{DeviceSlot, NodeState, TryError};
-use core::fmt;
+use core::{fmt, mem};
 use serde::de::{DeserializeSeed, Error, MapAccess, SeqAccess, Visitor};
 use serde::{Deserialize, Deserializer};
 
@@ -51,9 +51,10 @@ struct Tree {
 
 fn root<'de, D: Deserializer<'de>>(from: D) -> Result<ReadNodes, D::Error> {
     let mut nodes = ReadNodes::new(Global);
+    // The root ends as a left child.
     let tree = Subtree {
         nodes: &mut nodes,
-        link: &mut None,
+        side: Side::Left,
     };
     tree.deserialize(from)?;
     Ok(nodes)
@@ -113,19 +114,18 @@ impl crate::AddressAllocator {
     }
 }
 
-/// Reads a node with its children, or none. It writes the span to a link, because each result of a
-/// format would copy it. The link is `None` before.
+/// Reads a node with its children, or none, as the child on a side of the node around it.
 struct Subtree<'a> {
     nodes: &'a mut ReadNodes,
-    link: &'a mut Option<Span>,
+    side: Side,
 }
 
 impl Subtree<'_> {
     /// Returns a reader of a child of this node.
-    fn child<'b>(&'b mut self, link: &'b mut Option<Span>) -> Subtree<'b> {
+    fn child(&mut self, side: Side) -> Subtree<'_> {
         Subtree {
             nodes: self.nodes,
-            link,
+            side,
         }
     }
 }
@@ -172,16 +172,6 @@ enum Field {
 
 const FIELDS: &[&str] = &["key", "node_state", "left", "right", "height"];
 
-/// The fields of a node that were read so far.
-#[derive(Default)]
-struct Fields {
-    key: Option<RangeInclusive>,
-    state: Option<NodeState>,
-    left: Option<Option<Span>>,
-    right: Option<Option<Span>>,
-    height: Option<u64>,
-}
-
 /// The name of a node in errors of a format.
 const NODE: &str = "struct InnerNode with 5 elements";
 
@@ -194,19 +184,11 @@ fn element<T, E: Error>(read: Option<T>, field: Field) -> Result<T, E> {
 struct InnerNode<'a>(Subtree<'a>);
 
 impl InnerNode<'_> {
-    /// Ends the node, and writes the span of its subtree to the link.
+    /// Ends the node. Its children have ended.
     #[inline(always)]
-    fn end<E: Error>(
-        self,
-        left: Option<Span>,
-        key: RangeInclusive,
-        state: NodeState,
-        right: Option<Span>,
-        height: u64,
-    ) -> Result<(), E> {
-        let span = self.0.nodes.end(left, key, state.into(), right, height);
-        *self.0.link = Some(span.map_err(invalid)?);
-        Ok(())
+    fn end<E: Error>(self, key: RangeInclusive, state: NodeState, height: u64) -> Result<(), E> {
+        let Subtree { nodes, side } = self.0;
+        nodes.end(side, key, state.into(), height).map_err(invalid)
     }
 }
 
@@ -218,46 +200,35 @@ impl<'de> Visitor<'de> for InnerNode<'_> {
     }
 
     fn visit_seq<A: SeqAccess<'de>>(mut self, mut from: A) -> Result<(), A::Error> {
-        let (mut left, mut right) = (None, None);
         let key = element(from.next_element()?, Field::Key)?;
         let state = element(from.next_element()?, Field::NodeState)?;
-        let read = from.next_element_seed(self.0.child(&mut left))?;
-        element(read, Field::Left)?;
-        let read = from.next_element_seed(self.0.child(&mut right))?;
-        element(read, Field::Right)?;
+        let left = from.next_element_seed(self.0.child(Side::Left))?;
+        element(left, Field::Left)?;
+        let right = from.next_element_seed(self.0.child(Side::Right))?;
+        element(right, Field::Right)?;
         let height = element(from.next_element()?, Field::Height)?;
-        self.end(left, key, state, right, height)
+        self.end(key, state, height)
     }
 
     fn visit_map<A: MapAccess<'de>>(mut self, mut from: A) -> Result<(), A::Error> {
-        let mut fields = Fields::default();
-        while let Some(field) = from.next_key()? {
-            let is_duplicate = match field {
-                Field::Key => fields.key.replace(from.next_value()?).is_some(),
-                Field::NodeState => fields.state.replace(from.next_value()?).is_some(),
-                Field::Left => {
-                    let mut left = None;
-                    from.next_value_seed(self.0.child(&mut left))?;
-                    fields.left.replace(left).is_some()
-                }
-                Field::Right => {
-                    let mut right = None;
-                    from.next_value_seed(self.0.child(&mut right))?;
-                    fields.right.replace(right).is_some()
-                }
-                Field::Height => fields.height.replace(from.next_value()?).is_some(),
-            };
-            if is_duplicate {
+        let (mut key, mut state, mut height) = (None, NodeState::Free, 0);
+        let mut seen = [false; FIELDS.len()];
+        while let Some(field) = from.next_key::<Field>()? {
+            if mem::replace(&mut seen[field as usize], true) {
                 return Err(A::Error::duplicate_field(FIELDS[field as usize]));
             }
+            match field {
+                Field::Key => key = Some(from.next_value()?),
+                Field::NodeState => state = from.next_value()?,
+                Field::Left => from.next_value_seed(self.0.child(Side::Left))?,
+                Field::Right => from.next_value_seed(self.0.child(Side::Right))?,
+                Field::Height => height = from.next_value()?,
+            }
         }
-        let missing = |field| A::Error::missing_field(FIELDS[field as usize]);
-        let key = fields.key.ok_or_else(|| missing(Field::Key))?;
-        let state = fields.state.ok_or_else(|| missing(Field::NodeState))?;
-        let left = fields.left.ok_or_else(|| missing(Field::Left))?;
-        let right = fields.right.ok_or_else(|| missing(Field::Right))?;
-        let height = fields.height.ok_or_else(|| missing(Field::Height))?;
-        self.end(left, key, state, right, height)
+        match (key, seen.iter().position(|seen| !seen)) {
+            (Some(key), None) => self.end(key, state, height),
+            (_, missing) => Err(A::Error::missing_field(FIELDS[missing.unwrap_or(0)])),
+        }
     }
 }
 

@@ -13,7 +13,7 @@ mod saved;
 pub use address_allocator::{AddressAllocator, Conflict};
 pub use id_allocator::{FreedIds, HeldIds, IdAllocator};
 pub use saved::ReadIds;
-pub use crate::proved::vm_engine::{Ranges, RangesIn, ReadNodes, Span, WrittenBlocks, WrittenNode, WrittenTree};
+pub use crate::proved::vm_engine::{Ranges, RangesIn, ReadNodes, Side, WrittenBlocks, WrittenNode, WrittenTree};
 pub use crate::proved::vm_ranges::{
     AllocPolicy, Condition, Constraint, DEFAULT_CONSTRAINT_ALIGN, Error, ListError, RangeInclusive,
     Result, SavedError, ValueError,

@@ -80,7 +80,8 @@ impl DeviceManager {
     ///
     /// # Errors
     ///
-    /// An error leaves ids, ranges and devices unchanged. In this order:
+    /// An error leaves ids, ranges and devices unchanged, and each error but `OutOfMemory` the same tree. In
+    /// this order:
     /// - `Overflow` if all ids are allocated and their range ends at `u32::MAX`.
     /// - `ResourceNotAvailable` if all ids are allocated and their range ends below `u32::MAX`.
     /// - The errors of `AddressAllocator::allocate`, in the order of its documentation.
@@ -104,7 +105,8 @@ impl DeviceManager {
     ///
     /// # Errors
     ///
-    /// An error leaves ids, ranges and devices unchanged. In this order:
+    /// An error leaves ids, ranges and devices unchanged, and each error but `OutOfMemory` the same tree. In
+    /// this order:
     /// - `Overflow` if all ids are allocated and their range ends at `u32::MAX`.
     /// - `ResourceNotAvailable` if all ids are allocated and their range ends below `u32::MAX`.
     /// - The errors of `AddressAllocator::allocate_constraint`, in the order of its documentation.

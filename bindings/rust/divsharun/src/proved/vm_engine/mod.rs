@@ -14,6 +14,5 @@ mod saved;
 
 pub use interval_tree::IntervalTree;
 pub use interval_tree::ranges::{Ranges, RangesIn};
-pub use saved::nodes::ReadNodes;
-pub use saved::span::Span;
+pub use saved::nodes::{ReadNodes, Side};
 pub use saved::written::{WrittenBlocks, WrittenNode, WrittenTree};

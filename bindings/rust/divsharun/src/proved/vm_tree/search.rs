@@ -3,7 +3,7 @@
 //! A search for a place, and its results.
 
 use crate::proved::vm_tree::change::Change;
-use crate::rattle::AllocFailed;
+use crate::rattle::AllocError;
 
 /// A search for a place: `size` addresses at a multiple of `alignment`, between `low` and `high`.
 #[derive(Clone, Copy)]
@@ -40,14 +40,14 @@ pub(in crate::proved) enum Refusal {
     Held,
     /// The range would end at `u64::MAX`.
     PastMax,
-    /// An allocation of memory failed.
-    OutOfMemory,
+    /// An allocation of memory failed, with this error.
+    OutOfMemory(AllocError),
     /// The range does not fill its gap, and gaps cannot be split.
     TooHigh,
 }
 
-impl<T> From<AllocFailed<T>> for Refusal {
-    fn from(_error: AllocFailed<T>) -> Refusal {
-        Refusal::OutOfMemory
+impl From<AllocError> for Refusal {
+    fn from(error: AllocError) -> Refusal {
+        Refusal::OutOfMemory(error)
     }
 }

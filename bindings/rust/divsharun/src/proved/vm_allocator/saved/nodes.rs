@@ -13,8 +13,9 @@ impl AddressAllocator {
     /// # Errors
     ///
     /// In this order:
-    /// - `Violated(Tree)` if the saved tree is none of the space, node for node.
-    /// - `OutOfMemory` if an allocation fails, or if one failed while the nodes were read.
+    /// - The error of reading the nodes.
+    /// - `Violated(Tree)` if the nodes are not one whole tree of the space.
+    /// - `OutOfMemory` if an allocation fails.
     pub fn from_nodes(
         alloc: Global,
         address_space: RangeInclusive,
@@ -28,15 +29,16 @@ impl AddressAllocator {
     }
 
     /// Returns the allocator of a saved space in which the allocated keys of a saved tree are
-    /// allocated. The tree can have no nodes, gaps between keys, free neighbours, no balance and any
-    /// heights. Its tree has the minimum height.
+    /// allocated. The saved tree can be empty or unbalanced, with gaps, free neighbours and wrong heights.
+    /// The tree of the allocator has the minimum height.
     ///
     /// # Errors
     ///
     /// In this order:
-    /// - `Violated(Inside)` if a key is not in the space, or if more than 6,293,134,512 keys are
-    ///   allocated.
-    /// - `OutOfMemory` if an allocation fails, or if one failed while the nodes were read.
+    /// - The error of reading the nodes.
+    /// - `Violated(Inside)` if the nodes are not one whole tree, if a key is not in the space, or if more
+    ///   than 6,293,134,512 keys are allocated.
+    /// - `OutOfMemory` if an allocation fails.
     pub fn from_nodes_repaired(
         alloc: Global,
         address_space: RangeInclusive,

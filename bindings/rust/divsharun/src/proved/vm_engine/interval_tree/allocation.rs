@@ -118,6 +118,6 @@ fn with_error(found: core::result::Result<Taken, Refusal>, range: &RangeInclusiv
         Refusal::NoPlace => Error::ResourceNotAvailable,
         Refusal::Held => Error::InvalidStateTransition(*range, NodeState::Allocated),
         Refusal::PastMax | Refusal::TooHigh => Error::Overflow,
-        Refusal::OutOfMemory => Error::OutOfMemory,
+        Refusal::OutOfMemory(failed) => Error::from(failed),
     })
 }

@@ -5,7 +5,7 @@
 //! A first pass checks and counts without allocating. A second pass builds the blocks into leaves.
 
 use super::IntervalTree;
-use crate::rattle::Global;
+use crate::rattle::{AllocError, Global};
 use crate::proved::vm_ranges::{Error, ListError, RangeInclusive, Result};
 use crate::proved::vm_tree::Tree;
 
@@ -26,14 +26,41 @@ impl IntervalTree {
         if count >= TOO_MANY_BLOCKS {
             return Err(Error::Overflow.into());
         }
-        Ok(IntervalTree {
-            tree: Tree::with_held(alloc, count, key, held)?,
-            space: key,
-            held_count: held.len() as u64,
-            gap_count: count - held.len() as u64,
-            free_len: left,
-        })
+        Ok(build(alloc, key, held, count, left)?)
     }
+
+    /// Creates the tree of a space with these ranges allocated, which can be. It has the minimum height for
+    /// its nodes.
+    pub(in crate::proved::vm_engine) fn of_held(
+        alloc: Global,
+        space: RangeInclusive,
+        held: &[RangeInclusive],
+    ) -> core::result::Result<Self, AllocError> {
+        let Ok((count, left)) = count_blocks(&space, held) else {
+            unreachable!()
+        };
+        build(alloc, space, held, count, left)
+    }
+}
+
+/// Builds the tree of a space with these ranges allocated. `count` is the number of its blocks, and `left`
+/// the number of its free addresses.
+fn build(
+    alloc: Global,
+    space: RangeInclusive,
+    held: &[RangeInclusive],
+    count: u64,
+    left: u64,
+) -> core::result::Result<IntervalTree, AllocError> {
+    // Proof: this shows that the space is a range.
+    let _end = space.end();
+    Ok(IntervalTree {
+        tree: Tree::with_held(alloc, count, space, held)?,
+        space,
+        held_count: held.len() as u64,
+        gap_count: count - held.len() as u64,
+        free_len: left,
+    })
 }
 
 /// Returns the numbers of blocks and of free addresses of the space with these ranges allocated, or the

@@ -4,31 +4,54 @@
 //!
 //! A reader calls `begin` before it reads the fields of a node, and `end` after that. It has no list
 //! of nodes: a subtree is known by its span, and only the allocated keys of all subtrees are kept.
-//! The span of the root is kept beside them, so a tree is made of the nodes of one reader.
 
 use crate::rattle::Vec;
 use super::span::{MAX_NESTING, Span, held_in, is_inside, is_tree_of, span_over};
 use crate::proved::vm_engine::IntervalTree;
-use crate::rattle::Global;
-use crate::proved::vm_ranges::{Condition, Error, NodeState, RangeInclusive, SavedError};
+use crate::rattle::{AllocError, Global};
+use crate::proved::vm_ranges::{Condition, NodeState, RangeInclusive, SavedError};
 
-/// The nodes of a saved tree that were read so far.
+/// A side of a node, on which it can have a child.
+#[derive(Clone, Copy, PartialEq, Eq)]
+pub enum Side {
+    /// The side of the lower keys.
+    Left,
+    /// The side of the higher keys.
+    Right,
+}
+
+/// The spans of the children of a node that ended.
+#[derive(Clone, Copy)]
+struct Children {
+    left: Option<Span>,
+    right: Option<Span>,
+}
+
+const CHILDLESS: Children = Children {
+    left: None,
+    right: None,
+};
+
+/// The nodes of a saved tree that were read so far, or the error of reading them.
 pub struct ReadNodes {
-    // The allocated keys of all nodes that ended, if they are kept. Those of a node are in ascending order.
-    pub(super) held: Option<Vec<RangeInclusive>>,
-    // The number of nodes that began and did not end.
-    pub(super) depth: u64,
-    // The span of the last node that ended in no other node.
-    pub(super) root: Option<Span>,
+    // The first error.
+    failed: Option<SavedError>,
+    // The allocated keys of all nodes that ended. Those of a node are in ascending order.
+    held: Vec<RangeInclusive>,
+    // The children of the node that began last and did not end. If there is none, the left one is the root.
+    children: Children,
+    // The children of the nodes that it is nested in, the outermost first.
+    outer: Vec<Children>,
 }
 
 impl ReadNodes {
     /// Returns an empty list of nodes. It does not allocate.
     pub fn new(alloc: Global) -> Self {
         ReadNodes {
-            held: Some(Vec::new(alloc)),
-            depth: 0,
-            root: None,
+            failed: None,
+            held: Vec::new(alloc),
+            children: CHILDLESS,
+            outer: Vec::new(alloc),
         }
     }
 
@@ -38,100 +61,140 @@ impl ReadNodes {
     ///
     /// # Errors
     ///
+    /// After an error, each call returns this error.
     /// - `Violated(Nesting)` if it is nested in 50 nodes.
+    /// - `OutOfMemory` if an allocation fails.
     pub fn begin(&mut self) -> core::result::Result<(), SavedError> {
-        if self.depth >= MAX_NESTING {
-            return Err(SavedError::Violated(Condition::Nesting));
+        if let Some(error) = self.failed {
+            return Err(error);
         }
-        self.depth += 1;
+        if let Err(error) = nest(&mut self.outer, self.children) {
+            self.failed = Some(error);
+            return Err(error);
+        }
+        self.children = CHILDLESS;
         Ok(())
     }
 
-    /// Ends the node that began last, and returns the span of its subtree. A child that is absent is
-    /// `None`. The nodes of the children have ended right before, in any order, and their spans are the
-    /// results of their ends.
+    /// Ends the node that began last, as the child on this side of the node that it is nested in. The root
+    /// ends as a left child.
     ///
-    /// If memory runs out, the nodes are still checked, and [`IntervalTree::from_nodes`] returns the error. After
-    /// an error the keys can be in another order, so a reader stops there.
+    /// The children of the node are those that ended since it began, in any order.
     ///
     /// # Errors
     ///
+    /// After an error, each call returns this error. In this order:
+    /// - `Violated(Tree)` if no node began, or if a child on this side has ended before.
     /// - `Violated(Keys)` if one of these is true:
     ///   - The keys are not in ascending order, or share an address.
     ///   - The key is allocated and ends at `u64::MAX`.
     ///   - Nodes are nested more than 50 deep.
+    /// - `OutOfMemory` if an allocation fails.
     pub fn end(
         &mut self,
-        left: Option<Span>,
+        side: Side,
         key: RangeInclusive,
         state: NodeState,
-        right: Option<Span>,
         height: u64,
-    ) -> core::result::Result<Span, SavedError> {
-        self.depth = self.depth.saturating_sub(1);
-        let span = end_in(&mut self.held, left, key, state, right, height)?;
-        if self.depth == 0 {
-            self.root = Some(span);
+    ) -> core::result::Result<(), SavedError> {
+        if let Some(error) = self.failed {
+            return Err(error);
         }
-        Ok(span)
+        let (held, children, outer) = (&mut self.held, &mut self.children, &mut self.outer);
+        if let Err(error) = end_in(held, children, outer, side, key, state, height) {
+            self.failed = Some(error);
+            return Err(error);
+        }
+        Ok(())
     }
 }
 
-/// Ends a node in a list of keys, which then has the keys of its subtree in order. Returns its span.
-///
-/// If an allocation fails, the keys are not kept any more.
+/// Adds the children of a node that is not the innermost one any more.
+fn nest(outer: &mut Vec<Children>, children: Children) -> core::result::Result<(), SavedError> {
+    if outer.len() as u64 >= MAX_NESTING {
+        return Err(SavedError::Violated(Condition::Nesting));
+    }
+    outer.push(children)?;
+    Ok(())
+}
+
+/// Ends the innermost node. Its children are replaced by those of the node that it is nested in.
 fn end_in(
-    held: &mut Option<Vec<RangeInclusive>>,
-    left: Option<Span>,
+    held: &mut Vec<RangeInclusive>,
+    children: &mut Children,
+    outer: &mut Vec<Children>,
+    side: Side,
     key: RangeInclusive,
     state: NodeState,
-    right: Option<Span>,
     height: u64,
-) -> core::result::Result<Span, SavedError> {
-    let Some(span) = span_over(&left, &key, state, &right, height) else {
+) -> core::result::Result<(), SavedError> {
+    let Some(parent) = outer.pop() else {
+        return Err(SavedError::Violated(Condition::Tree));
+    };
+    if has_child(&parent, side) {
+        return Err(SavedError::Violated(Condition::Tree));
+    }
+    let Some(span) = span_over(&children.left, &key, state, &children.right, height) else {
         return Err(SavedError::Violated(Condition::Keys));
     };
-    let Some(list) = held else {
-        return Ok(span);
-    };
-    let Some(place) = arrange(list, held_in(&left), &key, held_in(&right)) else {
-        return Err(SavedError::Violated(Condition::Keys));
-    };
+    insert_key(held, held_in(&children.right), key, state)?;
+    order_keys(held, held_in(&parent.right), held_in(&Some(span)));
+    *children = with_child(parent, side, span);
+    Ok(())
+}
+
+/// Returns `true` if there is a child on this side.
+fn has_child(children: &Children, side: Side) -> bool {
+    match side {
+        Side::Left => children.left.is_some(),
+        Side::Right => children.right.is_some(),
+    }
+}
+
+/// Returns the children with this one on a side.
+fn with_child(children: Children, side: Side, span: Span) -> Children {
+    match side {
+        Side::Left => Children {
+            left: Some(span),
+            right: children.right,
+        },
+        Side::Right => Children {
+            left: children.left,
+            right: Some(span),
+        },
+    }
+}
+
+/// Inserts the key of a node, if it is allocated, before the last `after` keys.
+fn insert_key(
+    held: &mut Vec<RangeInclusive>,
+    after: u64,
+    key: RangeInclusive,
+    state: NodeState,
+) -> core::result::Result<(), AllocError> {
     if state == NodeState::Free {
-        return Ok(span);
+        return Ok(());
     }
-    if list.insert(place, key).is_err() {
-        *held = None;
-    }
-    Ok(span)
+    let place = held.len().saturating_sub(after as usize);
+    held.insert(place, key)?;
+    Ok(())
 }
 
-/// Puts the last keys of a list in order: first those of the left child of a node, then those of the
-/// right child. Returns the place between them.
-///
-/// It returns `None` if the list has fewer keys.
-fn arrange(
-    list: &mut Vec<RangeInclusive>,
-    left: u64,
-    key: &RangeInclusive,
-    right: u64,
-) -> Option<usize> {
-    let len = list.len() as u64;
-    if right > len || left > len - right {
-        return None;
+/// Moves the last `count` keys before the `right` keys before them.
+fn order_keys(held: &mut Vec<RangeInclusive>, right: u64, count: u64) {
+    let moved = right.saturating_add(count) as usize;
+    if right > 0 && moved <= held.len() {
+        let first = held.len() - moved;
+        held[first..].rotate_left(right as usize);
     }
-    let place = (len - right) as usize;
-    let first = place - left as usize;
-    if left > 0 && right > 0 && list[first].start() > key.start() {
-        rotate(list, first, right as usize);
-    }
-    Some(place)
 }
 
-/// Moves `count` keys, of which the first has the index `first`, to the end of a list.
-#[cold]
-fn rotate(list: &mut Vec<RangeInclusive>, first: usize, count: usize) {
-    list[first..].rotate_left(count);
+/// Returns the span of the root, if there is no node that did not end.
+fn root_of(outer: &[Children], children: &Children) -> Option<Option<Span>> {
+    if outer.is_empty() && children.right.is_none() {
+        return Some(children.left);
+    }
+    None
 }
 
 impl IntervalTree {
@@ -141,58 +204,51 @@ impl IntervalTree {
     /// # Errors
     ///
     /// In this order:
-    /// - `Violated(Tree)` if the saved tree is none of the space, node for node.
-    /// - `OutOfMemory` if an allocation fails, or if one failed while the nodes were read.
+    /// - The error of reading the nodes.
+    /// - `Violated(Tree)` if the nodes are not one whole tree of the space.
+    /// - `OutOfMemory` if an allocation fails.
     pub fn from_nodes(
         alloc: Global,
         space: RangeInclusive,
         nodes: &ReadNodes,
     ) -> core::result::Result<Self, SavedError> {
-        if !is_tree_of(&space, &nodes.root) {
+        if let Some(error) = nodes.failed {
+            return Err(error);
+        }
+        let Some(root) = root_of(&nodes.outer, &nodes.children) else {
+            return Err(SavedError::Violated(Condition::Tree));
+        };
+        if !is_tree_of(&space, &root) {
             return Err(SavedError::Violated(Condition::Tree));
         }
-        tree_with(alloc, space, &nodes.held, Condition::Tree)
+        Ok(Self::of_held(alloc, space, &nodes.held)?)
     }
 
-    /// Returns a tree of the space with the same allocated ranges as a saved tree, which can have no
-    /// nodes, gaps between keys, free neighbours, no balance and any heights. The tree has the minimum
-    /// height for its nodes.
+    /// Returns a tree of the space with the same allocated ranges as a saved tree. The saved tree can be
+    /// empty or unbalanced, with gaps, free neighbours and wrong heights. The tree of the space has the
+    /// minimum height for its nodes.
     ///
     /// # Errors
     ///
     /// In this order:
-    /// - `Violated(Inside)` if a key is not in the space, or if more than 6,293,134,512 keys are
-    ///   allocated.
-    /// - `OutOfMemory` if an allocation fails, or if one failed while the nodes were read.
+    /// - The error of reading the nodes.
+    /// - `Violated(Inside)` if the nodes are not one whole tree, if a key is not in the space, or if more
+    ///   than 6,293,134,512 keys are allocated.
+    /// - `OutOfMemory` if an allocation fails.
     pub fn from_nodes_repaired(
         alloc: Global,
         space: RangeInclusive,
         nodes: &ReadNodes,
     ) -> core::result::Result<Self, SavedError> {
-        if !is_inside(&space, &nodes.root) {
+        if let Some(error) = nodes.failed {
+            return Err(error);
+        }
+        let Some(root) = root_of(&nodes.outer, &nodes.children) else {
+            return Err(SavedError::Violated(Condition::Inside));
+        };
+        if !is_inside(&space, &root) {
             return Err(SavedError::Violated(Condition::Inside));
         }
-        tree_with(alloc, space, &nodes.held, Condition::Inside)
-    }
-}
-
-/// Returns the tree of a space with these ranges allocated. If they cannot be, the condition is violated.
-fn tree_with(
-    alloc: Global,
-    space: RangeInclusive,
-    held: &Option<Vec<RangeInclusive>>,
-    condition: Condition,
-) -> core::result::Result<IntervalTree, SavedError> {
-    let Some(held) = held else {
-        return Err(SavedError::OutOfMemory);
-    };
-    match IntervalTree::with_held(alloc, space, held) {
-        Ok(tree) => Ok(tree),
-        Err(failure) => {
-            if failure.error == Error::OutOfMemory {
-                return Err(SavedError::OutOfMemory);
-            }
-            Err(SavedError::Violated(condition))
-        }
+        Ok(Self::of_held(alloc, space, &nodes.held)?)
     }
 }

@@ -19,7 +19,7 @@ pub(super) const MAX_HEIGHT: u64 = 49;
 /// Its keys are in ascending order and share no address, no allocated key ends at `u64::MAX`, and
 /// its nodes are nested at most 50 deep.
 #[derive(Clone, Copy)]
-pub struct Span {
+pub(super) struct Span {
     /// The start of the first key.
     first: u64,
     /// The end of the last key.
@@ -48,10 +48,10 @@ pub(super) fn span_over(
     right: &Option<Span>,
     height: u64,
 ) -> Option<Span> {
+    let (first, first_state) = first_of(left, key, state);
     if !can_join(left, key, state, right) {
         return None;
     }
-    let (first, first_state) = first_of(left, key, state);
     let (last, last_state) = last_of(right, key, state);
     Some(Span {
         first,

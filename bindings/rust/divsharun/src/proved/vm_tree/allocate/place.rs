@@ -6,7 +6,7 @@ use crate::rattle::Box;
 use crate::proved::vm_tree::change::Change;
 use crate::proved::vm_tree::link::{Link, Node, fork_link, into_leaf, leaf_link};
 use crate::proved::vm_tree::search::{Refusal, Search, Taken};
-use crate::rattle::Global;
+use crate::rattle::{AllocError, Global};
 use core::mem;
 use crate::proved::vm_leaf::{Block, CAPACITY, Leaf, Left, Summary};
 use crate::proved::vm_ranges::{NodeState, RangeInclusive};
@@ -121,7 +121,7 @@ fn take(tree: &mut Link, lone: bool, claim: &Claim) -> Change {
 }
 
 /// Allocates a box for a leaf and one for a node.
-fn spare_boxes(claim: &Claim, alloc: Global) -> Result<(Box<Leaf>, Box<Node>), Refusal> {
+fn spare_boxes(claim: &Claim, alloc: Global) -> Result<(Box<Leaf>, Box<Node>), AllocError> {
     let block = Block {
         key: claim.range,
         state: NodeState::Allocated,
@@ -150,7 +150,7 @@ fn halve(mut lower: Box<Leaf>, claim: &Claim, mut upper: Box<Leaf>, spare: Box<N
 ///
 /// All memory is allocated before the first change.
 #[inline(never)]
-fn split_leaf(tree: &mut Link, claim: Claim, alloc: Global) -> Result<(), Refusal> {
+fn split_leaf(tree: &mut Link, claim: Claim, alloc: Global) -> Result<(), AllocError> {
     let (upper, node) = spare_boxes(&claim, alloc)?;
     let lower = into_leaf(mem::replace(tree, Link::Hole));
     *tree = halve(lower, &claim, upper, node);
