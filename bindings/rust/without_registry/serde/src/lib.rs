@@ -1,1 +1,1 @@
-compile_error!("this serde is empty: with a registry, run `cargo test` in bindings/rust/patched");
+compile_error!("this serde is empty: the feature `serde` needs a registry, and no `--config`");
