@@ -165,8 +165,8 @@ impl AddressAllocator {
     /// ```
     pub fn try_with_held(base: u64, size: u64, held: &[RangeInclusive]) -> TryListResult<Self> {
         let ranges = converted(held, |range| range.0)?;
-        let made = proved::AddressAllocator::with_held(Global, base, size, &ranges)?;
-        Ok(AddressAllocator(made))
+        let made = proved::AddressAllocator::with_held(Global, base, size, &ranges);
+        made.map(AddressAllocator).map_err(Into::into)
     }
 
     /// Creates an allocator in which exactly these ranges are free. They must be in ascending order,
@@ -235,9 +235,8 @@ impl AddressAllocator {
     /// ```
     pub fn try_with_free(free: &[RangeInclusive]) -> TryListResult<Self> {
         let ranges = converted(free, |range| range.0)?;
-        Ok(AddressAllocator(proved::AddressAllocator::with_free(
-            Global, &ranges,
-        )?))
+        let made = proved::AddressAllocator::with_free(Global, &ranges);
+        made.map(AddressAllocator).map_err(Into::into)
     }
 
     /// Allocates `size` free addresses that start at a multiple of `alignment`, and returns their
@@ -426,7 +425,7 @@ impl AddressAllocator {
     /// ```
     #[must_use]
     pub fn conflict(&self, request: Constraint) -> Option<Conflict> {
-        self.0.conflict(request.0).map(Conflict::from)
+        self.0.conflict(request.0).map(Into::into)
     }
 
     /// Moves an allocated range to the place of a request, and returns the range there. A guest does
@@ -650,7 +649,8 @@ impl AddressAllocator {
         // Nothing can fail after the allocation of the ranges.
         let mut ranges = list_for(requests.len())?;
         let requests = converted(requests, |request| request.0)?;
-        let allocated = self.0.allocate_all(Global, &requests)?;
+        let allocated = self.0.allocate_all(Global, &requests);
+        let allocated = allocated.map_err(Into::into)?;
         ranges.extend(allocated.iter().map(|range| RangeInclusive(*range)));
         Ok(ranges)
     }

@@ -240,6 +240,10 @@ impl Constraint {
 /// assert_eq!(RangeInclusive::new(0x3f8, 0x3ff)?.limits(), (0x3f8, 0x3ff));
 /// # Ok::<(), divsharun::Error>(())
 /// ```
+#[diagnostic::on_unimplemented(
+    message = "`{Self}` is not a window",
+    note = "a window is a range of `u64`, such as `..=max` or `base..`, or a `RangeInclusive`"
+)]
 pub trait Window {
     /// Returns the first and the last address. 0 is no lower limit, and `u64::MAX` no upper limit. If
     /// there is no address, the last one is below the first.

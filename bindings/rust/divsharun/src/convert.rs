@@ -1,4 +1,8 @@
 //! Converts values and errors of the proved code to those of callers.
+//!
+//! The messages of rustc to a caller list the impls of `From` for a public type. `do_not_recommend` leaves these
+//! out, except the only impl of a type. Such types implement `Into` for the proved type instead.
+#![allow(clippy::from_over_into)]
 
 use crate::error::{ListResult, TryListResult};
 use crate::proved::vm_allocator as proved;
@@ -9,6 +13,7 @@ use crate::{AddressAllocator, Conflict, Error, ListError, NodeState, RangeInclus
 macro_rules! convert_variants {
     ($public:ident, $proved:ty:
         $($variant:ident $(($($field:ident),+))?),+ $(; $other:ident => $value:expr)?) => {
+        #[diagnostic::do_not_recommend]
         impl From<$proved> for $public {
             fn from(value: $proved) -> Self {
                 type Proved = $proved;
@@ -34,9 +39,6 @@ macro_rules! convert_variants {
 }
 
 convert_variants! { NodeState, proved::allocation_engine::NodeState: Free, Allocated }
-convert_variants! {
-    Conflict, proved::Conflict: OutsideSpace(space), OutsideWindow(window), Allocated(range)
-}
 // If memory ran out, the process ends, as with Rust's collections.
 convert_variants! {
     Error, proved::Error:
@@ -46,9 +48,9 @@ convert_variants! {
     OutOfMemory => out_of_memory()
 }
 
-impl From<proved::RangeInclusive> for RangeInclusive {
-    fn from(range: proved::RangeInclusive) -> Self {
-        RangeInclusive(range)
+impl Into<RangeInclusive> for proved::RangeInclusive {
+    fn into(self) -> RangeInclusive {
+        RangeInclusive(self)
     }
 }
 
@@ -58,6 +60,17 @@ impl From<RangeInclusive> for proved::RangeInclusive {
     }
 }
 
+impl Into<Conflict> for proved::Conflict {
+    fn into(self) -> Conflict {
+        match self {
+            proved::Conflict::OutsideSpace(space) => Conflict::OutsideSpace(space.into()),
+            proved::Conflict::OutsideWindow(window) => Conflict::OutsideWindow(window.into()),
+            proved::Conflict::Allocated(range) => Conflict::Allocated(range.into()),
+        }
+    }
+}
+
+#[diagnostic::do_not_recommend]
 impl From<proved::Error> for TryError {
     fn from(error: proved::Error) -> Self {
         match error {
@@ -67,10 +80,12 @@ impl From<proved::Error> for TryError {
     }
 }
 
-impl From<proved::ListError> for ListError<TryError> {
-    fn from(proved::ListError { index, error }: proved::ListError) -> Self {
-        let error = error.into();
-        ListError { index, error }
+impl Into<ListError<TryError>> for proved::ListError {
+    fn into(self) -> ListError<TryError> {
+        ListError {
+            index: self.index,
+            error: self.error.into(),
+        }
     }
 }
 

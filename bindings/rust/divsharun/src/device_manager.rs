@@ -311,7 +311,7 @@ impl DeviceManager {
     /// ```
     #[must_use]
     pub fn conflict(&self, request: Constraint) -> Option<Conflict> {
-        self.0.conflict(request.0).map(Conflict::from)
+        self.0.conflict(request.0).map(Into::into)
     }
 
     /// Releases a device: frees its id and its range.
