@@ -1,10 +1,11 @@
-use crate::convert::unless_list_out_of_memory;
+use crate::convert::{out_of_memory, unless_list_out_of_memory};
 use crate::error::{ListResult, TryListResult, TryResult};
 use crate::objects::{allocator, iterate, DebugList};
 use crate::proved::vm_allocator as proved;
 use crate::rattle::Global;
 use crate::{
     AllocPolicy, Conflict, Constraint, Error, Layout, ListError, RangeInclusive, Result, TryError,
+    Window,
 };
 use alloc::vec::Vec;
 use core::fmt;
@@ -94,6 +95,50 @@ impl AddressAllocator {
         Ok(AddressAllocator(proved::AddressAllocator::new(
             Global, base, size,
         )?))
+    }
+
+    /// Creates an allocator for the addresses of a range, such as the window of a bridge. All of them
+    /// are free.
+    ///
+    /// # Example
+    ///
+    /// ```rust
+    /// use divsharun::{AddressAllocator, AllocPolicy};
+    ///
+    /// let mut mmio = AddressAllocator::new(0xc000_0000, 0x3ec0_0000)?;
+    /// let window = mmio.allocate(0x200_0000, 0x10_0000, AllocPolicy::FirstMatch)?;
+    /// let mut bridge = AddressAllocator::over(window);
+    /// assert_eq!(bridge.space(), window);
+    ///
+    /// let bar = bridge.allocate(0x1000, 0x1000, AllocPolicy::FirstMatch)?;
+    /// assert!(window.contains(&bar));
+    /// # Ok::<(), divsharun::Error>(())
+    /// ```
+    #[must_use]
+    pub fn over(space: RangeInclusive) -> Self {
+        Self::try_over(space).unwrap_or_else(|_| out_of_memory())
+    }
+
+    /// Creates an allocator like [`over`](Self::over), but returns an error if memory runs out.
+    ///
+    /// # Errors
+    ///
+    /// - `OutOfMemory` if memory for the node runs out.
+    ///
+    /// # Example
+    ///
+    /// ```rust
+    /// use divsharun::{AddressAllocator, RangeInclusive, TryError};
+    ///
+    /// let window = RangeInclusive::from_start_len(0xc000, 0x1000)?;
+    /// match AddressAllocator::try_over(window) {
+    ///     Ok(ports) => assert!(ports.gaps().eq([window])),
+    ///     Err(error) => assert_eq!(error, TryError::OutOfMemory),
+    /// }
+    /// # Ok::<(), TryError>(())
+    /// ```
+    pub fn try_over(space: RangeInclusive) -> TryResult<Self> {
+        Self::try_new(space.start(), space.len())
     }
 
     /// Creates an allocator for the `size` addresses starting at `base`, with these ranges
@@ -274,6 +319,7 @@ impl AddressAllocator {
     /// assert_eq!(mmio.allocate(0x1000, 0x1000, exact), Err(Error::ResourceNotAvailable));
     /// # Ok::<(), Error>(())
     /// ```
+    #[doc(alias("alloc", "reserve_range"))]
     pub fn allocate(
         &mut self,
         size: u64,
@@ -464,6 +510,7 @@ impl AddressAllocator {
     /// assert!(mmio.held_ranges().eq([larger]));
     /// # Ok::<(), Error>(())
     /// ```
+    #[doc(alias = "resize")]
     pub fn move_constraint(
         &mut self,
         key: &RangeInclusive,
@@ -523,7 +570,8 @@ impl AddressAllocator {
     /// - `ResourceNotAvailable` if `start` is outside the space.
     /// - `Overflow` if the new range would end past `u64::MAX`.
     /// - `InvalidStateTransition` if exactly the new range is already allocated.
-    /// - `ResourceNotAvailable` if an address of the new range is not free. Those of `key` are not.
+    /// - `ResourceNotAvailable` if an address of the new range is not free. The addresses of `key` count as
+    ///   allocated.
     /// - `Overflow` if the new range ends at `u64::MAX`.
     /// - `Overflow` if the new range fills only a part of its gap and the number of allocated ranges is at
     ///   the limit of [`allocate`](Self::allocate).
@@ -755,6 +803,7 @@ impl AddressAllocator {
     /// assert_eq!(mmio.held_at(bar.start()), None);
     /// # Ok::<(), Error>(())
     /// ```
+    #[doc(alias("release", "remove", "dealloc"))]
     pub fn free(&mut self, key: &RangeInclusive) -> Result<()> {
         Ok(self.0.free(&key.0)?)
     }
@@ -820,6 +869,24 @@ impl AddressAllocator {
         self.0.end()
     }
 
+    /// Returns the space: the range of all addresses, free or allocated.
+    ///
+    /// # Example
+    ///
+    /// ```rust
+    /// use divsharun::{AddressAllocator, RangeInclusive};
+    ///
+    /// let mmio = AddressAllocator::new(0xe000_0000, 0x1ec0_0000)?;
+    /// let firmware = RangeInclusive::from_start_len(0xffc0_0000, 0x40_0000)?;
+    /// assert_eq!(mmio.space().to_string(), "e0000000-febfffff");
+    /// assert!(!mmio.space().overlaps(&firmware));
+    /// # Ok::<(), divsharun::Error>(())
+    /// ```
+    #[must_use]
+    pub fn space(&self) -> RangeInclusive {
+        space_of(&self.0)
+    }
+
     /// Returns an iterator over the allocated ranges, like [`held_ranges`](Self::held_ranges).
     ///
     /// # Example
@@ -855,16 +922,18 @@ impl AddressAllocator {
     /// assert_eq!((ranges.next(), ranges.next(), ranges.next()), (Some(low), Some(high), None));
     /// # Ok::<(), divsharun::Error>(())
     /// ```
+    #[doc(alias = "allocated_ranges")]
     #[must_use]
     pub fn held_ranges(&self) -> HeldRanges<'_> {
         HeldRanges(self.0.held_ranges())
     }
 
-    /// Returns an iterator over the allocated ranges that have an address in common with `range`, in
+    /// Returns an iterator over the allocated ranges that have an address in common with a window, in
     /// ascending order.
     ///
-    /// Each range is returned whole. If `range` is in the space, it is free if and only if there is no
-    /// item. It walks one path of the tree for each end of `range` and does not allocate.
+    /// The window is a range of `u64` or a [`RangeInclusive`]. Each range is returned whole. If the window
+    /// is in the space, it is free if and only if there is no item. It walks one path of the tree for each
+    /// end of the window and does not allocate.
     ///
     /// # Example
     ///
@@ -879,12 +948,13 @@ impl AddressAllocator {
     /// let exact = AllocPolicy::ExactMatch(window.start());
     /// let failed = mmio.allocate(window.len(), 1, exact);
     /// assert_eq!(failed, Err(Error::ResourceNotAvailable));
-    /// assert!(mmio.held_ranges_in(&window).eq([device]));
+    /// assert!(mmio.held_ranges_in(window).eq([device]));
     /// # Ok::<(), divsharun::Error>(())
     /// ```
+    #[doc(alias("is_free", "overlapping"))]
     #[must_use]
-    pub fn held_ranges_in(&self, range: &RangeInclusive) -> HeldRangesIn<'_> {
-        HeldRangesIn(self.0.held_ranges_in(&range.0))
+    pub fn held_ranges_in(&self, window: impl Window) -> HeldRangesIn<'_> {
+        HeldRangesIn(self.0.held_ranges_in(&part_of(self.space(), window).0))
     }
 
     /// Returns `true` if exactly this range is allocated. A part of an allocated range is not.
@@ -902,6 +972,7 @@ impl AddressAllocator {
     /// assert!(!ports.holds(&RangeInclusive::new(0x2f8, 0x2fb)?));
     /// # Ok::<(), divsharun::Error>(())
     /// ```
+    #[doc(alias("contains", "is_allocated"))]
     #[must_use]
     pub fn holds(&self, key: &RangeInclusive) -> bool {
         self.0.holds(&key.0)
@@ -923,6 +994,7 @@ impl AddressAllocator {
     /// assert_eq!(mmio.held_at(0xd000_1000), None);
     /// # Ok::<(), divsharun::Error>(())
     /// ```
+    #[doc(alias("find", "get"))]
     #[must_use]
     pub fn held_at(&self, address: u64) -> Option<RangeInclusive> {
         self.0.held_at(address).map(RangeInclusive)
@@ -945,33 +1017,34 @@ impl AddressAllocator {
     /// assert_eq!((ports.longest_gap(), ports.free_len()), (0xb0, 0xf0));
     /// # Ok::<(), divsharun::Error>(())
     /// ```
+    #[doc(alias("free_ranges", "holes"))]
     #[must_use]
     pub fn gaps(&self) -> Gaps<'_> {
         Gaps(self.0.gaps())
     }
 
-    /// Returns an iterator over the gaps that have an address in common with `range`, in ascending
+    /// Returns an iterator over the gaps that have an address in common with a window, in ascending
     /// order.
     ///
-    /// Each gap is returned whole. It walks one path of the tree for each end of `range` and does not
-    /// allocate.
+    /// The window is a range of `u64` or a [`RangeInclusive`]. Each gap is returned whole. It walks one
+    /// path of the tree for each end of the window and does not allocate.
     ///
     /// # Example
     ///
     /// ```rust
-    /// use divsharun::{AddressAllocator, AllocPolicy, RangeInclusive};
+    /// use divsharun::{AddressAllocator, AllocPolicy};
     ///
     /// let mut ports = AddressAllocator::new(0, 0x100)?;
     /// ports.allocate(0x10, 1, AllocPolicy::ExactMatch(0x40))?;
     /// ports.allocate(0x10, 1, AllocPolicy::ExactMatch(0x60))?;
-    /// let window = RangeInclusive::new(0x48, 0x5f)?;
-    /// let gaps: Vec<_> = ports.gaps_in(&window).map(|gap| gap.to_string()).collect();
+    /// let gaps: Vec<_> = ports.gaps_in(0x48..0x60).map(|gap| gap.to_string()).collect();
     /// assert_eq!(gaps, ["50-5f"]);
+    /// assert_eq!(ports.gaps_in(0x48..).count(), 2);
     /// # Ok::<(), divsharun::Error>(())
     /// ```
     #[must_use]
-    pub fn gaps_in(&self, range: &RangeInclusive) -> GapsIn<'_> {
-        GapsIn(self.0.gaps_in(&range.0))
+    pub fn gaps_in(&self, window: impl Window) -> GapsIn<'_> {
+        GapsIn(self.0.gaps_in(&part_of(self.space(), window).0))
     }
 
     /// Returns the gap that contains the address, or `None` if the address is allocated or outside
@@ -1015,6 +1088,7 @@ impl AddressAllocator {
     /// assert_eq!(mmio.allocate(longest, 1, AllocPolicy::FirstMatch)?.start(), 0xd400_1000);
     /// # Ok::<(), Error>(())
     /// ```
+    #[doc(alias = "largest_gap")]
     #[must_use]
     pub fn longest_gap(&self) -> u64 {
         self.0.longest_gap()
@@ -1057,6 +1131,7 @@ impl AddressAllocator {
     /// assert_eq!(mmio.free_len(), 0xf_7000);
     /// # Ok::<(), divsharun::Error>(())
     /// ```
+    #[doc(alias("free_space", "available"))]
     #[must_use]
     pub fn free_len(&self) -> u64 {
         self.0.free_len()
@@ -1077,6 +1152,7 @@ impl AddressAllocator {
     /// assert_eq!(mmio.held_count(), 32);
     /// # Ok::<(), divsharun::Error>(())
     /// ```
+    #[doc(alias("allocated_count", "is_empty", "len"))]
     #[must_use]
     pub fn held_count(&self) -> u64 {
         self.0.held_count()
@@ -1147,6 +1223,21 @@ impl AddressAllocator {
     pub fn try_clone(&self) -> TryResult<Self> {
         Ok(AddressAllocator(self.0.try_clone(Global)?))
     }
+}
+
+/// Returns the space of an allocator of the proved code.
+pub(crate) fn space_of(allocator: &proved::AddressAllocator) -> RangeInclusive {
+    let space = RangeInclusive::new(allocator.base(), allocator.end());
+    space.expect("a space never has all 2^64 addresses")
+}
+
+/// Returns the part of a window in a space, or an address outside the space if there is none.
+fn part_of(space: RangeInclusive, window: impl Window) -> RangeInclusive {
+    let (low, high) = window.limits();
+    let part = RangeInclusive::new(low.max(space.start()), high.min(space.end()));
+    let outside = space.end().wrapping_add(1);
+    part.or(RangeInclusive::new(outside, outside))
+        .expect("one address is a range")
 }
 
 /// Returns a list of converted items.

@@ -1,4 +1,4 @@
-use crate::address_allocator::ShortDebug;
+use crate::address_allocator::{space_of, ShortDebug};
 use crate::error::TryResult;
 use crate::objects::{allocator, iterate, DebugList};
 use crate::proved::vm_devices as proved;
@@ -169,10 +169,10 @@ impl DeviceManager {
     /// # Errors
     ///
     /// An error leaves ids, ranges and devices unchanged. In this order:
-    /// - `Overflow` or `ResourceNotAvailable` if all ids are allocated, as of
+    /// - `Overflow` or `ResourceNotAvailable` if all ids are allocated, as for
     ///   [`IdAllocator::allocate_id`](crate::IdAllocator::allocate_id).
     /// - `InvalidSize`, `InvalidAlignment`, `UnalignedAddress`, `Overflow`, `ResourceNotAvailable`
-    ///   or `InvalidStateTransition`, as of
+    ///   or `InvalidStateTransition`, as for
     ///   [`AddressAllocator::allocate`](crate::AddressAllocator::allocate).
     ///
     /// # Example
@@ -190,6 +190,7 @@ impl DeviceManager {
     /// assert_eq!(third, Err(Error::ResourceNotAvailable));
     /// # Ok::<(), Error>(())
     /// ```
+    #[doc(alias("allocate", "add", "insert"))]
     pub fn reserve(&mut self, size: u64, align: u64, policy: AllocPolicy) -> Result<DeviceSlot> {
         Ok(DeviceSlot::of(self.0.reserve(
             Global,
@@ -241,9 +242,9 @@ impl DeviceManager {
     /// # Errors
     ///
     /// An error leaves ids, ranges and devices unchanged. In this order:
-    /// - `Overflow` or `ResourceNotAvailable` if all ids are allocated, as of
+    /// - `Overflow` or `ResourceNotAvailable` if all ids are allocated, as for
     ///   [`IdAllocator::allocate_id`](crate::IdAllocator::allocate_id).
-    /// - `Overflow`, `ResourceNotAvailable` or `InvalidStateTransition`, as of
+    /// - `Overflow`, `ResourceNotAvailable` or `InvalidStateTransition`, as for
     ///   [`AddressAllocator::allocate_constraint`](crate::AddressAllocator::allocate_constraint).
     ///
     /// # Example
@@ -332,6 +333,7 @@ impl DeviceManager {
     /// assert_eq!(devices.release(2), Err(Error::NeverAllocated(2)));
     /// # Ok::<(), Error>(())
     /// ```
+    #[doc(alias("free", "remove"))]
     pub fn release(&mut self, id: u32) -> Result<()> {
         Ok(self.0.release(id)?)
     }
@@ -416,9 +418,27 @@ impl DeviceManager {
     /// assert_eq!(devices.device_count(), 1);
     /// # Ok::<(), divsharun::Error>(())
     /// ```
+    #[doc(alias("is_empty", "len"))]
     #[must_use]
     pub fn device_count(&self) -> u64 {
         self.0.device_count()
+    }
+
+    /// Returns the range of all addresses, free or allocated.
+    ///
+    /// # Example
+    ///
+    /// ```rust
+    /// use divsharun::{AllocPolicy, DeviceManager};
+    ///
+    /// let mut devices = DeviceManager::new(5, 23, 0xa00_0000, 0x4000)?;
+    /// let last = devices.reserve(0x200, 0x200, AllocPolicy::LastMatch)?;
+    /// assert_eq!(devices.space().end(), last.range.end());
+    /// # Ok::<(), divsharun::Error>(())
+    /// ```
+    #[must_use]
+    pub fn space(&self) -> RangeInclusive {
+        space_of(self.0.addresses())
     }
 
     /// Returns the device whose range contains the address, or `None` if there is none.
@@ -437,6 +457,7 @@ impl DeviceManager {
     /// assert!(devices.devices().eq([disk]));
     /// # Ok::<(), divsharun::Error>(())
     /// ```
+    #[doc(alias = "find")]
     #[must_use]
     pub fn device_at(&self, address: u64) -> Option<DeviceSlot> {
         self.0.device_at(address).map(DeviceSlot::of)
@@ -482,6 +503,7 @@ impl DeviceManager {
     /// assert_eq!(devices.slot(6), None);
     /// # Ok::<(), divsharun::Error>(())
     /// ```
+    #[doc(alias = "get")]
     #[must_use]
     pub fn slot(&self, id: u32) -> Option<RangeInclusive> {
         self.0.slot(id).map(RangeInclusive)
