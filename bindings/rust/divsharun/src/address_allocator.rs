@@ -64,9 +64,8 @@ impl AddressAllocator {
     /// # Ok::<(), Error>(())
     /// ```
     pub fn new(base: u64, size: u64) -> Result<Self> {
-        Ok(AddressAllocator(proved::AddressAllocator::new(
-            Global, base, size,
-        )?))
+        let made = proved::AddressAllocator::new(Global, base, size)?;
+        Ok(AddressAllocator(made))
     }
 
     /// Creates an allocator like [`new`](Self::new), but returns an error if memory runs out.
@@ -92,9 +91,8 @@ impl AddressAllocator {
     /// # Ok::<(), TryError>(())
     /// ```
     pub fn try_new(base: u64, size: u64) -> TryResult<Self> {
-        Ok(AddressAllocator(proved::AddressAllocator::new(
-            Global, base, size,
-        )?))
+        let made = proved::AddressAllocator::new(Global, base, size)?;
+        Ok(AddressAllocator(made))
     }
 
     /// Creates an allocator for the addresses of a range, such as the window of a bridge. All of them
@@ -326,12 +324,8 @@ impl AddressAllocator {
         alignment: u64,
         policy: AllocPolicy,
     ) -> Result<RangeInclusive> {
-        Ok(RangeInclusive(self.0.allocate(
-            Global,
-            size,
-            alignment,
-            policy.proved(),
-        )?))
+        let range = self.0.allocate(Global, size, alignment, policy.proved())?;
+        Ok(RangeInclusive(range))
     }
 
     /// Allocates a range like [`allocate`](Self::allocate), but returns an error if memory
@@ -365,12 +359,8 @@ impl AddressAllocator {
         alignment: u64,
         policy: AllocPolicy,
     ) -> TryResult<RangeInclusive> {
-        Ok(RangeInclusive(self.0.allocate(
-            Global,
-            size,
-            alignment,
-            policy.proved(),
-        )?))
+        let range = self.0.allocate(Global, size, alignment, policy.proved())?;
+        Ok(RangeInclusive(range))
     }
 
     /// Allocates a range like [`allocate`](Self::allocate), for a request that was made before.
@@ -410,9 +400,8 @@ impl AddressAllocator {
     /// # Ok::<(), Error>(())
     /// ```
     pub fn allocate_constraint(&mut self, request: Constraint) -> Result<RangeInclusive> {
-        Ok(RangeInclusive(
-            self.0.allocate_constraint(Global, request.0)?,
-        ))
+        let range = self.0.allocate_constraint(Global, request.0)?;
+        Ok(RangeInclusive(range))
     }
 
     /// Allocates a range like [`allocate_constraint`](Self::allocate_constraint), but returns an
@@ -441,9 +430,8 @@ impl AddressAllocator {
     /// # Ok::<(), TryError>(())
     /// ```
     pub fn try_allocate_constraint(&mut self, request: Constraint) -> TryResult<RangeInclusive> {
-        Ok(RangeInclusive(
-            self.0.allocate_constraint(Global, request.0)?,
-        ))
+        let range = self.0.allocate_constraint(Global, request.0)?;
+        Ok(RangeInclusive(range))
     }
 
     /// Returns the reason why the range of an `ExactMatch` request is not free. Returns `None` if the
@@ -516,9 +504,8 @@ impl AddressAllocator {
         key: &RangeInclusive,
         request: Constraint,
     ) -> Result<RangeInclusive> {
-        Ok(RangeInclusive(
-            self.0.move_constraint(Global, &key.0, request.0)?,
-        ))
+        let range = self.0.move_constraint(Global, &key.0, request.0)?;
+        Ok(RangeInclusive(range))
     }
 
     /// Moves a range like [`move_constraint`](Self::move_constraint), but returns an error if memory
@@ -551,9 +538,8 @@ impl AddressAllocator {
         key: &RangeInclusive,
         request: Constraint,
     ) -> TryResult<RangeInclusive> {
-        Ok(RangeInclusive(
-            self.0.move_constraint(Global, &key.0, request.0)?,
-        ))
+        let range = self.0.move_constraint(Global, &key.0, request.0)?;
+        Ok(RangeInclusive(range))
     }
 
     /// Moves an allocated range to another start, and returns the range there.
@@ -803,7 +789,7 @@ impl AddressAllocator {
     /// assert_eq!(mmio.held_at(bar.start()), None);
     /// # Ok::<(), Error>(())
     /// ```
-    #[doc(alias("release", "remove", "dealloc"))]
+    #[doc(alias("release", "remove"))]
     pub fn free(&mut self, key: &RangeInclusive) -> Result<()> {
         Ok(self.0.free(&key.0)?)
     }

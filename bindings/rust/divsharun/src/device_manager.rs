@@ -192,12 +192,8 @@ impl DeviceManager {
     /// ```
     #[doc(alias("allocate", "add", "insert"))]
     pub fn reserve(&mut self, size: u64, align: u64, policy: AllocPolicy) -> Result<DeviceSlot> {
-        Ok(DeviceSlot::of(self.0.reserve(
-            Global,
-            size,
-            align,
-            policy.proved(),
-        )?))
+        let slot = self.0.reserve(Global, size, align, policy.proved())?;
+        Ok(DeviceSlot::of(slot))
     }
 
     /// Reserves like [`reserve`](Self::reserve), but returns an error if memory runs out.
@@ -228,12 +224,8 @@ impl DeviceManager {
         align: u64,
         policy: AllocPolicy,
     ) -> TryResult<DeviceSlot> {
-        Ok(DeviceSlot::of(self.0.reserve(
-            Global,
-            size,
-            align,
-            policy.proved(),
-        )?))
+        let slot = self.0.reserve(Global, size, align, policy.proved())?;
+        Ok(DeviceSlot::of(slot))
     }
 
     /// Reserves like [`reserve`](Self::reserve), for a request that was made before. If the request
@@ -259,9 +251,8 @@ impl DeviceManager {
     /// # Ok::<(), divsharun::Error>(())
     /// ```
     pub fn reserve_constraint(&mut self, request: Constraint) -> Result<DeviceSlot> {
-        Ok(DeviceSlot::of(
-            self.0.reserve_constraint(Global, request.0)?,
-        ))
+        let slot = self.0.reserve_constraint(Global, request.0)?;
+        Ok(DeviceSlot::of(slot))
     }
 
     /// Reserves like [`reserve_constraint`](Self::reserve_constraint), but returns an error if memory
@@ -289,9 +280,8 @@ impl DeviceManager {
     /// # Ok::<(), TryError>(())
     /// ```
     pub fn try_reserve_constraint(&mut self, request: Constraint) -> TryResult<DeviceSlot> {
-        Ok(DeviceSlot::of(
-            self.0.reserve_constraint(Global, request.0)?,
-        ))
+        let slot = self.0.reserve_constraint(Global, request.0)?;
+        Ok(DeviceSlot::of(slot))
     }
 
     /// Returns the reason why the range of an `ExactMatch` request is not free, like

@@ -72,9 +72,8 @@ impl IdAllocator {
     /// # Ok::<(), Error>(())
     /// ```
     pub fn new(range_base: u32, range_end: u32) -> Result<Self> {
-        Ok(IdAllocator(proved::IdAllocator::new(
-            Global, range_base, range_end,
-        )?))
+        let made = proved::IdAllocator::new(Global, range_base, range_end)?;
+        Ok(IdAllocator(made))
     }
 
     /// Creates an allocator for the ids from `range_base` to `range_end`, both included, with these ids
@@ -185,7 +184,6 @@ impl IdAllocator {
     /// assert_eq!((lines.allocate_id(), lines.free_count()), (Ok(5), 17));
     /// # Ok::<(), Error>(())
     /// ```
-    #[doc(alias = "reserve_id")]
     pub fn allocate_exact(&mut self, id: u32) -> Result<u32> {
         Ok(self.0.allocate_exact(id)?)
     }
@@ -390,7 +388,7 @@ impl IdAllocator {
     /// assert_eq!(lines.free_id(24), Err(Error::OutOfRange(24)));
     /// # Ok::<(), Error>(())
     /// ```
-    #[doc(alias("release_id", "remove"))]
+    #[doc(alias = "release")]
     pub fn free_id(&mut self, id: u32) -> Result<u32> {
         Ok(self.0.free_id(id)?)
     }

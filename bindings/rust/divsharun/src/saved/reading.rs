@@ -86,11 +86,11 @@ impl<'de> Deserialize<'de> for crate::Constraint {
     fn deserialize<D: Deserializer<'de>>(from: D) -> Result<Self, D::Error> {
         let saved = Request::deserialize(from)?;
         let request = crate::Constraint::new(saved.size, saved.align, saved.policy);
-        let limited = request.and_then(|request| match saved.window {
-            Some(window) => request.within(window),
-            None => Ok(request),
-        });
-        limited.map_err(D::Error::custom)
+        let request = request.map_err(D::Error::custom)?;
+        Ok(crate::Constraint(match saved.window {
+            Some(window) => request.0.within(window),
+            None => request.0,
+        }))
     }
 }
 
@@ -100,7 +100,7 @@ struct Request {
     size: u64,
     align: u64,
     policy: crate::AllocPolicy,
-    window: Option<crate::RangeInclusive>,
+    window: Option<RangeInclusive>,
 }
 
 /// Reads a node with its children, or none. It writes the span to a link, because each result of a
