@@ -232,7 +232,17 @@ impl Constraint {
 /// addresses. These calls take it: [`Constraint::within`],
 /// [`AddressAllocator::held_ranges_in`](crate::AddressAllocator::held_ranges_in),
 /// [`AddressAllocator::gaps_in`](crate::AddressAllocator::gaps_in) and
-/// [`IdAllocator::allocate_in`](crate::IdAllocator::allocate_in).
+/// [`IdAllocator::allocate_in`](crate::IdAllocator::allocate_in). Other crates cannot implement it:
+///
+/// ```compile_fail
+/// struct Below4Gib;
+///
+/// impl divsharun::Window for Below4Gib {
+///     fn limits(&self) -> (u64, u64) {
+///         (0, 0xffff_ffff)
+///     }
+/// }
+/// ```
 ///
 /// # Example
 ///
@@ -248,10 +258,18 @@ impl Constraint {
     message = "`{Self}` is not a window",
     note = "a window is a range of `{T}`, such as `..=max` or `base..`"
 )]
-pub trait Window<T = u64> {
+pub trait Window<T = u64>: sealed::Sealed<T> {
     /// Returns the first and the last number. 0 is no lower limit, and `T::MAX` no upper limit. If there
     /// is no number, the last one is below the first.
     fn limits(&self) -> (T, T);
+}
+
+mod sealed {
+    pub trait Sealed<T> {}
+
+    impl<T, R: core::ops::RangeBounds<T>> Sealed<T> for R {}
+    impl Sealed<u64> for crate::RangeInclusive {}
+    impl Sealed<u64> for &crate::RangeInclusive {}
 }
 
 macro_rules! windows {

@@ -154,12 +154,13 @@
 //!
 //! # Saved values
 //!
-//! Read an address allocator that this crate saved as `Strict<AddressAllocator>`, for which a missing
-//! subtree is an error. `Strict` can be a field, or be in an `Option`, a list or a map.
+//! `Strict<AddressAllocator>` reads what this crate saved, and a missing subtree is an error. It can be a
+//! field, or be in an `Option`, a list or a map.
 //!
 //! The `Deserialize` of an [`AddressAllocator`] repairs the trees that bugs of `vm-allocator` led to. It
-//! reads missing nodes as gaps, so allocated ranges can be missing without an error. A check that needs
-//! neither reader compares the space with the ranges that the monitor knows, in ascending order:
+//! reads missing nodes as gaps, so allocated ranges can be missing without an error.
+//!
+//! A monitor that knows its ranges can check the result of either reader:
 //! `AddressAllocator::with_held(base, size, &sorted)? == space`.
 //!
 //! Ranges, states, address allocators and id allocators have the fields of `vm-allocator` in the same
