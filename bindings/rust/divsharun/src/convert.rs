@@ -1,7 +1,7 @@
 //! Converts values and errors of the proved code to those of callers.
 //!
-//! The messages of rustc to a caller list the impls of `From` for a public type. `do_not_recommend` leaves these
-//! out, except the only impl of a type. Such types implement `Into` for the proved type instead.
+//! The messages of rustc list the impls of `From` for a public type. `do_not_recommend` leaves an impl out,
+//! unless it is the only one. Such a conversion is an impl of `Into` for the proved type instead.
 #![allow(clippy::from_over_into)]
 
 use crate::error::{ListResult, TryListResult};

@@ -165,7 +165,8 @@
 //!
 //! Ranges, states, address allocators and id allocators have the fields of `vm-allocator` in the same
 //! order. So either crate reads what the other wrote, in every format that writes `None`. TOML leaves it
-//! out, so a tree, and ids without a next one, cannot be read from it.
+//! out, so a tree, and ids without a next one, cannot be read from it. A [`Constraint`] is saved with its
+//! window, and read only if [`Constraint::new`] accepts it.
 //!
 //! The tree of an address allocator is written balanced. Its shape depends only on the space and the
 //! allocated ranges, so equal address allocators have the same bytes. A [`DeviceManager`] is saved as
