@@ -1,7 +1,6 @@
 //! Reads objects with serde. Fields can come in any order, and are checked as they come.
 
 use super::conditions::text_of;
-use super::Strict;
 use crate::proved::vm_allocator::{
     AddressAllocator, IdAllocator, RangeInclusive, ReadIds, ReadNodes, SavedError, Span,
 };
@@ -75,7 +74,7 @@ impl<'de> Deserialize<'de> for AddressAllocator {
     }
 }
 
-impl<'de> Deserialize<'de> for Strict<crate::AddressAllocator> {
+impl<'de> Deserialize<'de> for crate::Strict<crate::AddressAllocator> {
     fn deserialize<D: Deserializer<'de>>(from: D) -> Result<Self, D::Error> {
         let allocator = Space::deserialize(from)?.allocator(AddressAllocator::from_nodes)?;
         Ok(crate::AddressAllocator(allocator).into())
