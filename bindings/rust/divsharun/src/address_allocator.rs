@@ -1,11 +1,12 @@
 // SPDX-License-Identifier: Apache-2.0 OR BSD-3-Clause
-use crate::convert::unless_list_out_of_memory;
+use crate::convert::{out_of_memory, unless_list_out_of_memory};
 use crate::error::{ListResult, TryListResult, TryResult};
 use crate::objects::{allocator, iterate, DebugList};
 use crate::proved::vm_allocator as proved;
 use crate::rattle::Global;
 use crate::{
     AllocPolicy, Conflict, Constraint, Error, Layout, ListError, RangeInclusive, Result, TryError,
+    Window,
 };
 use alloc::vec::Vec;
 use core::fmt;
@@ -64,9 +65,8 @@ impl AddressAllocator {
     /// # Ok::<(), Error>(())
     /// ```
     pub fn new(base: u64, size: u64) -> Result<Self> {
-        Ok(AddressAllocator(proved::AddressAllocator::new(
-            Global, base, size,
-        )?))
+        let made = proved::AddressAllocator::new(Global, base, size)?;
+        Ok(AddressAllocator(made))
     }
 
     /// Creates an allocator like [`new`](Self::new), but returns an error if memory runs out.
@@ -92,9 +92,52 @@ impl AddressAllocator {
     /// # Ok::<(), TryError>(())
     /// ```
     pub fn try_new(base: u64, size: u64) -> TryResult<Self> {
-        Ok(AddressAllocator(proved::AddressAllocator::new(
-            Global, base, size,
-        )?))
+        let made = proved::AddressAllocator::new(Global, base, size)?;
+        Ok(AddressAllocator(made))
+    }
+
+    /// Creates an allocator for the addresses of a range, such as the window of a bridge. All of them
+    /// are free.
+    ///
+    /// # Example
+    ///
+    /// ```rust
+    /// use divsharun::{AddressAllocator, AllocPolicy};
+    ///
+    /// let mut mmio = AddressAllocator::new(0xc000_0000, 0x3ec0_0000)?;
+    /// let window = mmio.allocate(0x200_0000, 0x10_0000, AllocPolicy::FirstMatch)?;
+    /// let mut bridge = AddressAllocator::over(window);
+    /// assert_eq!(bridge.space(), window);
+    ///
+    /// let bar = bridge.allocate(0x1000, 0x1000, AllocPolicy::FirstMatch)?;
+    /// assert!(window.contains(&bar));
+    /// # Ok::<(), divsharun::Error>(())
+    /// ```
+    #[must_use]
+    pub fn over(space: RangeInclusive) -> Self {
+        Self::try_over(space).unwrap_or_else(|_| out_of_memory())
+    }
+
+    /// Creates an allocator like [`over`](Self::over), but returns an error if memory runs out.
+    ///
+    /// # Errors
+    ///
+    /// - `OutOfMemory` if memory for the node runs out.
+    ///
+    /// # Example
+    ///
+    /// ```rust
+    /// use divsharun::{AddressAllocator, RangeInclusive, TryError};
+    ///
+    /// let window = RangeInclusive::from_start_len(0xc000, 0x1000)?;
+    /// match AddressAllocator::try_over(window) {
+    ///     Ok(ports) => assert!(ports.gaps().eq([window])),
+    ///     Err(error) => assert_eq!(error, TryError::OutOfMemory),
+    /// }
+    /// # Ok::<(), TryError>(())
+    /// ```
+    pub fn try_over(space: RangeInclusive) -> TryResult<Self> {
+        Self::try_new(space.start(), space.len())
     }
 
     /// Creates an allocator for the `size` addresses starting at `base`, with these ranges
@@ -166,8 +209,8 @@ impl AddressAllocator {
     /// ```
     pub fn try_with_held(base: u64, size: u64, held: &[RangeInclusive]) -> TryListResult<Self> {
         let ranges = converted(held, |range| range.0)?;
-        let made = proved::AddressAllocator::with_held(Global, base, size, &ranges)?;
-        Ok(AddressAllocator(made))
+        let made = proved::AddressAllocator::with_held(Global, base, size, &ranges);
+        made.map(AddressAllocator).map_err(Into::into)
     }
 
     /// Creates an allocator in which exactly these ranges are free. They must be in ascending order,
@@ -236,9 +279,8 @@ impl AddressAllocator {
     /// ```
     pub fn try_with_free(free: &[RangeInclusive]) -> TryListResult<Self> {
         let ranges = converted(free, |range| range.0)?;
-        Ok(AddressAllocator(proved::AddressAllocator::with_free(
-            Global, &ranges,
-        )?))
+        let made = proved::AddressAllocator::with_free(Global, &ranges);
+        made.map(AddressAllocator).map_err(Into::into)
     }
 
     /// Allocates `size` free addresses that start at a multiple of `alignment`, and returns their
@@ -276,18 +318,15 @@ impl AddressAllocator {
     /// assert_eq!(mmio.allocate(0x1000, 0x1000, exact), Err(Error::ResourceNotAvailable));
     /// # Ok::<(), Error>(())
     /// ```
+    #[doc(alias("alloc", "reserve_range"))]
     pub fn allocate(
         &mut self,
         size: u64,
         alignment: u64,
         policy: AllocPolicy,
     ) -> Result<RangeInclusive> {
-        Ok(RangeInclusive(self.0.allocate(
-            Global,
-            size,
-            alignment,
-            policy.proved(),
-        )?))
+        let range = self.0.allocate(Global, size, alignment, policy.proved())?;
+        Ok(RangeInclusive(range))
     }
 
     /// Allocates a range like [`allocate`](Self::allocate), but returns an error if memory
@@ -321,12 +360,8 @@ impl AddressAllocator {
         alignment: u64,
         policy: AllocPolicy,
     ) -> TryResult<RangeInclusive> {
-        Ok(RangeInclusive(self.0.allocate(
-            Global,
-            size,
-            alignment,
-            policy.proved(),
-        )?))
+        let range = self.0.allocate(Global, size, alignment, policy.proved())?;
+        Ok(RangeInclusive(range))
     }
 
     /// Allocates a range like [`allocate`](Self::allocate), for a request that was made before.
@@ -366,9 +401,8 @@ impl AddressAllocator {
     /// # Ok::<(), Error>(())
     /// ```
     pub fn allocate_constraint(&mut self, request: Constraint) -> Result<RangeInclusive> {
-        Ok(RangeInclusive(
-            self.0.allocate_constraint(Global, request.0)?,
-        ))
+        let range = self.0.allocate_constraint(Global, request.0)?;
+        Ok(RangeInclusive(range))
     }
 
     /// Allocates a range like [`allocate_constraint`](Self::allocate_constraint), but returns an
@@ -397,9 +431,8 @@ impl AddressAllocator {
     /// # Ok::<(), TryError>(())
     /// ```
     pub fn try_allocate_constraint(&mut self, request: Constraint) -> TryResult<RangeInclusive> {
-        Ok(RangeInclusive(
-            self.0.allocate_constraint(Global, request.0)?,
-        ))
+        let range = self.0.allocate_constraint(Global, request.0)?;
+        Ok(RangeInclusive(range))
     }
 
     /// Returns the reason why the range of an `ExactMatch` request is not free. Returns `None` if the
@@ -427,7 +460,7 @@ impl AddressAllocator {
     /// ```
     #[must_use]
     pub fn conflict(&self, request: Constraint) -> Option<Conflict> {
-        self.0.conflict(request.0).map(Conflict::from)
+        self.0.conflict(request.0).map(Into::into)
     }
 
     /// Moves an allocated range to the place of a request, and returns the range there. A guest does
@@ -466,14 +499,14 @@ impl AddressAllocator {
     /// assert!(mmio.held_ranges().eq([larger]));
     /// # Ok::<(), Error>(())
     /// ```
+    #[doc(alias = "resize")]
     pub fn move_constraint(
         &mut self,
         key: &RangeInclusive,
         request: Constraint,
     ) -> Result<RangeInclusive> {
-        Ok(RangeInclusive(
-            self.0.move_constraint(Global, &key.0, request.0)?,
-        ))
+        let range = self.0.move_constraint(Global, &key.0, request.0)?;
+        Ok(RangeInclusive(range))
     }
 
     /// Moves a range like [`move_constraint`](Self::move_constraint), but returns an error if memory
@@ -506,9 +539,8 @@ impl AddressAllocator {
         key: &RangeInclusive,
         request: Constraint,
     ) -> TryResult<RangeInclusive> {
-        Ok(RangeInclusive(
-            self.0.move_constraint(Global, &key.0, request.0)?,
-        ))
+        let range = self.0.move_constraint(Global, &key.0, request.0)?;
+        Ok(RangeInclusive(range))
     }
 
     /// Moves an allocated range to another start, and returns the range there.
@@ -525,7 +557,8 @@ impl AddressAllocator {
     /// - `ResourceNotAvailable` if `start` is outside the space.
     /// - `Overflow` if the new range would end past `u64::MAX`.
     /// - `InvalidStateTransition` if exactly the new range is already allocated.
-    /// - `ResourceNotAvailable` if an address of the new range is not free. Those of `key` are not.
+    /// - `ResourceNotAvailable` if an address of the new range is not free. The addresses of `key` count as
+    ///   allocated.
     /// - `Overflow` if the new range ends at `u64::MAX`.
     /// - `Overflow` if the new range fills only a part of its gap and the number of allocated ranges is at
     ///   the limit of [`allocate`](Self::allocate).
@@ -651,7 +684,8 @@ impl AddressAllocator {
         // Nothing can fail after the allocation of the ranges.
         let mut ranges = list_for(requests.len())?;
         let requests = converted(requests, |request| request.0)?;
-        let allocated = self.0.allocate_all(Global, &requests)?;
+        let allocated = self.0.allocate_all(Global, &requests);
+        let allocated = allocated.map_err(Into::into)?;
         ranges.extend(allocated.iter().map(|range| RangeInclusive(*range)));
         Ok(ranges)
     }
@@ -756,6 +790,7 @@ impl AddressAllocator {
     /// assert_eq!(mmio.held_at(bar.start()), None);
     /// # Ok::<(), Error>(())
     /// ```
+    #[doc(alias("release", "remove"))]
     pub fn free(&mut self, key: &RangeInclusive) -> Result<()> {
         Ok(self.0.free(&key.0)?)
     }
@@ -821,6 +856,24 @@ impl AddressAllocator {
         self.0.end()
     }
 
+    /// Returns the space: the range of all addresses, free or allocated.
+    ///
+    /// # Example
+    ///
+    /// ```rust
+    /// use divsharun::{AddressAllocator, RangeInclusive};
+    ///
+    /// let mmio = AddressAllocator::new(0xe000_0000, 0x1ec0_0000)?;
+    /// let firmware = RangeInclusive::from_start_len(0xffc0_0000, 0x40_0000)?;
+    /// assert_eq!(mmio.space().to_string(), "e0000000-febfffff");
+    /// assert!(!mmio.space().overlaps(&firmware));
+    /// # Ok::<(), divsharun::Error>(())
+    /// ```
+    #[must_use]
+    pub fn space(&self) -> RangeInclusive {
+        space_of(&self.0)
+    }
+
     /// Returns an iterator over the allocated ranges, like [`held_ranges`](Self::held_ranges).
     ///
     /// # Example
@@ -856,16 +909,18 @@ impl AddressAllocator {
     /// assert_eq!((ranges.next(), ranges.next(), ranges.next()), (Some(low), Some(high), None));
     /// # Ok::<(), divsharun::Error>(())
     /// ```
+    #[doc(alias = "allocated_ranges")]
     #[must_use]
     pub fn held_ranges(&self) -> HeldRanges<'_> {
         HeldRanges(self.0.held_ranges())
     }
 
-    /// Returns an iterator over the allocated ranges that have an address in common with `range`, in
+    /// Returns an iterator over the allocated ranges that have an address in common with a window, in
     /// ascending order.
     ///
-    /// Each range is returned whole. If `range` is in the space, it is free if and only if there is no
-    /// item. It walks one path of the tree for each end of `range` and does not allocate.
+    /// The window is a range of `u64` or a [`RangeInclusive`]. Each range is returned whole. If the window
+    /// is in the space, it is free if and only if there is no item. It walks one path of the tree for each
+    /// end of the window and does not allocate.
     ///
     /// # Example
     ///
@@ -880,12 +935,13 @@ impl AddressAllocator {
     /// let exact = AllocPolicy::ExactMatch(window.start());
     /// let failed = mmio.allocate(window.len(), 1, exact);
     /// assert_eq!(failed, Err(Error::ResourceNotAvailable));
-    /// assert!(mmio.held_ranges_in(&window).eq([device]));
+    /// assert!(mmio.held_ranges_in(window).eq([device]));
     /// # Ok::<(), divsharun::Error>(())
     /// ```
+    #[doc(alias("is_free", "overlapping"))]
     #[must_use]
-    pub fn held_ranges_in(&self, range: &RangeInclusive) -> HeldRangesIn<'_> {
-        HeldRangesIn(self.0.held_ranges_in(&range.0))
+    pub fn held_ranges_in(&self, window: impl Window) -> HeldRangesIn<'_> {
+        HeldRangesIn(self.0.held_ranges_in(&part_of(self.space(), window).0))
     }
 
     /// Returns `true` if exactly this range is allocated. A part of an allocated range is not.
@@ -903,6 +959,7 @@ impl AddressAllocator {
     /// assert!(!ports.holds(&RangeInclusive::new(0x2f8, 0x2fb)?));
     /// # Ok::<(), divsharun::Error>(())
     /// ```
+    #[doc(alias("contains", "is_allocated"))]
     #[must_use]
     pub fn holds(&self, key: &RangeInclusive) -> bool {
         self.0.holds(&key.0)
@@ -924,6 +981,7 @@ impl AddressAllocator {
     /// assert_eq!(mmio.held_at(0xd000_1000), None);
     /// # Ok::<(), divsharun::Error>(())
     /// ```
+    #[doc(alias("find", "get"))]
     #[must_use]
     pub fn held_at(&self, address: u64) -> Option<RangeInclusive> {
         self.0.held_at(address).map(RangeInclusive)
@@ -946,33 +1004,34 @@ impl AddressAllocator {
     /// assert_eq!((ports.longest_gap(), ports.free_len()), (0xb0, 0xf0));
     /// # Ok::<(), divsharun::Error>(())
     /// ```
+    #[doc(alias("free_ranges", "holes"))]
     #[must_use]
     pub fn gaps(&self) -> Gaps<'_> {
         Gaps(self.0.gaps())
     }
 
-    /// Returns an iterator over the gaps that have an address in common with `range`, in ascending
+    /// Returns an iterator over the gaps that have an address in common with a window, in ascending
     /// order.
     ///
-    /// Each gap is returned whole. It walks one path of the tree for each end of `range` and does not
-    /// allocate.
+    /// The window is a range of `u64` or a [`RangeInclusive`]. Each gap is returned whole. It walks one
+    /// path of the tree for each end of the window and does not allocate.
     ///
     /// # Example
     ///
     /// ```rust
-    /// use divsharun::{AddressAllocator, AllocPolicy, RangeInclusive};
+    /// use divsharun::{AddressAllocator, AllocPolicy};
     ///
     /// let mut ports = AddressAllocator::new(0, 0x100)?;
     /// ports.allocate(0x10, 1, AllocPolicy::ExactMatch(0x40))?;
     /// ports.allocate(0x10, 1, AllocPolicy::ExactMatch(0x60))?;
-    /// let window = RangeInclusive::new(0x48, 0x5f)?;
-    /// let gaps: Vec<_> = ports.gaps_in(&window).map(|gap| gap.to_string()).collect();
+    /// let gaps: Vec<_> = ports.gaps_in(0x48..0x60).map(|gap| gap.to_string()).collect();
     /// assert_eq!(gaps, ["50-5f"]);
+    /// assert_eq!(ports.gaps_in(0x48..).count(), 2);
     /// # Ok::<(), divsharun::Error>(())
     /// ```
     #[must_use]
-    pub fn gaps_in(&self, range: &RangeInclusive) -> GapsIn<'_> {
-        GapsIn(self.0.gaps_in(&range.0))
+    pub fn gaps_in(&self, window: impl Window) -> GapsIn<'_> {
+        GapsIn(self.0.gaps_in(&part_of(self.space(), window).0))
     }
 
     /// Returns the gap that contains the address, or `None` if the address is allocated or outside
@@ -1016,6 +1075,7 @@ impl AddressAllocator {
     /// assert_eq!(mmio.allocate(longest, 1, AllocPolicy::FirstMatch)?.start(), 0xd400_1000);
     /// # Ok::<(), Error>(())
     /// ```
+    #[doc(alias = "largest_gap")]
     #[must_use]
     pub fn longest_gap(&self) -> u64 {
         self.0.longest_gap()
@@ -1058,6 +1118,7 @@ impl AddressAllocator {
     /// assert_eq!(mmio.free_len(), 0xf_7000);
     /// # Ok::<(), divsharun::Error>(())
     /// ```
+    #[doc(alias("free_space", "available"))]
     #[must_use]
     pub fn free_len(&self) -> u64 {
         self.0.free_len()
@@ -1078,6 +1139,7 @@ impl AddressAllocator {
     /// assert_eq!(mmio.held_count(), 32);
     /// # Ok::<(), divsharun::Error>(())
     /// ```
+    #[doc(alias("allocated_count", "is_empty", "len"))]
     #[must_use]
     pub fn held_count(&self) -> u64 {
         self.0.held_count()
@@ -1148,6 +1210,21 @@ impl AddressAllocator {
     pub fn try_clone(&self) -> TryResult<Self> {
         Ok(AddressAllocator(self.0.try_clone(Global)?))
     }
+}
+
+/// Returns the space of an allocator of the proved code.
+pub(crate) fn space_of(allocator: &proved::AddressAllocator) -> RangeInclusive {
+    let space = RangeInclusive::new(allocator.base(), allocator.end());
+    space.expect("a space never has all 2^64 addresses")
+}
+
+/// Returns the part of a window in a space, or an address outside the space if there is none.
+fn part_of(space: RangeInclusive, window: impl Window) -> RangeInclusive {
+    let (low, high) = window.limits();
+    let part = RangeInclusive::new(low.max(space.start()), high.min(space.end()));
+    let outside = space.end().wrapping_add(1);
+    part.or(RangeInclusive::new(outside, outside))
+        .expect("one address is a range")
 }
 
 /// Returns a list of converted items.

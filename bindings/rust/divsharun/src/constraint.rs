@@ -227,10 +227,14 @@ impl Constraint {
     }
 }
 
-/// The window of a request: a range of addresses, with or without a limit at each end.
+/// The window of a request or of a query: a range of addresses, or of ids with `u32`, with or without a
+/// limit at each end.
 ///
-/// Each range of `u64` is one, such as `..=max` and `base..`, and so is a [`RangeInclusive`].
-/// [`Constraint::within`] takes it. Other crates cannot implement it:
+/// Each range of these numbers is one, such as `..=max` and `base..`, and so is a [`RangeInclusive`] of
+/// addresses. These calls take it: [`Constraint::within`],
+/// [`AddressAllocator::held_ranges_in`](crate::AddressAllocator::held_ranges_in),
+/// [`AddressAllocator::gaps_in`](crate::AddressAllocator::gaps_in) and
+/// [`IdAllocator::allocate_in`](crate::IdAllocator::allocate_in). Other crates cannot implement it:
 ///
 /// ```compile_fail
 /// struct Below4Gib;
@@ -252,36 +256,46 @@ impl Constraint {
 /// assert_eq!(RangeInclusive::new(0x3f8, 0x3ff)?.limits(), (0x3f8, 0x3ff));
 /// # Ok::<(), divsharun::Error>(())
 /// ```
-pub trait Window: sealed::Sealed {
-    /// Returns the first and the last address. 0 is no lower limit, and `u64::MAX` no upper limit. If
-    /// there is no address, the last one is below the first.
-    fn limits(&self) -> (u64, u64);
+#[diagnostic::on_unimplemented(
+    message = "`{Self}` is not a window",
+    note = "a window is a range of `{T}`, such as `..=max` or `base..`"
+)]
+pub trait Window<T = u64>: sealed::Sealed<T> {
+    /// Returns the first and the last number. 0 is no lower limit, and `T::MAX` no upper limit. If there
+    /// is no number, the last one is below the first.
+    fn limits(&self) -> (T, T);
 }
 
 mod sealed {
-    pub trait Sealed {}
+    pub trait Sealed<T> {}
 
-    impl<R: core::ops::RangeBounds<u64>> Sealed for R {}
-    impl Sealed for crate::RangeInclusive {}
-    impl Sealed for &crate::RangeInclusive {}
+    impl<T, R: core::ops::RangeBounds<T>> Sealed<T> for R {}
+    impl Sealed<u64> for crate::RangeInclusive {}
+    impl Sealed<u64> for &crate::RangeInclusive {}
 }
 
-impl<R: RangeBounds<u64>> Window for R {
-    fn limits(&self) -> (u64, u64) {
-        let low = match self.start_bound() {
-            Bound::Unbounded => Some(0),
-            Bound::Included(low) => Some(*low),
-            Bound::Excluded(below) => below.checked_add(1),
-        };
-        let high = match self.end_bound() {
-            Bound::Unbounded => Some(u64::MAX),
-            Bound::Included(high) => Some(*high),
-            Bound::Excluded(above) => above.checked_sub(1),
-        };
-        // No address is above `u64::MAX` or below 0.
-        low.zip(high).unwrap_or((1, 0))
-    }
+macro_rules! windows {
+    ($($number:ty),+) => {$(
+        impl<R: RangeBounds<$number>> Window<$number> for R {
+            fn limits(&self) -> ($number, $number) {
+                let low = match self.start_bound() {
+                    Bound::Unbounded => Some(0),
+                    Bound::Included(low) => Some(*low),
+                    Bound::Excluded(below) => below.checked_add(1),
+                };
+                let high = match self.end_bound() {
+                    Bound::Unbounded => Some(<$number>::MAX),
+                    Bound::Included(high) => Some(*high),
+                    Bound::Excluded(above) => above.checked_sub(1),
+                };
+                // No number is above the maximum or below 0.
+                low.zip(high).unwrap_or((1, 0))
+            }
+        }
+    )+};
 }
+
+windows! { u64, u32 }
 
 // The fields of the proved range are private, so it cannot have references to its ends, as
 // `RangeBounds` requires.

@@ -1,5 +1,9 @@
 // SPDX-License-Identifier: Apache-2.0 OR BSD-3-Clause
 //! Converts values and errors of the proved code to those of callers.
+//!
+//! The messages of rustc list the impls of `From` for a public type. `do_not_recommend` leaves an impl out,
+//! unless it is the only one. Such a conversion is an impl of `Into` for the proved type instead.
+#![allow(clippy::from_over_into)]
 
 use crate::error::{ListResult, TryListResult};
 use crate::proved::vm_allocator as proved;
@@ -10,6 +14,7 @@ use crate::{AddressAllocator, Conflict, Error, ListError, NodeState, RangeInclus
 macro_rules! convert_variants {
     ($public:ident, $proved:ty:
         $($variant:ident $(($($field:ident),+))?),+ $(; $other:ident => $value:expr)?) => {
+        #[diagnostic::do_not_recommend]
         impl From<$proved> for $public {
             fn from(value: $proved) -> Self {
                 type Proved = $proved;
@@ -35,9 +40,6 @@ macro_rules! convert_variants {
 }
 
 convert_variants! { NodeState, proved::allocation_engine::NodeState: Free, Allocated }
-convert_variants! {
-    Conflict, proved::Conflict: OutsideSpace(space), OutsideWindow(window), Allocated(range)
-}
 // If memory ran out, the process ends, as with Rust's collections.
 convert_variants! {
     Error, proved::Error:
@@ -47,9 +49,9 @@ convert_variants! {
     OutOfMemory => out_of_memory()
 }
 
-impl From<proved::RangeInclusive> for RangeInclusive {
-    fn from(range: proved::RangeInclusive) -> Self {
-        RangeInclusive(range)
+impl Into<RangeInclusive> for proved::RangeInclusive {
+    fn into(self) -> RangeInclusive {
+        RangeInclusive(self)
     }
 }
 
@@ -59,6 +61,17 @@ impl From<RangeInclusive> for proved::RangeInclusive {
     }
 }
 
+impl Into<Conflict> for proved::Conflict {
+    fn into(self) -> Conflict {
+        match self {
+            proved::Conflict::OutsideSpace(space) => Conflict::OutsideSpace(space.into()),
+            proved::Conflict::OutsideWindow(window) => Conflict::OutsideWindow(window.into()),
+            proved::Conflict::Allocated(range) => Conflict::Allocated(range.into()),
+        }
+    }
+}
+
+#[diagnostic::do_not_recommend]
 impl From<proved::Error> for TryError {
     fn from(error: proved::Error) -> Self {
         match error {
@@ -68,10 +81,12 @@ impl From<proved::Error> for TryError {
     }
 }
 
-impl From<proved::ListError> for ListError<TryError> {
-    fn from(proved::ListError { index, error }: proved::ListError) -> Self {
-        let error = error.into();
-        ListError { index, error }
+impl Into<ListError<TryError>> for proved::ListError {
+    fn into(self) -> ListError<TryError> {
+        ListError {
+            index: self.index,
+            error: self.error.into(),
+        }
     }
 }
 

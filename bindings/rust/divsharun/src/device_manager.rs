@@ -1,5 +1,5 @@
 // SPDX-License-Identifier: Apache-2.0 OR BSD-3-Clause
-use crate::address_allocator::ShortDebug;
+use crate::address_allocator::{space_of, ShortDebug};
 use crate::error::TryResult;
 use crate::objects::{allocator, iterate, DebugList};
 use crate::proved::vm_devices as proved;
@@ -170,10 +170,10 @@ impl DeviceManager {
     /// # Errors
     ///
     /// An error leaves ids, ranges and devices unchanged. In this order:
-    /// - `Overflow` or `ResourceNotAvailable` if all ids are allocated, as of
+    /// - `Overflow` or `ResourceNotAvailable` if all ids are allocated, as for
     ///   [`IdAllocator::allocate_id`](crate::IdAllocator::allocate_id).
     /// - `InvalidSize`, `InvalidAlignment`, `UnalignedAddress`, `Overflow`, `ResourceNotAvailable`
-    ///   or `InvalidStateTransition`, as of
+    ///   or `InvalidStateTransition`, as for
     ///   [`AddressAllocator::allocate`](crate::AddressAllocator::allocate).
     ///
     /// # Example
@@ -191,13 +191,10 @@ impl DeviceManager {
     /// assert_eq!(third, Err(Error::ResourceNotAvailable));
     /// # Ok::<(), Error>(())
     /// ```
+    #[doc(alias("allocate", "add", "insert"))]
     pub fn reserve(&mut self, size: u64, align: u64, policy: AllocPolicy) -> Result<DeviceSlot> {
-        Ok(DeviceSlot::of(self.0.reserve(
-            Global,
-            size,
-            align,
-            policy.proved(),
-        )?))
+        let slot = self.0.reserve(Global, size, align, policy.proved())?;
+        Ok(DeviceSlot::of(slot))
     }
 
     /// Reserves like [`reserve`](Self::reserve), but returns an error if memory runs out.
@@ -228,12 +225,8 @@ impl DeviceManager {
         align: u64,
         policy: AllocPolicy,
     ) -> TryResult<DeviceSlot> {
-        Ok(DeviceSlot::of(self.0.reserve(
-            Global,
-            size,
-            align,
-            policy.proved(),
-        )?))
+        let slot = self.0.reserve(Global, size, align, policy.proved())?;
+        Ok(DeviceSlot::of(slot))
     }
 
     /// Reserves like [`reserve`](Self::reserve), for a request that was made before. If the request
@@ -242,9 +235,9 @@ impl DeviceManager {
     /// # Errors
     ///
     /// An error leaves ids, ranges and devices unchanged. In this order:
-    /// - `Overflow` or `ResourceNotAvailable` if all ids are allocated, as of
+    /// - `Overflow` or `ResourceNotAvailable` if all ids are allocated, as for
     ///   [`IdAllocator::allocate_id`](crate::IdAllocator::allocate_id).
-    /// - `Overflow`, `ResourceNotAvailable` or `InvalidStateTransition`, as of
+    /// - `Overflow`, `ResourceNotAvailable` or `InvalidStateTransition`, as for
     ///   [`AddressAllocator::allocate_constraint`](crate::AddressAllocator::allocate_constraint).
     ///
     /// # Example
@@ -259,9 +252,8 @@ impl DeviceManager {
     /// # Ok::<(), divsharun::Error>(())
     /// ```
     pub fn reserve_constraint(&mut self, request: Constraint) -> Result<DeviceSlot> {
-        Ok(DeviceSlot::of(
-            self.0.reserve_constraint(Global, request.0)?,
-        ))
+        let slot = self.0.reserve_constraint(Global, request.0)?;
+        Ok(DeviceSlot::of(slot))
     }
 
     /// Reserves like [`reserve_constraint`](Self::reserve_constraint), but returns an error if memory
@@ -289,9 +281,8 @@ impl DeviceManager {
     /// # Ok::<(), TryError>(())
     /// ```
     pub fn try_reserve_constraint(&mut self, request: Constraint) -> TryResult<DeviceSlot> {
-        Ok(DeviceSlot::of(
-            self.0.reserve_constraint(Global, request.0)?,
-        ))
+        let slot = self.0.reserve_constraint(Global, request.0)?;
+        Ok(DeviceSlot::of(slot))
     }
 
     /// Returns the reason why the range of an `ExactMatch` request is not free, like
@@ -312,7 +303,7 @@ impl DeviceManager {
     /// ```
     #[must_use]
     pub fn conflict(&self, request: Constraint) -> Option<Conflict> {
-        self.0.conflict(request.0).map(Conflict::from)
+        self.0.conflict(request.0).map(Into::into)
     }
 
     /// Releases a device: frees its id and its range.
@@ -333,6 +324,7 @@ impl DeviceManager {
     /// assert_eq!(devices.release(2), Err(Error::NeverAllocated(2)));
     /// # Ok::<(), Error>(())
     /// ```
+    #[doc(alias("free", "remove"))]
     pub fn release(&mut self, id: u32) -> Result<()> {
         Ok(self.0.release(id)?)
     }
@@ -417,9 +409,27 @@ impl DeviceManager {
     /// assert_eq!(devices.device_count(), 1);
     /// # Ok::<(), divsharun::Error>(())
     /// ```
+    #[doc(alias("is_empty", "len"))]
     #[must_use]
     pub fn device_count(&self) -> u64 {
         self.0.device_count()
+    }
+
+    /// Returns the range of all addresses, free or allocated.
+    ///
+    /// # Example
+    ///
+    /// ```rust
+    /// use divsharun::{AllocPolicy, DeviceManager};
+    ///
+    /// let mut devices = DeviceManager::new(5, 23, 0xa00_0000, 0x4000)?;
+    /// let last = devices.reserve(0x200, 0x200, AllocPolicy::LastMatch)?;
+    /// assert_eq!(devices.space().end(), last.range.end());
+    /// # Ok::<(), divsharun::Error>(())
+    /// ```
+    #[must_use]
+    pub fn space(&self) -> RangeInclusive {
+        space_of(self.0.addresses())
     }
 
     /// Returns the device whose range contains the address, or `None` if there is none.
@@ -438,6 +448,7 @@ impl DeviceManager {
     /// assert!(devices.devices().eq([disk]));
     /// # Ok::<(), divsharun::Error>(())
     /// ```
+    #[doc(alias = "find")]
     #[must_use]
     pub fn device_at(&self, address: u64) -> Option<DeviceSlot> {
         self.0.device_at(address).map(DeviceSlot::of)
@@ -483,6 +494,7 @@ impl DeviceManager {
     /// assert_eq!(devices.slot(6), None);
     /// # Ok::<(), divsharun::Error>(())
     /// ```
+    #[doc(alias = "get")]
     #[must_use]
     pub fn slot(&self, id: u32) -> Option<RangeInclusive> {
         self.0.slot(id).map(RangeInclusive)

@@ -3,7 +3,7 @@ use crate::error::TryResult;
 use crate::objects::{allocator, iterate};
 use crate::proved::vm_allocator as proved;
 use crate::rattle::Global;
-use crate::Result;
+use crate::{Result, Window};
 use alloc::vec::Vec;
 use core::{convert, fmt};
 
@@ -17,7 +17,7 @@ use core::{convert, fmt};
 /// ```rust
 /// use divsharun::{Error, IdAllocator};
 ///
-/// // The interrupt lines that are left to devices.
+/// // The interrupt lines that are left for devices.
 /// let mut lines = IdAllocator::new(5, 23)?;
 /// assert_eq!((lines.allocate_id()?, lines.allocate_id()?), (5, 6));
 ///
@@ -73,9 +73,8 @@ impl IdAllocator {
     /// # Ok::<(), Error>(())
     /// ```
     pub fn new(range_base: u32, range_end: u32) -> Result<Self> {
-        Ok(IdAllocator(proved::IdAllocator::new(
-            Global, range_base, range_end,
-        )?))
+        let made = proved::IdAllocator::new(Global, range_base, range_end)?;
+        Ok(IdAllocator(made))
     }
 
     /// Creates an allocator for the ids from `range_base` to `range_end`, both included, with these ids
@@ -165,8 +164,8 @@ impl IdAllocator {
 
     /// Allocates this id and returns it.
     ///
-    /// The ids of the range below it count as allocated before. Those that never were become freed ids,
-    /// and time and memory are linear in their number. It does not allocate memory if there are none.
+    /// Unused ids below it become freed ids, as if they had been allocated and freed. Time and memory are
+    /// linear in their number. It does not allocate memory if there are none.
     ///
     /// # Errors
     ///
@@ -217,7 +216,7 @@ impl IdAllocator {
         Ok(self.0.allocate_exact(id)?)
     }
 
-    /// Allocates the lowest free id from `first` to `last`, both included, and returns it.
+    /// Allocates the lowest free id in a window, which is a range of `u32`, and returns it.
     ///
     /// The id is found in logarithmic time. Ids below it that were never allocated become freed ids, as
     /// in [`allocate_exact`](Self::allocate_exact).
@@ -225,8 +224,9 @@ impl IdAllocator {
     /// # Errors
     ///
     /// An error changes nothing. In this order:
-    /// - `InvalidRange(first, last)` if `last` is less than `first`.
-    /// - `ResourceNotAvailable` if no id from `first` to `last` is in the range and free.
+    /// - `InvalidRange(first, last)` if the last id of the window is less than the first, as for
+    ///   [`Constraint::within`](crate::Constraint::within).
+    /// - `ResourceNotAvailable` if no id of the window is free.
     ///
     /// # Example
     ///
@@ -234,13 +234,14 @@ impl IdAllocator {
     /// use divsharun::{Error, IdAllocator};
     ///
     /// let mut lines = IdAllocator::new(5, 23)?;
-    /// assert_eq!(lines.allocate_in(16, 17), Ok(16));
-    /// assert_eq!(lines.allocate_in(16, 17), Ok(17));
-    /// assert_eq!(lines.allocate_in(16, 17), Err(Error::ResourceNotAvailable));
-    /// assert_eq!(lines.allocate_in(0, 30), Ok(5));
+    /// assert_eq!(lines.allocate_in(16..=17), Ok(16));
+    /// assert_eq!(lines.allocate_in(16..=17), Ok(17));
+    /// assert_eq!(lines.allocate_in(16..=17), Err(Error::ResourceNotAvailable));
+    /// assert_eq!(lines.allocate_in(..8), Ok(5));
     /// # Ok::<(), Error>(())
     /// ```
-    pub fn allocate_in(&mut self, first: u32, last: u32) -> Result<u32> {
+    pub fn allocate_in(&mut self, window: impl Window<u32>) -> Result<u32> {
+        let (first, last) = window.limits();
         Ok(self.0.allocate_in(first, last)?)
     }
 
@@ -260,14 +261,15 @@ impl IdAllocator {
     ///
     /// // The lines of PCI.
     /// let mut lines = IdAllocator::new(5, 23)?;
-    /// assert_eq!(lines.try_allocate_in(20, 23)?, 20);
+    /// assert_eq!(lines.try_allocate_in(20..)?, 20);
     /// assert_eq!(
-    ///     lines.try_allocate_in(23, 20),
-    ///     Err(TryError::Refused(Error::InvalidRange(23, 20)))
+    ///     lines.try_allocate_in(20..20),
+    ///     Err(TryError::Refused(Error::InvalidRange(20, 19)))
     /// );
     /// # Ok::<(), TryError>(())
     /// ```
-    pub fn try_allocate_in(&mut self, first: u32, last: u32) -> TryResult<u32> {
+    pub fn try_allocate_in(&mut self, window: impl Window<u32>) -> TryResult<u32> {
+        let (first, last) = window.limits();
         Ok(self.0.allocate_in(first, last)?)
     }
 
@@ -323,8 +325,8 @@ impl IdAllocator {
         Ok(self.0.allocate_ids(Global, count)?.into())
     }
 
-    /// Returns the id or the error that [`allocate_id`](Self::allocate_id) would return, without a
-    /// change.
+    /// Returns the id or the error that [`allocate_id`](Self::allocate_id) would return, without
+    /// allocating the id.
     ///
     /// # Errors
     ///
@@ -360,6 +362,7 @@ impl IdAllocator {
     /// assert!(!lines.is_allocated(11) && !lines.is_allocated(24));
     /// # Ok::<(), divsharun::Error>(())
     /// ```
+    #[doc(alias("contains", "is_free", "holds"))]
     #[must_use]
     pub fn is_allocated(&self, id: u32) -> bool {
         self.0.is_allocated(id)
@@ -386,6 +389,7 @@ impl IdAllocator {
     /// assert_eq!(lines.free_id(24), Err(Error::OutOfRange(24)));
     /// # Ok::<(), Error>(())
     /// ```
+    #[doc(alias = "release")]
     pub fn free_id(&mut self, id: u32) -> Result<u32> {
         Ok(self.0.free_id(id)?)
     }
@@ -482,6 +486,7 @@ impl IdAllocator {
     /// assert!(lines.held_ids().eq([5, 7]));
     /// # Ok::<(), divsharun::Error>(())
     /// ```
+    #[doc(alias = "allocated_ids")]
     #[must_use]
     pub fn held_ids(&self) -> HeldIds<'_> {
         HeldIds(self.0.held_ids())
@@ -519,6 +524,7 @@ impl IdAllocator {
     /// assert_eq!(lines.held_count(), 3);
     /// # Ok::<(), divsharun::Error>(())
     /// ```
+    #[doc(alias("allocated_count", "is_empty", "len"))]
     #[must_use]
     pub fn held_count(&self) -> u64 {
         self.0.held_count()

@@ -41,7 +41,8 @@ impl<'a> Layout<'a> {
         }
     }
 
-    /// Adds names for allocated ranges. A name for any other range is not shown.
+    /// Adds names for allocated ranges. A name for any other range is not shown. The layout borrows the
+    /// names.
     ///
     /// # Example
     ///
@@ -50,7 +51,9 @@ impl<'a> Layout<'a> {
     ///
     /// let mut ports = AddressAllocator::new(0x3f0, 0x10)?;
     /// let serial = ports.allocate(8, 8, AllocPolicy::LastMatch)?;
-    /// let layout = ports.layout().named([(serial, "ttyS0")]);
+    /// let names = [(serial, format!("ttyS{}", 0))];
+    /// let names = names.iter().map(|(range, name)| (*range, name.as_str()));
+    /// let layout = ports.layout().named(names);
     /// assert_eq!(layout.to_string(), "03f0-03f7 : gap\n03f8-03ff : ttyS0");
     /// # Ok::<(), divsharun::Error>(())
     /// ```

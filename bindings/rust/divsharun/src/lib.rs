@@ -2,8 +2,8 @@
 //! Allocators of address ranges and ids for the devices of a virtual machine: MMIO and PIO windows,
 //! PCI BARs, interrupts and memory slots.
 //!
-//! The API is that of the crate `vm-allocator` 0.1.4. The code below it is proved: allocated ranges
-//! never overlap, each is aligned as requested, and a freed range can be allocated again.
+//! The API is that of the crate `vm-allocator` 0.1.4. Its core is proved: allocated ranges never
+//! overlap, a request gets a range of its alignment, and a freed range can be allocated again.
 //!
 //! - [`AddressAllocator`] allocates ranges of 64-bit addresses from one space.
 //! - [`IdAllocator`] allocates 32-bit ids from a range, the lowest free id first.
@@ -49,12 +49,12 @@
 //!   [`held_count`](IdAllocator::held_count), [`free_count`](IdAllocator::free_count),
 //!   [`held_ids`](IdAllocator::held_ids), [`iter`](IdAllocator::iter), the ends of the range and
 //!   equality;
-//! - of an [`AddressAllocator`]: [`with_held`](AddressAllocator::with_held),
-//!   [`with_free`](AddressAllocator::with_free),
+//! - of an [`AddressAllocator`]: [`over`](AddressAllocator::over),
+//!   [`with_held`](AddressAllocator::with_held), [`with_free`](AddressAllocator::with_free),
 //!   [`allocate_all`](AddressAllocator::allocate_all),
 //!   [`allocate_constraint`](AddressAllocator::allocate_constraint),
 //!   [`conflict`](AddressAllocator::conflict), [`move_range`](AddressAllocator::move_range),
-//!   [`move_constraint`](AddressAllocator::move_constraint),
+//!   [`move_constraint`](AddressAllocator::move_constraint), [`space`](AddressAllocator::space),
 //!   [`held_ranges`](AddressAllocator::held_ranges), [`iter`](AddressAllocator::iter),
 //!   [`held_ranges_in`](AddressAllocator::held_ranges_in), [`holds`](AddressAllocator::holds),
 //!   [`held_at`](AddressAllocator::held_at), [`held_count`](AddressAllocator::held_count),
@@ -69,18 +69,18 @@
 //!   [`window`](Constraint::window) by [`within`](Constraint::within) any [`Window`], its text and its
 //!   hash;
 //! - of a [`RangeInclusive`]: [`from_start_len`](RangeInclusive::from_start_len),
-//!   [`offset_of`](RangeInclusive::offset_of), its texts, conversions,
-//!   [`contains_address`](RangeInclusive::contains_address) and
+//!   [`offset_of`](RangeInclusive::offset_of), its texts and their reader with [`ParseRangeError`],
+//!   conversions, [`contains_address`](RangeInclusive::contains_address) and
 //!   [`intersection`](RangeInclusive::intersection);
 //! - [`ListError`], which names the item of a list that failed;
-//! - with the feature `serde`, `AddressAllocator::deserialize_strict` and `try_saved` of address
-//!   allocators and managers;
+//! - with the feature `serde`, `Strict`, `try_saved` of address allocators and managers, and saved
+//!   requests;
 //! - the `try_` variants of all calls that allocate, except the counted ones.
 //!
 //! # Out of memory
 //!
-//! If memory runs out, the process ends, as with Rust's collections. To handle the error
-//! instead, use the `try_` variants, for example
+//! If memory runs out, the process ends, as with Rust's collections: a program with `std` aborts, and
+//! one without it panics. To handle the error instead, use the `try_` variants, for example
 //! [`AddressAllocator::try_allocate`], [`IdAllocator::try_free_id`] and
 //! [`DeviceManager::try_reserve`]. They return a [`TryError`], and then the same ranges and ids are
 //! allocated as before. Both kinds can be called on the same object.
@@ -104,8 +104,8 @@
 //!
 //! The allocated ranges and gaps are in leaves of 280 bytes, with 12 to 32 of them in each leaf, and an
 //! inner node of 56 bytes joins two subtrees. A tree that is one leaf can have fewer. Allocating or moving
-//! a range allocates a leaf and an inner node if its leaf is full, and otherwise nothing, and
-//! `allocate_all` also three lists. A copy allocates all leaves and nodes, `with_held` also a list, and
+//! a range allocates a leaf and an inner node if its leaf would have more than 32, and otherwise nothing,
+//! and `allocate_all` also three lists. A copy allocates all leaves and nodes, `with_held` also a list, and
 //! `with_free` two. `reserve` and freeing, skipping or copying ids can allocate.
 //!
 //! # Threads
@@ -140,23 +140,34 @@
 //! The results of allocators and managers are proved for every input, for the sources in Rattle.
 //! [`layout`](AddressAllocator::layout), [`contains_address`](RangeInclusive::contains_address),
 //! [`intersection`](RangeInclusive::intersection), conversions and texts are tested. The private
-//! module `proved` is generated from these sources by removing their contracts. The README of this
-//! crate lists what is trusted, including the other modules, which convert between their types and the
-//! generated ones.
+//! module `proved` is generated from these sources by removing their contracts. `docs/PROVED.md` in the
+//! repository lists what is trusted, including the other modules, which convert between their types and
+//! the generated ones.
 //!
 //! # Features
 //!
 //! Without features, the crate has no dependency, and it does not need `std`.
 //!
 //! - `serde` implements `Serialize` and `Deserialize` for [`RangeInclusive`], [`NodeState`],
-//!   [`AddressAllocator`], [`IdAllocator`], [`DeviceManager`], [`DeviceSlot`] and [`AllocPolicy`].
+//!   [`AddressAllocator`], [`IdAllocator`], [`DeviceManager`], [`DeviceSlot`], [`AllocPolicy`] and
+//!   [`Constraint`].
 //! - `std`, a default feature, adds the module `replay` and the program `divsharun-replay`.
 //!
 //! # Saved values
 //!
-//! With `serde`, the first four types have the fields of `vm-allocator` in the same order. So either
-//! crate reads what the other wrote, in every format that writes `None`. TOML leaves it out, so a tree,
-//! and ids without a next one, cannot be read from it.
+//! `Strict<AddressAllocator>` reads what this crate saved, and a missing subtree is an error. It can be a
+//! field, or be in an `Option`, a list or a map.
+//!
+//! The `Deserialize` of an [`AddressAllocator`] repairs the trees that bugs of `vm-allocator` led to. It
+//! reads missing nodes as gaps, so allocated ranges can be missing without an error.
+//!
+//! A monitor that knows its ranges can check the result of either reader:
+//! `AddressAllocator::with_held(base, size, &sorted)? == space`.
+//!
+//! Ranges, states, address allocators and id allocators have the fields of `vm-allocator` in the same
+//! order. So either crate reads what the other wrote, in every format that writes `None`. TOML leaves it
+//! out, so a tree, and ids without a next one, cannot be read from it. A [`Constraint`] is saved with its
+//! window, and read only if [`Constraint::new`] accepts it.
 //!
 //! The tree of an address allocator is written balanced. Its shape depends only on the space and the
 //! allocated ranges, so equal address allocators have the same bytes. A [`DeviceManager`] is saved as
@@ -170,11 +181,9 @@
 //! - At most 6,293,134,512 keys are allocated, and none of these ends at `u64::MAX`.
 //!
 //! The height of a node can be any `u64`, and the tree can be unbalanced, empty, or have gaps and
-//! free neighbours, because bugs of `vm-allocator` led to these trees. The allocated keys become
-//! the allocated ranges of a new tree. The space of a [`DeviceManager`] is read more strictly:
-//! heights must be correct, and the tree must be balanced, without gaps and free neighbours.
-//! `AddressAllocator::deserialize_strict` reads an address allocator in this way, so it notices a tree
-//! that was cut.
+//! free neighbours. The allocated keys become the allocated ranges of a new tree. `Strict`, and the
+//! reader of the space of a [`DeviceManager`], accept fewer values: heights must be correct, and the
+//! tree must be balanced, without gaps and free neighbours.
 //!
 //! Nodes that are nested more than 50 deep are an error before they are checked.
 //!
@@ -189,15 +198,16 @@
 //! ```rust
 //! # #[cfg(feature = "serde")]
 //! # fn main() -> Result<(), Box<dyn std::error::Error>> {
-//! use divsharun::{AddressAllocator, AllocPolicy};
+//! use divsharun::{AddressAllocator, AllocPolicy, Strict};
 //!
 //! let mut mmio = AddressAllocator::new(0xd000_0000, 0x2ec0_0000)?;
-//! mmio.allocate(0x1000, 0x1000, AllocPolicy::FirstMatch)?;
+//! let bar = mmio.allocate(0x1000, 0x1000, AllocPolicy::FirstMatch)?;
 //! let saved = serde_json::to_string(&mmio)?;
-//! assert_eq!(serde_json::from_str::<AddressAllocator>(&saved)?, mmio);
+//! let read: Strict<AddressAllocator> = serde_json::from_str(&saved)?;
+//! assert_eq!(*read, AddressAllocator::with_held(0xd000_0000, 0x2ec0_0000, &[bar])?);
 //!
 //! let unknown = saved.replace("Free", "Clear");
-//! assert!(serde_json::from_str::<AddressAllocator>(&unknown).is_err());
+//! assert!(serde_json::from_str::<Strict<AddressAllocator>>(&unknown).is_err());
 //! # Ok(())
 //! # }
 //! # #[cfg(not(feature = "serde"))]
@@ -247,9 +257,9 @@ pub use error::{Error, ListError, Result, TryError};
 pub use id_allocator::{HeldIds, IdAllocator};
 pub use layout::{Block, Blocks, Layout};
 pub use node_state::NodeState;
-pub use range::RangeInclusive;
+pub use range::{ParseRangeError, RangeInclusive};
 #[cfg(feature = "serde")]
-pub use saved::Saved;
+pub use saved::{Saved, Strict};
 
 /// Runs the examples of the README as doctests.
 #[cfg(doctest)]

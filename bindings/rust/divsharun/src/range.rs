@@ -2,6 +2,7 @@
 use crate::proved::vm_allocator as proved;
 use crate::texts::pad;
 use crate::{Error, Result};
+use core::str::FromStr;
 use core::{fmt, ops};
 
 /// A closed range of addresses, which includes its start and its end.
@@ -10,7 +11,8 @@ use core::{fmt, ops};
 /// ordered by start, then by end.
 ///
 /// `Display` writes both ends in hexadecimal, like `/proc/iomem`, and applies a width to both
-/// together. `LowerHex` applies the flags of the format to each end.
+/// together. `LowerHex` applies the flags of the format to each end. `FromStr` reads both forms, with or
+/// without `0x`.
 ///
 /// # Example
 ///
@@ -26,6 +28,7 @@ use core::{fmt, ops};
 /// assert_eq!(window.to_string(), "d0000000-d0000fff");
 /// assert_eq!(format!("{window:>20}|"), "   d0000000-d0000fff|");
 /// assert_eq!(format!("{registers:#x}"), "0xd0000100-0xd00001ff");
+/// assert_eq!("d0000000-d0000fff".parse(), Ok(window));
 /// assert_eq!(RangeInclusive::try_from(0xd000_0000..=0xd000_0fff)?, window);
 /// # Ok::<(), divsharun::Error>(())
 /// ```
@@ -257,6 +260,51 @@ impl fmt::Display for RangeInclusive {
         }
     }
 }
+
+/// # Errors
+///
+/// - [`ParseRangeError`] if the text is not two hexadecimal numbers with a `-` between them, or if
+///   [`new`](RangeInclusive::new) returns an error for them.
+impl FromStr for RangeInclusive {
+    type Err = ParseRangeError;
+
+    fn from_str(text: &str) -> core::result::Result<Self, ParseRangeError> {
+        let number = |text: &str| {
+            let digits = text.strip_prefix("0x").unwrap_or(text);
+            let is_signed = digits.starts_with('+');
+            u64::from_str_radix(digits, 16).ok().filter(|_| !is_signed)
+        };
+        let ends = text.split_once('-').ok_or(ParseRangeError)?;
+        let ends = number(ends.0).zip(number(ends.1)).ok_or(ParseRangeError)?;
+        RangeInclusive::new(ends.0, ends.1).map_err(|_| ParseRangeError)
+    }
+}
+
+/// The error of reading a [`RangeInclusive`] from a text.
+///
+/// # Example
+///
+/// ```rust
+/// use divsharun::{ParseRangeError, RangeInclusive};
+///
+/// fn len_of(window: &str) -> Result<u64, ParseRangeError> {
+///     Ok(window.parse::<RangeInclusive>()?.len())
+/// }
+///
+/// assert_eq!(len_of("0x3f8-0x3ff"), Ok(8));
+/// assert!(len_of("0x3ff-0x3f8").is_err());
+/// ```
+#[derive(Clone, Copy, Debug, PartialEq, Eq)]
+#[non_exhaustive]
+pub struct ParseRangeError;
+
+impl fmt::Display for ParseRangeError {
+    fn fmt(&self, f: &mut fmt::Formatter<'_>) -> fmt::Result {
+        f.pad("the text is not a range of addresses, such as d0000000-d0000fff")
+    }
+}
+
+impl core::error::Error for ParseRangeError {}
 
 impl From<RangeInclusive> for ops::RangeInclusive<u64> {
     fn from(range: RangeInclusive) -> Self {

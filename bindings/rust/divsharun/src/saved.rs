@@ -9,6 +9,8 @@
 
 mod conditions;
 mod reading;
+mod strict;
 mod writing;
 
+pub use strict::Strict;
 pub use writing::Saved;

@@ -11,13 +11,14 @@ mod model;
 use divsharun::{
     AddressAllocator, AllocPolicy, Block, Blocks, Conflict, Constraint, DeviceManager, DeviceSlot,
     Devices, Error, Gaps, GapsIn, HeldIds, HeldRanges, HeldRangesIn, IdAllocator, Layout,
-    ListError, NodeState, RangeInclusive, TryError,
+    ListError, NodeState, ParseRangeError, RangeInclusive, TryError,
 };
 use draw::Draw;
 use items::{exact, expect_in_order, expect_items, inexact};
 use model::{refused, Model, Scale, WIDTH};
 use std::collections::{BTreeSet, HashSet};
 use std::fmt::{Debug, Display};
+use std::ops::Bound::{Excluded, Included, Unbounded};
 
 const BASE: u64 = 1000;
 
@@ -251,6 +252,80 @@ fn expect_conflicts(space: &AddressAllocator, model: &Model, scale: Scale) {
     }
 }
 
+/// Checks spaces with the first or the last addresses: the ranges of spaces, and queries in windows that
+/// have no limit, no address or only addresses outside.
+#[test]
+fn spaces_and_windows_of_queries() {
+    const MAX: u64 = u64::MAX;
+    for (base, size) in [(0, 4), (8, 8), (MAX - 3, 4), (0, MAX), (1, MAX)] {
+        let range = RangeInclusive::from_start_len(base, size).unwrap();
+        let mut space = AddressAllocator::over(range);
+        assert_eq!(AddressAllocator::new(base, size).as_ref(), Ok(&space));
+        assert_eq!(AddressAllocator::try_over(range).as_ref(), Ok(&space));
+        let devices = DeviceManager::new(0, 0, base, size).unwrap();
+        assert_eq!((space.space(), devices.space()), (range, range));
+
+        let held = space.allocate(1, 1, AllocPolicy::FirstMatch).unwrap();
+        let gap = RangeInclusive::new(base + 1, range.end()).unwrap();
+        for (window, meets_held, meets_gap) in [
+            ((Unbounded, Unbounded), true, true),
+            ((Unbounded, Included(base)), true, false),
+            ((Excluded(base), Unbounded), false, true),
+            ((Included(range.end()), Included(MAX)), false, true),
+            ((Unbounded, Excluded(base)), false, false),
+            ((Excluded(range.end()), Unbounded), false, false),
+            ((Included(base), Excluded(base)), false, false),
+            ((Included(base + 1), Included(base)), false, false),
+        ] {
+            assert!(space.held_ranges_in(window).eq(meets_held.then_some(held)));
+            assert!(space.gaps_in(window).eq(meets_gap.then_some(gap)));
+        }
+    }
+}
+
+/// Checks that a range is read from each text that is written of it, and from no other text.
+#[test]
+fn ranges_are_read_from_their_texts() {
+    for (start, end) in [(0, 0), (0xd0, 0xd7), (0x1000, u64::MAX), (0, u64::MAX - 1)] {
+        let range = RangeInclusive::new(start, end).unwrap();
+        for text in [
+            format!("{range}"),
+            format!("{range:#}"),
+            format!("{range:x}"),
+            format!("{range:#018x}"),
+            range.to_string().to_uppercase(),
+        ] {
+            assert_eq!(text.parse(), Ok(range), "{text}");
+        }
+    }
+    for text in [
+        "",
+        "-",
+        "5",
+        "5-",
+        "-5",
+        "5-4",
+        "5 - 7",
+        " 5-7",
+        "5-7 ",
+        "5-7-9",
+        "5--7",
+        "+5-7",
+        "5-+7",
+        "0x-5",
+        "0X5-7",
+        "0x+5-7",
+        "g-7",
+        "0-ffffffffffffffff",
+        "5-10000000000000000",
+        "5..=7",
+    ] {
+        let error = text.parse::<RangeInclusive>().unwrap_err();
+        let want = "the text is not a range of addresses, such as d0000000-d0000fff";
+        assert_eq!(error.to_string(), want, "{text}");
+    }
+}
+
 /// Checks each error of `with_held`, `with_free` and `allocate_all` in both forms.
 #[test]
 fn errors_of_calls_with_lists() {
@@ -420,9 +495,9 @@ fn long_lists_are_walked() {
     let held = AddressAllocator::with_held(0, 600, &list).unwrap();
     let free = AddressAllocator::with_free(&list).unwrap();
     expect_items(held.held_ranges(), &list, exact, &mut draw);
-    expect_items(held.held_ranges_in(&all), &list, inexact, &mut draw);
+    expect_items(held.held_ranges_in(all), &list, inexact, &mut draw);
     expect_items(free.gaps(), &list, exact, &mut draw);
-    expect_items(free.gaps_in(&all), &list, inexact, &mut draw);
+    expect_items(free.gaps_in(all), &list, inexact, &mut draw);
     let ids: Vec<u32> = (0..300).map(|at| 2 * at).collect();
     let allocator = IdAllocator::with_held(0, 600, &ids).unwrap();
     expect_items(allocator.held_ids(), &ids, exact, &mut draw);
@@ -1049,11 +1124,12 @@ fn ids_are_allocated_by_number() {
         "IdAllocator { range_base: 5, next_id: Some(9), range_end: 23, freed_ids: {5, 6, 7} }";
     assert_eq!(format!("{ids:?}"), text);
     for id in [6, 7] {
-        assert_eq!(ids.allocate_in(6, 8), Ok(id));
+        assert_eq!(ids.allocate_in(6..=8), Ok(id));
     }
-    assert_eq!(ids.try_allocate_in(6, 8), Err(taken));
-    assert_eq!(ids.allocate_in(8, 6), Err(Error::InvalidRange(8, 6)));
-    assert_eq!(ids.try_allocate_in(10, u32::MAX), Ok(10));
+    assert_eq!(ids.try_allocate_in(6..9), Err(taken));
+    assert_eq!(ids.allocate_in(8..8), Err(Error::InvalidRange(8, 7)));
+    assert_eq!(ids.allocate_in(..0), Err(Error::InvalidRange(1, 0)));
+    assert_eq!(ids.try_allocate_in(10..), Ok(10));
     assert!(ids.held_ids().eq([6, 7, 8, 10]));
     let same = IdAllocator::try_with_held(5, 23, &[6, 7, 8, 10]);
     assert_eq!(same, Ok(ids));
@@ -1085,8 +1161,8 @@ fn the_last_id() {
         |ids| ids.allocate_id(),
         |ids| ids.allocate_exact(LAST),
         |ids| refused(ids.try_allocate_exact(LAST)),
-        |ids| ids.allocate_in(LAST, LAST),
-        |ids| refused(ids.try_allocate_in(LAST, LAST)),
+        |ids| ids.allocate_in(LAST..=LAST),
+        |ids| refused(ids.try_allocate_in(LAST..)),
         |ids| ids.allocate_ids(1).map(|list| list[0]),
         |ids| refused(ids.try_allocate_ids(1)).map(|list| list[0]),
     ];
@@ -1151,16 +1227,17 @@ fn objects_are_equal_by_what_they_hold() {
     assert_eq!(first.device_at(0x1010), None);
 }
 
+const SOURCES: [&str; 3] = [
+    include_str!("../src/address_allocator.rs"),
+    include_str!("../src/id_allocator.rs"),
+    include_str!("../src/device_manager.rs"),
+];
+
 /// Checks that each call of an object makes the proved call of its name, and no other work.
 #[test]
 fn calls_are_those_of_the_proved_code() {
-    let files = [
-        include_str!("../src/address_allocator.rs"),
-        include_str!("../src/id_allocator.rs"),
-        include_str!("../src/device_manager.rs"),
-    ];
     let mut count = 0;
-    for text in files.iter().flat_map(|text| text.split("\n    pub ")) {
+    for text in SOURCES.iter().flat_map(|text| text.split("\n    pub ")) {
         let Some((head, rest)) = text.split_once('(') else {
             continue;
         };
@@ -1183,11 +1260,39 @@ fn calls_are_those_of_the_proved_code() {
         let is_one = [&proved, &same, &made, &tried]
             .iter()
             .any(|call| body.contains(*call));
-        let is_other = ["iter", "layout"].contains(&name);
+        let is_other = ["iter", "layout", "space", "try_over"].contains(&name);
         assert!(is_one || is_other, "{name}: {body}");
         count += 1;
     }
     assert!(count > 50, "{count} calls");
+}
+
+/// Checks that the documentation finds a call by other words for it.
+#[test]
+fn other_words_find_a_call() {
+    for (call, words) in [
+        ("pub fn allocate(", &["alloc", "reserve_range"][..]),
+        ("pub fn move_constraint(", &["resize"]),
+        ("pub fn free(", &["release", "remove"]),
+        ("pub fn held_ranges(", &["allocated_ranges"]),
+        ("pub fn held_ranges_in(", &["is_free"]),
+        ("pub fn holds(", &["contains", "is_allocated"]),
+        ("pub fn held_at(", &["find", "get"]),
+        ("pub fn gaps(", &["free_ranges"]),
+        ("pub fn longest_gap(", &["largest_gap"]),
+        ("pub fn free_len(", &["free_space", "available"]),
+        ("pub fn held_count(", &["allocated_count", "is_empty"]),
+        ("pub fn is_allocated(", &["is_free"]),
+        ("pub fn held_ids(", &["allocated_ids"]),
+        ("pub fn reserve(", &["allocate", "insert"]),
+        ("pub fn slot(", &["get"]),
+    ] {
+        let text = SOURCES.iter().find_map(|text| text.split_once(call));
+        let attributes = text.unwrap().0.rsplit("    ///").next().unwrap();
+        for word in words {
+            assert!(attributes.contains(&format!("{word:?}")), "{call} {word}");
+        }
+    }
 }
 
 /// Checks that every public type is `Send` and `Sync`.
@@ -1215,4 +1320,5 @@ fn types_are_shared_and_sent() {
     is_shared_and_sent::<Error>();
     is_shared_and_sent::<TryError>();
     is_shared_and_sent::<ListError<TryError>>();
+    is_shared_and_sent::<ParseRangeError>();
 }

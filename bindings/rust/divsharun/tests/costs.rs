@@ -23,20 +23,21 @@ const ROUNDS: usize = 5;
 type Calls<O> = fn(&mut O, u64) -> bool;
 
 /// Every second address is allocated.
-const OF_SPACES: [Calls<AddressAllocator>; 15] = [
+const OF_SPACES: [Calls<AddressAllocator>; 16] = [
     |space, at| space.held_at(at).is_some() && space.gap_at(at + 1).is_some(),
     |space, at| space.holds(&one(at)) && !space.holds(&one(at + 1)),
     |space, _| space.held_count() == space.gap_count() && space.free_len() == space.gap_count(),
     |space, _| space.longest_gap() == 1 && space.base() < space.end() && space.height() > 1,
+    |space, at| AddressAllocator::over(space.space()).free_len() > at,
     |space, at| space.conflict(exact(at)).is_some() && space.conflict(exact(at + 1)).is_none(),
     |space, _| has_ends(space.held_ranges(), |items| items.len() > 1),
     |space, _| has_ends(space.gaps(), |items| items.len() > 1),
     |space, at| {
-        has_ends(space.held_ranges_in(&from(at)), |items| {
+        has_ends(space.held_ranges_in(from(at)), |items| {
             items.size_hint().0 <= 5
         })
     },
-    |space, at| has_ends(space.gaps_in(&from(at)), |items| items.size_hint().0 <= 5),
+    |space, at| has_ends(space.gaps_in(from(at)), |items| items.size_hint().0 <= 5),
     |space, _| has_ends(space.layout().blocks(), |items| items.len() > 2),
     |space, at| {
         let allocated = [
@@ -109,7 +110,7 @@ const OF_IDS: [Calls<IdAllocator>; 4] = [
         let allocated = [
             ids.allocate_id(),
             ids.allocate_exact(last - 1),
-            ids.allocate_in(0, last),
+            ids.allocate_in(..=last),
         ];
         allocated.map(|id| ids.free_id(id.unwrap()).is_ok()) == [true; 3]
     },
@@ -126,9 +127,9 @@ const OF_FREED_IDS: [Calls<IdAllocator>; 2] = [
         let at = at as u32;
         let allocated = [
             ids.allocate_exact(at + 1),
-            ids.allocate_in(at, at + 4),
+            ids.allocate_in(at..at + 5),
             ids.try_allocate_exact(at + 5).map_err(|_| Error::Overflow),
-            ids.try_allocate_in(at, at + 8).map_err(|_| Error::Overflow),
+            ids.try_allocate_in(at..at + 9).map_err(|_| Error::Overflow),
             ids.allocate_id(),
             ids.allocate_ids(1).map(|ids| ids[0]),
         ];
@@ -149,9 +150,10 @@ const OF_LISTS: [Calls<IdAllocator>; 2] = [
 ];
 
 /// Each device has two addresses, and two are free.
-const OF_DEVICES: [Calls<DeviceManager>; 5] = [
+const OF_DEVICES: [Calls<DeviceManager>; 6] = [
     |devices, at| devices.slot(at as u32).is_some() && devices.device_at(2 * at).is_some(),
     |devices, at| devices.device_count() > at && devices.conflict(exact(2 * at)).is_some(),
+    |devices, at| devices.space().contains_address(at),
     |devices, _| has_ends(devices.devices(), |items| items.len() > 2),
     |devices, _| {
         let reserved = [

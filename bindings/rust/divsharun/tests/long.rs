@@ -344,9 +344,9 @@ impl Beside for Space {
             let meets = |range: &RangeInclusive| range.overlaps(&window);
             let far_window = scale.range(window);
             let held = self.far(model.held.iter().copied().filter(meets));
-            expect_list(space.held_ranges_in(&far_window), &held, draw);
+            expect_list(space.held_ranges_in(far_window), &held, draw);
             let gaps = self.far(gaps.into_iter().filter(meets));
-            expect_list(space.gaps_in(&far_window), &gaps, draw);
+            expect_list(space.gaps_in(far_window), &gaps, draw);
         }
     }
 
@@ -498,8 +498,8 @@ impl Beside for Numbers {
             (_, true) if is_freed => tried(ids, draw, |ids| ids.try_free_id(id)),
             (0, false) => ids.allocate_exact(id),
             (0, true) => tried(ids, draw, |ids| ids.try_allocate_exact(id)),
-            (1, false) => ids.allocate_in(id, end),
-            (1, true) => tried(ids, draw, |ids| ids.try_allocate_in(id, end)),
+            (1, false) => ids.allocate_in(id..=end),
+            (1, true) => tried(ids, draw, |ids| ids.try_allocate_in(id..=end)),
             _ => ids.allocate_id(),
         };
         let want = match kind {

@@ -35,8 +35,9 @@ type EndedCall = fn(&mut AddressAllocator);
 /// leaf and inner node of a new tree or of a copy, and two for a split of the full leaf. A call with
 /// ranges copies the list, and one with requests makes three lists. Holes between free ranges are a list
 /// too.
-const TRIED: [(u64, TriedCall); 37] = [
+const TRIED: [(u64, TriedCall); 39] = [
     (1, |_| AddressAllocator::try_new(0, 64).map(drop)),
+    (1, |_| AddressAllocator::try_over(both()[0]).map(drop)),
     (1, |space| space.try_clone().map(drop)),
     (1, |_| of_list(AddressAllocator::try_with_held(0, 64, &[]))),
     (1 + 1, |_| {
@@ -72,6 +73,11 @@ const TRIED: [(u64, TriedCall); 37] = [
     (2, |space| space.try_allocate(4, 1, ExactMatch(4)).map(drop)),
     (0, |space| {
         space.try_allocate(16, 1, ExactMatch(24)).map(drop)
+    }),
+    // A range in the middle of a gap splits a leaf with 31 ranges and gaps.
+    (1 + 1 + 2, |_| {
+        let mut space = AddressAllocator::try_with_held(0, 90, &in_a_leaf()[..15])?;
+        space.try_allocate(4, 1, ExactMatch(4)).map(drop)
     }),
     (2, |space| {
         let request = in_the_middle(4, FirstMatch);
@@ -135,8 +141,9 @@ const TRIED: [(u64, TriedCall); 37] = [
 
 /// Calls that end the process, each with the number of its allocations on [`full_leaf`]. A set or a
 /// map allocates one block for a few ids or devices.
-const ENDED: [(u64, EndedCall); 22] = [
+const ENDED: [(u64, EndedCall); 23] = [
     (1, |_| assert!(AddressAllocator::new(0, 64).is_ok())),
+    (1, |_| drop(AddressAllocator::over(both()[0]))),
     (1, |space| drop(space.clone())),
     (1 + 1, |_| {
         assert!(AddressAllocator::with_held(0, 64, &both()).is_ok())
@@ -170,7 +177,7 @@ const ENDED: [(u64, EndedCall); 22] = [
     (1, |_| assert!(IdAllocator::with_held(0, 9, &[1]).is_ok())),
     (1, |_| {
         let mut ids = IdAllocator::new(0, 9).expect("ids");
-        assert!(ids.allocate_in(5, 9).is_ok() && ids.allocate_exact(3).is_ok())
+        assert!(ids.allocate_in(5..=9).is_ok() && ids.allocate_exact(3).is_ok())
     }),
     (1, |_| {
         let mut ids = IdAllocator::new(0, 9).expect("ids");
@@ -226,13 +233,15 @@ fn two_held() -> AddressAllocator {
 
 /// Returns [`two_held`] with 14 more allocated ranges behind it, so that its leaf has 32 blocks.
 fn full_leaf() -> AddressAllocator {
-    let mut held = both().to_vec();
-    held.extend(
-        (64..91)
-            .step_by(2)
-            .flat_map(|at| RangeInclusive::new(at, at)),
-    );
-    AddressAllocator::with_held(0, 91, &held).expect("a space")
+    AddressAllocator::with_held(0, 91, &in_a_leaf()).expect("a space")
+}
+
+/// Returns the ranges of [`full_leaf`].
+fn in_a_leaf() -> [RangeInclusive; 16] {
+    from_fn(|at| match both().get(at) {
+        Some(range) => *range,
+        None => RangeInclusive::new(60 + 2 * at as u64, 60 + 2 * at as u64).expect("a range"),
+    })
 }
 
 /// Returns the ranges of a space of 160 addresses with 81 blocks.
@@ -341,7 +350,7 @@ fn objects_stay_the_same() {
         ids.try_allocate_exact(600)
     });
     unchanged_until_allowed(&mut ids, IdAllocator::clone, |ids| {
-        ids.try_allocate_in(900, 1000)
+        ids.try_allocate_in(900..1000)
     });
     unchanged_until_allowed(&mut ids, IdAllocator::clone, |ids| {
         ids.try_allocate_ids(899)
@@ -414,6 +423,7 @@ fn no_request_is_made() {
     let ((), requests) = refusing(1, || {
         assert!(space.held_ranges().eq(held) && space.holds(&held[0]) && space == other);
         assert_eq!((space.held_count(), space.base(), space.end()), (2, 0, 63));
+        assert_eq!((space.space().len(), devices.space().len()), (64, 64));
         assert_eq!(space.layout().blocks().count(), 5);
         let exact = request(8, ExactMatch(9));
         assert_eq!(space.conflict(exact), Some(Conflict::Allocated(held[0])));
@@ -422,9 +432,9 @@ fn no_request_is_made() {
         let failure = ListError { index: None, error };
         assert!(write!(&mut [0; 500][..], "{failure:^300}{exact:>100.9}").is_ok());
         assert!(devices.devices().rev().eq([]) && devices.device_at(9).is_none());
-        assert!(space.held_ranges_in(&held[1]).rev().eq([held[1]]));
+        assert!(space.held_ranges_in(held[1]).rev().eq([held[1]]));
         assert!(space.gaps().rev().eq(three_gaps().into_iter().rev()));
-        assert!(space.gaps_in(&three_gaps()[0]).eq([three_gaps()[0]]));
+        assert!(space.gaps_in(..16).eq([three_gaps()[0]]) && space.gaps_in(9..9).eq([]));
         let at = (space.held_at(16), space.gap_at(0));
         assert_eq!(at, (Some(held[0]), Some(three_gaps()[0])));
         let gaps = (space.gap_count(), space.longest_gap(), space.free_len());
@@ -448,7 +458,7 @@ fn no_request_is_made() {
         assert_eq!(ids.free_id(6), Err(Error::NeverAllocated(6)));
         assert_eq!(ids.allocate_exact(7), Err(Error::OutOfRange(7)));
         assert_eq!(ids.allocate_exact(6), Ok(6));
-        assert_eq!(ids.allocate_in(5, 6), Err(Error::ResourceNotAvailable));
+        assert_eq!(ids.allocate_in(5..=6), Err(Error::ResourceNotAvailable));
         assert_eq!(ids.allocate_ids(1), Err(Error::ResourceNotAvailable));
         assert_eq!((ids.allocate_ids(0), ids.free_count()), (Ok(Vec::new()), 0));
         let wrong = IdAllocator::with_held(5, 6, &[6, 6]);

@@ -8,8 +8,8 @@ mod packed;
 mod refusing;
 
 use divsharun::{
-    AddressAllocator, AllocPolicy, DeviceManager, DeviceSlot, IdAllocator, NodeState,
-    RangeInclusive, TryError,
+    AddressAllocator, AllocPolicy, Constraint, DeviceManager, DeviceSlot, IdAllocator, NodeState,
+    RangeInclusive, Strict, TryError,
 };
 use refusing::{peak_of, refusing};
 use serde::de::value::{Error, MapDeserializer};
@@ -17,6 +17,7 @@ use serde::de::{DeserializeOwned, IntoDeserializer};
 use serde::{Deserialize, Serialize};
 use serde_json::Value;
 use std::cell::Cell;
+use std::collections::BTreeMap;
 
 const FRESH: &str = concat!(
     r#"{"address_space":{"start":16,"end":19},"interval_tree":{"root":"#,
@@ -830,6 +831,7 @@ fn failed_allocations_are_errors_of_the_format() {
     let (manager, space) = (manager(), second_held());
     read_fails_each::<DeviceManager>(&packed::to_bytes(&manager).unwrap());
     read_fails_each::<AddressAllocator>(&packed::to_bytes(&space).unwrap());
+    read_fails_each::<Strict<AddressAllocator>>(&packed::to_bytes(&space).unwrap());
     read_fails_each::<IdAllocator>(&packed::to_bytes(&seven_ids()).unwrap());
     let mut bytes = Vec::with_capacity(10_000);
     fails_each(|| packed::to_bytes_in(&manager, &mut bytes));
@@ -864,12 +866,8 @@ fn a_saved_view_is_written_without_an_allocation() {
 }
 
 #[test]
-fn a_strict_read_accepts_only_what_is_built() {
+fn a_strict_read_accepts_balanced_trees_of_whole_blocks() {
     let space = second_held();
-    let strict = |text: &str| {
-        let mut from = serde_json::Deserializer::from_str(text);
-        AddressAllocator::deserialize_strict(&mut from)
-    };
     let text = json(&space);
     assert_eq!(strict(&text).unwrap(), space);
     let other_height = text.replace(r#""height":2"#, r#""height":3"#);
@@ -881,5 +879,111 @@ fn a_strict_read_accepts_only_what_is_built() {
         assert!(serde_json::from_str::<AddressAllocator>(&cut).is_ok());
         let error = strict(&cut).unwrap_err().to_string();
         assert!(error.contains("unbalanced"), "{error}");
+    }
+    // The upper block is the root of the tree that is written, but either block can be the root.
+    let mut space = AddressAllocator::new(16, 4).unwrap();
+    space.allocate(1, 1, AllocPolicy::FirstMatch).unwrap();
+    let [low, high] = [((16, 16), "Allocated"), ((17, 19), "Free")];
+    let below = fork(&node(low.0, low.1, "null"), high.0, high.1, "null", 2);
+    let above = fork("null", low.0, low.1, &node(high.0, high.1, "null"), 2);
+    assert_eq!(json(&space), space_over(&below));
+    assert_eq!(strict(&space_over(&above)).unwrap(), space);
+}
+
+fn strict(text: &str) -> serde_json::Result<AddressAllocator> {
+    serde_json::from_str::<Strict<_>>(text).map(Strict::into_inner)
+}
+
+/// Checks that a missing subtree of 1000 ranges is an error for `Strict` wherever it is, and not without it.
+#[test]
+fn a_missing_subtree_is_an_error_anywhere() {
+    type Map<T> = BTreeMap<String, T>;
+
+    let mut space = Strict::from(AddressAllocator::new(0, 2000).unwrap());
+    for at in 0..1000 {
+        let policy = AllocPolicy::ExactMatch(2 * at);
+        space.allocate(1, 1, policy).unwrap();
+    }
+    let whole = serde_json::to_value(&space).unwrap();
+    assert_eq!(whole, serde_json::to_value(&*space).unwrap());
+    let mut cut = whole.clone();
+    cut["interval_tree"]["root"]["left"] = Value::Null;
+    let lenient: AddressAllocator = serde_json::from_value(cut.clone()).unwrap();
+    assert!(lenient.held_count() < 600);
+    let known: Vec<_> = space.held_ranges().collect();
+    let known = AddressAllocator::with_held(0, 2000, &known).unwrap();
+    assert!(known == *space && known != lenient);
+
+    let in_map = |value: &Value| serde_json::json!({ "mmio": value });
+    let in_list = |value: &Value| serde_json::json!([whole, value]);
+    let option: Option<Strict<_>> = serde_json::from_value(whole.clone()).unwrap();
+    let list: Vec<Strict<_>> = serde_json::from_value(in_list(&whole)).unwrap();
+    let map: Map<Strict<_>> = serde_json::from_value(in_map(&whole)).unwrap();
+    assert!(option
+        .iter()
+        .chain(&list)
+        .chain(map.values())
+        .all(|read| *read == space));
+    assert!(
+        serde_json::from_value::<Option<Strict<AddressAllocator>>>(Value::Null)
+            .unwrap()
+            .is_none()
+    );
+    assert!(serde_json::from_value::<Option<Strict<AddressAllocator>>>(cut.clone()).is_err());
+    assert!(serde_json::from_value::<Vec<Strict<AddressAllocator>>>(in_list(&cut)).is_err());
+    assert!(serde_json::from_value::<Map<Strict<AddressAllocator>>>(in_map(&cut)).is_err());
+    assert!(serde_json::from_value::<Map<AddressAllocator>>(in_map(&cut)).is_ok());
+
+    let bytes = packed::to_bytes(&space).unwrap();
+    assert_eq!(bytes, packed::to_bytes(&*space).unwrap());
+    let read: Strict<AddressAllocator> = packed::from_bytes(bytes).unwrap();
+    assert_eq!(read, space);
+}
+
+/// Checks that a saved request has its window, and that an invalid one is not read.
+#[test]
+fn requests_are_saved_with_their_windows() {
+    let bar = Constraint::new(16, 16, AllocPolicy::ExactMatch(32)).unwrap();
+    let whole = r#"{"size":16,"align":16,"policy":{"ExactMatch":32},"window":null}"#;
+    let window = r#""window":{"start":16,"end":63}"#;
+    let limited = whole.replace(r#""window":null"#, window);
+    for (request, text) in [(bar, whole), (bar.within(16..64).unwrap(), &limited)] {
+        assert_eq!(json(&request), text);
+        assert_eq!(serde_json::from_str::<Constraint>(text).unwrap(), request);
+    }
+    let last = Constraint::new(1, 1, AllocPolicy::LastMatch).unwrap();
+    for request in [last, last.within(5..).unwrap()] {
+        let bytes = packed::to_bytes(&request).unwrap();
+        assert_eq!(packed::from_bytes::<Constraint>(bytes).unwrap(), request);
+    }
+    // Formats without `None` leave the field out.
+    let short = whole.replace(r#","window":null"#, "");
+    assert_eq!(serde_json::from_str::<Constraint>(&short).unwrap(), bar);
+    for (old, new, error) in [
+        (
+            r#""size":16"#,
+            r#""size":0"#,
+            "The specified size: 0 is not valid.",
+        ),
+        (
+            r#""align":16"#,
+            r#""align":12"#,
+            "Alignment value is invalid.",
+        ),
+        ("32", "40", "The address is not aligned."),
+        (
+            r#""end":63"#,
+            r#""end":15"#,
+            "The range specified: 16-15 is not valid.",
+        ),
+        (
+            window,
+            r#""window":null,"colour":1"#,
+            "unknown field `colour`",
+        ),
+        (r#""align":16,"#, "", "missing field `align`"),
+    ] {
+        let error_of = error_of::<Constraint>(&limited.replace(old, new));
+        assert!(error_of.starts_with(error), "{error_of}");
     }
 }

@@ -163,10 +163,10 @@ fn save(resources: &Resources) -> Snapshot {
 
 #[cfg(feature = "serde")]
 fn restore(snapshot: Snapshot) -> Resources {
-    let (addresses, interrupts, memory_slots) =
+    let (addresses, interrupts, memory_slots): (vm_allocator::Strict<_>, _, _) =
         serde_json::from_str(&snapshot).expect("what was written is read");
     Resources {
-        addresses,
+        addresses: addresses.into_inner(),
         interrupts,
         memory_slots,
     }
@@ -276,7 +276,7 @@ fn main() -> Result<()> {
     assert!(matches!(refusal, Err(Error::ResourceNotAvailable)));
     let asked = RangeInclusive::from_start_len(start, size)?;
     shared.with(|resources| {
-        let in_the_way: Vec<_> = resources.addresses.held_ranges_in(&asked).collect();
+        let in_the_way: Vec<_> = resources.addresses.held_ranges_in(asked).collect();
         assert_eq!(in_the_way, [memory.range]);
         Ok(())
     })?;

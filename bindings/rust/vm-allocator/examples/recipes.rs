@@ -11,7 +11,7 @@ const PAGE: u64 = 0x1000;
 const MIB: u64 = 1 << 20;
 const GIB: u64 = 1 << 30;
 
-/// A 32-bit BAR is below 4 GiB, and a 64-bit BAR is above it.
+/// A 32-bit BAR must be below 4 GiB, and a 64-bit BAR can be above it.
 fn bars(space: &mut AddressAllocator) -> Result<()> {
     let request = Constraint::new(MIB, MIB, AllocPolicy::FirstMatch)?;
     let of_32_bits = space.allocate_constraint(request.within(..4 * GIB)?)?;
@@ -35,7 +35,7 @@ fn host_bridge() -> Result<()> {
 /// The window of a bridge is a range of the space, and an allocator for the devices behind it.
 fn bridge_window(space: &mut AddressAllocator) -> Result<()> {
     let window = space.allocate(32 * MIB, MIB, AllocPolicy::FirstMatch)?;
-    let mut behind = AddressAllocator::new(window.start(), window.len())?;
+    let mut behind = AddressAllocator::over(window);
     let bar = behind.allocate(PAGE, PAGE, AllocPolicy::FirstMatch)?;
     assert!(window.contains(&bar));
     // The bridge is unplugged together with its devices.
@@ -71,7 +71,7 @@ fn moved_bar(space: &mut AddressAllocator) -> Result<()> {
 fn fixed_interrupts() -> Result<()> {
     let mut interrupts = IdAllocator::new(5, 23)?;
     assert_eq!(interrupts.allocate_exact(9)?, 9);
-    assert_eq!(interrupts.allocate_in(16, 23)?, 16);
+    assert_eq!(interrupts.allocate_in(16..=23)?, 16);
     assert_eq!(interrupts.allocate_id()?, 5);
     Ok(())
 }
@@ -89,9 +89,8 @@ fn blocks_of_vectors() -> Result<()> {
 #[cfg(feature = "serde")]
 fn snapshot(space: &AddressAllocator) {
     let text = serde_json::to_string(space).expect("it is written");
-    let mut reader = serde_json::Deserializer::from_str(&text);
-    let restored = AddressAllocator::deserialize_strict(&mut reader).expect("it is read");
-    assert_eq!(restored, *space);
+    let restored: vm_allocator::Strict<_> = serde_json::from_str(&text).expect("it is read");
+    assert_eq!(*restored, *space);
 }
 
 #[cfg(not(feature = "serde"))]

@@ -76,42 +76,32 @@ impl<'de> Deserialize<'de> for AddressAllocator {
     }
 }
 
-impl crate::AddressAllocator {
-    /// Reads an allocator like `Deserialize`, but accepts only a tree that this crate writes or builds:
-    /// heights must be correct, and the tree must be balanced, without gaps and free neighbours.
-    ///
-    /// `Deserialize` also accepts the trees that a bug of `vm-allocator` led to, with gaps and without
-    /// nodes. So it cannot notice that a subtree is missing, and its ranges with it. Read with this
-    /// call what this crate saved. Read with `Deserialize` what `vm-allocator` saved, and then check
-    /// with [`holds`](Self::holds) that the range of each device is allocated.
-    ///
-    /// In a structure, name it with
-    /// `#[serde(deserialize_with = "AddressAllocator::deserialize_strict")]`.
-    ///
-    /// # Errors
-    ///
-    /// An error of the format that names the condition that the value violates.
-    ///
-    /// # Example
-    ///
-    /// ```rust
-    /// # #[cfg(feature = "serde")]
-    /// # fn main() -> Result<(), Box<dyn std::error::Error>> {
-    /// use divsharun::AddressAllocator;
-    ///
-    /// let mut cut = serde_json::to_value(AddressAllocator::new(0, 16)?)?;
-    /// cut["interval_tree"]["root"] = serde_json::Value::Null;
-    /// assert!(AddressAllocator::deserialize_strict(&cut).is_err());
-    /// assert_eq!(serde_json::from_value::<AddressAllocator>(cut)?.held_count(), 0);
-    /// # Ok(())
-    /// # }
-    /// # #[cfg(not(feature = "serde"))]
-    /// # fn main() {}
-    /// ```
-    pub fn deserialize_strict<'de, D: Deserializer<'de>>(from: D) -> Result<Self, D::Error> {
+impl<'de> Deserialize<'de> for crate::Strict<crate::AddressAllocator> {
+    fn deserialize<D: Deserializer<'de>>(from: D) -> Result<Self, D::Error> {
         let allocator = Space::deserialize(from)?.allocator(AddressAllocator::from_nodes)?;
-        Ok(crate::AddressAllocator(allocator))
+        Ok(crate::AddressAllocator(allocator).into())
     }
+}
+
+impl<'de> Deserialize<'de> for crate::Constraint {
+    fn deserialize<D: Deserializer<'de>>(from: D) -> Result<Self, D::Error> {
+        let saved = Request::deserialize(from)?;
+        let request = crate::Constraint::new(saved.size, saved.align, saved.policy);
+        let request = request.map_err(D::Error::custom)?;
+        Ok(crate::Constraint(match saved.window {
+            Some(window) => request.0.within(window),
+            None => request.0,
+        }))
+    }
+}
+
+#[derive(Deserialize)]
+#[serde(rename = "Constraint", deny_unknown_fields)]
+struct Request {
+    size: u64,
+    align: u64,
+    policy: crate::AllocPolicy,
+    window: Option<RangeInclusive>,
 }
 
 /// Reads a node with its children, or none, as the child on a side of the node around it.

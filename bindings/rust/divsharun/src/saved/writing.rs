@@ -29,6 +29,14 @@ macro_rules! write_fields {
     )*};
 }
 
+write_fields! {
+    crate::Constraint as "Constraint", this:
+        size = this.size(),
+        align = this.align(),
+        policy = this.policy(),
+        window = this.window();
+}
+
 #[path = "fields.rs"]
 mod fields;
 use fields::{List, WithBlocks};
