@@ -16,12 +16,12 @@
  *         dvs_range_free(mmio, bar, NULL);
  *     dvs_address_allocator_destroy(mmio);
  *
- * Units. Addresses, sizes and alignments are in addresses of the space: bytes
- * of memory, or ports for PIO. A range includes its start and its end.
+ * Units. Sizes and alignments count addresses: bytes, or ports for PIO. A range
+ * includes its start and its end.
  *
  * Errors. Each call that can fail returns a status. An error leaves the results
  * and the object unchanged. Two errors come first in every call: DVS_NULL if a
- * pointer is null that must not be, and DVS_BUSY (see dvs_range_visit()). The
+ * pointer that must not be null is null, and DVS_BUSY (see dvs_range_visit()). The
  * comment of a call lists the other errors in the order in which they are checked.
  *
  * Results. A call writes its results through its last pointers if it returns
@@ -52,7 +52,7 @@
  * Freeing a range, dvs_id_allocate() and queries do not allocate memory. Saving
  * and reading allocate less than 100 bytes for each allocated range, freed id
  * and device, beyond the text and the object. This is also true for an untrusted
- * text, and its part after the first fault allocates nothing.
+ * text, and nothing is allocated after its first fault.
  *
  * Cost. Let k be the number of allocated ranges. Allocating, moving and freeing
  * a range takes time of the order of log k, and so do dvs_range_conflict(),
@@ -75,10 +75,10 @@
  * No call depends on the locale. The library is tested on x86-64 Linux with glibc, and
  * on no other system.
  *
- * Bugs. No call is known to fail other than by its status. If the library detects a bug
- * in itself, it ends the process with abort(). It writes a line to the standard error
- * stream first. A destroyed object, or a pointer to no object, can look like a bug, so
- * the line names both. It never throws into C or C++.
+ * Bugs. No known bug makes a call fail in another way than by its status. If the
+ * library detects a bug in itself, it ends the process with abort(). It writes a line
+ * to the standard error stream first. A destroyed object, or a pointer to no object,
+ * can look like a bug, so the line names both. It never throws into C or C++.
  */
 #ifndef DIVSHARUN_H
 #define DIVSHARUN_H
@@ -89,7 +89,7 @@
 
 /*
  * The version of this header. The numbers of statuses, the members of
- * structures and the behavior of calls stay the same within one
+ * structures and the behaviour of calls stay the same within one
  * DVS_VERSION_MAJOR. It is also the number in the name of the shared library. A
  * new DVS_VERSION_MINOR can add statuses, causes and calls. DVS_VERSION_NUMBER is
  * 10000 * major + 100 * minor + patch.
@@ -100,7 +100,7 @@
 #define DVS_VERSION_NUMBER 30000
 #define DVS_VERSION_TEXT "3.0.0"
 
-/* Marks a call that writes its results only if its status is DVS_OK. */
+/* The compiler warns if the status of such a call is ignored. */
 #ifdef __GNUC__
 #define DVS_WARN_UNUSED __attribute__((warn_unused_result))
 #else
@@ -138,7 +138,7 @@ enum {
     DVS_RESOURCE_NOT_AVAILABLE = 5,
     /*
      * The start of a range is past its end, or the range has all 2^64 addresses. A window
-     * can have them all.
+     * can cover all of them.
      */
     DVS_INVALID_RANGE = 6,
     /* The alignment is not a power of two. */
@@ -149,7 +149,7 @@ enum {
     DVS_INVALID_STATE_TRANSITION = 9,
     /* The requested start is not a multiple of the alignment. */
     DVS_UNALIGNED_ADDRESS = 10,
-    /* The size of a space is 0. */
+    /* The size of a space is 0. It is also returned if no free range is given for a space. */
     DVS_UNDERFLOW = 11,
     /* The size of a requested range is 0. */
     DVS_INVALID_SIZE = 12,
@@ -415,15 +415,15 @@ DVS_WARN_UNUSED
 dvs_status dvs_address_allocator_space(const dvs_address_allocator *allocator, dvs_range *space);
 
 /*
- * Allocates the lowest `size` free addresses that start at a multiple of
- * `alignment`, and writes them to `range`. Free them with dvs_range_free().
+ * Allocates the lowest free range of `size` addresses that starts at a multiple of
+ * `alignment`, and writes it to `range`. Free it with dvs_range_free().
  *
  * Errors, in order:
  * - DVS_INVALID_SIZE if `size` is 0.
  * - DVS_INVALID_ALIGNMENT if `alignment` is not a power of two.
  * - DVS_RESOURCE_NOT_AVAILABLE if there is no such range.
- * - DVS_OVERFLOW if the range ends at UINT64_MAX, or more than 6 * 10^9 ranges
- *   are allocated.
+ * - DVS_OVERFLOW if the range ends at UINT64_MAX, or if it fills only a part of its
+ *   gap and at least 6,293,134,512 ranges are allocated.
  * - DVS_OUT_OF_MEMORY.
  */
 DVS_WARN_UNUSED
@@ -431,7 +431,7 @@ dvs_status dvs_range_allocate_first(dvs_address_allocator *allocator, uint64_t s
                                     uint64_t alignment, dvs_range *range, dvs_refusal *refusal);
 
 /*
- * Allocates the highest `size` free addresses that start at a multiple of
+ * Allocates the highest free range of `size` addresses that starts at a multiple of
  * `alignment`. Its errors are those of dvs_range_allocate_first(). DVS_OVERFLOW is
  * returned if the highest range ends at UINT64_MAX, even if another is free.
  */
@@ -453,8 +453,8 @@ dvs_status dvs_range_allocate_last(dvs_address_allocator *allocator, uint64_t si
  *   already allocated.
  * - DVS_RESOURCE_NOT_AVAILABLE, with a cause, if an address of the range is
  *   allocated or outside the space.
- * - DVS_OVERFLOW if the range ends at UINT64_MAX, or more than 6 * 10^9 ranges
- *   are allocated.
+ * - DVS_OVERFLOW if the range ends at UINT64_MAX, or if it fills only a part of its
+ *   gap and at least 6,293,134,512 ranges are allocated.
  * - DVS_OUT_OF_MEMORY.
  */
 DVS_WARN_UNUSED
@@ -481,9 +481,9 @@ dvs_status dvs_range_allocate_exact(dvs_address_allocator *allocator, uint64_t s
  *   same order. Addresses outside the window count as outside the space. So no
  *   range fits if the window and the space have no address in common.
  *
- * DVS_INVALID_STATE_TRANSITION is also returned if the allocated range starts in
- * the window and ends past it. A window that ends before UINT64_MAX avoids the
- * DVS_OVERFLOW of a range that ends there.
+ * DVS_INVALID_STATE_TRANSITION is also returned if exactly the requested range
+ * is allocated, starts in the window and ends past it. A window that ends before
+ * UINT64_MAX avoids the DVS_OVERFLOW of a range that ends there.
  */
 DVS_WARN_UNUSED
 dvs_status dvs_range_allocate(dvs_address_allocator *allocator, const dvs_request *request,
@@ -563,8 +563,8 @@ dvs_status dvs_range_move_request(dvs_address_allocator *allocator, dvs_range ra
  *   already allocated.
  * - DVS_RESOURCE_NOT_AVAILABLE, with a cause, if an address of the new range is
  *   allocated, also if it is one of `range`, or is outside the space.
- * - DVS_OVERFLOW if the new range ends at UINT64_MAX, or more than 6 * 10^9
- *   ranges are allocated.
+ * - DVS_OVERFLOW if the new range ends at UINT64_MAX, or if it fills only a part of
+ *   its gap and at least 6,293,134,512 ranges are allocated.
  * - DVS_OUT_OF_MEMORY.
  */
 DVS_WARN_UNUSED
@@ -603,8 +603,9 @@ DVS_WARN_UNUSED
 dvs_status dvs_gap_at(const dvs_address_allocator *allocator, uint64_t address, dvs_range *gap);
 
 /*
- * Writes the length of the longest gap to `length`, or 0 if there is none. A
- * request of alignment 1 fits if and only if its size is at most this length.
+ * Writes the length of the longest gap to `length`, or 0 if there is none. For a
+ * request at alignment 1 without a window, DVS_FIRST and DVS_LAST return
+ * DVS_RESOURCE_NOT_AVAILABLE if and only if its size is more than this length.
  * Errors: DVS_NULL.
  */
 DVS_WARN_UNUSED
@@ -814,9 +815,9 @@ DVS_WARN_UNUSED
 dvs_status dvs_id_allocate(dvs_id_allocator *allocator, uint32_t *id);
 
 /*
- * Allocates this id. The ids below it count as allocated before, so those that
- * never were become freed ids. Time and memory are linear in their number, and
- * no memory is allocated if there are none.
+ * Allocates this id. Unused ids below it become freed ids, as if they had been
+ * allocated and freed. Time and memory are linear in their number, and no memory
+ * is allocated if there are none.
  *
  * Errors, in order:
  * - DVS_OUT_OF_RANGE, with the id, if it is not between the first and the last.
@@ -832,7 +833,7 @@ dvs_status dvs_id_allocate_exact(dvs_id_allocator *allocator, uint32_t id, dvs_r
  *
  * Errors, in order:
  * - DVS_INVALID_RANGE, with both ids, if `last` is less than `first`.
- * - DVS_RESOURCE_NOT_AVAILABLE if no id there is in the range and free.
+ * - DVS_RESOURCE_NOT_AVAILABLE if no id from `first` to `last` is free.
  * - DVS_OUT_OF_MEMORY.
  */
 DVS_WARN_UNUSED
@@ -851,7 +852,10 @@ dvs_status dvs_id_allocate_in(dvs_id_allocator *allocator, uint32_t first, uint3
 DVS_WARN_UNUSED
 dvs_status dvs_ids_allocate(dvs_id_allocator *allocator, uint32_t *ids, size_t count);
 
-/* Writes the id that dvs_id_allocate() would allocate, without a change. It has the same errors. */
+/*
+ * Writes the id that dvs_id_allocate() would allocate, without allocating it. It has the
+ * same errors.
+ */
 DVS_WARN_UNUSED
 dvs_status dvs_id_peek(const dvs_id_allocator *allocator, uint32_t *id);
 

@@ -1,8 +1,8 @@
 /* SPDX-License-Identifier: Apache-2.0 OR BSD-3-Clause */
 /*
  * The calls of divsharun.h for C++11: owners that destroy their object, requests
- * that own their window, statuses as std::error_code, and lists as vectors, by a
- * function for each item or in a range-based for.
+ * that own their window, statuses as std::error_code, and lists: copied to a
+ * vector, passed to a function, or in a range-based for.
  *
  * A method has the rules of its call. It returns the code of the status, which
  * converts to false for DVS_OK, and the compiler warns if the code is ignored.

@@ -1057,8 +1057,8 @@ impl AddressAllocator {
 
     /// Returns the length of the longest gap, or 0 if there is none. It reads one node.
     ///
-    /// A request of alignment 1 that names no start fits if and only if its size is at most this
-    /// length.
+    /// At alignment 1 and without a window, `FirstMatch` and `LastMatch` return `ResourceNotAvailable` if
+    /// and only if the size is more than this length.
     ///
     /// # Example
     ///

@@ -21,7 +21,8 @@ use core::fmt;
 /// ```
 #[derive(Copy, Clone, PartialEq, Eq, PartialOrd, Ord, Hash, Debug)]
 pub enum Error {
-    /// A range would end at or past `u64::MAX`, or too few ids of a range up to `u32::MAX` are free.
+    /// A range would end at or past `u64::MAX`, too few ids of a range up to `u32::MAX` are free, or too
+    /// many ranges are allocated.
     Overflow,
     /// The id is outside the range of the allocator.
     OutOfRange(u32),
@@ -42,7 +43,7 @@ pub enum Error {
     InvalidStateTransition(RangeInclusive, NodeState),
     /// The start of `ExactMatch` is not a multiple of the alignment.
     UnalignedAddress,
-    /// The size of a space is 0.
+    /// The size of a space is 0, or no free range is given for a space.
     Underflow,
     /// The size of a requested range is 0.
     InvalidSize(u64),

@@ -3,7 +3,7 @@
 //! PCI BARs, interrupts and memory slots.
 //!
 //! The API is that of the crate `vm-allocator` 0.1.4. Its core is proved: allocated ranges never
-//! overlap, a request gets a range of its alignment, and a freed range can be allocated again.
+//! overlap, a request gets a range of its alignment, and an error changes no range.
 //!
 //! - [`AddressAllocator`] allocates ranges of 64-bit addresses from one space.
 //! - [`IdAllocator`] allocates 32-bit ids from a range, the lowest free id first.
@@ -137,12 +137,15 @@
 //!
 //! # What is proved
 //!
-//! The results of allocators and managers are proved for every input, for the sources in Rattle.
-//! [`layout`](AddressAllocator::layout), [`contains_address`](RangeInclusive::contains_address),
-//! [`intersection`](RangeInclusive::intersection), conversions and texts are tested. The private
-//! module `proved` is generated from these sources by removing their contracts. `docs/PROVED.md` in the
-//! repository lists what is trusted, including the other modules, which convert between their types and
-//! the generated ones.
+//! The allocators and managers are proved for every input, for the sources in Rattle. The private module
+//! `proved` is generated from these sources by removing their contracts. `docs/PROVED.md` in the
+//! repository lists what is trusted. These parts are written by hand and tested:
+//!
+//! - the sets and maps of ids and devices, and what else replaces Rattle's library;
+//! - conversions, [`layout`](AddressAllocator::layout),
+//!   [`contains_address`](RangeInclusive::contains_address),
+//!   [`intersection`](RangeInclusive::intersection) and texts;
+//! - the readers and writers of formats.
 //!
 //! # Features
 //!
