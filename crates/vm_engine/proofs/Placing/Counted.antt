@@ -24,8 +24,6 @@ use Rattle.vm_engine.proofs.Trees.CountedTrees.{TakesOne, length_with, taken_cou
 use Rattle.vm_engine.proofs.Trees.Spaces.{state_of_tree}
 use Rattle.vm_engine.proofs.Counts.GapBounds.{aligned_searches}
 use Rattle.vm_engine.specs.Counts.GapSearch.{SearchesGaps, SearchesAligned}
-use Rattle.vm_engine.specs.Counts.NodeCounts.{nodes_of_request}
-use Rattle.vm_engine.specs.Counts.Steps.{IsGrantCount}
 use Rattle.vm_ranges.proofs.RangeCalls.{same_range}
 
 -- ---- The number of parts
@@ -96,11 +94,6 @@ module _ (s m : Shape) (space : Range) (held gaps clear : ℕ) (request : Reques
 
   -- What is true for the state of the space is true for that of the tree.
   module _ (answer : Result Taken Error) (a : IsAllocation request space (ltb held SPLIT_LIMIT_MIN_HELD) s m answer count) where
-    pub exact_tree : count ≡ nodes_of_request request (space_of (blocks s)) s
-    exact_tree = subst (λ (v : Range). count ≡ nodes_of_request request v s) h.is_space a.exact
-
-    pub steps_tree : IsGrantCount (height_of s) (tree_state s) request (taken_range request.size answer) count
-    steps_tree = subst (λ (v : AddressState). IsGrantCount (height_of s) v request (taken_range request.size answer) count) state_is a.steps
 
     pub search_tree : SearchesGaps (height_of s) (tree_state s) request (taken_range request.size answer) count × SearchesAligned (height_of s) (tree_state s) request (taken_range request.size answer) count
     search_tree =
@@ -116,9 +109,6 @@ module _ (s m : Shape) (space : Range) (held gaps clear : ℕ) (request : Reques
   module _ (e : Error) (a : IsAllocation request space (ltb held SPLIT_LIMIT_MIN_HELD) s m (Err e) count) where
     pub refused_state : IsAddressState (tree_state m)
     refused_state = rw a.unchanged (state_of_tree s h.tree)
-
-    pub refused_tree : Grants (tree_state s) request (Err e) (tree_state m)
-    refused_tree = grants_if (Err e) a (ap (λ (v : Shape). tree_state v) a.unchanged ∙ sym state_is ∙ ap (λ (v : Shape). blocks_state space (blocks v)) (sym a.unchanged))
 
   -- ---- A range
   module _ (taken : Taken) (z : 0 < request.size) (a : IsAllocation request space (ltb held SPLIT_LIMIT_MIN_HELD) s m (Ok taken) count) where

@@ -1,13 +1,9 @@
 -- The values that encode a tree of a space are read, and no others.
-use Rattle.std.proofs.Common.{◌≡◌, false, Option, sym, ap, ◌∙◌, subst, arith, List, Err}
+use Rattle.std.proofs.Common.{◌≡◌, false, Option, sym, ap, ◌∙◌, subst, arith, List}
 use Rattle.serde_json.specs.Data.{Data}
 use Rattle.vm_ranges.specs.Range.{Range, MAX, IsRange}
 use Rattle.vm_ranges.specs.declared.state.NodeState.TheVariants.{Allocated}
 use Rattle.vm_engine.specs.Address.{AddressState, IsAddressState}
-use Rattle.vm_ranges.specs.Saving.{Reads, ReadsParts, value_error}
-use Rattle.vm_ranges.specs.declared.saved.Condition.TheVariants.{Tree}
-use Rattle.vm_ranges.specs.declared.saved.SavedError.{SavedError}
-use Rattle.vm_ranges.specs.declared.saved.SavedError.TheVariants as saved
 use Rattle.vm_engine.specs.Checks.Spans.{StandsFor, is_tree_of}
 use Rattle.vm_engine.specs.Checks.ValueNodes.{EncodesSaved, IsSavedIn}
 use Rattle.vm_engine.specs.Tree.Blocks.{TilesSpace, held_of}
@@ -20,7 +16,7 @@ use Rattle.vm_engine.proofs.Reading.ReadNodes.{one_shape}
 use Rattle.vm_engine.proofs.SavedNodes.KeyLists.{keys_within}
 use Rattle.vm_engine.proofs.SavedNodes.Roots.{state_with, strict_none}
 use Rattle.vm_engine.proofs.SavedNodes.Spans.{complete}
-use Rattle.vm_engine.proofs.SavedNodes.ValueLaws.{strict_nodes, strict_value}
+use Rattle.vm_engine.proofs.SavedNodes.ValueLaws.{strict_nodes}
 use Rattle.vm_engine.proofs.SavedNodes.ValueTrees.{ranges_saved, one_saved}
 
 -- A value that encodes a tree of the space is read.
@@ -58,6 +54,3 @@ not_tree d space o t nodes stands i p =
     let u = strict_nodes d space p.0 p.1 in
     strict_none space o t stands i (p.0, subst (λ (v : Saved). HasTreeOf space v p.0) (one_saved u.0 t d u.1 nodes) u.2)
 
-pub tree_refused : (d : Data) (space : Range) (t : Saved) (e : SavedError) → EncodesSaved d t → ReadsParts (HasTreeOf space t) Tree (Err e) → Reads (EncodesSpaceTree d space) (Err (value_error e))
-tree_refused d space t (saved.Violated c) nodes h = λ p. let u = strict_nodes d space p.0 p.1 in h.1 (p.0, subst (λ (v : Saved). HasTreeOf space v p.0) (one_saved u.0 t d u.1 nodes) u.2)
-tree_refused d space t saved.OutOfMemory nodes h = (h.0, strict_value d space h.0 t nodes h.1)

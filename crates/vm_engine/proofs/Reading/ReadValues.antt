@@ -1,10 +1,9 @@
 -- The nodes of a value are read as those of its saved tree.
-use Rattle.std.proofs.Common.{◌≡◌, ℕ, ◌+◌, ◌≤◌, true, false, List, [], ◌++◌, Result, Ok, Err, OnOk, Some, None, Option, is_some, ◌<◌, refl, sym, ap, ◌∙◌, subst, arith}
+use Rattle.std.proofs.Common.{◌≡◌, ℕ, ◌+◌, ◌≤◌, false, List, [], ◌++◌, Result, Ok, Err, OnOk, Some, None, Option, is_some, ◌<◌, refl, sym, ap, ◌∙◌, subst, arith}
 use Rattle.std.proofs.lemmas.List.{append_assoc, append-nil}
 use Rattle.std.proofs.lemmas.Option.{same_Some}
 use Rattle.serde_json.specs.Data.{Data, null}
 use Rattle.serde_json.specs.Find.{as_null}
-use Rattle.vm_ranges.proofs.Nulls.{null_of}
 use Rattle.vm_ranges.proofs.Steps.{and_then_some}
 use Rattle.vm_ranges.specs.Range.{Range, IsRange}
 use Rattle.vm_leaf.specs.declared.block.Block.{Block}
@@ -19,15 +18,11 @@ use Rattle.vm_engine.proofs.Reading.ReadNodes.{data_of, node_is, no_data, over_s
 use Rattle.vm_engine.proofs.SavedNodes.KeyLists.{held_node}
 use Rattle.vm_engine.proofs.SavedNodes.ValueTrees.{one_saved}
 
-
 -- The saved tree of a value that is read at some depth, with its span.
 abbrev Has : ℕ → Data → Type 0
 Has depth d = (span : Option Span) × (t : Saved) × IsSavedIn depth d span t
 
 -- ---- No node
-
-pub read_null : (depth : ℕ) (d : Data) → depth ≤ MAX_NESTING_REPAIRED → is_some (as_null d) ≡ true → ReadsValue depth d (Some None)
-read_null depth d n z = (Absent, record { nodes = null_of d z; stands = record { is_span = refl; ranges = tt }; nested = omega (arith, n) })
 
 -- ---- A node that cannot be read
 

@@ -1,5 +1,5 @@
 -- The values that encode the held ranges of a space by their keys are read, and no others.
-use Rattle.std.proofs.Common.{◌≡◌, ◌≤◌, false, List, length, Option, sym, ap, ◌∙◌, subst, arith, Err}
+use Rattle.std.proofs.Common.{◌≡◌, ◌≤◌, false, List, length, Option, sym, ap, ◌∙◌, subst, arith}
 use Rattle.serde_json.specs.Data.{Data}
 use Rattle.vm_ranges.specs.Range.{Range, MAX, IsRange}
 use Rattle.vm_engine.specs.Address.{AddressState, IsAddressState}
@@ -10,10 +10,6 @@ use Rattle.vm_engine.specs.Values.NodeTree.{NodeTree, blocks}
 use Rattle.vm_engine.specs.Values.TreeValues.{EncodesSpaceTree}
 use Rattle.vm_engine.specs.Values.KeyValues.{EncodesKeys}
 use Rattle.vm_engine.specs.Values.SavedTrees.{Saved, IsReadable, HasHeldKeys}
-use Rattle.vm_ranges.specs.Saving.{Reads, ReadsParts, value_error}
-use Rattle.vm_ranges.specs.declared.saved.Condition.TheVariants.{Inside}
-use Rattle.vm_ranges.specs.declared.saved.SavedError.{SavedError}
-use Rattle.vm_ranges.specs.declared.saved.SavedError.TheVariants as saved
 use Rattle.vm_engine.specs.Checks.Spans.{StandsFor, is_inside}
 use Rattle.vm_engine.specs.Checks.ValueNodes.{EncodesSaved, IsSavedIn}
 use Rattle.vm_engine.specs.declared.saved.span.Span.{Span}
@@ -83,6 +79,3 @@ not_inside d space o t nodes stands i p = repaired_none space o t stands i (p.0,
 pub keys_read : (d : Data) (space : Range) (t : Saved) (made : AddressState) → EncodesSaved d t → HasHeldKeys space t made → EncodesKeys d space made
 keys_read d space t made nodes h = values_have_held_keys.keys d space made t nodes h
 
-pub keys_refused : (d : Data) (space : Range) (t : Saved) (e : SavedError) → EncodesSaved d t → ReadsParts (HasHeldKeys space t) Inside (Err e) → Reads (EncodesKeys d space) (Err (value_error e))
-keys_refused d space t (saved.Violated c) nodes h = λ p. h.1 (p.0, held_in d space p.0 t nodes p.1)
-keys_refused d space t saved.OutOfMemory nodes h = (h.0, keys_read d space t h.0 nodes h.1)

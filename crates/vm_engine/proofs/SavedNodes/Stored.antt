@@ -239,11 +239,6 @@ module _ (side : Side) (b : Block) (h : ℕ) (held : List Range) (children paren
 
 -- ---- The calls of a reader
 
-pub end_fails : (side : Side) (b : Block) (h : ℕ) (old : Result Stored SavedError) (failed : Option SavedError) (stored new : Stored) (e : SavedError) →
-    stored_unless failed stored ≡ old → failed ≡ None → EndsStored side b h stored (Err e) new → EndsNode side b h old (Err e) (Err e)
-end_fails side b h old failed stored new e is none ends =
-    subst (λ (v : Result Stored SavedError). EndsNode side b h v (Err e) (Err e)) (is_ok old failed stored is none) (λ nodes s. (refl, ends nodes s))
-
 pub end_ends : (side : Side) (b : Block) (h : ℕ) (old : Result Stored SavedError) (failed : Option SavedError) (stored new : Stored) →
     stored_unless failed stored ≡ old → failed ≡ None → EndsStored side b h stored (Ok tt) new → EndsNode side b h old (Ok tt) (stored_unless failed new)
 end_ends side b h old failed stored new is none ends =
