@@ -1,4 +1,4 @@
--- What a reader stores for the nodes that it has read.
+-- The keys and spans that a reader stores for the nodes that it has read.
 use Rattle.std.proofs.Common.{◌≡◌, ℕ, ◌≤◌, ◌<◌, ◌⊎◌, inl, inr, false, true, List, [], ◌∷◌, ◌++◌, length, is_some, Option, Some, None, Result, Ok, Err, refl, sym, ap, ◌∙◌, subst, arith}
 use Rattle.std.proofs.lemmas.List.{append_assoc, append-nil}
 use Rattle.vm_ranges.specs.Range.{Range, IsRange}

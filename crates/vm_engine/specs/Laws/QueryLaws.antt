@@ -113,8 +113,8 @@ abbrev pub MeetingIsOverlap : Type 0
 MeetingIsOverlap =
     (state : AddressState) (window : Range) → IsAddressState state → window.start ≤ window.end → ListsOverlaps state window
 
--- The addresses of a range in the space are all clear if and only if no held range meets it, and none of them is clear
--- if and only if no gap meets it.
+-- The addresses of a range in the space are all clear if and only if no held range meets it. None of them is clear if and
+-- only if no gap meets it.
 pub record IsClearIfNoneMeets (state : AddressState) (window : Range) : Type 0 where
   pub clear : AreClear (address_count window) state window.start ↔ (meeting window state.held ≡ [])
   pub held : ((x : ℕ) → IsIn window x → ¬ IsClear state x) ↔ (meeting window (gaps_of state) ≡ [])

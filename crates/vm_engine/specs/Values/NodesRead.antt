@@ -89,7 +89,8 @@ abbrev pub all_keys : List ReadChildren → List Range
 all_keys [] = []
 all_keys (c ∷ cs) = keys_of c ++ all_keys cs
 
--- What a reader stores: the held keys of the nodes that ended, and spans in place of the subtrees.
+-- The values that a reader stores: the held keys of the nodes that ended, and a span for each of their subtrees that has no parent
+-- yet.
 pub record Stored : Type 0 where
   pub held : List Range
   pub children : Children
