@@ -354,7 +354,7 @@ impl AddressAllocator {
 
         // Freeing an allocated range always succeeds.
         ensures held { Contains (state_of self.old).held key.now → IsOk result.0 }
-        ensures steps { IsFreeCount (height_of self.old.tree) result.0 result.1 }
+        ensures steps { IsFreeCount self.old.tree key.now result.0 result.1 }
         ensures state { IsAddressState (state_of self.new) }
     {
         self.interval_tree.free_counted(key)

@@ -20,5 +20,6 @@ pub mod AllocatedTrees
 pub mod AllocatedLeaves
 pub mod Allocating
 pub mod AllocatedExact
+pub mod FreesCounts
 pub mod Paths
 pub mod Roots

@@ -1,5 +1,5 @@
--- The number of nodes that a search or an exact request enters. Each is defined along its path.
-use Rattle.std.specs.Prelude.{ℕ, ◌+◌, ◌-◌, ◌%◌, ◌&&◌, ◌++◌, if◌then◌else◌, nat_lt, nat_le, Bool, List}
+-- The number of nodes that a search, an exact request or a free enters. Each is defined along its path.
+use Rattle.std.specs.Prelude.{ℕ, ◌+◌, ◌-◌, ◌%◌, ◌&&◌, ◌++◌, if◌then◌else◌, nat_eq, nat_lt, nat_le, Bool, List}
 use Rattle.std.specs.List.{list_any}
 use Rattle.vm_ranges.specs.Range.{Range}
 use Rattle.vm_leaf.specs.declared.block.Block.{Block}
@@ -7,6 +7,8 @@ use Rattle.vm_leaf.specs.Block.{is_free}
 use Rattle.vm_leaf.specs.Blocks.{start_of, longest_gap}
 use Rattle.vm_leaf.specs.Multiples.{has_multiple}
 use Rattle.vm_leaf.specs.Windows.{cut_to}
+use Rattle.vm_tree.specs.Ends.{opposite}
+use Rattle.vm_tree.specs.Frees.{block_at_end}
 use Rattle.vm_tree.specs.declared.end.End.{End}
 use Rattle.vm_tree.specs.declared.end.End.TheVariants.{First, Last}
 use Rattle.vm_tree.specs.Shape.{Shape, Tip, Fork, blocks}
@@ -62,3 +64,26 @@ nodes_to_address x (Fork l r) =
 unfoldable pub nodes_to_fit : End → Range → ℕ → ℕ → Shape → ℕ
 nodes_to_fit end w n a (Tip bs) = if list_any (has_fit_in w n a) bs then 1 else 0
 nodes_to_fit end w n a (Fork l r) = nodes_of_search end w n a (Fork l r)
+
+-- The nodes on the path to the leaf at an end of the tree.
+abbrev pub nodes_to_end : End → Shape → ℕ
+nodes_to_end end (Tip bs) = 1
+nodes_to_end First (Fork l r) = nodes_to_end First l + 1
+nodes_to_end Last (Fork l r) = nodes_to_end Last r + 1
+
+-- The nodes that a free enters below a node whose edge the range touches. The range is in `near`, the child at this end. The
+-- block of the other child at the edge is looked at, then the range is freed, and the block is dropped if it is a gap.
+unfoldable pub nodes_beside : End → Shape → Shape → ℕ
+nodes_beside end near far =
+    nodes_to_end end far + nodes_to_end (opposite end) near
+    + (if is_free (block_at_end end (blocks far)).state then nodes_to_end end far else 0)
+
+-- The nodes that the free of the held range k enters. It enters the path to the leaf of k. If k touches the edge between the
+-- children of a node on this path, it enters the nodes beside the edge instead of those below the node.
+unfoldable pub nodes_to_free : Range → Shape → ℕ
+nodes_to_free k (Tip bs) = 1
+nodes_to_free k (Fork l r) =
+    (if nat_eq k.start (start_of (blocks r)) then nodes_beside Last r l
+    else if nat_eq (k.end + 1) (start_of (blocks r)) then nodes_beside First l r
+    else if nat_lt k.start (start_of (blocks r)) then nodes_to_free k l else nodes_to_free k r)
+    + 1

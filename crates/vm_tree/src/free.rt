@@ -3,12 +3,13 @@
 //! The range of a block can end right before the edge between two children of a node, or start at it. Then
 //! the block on the other side of the edge is looked at. If it is a gap, the range is freed together with it.
 //! After that the gap is dropped from its leaf, and the edge moves over it.
-ghost use Rattle.std.specs.Prelude.{◌≡◌, ◌≢◌, ◌+◌, ◌*◌, ◌-◌, ◌<◌, ◌≤◌, length, max, MatchOption};
+ghost use Rattle.std.specs.Prelude.{◌≡◌, ◌≢◌, ◌+◌, ◌*◌, ◌-◌, ◌<◌, ◌≤◌, length, max, MatchOption, OnSome};
 ghost use Rattle.vm_ranges.specs.Range.{MAX, address_count};
 ghost use Rattle.vm_ranges.specs.declared.state.NodeState.TheVariants.{Allocated};
 ghost use Rattle.vm_leaf.specs.Blocks.{nth, start_of, end_of, freed_at, longest_gap};
 ghost use Rattle.vm_leaf.specs.Multiples.{alignment_count, most_alignments};
 ghost use Rattle.vm_tree.specs.Shape.{Tip, Fork, blocks, height_of, IsTree};
+ghost use Rattle.vm_tree.specs.NodeCounts.{nodes_to_end, nodes_beside, nodes_to_free};
 ghost use Rattle.vm_tree.specs.Links.{side, IsFreeOf, IsSummed, IsNode};
 ghost use Rattle.vm_tree.specs.Changes.{Reports, CanChange, Reduces};
 ghost use Rattle.vm_tree.specs.Frees.{Frees, Holds, JoinsGap, FreesUnder, FreesBeside, FreesEnd, EndHeld, CanExtend, TouchesEdge, between, end_index, block_at_end, without_end, fork_at, node_at};
@@ -200,7 +201,7 @@ fn end_block(tree: &Link, end: End, count: &mut Steps) -> Block
     requires tree { IsTree (side tree.now) }
     requires count_fits { count.old + height_of (side tree.now) ≤ MAX }
     ensures block { result ≡ block_at_end end (blocks (side tree.now)) }
-    ensures count { (count.old < count.new) × (count.new ≤ count.old + height_of (side tree.now)) }
+    ensures count { count.new ≡ count.old + nodes_to_end end (side tree.now) }
 {
     count.enter();
     match tree {
@@ -228,7 +229,7 @@ fn drop_end(tree: &mut Link, end: End, count: &mut Steps) -> Change
     ensures dropped { blocks (side tree.new) ≡ without_end end (blocks (side tree.old)) }
     ensures reduces { Reduces result 1 (side tree.old) (side tree.new) }
     ensures summed { IsSummed tree.new }
-    ensures count { (count.old < count.new) × (count.new ≤ count.old + height_of (side tree.old)) }
+    ensures count { count.new ≡ count.old + nodes_to_end end (side tree.old) }
 {
     count.enter();
     match tree {
@@ -263,7 +264,7 @@ fn free_end(tree: &mut Link, end: End, start: u64, last: u64, count: &mut Steps)
         ((side tree.new ≡ side tree.old) × ¬ EndHeld end (between start last) (blocks (side tree.old)))
         (λ freed. FreesEnd end (between start last) (blocks (side tree.old)) (blocks (side tree.new)) × Reduces freed.change freed.joined (side tree.old) (side tree.new)) }
     ensures summed { IsSummed tree.new }
-    ensures count { (count.old < count.new) × (count.new ≤ count.old + height_of (side tree.old)) }
+    ensures count { count.new ≡ count.old + nodes_to_end end (side tree.old) }
 {
     count.enter();
     match tree {
@@ -295,7 +296,7 @@ fn free_end(tree: &mut Link, end: End, start: u64, last: u64, count: &mut Steps)
 /// Frees a range that touches the edge between two children of a node. It is in `near`, the child at the given
 /// end of the node. If the block of `far` at the edge is a gap, it is dropped, and the edge moves over it.
 #[inline(never)]
-#[tactic(auto, using(crate::proofs::FreesEdges::beside))]
+#[tactic(auto, using(crate::proofs::FreesEdges::beside, crate::proofs::FreesCounts::beside_counts))]
 fn free_beside(
     near: &mut Link,
     at: &mut u64,
@@ -312,6 +313,7 @@ fn free_beside(
     ensures freed { FreesBeside end key.now (side near.old) (side far.old) (side near.new) (side far.new) result }
     ensures count { (count.old ≤ count.new)
         × (count.new ≤ count.old + 3 * max (height_of (side near.old)) (height_of (side far.old))) }
+    ensures exact { OnSome result (count.new ≡ count.old + nodes_beside end (side near.old) (side far.old)) }
 {
     let next = end_block(far, end, count);
     match next.state {
@@ -349,14 +351,14 @@ fn free_child(
 ) -> Option<Freed>
     requires can { CanChange (Fork (side left.old) (side right.old)) }
     requires node { IsNode (record { at = edge; left = left.old; right = right.old }) }
-    requires within { (start_of (blocks (side left.old)) ≤ key.now.start)
-        × (key.now.start ≤ end_of (blocks (side right.old))) }
-    requires inside { (key.now.start ≢ edge) × (key.now.end + 1 ≢ edge) }
+    requires inside { (start_of (blocks (side left.old)) ≤ key.now.start)
+        × (key.now.start ≤ end_of (blocks (side right.old))) × (key.now.start ≢ edge) × (key.now.end + 1 ≢ edge) }
     requires count_fits { count.old + 3 * max (height_of (side left.old)) (height_of (side right.old)) < MAX }
     ensures node { IsNode (record { at = edge; left = left.new; right = right.new }) }
     ensures freed { FreesUnder key.now (side left.old) (side right.old) (side left.new) (side right.new) result }
     ensures count { (count.old ≤ count.new)
         × (count.new ≤ count.old + 3 * max (height_of (side left.old)) (height_of (side right.old))) }
+    ensures exact { OnSome result (count.new + 1 ≡ count.old + nodes_to_free key.now (Fork (side left.old) (side right.old))) }
 {
     if key.start() < edge {
         return free_at(left, key, count);
@@ -384,6 +386,7 @@ fn free_under(
     ensures freed { FreesUnder key.now (side left.old) (side right.old) (side left.new) (side right.new) result }
     ensures count { (count.old ≤ count.new)
         × (count.new ≤ count.old + 3 * max (height_of (side left.old)) (height_of (side right.old))) }
+    ensures exact { OnSome result (count.new + 1 ≡ count.old + nodes_to_free key.now (Fork (side left.old) (side right.old))) }
 {
     let edge = *at;
     if key.start() == edge {
@@ -408,6 +411,7 @@ pub(crate) fn free_at(tree: &mut Link, key: &RangeInclusive, count: &mut Steps) 
         (λ freed. Frees key.now (blocks (side tree.old)) (blocks (side tree.new)) × Reduces freed.change freed.joined (side tree.old) (side tree.new)) }
     ensures summed { IsSummed tree.new }
     ensures count { (count.old < count.new) × (count.new + 2 ≤ count.old + 3 * height_of (side tree.old)) }
+    ensures exact { OnSome result (count.new ≡ count.old + nodes_to_free key.now (side tree.old)) }
 {
     count.enter();
     match tree {

@@ -2,7 +2,7 @@
 //!
 //! A tree that is one leaf stores no summary, because a search of the leaf is as fast without it. All other
 //! calls pass the root to the recursive functions of this crate.
-ghost use Rattle.std.specs.Prelude.{◌≡◌, ◌≢◌, true, Err, OnErr, ◌+◌, ◌*◌, ◌<◌, ◌≤◌, ◌∷◌, [], ◌++◌, length, IfOk, MatchOption, ◌^◌};
+ghost use Rattle.std.specs.Prelude.{◌≡◌, ◌≢◌, true, Err, OnErr, ◌+◌, ◌*◌, ◌<◌, ◌≤◌, ◌∷◌, [], ◌++◌, length, IfOk, MatchOption, OnSome, ◌^◌};
 ghost use Rattle.vm_ranges.specs.Range.{IsIn, at_address};
 ghost use Rattle.vm_leaf.specs.Block.{free_block};
 ghost use Rattle.vm_leaf.specs.Blocks.{longest_gap};
@@ -12,7 +12,7 @@ ghost use Rattle.vm_tree.specs.Frees.{Frees, Holds};
 ghost use Rattle.vm_tree.specs.GapSearch.{IsSearchCount, gaps_without_place};
 ghost use Rattle.vm_tree.specs.Links.{side};
 ghost use Rattle.vm_tree.specs.Lookups.{find_superset};
-ghost use Rattle.vm_tree.specs.NodeCounts.{nodes_to_address, nodes_to_fit};
+ghost use Rattle.vm_tree.specs.NodeCounts.{nodes_to_address, nodes_to_fit, nodes_to_free};
 ghost use Rattle.vm_tree.specs.Placing.{IsStartIn};
 ghost use Rattle.vm_tree.specs.Roots.{IsBlockTree, IsPathLength, range_of};
 ghost use Rattle.vm_tree.specs.Shape.{Tip, blocks, height_of, SPLIT_HEIGHT};
@@ -173,6 +173,7 @@ impl Tree {
             ((self.new ≡ self.old) × ¬ Holds key.now (blocks self.old))
             (λ joined. Frees key.now (blocks self.old) (blocks self.new) × (length (blocks self.old) ≡ length (blocks self.new) + joined)) }
         ensures count { (1 ≤ count.new) × (count.new ≤ 3 * height_of self.old) }
+        ensures exact { OnSome result (count.new ≡ nodes_to_free key.now self.old) }
         ensures height { height_of self.new ≤ height_of self.old }
     {
         match &mut self.root {

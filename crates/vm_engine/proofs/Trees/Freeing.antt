@@ -72,7 +72,7 @@ module _ (sp : Range) (old : List Block) (tiles : TilesSpace sp old) (k : Range)
   frees new h = inl (contains_held (held_of old) k (was_held new h), (refl, ap (λ (v : List Range). record { space = sp; held = v }) (freed_blocks new h).held))
 
 -- ---- A range that no block holds
-found_at : (r : Range) (bs : List Block) → IsHeld (held_of bs) r → tree.Holds r bs
+pub found_at : (r : Range) (bs : List Block) → IsHeld (held_of bs) r → tree.Holds r bs
 unfolding IsHeldBlock
 found_at r [] h = absurd h
 found_at r (b ∷ bs) h =

@@ -6,6 +6,7 @@ use Rattle.vm_ranges.specs.declared.error.Error.{Error}
 use Rattle.vm_ranges.specs.declared.constraint.AllocPolicy.{AllocPolicy}
 use Rattle.vm_ranges.specs.declared.constraint.AllocPolicy.TheVariants.{FirstMatch, LastMatch, ExactMatch}
 use Rattle.vm_tree.specs.Fibonacci.{fibonacci}
+use Rattle.vm_tree.specs.NodeCounts.{nodes_to_free}
 use Rattle.vm_tree.specs.Shape.{Shape, MAX_HEIGHT, blocks, height_of, node_count, IsTree}
 use Rattle.vm_engine.specs.Address.{AddressState}
 use Rattle.vm_engine.specs.Counts.NodeCounts.{nodes_of_request}
@@ -51,7 +52,8 @@ pub record EntersToAllocate (s : Shape) (request : Request) (count : ℕ) : Type
   pub invalid : (e : Error) → MakesConstraint request (Err e) → count ≡ 0
   pub valid : IsRequest request → count ≡ nodes_of_request request (space_of (blocks s)) s
 
--- The bounds on the nodes that `free` enters in a tree of height h: those of a path, and two more for each node on it.
-pub record IsFreeCount (h : ℕ) (answer : Result (Unit {0}) Error) (count : ℕ) : Type 0 where
-  pub most : count ≤ 3 * h
-  pub success : IsOk answer → 1 ≤ count
+-- The nodes that `free` enters in a tree of height h are at most 3h: those of a path, and two more for each node on it. A
+-- success enters exactly `nodes_to_free`.
+pub record IsFreeCount (s : Shape) (key : Range) (answer : Result (Unit {0}) Error) (count : ℕ) : Type 0 where
+  pub most : count ≤ 3 * height_of s
+  pub exact : IsOk answer → count ≡ nodes_to_free key s

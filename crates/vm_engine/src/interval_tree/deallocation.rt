@@ -1,6 +1,5 @@
 //! Frees an allocated range.
 ghost use Rattle.std.specs.Prelude.{◌≡◌, OnErr};
-ghost use Rattle.vm_tree.specs.Shape.{height_of};
 ghost use Rattle.vm_engine.specs.Address.{IsAddressState};
 ghost use Rattle.vm_engine.specs.Answer.{Frees};
 ghost use Rattle.vm_engine.specs.Counts.Steps.{IsFreeCount};
@@ -16,7 +15,7 @@ impl IntervalTree {
     pub fn free_counted(&mut self, key: &RangeInclusive) -> (Result<()>, u64)
         ensures answer { Frees (tree_state self.old) key.now result.0 (tree_state self.new) }
         ensures unchanged { OnErr result.0 (self.new ≡ self.old) }
-        ensures steps { IsFreeCount (height_of self.old) result.0 result.1 }
+        ensures steps { IsFreeCount self.old key.now result.0 result.1 }
         ensures state { IsAddressState (tree_state self.new) }
     {
         if key.start() < self.space.start() || self.space.end() < key.start() {

@@ -13,7 +13,7 @@ ghost use Rattle.vm_engine.specs.Laws.AddressLaws.{
   TooShortIsExact,
   TooShortAreFew,
 };
-ghost use Rattle.vm_engine.specs.Laws.CountLaws.{EntersFew, CountsAreDecided};
+ghost use Rattle.vm_engine.specs.Laws.CountLaws.{EntersFew, CountsAreDecided, FreeEntersPath};
 
 /// States that an allocation has one result and one next state, unless memory runs out.
 #[tactic(auto, using(crate::proofs::Results::Once::allocates_once))]
@@ -79,4 +79,11 @@ fn calls_enter_few()
 #[tactic(auto, using(crate::proofs::Counts::SimpleBounds::decided))]
 fn counts_are_decided()
     ensures { CountsAreDecided }
+{}
+
+/// States that a successful call of `free` enters at least the nodes on the path to the leaf of its
+/// range.
+#[tactic(auto, using(crate::proofs::Counts::SimpleBounds::path))]
+fn free_enters_path()
+    ensures { FreeEntersPath }
 {}

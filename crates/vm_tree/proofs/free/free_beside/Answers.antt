@@ -4,6 +4,7 @@ use Rattle.vm_tree.specs.Links.{side}
 use Rattle.vm_tree.specs.Frees.{between}
 use Rattle.vm_tree.proofs.FreesTrees.{child_can}
 use Rattle.vm_tree.proofs.FreesEdges.{far_can, far_many, near_extends, edge_past, beside_edge, gap_beside, beside_held, beside_extends, beside_fits, beside_none, beside_few, beside_gap, beside_node}
+use Rattle.vm_tree.proofs.FreesCounts.{end_nodes, beside_gap_nodes}
 use Rattle.vm_tree.proofs.free.free_beside.Goals as goal
 
 pub free_end-requires-clause-extends : goal.free_end-requires-clause-extends
@@ -55,11 +56,15 @@ returns-after-end c =
     let o = c.in_ok-freed-in-Free in
     let f = rw c.opposite-in-Free.ensures at o.ensures.freed in
     let d = c.drop_end in
+    let past = end_nodes c.args.end (side c.args.far.now) in
+    let near = end_nodes c.opposite-in-Free.result (side c.args.near.now) in
+    let all = beside_gap_nodes c.args.end (side c.args.near.now) (side c.args.far.now) (ap (λ (x : Block). x.state) (sym b.ensures.block) ∙ c.in-Free.is) in
     let at : c.match-end.at ≡ edge_past c.args.end (between c.min-start.result c.max-last.result) = search rules in
     record {
       node = beside_node q c.free_end-in-Free.new.tree d.new.tree o.freed f c.match-end.at d.ensures.dropped o.ensures.summed d.ensures.summed at;
       freed = beside_gap q c.free_end-in-Free.new.tree d.new.tree o.freed f d.result (ap (λ (x : Block). x.state) (sym b.ensures.block) ∙ c.in-Free.is) d.ensures.dropped d.ensures.reduces;
-      count = search rules;
+      count = omega (arith, b.ensures.count, o.ensures.count, d.ensures.count, past, near);
+      exact = omega (arith, b.ensures.count, rw c.opposite-in-Free.ensures at o.ensures.count, d.ensures.count, all);
     }
 
 pub end_block-next-requires-clause-tree : goal.end_block-next-requires-clause-tree
@@ -78,4 +83,7 @@ pub drop_end-requires-clause-some : goal.drop_end-requires-clause-some
 drop_end-requires-clause-some c = far_many c.args.end (side c.args.near.now) (side c.args.far.now) c.requires.can
 
 pub returns-in_err-freed-in-Free-clause-count : goal.returns-in_err-freed-in-Free-clause-count
-returns-in_err-freed-in-Free-clause-count c = omega (arith, c.end_block-next.ensures.count, c.free_end-in-Free.ensures.count)
+returns-in_err-freed-in-Free-clause-count c =
+    let past = end_nodes c.args.end (side c.args.far.now) in
+    let near = end_nodes c.opposite-in-Free.result (side c.args.near.now) in
+    omega (arith, c.end_block-next.ensures.count, c.free_end-in-Free.ensures.count, past, near)
