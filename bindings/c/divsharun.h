@@ -51,7 +51,8 @@
  *
  * Freeing a range, dvs_id_allocate() and queries do not allocate memory. Saving
  * and reading allocate less than 100 bytes for each allocated range, freed id
- * and device, beyond the text and the object. This is also true for an untrusted
+ * and device, beyond the text and the object. Reading also allocates less than
+ * 8 KiB for a list of the nodes that it is in. This is also true for an untrusted
  * text, and its part after the first fault allocates nothing.
  *
  * Cost. Let k be the number of allocated ranges. Allocating, moving and freeing
