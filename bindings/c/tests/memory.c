@@ -321,6 +321,27 @@ static void measure_texts(void) {
     CHECK(saving <= SAVING && reading <= READING && refusing <= REFUSING);
 }
 
+/* Checks that the list of nested nodes has less than 8 KiB, for as many as a text can have. */
+static void measure_nesting(void) {
+    static char text[8192];
+    char *end = text;
+    dvs_address_allocator *made;
+    int i;
+
+    end += sprintf(end, "{\"address_space\":{\"start\":0,\"end\":99},\"interval_tree\":{\"root\":");
+    for (i = 50; i > 0; i--)
+        end += sprintf(
+            end, "{\"key\":{\"start\":%d,\"end\":%d},\"node_state\":\"Free\",\"left\":", i, i);
+    end += sprintf(end, "null");
+    for (i = 0; i < 50; i++)
+        end += sprintf(end, ",\"right\":null,\"height\":1}");
+    end += sprintf(end, "}}");
+    most_bytes = bytes;
+    CHECK(dvs_address_allocator_read_repaired(text, (size_t)(end - text), &made) == DVS_OK);
+    CHECK(most_bytes - bytes < 8192);
+    destroy(0, made);
+}
+
 /* Checks the bytes for each member of an array that a call has allocated and freed. */
 static void check_freed(size_t most) {
     CHECK((most_bytes - bytes) / RANGES <= most);
@@ -386,6 +407,7 @@ int main(void) {
         refuse_in_turn(&rows[i]);
     do_without_memory();
     measure_texts();
+    measure_nesting();
     measure_arrays();
     refuse_without_memory();
     CHECK(blocks == before);

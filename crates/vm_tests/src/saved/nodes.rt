@@ -4,256 +4,375 @@
 use super::*;
 use Condition::{Inside, Keys, Nesting, Tree};
 use NodeState::{Allocated, Free};
-use Outcome::{Exact, NoNode, NoSpace, Repaired};
+use Outcome::{Exact, Fails, Refused, Repaired};
 use SavedError::{OutOfMemory, Violated};
-use vm_allocator::{Condition, ReadNodes, SavedError, Span};
+use Side::{Left, Right};
+use Step::{Begin, End};
+use vm_allocator::{Condition, ReadNodes, SavedError, Side};
 
 const MAX: u64 = u64::MAX;
 
-/// A node: the ends of its key, its state, the places of its children in the row, and its height.
-type Node = ((u64, u64), NodeState, (Option<usize>, Option<usize>), u64);
+/// A call of a reader.
+#[derive(Clone, Copy)]
+enum Step {
+    Begin,
+    /// The side, the ends of the key, the state and the height.
+    End(Side, (u64, u64), NodeState, u64),
+}
 
 /// The result of the nodes of a row, in the space from 1 to `u64::MAX`.
 #[derive(Clone, Copy, Debug)]
 enum Outcome {
-    /// The last node is not accepted.
-    NoNode,
+    /// The last call returns an error, and so does each call after that.
+    Fails(Condition),
     /// No reader accepts the nodes.
-    NoSpace,
-    /// The reader with repairs accepts them.
-    Repaired,
-    /// Both readers accept them.
-    Exact,
+    Refused,
+    /// The reader with repairs accepts them. Exactly these ranges are allocated.
+    Repaired(&'static [(u64, u64)]),
+    /// Both readers accept them. Exactly these ranges are allocated.
+    Exact(&'static [(u64, u64)]),
 }
 
-/// Nodes in the order in which they end, of which the last one is the root, what they lead to, and the
-/// allocated ranges.
-type Row<'a> = (&'a [Node], Outcome, &'a [(u64, u64)]);
+/// A saved tree, as the calls of a reader, and what they lead to.
+struct Row {
+    steps: &'static [Step],
+    want: Outcome,
+}
 
-const ROWS: [Row<'static>; 21] = [
-    (&[], Repaired, &[]),
-    (&[((1, MAX), Free, (None, None), 1)], Exact, &[]),
+const ROWS: [Row; 30] = [
+    Row {
+        steps: &[],
+        want: Repaired(&[]),
+    },
+    Row {
+        steps: &[Begin, End(Left, (1, MAX), Free, 1)],
+        want: Exact(&[]),
+    },
     // A wrong height of a leaf, of a child and of a parent.
-    (&[((1, MAX), Free, (None, None), MAX)], Repaired, &[]),
-    (&[((1, MAX), Free, (None, None), 0)], Repaired, &[]),
-    (
-        &[
-            ((1, 3), Allocated, (None, None), MAX),
-            ((4, MAX), Free, (Some(0), None), 2),
+    Row {
+        steps: &[Begin, End(Left, (1, MAX), Free, MAX)],
+        want: Repaired(&[]),
+    },
+    Row {
+        steps: &[Begin, End(Left, (1, MAX), Free, 0)],
+        want: Repaired(&[]),
+    },
+    Row {
+        steps: &[
+            Begin,
+            Begin,
+            End(Left, (1, 3), Allocated, MAX),
+            End(Left, (4, MAX), Free, 2),
         ],
-        Repaired,
-        &[(1, 3)],
-    ),
-    (
-        &[
-            ((1, 3), Allocated, (None, None), MAX),
-            ((4, MAX), Free, (Some(0), None), 0),
+        want: Repaired(&[(1, 3)]),
+    },
+    Row {
+        steps: &[
+            Begin,
+            Begin,
+            End(Left, (1, 3), Allocated, MAX),
+            End(Left, (4, MAX), Free, 0),
         ],
-        Repaired,
-        &[(1, 3)],
-    ),
-    (
-        &[
-            ((1, 3), Allocated, (None, None), 1),
-            ((4, MAX), Free, (Some(0), None), MAX),
+        want: Repaired(&[(1, 3)]),
+    },
+    Row {
+        steps: &[
+            Begin,
+            Begin,
+            End(Left, (1, 3), Allocated, 1),
+            End(Left, (4, MAX), Free, MAX),
         ],
-        Repaired,
-        &[(1, 3)],
-    ),
+        want: Repaired(&[(1, 3)]),
+    },
     // The right child ends first.
-    (
-        &[
-            ((10, MAX), Free, (None, None), 1),
-            ((8, 9), Allocated, (None, Some(0)), 2),
-            ((1, 3), Allocated, (None, None), 1),
-            ((4, 7), Free, (Some(2), Some(1)), 3),
+    Row {
+        steps: &[
+            Begin,
+            Begin,
+            Begin,
+            End(Right, (10, MAX), Free, 1),
+            End(Right, (8, 9), Allocated, 2),
+            Begin,
+            End(Left, (1, 3), Allocated, 1),
+            End(Left, (4, 7), Free, 3),
         ],
-        Exact,
-        &[(1, 3), (8, 9)],
-    ),
-    (
-        &[
-            ((8, MAX), Free, (None, None), 1),
-            ((6, 7), Allocated, (None, None), 1),
-            ((1, 3), Allocated, (None, None), 1),
-            ((4, 5), Allocated, (Some(2), Some(1)), 2),
+        want: Exact(&[(1, 3), (8, 9)]),
+    },
+    Row {
+        steps: &[
+            Begin,
+            Begin,
+            End(Right, (6, 7), Allocated, 1),
+            Begin,
+            End(Left, (1, 3), Allocated, 1),
+            End(Left, (4, 5), Allocated, 2),
         ],
-        Repaired,
-        &[(1, 3), (4, 5), (6, 7)],
-    ),
+        want: Repaired(&[(1, 3), (4, 5), (6, 7)]),
+    },
     // A key twice, as a child on each side.
-    (
-        &[
-            ((4, 7), Allocated, (None, None), 1),
-            ((4, 7), Allocated, (Some(0), None), 2),
+    Row {
+        steps: &[
+            Begin,
+            Begin,
+            End(Left, (4, 7), Allocated, 1),
+            End(Left, (4, 7), Allocated, 2),
         ],
-        NoNode,
-        &[],
-    ),
-    (
-        &[
-            ((4, 7), Free, (None, None), 1),
-            ((4, 7), Free, (None, Some(0)), 2),
+        want: Fails(Keys),
+    },
+    Row {
+        steps: &[
+            Begin,
+            Begin,
+            End(Right, (4, 7), Free, 1),
+            End(Left, (4, 7), Free, 2),
         ],
-        NoNode,
-        &[],
-    ),
+        want: Fails(Keys),
+    },
     // Keys that share one address.
-    (
-        &[
-            ((4, 7), Free, (None, None), 1),
-            ((7, 9), Free, (Some(0), None), 2),
+    Row {
+        steps: &[
+            Begin,
+            Begin,
+            End(Left, (4, 7), Free, 1),
+            End(Left, (7, 9), Free, 2),
         ],
-        NoNode,
-        &[],
-    ),
-    (
-        &[
-            ((4, 7), Free, (None, None), 1),
-            ((2, 4), Free, (None, Some(0)), 2),
+        want: Fails(Keys),
+    },
+    Row {
+        steps: &[
+            Begin,
+            Begin,
+            End(Right, (4, 7), Free, 1),
+            End(Left, (2, 4), Free, 2),
         ],
-        NoNode,
-        &[],
-    ),
+        want: Fails(Keys),
+    },
     // A child on the wrong side.
-    (
-        &[
-            ((4, 7), Free, (None, None), 1),
-            ((8, 9), Free, (None, Some(0)), 2),
+    Row {
+        steps: &[
+            Begin,
+            Begin,
+            End(Right, (4, 7), Free, 1),
+            End(Left, (8, 9), Free, 2),
         ],
-        NoNode,
-        &[],
-    ),
-    (
-        &[
-            ((5, MAX), Free, (None, None), 1),
-            ((1, 4), Allocated, (Some(0), None), 2),
+        want: Fails(Keys),
+    },
+    Row {
+        steps: &[
+            Begin,
+            Begin,
+            End(Left, (5, MAX), Free, 1),
+            End(Left, (1, 4), Allocated, 2),
         ],
-        NoNode,
-        &[],
-    ),
+        want: Fails(Keys),
+    },
     // An allocated key that ends at the highest address.
-    (&[((1, MAX), Allocated, (None, None), 1)], NoNode, &[]),
-    (&[((MAX, MAX), Allocated, (None, None), 1)], NoNode, &[]),
-    (&[((MAX, MAX), Free, (None, None), 1)], Repaired, &[]),
+    Row {
+        steps: &[Begin, End(Left, (1, MAX), Allocated, 1)],
+        want: Fails(Keys),
+    },
+    Row {
+        steps: &[Begin, End(Left, (MAX, MAX), Allocated, 1)],
+        want: Fails(Keys),
+    },
+    Row {
+        steps: &[Begin, End(Left, (MAX, MAX), Free, 1)],
+        want: Repaired(&[]),
+    },
     // A key outside the space. The lengths of both keys add up to 2^64.
-    (
-        &[
-            ((0, 5), Free, (None, None), 1),
-            ((6, MAX), Free, (Some(0), None), 2),
+    Row {
+        steps: &[
+            Begin,
+            Begin,
+            End(Left, (0, 5), Free, 1),
+            End(Left, (6, MAX), Free, 2),
         ],
-        NoSpace,
-        &[],
-    ),
+        want: Refused,
+    },
     // Free neighbours and a gap.
-    (
-        &[
-            ((1, 5), Free, (None, None), 1),
-            ((6, MAX), Free, (Some(0), None), 2),
+    Row {
+        steps: &[
+            Begin,
+            Begin,
+            End(Left, (1, 5), Free, 1),
+            End(Left, (6, MAX), Free, 2),
         ],
-        Repaired,
-        &[],
-    ),
-    (
-        &[
-            ((1, 5), Allocated, (None, None), 1),
-            ((7, MAX), Free, (Some(0), None), 2),
+        want: Repaired(&[]),
+    },
+    Row {
+        steps: &[
+            Begin,
+            Begin,
+            End(Left, (1, 5), Allocated, 1),
+            End(Left, (7, MAX), Free, 2),
         ],
-        Repaired,
-        &[(1, 5)],
-    ),
+        want: Repaired(&[(1, 5)]),
+    },
+    // A node that did not end, before and after its child.
+    Row {
+        steps: &[Begin],
+        want: Refused,
+    },
+    Row {
+        steps: &[Begin, Begin, End(Left, (1, MAX), Free, 1)],
+        want: Refused,
+    },
+    // A node that did not begin, as the root and after it.
+    Row {
+        steps: &[End(Left, (1, MAX), Free, 1)],
+        want: Fails(Tree),
+    },
+    Row {
+        steps: &[
+            Begin,
+            End(Left, (1, MAX), Free, 1),
+            End(Right, (1, MAX), Free, 1),
+        ],
+        want: Fails(Tree),
+    },
+    // Nodes that are nested 50 and 51 deep.
+    Row {
+        steps: &[Begin; 50],
+        want: Refused,
+    },
+    Row {
+        steps: &[Begin; 51],
+        want: Fails(Nesting),
+    },
+    // A second child on one side, a second root, and a tree beside the root.
+    Row {
+        steps: &[
+            Begin,
+            Begin,
+            End(Right, (8, 9), Free, 1),
+            Begin,
+            End(Right, (10, MAX), Free, 1),
+        ],
+        want: Fails(Tree),
+    },
+    Row {
+        steps: &[
+            Begin,
+            End(Left, (1, MAX), Free, 1),
+            Begin,
+            End(Left, (1, MAX), Free, 1),
+        ],
+        want: Fails(Tree),
+    },
+    Row {
+        steps: &[
+            Begin,
+            End(Left, (1, 5), Allocated, 1),
+            Begin,
+            End(Right, (6, MAX), Free, 1),
+        ],
+        want: Refused,
+    },
 ];
 
-/// Ends each node of a row.
-fn end_each(
-    rt: &(impl Abort + AllocGlobal),
+/// Makes the calls of a row, up to the first error. Returns the index of the call that returned it.
+fn make_each(
+    rt: &impl Abort,
     nodes: &mut ReadNodes,
-    row: &[Node],
+    steps: &[Step],
 ) -> std::result::Result<(), (usize, SavedError)> {
-    let mut spans: Vec<Span> = list_for(rt, row.len());
-    for (place, node) in row.iter().enumerate() {
-        let ((start, end), state, (left, right), height) = *node;
-        let left = left.and_then(|child| spans.get(child).copied());
-        let right = right.and_then(|child| spans.get(child).copied());
-        match nodes.end(left, range(rt, start, end), state, right, height) {
-            Ok(span) => assert!(rt; spans.push(span).is_ok()),
-            Err(error) => return Err((place, error)),
+    for (place, step) in steps.iter().enumerate() {
+        let answer = match *step {
+            Begin => nodes.begin(),
+            End(side, (start, end), state, height) => {
+                nodes.end(side, range(rt, start, end), state, height)
+            }
+        };
+        if let Err(error) = answer {
+            return Err((place, error));
         }
     }
     Ok(())
 }
 
-/// Checks that the result is an allocator with exactly these allocated ranges, or that memory ran out.
-fn expect_held(
+/// Checks the result of both readers: an allocator with exactly these allocated ranges, this error, or that
+/// memory ran out.
+fn expect_both(
+    rt: &(impl Abort + AllocGlobal),
+    nodes: &ReadNodes,
+    strict: std::result::Result<&[(u64, u64)], SavedError>,
+    repaired: std::result::Result<&[(u64, u64)], SavedError>,
+) {
+    let space = range(rt, 1, MAX);
+    expect_read(
+        rt,
+        AddressAllocator::from_nodes(rt.alloc(), space, nodes),
+        strict,
+    );
+    expect_read(
+        rt,
+        AddressAllocator::from_nodes_repaired(rt.alloc(), space, nodes),
+        repaired,
+    );
+}
+
+fn expect_read(
     rt: &impl Abort,
     answer: std::result::Result<AddressAllocator, SavedError>,
-    held: &[(u64, u64)],
+    want: std::result::Result<&[(u64, u64)], SavedError>,
 ) {
-    match answer {
-        Ok(space) => assert!(rt; holds_exactly(&space, held)),
-        Err(error) => expect_eq(rt, &error, &OutOfMemory, &held),
+    match (answer, want) {
+        (Ok(space), Ok(held)) => assert!(rt; holds_exactly(&space, held)),
+        (Ok(_), Err(error)) => assert!(rt; false, "{error:?} is due"),
+        (Err(OutOfMemory), Ok(_)) => {}
+        (Err(error), want) => expect_eq(rt, &Some(error), &want.err(), &error),
     }
+}
+
+/// Checks that each call returns this error from now on.
+fn expect_failed(rt: &(impl Abort + AllocGlobal), nodes: &mut ReadNodes, error: SavedError) {
+    expect_eq(rt, &nodes.begin(), &Err(error), &"begin");
+    let answer = nodes.end(Left, range(rt, 1, MAX), Free, 1);
+    expect_eq(rt, &answer, &Err(error), &"end");
+    expect_both(rt, nodes, Err(error), Err(error));
 }
 
 #[test]
 fn damaged_nodes(rt: HostRuntime) {
-    for (row, want, held) in &ROWS {
+    for row in &ROWS {
         let mut nodes = ReadNodes::new(rt.alloc());
-        match (end_each(&rt, &mut nodes, row), want) {
-            (Ok(()), Exact | Repaired | NoSpace) => {}
-            (Err((_, OutOfMemory)), _) => continue,
-            (answer, _) => {
-                let last = row.len().saturating_sub(1);
-                expect_eq(&rt, &answer.err(), &Some((last, Violated(Keys))), want);
-                assert!(&rt; matches!(want, NoNode));
+        let made = make_each(&rt, &mut nodes, row.steps);
+        if let Err((place, error)) = made {
+            expect_failed(&rt, &mut nodes, error);
+            if error == OutOfMemory {
                 continue;
             }
+            expect_eq(&rt, &(place + 1), &row.steps.len(), &row.want);
         }
-        let space = range(&rt, 1, MAX);
-        let strict = AddressAllocator::from_nodes(rt.alloc(), space, &nodes);
-        let repaired = AddressAllocator::from_nodes_repaired(rt.alloc(), space, &nodes);
-        match want {
-            Exact => {
-                expect_held(&rt, strict, held);
-                expect_held(&rt, repaired, held);
+        match row.want {
+            Fails(condition) => {
+                let error = made.err().map(|(_, error)| error);
+                expect_eq(&rt, &error, &Some(Violated(condition)), &row.want);
             }
-            Repaired => {
-                expect_eq(&rt, &strict.err(), &Some(Violated(Tree)), want);
-                expect_held(&rt, repaired, held);
-            }
-            NoNode | NoSpace => {
-                expect_eq(&rt, &strict.err(), &Some(Violated(Tree)), want);
-                expect_eq(&rt, &repaired.err(), &Some(Violated(Inside)), want);
-            }
+            Refused => expect_both(&rt, &nodes, Err(Violated(Tree)), Err(Violated(Inside))),
+            Repaired(held) => expect_both(&rt, &nodes, Err(Violated(Tree)), Ok(held)),
+            Exact(held) => expect_both(&rt, &nodes, Ok(held), Ok(held)),
         }
     }
 }
 
-/// Checks that 50 nested nodes can begin, and no more.
-fn begin_fifty(rt: &impl Abort, nodes: &mut ReadNodes) {
-    for number in 0..50 {
-        expect_eq(rt, &nodes.begin(), &Ok(()), &number);
+/// Begins 50 nested nodes, and ends them, each as the left child of the next.
+fn nest_fifty(rt: &impl Abort, nodes: &mut ReadNodes) -> std::result::Result<(), SavedError> {
+    for _ in 0..50 {
+        nodes.begin()?;
     }
-    for number in 50..52 {
-        expect_eq(rt, &nodes.begin(), &Err(Violated(Nesting)), &number);
+    for level in 1..51 {
+        nodes.end(Left, range(rt, level, level), Free, level)?;
     }
+    Ok(())
 }
 
-/// Ends a chain of 50 nodes, and then its parent, which has 51 levels.
 #[test]
 fn nested_nodes(rt: HostRuntime) {
     let mut nodes = ReadNodes::new(rt.alloc());
-    begin_fifty(&rt, &mut nodes);
-    let mut chain = None;
-    for level in 1..51 {
-        let key = range(&rt, level, level);
-        let span = nodes.end(chain, key, Free, None, level);
-        chain = Some(span.expect(&rt, "50 levels are accepted"));
+    let answer = nest_fifty(&rt, &mut nodes);
+    match answer {
+        Ok(()) => expect_both(&rt, &nodes, Err(Violated(Tree)), Ok(&[])),
+        Err(error) => expect_eq(&rt, &error, &OutOfMemory, &"50 levels"),
     }
-    for (left, right, address) in [(chain, None, 51), (None, chain, 0)] {
-        let key = range(&rt, address, address);
-        let answer = nodes.end(left, key, Free, right, 51);
-        expect_eq(&rt, &answer.err(), &Some(Violated(Keys)), &address);
-    }
-    begin_fifty(&rt, &mut nodes);
 }

@@ -12,8 +12,8 @@
 //! - `IsTree`: the heights of the children of a node differ by at most one, and each leaf has 12 to 32 blocks.
 //!   A leaf that is the whole tree can have fewer.
 //! - `IsRun`: the blocks cover one range, and two neighbours are never both free.
-//! - `IsSummed`: beside each link to a subtree its height, the length of its longest gap, and the alignments
-//!   of its gaps are stored.
+//! - `IsSummed`: each link stores the height of its subtree, the length of its longest gap, and the alignments
+//!   of its gaps.
 //!
 //! # What is proved
 //!

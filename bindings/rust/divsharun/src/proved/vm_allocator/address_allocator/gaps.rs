@@ -36,7 +36,7 @@ impl AddressAllocator {
 
     /// Returns the length of the longest gap, or 0 if no address is free.
     ///
-    /// At alignment 1, `FirstMatch` and `LastMatch` return `ResourceNotAvailable` exactly if the size
+    /// At alignment 1, `FirstMatch` and `LastMatch` return `ResourceNotAvailable` if and only if the size
     /// is more than this length. It reads one node and does not allocate.
     pub fn longest_gap(&self) -> u64 {
         self.interval_tree.longest_gap()

@@ -18,7 +18,7 @@ impl AddressAllocator {
     /// Returns an iterator over the allocated ranges that have an address in common with `range`,
     /// from the lowest to the highest.
     ///
-    /// Each range is returned whole. If `range` is in the space, it is free exactly if there is no
+    /// Each range is returned whole. If `range` is in the space, it is free if and only if there is no
     /// item. It descends one path of the tree for each end of `range` and does not allocate.
     pub fn held_ranges_in(&self, range: &RangeInclusive) -> RangesIn<'_> {
         self.interval_tree.held_ranges_in(range)

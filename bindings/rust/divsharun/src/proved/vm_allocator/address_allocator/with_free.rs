@@ -8,7 +8,7 @@ use crate::rattle::{AllocError, Global};
 use crate::proved::vm_engine::IntervalTree;
 use crate::proved::vm_ranges::{Error, ListError, RangeInclusive};
 
-/// More holes than this number make the tree too high.
+/// The maximum number of holes.
 const MAX_HOLES: u64 = (1 << 48) - 1;
 
 impl AddressAllocator {

@@ -15,7 +15,7 @@ use crate::proved::vm_tree::steps::Steps;
 use crate::rattle::Global;
 use crate::proved::vm_leaf::Leaf;
 
-/// Returns the site of the place of a search in a leaf that is closest to an end, or `None` if there is none.
+/// Returns the site of the place of a search that is closest to an end of a leaf, or `None` if there is none.
 #[inline(always)]
 fn site_in(leaf: &Leaf, end: End, search: &Search) -> Option<Site> {
     let place = match end {
@@ -94,7 +94,7 @@ fn fit_below(
 }
 
 /// Allocates the place of a search that is closest to an end, and updates what is stored beside the link.
-/// The search may find a place.
+/// The summary of the tree does not exclude a place.
 pub(in crate::proved::vm_tree) fn fit_at(
     tree: &mut Link,
     end: End,
