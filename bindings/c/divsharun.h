@@ -51,14 +51,9 @@
  *
  * Freeing a range, dvs_id_allocate() and queries do not allocate memory. Saving
  * and reading allocate less than 100 bytes for each allocated range, freed id
-<<<<<<< HEAD
- * and device, beyond the text and the object. This is also true for an untrusted
- * text, and nothing is allocated after its first fault.
-=======
  * and device, beyond the text and the object. Reading also allocates less than
  * 8 KiB for a list of the nodes that it is in. This is also true for an untrusted
- * text, and its part after the first fault allocates nothing.
->>>>>>> 0e72b7c6a32169a19ac7546d4814335892b7dca5
+ * text, and nothing is allocated after its first fault.
  *
  * Cost. Let k be the number of allocated ranges. Allocating, moving and freeing
  * a range takes time of the order of log k, and so do dvs_range_conflict(),

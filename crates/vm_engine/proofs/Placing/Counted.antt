@@ -94,7 +94,6 @@ module _ (s m : Shape) (space : Range) (held gaps clear : ℕ) (request : Reques
 
   -- What is true for the state of the space is true for that of the tree.
   module _ (answer : Result Taken Error) (a : IsAllocation request space (ltb held SPLIT_LIMIT_MIN_HELD) s m answer count) where
-
     pub search_tree : SearchesGaps (height_of s) (tree_state s) request (taken_range request.size answer) count × SearchesAligned (height_of s) (tree_state s) request (taken_range request.size answer) count
     search_tree =
         let g = subst (λ (v : AddressState). SearchesAligned (height_of s) v request (taken_range request.size answer) count) state_is a.search in

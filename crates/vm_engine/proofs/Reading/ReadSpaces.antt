@@ -53,4 +53,3 @@ pub not_tree : (d : Data) (space : Range) (o : Option Span) (t : Saved) → Enco
 not_tree d space o t nodes stands i p =
     let u = strict_nodes d space p.0 p.1 in
     strict_none space o t stands i (p.0, subst (λ (v : Saved). HasTreeOf space v p.0) (one_saved u.0 t d u.1 nodes) u.2)
-

@@ -133,8 +133,8 @@ keys_joined depth d n old first second new e left own right = λ span t is.
     let r = held_keys p.right.1 in
     let k = range_if_held n.block.state n.block.key in
     right p.right.0 p.right.1 p.right.2
-        ∙ ap (λ (v : List Range). v ++ r) (own ∙ ap (λ (v : List Range). v ++ k) (left p.left.0 p.left.1 p.left.2))
-        ∙ append_assoc (old ++ l) k r ∙ append_assoc old l (k ++ r) ∙ ap (λ (v : List Range). old ++ v) (sym p.keys)
+    ∙ ap (λ (v : List Range). v ++ r) (own ∙ ap (λ (v : List Range). v ++ k) (left p.left.0 p.left.1 p.left.2))
+    ∙ append_assoc (old ++ l) k r ∙ append_assoc old l (k ++ r) ∙ ap (λ (v : List Range). old ++ v) (sym p.keys)
 
 pub keys_appended : {E : Type 0} (depth : ℕ) (d : Data) (n : NodeData) (old first second new : List Range) (answer : Result (Unit {0}) E) → decoded_node d ≡ Some n → AppendsKeys (depth + 1) n.left old first →
     second ≡ first ++ range_if_held n.block.state n.block.key → OnOk answer (AppendsKeys (depth + 1) n.right second new) → OnOk answer (AppendsKeys depth d old new)

@@ -78,4 +78,3 @@ not_inside d space o t nodes stands i p = repaired_none space o t stands i (p.0,
 
 pub keys_read : (d : Data) (space : Range) (t : Saved) (made : AddressState) → EncodesSaved d t → HasHeldKeys space t made → EncodesKeys d space made
 keys_read d space t made nodes h = values_have_held_keys.keys d space made t nodes h
-

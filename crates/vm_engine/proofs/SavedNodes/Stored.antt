@@ -173,9 +173,12 @@ module _ (side : Side) (b : Block) (h : ℕ) (held : List Range) (children paren
   pub child_is_there : is_some (child_span side parent) ≡ true → Fails (Violated Tree)
   child_is_there e = λ nodes stored.
       let l = last nodes stored in
-      inl (refl, λ (other : CanEnd side nodes).
-      let same = same_last other.outer l.outer other.parent l.parent (sym other.is_last ∙ l.is_last) in
-      has_span _ _ (child_stands side parent l.parent l.span) e (subst (λ (v : ReadChildren). child side v ≡ Absent) same other.is_new))
+      inl (
+        refl,
+        λ (other : CanEnd side nodes).
+            let same = same_last other.outer l.outer other.parent l.parent (sym other.is_last ∙ l.is_last) in
+            has_span _ _ (child_stands side parent l.parent l.span) e (subst (λ (v : ReadChildren). child side v ≡ Absent) same other.is_new),
+      )
 
   module _ (free : is_some (child_span side parent) ≡ false) (range : IsRange b.key.start b.key.end) where
     can : (nodes : NodesRead) → IsStoredFor old nodes → CanEnd side nodes
@@ -187,10 +190,16 @@ module _ (side : Side) (b : Block) (h : ℕ) (held : List Range) (children paren
     pub not_readable : span_over children.left b children.right h ≡ None → Fails (Violated Keys)
     not_readable e = λ nodes stored.
         let none : span_of (node_of nodes b h) ≡ None = rw (stored.children.left.is_span, stored.children.right.is_span, e) refl in
-        inr (can nodes stored, inl (refl, λ (r : IsReadable (node_of nodes b h)).
-        let some = complete (node_of nodes b h) (stored.children.left.ranges, stored.children.right.ranges, range) r in
-        let is = some.1 in
-        absurd (cc (none, is))))
+        inr (
+          can nodes stored,
+          inl (
+            refl,
+            λ (r : IsReadable (node_of nodes b h)).
+                let some = complete (node_of nodes b h) (stored.children.left.ranges, stored.children.right.ranges, range) r in
+                let is = some.1 in
+                absurd (cc (none, is)),
+          ),
+        )
 
     module _ (s : Span) (is : span_over children.left b children.right h ≡ Some s) where
       stands : (nodes : NodesRead) → IsStoredFor old nodes → StandsFor (Some s) (node_of nodes b h)
@@ -227,7 +236,7 @@ module _ (side : Side) (b : Block) (h : ℕ) (held : List Range) (children paren
           let cut : all ≡ before ++ keys_of l.parent = ap all_keys l.is_last ∙ keys_join l.outer l.parent in
           let split : mid ≡ (before ++ held_keys l.parent.left) ++ (held_keys l.parent.right ++ held_keys t) =
           keys ∙ ap (λ (v : List Range). v ++ held_keys t) (cut ∙ sym (append_assoc before (held_keys l.parent.left) (held_keys l.parent.right)))
-              ∙ append_assoc (before ++ held_keys l.parent.left) (held_keys l.parent.right) (held_keys t) in
+          ∙ append_assoc (before ++ held_keys l.parent.left) (held_keys l.parent.right) (held_keys t) in
           let moved = ordered (before ++ held_keys l.parent.left) (held_keys l.parent.right) (held_keys t) split parent_count count in (
             can nodes stored,
             record {

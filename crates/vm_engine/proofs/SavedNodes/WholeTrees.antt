@@ -59,10 +59,12 @@ module _ (stored : Stored) (nodes : NodesRead) (s : IsStoredFor stored nodes) wh
 -- The result for one whole tree is that of the nodes.
 whole_read : (States : Saved → AddressState → Type 0) (condition : Condition) (nodes : NodesRead) (t : Saved) (answer : Result AddressState SavedError) → nodes ≡ whole t → ReadsParts (States t) condition answer → ReadsParts (IsWholeTree States nodes) condition answer
 whole_read States condition nodes t (Ok state) e h = (t, e, h)
-whole_read States condition nodes t (Err (saved.Violated c)) e h =
-    (h.0, λ (x : (state : AddressState) × IsWholeTree States nodes state).
-    let same : x.1.0 ≡ t = ap (λ (v : NodesRead). v.children.left) (sym x.1.1 ∙ e) in
-    h.1 (x.0, subst (λ (v : Saved). States v x.0) same x.1.2))
+whole_read States condition nodes t (Err (saved.Violated c)) e h = (
+  h.0,
+  λ (x : (state : AddressState) × IsWholeTree States nodes state).
+      let same : x.1.0 ≡ t = ap (λ (v : NodesRead). v.children.left) (sym x.1.1 ∙ e) in
+      h.1 (x.0, subst (λ (v : Saved). States v x.0) same x.1.2),
+)
 whole_read States condition nodes t (Err saved.OutOfMemory) e h = (h.0, (t, e, h.1))
 
 -- ---- The result of a reader

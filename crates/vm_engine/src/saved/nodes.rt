@@ -143,7 +143,7 @@ fn nest(outer: &mut Vec<Children>, children: Children) -> std::result::Result<()
     ensures { MatchResult result
         (λ _. (length outer.old.items < MAX_NESTING_REPAIRED) × (outer.new.items ≡ outer.old.items ++ children ∷ []))
         (λ e. ((e ≡ Violated Nesting) × (MAX_NESTING_REPAIRED ≤ length outer.old.items))
-            ⊎ ((e ≡ OutOfMemory) × (length outer.old.items < MAX_NESTING_REPAIRED))) }
+        ⊎ ((e ≡ OutOfMemory) × (length outer.old.items < MAX_NESTING_REPAIRED))) }
 {
     if outer.len() as u64 >= MAX_NESTING {
         return Err(SavedError::Violated(Condition::Nesting));
