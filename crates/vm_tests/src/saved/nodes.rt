@@ -3,21 +3,27 @@
 //! These readers decide nothing, so the proved calls must find each damaged node.
 use super::*;
 use Condition::{Inside, Keys, Nesting, Tree};
-use NodeState::{Allocated, Free};
+use Key::{Free, Held};
 use Outcome::{Exact, Fails, Refused, Repaired};
 use SavedError::{OutOfMemory, Violated};
-use Side::{Left, Right};
-use Step::{Begin, End};
+use Step::{Begin, Left, Right};
 use vm_allocator::{Condition, ReadNodes, SavedError, Side};
 
 const MAX: u64 = u64::MAX;
 
-/// A call of a reader.
+/// The ends of a key, with its state.
+#[derive(Clone, Copy)]
+enum Key {
+    Free(u64, u64),
+    Held(u64, u64),
+}
+
+/// A call of a reader: a node begins, or ends on a side with its key and its height.
 #[derive(Clone, Copy)]
 enum Step {
     Begin,
-    /// The side, the ends of the key, the state and the height.
-    End(Side, (u64, u64), NodeState, u64),
+    Left(Key, u64),
+    Right(Key, u64),
 }
 
 /// The result of the nodes of a row, in the space from 1 to `u64::MAX`.
@@ -45,43 +51,28 @@ const ROWS: [Row; 30] = [
         want: Repaired(&[]),
     },
     Row {
-        steps: &[Begin, End(Left, (1, MAX), Free, 1)],
+        steps: &[Begin, Left(Free(1, MAX), 1)],
         want: Exact(&[]),
     },
     // A wrong height of a leaf, of a child and of a parent.
     Row {
-        steps: &[Begin, End(Left, (1, MAX), Free, MAX)],
+        steps: &[Begin, Left(Free(1, MAX), MAX)],
         want: Repaired(&[]),
     },
     Row {
-        steps: &[Begin, End(Left, (1, MAX), Free, 0)],
+        steps: &[Begin, Left(Free(1, MAX), 0)],
         want: Repaired(&[]),
     },
     Row {
-        steps: &[
-            Begin,
-            Begin,
-            End(Left, (1, 3), Allocated, MAX),
-            End(Left, (4, MAX), Free, 2),
-        ],
+        steps: &[Begin, Begin, Left(Held(1, 3), MAX), Left(Free(4, MAX), 2)],
         want: Repaired(&[(1, 3)]),
     },
     Row {
-        steps: &[
-            Begin,
-            Begin,
-            End(Left, (1, 3), Allocated, MAX),
-            End(Left, (4, MAX), Free, 0),
-        ],
+        steps: &[Begin, Begin, Left(Held(1, 3), MAX), Left(Free(4, MAX), 0)],
         want: Repaired(&[(1, 3)]),
     },
     Row {
-        steps: &[
-            Begin,
-            Begin,
-            End(Left, (1, 3), Allocated, 1),
-            End(Left, (4, MAX), Free, MAX),
-        ],
+        steps: &[Begin, Begin, Left(Held(1, 3), 1), Left(Free(4, MAX), MAX)],
         want: Repaired(&[(1, 3)]),
     },
     // The right child ends first.
@@ -90,11 +81,11 @@ const ROWS: [Row; 30] = [
             Begin,
             Begin,
             Begin,
-            End(Right, (10, MAX), Free, 1),
-            End(Right, (8, 9), Allocated, 2),
+            Right(Free(10, MAX), 1),
+            Right(Held(8, 9), 2),
             Begin,
-            End(Left, (1, 3), Allocated, 1),
-            End(Left, (4, 7), Free, 3),
+            Left(Held(1, 3), 1),
+            Left(Free(4, 7), 3),
         ],
         want: Exact(&[(1, 3), (8, 9)]),
     },
@@ -102,110 +93,65 @@ const ROWS: [Row; 30] = [
         steps: &[
             Begin,
             Begin,
-            End(Right, (6, 7), Allocated, 1),
+            Right(Held(6, 7), 1),
             Begin,
-            End(Left, (1, 3), Allocated, 1),
-            End(Left, (4, 5), Allocated, 2),
+            Left(Held(1, 3), 1),
+            Left(Held(4, 5), 2),
         ],
         want: Repaired(&[(1, 3), (4, 5), (6, 7)]),
     },
     // A key twice, as a child on each side.
     Row {
-        steps: &[
-            Begin,
-            Begin,
-            End(Left, (4, 7), Allocated, 1),
-            End(Left, (4, 7), Allocated, 2),
-        ],
+        steps: &[Begin, Begin, Left(Held(4, 7), 1), Left(Held(4, 7), 2)],
         want: Fails(Keys),
     },
     Row {
-        steps: &[
-            Begin,
-            Begin,
-            End(Right, (4, 7), Free, 1),
-            End(Left, (4, 7), Free, 2),
-        ],
+        steps: &[Begin, Begin, Right(Free(4, 7), 1), Left(Free(4, 7), 2)],
         want: Fails(Keys),
     },
     // Keys that share one address.
     Row {
-        steps: &[
-            Begin,
-            Begin,
-            End(Left, (4, 7), Free, 1),
-            End(Left, (7, 9), Free, 2),
-        ],
+        steps: &[Begin, Begin, Left(Free(4, 7), 1), Left(Free(7, 9), 2)],
         want: Fails(Keys),
     },
     Row {
-        steps: &[
-            Begin,
-            Begin,
-            End(Right, (4, 7), Free, 1),
-            End(Left, (2, 4), Free, 2),
-        ],
+        steps: &[Begin, Begin, Right(Free(4, 7), 1), Left(Free(2, 4), 2)],
         want: Fails(Keys),
     },
     // A child on the wrong side.
     Row {
-        steps: &[
-            Begin,
-            Begin,
-            End(Right, (4, 7), Free, 1),
-            End(Left, (8, 9), Free, 2),
-        ],
+        steps: &[Begin, Begin, Right(Free(4, 7), 1), Left(Free(8, 9), 2)],
         want: Fails(Keys),
     },
     Row {
-        steps: &[
-            Begin,
-            Begin,
-            End(Left, (5, MAX), Free, 1),
-            End(Left, (1, 4), Allocated, 2),
-        ],
+        steps: &[Begin, Begin, Left(Free(5, MAX), 1), Left(Held(1, 4), 2)],
         want: Fails(Keys),
     },
     // An allocated key that ends at the highest address.
     Row {
-        steps: &[Begin, End(Left, (1, MAX), Allocated, 1)],
+        steps: &[Begin, Left(Held(1, MAX), 1)],
         want: Fails(Keys),
     },
     Row {
-        steps: &[Begin, End(Left, (MAX, MAX), Allocated, 1)],
+        steps: &[Begin, Left(Held(MAX, MAX), 1)],
         want: Fails(Keys),
     },
     Row {
-        steps: &[Begin, End(Left, (MAX, MAX), Free, 1)],
+        steps: &[Begin, Left(Free(MAX, MAX), 1)],
         want: Repaired(&[]),
     },
     // A key outside the space. The lengths of both keys add up to 2^64.
     Row {
-        steps: &[
-            Begin,
-            Begin,
-            End(Left, (0, 5), Free, 1),
-            End(Left, (6, MAX), Free, 2),
-        ],
+        steps: &[Begin, Begin, Left(Free(0, 5), 1), Left(Free(6, MAX), 2)],
         want: Refused,
     },
     // Free neighbours and a gap.
     Row {
-        steps: &[
-            Begin,
-            Begin,
-            End(Left, (1, 5), Free, 1),
-            End(Left, (6, MAX), Free, 2),
-        ],
+        steps: &[Begin, Begin, Left(Free(1, 5), 1), Left(Free(6, MAX), 2)],
         want: Repaired(&[]),
     },
     Row {
-        steps: &[
-            Begin,
-            Begin,
-            End(Left, (1, 5), Allocated, 1),
-            End(Left, (7, MAX), Free, 2),
-        ],
+        steps: &[Begin, Begin, Left(Held(1, 5), 1), Left(Free(7, MAX), 2)],
         want: Repaired(&[(1, 5)]),
     },
     // A node that did not end, before and after its child.
@@ -214,20 +160,16 @@ const ROWS: [Row; 30] = [
         want: Refused,
     },
     Row {
-        steps: &[Begin, Begin, End(Left, (1, MAX), Free, 1)],
+        steps: &[Begin, Begin, Left(Free(1, MAX), 1)],
         want: Refused,
     },
     // A node that did not begin, as the root and after it.
     Row {
-        steps: &[End(Left, (1, MAX), Free, 1)],
+        steps: &[Left(Free(1, MAX), 1)],
         want: Fails(Tree),
     },
     Row {
-        steps: &[
-            Begin,
-            End(Left, (1, MAX), Free, 1),
-            End(Right, (1, MAX), Free, 1),
-        ],
+        steps: &[Begin, Left(Free(1, MAX), 1), Right(Free(1, MAX), 1)],
         want: Fails(Tree),
     },
     // Nodes that are nested 50 and 51 deep.
@@ -244,31 +186,35 @@ const ROWS: [Row; 30] = [
         steps: &[
             Begin,
             Begin,
-            End(Right, (8, 9), Free, 1),
+            Right(Free(8, 9), 1),
             Begin,
-            End(Right, (10, MAX), Free, 1),
+            Right(Free(10, MAX), 1),
         ],
         want: Fails(Tree),
     },
     Row {
-        steps: &[
-            Begin,
-            End(Left, (1, MAX), Free, 1),
-            Begin,
-            End(Left, (1, MAX), Free, 1),
-        ],
+        steps: &[Begin, Left(Free(1, MAX), 1), Begin, Left(Free(1, MAX), 1)],
         want: Fails(Tree),
     },
     Row {
-        steps: &[
-            Begin,
-            End(Left, (1, 5), Allocated, 1),
-            Begin,
-            End(Right, (6, MAX), Free, 1),
-        ],
+        steps: &[Begin, Left(Held(1, 5), 1), Begin, Right(Free(6, MAX), 1)],
         want: Refused,
     },
 ];
+
+/// Ends a node on a side.
+fn end_with(
+    rt: &impl Abort,
+    nodes: &mut ReadNodes,
+    side: Side,
+    key: Key,
+    height: u64,
+) -> std::result::Result<(), SavedError> {
+    match key {
+        Free(start, end) => nodes.end(side, range(rt, start, end), NodeState::Free, height),
+        Held(start, end) => nodes.end(side, range(rt, start, end), NodeState::Allocated, height),
+    }
+}
 
 /// Makes the calls of a row, up to the first error. Returns the index of the call that returned it.
 fn make_each(
@@ -279,9 +225,8 @@ fn make_each(
     for (place, step) in steps.iter().enumerate() {
         let answer = match *step {
             Begin => nodes.begin(),
-            End(side, (start, end), state, height) => {
-                nodes.end(side, range(rt, start, end), state, height)
-            }
+            Left(key, height) => end_with(rt, nodes, Side::Left, key, height),
+            Right(key, height) => end_with(rt, nodes, Side::Right, key, height),
         };
         if let Err(error) = answer {
             return Err((place, error));
@@ -327,7 +272,7 @@ fn expect_read(
 /// Checks that each call returns this error from now on.
 fn expect_failed(rt: &(impl Abort + AllocGlobal), nodes: &mut ReadNodes, error: SavedError) {
     expect_eq(rt, &nodes.begin(), &Err(error), &"begin");
-    let answer = nodes.end(Left, range(rt, 1, MAX), Free, 1);
+    let answer = end_with(rt, nodes, Side::Left, Free(1, MAX), 1);
     expect_eq(rt, &answer, &Err(error), &"end");
     expect_both(rt, nodes, Err(error), Err(error));
 }
@@ -342,7 +287,7 @@ fn damaged_nodes(rt: HostRuntime) {
             if error == OutOfMemory {
                 continue;
             }
-            expect_eq(&rt, &(place + 1), &row.steps.len(), &row.want);
+            expect_eq(&rt, &place, &row.steps.len().saturating_sub(1), &row.want);
         }
         match row.want {
             Fails(condition) => {
@@ -362,7 +307,7 @@ fn nest_fifty(rt: &impl Abort, nodes: &mut ReadNodes) -> std::result::Result<(),
         nodes.begin()?;
     }
     for level in 1..51 {
-        nodes.end(Left, range(rt, level, level), Free, level)?;
+        end_with(rt, nodes, Side::Left, Free(level, level), level)?;
     }
     Ok(())
 }
