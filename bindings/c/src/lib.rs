@@ -23,7 +23,6 @@ mod lists;
 mod objects;
 // The eraser writes it. The library calls a part of it.
 #[allow(dead_code)]
-#[rustfmt::skip]
 #[path = "../../rust/divsharun/src/proved/mod.rs"]
 mod proved;
 mod ranges;

@@ -241,7 +241,6 @@ mod objects;
 // The eraser writes it. Without `serde`, nothing reaches the calls for saved objects, and without
 // `std`, nothing reaches those that only `vm_lines` makes.
 #[cfg_attr(not(all(feature = "serde", feature = "std")), allow(dead_code))]
-#[rustfmt::skip]
 mod proved;
 mod range;
 mod rattle;

@@ -10,9 +10,9 @@
 //! follow from `answer`, and are there because callers rely on them: for example that some calls always
 //! succeed.
 
-use crate::rattle::Global;
 use crate::proved::vm_engine::IntervalTree;
 use crate::proved::vm_ranges::{AllocPolicy, Constraint, Error, ListError, RangeInclusive, Result};
+use crate::rattle::Global;
 
 mod comparing;
 mod conflicts;

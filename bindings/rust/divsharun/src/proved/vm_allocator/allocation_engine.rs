@@ -2,4 +2,4 @@
 
 //! Alignment of addresses, the states of blocks, and the tree of the blocks of a space.
 pub use crate::proved::vm_engine::IntervalTree;
-pub use crate::proved::vm_ranges::{NodeState, align_down, align_up};
+pub use crate::proved::vm_ranges::{align_down, align_up, NodeState};

@@ -5,9 +5,9 @@
 //! The ids below the next id were allocated at some time. A set contains the ids that were freed
 //! since. Freeing, cloning and skipping ids allocate memory.
 
-use crate::rattle::Global;
-use crate::rattle::BTreeSet;
 use crate::proved::vm_ranges::{Error, Result};
+use crate::rattle::BTreeSet;
+use crate::rattle::Global;
 
 mod comparing;
 mod exact;

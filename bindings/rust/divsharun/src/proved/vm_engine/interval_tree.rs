@@ -14,9 +14,9 @@
 //! A counted call also returns the number of nodes that it entered. A plain call makes the counted call and
 //! drops the count.
 
-use crate::rattle::Global;
 use crate::proved::vm_ranges::{Constraint, RangeInclusive, Result};
 use crate::proved::vm_tree::{Tree, Walk};
+use crate::rattle::Global;
 
 mod allocation;
 mod building;

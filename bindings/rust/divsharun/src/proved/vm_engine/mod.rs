@@ -12,7 +12,7 @@
 mod interval_tree;
 mod saved;
 
-pub use interval_tree::IntervalTree;
 pub use interval_tree::ranges::{Ranges, RangesIn};
+pub use interval_tree::IntervalTree;
 pub use saved::nodes::{ReadNodes, Side};
 pub use saved::written::{WrittenBlocks, WrittenNode, WrittenTree};

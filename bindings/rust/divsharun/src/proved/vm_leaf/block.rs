@@ -2,8 +2,8 @@
 
 //! A block of an address space: a range with its state.
 
-use core::cmp::Ordering;
 use crate::proved::vm_ranges::{NodeState, RangeInclusive};
+use core::cmp::Ordering;
 
 /// A range of addresses with its state, allocated or free.
 ///

@@ -175,7 +175,11 @@ impl Leaf {
     fn one_if_up_to(&self, i: usize, address: u64) -> usize {
         let len = self.len;
         let first = self.starts[i];
-        if (i < len) & (first <= address) { 1 } else { 0 }
+        if (i < len) & (first <= address) {
+            1
+        } else {
+            0
+        }
     }
 
     /// Returns `low + half` if that block exists and starts at or below `address`, otherwise `low`.

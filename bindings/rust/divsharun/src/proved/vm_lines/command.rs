@@ -2,7 +2,9 @@
 
 //! Parses lines into commands: for the space, for the ids and for the devices.
 
-use crate::proved::vm_lines::words::{ids_and_numbers, one_id, strip_prefix, three_numbers, two_ids, two_numbers};
+use crate::proved::vm_lines::words::{
+    ids_and_numbers, one_id, strip_prefix, three_numbers, two_ids, two_numbers,
+};
 
 /// The maximum length of a line in bytes.
 pub(in crate::proved::vm_lines) const MAX_LINE_LEN: usize = 120;
@@ -11,20 +13,11 @@ pub(in crate::proved::vm_lines) const MAX_LINE_LEN: usize = 120;
 #[derive(Clone, Copy)]
 pub(in crate::proved::vm_lines) enum Command {
     /// Creates an allocator for the `size` addresses starting at `base`.
-    Space {
-        base: u64,
-        size: u64,
-    },
+    Space { base: u64, size: u64 },
     /// Allocates the lowest `size` free addresses that start at a multiple of `alignment`.
-    First {
-        size: u64,
-        alignment: u64,
-    },
+    First { size: u64, alignment: u64 },
     /// Allocates the highest `size` free addresses that start at a multiple of `alignment`.
-    Last {
-        size: u64,
-        alignment: u64,
-    },
+    Last { size: u64, alignment: u64 },
     /// Allocates the `size` addresses starting at `start`, a multiple of `alignment`.
     Exact {
         size: u64,
@@ -32,25 +25,15 @@ pub(in crate::proved::vm_lines) enum Command {
         start: u64,
     },
     /// Frees the range from `start` to `end`.
-    Free {
-        start: u64,
-        end: u64,
-    },
+    Free { start: u64, end: u64 },
     /// Creates an allocator for the ids from `range_base` to `range_end`.
-    Ids {
-        range_base: u32,
-        range_end: u32,
-    },
+    Ids { range_base: u32, range_end: u32 },
     /// Allocates the lowest free id.
     Id,
     /// Frees an id.
-    Unid {
-        id: u32,
-    },
+    Unid { id: u32 },
     /// Checks whether an id is allocated.
-    Has {
-        id: u32,
-    },
+    Has { id: u32 },
     /// Creates a manager of devices for the ids from `id_lo` to `id_hi` and the `size` addresses
     /// starting at `base`.
     Manager {
@@ -61,14 +44,9 @@ pub(in crate::proved::vm_lines) enum Command {
     },
     /// Reserves a device: the lowest free id, and the lowest `size` free addresses that start at a
     /// multiple of `alignment`.
-    Device {
-        size: u64,
-        alignment: u64,
-    },
+    Device { size: u64, alignment: u64 },
     /// Releases the device with this id.
-    Undevice {
-        id: u32,
-    },
+    Undevice { id: u32 },
     /// The line is not in the language.
     Malformed,
 }

@@ -2,11 +2,13 @@
 
 //! The space, the ids and the devices of a session, and the effect of each command on them.
 
-use crate::proved::vm_lines::command::Command;
-use crate::proved::vm_lines::reply::{Reply, device_reply, done_reply, id_reply, range_reply};
-use crate::rattle::Global;
-use crate::proved::vm_allocator::{AddressAllocator, AllocPolicy, IdAllocator, RangeInclusive, Result};
+use crate::proved::vm_allocator::{
+    AddressAllocator, AllocPolicy, IdAllocator, RangeInclusive, Result,
+};
 use crate::proved::vm_devices::DeviceManager;
+use crate::proved::vm_lines::command::Command;
+use crate::proved::vm_lines::reply::{device_reply, done_reply, id_reply, range_reply, Reply};
+use crate::rattle::Global;
 
 /// The space, the ids and the devices that the lines so far have created.
 pub(in crate::proved::vm_lines) struct Machine {
@@ -114,7 +116,14 @@ impl Machine {
     }
 
     /// Creates a manager, which replaces the old one. An error keeps the old one.
-    fn make_manager(&mut self, alloc: Global, id_lo: u32, id_hi: u32, base: u64, size: u64) -> Reply {
+    fn make_manager(
+        &mut self,
+        alloc: Global,
+        id_lo: u32,
+        id_hi: u32,
+        base: u64,
+        size: u64,
+    ) -> Reply {
         let made = DeviceManager::new(alloc, id_lo, id_hi, base, size);
         replace_if_ok(made, &mut self.devices)
     }

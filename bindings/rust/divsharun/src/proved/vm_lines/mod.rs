@@ -13,4 +13,4 @@ mod reply;
 mod session;
 mod words;
 
-pub use replay::{RunError, run};
+pub use replay::{run, RunError};

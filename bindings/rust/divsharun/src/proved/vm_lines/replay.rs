@@ -34,7 +34,11 @@ pub enum RunError {
 /// - `Read` if a read fails, or if `u64::MAX` reads do not reach the end. The output for the lines
 ///   that end with a newline is written, and nothing is flushed.
 /// - `Write` if a write or the last flush fails. It is then not known which output was written.
-pub fn run<R: Read, W: Write>(alloc: Global, reader: &mut R, writer: &mut W) -> Result<(), RunError> {
+pub fn run<R: Read, W: Write>(
+    alloc: Global,
+    reader: &mut R,
+    writer: &mut W,
+) -> Result<(), RunError> {
     let mut session = Session::new();
     let mut output = Buffer::new();
     answer_pieces(alloc, reader, writer, &mut session, &mut output)

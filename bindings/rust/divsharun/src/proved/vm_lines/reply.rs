@@ -2,9 +2,9 @@
 
 //! Replies to lines, and their text.
 
-use crate::proved::vm_lines::buffer::Buffer;
 use crate::proved::vm_allocator::{Error, RangeInclusive, Result};
 use crate::proved::vm_devices::DeviceSlot;
+use crate::proved::vm_lines::buffer::Buffer;
 
 /// The maximum length of a reply in bytes, without its newline: the length of the error for an
 /// invalid range.
@@ -106,12 +106,9 @@ fn write_error(output: &mut Buffer, error: Error) {
         Error::InvalidRange(start, end) => write_pair(output, b"error invalid-range ", start, end),
         Error::InvalidAlignment => output.extend_from_slice(b"error invalid-alignment"),
         Error::Overlap(_, _) => output.extend_from_slice(b"error overlap"),
-        Error::InvalidStateTransition(slot, _) => write_pair(
-            output,
-            b"error state ",
-            slot.start(),
-            slot.end(),
-        ),
+        Error::InvalidStateTransition(slot, _) => {
+            write_pair(output, b"error state ", slot.start(), slot.end())
+        }
         Error::UnalignedAddress => output.extend_from_slice(b"error unaligned"),
         Error::Underflow => output.extend_from_slice(b"error underflow"),
         Error::InvalidSize(size) => write_number(output, b"error invalid-size ", size),

@@ -6,7 +6,7 @@
 //! earlier piece.
 
 use crate::proved::vm_lines::buffer::Buffer;
-use crate::proved::vm_lines::command::{Command, MAX_LINE_LEN, parse};
+use crate::proved::vm_lines::command::{parse, Command, MAX_LINE_LEN};
 use crate::proved::vm_lines::machine::Machine;
 use crate::proved::vm_lines::reply::write_reply;
 use crate::rattle::Global;
@@ -31,7 +31,12 @@ impl Session {
     }
 
     /// Ends the line that has begun with its last bytes, executes it, and writes its reply.
-    pub(in crate::proved::vm_lines) fn end_line(&mut self, alloc: Global, last: &[u8], output: &mut Buffer) {
+    pub(in crate::proved::vm_lines) fn end_line(
+        &mut self,
+        alloc: Global,
+        last: &[u8],
+        output: &mut Buffer,
+    ) {
         let command = self.take_line(last);
         let reply = self.machine.answer(alloc, command);
         write_reply(output, reply);

@@ -9,7 +9,10 @@ use crate::proved::vm_lines::number::leading_number;
 
 /// Returns the text after a prefix, or `None` if the text does not begin with it.
 #[inline(always)]
-pub(in crate::proved::vm_lines) fn strip_prefix<'a, const N: usize>(prefix: &[u8; N], text: &'a [u8]) -> Option<&'a [u8]> {
+pub(in crate::proved::vm_lines) fn strip_prefix<'a, const N: usize>(
+    prefix: &[u8; N],
+    text: &'a [u8],
+) -> Option<&'a [u8]> {
     if text.len() < N {
         return None;
     }
@@ -70,7 +73,9 @@ pub(in crate::proved::vm_lines) fn two_ids(text: &[u8]) -> Option<(u32, u32)> {
 }
 
 /// Returns the two ids and the two numbers of a text of four words.
-pub(in crate::proved::vm_lines) fn ids_and_numbers(text: &[u8]) -> Option<((u32, u32), (u64, u64))> {
+pub(in crate::proved::vm_lines) fn ids_and_numbers(
+    text: &[u8],
+) -> Option<((u32, u32), (u64, u64))> {
     let (first, rest) = first_number(text)?;
     let (second, third, fourth) = three_numbers(rest?)?;
     let ids = (u32::try_from(first).ok()?, u32::try_from(second).ok()?);

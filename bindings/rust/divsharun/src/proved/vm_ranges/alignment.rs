@@ -9,7 +9,8 @@ use crate::proved::vm_ranges::error::{Error, Result};
 /// # Errors
 ///
 /// - `InvalidAlignment` if `alignment` is not a power of two.
-#[allow(dead_code)] pub fn align_down(address: u64, alignment: u64) -> Result<u64> {
+#[allow(dead_code)]
+pub fn align_down(address: u64, alignment: u64) -> Result<u64> {
     if !alignment.is_power_of_two() {
         return Err(Error::InvalidAlignment);
     }
@@ -24,7 +25,8 @@ use crate::proved::vm_ranges::error::{Error, Result};
 /// - `InvalidAlignment` if `alignment` is 0.
 /// - `Overflow` if `address + alignment - 1` is past `u64::MAX`.
 /// - `InvalidAlignment` if `alignment` is not a power of two.
-#[allow(dead_code)] pub fn align_up(address: u64, alignment: u64) -> Result<u64> {
+#[allow(dead_code)]
+pub fn align_up(address: u64, alignment: u64) -> Result<u64> {
     if alignment == 0 {
         return Err(Error::InvalidAlignment);
     }

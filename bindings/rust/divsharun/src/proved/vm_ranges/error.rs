@@ -28,7 +28,8 @@ pub enum Error {
     /// The alignment is not a power of two.
     InvalidAlignment,
     /// The first range overlaps the second, which is already in a tree.
-    #[allow(dead_code)] Overlap(RangeInclusive, RangeInclusive),
+    #[allow(dead_code)]
+    Overlap(RangeInclusive, RangeInclusive),
     /// Exactly the requested range is already allocated.
     InvalidStateTransition(RangeInclusive, NodeState),
     /// The requested start is not a multiple of the alignment.
@@ -44,17 +45,36 @@ pub enum Error {
 impl core::fmt::Display for Error {
     fn fmt(&self, f: &mut core::fmt::Formatter<'_>) -> core::fmt::Result {
         match self {
-            Error::Overflow => write!(f, "Management operations on desired resource resulted in overflow."),
+            Error::Overflow => write!(
+                f,
+                "Management operations on desired resource resulted in overflow."
+            ),
             Error::OutOfRange(field_0) => write!(f, "Specified id: {field_0} is not in the range."),
-            Error::AlreadyReleased(field_0) => write!(f, "Specified id: {field_0} is already released."),
-            Error::NeverAllocated(field_0) => write!(f, "Specified id: {field_0} was never allocated, can't release it."),
+            Error::AlreadyReleased(field_0) => {
+                write!(f, "Specified id: {field_0} is already released.")
+            }
+            Error::NeverAllocated(field_0) => write!(
+                f,
+                "Specified id: {field_0} was never allocated, can't release it."
+            ),
             Error::ResourceNotAvailable => write!(f, "The requested resource is not available."),
-            Error::InvalidRange(field_0, field_1) => write!(f, "The range specified: {field_0}-{field_1} is not valid."),
+            Error::InvalidRange(field_0, field_1) => {
+                write!(f, "The range specified: {field_0}-{field_1} is not valid.")
+            }
             Error::InvalidAlignment => write!(f, "Alignment value is invalid."),
-            Error::Overlap(field_0, field_1) => write!(f, "Addresses are overlapping.{field_0:?} intersects with existing {field_1:?}"),
-            Error::InvalidStateTransition(field_0, field_1) => write!(f, "Invalid state transition for node {field_0:?} from {field_1:?} to NodeState::Free"),
+            Error::Overlap(field_0, field_1) => write!(
+                f,
+                "Addresses are overlapping.{field_0:?} intersects with existing {field_1:?}"
+            ),
+            Error::InvalidStateTransition(field_0, field_1) => write!(
+                f,
+                "Invalid state transition for node {field_0:?} from {field_1:?} to NodeState::Free"
+            ),
             Error::UnalignedAddress => write!(f, "The address is not aligned."),
-            Error::Underflow => write!(f, "Management operations on desired resource resulted in underflow."),
+            Error::Underflow => write!(
+                f,
+                "Management operations on desired resource resulted in underflow."
+            ),
             Error::InvalidSize(field_0) => write!(f, "The specified size: {field_0} is not valid."),
             Error::OutOfMemory => write!(f, "There is not enough memory."),
         }

@@ -9,7 +9,8 @@ use crate::rattle::{AllocError, AllocFailed};
 
 /// The error of reading a saved value.
 #[derive(Debug, PartialEq, Eq)]
-#[allow(dead_code)] pub enum ValueError {
+#[allow(dead_code)]
+pub enum ValueError {
     /// The value does not encode an object of the type.
     NotAState,
     /// An allocation of memory failed.

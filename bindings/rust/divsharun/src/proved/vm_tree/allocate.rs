@@ -8,7 +8,7 @@ pub(in crate::proved::vm_tree) mod exact;
 pub(in crate::proved::vm_tree) mod fit;
 mod place;
 
-use crate::proved::vm_tree::link::{Link, summary};
+use crate::proved::vm_tree::link::{summary, Link};
 use crate::proved::vm_tree::search::{Refusal, Search, Taken};
 use crate::proved::vm_tree::steps::Steps;
 

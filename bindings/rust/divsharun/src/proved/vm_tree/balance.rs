@@ -2,8 +2,8 @@
 
 //! Rotations. They move subtrees between nodes, and do not allocate.
 
+use crate::proved::vm_tree::link::{fork_link, height, into_fork, Link, Node};
 use crate::rattle::Box;
-use crate::proved::vm_tree::link::{Link, Node, fork_link, height, into_fork};
 
 /// Rotates right a node whose left child is two levels higher than the right one. The node is stored in
 /// `spare`.
@@ -37,7 +37,12 @@ fn rotate_left(left: Link, at: u64, spare: Box<Node>, mut right: Box<Node>) -> L
 
 /// Returns a balanced tree of two trees whose heights differ by at most two. If a node over both is
 /// balanced, it is stored in `spare`.
-pub(in crate::proved::vm_tree) fn balance(left: Link, at: u64, spare: Box<Node>, right: Link) -> Link {
+pub(in crate::proved::vm_tree) fn balance(
+    left: Link,
+    at: u64,
+    spare: Box<Node>,
+    right: Link,
+) -> Link {
     let (low, high) = (height(&left), height(&right));
     if low > high + 1 {
         return rotate_right(into_fork(left), at, spare, right);

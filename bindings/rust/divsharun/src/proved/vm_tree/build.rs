@@ -5,11 +5,11 @@
 //! Each leaf is filled directly, and has nearly the same number of blocks. The number of leaves is
 //! halved at each node, so no rotation is needed.
 
-use crate::rattle::Box;
-use crate::proved::vm_tree::link::{Link, Node, fork_link, leaf_link};
-use crate::rattle::{AllocError, Global};
-use crate::proved::vm_leaf::{Block, CAPACITY, Leaf};
+use crate::proved::vm_leaf::{Block, Leaf, CAPACITY};
 use crate::proved::vm_ranges::{NodeState, RangeInclusive};
+use crate::proved::vm_tree::link::{fork_link, leaf_link, Link, Node};
+use crate::rattle::Box;
+use crate::rattle::{AllocError, Global};
 
 /// Returns the free block from `start` to `end`. The caller proves that these are the ends of a range.
 fn free_between(start: u64, end: u64) -> Block {

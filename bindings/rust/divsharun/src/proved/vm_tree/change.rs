@@ -2,10 +2,10 @@
 
 //! The update of the links above a change.
 
-use crate::proved::vm_tree::link::{Link, Node, height, into_fork, summary};
+use crate::proved::vm_leaf::Summary;
+use crate::proved::vm_tree::link::{height, into_fork, summary, Link, Node};
 use crate::proved::vm_tree::mend::{is_mended, mend};
 use core::mem;
-use crate::proved::vm_leaf::Summary;
 
 /// The parts of the summary of a subtree that a change has changed.
 #[derive(Clone, Copy)]

@@ -2,10 +2,10 @@
 
 //! A copy of a tree, and a list of its blocks.
 
-use crate::rattle::{Box, Vec};
+use crate::proved::vm_leaf::{Block, Leaf};
 use crate::proved::vm_tree::link::{Link, Node};
 use crate::rattle::{AllocError, Global};
-use crate::proved::vm_leaf::{Block, Leaf};
+use crate::rattle::{Box, Vec};
 
 /// Returns a copy of a tree with the same nodes, the same leaves and the same summaries.
 ///
@@ -58,7 +58,10 @@ fn append_leaf(leaf: &Leaf, list: &mut Vec<Block>) -> Result<(), AllocError> {
 }
 
 /// Appends the blocks of a tree to a list, or returns an error if an allocation fails.
-pub(in crate::proved::vm_tree) fn append_blocks(tree: &Link, list: &mut Vec<Block>) -> Result<(), AllocError> {
+pub(in crate::proved::vm_tree) fn append_blocks(
+    tree: &Link,
+    list: &mut Vec<Block>,
+) -> Result<(), AllocError> {
     match tree {
         Link::Hole => Ok(()),
         Link::Leaf { leaf, .. } => {

@@ -2,8 +2,8 @@
 
 //! The leaf and the block at an address.
 
-use crate::proved::vm_tree::link::{Link, Node};
 use crate::proved::vm_leaf::{Block, Leaf};
+use crate::proved::vm_tree::link::{Link, Node};
 
 /// Returns the leaf whose blocks contain an address. Below all blocks this is the first leaf, and
 /// above all blocks the last one. It follows one path from the root.

@@ -6,12 +6,12 @@
 //! the block on the other side of the edge is looked at. If it is a gap, the range is freed together with it.
 //! After that the gap is dropped from its leaf, and the edge moves over it.
 
-use crate::proved::vm_tree::change::{Change, update};
+use crate::proved::vm_leaf::{Block, Leaf, Summary, CAPACITY};
+use crate::proved::vm_ranges::{NodeState, RangeInclusive};
+use crate::proved::vm_tree::change::{update, Change};
 use crate::proved::vm_tree::end::End;
 use crate::proved::vm_tree::link::{Link, Node};
 use crate::proved::vm_tree::steps::Steps;
-use crate::proved::vm_leaf::{Block, CAPACITY, Leaf, Summary};
-use crate::proved::vm_ranges::{NodeState, RangeInclusive};
 
 /// A range of a tree that was freed.
 #[derive(Clone, Copy)]
@@ -287,7 +287,11 @@ fn free_under(
 }
 
 /// Frees a held range, and joins it with the gaps on both sides. Returns `None` if the tree does not hold it.
-pub(in crate::proved::vm_tree) fn free_at(tree: &mut Link, key: &RangeInclusive, count: &mut Steps) -> Option<Freed> {
+pub(in crate::proved::vm_tree) fn free_at(
+    tree: &mut Link,
+    key: &RangeInclusive,
+    count: &mut Steps,
+) -> Option<Freed> {
     count.enter();
     match tree {
         Link::Hole => unreachable!(),

@@ -2,9 +2,9 @@
 
 //! Links, nodes, and the summaries that are stored beside links.
 
+use crate::proved::vm_leaf::{Leaf, Summary};
 use crate::rattle::Box;
 use core::mem;
-use crate::proved::vm_leaf::{Leaf, Summary};
 
 /// A node with two children.
 #[derive(Debug)]
@@ -86,7 +86,12 @@ pub(in crate::proved::vm_tree) fn leaf_link(leaf: Box<Leaf>) -> Link {
 }
 
 /// Returns a link to a node with these children. The node is stored in `spare`.
-pub(in crate::proved::vm_tree) fn fork_link(left: Link, at: u64, mut spare: Box<Node>, right: Link) -> Link {
+pub(in crate::proved::vm_tree) fn fork_link(
+    left: Link,
+    at: u64,
+    mut spare: Box<Node>,
+    right: Link,
+) -> Link {
     let (first, second) = (summary(&left), summary(&right));
     let longest = first.longest.max(second.longest);
     let alignments = first.alignments.max(second.alignments);

@@ -6,11 +6,13 @@
 //! with the next leaf if the blocks of both fit in one. If its sibling is a node, the next leaf is a child of
 //! that node.
 
-use crate::rattle::Box;
+use crate::proved::vm_leaf::{Leaf, CAPACITY, MIN_BLOCKS};
 use crate::proved::vm_tree::balance::balance;
 use crate::proved::vm_tree::end::End;
-use crate::proved::vm_tree::link::{Link, Node, fork_link, height, into_fork, into_leaf, leaf_link};
-use crate::proved::vm_leaf::{CAPACITY, Leaf, MIN_BLOCKS};
+use crate::proved::vm_tree::link::{
+    fork_link, height, into_fork, into_leaf, leaf_link, Link, Node,
+};
+use crate::rattle::Box;
 
 /// Returns the number of blocks of a leaf. A node counts as a full leaf.
 fn leaf_len(link: &Link) -> usize {

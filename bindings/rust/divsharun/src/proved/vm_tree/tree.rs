@@ -5,7 +5,8 @@
 //! A tree that is one leaf stores no summary, because a search of the leaf is as fast without it. All other
 //! calls pass the root to the recursive functions of this crate.
 
-use crate::rattle::{Box, Vec};
+use crate::proved::vm_leaf::{Block, Leaf};
+use crate::proved::vm_ranges::{NodeState, RangeInclusive};
 use crate::proved::vm_tree::allocate::exact::{exact_at, exact_in_leaf};
 use crate::proved::vm_tree::allocate::fit::{fit_at, fit_in_leaf};
 use crate::proved::vm_tree::allocate::{count_place, fits};
@@ -15,13 +16,12 @@ use crate::proved::vm_tree::copy::{append_blocks, copy};
 use crate::proved::vm_tree::end::End;
 use crate::proved::vm_tree::find::block_at;
 use crate::proved::vm_tree::free::{free_at, free_in};
-use crate::proved::vm_tree::link::{Link, Node, height, leaf_link};
+use crate::proved::vm_tree::link::{height, leaf_link, Link, Node};
 use crate::proved::vm_tree::search::{Refusal, Search, Taken};
 use crate::proved::vm_tree::steps::Steps;
 use crate::proved::vm_tree::walk::Walk;
 use crate::rattle::{AllocError, Global};
-use crate::proved::vm_leaf::{Block, Leaf};
-use crate::proved::vm_ranges::{NodeState, RangeInclusive};
+use crate::rattle::{Box, Vec};
 
 /// The blocks of a space in a balanced tree.
 #[derive(Debug)]
@@ -110,7 +110,11 @@ impl Tree {
     /// memory, and enters at most three nodes for each level of the tree.
     ///
     /// The range must start in the space, and `count` must be at 0.
-    pub(in crate::proved) fn free(&mut self, key: &RangeInclusive, count: &mut Steps) -> Option<u64> {
+    pub(in crate::proved) fn free(
+        &mut self,
+        key: &RangeInclusive,
+        count: &mut Steps,
+    ) -> Option<u64> {
         match &mut self.root {
             Link::Hole => None,
             Link::Leaf { leaf, .. } => {

@@ -2,10 +2,10 @@
 
 //! Iteration over the blocks of a tree from both ends.
 
-use crate::proved::vm_tree::find::leaf_at;
-use crate::proved::vm_tree::link::Link;
 use crate::proved::vm_leaf::{Block, Blocks, Leaf};
 use crate::proved::vm_ranges::RangeInclusive;
+use crate::proved::vm_tree::find::leaf_at;
+use crate::proved::vm_tree::link::Link;
 
 /// The addresses from `start` to `end`. All 2^64 addresses are a span too.
 #[derive(Clone, Copy)]

@@ -17,8 +17,7 @@ impl PartialEq for AddressAllocator {
     }
 }
 
-impl Eq for AddressAllocator {
-}
+impl Eq for AddressAllocator {}
 
 impl PartialOrd for AddressAllocator {
     /// Compares like `cmp`.

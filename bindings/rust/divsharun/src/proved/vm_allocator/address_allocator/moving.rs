@@ -3,8 +3,8 @@
 //! The move of an allocated range to the place of a request.
 
 use super::AddressAllocator;
-use crate::rattle::Global;
 use crate::proved::vm_ranges::{AllocPolicy, Constraint, Error, RangeInclusive, Result};
+use crate::rattle::Global;
 
 impl AddressAllocator {
     /// Moves an allocated range to the place of a request, and returns the range there. A guest does

@@ -2,11 +2,11 @@
 
 //! Several allocations in one call: all or none.
 
-use crate::rattle::Vec;
 use super::AddressAllocator;
-use crate::rattle::Global;
 use crate::proved::vm_engine::IntervalTree;
 use crate::proved::vm_ranges::{Constraint, ListError, RangeInclusive};
+use crate::rattle::Global;
+use crate::rattle::Vec;
 
 impl AddressAllocator {
     /// Allocates a range for each request, in their order, and returns the ranges. Each range is where

@@ -2,11 +2,11 @@
 
 //! Creates an allocator of the ranges that are free in it.
 
-use crate::rattle::Vec;
 use super::AddressAllocator;
-use crate::rattle::{AllocError, Global};
 use crate::proved::vm_engine::IntervalTree;
 use crate::proved::vm_ranges::{Error, ListError, RangeInclusive};
+use crate::rattle::Vec;
+use crate::rattle::{AllocError, Global};
 
 /// The maximum number of holes.
 const MAX_HOLES: u64 = (1 << 48) - 1;
@@ -31,7 +31,10 @@ impl AddressAllocator {
     /// - `InvalidRange` if the space would have all 2^64 addresses.
     /// - `Overflow` if there are 2^48 holes or more.
     /// - `OutOfMemory` if an allocation fails.
-    pub fn with_free(alloc: Global, free: &[RangeInclusive]) -> core::result::Result<Self, ListError> {
+    pub fn with_free(
+        alloc: Global,
+        free: &[RangeInclusive],
+    ) -> core::result::Result<Self, ListError> {
         let Some((first, others)) = free.split_first() else {
             return Err(Error::Underflow.into());
         };

@@ -15,8 +15,7 @@ impl PartialEq for IdAllocator {
     }
 }
 
-impl Eq for IdAllocator {
-}
+impl Eq for IdAllocator {}
 
 impl IdAllocator {
     /// Returns `true` if both allocators have the same range and the same ids that were allocated at

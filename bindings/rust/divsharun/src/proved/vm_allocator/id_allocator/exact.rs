@@ -2,10 +2,10 @@
 
 //! The allocation of a given id, or of an id between two others.
 
-use super::{IdAllocator, bound_of};
+use super::{bound_of, IdAllocator};
+use crate::proved::vm_ranges::{Error, Result};
 use crate::rattle::AllocFailed;
 use crate::rattle::BTreeSet;
-use crate::proved::vm_ranges::{Error, Result};
 
 impl IdAllocator {
     /// Allocates this id, and returns it.

@@ -5,7 +5,7 @@
 //! It walks over the ids that were allocated at some time, and beside them over the freed ids. Each
 //! end has its own iterator over the freed ids, so the ends share nothing but the bounds.
 
-use super::{IdAllocator, bound_of};
+use super::{bound_of, IdAllocator};
 use crate::rattle::btree_set::Iter;
 
 /// An iterator over the allocated ids, from the lowest to the highest, or backwards. It does not

@@ -2,10 +2,10 @@
 
 //! Several ids in one call, and the number of free ids.
 
-use crate::rattle::Vec;
 use super::IdAllocator;
-use crate::rattle::Global;
 use crate::proved::vm_ranges::{Error, Result};
+use crate::rattle::Global;
+use crate::rattle::Vec;
 
 impl IdAllocator {
     /// Returns the number of free ids of the range.

@@ -3,8 +3,8 @@
 //! Creates an id allocator of its range and the list of its allocated ids.
 
 use super::IdAllocator;
-use crate::rattle::Global;
 use crate::proved::vm_ranges::{Error, Result};
+use crate::rattle::Global;
 
 impl IdAllocator {
     /// Creates an allocator for the ids from `range_base` to `range_end`, both included, in which these

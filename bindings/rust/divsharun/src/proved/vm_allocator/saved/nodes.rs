@@ -3,9 +3,9 @@
 //! Makes allocators of the nodes that a reader has read.
 
 use crate::proved::vm_allocator::address_allocator::AddressAllocator;
-use crate::rattle::{AllocError, Global};
 use crate::proved::vm_engine::{IntervalTree, ReadNodes, WrittenBlocks};
 use crate::proved::vm_ranges::{RangeInclusive, SavedError};
+use crate::rattle::{AllocError, Global};
 
 impl AddressAllocator {
     /// Returns the allocator that a saved space and a saved tree represent. Its tree has the minimum height.

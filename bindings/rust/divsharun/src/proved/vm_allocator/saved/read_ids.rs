@@ -5,10 +5,10 @@
 //! A reader adds the ids one by one to the set that becomes that of the allocator. It has no other
 //! list of them. The first and the last id show whether all of them are in the range.
 
-use crate::proved::vm_allocator::id_allocator::{IdAllocator, bound_of};
-use crate::rattle::Global;
-use crate::rattle::BTreeSet;
+use crate::proved::vm_allocator::id_allocator::{bound_of, IdAllocator};
 use crate::proved::vm_ranges::{Condition, SavedError};
+use crate::rattle::BTreeSet;
+use crate::rattle::Global;
 
 /// The freed ids of a saved id allocator that were read so far, in ascending order.
 ///

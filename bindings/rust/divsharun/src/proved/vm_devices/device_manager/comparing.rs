@@ -2,8 +2,8 @@
 
 //! Equality of managers.
 
-use super::DeviceManager;
 use super::slots::Devices;
+use super::DeviceManager;
 
 impl PartialEq for DeviceManager {
     /// Returns `true` if both managers have equal allocators and the same devices.
@@ -14,8 +14,7 @@ impl PartialEq for DeviceManager {
     }
 }
 
-impl Eq for DeviceManager {
-}
+impl Eq for DeviceManager {}
 
 impl DeviceManager {
     /// Returns `true` if both managers have equal allocators.

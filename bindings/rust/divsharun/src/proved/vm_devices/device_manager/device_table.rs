@@ -3,9 +3,9 @@
 //! The table of the devices. It finds a range by its id, and an id by the start of its range.
 
 use super::slots::{Devices, Slots};
-use crate::rattle::{AllocError, Global};
-use crate::rattle::BTreeMap;
 use crate::proved::vm_allocator::RangeInclusive;
+use crate::rattle::BTreeMap;
+use crate::rattle::{AllocError, Global};
 
 /// The range of each device by its id, and the id of each device by the start of its range.
 ///

@@ -3,10 +3,10 @@
 //! Queries of the devices: an iterator, their number, the device at an address, and both
 //! allocators.
 
-use super::DeviceManager;
 use super::slots::Devices;
-use crate::proved::vm_devices::device_slot::DeviceSlot;
+use super::DeviceManager;
 use crate::proved::vm_allocator::{AddressAllocator, Conflict, Constraint, IdAllocator};
+use crate::proved::vm_devices::device_slot::DeviceSlot;
 
 impl DeviceManager {
     /// Returns an iterator over the devices, by ascending ids.

@@ -3,9 +3,9 @@
 //! Allocates the range of a request.
 
 use super::IntervalTree;
-use crate::rattle::Global;
 use crate::proved::vm_ranges::{AllocPolicy, Constraint, Error, NodeState, RangeInclusive, Result};
 use crate::proved::vm_tree::{End, Refusal, Search, Steps, Taken, Tree};
+use crate::rattle::Global;
 
 /// If this many ranges are allocated, no gap is split. So no tree gets too high.
 pub(in crate::proved::vm_engine) const SPLIT_LIMIT: u64 = 6_293_134_512;
@@ -21,14 +21,8 @@ impl IntervalTree {
         let can_split = self.held_count < SPLIT_LIMIT;
         let mut count = Steps::new();
         let tree = &mut self.tree;
-        let taken = match allocate_in(
-            tree,
-            &self.space,
-            &constraint,
-            can_split,
-            alloc,
-            &mut count,
-        ) {
+        let taken = match allocate_in(tree, &self.space, &constraint, can_split, alloc, &mut count)
+        {
             Ok(taken) => taken,
             Err(error) => return (Err(error), count.entered()),
         };
@@ -109,7 +103,10 @@ fn search_of(constraint: &Constraint, space: &RangeInclusive, can_split: bool) -
 
 /// Returns what a search found, with the error of its refusal. A search for `range` alone can find that
 /// it is allocated.
-fn with_error(found: core::result::Result<Taken, Refusal>, range: &RangeInclusive) -> Result<Taken> {
+fn with_error(
+    found: core::result::Result<Taken, Refusal>,
+    range: &RangeInclusive,
+) -> Result<Taken> {
     let refusal = match found {
         Ok(taken) => return Ok(taken),
         Err(refusal) => refusal,

@@ -5,9 +5,9 @@
 //! A first pass checks and counts without allocating. A second pass builds the blocks into leaves.
 
 use super::IntervalTree;
-use crate::rattle::{AllocError, Global};
 use crate::proved::vm_ranges::{Error, ListError, RangeInclusive, Result};
 use crate::proved::vm_tree::Tree;
+use crate::rattle::{AllocError, Global};
 
 /// A tree of this many blocks or more is too high.
 const TOO_MANY_BLOCKS: u64 = 1 << 49;

@@ -3,8 +3,8 @@
 //! Equality and order of trees. Both compare the blocks, so the shape of a tree does not matter.
 
 use super::IntervalTree;
-use core::cmp::Ordering;
 use crate::proved::vm_tree::Walk;
+use core::cmp::Ordering;
 
 impl PartialEq for IntervalTree {
     /// Returns `true` if both trees have the same blocks. It stops at the first difference.
@@ -13,8 +13,7 @@ impl PartialEq for IntervalTree {
     }
 }
 
-impl Eq for IntervalTree {
-}
+impl Eq for IntervalTree {}
 
 impl PartialOrd for IntervalTree {
     /// Compares like `cmp`.

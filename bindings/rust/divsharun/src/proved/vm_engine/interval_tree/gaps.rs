@@ -5,8 +5,8 @@
 //!
 //! A gap is a run of free addresses with no free address next to it. Each free block is a gap.
 
-use super::IntervalTree;
 use super::ranges::{Ranges, RangesIn};
+use super::IntervalTree;
 use crate::proved::vm_ranges::{NodeState, RangeInclusive};
 
 impl IntervalTree {

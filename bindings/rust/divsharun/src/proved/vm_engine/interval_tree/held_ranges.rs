@@ -2,8 +2,8 @@
 
 //! Queries about the allocated ranges.
 
-use super::IntervalTree;
 use super::ranges::{Ranges, RangesIn};
+use super::IntervalTree;
 use crate::proved::vm_ranges::{NodeState, RangeInclusive};
 
 impl IntervalTree {

@@ -5,11 +5,11 @@
 //! A reader calls `begin` before it reads the fields of a node, and `end` after that. It has no list
 //! of nodes: a subtree is known by its span, and only the allocated keys of all subtrees are kept.
 
-use crate::rattle::Vec;
-use super::span::{MAX_NESTING, Span, held_in, is_inside, is_tree_of, span_over};
+use super::span::{held_in, is_inside, is_tree_of, span_over, Span, MAX_NESTING};
 use crate::proved::vm_engine::IntervalTree;
-use crate::rattle::{AllocError, Global};
 use crate::proved::vm_ranges::{Condition, NodeState, RangeInclusive, SavedError};
+use crate::rattle::Vec;
+use crate::rattle::{AllocError, Global};
 
 /// A side of a node, on which it can have a child.
 #[derive(Clone, Copy, PartialEq, Eq)]

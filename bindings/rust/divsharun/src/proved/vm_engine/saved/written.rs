@@ -4,11 +4,11 @@
 //!
 //! The blocks decide its shape, so trees with the same blocks are written in the same way.
 
-use crate::rattle::Vec;
 use crate::proved::vm_engine::IntervalTree;
-use crate::rattle::{AllocError, Global};
 use crate::proved::vm_leaf::Block;
 use crate::proved::vm_ranges::{NodeState, RangeInclusive};
+use crate::rattle::Vec;
+use crate::rattle::{AllocError, Global};
 
 /// The blocks of a space in ascending order.
 pub struct WrittenBlocks {

@@ -2,7 +2,7 @@
 
 //! The first and the last address of a leaf, a copy of a leaf, and one more block at its end.
 
-use super::{Leaf, with_held};
+use super::{with_held, Leaf};
 use crate::proved::vm_leaf::block::Block;
 use crate::proved::vm_ranges::NodeState;
 

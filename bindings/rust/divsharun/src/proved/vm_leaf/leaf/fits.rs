@@ -38,13 +38,24 @@ fn highest_fit(start: u64, end: u64, size: u64, alignment: u64) -> Option<u64> {
         return None;
     }
     let place = highest_multiple(end - more, alignment);
-    if start <= place { Some(place) } else { None }
+    if start <= place {
+        Some(place)
+    } else {
+        None
+    }
 }
 
 impl Leaf {
     /// Returns the lowest fit in the part of the gap `i` from `low` to `high`.
     #[inline(always)]
-    fn lowest_fit_at(&self, i: usize, low: u64, high: u64, size: u64, alignment: u64) -> Option<u64> {
+    fn lowest_fit_at(
+        &self,
+        i: usize,
+        low: u64,
+        high: u64,
+        size: u64,
+        alignment: u64,
+    ) -> Option<u64> {
         let (start, end) = (self.start_at(i), self.end_at(i));
         lowest_fit(low.max(start), high.min(end), size, alignment)
     }
@@ -66,7 +77,13 @@ impl Leaf {
     /// Returns the lowest place for `size` free addresses from `low` to `high` at a multiple of `alignment`.
     ///
     /// `size` must not be 0, and `alignment` must be a power of two.
-    pub(in crate::proved) fn first_fit_in(&self, low: u64, high: u64, size: u64, alignment: u64) -> Option<Place> {
+    pub(in crate::proved) fn first_fit_in(
+        &self,
+        low: u64,
+        high: u64,
+        size: u64,
+        alignment: u64,
+    ) -> Option<Place> {
         let mut gaps = self.gaps();
         while gaps != 0 {
             let index = lowest_one(gaps);
@@ -81,7 +98,13 @@ impl Leaf {
     /// Returns the highest place for `size` free addresses from `low` to `high` at a multiple of `alignment`.
     ///
     /// `size` must not be 0, and `alignment` must be a power of two.
-    pub(in crate::proved) fn last_fit_in(&self, low: u64, high: u64, size: u64, alignment: u64) -> Option<Place> {
+    pub(in crate::proved) fn last_fit_in(
+        &self,
+        low: u64,
+        high: u64,
+        size: u64,
+        alignment: u64,
+    ) -> Option<Place> {
         let mut upto = self.len();
         while let Some(index) = self.last_gap(upto) {
             if let Some(start) = self.highest_fit_at(index, low, high, size, alignment) {

@@ -2,7 +2,7 @@
 
 //! The gaps of a leaf, found by bit operations on its mask.
 
-use super::{Leaf, low_part};
+use super::{low_part, Leaf};
 use crate::proved::vm_ranges::RangeInclusive;
 
 /// Returns the index of the highest 0 bit of `held` below `upto`.

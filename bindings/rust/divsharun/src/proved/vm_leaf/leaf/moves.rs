@@ -2,7 +2,7 @@
 
 //! Changes at the ends of a leaf, and blocks that move between neighbouring leaves.
 
-use super::{CAPACITY, Leaf, Left, MIN_BLOCKS, low_part, remove_between};
+use super::{low_part, remove_between, Leaf, Left, CAPACITY, MIN_BLOCKS};
 use crate::proved::vm_ranges::RangeInclusive;
 
 /// Returns the number of blocks that a full leaf keeps when it is split to allocate a range of the gap `i`.
@@ -67,7 +67,13 @@ impl Leaf {
     ///
     /// The upper blocks are moved to `upper`, whose old blocks are lost. Both leaves have at least `MIN_BLOCKS`
     /// blocks then.
-    pub(in crate::proved) fn split_full(&mut self, i: usize, range: RangeInclusive, left: Left, upper: &mut Leaf) {
+    pub(in crate::proved) fn split_full(
+        &mut self,
+        i: usize,
+        range: RangeInclusive,
+        left: Left,
+        upper: &mut Leaf,
+    ) {
         let at = kept(i, self.len());
         *upper = self.split_off(at);
         if i < at {

@@ -2,8 +2,8 @@
 
 //! The summary of the gaps of a leaf: how long they are, and which alignments have a multiple in them.
 
-use super::Leaf;
 use super::gaps::{lowest_one, without_lowest};
+use super::Leaf;
 use crate::proved::vm_ranges::RangeInclusive;
 
 /// The summary of some gaps. Both fields are 0 if there is no gap.
@@ -29,7 +29,11 @@ fn reach(start: u64, end: u64) -> u64 {
 /// Returns the number of binary digits of `number`, or 0 if it is 0.
 #[inline(always)]
 fn bit_length(number: u64) -> u32 {
-    if number == 0 { 0 } else { number.ilog2() + 1 }
+    if number == 0 {
+        0
+    } else {
+        number.ilog2() + 1
+    }
 }
 
 impl Summary {

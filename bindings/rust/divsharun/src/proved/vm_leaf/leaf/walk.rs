@@ -2,7 +2,7 @@
 
 //! Iteration over the blocks of a leaf from both ends.
 
-use super::{Leaf, state_in};
+use super::{state_in, Leaf};
 use crate::proved::vm_leaf::block::Block;
 use crate::proved::vm_ranges::RangeInclusive;
 

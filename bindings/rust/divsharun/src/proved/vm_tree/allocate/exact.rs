@@ -2,14 +2,14 @@
 
 //! The allocation of a range that starts at a given address.
 
-use super::place::{Site, leaf_of, place_at};
+use super::place::{leaf_of, place_at, Site};
+use crate::proved::vm_leaf::{Block, Leaf};
+use crate::proved::vm_ranges::NodeState;
 use crate::proved::vm_tree::change::update;
 use crate::proved::vm_tree::link::{Link, Node};
 use crate::proved::vm_tree::search::{Refusal, Search, Taken};
 use crate::proved::vm_tree::steps::Steps;
 use crate::rattle::Global;
-use crate::proved::vm_leaf::{Block, Leaf};
-use crate::proved::vm_ranges::NodeState;
 
 /// Returns the reason why the range of a search that starts at `start` cannot be allocated in the block that
 /// contains `start`. Returns `None` if the range lies in a gap and in the window.

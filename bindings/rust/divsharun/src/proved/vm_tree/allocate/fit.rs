@@ -5,15 +5,15 @@
 //! Both are one search from an end: from the lowest address up, or from the highest one down. The near child
 //! of a node is the one at that end.
 
-use super::place::{Site, leaf_of, place_at};
+use super::place::{leaf_of, place_at, Site};
 use super::{fits, has_no_place};
+use crate::proved::vm_leaf::Leaf;
 use crate::proved::vm_tree::change::update;
 use crate::proved::vm_tree::end::End;
 use crate::proved::vm_tree::link::{Link, Node};
 use crate::proved::vm_tree::search::{Refusal, Search, Taken};
 use crate::proved::vm_tree::steps::Steps;
 use crate::rattle::Global;
-use crate::proved::vm_leaf::Leaf;
 
 /// Returns the site of the place of a search that is closest to an end of a leaf, or `None` if there is none.
 #[inline(always)]

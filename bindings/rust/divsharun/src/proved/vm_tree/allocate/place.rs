@@ -2,14 +2,14 @@
 
 //! The allocation of a range at a place in a leaf, which may split the leaf in two.
 
-use crate::rattle::Box;
+use crate::proved::vm_leaf::{Block, Leaf, Left, Summary, CAPACITY};
+use crate::proved::vm_ranges::{NodeState, RangeInclusive};
 use crate::proved::vm_tree::change::Change;
-use crate::proved::vm_tree::link::{Link, Node, fork_link, into_leaf, leaf_link};
+use crate::proved::vm_tree::link::{fork_link, into_leaf, leaf_link, Link, Node};
 use crate::proved::vm_tree::search::{Refusal, Search, Taken};
+use crate::rattle::Box;
 use crate::rattle::{AllocError, Global};
 use core::mem;
-use crate::proved::vm_leaf::{Block, CAPACITY, Leaf, Left, Summary};
-use crate::proved::vm_ranges::{NodeState, RangeInclusive};
 
 /// A start in a gap of a leaf.
 #[derive(Clone, Copy)]

@@ -2,13 +2,13 @@
 
 //! Creates a manager of both allocators and its devices, which are read one by one.
 
-use crate::rattle::Vec;
-use crate::proved::vm_devices::device_manager::DeviceManager;
-use crate::proved::vm_devices::device_manager::device_table::DeviceTable;
-use crate::proved::vm_devices::device_slot::DeviceSlot;
-use crate::rattle::Global;
 use crate::proved::vm_allocator::{AddressAllocator, IdAllocator};
+use crate::proved::vm_devices::device_manager::device_table::DeviceTable;
+use crate::proved::vm_devices::device_manager::DeviceManager;
+use crate::proved::vm_devices::device_slot::DeviceSlot;
 use crate::proved::vm_ranges::{Condition, SavedError};
+use crate::rattle::Global;
+use crate::rattle::Vec;
 
 /// The version of a saved manager.
 pub const SAVED_VERSION: u64 = 1;
