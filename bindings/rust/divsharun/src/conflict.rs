@@ -1,5 +1,5 @@
 // SPDX-License-Identifier: Apache-2.0 OR BSD-3-Clause
-use crate::texts::pad;
+use crate::pad::pad;
 use crate::RangeInclusive;
 use core::fmt;
 

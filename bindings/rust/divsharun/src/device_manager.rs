@@ -1,9 +1,9 @@
 // SPDX-License-Identifier: Apache-2.0 OR BSD-3-Clause
 use crate::address_allocator::{space_of, ShortDebug};
 use crate::error::TryResult;
-use crate::objects::{allocator, iterate, DebugList};
 use crate::proved::vm_devices as proved;
 use crate::rattle::Global;
+use crate::traits::{allocator, iterate, DebugList};
 use crate::{AllocPolicy, Conflict, Constraint, RangeInclusive, Result};
 use core::fmt;
 

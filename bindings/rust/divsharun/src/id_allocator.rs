@@ -1,8 +1,8 @@
 // SPDX-License-Identifier: Apache-2.0 OR BSD-3-Clause
 use crate::error::TryResult;
-use crate::objects::{allocator, iterate};
 use crate::proved::vm_allocator as proved;
 use crate::rattle::Global;
+use crate::traits::{allocator, iterate};
 use crate::{Result, Window};
 use alloc::vec::Vec;
 use core::{convert, fmt};

@@ -237,7 +237,7 @@ mod error;
 mod id_allocator;
 mod layout;
 mod node_state;
-mod objects;
+mod pad;
 // The eraser writes it. Without `serde`, nothing reaches the calls for saved objects, and without
 // `std`, nothing reaches those that only `vm_lines` makes.
 #[cfg_attr(not(all(feature = "serde", feature = "std")), allow(dead_code))]
@@ -250,7 +250,7 @@ pub mod replay;
 mod saved;
 #[cfg(test)]
 mod tests;
-mod texts;
+mod traits;
 
 pub use address_allocator::{AddressAllocator, Gaps, GapsIn, HeldRanges, HeldRangesIn};
 pub use conflict::Conflict;
