@@ -6,8 +6,9 @@
  * - REFUSED=FILE: each failed allocation adds one byte to FILE.
  * - BALANCE=SIZE: between two allocations of SIZE bytes, the numbers of
  *   allocated and freed blocks must be equal. Otherwise the program ends.
- * - COUNT=SIZE: an allocation of SIZE bytes starts a count of allocations. One
- *   of SIZE + 1 + N bytes ends the program if the count is not N, unless an
+ * - COUNT=SIZE: an allocation of SIZE bytes starts a count of the allocations
+ *   of its thread, because Rust's test harness allocates in another one. One of
+ *   SIZE + 1 + N bytes ends the program if the count is not N, unless an
  *   allocation failed. N is at most 98.
  */
 #define _GNU_SOURCE
@@ -17,7 +18,9 @@
 #include <stdlib.h>
 #include <unistd.h>
 
-static unsigned long requests, counted;
+static unsigned long requests;
+static __thread unsigned long counted
+    __attribute__((tls_model("initial-exec")));
 static long given, balanced;
 static int last_was_met, is_balancing, was_refused;
 
