@@ -358,7 +358,8 @@ fn free_child(
     ensures freed { FreesUnder key.now (side left.old) (side right.old) (side left.new) (side right.new) result }
     ensures count { (count.old ≤ count.new)
         × (count.new ≤ count.old + 3 * max (height_of (side left.old)) (height_of (side right.old))) }
-    ensures exact { OnSome result (count.new + 1 ≡ count.old + nodes_to_free key.now (Fork (side left.old) (side right.old))) }
+    ensures exact { OnSome result (count.new + 1
+        ≡ count.old + nodes_to_free key.now (Fork (side left.old) (side right.old))) }
 {
     if key.start() < edge {
         return free_at(left, key, count);
@@ -386,7 +387,8 @@ fn free_under(
     ensures freed { FreesUnder key.now (side left.old) (side right.old) (side left.new) (side right.new) result }
     ensures count { (count.old ≤ count.new)
         × (count.new ≤ count.old + 3 * max (height_of (side left.old)) (height_of (side right.old))) }
-    ensures exact { OnSome result (count.new + 1 ≡ count.old + nodes_to_free key.now (Fork (side left.old) (side right.old))) }
+    ensures exact { OnSome result (count.new + 1
+        ≡ count.old + nodes_to_free key.now (Fork (side left.old) (side right.old))) }
 {
     let edge = *at;
     if key.start() == edge {

@@ -16,7 +16,7 @@ use Rattle.vm_ranges.specs.declared.saved.SavedError.TheVariants.{Violated, OutO
 use Rattle.vm_ranges.specs.declared.saved.Condition.{Condition}
 use Rattle.vm_ranges.specs.declared.saved.Condition.TheVariants.{Nesting, Keys, Tree}
 
--- The children of a node that ended. A child that did not end is Absent.
+-- The children of a node that have ended. On a side without one, the child is Absent.
 pub record ReadChildren : Type 0 where
   pub left : Saved
   pub right : Saved
@@ -96,7 +96,7 @@ pub record Stored : Type 0 where
   pub children : Children
   pub outer : List Children
 
--- It is stored for these nodes.
+-- A reader that has read these nodes stores these values.
 pub record IsStoredFor (stored : Stored) (nodes : NodesRead) : Type 0 where
   pub children : StandForBoth stored.children nodes.children
   pub outer : StandForAll stored.outer nodes.outer
@@ -147,7 +147,7 @@ EndsNode side b h (Ok stored) answer new =
     (λ e. (new ≡ Err e) × EndFails side (node_of nodes b h) nodes e)
 EndsNode side b h (Err e) answer new = (answer ≡ Err e) × (new ≡ Err e)
 
--- The same for what is stored. Nothing is known of it after an error.
+-- The same result for the stored values. After an error they can be any.
 abbrev pub EndsStored : Side → Block → ℕ → Stored → Result (Unit {0}) SavedError → Stored → Type 0
 EndsStored side b h old answer new =
     (nodes : NodesRead) → IsStoredFor old nodes →
@@ -155,11 +155,12 @@ EndsStored side b h old answer new =
     (λ _. (can : CanEnd side nodes) × IsStoredFor new (ended side (node_of nodes b h) nodes can))
     (λ e. EndFails side (node_of nodes b h) nodes e)
 
--- The span of the child on this side, and the children with this span there.
+-- The span of the child on this side.
 abbrev pub child_span : Side → Children → Option Span
 child_span Left c = c.left
 child_span Right c = c.right
 
+-- The spans of the children with this one on this side.
 abbrev pub with_span : Side → Span → Children → Children
 with_span Left s c = record c { left = Some s }
 with_span Right s c = record c { right = Some s }

@@ -55,6 +55,7 @@ impl IntervalTree {
         ensures state { IfOk result (λ tree. IsAddressState (tree_state tree)) }
     {
         let Ok((count, left)) = count_blocks(&space, held) else {
+            // `held` can be held, so it has no error.
             unreachable!()
         };
         build(alloc, space, held, count, left)

@@ -29,7 +29,7 @@ pub enum Side {
     Right,
 }
 
-/// The spans of the children of a node that ended.
+/// The spans of the children of a node that have ended.
 #[derive(Clone, Copy)]
 struct Children {
     left: Option<Span>,

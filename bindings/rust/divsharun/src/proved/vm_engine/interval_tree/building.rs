@@ -37,6 +37,7 @@ impl IntervalTree {
         held: &[RangeInclusive],
     ) -> core::result::Result<Self, AllocError> {
         let Ok((count, left)) = count_blocks(&space, held) else {
+            // `held` can be held, so it has no error.
             unreachable!()
         };
         build(alloc, space, held, count, left)
