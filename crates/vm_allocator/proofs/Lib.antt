@@ -5,3 +5,4 @@ pub mod Histories
 pub mod Reading
 pub mod Callers
 pub mod Trees
+pub mod TakenParts

@@ -1,3 +1,2 @@
 pub mod AddressHistories
-pub mod CountedHistories
 pub mod IdHistories

@@ -1,13 +1,8 @@
 //! An allocator of address ranges.
 //!
 //! The allocator stores its space next to the tree of blocks, so that `base` and `end` are one load
-//! each. The invariant states that the two agree and that the state is valid. The fields are `pub(crate)` because `saved`
-//! builds allocators from values.
-//!
-//! `free` calls its counted version and drops the count, as the tree does in `allocate`. Some clauses
-//! follow from `answer`, and are there because callers rely on them: for example that some calls always
-//! succeed.
-ghost use Rattle.std.specs.Prelude.{ℕ, ◌≡◌, ◌%◌, Err, OnErr, OnOk, IfOk, IfErr, IfSome, IsOk};
+//! each. The fields are `pub(crate)` because `saved` builds allocators from values.
+ghost use Rattle.std.specs.Prelude.{ℕ, ◌≡◌, ◌%◌, [], ◌∷◌, Err, OnErr, OnOk, IfOk, IfErr, IfSome, IsOk};
 ghost use Rattle.std.specs.List.{Contains};
 ghost use Rattle.vm_engine.specs.Address.{IsAddressState, holding, releasing};
 ghost use Rattle.vm_ranges.specs.Range.{Covers, address_count};
@@ -20,6 +15,7 @@ ghost use Rattle.vm_ranges.specs.Cloning.{Clones};
 ghost use Rattle.vm_tree.specs.Shape.{height_of};
 ghost use Rattle.vm_tree.specs.Building.{IsLowestTree};
 ghost use Rattle.vm_engine.specs.Counts.GapSearch.{SearchesGaps, SearchesAligned};
+ghost use Rattle.vm_engine.specs.Counts.Parts.{Allocating, Freeing, HasParts};
 ghost use Rattle.vm_engine.specs.Counts.Steps.{EntersToAllocate, IsAllocationCount, IsFreeCount, IsBalancedTreeOf};
 
 use std::alloc::Global;
@@ -224,8 +220,9 @@ impl AddressAllocator {
         // A request that fills its gap needs no memory, so it succeeds.
         ensures filling { (start : ℕ) → FillsGap (state_of self.old) request start → IsOk result }
 
-        // Each result under its exact condition.
+        // Each result under its exact condition. The nodes are those of the counted call.
         ensures answer { Allocates (state_of self.old) request result (state_of self.new) }
+        ensures part { (count : ℕ) × HasParts self.old.tree (Allocating request result count ∷ []) self.new.tree }
     {
         self.interval_tree.allocate(alloc, request)
     }
@@ -323,7 +320,7 @@ impl AddressAllocator {
     /// An error changes nothing.
     /// - `ResourceNotAvailable` if exactly this range is not allocated. A part of an allocated
     ///   range cannot be freed.
-    #[tactic(auto, using(crate::proofs::Callers::releases))]
+    #[tactic(auto, using(crate::proofs::Callers::releases, crate::proofs::Trees::trees))]
     pub fn free(&mut self, key: &RangeInclusive) -> Result<()>
         // A held range is freed without memory, and nothing else changes. Any other range is an error.
         ensures held { Contains (state_of self.old).held key.now → IsOk result }
@@ -332,10 +329,11 @@ impl AddressAllocator {
         ensures unchanged { OnErr result (self.new ≡ self.old) }
         ensures state { IsAddressState (state_of self.new) }
 
-        // Each result under its exact condition.
+        // Each result under its exact condition. The nodes are those of the counted call.
         ensures answer { Frees (state_of self.old) key.now result (state_of self.new) }
+        ensures part { OnOk result ((count : ℕ) × HasParts self.old.tree (Freeing key.now count ∷ []) self.new.tree) }
     {
-        self.free_counted(key).0
+        self.interval_tree.free(key)
     }
 
     /// Frees like [`free`](Self::free), and also returns the number of tree nodes that the call

@@ -1,6 +1,7 @@
 pub mod Tables
 pub mod Pairs
 pub mod DeviceHistories
+pub mod DeviceParts
 pub mod DevicesAgain
 pub mod DevicesOnce
 pub mod EveryDeviceCall

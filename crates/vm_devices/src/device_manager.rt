@@ -2,12 +2,13 @@
 //!
 //! Ids, ranges and the table of devices change together or not at all. Calls that can fail are
 //! first. The calls after them, and the call that undoes an allocation, always succeed.
-ghost use Rattle.std.specs.Prelude.{◌≡◌, ◌≢◌, ◌%◌, Ok, OnErr, OnOk, IfErr, IfOk, IfSome};
+ghost use Rattle.std.specs.Prelude.{◌≡◌, ◌%◌, [], Ok, OnErr, OnOk, IfOk, IfSome};
 ghost use Rattle.std.specs.FinMap as map;
 ghost use Rattle.vm_ranges.specs.Cloning.{Clones};
 ghost use Rattle.vm_ranges.specs.Range.{Range, Covers, address_count};
 ghost use Rattle.vm_ranges.specs.Request.{request_for};
 ghost use Rattle.vm_engine.specs.Answer.{IsChosen};
+ghost use Rattle.vm_engine.specs.Counts.Parts.{TakesParts};
 ghost use Rattle.vm_allocator.specs.Ids.{IsLowestNotHeld, PeeksId};
 ghost use Rattle.vm_devices.specs.Devices.{
   IsDeviceState,
@@ -18,8 +19,7 @@ ghost use Rattle.vm_devices.specs.Devices.{
   with_device,
   without_device,
 };
-ghost use Rattle.vm_devices.specs.Manager.{device_state, made_manager};
-ghost use Rattle.vm_ranges.specs.declared.error.Error.TheVariants.{OutOfMemory};
+ghost use Rattle.vm_devices.specs.Manager.{device_state, made_manager, ReservesInParts};
 
 use crate::device_slot::DeviceSlot;
 use std::alloc::Global;
@@ -118,7 +118,7 @@ impl DeviceManager {
     ///
     /// # Errors
     ///
-    /// An error leaves ids, ranges and devices unchanged, and each error but `OutOfMemory` the same tree. In
+    /// An error leaves ids, ranges and devices unchanged, and each error but the last one the same tree. In
     /// this order:
     /// - `Overflow` if all ids are allocated and their range ends at `u32::MAX`.
     /// - `ResourceNotAvailable` if all ids are allocated and their range ends below `u32::MAX`.
@@ -126,7 +126,7 @@ impl DeviceManager {
     /// - `OutOfMemory` if an allocation for the table of devices fails. The range is freed again, and the
     ///   tree of [`addresses`](Self::addresses) can have another shape. Then its height and its later
     ///   counts can differ.
-    #[tactic(auto, using(crate::proofs::DeviceCalls::reserves))]
+    #[tactic(auto, using(crate::proofs::DeviceCalls::reserves, crate::proofs::DeviceParts::left_same))]
     pub fn reserve(
         &mut self,
         alloc: Global,
@@ -145,7 +145,7 @@ impl DeviceManager {
         ensures held { IfOk result (λ slot.
             device_state self.new ≡ with_device slot.id slot.range (device_state self.old)) }
         ensures unchanged { OnErr result (device_state self.new ≡ device_state self.old) }
-        ensures same { IfErr result (λ error. error ≢ OutOfMemory → self.new ≡ self.old) }
+        ensures parts { ReservesInParts self.old (request_for size align policy) result self.new }
         ensures state { IsDeviceState (device_state self.new) }
 
         // Each result under its exact condition.
@@ -162,14 +162,14 @@ impl DeviceManager {
     ///
     /// # Errors
     ///
-    /// An error leaves ids, ranges and devices unchanged, and each error but `OutOfMemory` the same tree. In
+    /// An error leaves ids, ranges and devices unchanged, and each error but the last one the same tree. In
     /// this order:
     /// - `Overflow` if all ids are allocated and their range ends at `u32::MAX`.
     /// - `ResourceNotAvailable` if all ids are allocated and their range ends below `u32::MAX`.
     /// - The errors of `AddressAllocator::allocate_constraint`, in the order of its documentation.
     /// - `OutOfMemory` if an allocation for the table of devices fails, as by
     ///   [`reserve`](Self::reserve).
-    #[tactic(auto, using(crate::proofs::DeviceCalls::reserves))]
+    #[tactic(auto, using(crate::proofs::DeviceCalls::reserves, crate::proofs::DeviceParts::left_same))]
     pub fn reserve_constraint(&mut self, alloc: Global, request: Constraint) -> Result<DeviceSlot>
         // The id is the lowest that is not held. The range is as long as asked, aligned and in the window,
         // at the place that the policy chooses there.
@@ -183,7 +183,7 @@ impl DeviceManager {
         ensures held { IfOk result (λ slot.
             device_state self.new ≡ with_device slot.id slot.range (device_state self.old)) }
         ensures unchanged { OnErr result (device_state self.new ≡ device_state self.old) }
-        ensures same { IfErr result (λ error. error ≢ OutOfMemory → self.new ≡ self.old) }
+        ensures parts { ReservesInParts self.old request result self.new }
 
         // Each result under its exact condition.
         ensures answer { Reserves (device_state self.old) request result (device_state self.new) }
@@ -200,12 +200,13 @@ impl DeviceManager {
     /// An error changes nothing, and leaves the same tree. In this order:
     /// - `NeverAllocated(id)` if no device has the id.
     /// - `OutOfMemory` if an allocation of memory fails.
-    #[tactic(auto, using(crate::proofs::DeviceCalls::no_device))]
+    #[tactic(auto, using(crate::proofs::DeviceCalls::no_device, vm_allocator::proofs::TakenParts::parts))]
     pub fn release(&mut self, id: u32) -> Result<()>
         // The id and the range of the device are freed, and nothing else changes.
         ensures released { OnOk result ((range : Range) × IsDevice (device_state self.old) id range
             × (device_state self.new ≡ without_device id range (device_state self.old))) }
         ensures unchanged { OnErr result (self.new ≡ self.old) }
+        ensures parts { TakesParts 1 self.old.addresses.tree [] self.new.addresses.tree }
         ensures state { IsDeviceState (device_state self.new) }
 
         // Each result under its exact condition.
@@ -236,7 +237,7 @@ impl DeviceManager {
     fn reserve_range(&mut self, alloc: Global, id: u32, request: Constraint) -> Result<DeviceSlot>
         requires { PeeksId (device_state self.old).ids (Ok id) }
         ensures answer { Reserves (device_state self.old) request result (device_state self.new) }
-        ensures same { IfErr result (λ error. error ≢ OutOfMemory → self.new ≡ self.old) }
+        ensures parts { ReservesInParts self.old request result self.new }
     {
         let range = self.mmio_allocator.allocate_constraint(alloc, request)?;
         if let Err(refused) = self.slots.insert(alloc, id, range) {

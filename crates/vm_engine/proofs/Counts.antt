@@ -4,5 +4,7 @@ pub mod GapBounds
 pub mod LeftClear
 pub mod MadeOrNot
 pub mod MisalignedGaps
+pub mod PartCounts
 pub mod SimpleBounds
+pub mod TakenParts
 pub mod TooShortGaps

@@ -1,3 +1,4 @@
 pub mod Steps
 pub mod GapSearch
 pub mod NodeCounts
+pub mod Parts

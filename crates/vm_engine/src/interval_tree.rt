@@ -11,13 +11,14 @@
 //!
 //! A counted call also returns the number of nodes that it entered. A plain call makes the counted call and
 //! drops the count.
-ghost use Rattle.std.specs.Prelude.{◌≡◌, OnErr, IfOk};
+ghost use Rattle.std.specs.Prelude.{◌≡◌, ℕ, [], ◌∷◌, OnErr, OnOk, IfOk};
 ghost use Rattle.vm_ranges.specs.Cloning.{Clones};
 ghost use Rattle.vm_ranges.specs.Request.{IsRequest};
 ghost use Rattle.vm_tree.specs.Shape.{blocks, height_of};
 ghost use Rattle.vm_tree.specs.Walks.{meeting_blocks};
 ghost use Rattle.vm_engine.specs.Address.{IsAddressState};
 ghost use Rattle.vm_engine.specs.Answer.{Grants, Frees};
+ghost use Rattle.vm_engine.specs.Counts.Parts.{Allocating, Freeing, HasParts};
 ghost use Rattle.vm_engine.specs.Counts.Steps.{IsBalancedTreeOf};
 ghost use Rattle.vm_engine.specs.Tree.SpaceTree.{tree_state, IsSpaceTree, MakesTree};
 
@@ -138,6 +139,7 @@ impl IntervalTree {
         ensures valid { IsRequest constraint }
         ensures answer { Grants (tree_state self.old) constraint result (tree_state self.new) }
         ensures unchanged { OnErr result (self.new ≡ self.old) }
+        ensures part { (count : ℕ) × HasParts self.old (Allocating constraint result count ∷ []) self.new }
         ensures state { IsAddressState (tree_state self.new) }
     {
         self.allocate_counted(alloc, constraint).0
@@ -149,6 +151,7 @@ impl IntervalTree {
     pub fn free(&mut self, key: &RangeInclusive) -> Result<()>
         ensures answer { Frees (tree_state self.old) key.now result (tree_state self.new) }
         ensures unchanged { OnErr result (self.new ≡ self.old) }
+        ensures part { OnOk result ((count : ℕ) × HasParts self.old (Freeing key.now count ∷ []) self.new) }
         ensures state { IsAddressState (tree_state self.new) }
     {
         self.free_counted(key).0

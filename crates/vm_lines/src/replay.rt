@@ -1,8 +1,5 @@
 //! Runs the replay language: reads pieces of the input, splits them into lines, and writes the
 //! replies through a buffer.
-//!
-//! The two facts in the contract of `run` (`AnswersInput`, `AnswersEndedLines`) are about readers
-//! and writers whose bytes are known.
 ghost use Rattle.std.specs.Prelude.{◌≡◌, ◌++◌, [], ◌+◌, ◌<◌, ℕ, List, length, OnOk, IfErr, IsErrOf, Some};
 ghost use Rattle.std.specs.Io.KnownBytes.{Appends};
 ghost use Rattle.vm_lines.specs.Machines.{start};

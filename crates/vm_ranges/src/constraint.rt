@@ -1,7 +1,4 @@
-//! Requests for a range of addresses.
-//!
-//! The invariant of `Constraint` is that the request is valid, so functions that take a
-//! `Constraint` need no condition.
+//! Requests for a range of addresses. A `Constraint` is always valid.
 ghost use Rattle.std.specs.Prelude.{◌≡◌, Some};
 ghost use Rattle.vm_ranges.specs.Alignment.{IsAlignment};
 ghost use Rattle.vm_ranges.specs.Cases.{IsTestOf};

@@ -1,6 +1,4 @@
-//! Closed ranges of addresses.
-//!
-//! Their order is written by hand, so that the contract of `cmp` names it: by start, then by end.
+//! Closed ranges of addresses, in the order of their starts, then of their ends.
 ghost use Rattle.std.specs.Prelude.{◌≡◌, ◌↔◌, IsTrue};
 ghost use Rattle.std.proofs.Common.{rules};
 ghost use Rattle.std.specs.Cmp.{partial_order_from_own_ties};

@@ -165,7 +165,7 @@ impl Tree {
     /// memory, and enters at most three nodes for each level of the tree.
     ///
     /// The range must start in the space, and `count` must be at 0.
-    #[tactic(auto, using(crate::proofs::Roots::freeing))]
+    #[tactic(auto, using(crate::proofs::Roots::freeing, crate::proofs::Roots::heights))]
     pub fn free(&mut self, key: &RangeInclusive, count: &mut Steps) -> Option<u64>
         requires start { IsIn (range_of (blocks self.old)) key.now.start }
         requires count { count.old ≡ 0 }
@@ -175,6 +175,7 @@ impl Tree {
         ensures count { (1 ≤ count.new) × (count.new ≤ 3 * height_of self.old) }
         ensures exact { OnSome result (count.new ≡ nodes_to_free key.now self.old) }
         ensures height { height_of self.new ≤ height_of self.old }
+        ensures tree { IsBlockTree self.old }
     {
         match &mut self.root {
             Link::Hole => None,

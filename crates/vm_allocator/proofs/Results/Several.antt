@@ -3,18 +3,13 @@ use Rattle.std.proofs.Common.{◌≡◌, ℕ, ◌+◌, ◌<◌, List, [], ◌∷
 use Rattle.std.proofs.Math.Seq.{drop-cons, drop-length}
 use Rattle.std.proofs.lemmas.List.{take-append-drop, append-nil, length-take-le}
 use Rattle.vm_ranges.specs.Range.{Range}
-use Rattle.vm_ranges.specs.Request.{Request, IsRequest, ByConstraint}
+use Rattle.vm_ranges.specs.Request.{Request}
 use Rattle.vm_engine.specs.Address.{AddressState, IsAddressState}
-use Rattle.vm_engine.specs.Answer.{Grants, Allocates, Frees}
+use Rattle.vm_engine.specs.Answer.{Allocates, Frees}
 use Rattle.vm_allocator.specs.Several.{FailsAtIndex, AllocatesEach, RefusesOne}
 use Rattle.vm_ranges.specs.declared.error.Error.{Error}
 use Rattle.vm_engine.proofs.Results.AddressResults.{allocated_state, freeing_undoes}
 use Rattle.vm_allocator.proofs.Callers.{given}
-
--- The result of a valid request is that of `allocate`.
-pub request_allocates : (request : Request) (old new : AddressState) (answer : Result Range Error) → IsRequest request → Grants old request answer new → Allocates old request answer new
-unfolding Allocates ByConstraint
-request_allocates request old new answer v g = inr (λ e. omega (arith, e, v.some), inr (v.aligned, inr (v.start, g)))
 
 -- ---- One request more
 each_more : (qs : List Request) (rs : List Range) (old mid new : AddressState) (q : Request) (r : Range) → AllocatesEach old qs rs mid → Allocates mid q (Ok r) new → AllocatesEach old (qs ++ q ∷ []) (rs ++ r ∷ []) new

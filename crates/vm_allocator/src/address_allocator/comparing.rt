@@ -1,7 +1,6 @@
 //! Equality and order of allocators.
 //!
-//! Both compare states, so the shapes of the trees do not matter. `IntervalTree` implements the
-//! same traits with its own contracts.
+//! Both compare states, so the shapes of the trees do not matter.
 ghost use Rattle.std.specs.Prelude.{◌≡◌, ◌↔◌, IsTrue, Some};
 ghost use Rattle.std.proofs.Common.{rules};
 ghost use Rattle.std.specs.Cmp.Rules.{comparing};

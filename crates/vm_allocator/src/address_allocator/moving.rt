@@ -1,9 +1,10 @@
 //! The move of an allocated range to the place of a request.
-ghost use Rattle.std.specs.Prelude.{◌≡◌, ◌%◌, Ok, Err, OnErr, IfOk, IfSome};
+ghost use Rattle.std.specs.Prelude.{◌≡◌, ◌%◌, [], ◌∷◌, Ok, Err, OnErr, IfOk, IfSome};
 ghost use Rattle.std.specs.List.{Contains};
 ghost use Rattle.vm_ranges.specs.Cases.{IsTestOf};
 ghost use Rattle.vm_ranges.specs.Range.{Covers, address_count};
 ghost use Rattle.vm_engine.specs.Address.{IsAddressState};
+ghost use Rattle.vm_engine.specs.Counts.Parts.{TakesParts};
 ghost use Rattle.vm_tree.specs.Shape.{height_of};
 ghost use Rattle.vm_allocator.specs.Allocator.{state_of};
 ghost use Rattle.vm_allocator.specs.Moves.{IsFor, request_to, replacing, MovesRange};
@@ -25,7 +26,7 @@ impl AddressAllocator {
     /// An error changes nothing, and leaves the same tree. In this order:
     /// - `ResourceNotAvailable` if exactly the range `key` is not allocated.
     /// - The errors of [`allocate_constraint`](Self::allocate_constraint), in the same order.
-    #[tactic(auto, using(crate::proofs::Results::Moves::moves, crate::proofs::Trees::trees))]
+    #[tactic(auto, using(crate::proofs::Results::Moves::moves, crate::proofs::Trees::trees, crate::proofs::TakenParts::parts))]
     pub fn move_constraint(
         &mut self,
         alloc: Global,
@@ -45,8 +46,9 @@ impl AddressAllocator {
         ensures stays { Contains (state_of self.old).held key.now → IsFor key.now request
             → (result ≡ Ok key.now) × (self.new ≡ self.old) }
 
-        // Each result under its exact condition.
+        // Each result under its exact condition. Its parts are at most an allocation and a free.
         ensures answer { MovesRange (state_of self.old) key.now request result (state_of self.new) }
+        ensures parts { TakesParts 2 self.old.tree (request ∷ []) self.new.tree }
     {
         if !self.interval_tree.holds(key) {
             return Err(Error::ResourceNotAvailable);

@@ -1,7 +1,9 @@
 //! Several allocations in one call: all or none.
-ghost use Rattle.std.specs.Prelude.{◌≡◌, List, IfErr, MatchResult};
+ghost use Rattle.std.specs.Prelude.{◌≡◌, ℕ, ◌+◌, ◌*◌, List, length, IfErr, MatchResult};
 ghost use Rattle.vm_ranges.specs.Request.{Request};
 ghost use Rattle.vm_engine.specs.Address.{AddressState, IsAddressState};
+ghost use Rattle.vm_engine.specs.Counts.Parts.{TakesParts};
+ghost use Rattle.vm_tree.specs.Shape.{Shape};
 ghost use Rattle.vm_engine.specs.Tree.SpaceTree.{tree_state};
 ghost use Rattle.vm_allocator.specs.Allocator.{state_of};
 ghost use Rattle.vm_allocator.specs.Several.{FailsAsNamed, AllocatesEach, FailsAll};
@@ -33,6 +35,7 @@ impl AddressAllocator {
             (λ failure. FailsAll (state_of self.old) requests.now failure.error (state_of self.new)) }
         ensures failed { IfErr result (λ failure.
             FailsAsNamed self.old.tree requests.now failure self.new.tree) }
+        ensures parts { TakesParts (2 * length requests.now) self.old.tree requests.now self.new.tree }
         ensures state { IsAddressState (state_of self.new) }
     {
         let tree = &mut self.interval_tree;
@@ -58,9 +61,11 @@ impl AddressAllocator {
 /// Frees ranges that were allocated one after the other, the last one first. This leads back to the
 /// state before their allocation.
 fn free_all(tree: &mut IntervalTree, ranges: &mut Vec<RangeInclusive>)
-    ensures { (before : AddressState) (requests : List Request) → IsAddressState before
+    ensures state { (before : AddressState) (requests : List Request) → IsAddressState before
         → AllocatesEach before requests ranges.old.items (tree_state tree.old)
         → tree_state tree.new ≡ before }
+    ensures parts { (n : ℕ) (before : Shape) (requests : List Request) → TakesParts n before requests tree.old
+        → TakesParts (n + length ranges.old.items) before requests tree.new }
 {
     while let Some(range) = ranges.pop() {
         let _ = tree.free(&range);

@@ -1,7 +1,7 @@
 -- From the constraint of a request to its result.
-use Rattle.std.proofs.Common.{◌≡◌, ℕ, Option, refl, sym, ap, Result, Ok, Err, subst}
+use Rattle.std.proofs.Common.{◌≡◌, ℕ, Option, refl, sym, ap, arith, inr, Result, Ok, Err, subst}
 use Rattle.vm_ranges.specs.Range.{Range}
-use Rattle.vm_ranges.specs.Request.{Request, MakesConstraint}
+use Rattle.vm_ranges.specs.Request.{Request, IsRequest, ByConstraint, MakesConstraint}
 use Rattle.vm_ranges.specs.declared.error.Error.{Error}
 use Rattle.vm_ranges.specs.declared.constraint.AllocPolicy.{AllocPolicy}
 use Rattle.vm_ranges.proofs.Requests.{constraint_map}
@@ -25,6 +25,11 @@ allocates_refused old request x h =
     (λ e k. let same : x ≡ e = cc in (ap (λ (v : Error). Err v) same, refl)) (λ k. absurd (cc)) h
 
 -- If the constraint is made, the result is that of `Grants`.
+-- The result of a valid request is that of `allocate`.
+pub request_allocates : (request : Request) (old new : AddressState) (answer : Result Range Error) → IsRequest request → Grants old request answer new → Allocates old request answer new
+unfolding Allocates ByConstraint
+request_allocates request old new answer v g = inr (λ e. omega (arith, e, v.some), inr (v.aligned, inr (v.start, g)))
+
 pub allocates_granted : (old new : AddressState) (request made : Request) (answer : Result Range Error) → MakesConstraint request (Ok made) → Grants old made answer new → Allocates old request answer new
 unfolding MakesConstraint Allocates
 allocates_granted old new request made answer h s =

@@ -10,7 +10,7 @@ ghost use Rattle.vm_engine.specs.Address.{IsAddressState};
 ghost use Rattle.vm_engine.specs.Answer.{SPLIT_LIMIT_MIN_HELD, Grants};
 ghost use Rattle.vm_engine.specs.Counts.GapSearch.{SearchesGaps, SearchesAligned};
 ghost use Rattle.vm_engine.specs.Counts.NodeCounts.{nodes_of_request};
-ghost use Rattle.vm_engine.specs.Counts.Steps.{IsGrantCount};
+ghost use Rattle.vm_engine.specs.Counts.Steps.{IsBalancedTreeOf, IsGrantCount};
 ghost use Rattle.vm_engine.specs.Engine.Allocation.{with_error, IsSearchOf, IsAllocation};
 ghost use Rattle.vm_engine.specs.Tree.Blocks.{IsTiling, held_of};
 ghost use Rattle.vm_engine.specs.Tree.SpaceTree.{space_of, tree_state};
@@ -32,6 +32,7 @@ impl IntervalTree {
         constraint: Constraint,
     ) -> (Result<RangeInclusive>, u64)
         ensures valid { IsRequest constraint }
+        ensures balanced { IsBalancedTreeOf (tree_state self.old) self.old }
         ensures answer { Grants (tree_state self.old) constraint result.0 (tree_state self.new) }
         ensures unchanged { OnErr result.0 (self.new ≡ self.old) }
         ensures count { result.1 ≡ nodes_of_request constraint (space_of (blocks self.old)) self.old }
@@ -76,6 +77,7 @@ fn allocate_in(
     requires tiling { IsTiling space.now (blocks tree.old) }
     requires few { IsTestOf can_split (length (held_of (blocks tree.old)) < SPLIT_LIMIT_MIN_HELD) }
     requires count { count.old ≡ 0 }
+    ensures low { IsBlockTree tree.old }
     ensures valid { IsRequest constraint.now }
     ensures answer { IsAllocation constraint.now space.now can_split tree.old tree.new result count.new }
 {

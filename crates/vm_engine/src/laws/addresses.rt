@@ -13,7 +13,7 @@ ghost use Rattle.vm_engine.specs.Laws.AddressLaws.{
   TooShortIsExact,
   TooShortAreFew,
 };
-ghost use Rattle.vm_engine.specs.Laws.CountLaws.{EntersFew, CountsAreDecided, FreeEntersPath};
+ghost use Rattle.vm_engine.specs.Laws.CountLaws.{EntersFew, CountsAreDecided, FreeEntersPath, PartsEnterFew};
 
 /// States that an allocation has one result and one next state, unless memory runs out.
 #[tactic(auto, using(crate::proofs::Results::Once::allocates_once))]
@@ -86,4 +86,9 @@ fn counts_are_decided()
 #[tactic(auto, using(crate::proofs::Counts::SimpleBounds::path))]
 fn free_enters_path()
     ensures { FreeEntersPath }
+{}
+
+/// States that a call that is made of n allocations and frees enters few nodes in each of them.
+fn parts_enter_few()
+    ensures { PartsEnterFew }
 {}

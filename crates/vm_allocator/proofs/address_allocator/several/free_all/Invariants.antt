@@ -1,14 +1,18 @@
-use Rattle.std.specs.Prelude.{List, length}
+use Rattle.std.specs.Prelude.{ℕ, ◌+◌, ◌≤◌, List, length}
 use Rattle.vm_ranges.specs.Request.{Request}
 use Rattle.vm_engine.specs.Address.{AddressState, IsAddressState}
+use Rattle.vm_tree.specs.Shape.{Shape}
+use Rattle.vm_engine.specs.Counts.Parts.{TakesParts}
 use Rattle.vm_engine.specs.Tree.SpaceTree.{tree_state}
 use Rattle.vm_allocator.specs.Several.{AllocatesEach}
 use Rattle.vm_allocator.proofs.address_allocator.several.free_all.Given as goal
 
--- If requests got the ranges, some of them got the ranges that are left.
+-- If requests got the ranges, some of them got the ranges that are left. Each range that is freed takes one part.
 abbrev pub invariant-loop-range : goal.invariant-loop-range
 invariant-loop-range l = record {
   left : (before : AddressState) (requests : List Request) → IsAddressState before → AllocatesEach before requests l.initial.ranges.items (tree_state l.initial.tree) → (ps : List Request) × AllocatesEach before ps l.ranges.items (tree_state l.tree);
+  parts : (n : ℕ) (before : Shape) (requests : List Request) → TakesParts n before requests l.initial.tree →
+      (m : ℕ) × (m + length l.ranges.items ≤ n + length l.initial.ranges.items) × TakesParts m before requests l.tree;
 }
 
 abbrev pub decreases-loop-range : goal.decreases-loop-range

@@ -1,8 +1,15 @@
 use Rattle.std.proofs.Common.{◌≡◌, ap, refl, Err, rules}
+use Rattle.std.specs.Ordering.{nat_cmp}
+use Rattle.std.specs.FinMap as map
+use Rattle.vm_ranges.specs.Range.{Range}
+use Rattle.vm_allocator.specs.Ids.{IdState}
+use Rattle.vm_devices.specs.Manager.{DevicesInTree}
 use Rattle.vm_ranges.specs.declared.error.Error.TheVariants.{OutOfMemory}
-use Rattle.vm_allocator.specs.Allocator.{state_of}
+use Rattle.vm_allocator.specs.Allocator.{SpaceInTree, state_of}
 use Rattle.vm_devices.specs.Devices.{devices_of}
 use Rattle.vm_devices.proofs.DeviceCalls.{id_peeked, entered, entered_state, undone, undone_state}
+use Rattle.vm_engine.proofs.Results.AddressResults.{freeing_undoes}
+use Rattle.vm_devices.proofs.DeviceParts.{allocation_failed, range_returned, range_kept}
 use Rattle.vm_devices.proofs.DeviceStarts.{new_device}
 use Rattle.vm_devices.proofs.device_manager.DeviceManager.reserve_range.Goals as goal
 
@@ -13,6 +20,16 @@ returns-in_err-range-clause-answer c =
     let same = ap (λ a. devices_of c.self.inside.id_allocator (state_of a) c.self.inside.slots) c.in_err-range.ensures.unchanged in
     rw (← c.self.view_is, is)
     (id_peeked _ _ c.args.request c.args.id (state_of c.allocate_constraint.new.self) (Err e) _ (rw (← c.self.view_is) at c.requires) c.in_err-range.ensures.answer (refl, same))
+
+manager_of : IdState → SpaceInTree → map.FinMap nat_cmp Range → DevicesInTree
+manager_of ids addresses devices = record { ids = ids; addresses = addresses; devices = devices }
+
+pub returns-in_err-range-clause-parts : goal.returns-in_err-range-clause-parts
+returns-in_err-range-clause-parts c =
+    let e = c.in_err-range.field-0.0 in
+    let is : c.from_residual.result ≡ Err e = search rules in
+    let same = ap (λ (a : SpaceInTree). manager_of c.self.inside.id_allocator a c.self.inside.slots) c.in_err-range.ensures.unchanged in
+    rw (← c.self.view_is, is) (allocation_failed _ _ c.args.request c.allocate_constraint.result e same c.in_err-range.ensures.part)
 
 pub insert-requires : goal.insert-requires
 insert-requires c =
@@ -30,6 +47,14 @@ returns-in-Err-clause-answer c =
     (undone _ c.args.request c.args.id c.in_ok-range.range _ c.self.invariant (rw (← c.self.view_is) at c.requires) c.in_ok-range.ensures.answer _ _ _ c.free.result
     c.free.ensures.answer c.in-Err.ensures.err refl)
 
+pub returns-in-Err-clause-parts : goal.returns-in-Err-clause-parts
+returns-in-Err-clause-parts c =
+    let is : c.into.result ≡ OutOfMemory = search rules in
+    let freed = freeing_undoes _ _ _ c.args.request c.in_ok-range.range c.free.result c.self.invariant.space c.in_ok-range.ensures.answer c.free.ensures.answer in
+    rw (← c.self.view_is, is)
+    (range_returned _ _ c.allocate_constraint.new.self c.args.request c.in_ok-range.range c.free.result freed.0 c.in_ok-range.ensures.part c.free.ensures.part
+    c.free.ensures.unchanged)
+
 pub invariant_of-self-2 : goal.invariant_of-self-2
 invariant_of-self-2 c =
     entered_state _ c.args.request c.args.id c.in_ok-range.range _ c.self.invariant (rw (← c.self.view_is) at c.requires) c.in_ok-range.ensures.answer _ _ _ c.allocate_id.result
@@ -40,3 +65,6 @@ returns-clause-answer c =
     rw (← c.self.view_is)
     (entered _ c.args.request c.args.id c.in_ok-range.range _ c.self.invariant (rw (← c.self.view_is) at c.requires) c.in_ok-range.ensures.answer _ _ _ c.allocate_id.result
     c.allocate_id.ensures.answer refl c.in_default.ensures.inserted)
+
+pub returns-clause-parts : goal.returns-clause-parts
+returns-clause-parts c = rw (← c.self.view_is) (range_kept _ _ c.args.request c.allocate_constraint.result _ c.in_ok-range.ensures.part)

@@ -1,5 +1,6 @@
 use Rattle.std.proofs.Common.{◌≡◌, ℕ, ◌+◌, ◌-◌, Ok, Err, arith, refl, ap, ◌∙◌}
 use Rattle.vm_ranges.specs.Range.{span}
+use Rattle.vm_engine.proofs.Counts.Balanced.{balanced_tree}
 use Rattle.vm_engine.proofs.Placing.Counted.{refused_state, search_tree, taken_new, taken_gaps, taken_clear, granted_state, granted_tree, range_is}
 use Rattle.vm_engine.proofs.Trees.CountedTrees.{held_fits}
 use Rattle.vm_engine.proofs.interval_tree.IntervalTree.allocate_counted.Goals as goal
@@ -56,3 +57,9 @@ returns-clause-state c =
 pub returns-in-Err-clause-search : goal.returns-in-Err-clause-search
 returns-in-Err-clause-search c =
     rw (← c.self.view_is, c.entered.ensures) (search_tree c.self.inside.tree c.allocate_in.new.tree c.self.inside.space c.self.inside.held_count c.self.inside.gap_count c.self.inside.free_len c.args.constraint c.allocate_in.new.count c.self.invariant (Err c.in-Err.error) c.in-Err.ensures.answer)
+
+pub returns-in-Err-clause-balanced : goal.returns-in-Err-clause-balanced
+returns-in-Err-clause-balanced c = rw (← c.self.view_is) (balanced_tree c.self.inside.tree c.self.invariant.tree c.in-Err.ensures.low)
+
+pub returns-clause-balanced : goal.returns-clause-balanced
+returns-clause-balanced c = rw (← c.self.view_is) (balanced_tree c.self.inside.tree c.self.invariant.tree c.in-Ok.ensures.low)

@@ -1,6 +1,7 @@
 use Rattle.std.proofs.Common.{arith, ap}
 use Rattle.vm_ranges.specs.Range.{Range}
 use Rattle.vm_tree.specs.Shape.{blocks}
+use Rattle.vm_engine.proofs.Counts.Balanced.{balanced_tree}
 use Rattle.vm_engine.proofs.Trees.CountedTrees.{some_held, joined_fits, freed_fits, freed_counted, freed_state, gaps_fit}
 use Rattle.vm_engine.proofs.Trees.Ends.{ends}
 use Rattle.vm_engine.proofs.Trees.Freeing.{frees_one, frees_held}
@@ -53,3 +54,6 @@ pub returns-clause-state : goal.returns-clause-state
 returns-clause-state c =
     let k = frees_one c.self.inside.tree c.free.new.self c.args.key.now c.in-Some.joined c.self.invariant.tree c.in-Some.ensures.freed.0 c.in-Some.ensures.freed.1 in
     state_of_tree c.free.new.self (freed_counted c.self.inside.tree c.free.new.self c.self.inside.space c.args.key.now c.self.inside.held_count c.self.inside.gap_count c.self.inside.free_len c.in-Some.joined c.self.invariant k c.len.result c.len.ensures).tree
+
+pub returns-clause-balanced : goal.returns-clause-balanced
+returns-clause-balanced c = rw (← c.self.view_is) (balanced_tree c.self.inside.tree c.self.invariant.tree c.free.ensures.tree)
