@@ -320,7 +320,7 @@ impl AddressAllocator {
     /// An error changes nothing.
     /// - `ResourceNotAvailable` if exactly this range is not allocated. A part of an allocated
     ///   range cannot be freed.
-    #[tactic(auto, using(crate::proofs::Callers::releases, crate::proofs::Trees::trees))]
+    #[tactic(auto, using(crate::proofs::Callers::releases, crate::proofs::Trees::trees, vm_engine::proofs::Results::Filling::succeeding))]
     pub fn free(&mut self, key: &RangeInclusive) -> Result<()>
         // A held range is freed without memory, and nothing else changes. Any other range is an error.
         ensures held { Contains (state_of self.old).held key.now → IsOk result }

@@ -26,7 +26,7 @@ impl AddressAllocator {
     /// An error changes nothing, and leaves the same tree. In this order:
     /// - `ResourceNotAvailable` if exactly the range `key` is not allocated.
     /// - The errors of [`allocate_constraint`](Self::allocate_constraint), in the same order.
-    #[tactic(auto, using(crate::proofs::Results::Moves::moves, crate::proofs::Trees::trees, crate::proofs::TakenParts::parts))]
+    #[tactic(auto, using(crate::proofs::Results::Moves::moves, crate::proofs::Trees::trees, vm_engine::proofs::Counts::TakenParts::taken))]
     pub fn move_constraint(
         &mut self,
         alloc: Global,

@@ -21,13 +21,14 @@ one_more : (n : ℕ) (old mid new : Shape) (requests : List Request) (part : Par
 one_more n old mid new requests part taken h for_requests = record {
   parts = taken.parts ++ part ∷ [];
   from = parts_then old mid new taken.parts part taken.from h;
-  for_requests = All-append _ taken.parts (part ∷ []) taken.for_requests (All-cons _ part [] for_requests (All-nil _));
+  for_requests = All-append (IsPartFor requests) taken.parts (part ∷ []) taken.for_requests
+      (All-cons (IsPartFor requests) part [] for_requests (All-nil (IsPartFor requests)));
   few = omega (arith, length-append taken.parts (part ∷ []), taken.few);
 }
 
 -- A tree that did not change takes no part.
 pub no_parts : (n : ℕ) (s : Shape) (requests : List Request) → TakesParts n s requests s
-no_parts n s requests = record { parts = []; from = refl; for_requests = All-nil _; few = omega arith }
+no_parts n s requests = record { parts = []; from = refl; for_requests = All-nil (IsPartFor requests); few = omega arith }
 
 pub more_allowed : (n m : ℕ) (old new : Shape) (requests : List Request) → TakesParts n old requests new → n ≤ m → TakesParts m old requests new
 more_allowed n m old new requests taken l = record {

@@ -1,8 +1,9 @@
-use Rattle.std.proofs.Common.{◌≡◌, ◌+◌, ◌∙◌, take, sym, ap, subst, arith, inr}
+use Rattle.std.proofs.Common.{◌≡◌, ◌+◌, ◌*◌, ◌∙◌, length, take, sym, ap, subst, arith, inr}
 use Rattle.vm_ranges.specs.Range.{Range}
 use Rattle.std.specs.Prelude.{List}
 use Rattle.vm_engine.specs.Address.{AddressState, IsAddressState}
 use Rattle.vm_engine.specs.Tree.SpaceTree.{tree_state}
+use Rattle.vm_engine.proofs.Counts.TakenParts.{more_allowed, then_allocated}
 use Rattle.vm_engine.proofs.Results.Requests.{request_allocates}
 use Rattle.vm_allocator.specs.Several.{AllocatesEach, FailsAtIndex}
 use Rattle.vm_allocator.proofs.Results.Several.{each_space, refused_by, failed_at, all_taken, one_more}
@@ -41,23 +42,16 @@ returns-in-Err-clause-answer c =
 pub returns-in-Err-clause-failed : goal.returns-in-Err-clause-failed
 returns-in-Err-clause-failed c = rw (← c.self.view_is) (failed c)
 
--- An allocation for a request, after the parts so far.
-next_part : (c : goal.After-index-requests-index) (answer : Result Range Error) (new : Shape) →
-    (count : ℕ) × HasParts c.loop-index.tree (Allocating c.index-requests-index.result answer count ∷ []) new →
-    TakesParts (c.loop-index.index + 1) c.self.inside.interval_tree c.args.requests.now new
-next_part c answer new part =
-    let l = c.loop-index in
-    then_allocated l.index c.self.inside.interval_tree l.tree new c.args.requests.now c.index-requests-index.result answer l.invariant.parts
-    (l.index, c.loop-index-test.true, sym c.index-requests-index.is) part
-
 pub returns-in-Err-clause-parts : goal.returns-in-Err-clause-parts
 returns-in-Err-clause-parts c =
     let l = c.loop-index in
     let requests = c.args.requests.now in
-    let failed = next_part c c.allocate.result c.allocate.new.self c.in-Err.ensures.part in
+    let first = c.self.inside.interval_tree in
+    let failed = then_allocated l.index first l.tree c.allocate.new.self requests c.index-requests-index.result c.allocate.result l.invariant.parts
+    (l.index, c.loop-index-test.true, sym c.index-requests-index.is) c.in-Err.ensures.part in
     rw (← c.self.view_is)
-    (more_allowed _ (2 * length requests) c.self.inside.interval_tree c.free_all.new.tree requests
-    (c.free_all.ensures.parts (l.index + 1) c.self.inside.interval_tree requests failed) (omega (arith, l.invariant.many, c.loop-index-test.true)))
+    (more_allowed (l.index + 1 + length l.ranges.items) (2 * length requests) first c.free_all.new.tree requests
+    (c.free_all.ensures.parts (l.index + 1) first requests failed) (omega (arith, l.invariant.many, c.loop-index-test.true)))
 
 pub returns-in-Err-clause-state : goal.returns-in-Err-clause-state
 returns-in-Err-clause-state c = subst IsAddressState (sym (state_again c)) c.self.invariant.state
@@ -72,7 +66,8 @@ loop-index-preserved c =
     let each = one_more c.args.requests.now i c.loop-index.ranges.items first mid new c.index-requests-index.result c.in-Ok.range c.loop-index-test.true c.index-requests-index.is c.loop-index.invariant.each answer in
     record {
       each = subst (λ (v : List Range). AllocatesEach first (take (i + 1) c.args.requests.now) v new) (sym c.in-Ok-push.ensures.items) each;
-      parts = next_part c c.allocate.result c.allocate.new.self c.in-Ok.ensures.part;
+      parts = then_allocated i c.self.inside.interval_tree c.loop-index.tree c.allocate.new.self c.args.requests.now c.index-requests-index.result c.allocate.result c.loop-index.invariant.parts
+          (i, c.loop-index-test.true, sym c.index-requests-index.is) c.in-Ok.ensures.part;
       state = c.in-Ok.ensures.state;
       many = omega (arith, c.in-Ok-push.ensures.len, c.loop-index.invariant.many);
       room = omega (arith, c.in-Ok-push.ensures.capacity, c.loop-index.invariant.room);

@@ -3,6 +3,7 @@ use Rattle.std.specs.List.{Contains}
 use Rattle.vm_engine.specs.Address.{IsAddressState}
 use Rattle.vm_allocator.specs.Allocator.{state_of}
 use Rattle.vm_allocator.proofs.Results.Moves.{move_held, move_moves}
+use Rattle.vm_allocator.proofs.TakenParts.{allocated_and_freed}
 use Rattle.vm_allocator.proofs.address_allocator.AddressAllocator.move_constraint.Goals as goal
 
 pub returns-clause-moved : goal.returns-clause-moved
@@ -15,3 +16,8 @@ pub returns-clause-answer : goal.returns-clause-answer
 returns-clause-answer c =
     let held : Contains (state_of c.args.self.now).held c.args.key.now = rw (← c.self.view_is) (c.if-not-holds.ensures.0 refl) in
     move_moves _ (state_of c.allocate_constraint.new.self) _ _ _ c.args.request c.free.result held c.if-is_for.ensures c.in_ok-range.ensures.answer c.free.ensures.answer
+
+pub returns-clause-parts : goal.returns-clause-parts
+returns-clause-parts c =
+    allocated_and_freed _ c.allocate_constraint.new.self c.free.new.self c.args.request c.allocate_constraint.result c.args.key.now c.free.result
+    c.in_ok-range.ensures.part c.free.ensures.part c.free.ensures.unchanged
