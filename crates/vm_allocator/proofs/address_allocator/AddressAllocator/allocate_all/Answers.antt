@@ -1,4 +1,4 @@
-use Rattle.std.proofs.Common.{◌≡◌, ◌+◌, ◌*◌, ◌∙◌, length, take, sym, ap, subst, arith, inr}
+use Rattle.std.proofs.Common.{◌≡◌, ◌+◌, ◌*◌, ◌∙◌, length, take, sym, ap, subst, arith, inr, Ok, Err}
 use Rattle.vm_ranges.specs.Range.{Range}
 use Rattle.std.specs.Prelude.{List}
 use Rattle.vm_engine.specs.Address.{AddressState, IsAddressState}
@@ -47,7 +47,7 @@ returns-in-Err-clause-parts c =
     let l = c.loop-index in
     let requests = c.args.requests.now in
     let first = c.self.inside.interval_tree in
-    let failed = then_allocated l.index first l.tree c.allocate.new.self requests c.index-requests-index.result c.allocate.result l.invariant.parts
+    let failed = then_allocated l.index first l.tree c.allocate.new.self requests c.index-requests-index.result (Err c.in-Err.error) l.invariant.parts
     (l.index, c.loop-index-test.true, sym c.index-requests-index.is) c.in-Err.ensures.part in
     rw (← c.self.view_is)
     (more_allowed (l.index + 1 + length l.ranges.items) (2 * length requests) first c.free_all.new.tree requests
@@ -66,7 +66,7 @@ loop-index-preserved c =
     let each = one_more c.args.requests.now i c.loop-index.ranges.items first mid new c.index-requests-index.result c.in-Ok.range c.loop-index-test.true c.index-requests-index.is c.loop-index.invariant.each answer in
     record {
       each = subst (λ (v : List Range). AllocatesEach first (take (i + 1) c.args.requests.now) v new) (sym c.in-Ok-push.ensures.items) each;
-      parts = then_allocated i c.self.inside.interval_tree c.loop-index.tree c.allocate.new.self c.args.requests.now c.index-requests-index.result c.allocate.result c.loop-index.invariant.parts
+      parts = then_allocated i c.self.inside.interval_tree c.loop-index.tree c.allocate.new.self c.args.requests.now c.index-requests-index.result (Ok c.in-Ok.range) c.loop-index.invariant.parts
           (i, c.loop-index-test.true, sym c.index-requests-index.is) c.in-Ok.ensures.part;
       state = c.in-Ok.ensures.state;
       many = omega (arith, c.in-Ok-push.ensures.len, c.loop-index.invariant.many);

@@ -1,4 +1,4 @@
-use Rattle.std.proofs.Common.{refl}
+use Rattle.std.proofs.Common.{refl, Ok}
 use Rattle.std.specs.List.{Contains}
 use Rattle.vm_engine.specs.Address.{IsAddressState}
 use Rattle.vm_allocator.specs.Allocator.{state_of}
@@ -19,5 +19,5 @@ returns-clause-answer c =
 
 pub returns-clause-parts : goal.returns-clause-parts
 returns-clause-parts c =
-    allocated_and_freed _ c.allocate_constraint.new.self c.free.new.self c.args.request c.allocate_constraint.result c.args.key.now c.free.result
+    allocated_and_freed c.args.self.now c.allocate_constraint.new.self c.free.new.self c.args.request (Ok c.in_ok-range.range) c.args.key.now c.free.result
     c.in_ok-range.ensures.part c.free.ensures.part c.free.ensures.unchanged

@@ -1,4 +1,4 @@
-use Rattle.std.proofs.Common.{◌≡◌, ap, refl, Err, rules}
+use Rattle.std.proofs.Common.{◌≡◌, ap, refl, Ok, Err, rules}
 use Rattle.std.specs.Ordering.{nat_cmp}
 use Rattle.std.specs.FinMap as map
 use Rattle.vm_ranges.specs.Range.{Range}
@@ -29,7 +29,7 @@ returns-in_err-range-clause-parts c =
     let e = c.in_err-range.field-0.0 in
     let is : c.from_residual.result ≡ Err e = search rules in
     let same = ap (λ (a : SpaceInTree). manager_of c.self.inside.id_allocator a c.self.inside.slots) c.in_err-range.ensures.unchanged in
-    rw (← c.self.view_is, is) (allocation_failed _ _ c.args.request c.allocate_constraint.result e same c.in_err-range.ensures.part)
+    rw (← c.self.view_is, is) (allocation_failed _ _ c.args.request (Err e) e same c.in_err-range.ensures.part)
 
 pub insert-requires : goal.insert-requires
 insert-requires c =
@@ -67,4 +67,4 @@ returns-clause-answer c =
     c.allocate_id.ensures.answer refl c.in_default.ensures.inserted)
 
 pub returns-clause-parts : goal.returns-clause-parts
-returns-clause-parts c = rw (← c.self.view_is) (range_kept _ _ c.args.request c.allocate_constraint.result _ c.in_ok-range.ensures.part)
+returns-clause-parts c = rw (← c.self.view_is) (range_kept _ _ c.args.request (Ok c.in_ok-range.range) _ c.in_ok-range.ensures.part)
