@@ -1,3 +1,3 @@
 pub mod AddressHistories
 pub mod CountedHistories
-pub mod IdHistories
+pub use Rattle.vm_ids.specs.Histories.IdHistories

@@ -4,7 +4,7 @@ use Rattle.std.specs.Ordering.{nat_cmp}
 use Rattle.std.specs.FinMap as map
 use Rattle.vm_ranges.specs.Range.{Range, MAX, Overlaps, Covers}
 use Rattle.vm_engine.specs.Address.{holding}
-use Rattle.vm_allocator.specs.Ids.{IsOfRange}
+use Rattle.vm_ids.specs.Ids.{IsOfRange}
 use Rattle.vm_engine.proofs.Results.AddressResults.{lie_apart}
 use Rattle.vm_allocator.proofs.Callers.{given}
 use Rattle.vm_devices.specs.declared.device_slot.DeviceSlot.{DeviceSlot}

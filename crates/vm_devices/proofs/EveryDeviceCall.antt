@@ -6,12 +6,12 @@ use Rattle.vm_ranges.specs.Range.{Range}
 use Rattle.vm_ranges.specs.Request.{Request}
 use Rattle.vm_engine.specs.Address.{AddressState}
 use Rattle.vm_engine.specs.Answer.{Allocates}
-use Rattle.vm_allocator.specs.Ids.{IdState, PeeksId, ByLowestNotHeld}
+use Rattle.vm_ids.specs.Ids.{IdState, PeeksId, ByLowestNotHeld}
 use Rattle.vm_ranges.specs.declared.error.Error.{Error}
 use Rattle.vm_ranges.specs.declared.error.Error.TheVariants.{NeverAllocated, OutOfMemory}
-use Rattle.vm_allocator.proofs.Results.InMemory.{makes_ids_no_memory}
+use Rattle.vm_ids.proofs.Ids.IdResults.{makes_ids_no_memory}
 use Rattle.vm_allocator.proofs.Results.EveryAddressCall.{every_call}
-use Rattle.vm_allocator.proofs.Ids.EveryIdCall.{every_call as every_id_call}
+use Rattle.vm_ids.proofs.Ids.EveryIdCall.{every_call as every_id_call}
 use Rattle.vm_devices.specs.declared.device_slot.DeviceSlot.{DeviceSlot}
 use Rattle.vm_devices.specs.Devices.{DeviceState, made_devices, with_device, without_device, MakesManager, Reserves, Releases}
 use Rattle.vm_devices.specs.Histories.{DeviceCall, Reservation, Release, Cloning, DeviceAsked, Reserve, GiveBack, Clone, device_asked_by, RunsOutOfMemory, IsDeviceCallFrom}

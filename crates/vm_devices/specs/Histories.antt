@@ -7,7 +7,7 @@ use Rattle.vm_ranges.specs.Range.{Range, MAX, Covers, span}
 use Rattle.vm_ranges.specs.Request.{Request}
 use Rattle.vm_ranges.specs.Cloning.{Clones}
 use Rattle.vm_engine.specs.Address.{AddressState, IsAddressState}
-use Rattle.vm_allocator.specs.Ids.{MAX_ID, IdState, IsIdState}
+use Rattle.vm_ids.specs.Ids.{MAX_ID, IdState, IsIdState}
 use Rattle.vm_ranges.specs.declared.error.Error.{Error}
 use Rattle.vm_ranges.specs.declared.error.Error.TheVariants.{OutOfMemory}
 use Rattle.vm_devices.specs.declared.device_slot.DeviceSlot.{DeviceSlot}

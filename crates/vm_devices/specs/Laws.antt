@@ -11,7 +11,7 @@ use Rattle.vm_ranges.specs.Request.{Request, request_for}
 use Rattle.vm_ranges.specs.Cloning.{Clones}
 use Rattle.vm_ranges.specs.Texts.{IsTextOf, Parses}
 use Rattle.vm_engine.specs.Answer.{SPLIT_LIMIT_MIN_HELD}
-use Rattle.vm_allocator.specs.Ids.{IsOfRange, held_count, held_ids}
+use Rattle.vm_ids.specs.Ids.{IsOfRange, held_count, held_ids}
 use Rattle.vm_ranges.specs.declared.error.Error.{Error}
 use Rattle.vm_ranges.specs.declared.error.Error.TheVariants.{Overflow, OutOfMemory}
 use Rattle.vm_ranges.specs.declared.saved.SavedError.{SavedError}

@@ -4,7 +4,7 @@ use Rattle.std.specs.Ordering.{nat_cmp}
 use Rattle.std.specs.Coded.{Coded, code_by, coded×, coded_ℕ}
 use Rattle.std.specs.FinMap as map
 use Rattle.vm_ranges.specs.Range.{Range, range_code}
-use Rattle.vm_allocator.specs.Ids.{IdState, id_state_code}
+use Rattle.vm_ids.specs.Ids.{IdState, id_state_code}
 use Rattle.vm_allocator.specs.Allocator.{SpaceInTree, space_code, state_of}
 use Rattle.vm_devices.specs.Devices.{DeviceState, devices_of}
 

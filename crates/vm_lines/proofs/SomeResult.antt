@@ -5,13 +5,14 @@ use Rattle.vm_ranges.specs.Range.{MAX, IsRange}
 use Rattle.vm_engine.specs.Address.{AddressState}
 use Rattle.vm_ranges.specs.Request.{Request}
 use Rattle.vm_engine.specs.Answer.{Allocates, Makes}
-use Rattle.vm_allocator.specs.Ids.{IdState, AllocatesId, FreesId, MakesIds}
+use Rattle.vm_ids.specs.Ids.{IdState, AllocatesId, FreesId, MakesIds}
 use Rattle.vm_ranges.specs.declared.error.Error.{Error}
 use Rattle.vm_ranges.specs.declared.error.Error.TheVariants.{InvalidRange, OutOfMemory}
 use Rattle.vm_ranges.proofs.Decisions.{Decided, decided_both, decided_below, decided_up_to}
-use Rattle.vm_allocator.proofs.Results.InMemory.{frees_no_memory, makes_ids_no_memory, allocates_id_no_memory}
+use Rattle.vm_allocator.proofs.Results.InMemory.{frees_no_memory}
+use Rattle.vm_ids.proofs.Ids.IdResults.{makes_ids_no_memory, allocates_id_no_memory}
 use Rattle.vm_allocator.proofs.Results.EveryAddressCall.{every_call}
-use Rattle.vm_allocator.proofs.Ids.EveryIdCall.{every_call as every_id_call}
+use Rattle.vm_ids.proofs.Ids.EveryIdCall.{every_call as every_id_call}
 use Rattle.vm_lines.specs.Machines.{FreesRange}
 
 -- The relation is true for some result other than OutOfMemory and some next state.

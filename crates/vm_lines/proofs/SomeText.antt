@@ -3,7 +3,7 @@ use Rattle.std.proofs.Common.{◌≡◌, ◌≢◌, ℕ, List, [], ◌∷◌, �
 use Rattle.std.specs.FinSet as set
 use Rattle.vm_ranges.specs.Range.{Range}
 use Rattle.vm_engine.specs.Address.{AddressState}
-use Rattle.vm_allocator.specs.Ids.{IdState}
+use Rattle.vm_ids.specs.Ids.{IdState}
 use Rattle.vm_ranges.specs.Request.{Request, request_for}
 use Rattle.vm_ranges.specs.declared.constraint.AllocPolicy.TheVariants.{FirstMatch, LastMatch, ExactMatch}
 use Rattle.vm_ranges.specs.declared.error.Error.{Error}
