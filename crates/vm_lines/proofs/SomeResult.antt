@@ -10,7 +10,8 @@ use Rattle.vm_ranges.specs.declared.error.Error.{Error}
 use Rattle.vm_ranges.specs.declared.error.Error.TheVariants.{InvalidRange, OutOfMemory}
 use Rattle.vm_ranges.proofs.Decisions.{Decided, decided_both, decided_below, decided_up_to}
 use Rattle.vm_allocator.proofs.Results.InMemory.{frees_no_memory}
-use Rattle.vm_ids.proofs.Ids.IdResults.{makes_ids_no_memory, allocates_id_no_memory}
+use Rattle.vm_ids.specs.Histories.IdHistories.{Allocate, Free}
+use Rattle.vm_ids.proofs.Ids.IdResults.{makes_ids_no_memory}
 use Rattle.vm_allocator.proofs.Results.EveryAddressCall.{every_call}
 use Rattle.vm_ids.proofs.Ids.EveryIdCall.{every_call as every_id_call}
 use Rattle.vm_lines.specs.Machines.{FreesRange}
@@ -47,12 +48,10 @@ releases_answered old start end =
     (decided_range start end)
 
 pub allocates_id_answered : (old : IdState) → IsAnswered (AllocatesId old)
-allocates_id_answered old =
-    let a = every_id_call.allocated old in
-    (a.0, a.1, a.2, allocates_id_no_memory old a.1 a.0 a.2)
+allocates_id_answered old = every_id_call.called old Allocate
 
 pub frees_id_answered : (old : IdState) (id : ℕ) → IsAnswered (FreesId old id)
-frees_id_answered old id = every_id_call.freed old id
+frees_id_answered old id = every_id_call.called old (Free id)
 
 pub makes_ids_answered : (lo hi : ℕ) → (answer : Result IdState Error) × MakesIds lo hi answer × (answer ≢ Err OutOfMemory)
 makes_ids_answered lo hi =

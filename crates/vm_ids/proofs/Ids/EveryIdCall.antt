@@ -2,15 +2,16 @@
 use Rattle.std.proofs.Common.{◌≡◌, ◌≢◌, ℕ, ◌+◌, ◌<◌, ◌≤◌, ◌⊎◌, ◌||◌, Bool, nat_lt, if◌then◌else◌, List, [], ◌∷◌, length, take, true, false, refl, ap, arith, inl, inr, ⊎_elim, Option, Some, None, Result, Ok, Err}
 use Rattle.std.specs.Option.{MatchOption}
 use Rattle.std.proofs.lemmas.Bool.{cases_eq, cases_Bool, both_ways}
-use Rattle.std.proofs.lemmas.List.Elements.{All-nil, All-cons}
 use Rattle.std.specs.FinSet as set
 use Rattle.vm_ids.specs.Ids.{MAX_ID, IdState, IsOfRange, WasEverAllocated, IsHeld, IsNotHeld, IsLowestNotHeld, AreAllHeld, new_ids, holding_id, releasing_id, MakesIds, ByLowestNotHeld, AllocatesId, PeeksId, FreesId}
 use Rattle.vm_ids.specs.IdRequests.{free_ids, holding_ids, HoldsId, AllocatesExactId, IsNotHeldIn, IsLowestNotHeldIn, IsNoneNotHeldIn, AllocatesIdIn, AllocatesIds, fault_of_held, SkipsId, MakesWithHeld}
-use Rattle.vm_ranges.specs.Cloning.{Clones}
-use Rattle.vm_ids.specs.Histories.IdHistories.{Allocation, ExactAllocation, WindowAllocation, SeveralAllocations, Release, Cloning, IdAsked, Allocate, AllocateExact, AllocateIn, AllocateSeveral, Free, Clone, RunsOutOfMemory}
-use Rattle.vm_ids.specs.Laws.IdHistoryLaws.{EveryIdCallIsAnswered, EveryIdListHasHistory}
+use Rattle.vm_ranges.specs.Histories.{EveryCallIsAnswered, EveryListHasHistory}
+use Rattle.vm_ranges.proofs.Histories.{every_list}
+use Rattle.vm_ids.specs.Histories.IdHistories.{Allocate, AllocateExact, AllocateIn, AllocateSeveral, Free, Clone, IsIdCallFrom}
+use Rattle.vm_ids.specs.Laws.IdHistoryLaws.{EveryIdCallIsAnswered}
 use Rattle.vm_ranges.specs.declared.error.Error.{Error}
 use Rattle.vm_ranges.specs.declared.error.Error.TheVariants.{OutOfMemory, Overflow, ResourceNotAvailable, InvalidRange, OutOfRange, NeverAllocated, AlreadyReleased}
+use Rattle.vm_ids.proofs.Ids.IdResults.{allocates_id_no_memory}
 use Rattle.vm_ranges.proofs.Decisions.{Decided, decided_both, decided_below, decided_up_to, lowest_or_none}
 
 -- ---- Decidable facts of an id
@@ -90,9 +91,6 @@ total_makes lo hi =
     (λ (range : hi < lo → ⊥). (Ok (new_ids lo hi), inr (range, refl)))
     (decided_below hi lo)
 
-total_clones : (old : IdState) → (answer : Result IdState Error) × Clones old answer × (answer ≢ Err OutOfMemory)
-total_clones old = (Ok old, inl refl, λ h. absurd (cc h))
-
 total_exact : (old : IdState) (id : ℕ) → (answer : Result ℕ Error) × (new : IdState) × AllocatesExactId old id answer new × (answer ≢ Err OutOfMemory)
 unfolding AllocatesExactId HoldsId
 total_exact old id =
@@ -168,76 +166,19 @@ total_makes_with_held lo hi held =
     (λ (range : hi < lo → ⊥). let m = by_fault lo hi held (fault_of_held lo hi lo held) (plain_fault lo hi lo held) in (m.0, inr (range, m.1), m.2))
     (decided_below hi lo)
 
+total_call : EveryCallIsAnswered IsIdCallFrom
+total_call old Allocate = let a = total_allocates old in (a.0, a.1, a.2, allocates_id_no_memory old a.1 a.0 a.2)
+total_call old (AllocateExact id) = total_exact old id
+total_call old (AllocateIn first last) = total_within old first last
+total_call old (AllocateSeveral count) = total_several old count
+total_call old (Free id) = total_frees old id
+total_call old Clone = (Ok old, old, (inl refl, refl), λ h. absurd (cc h))
+
 pub every_call : EveryIdCallIsAnswered
-every_call = record {
-  made = total_makes;
-  allocated = total_allocates;
-  exact = total_exact;
-  within = total_within;
-  several = total_several;
-  made_with_held = total_makes_with_held;
-  peeked = total_peeks;
-  freed = total_frees;
-  cloned = total_clones;
-}
+every_call = record { made = total_makes; made_with_held = total_makes_with_held; peeked = total_peeks; called = total_call }
 
 -- ---- Each list of calls has a history
-pub every_list : EveryIdListHasHistory
-unfolding total_clones
-every_list old [] = ([], old, refl, refl, All-nil _)
-every_list old (Allocate ∷ asked) =
-    let a = total_allocates old in
-    let rest = every_list a.1 asked in (
-      Allocation a.0 ∷ rest.0,
-      rest.1,
-      (a.1, a.2, rest.2),
-      ap (λ (v : List IdAsked). Allocate ∷ v) rest.3,
-      All-cons (λ call. ¬ RunsOutOfMemory call) (Allocation a.0) rest.0 (λ h. h) rest.4,
-    )
-every_list old (AllocateExact i ∷ asked) =
-    let f = total_exact old i in
-    let rest = every_list f.1 asked in (
-      ExactAllocation i f.0 ∷ rest.0,
-      rest.1,
-      (f.1, f.2, rest.2),
-      ap (λ (v : List IdAsked). AllocateExact i ∷ v) rest.3,
-      All-cons (λ call. ¬ RunsOutOfMemory call) (ExactAllocation i f.0) rest.0 f.3 rest.4,
-    )
-every_list old (AllocateIn first last ∷ asked) =
-    let f = total_within old first last in
-    let rest = every_list f.1 asked in (
-      WindowAllocation first last f.0 ∷ rest.0,
-      rest.1,
-      (f.1, f.2, rest.2),
-      ap (λ (v : List IdAsked). AllocateIn first last ∷ v) rest.3,
-      All-cons (λ call. ¬ RunsOutOfMemory call) (WindowAllocation first last f.0) rest.0 f.3 rest.4,
-    )
-every_list old (AllocateSeveral count ∷ asked) =
-    let f = total_several old count in
-    let rest = every_list f.1 asked in (
-      SeveralAllocations count f.0 ∷ rest.0,
-      rest.1,
-      (f.1, f.2, rest.2),
-      ap (λ (v : List IdAsked). AllocateSeveral count ∷ v) rest.3,
-      All-cons (λ call. ¬ RunsOutOfMemory call) (SeveralAllocations count f.0) rest.0 f.3 rest.4,
-    )
-every_list old (Free i ∷ asked) =
-    let f = total_frees old i in
-    let rest = every_list f.1 asked in (
-      Release i f.0 ∷ rest.0,
-      rest.1,
-      (f.1, f.2, rest.2),
-      ap (λ (v : List IdAsked). Free i ∷ v) rest.3,
-      All-cons (λ call. ¬ RunsOutOfMemory call) (Release i f.0) rest.0 f.3 rest.4,
-    )
-every_list old (Clone ∷ asked) =
-    let c = total_clones old in
-    let rest = every_list old asked in (
-      Cloning c.0 ∷ rest.0,
-      rest.1,
-      (old, (c.1, refl), rest.2),
-      ap (λ (v : List IdAsked). Clone ∷ v) rest.3,
-      All-cons (λ call. ¬ RunsOutOfMemory call) (Cloning c.0) rest.0 c.2 rest.4,
-    )
+pub every_list_of_ids : EveryListHasHistory IsIdCallFrom
+every_list_of_ids = every_list IsIdCallFrom total_call
 
-pub ruleset answers = (every_call, every_list)
+pub ruleset answers = (every_call, every_list_of_ids)

@@ -1,13 +1,9 @@
 -- The states that histories of ids reach: those of clones, and those that were read.
-use Rattle.std.proofs.Common.{List, [], ◌∷◌, ◌++◌, refl, subst, inr, Ok}
-use Rattle.vm_ids.specs.Ids.{IdState}
-use Rattle.vm_ids.specs.Histories.IdHistories.{IdCall, Cloning, IsIdHistoryFrom}
+use Rattle.std.proofs.Common.{[], ◌∷◌, refl, inr, Ok}
+use Rattle.vm_ids.specs.Histories.IdHistories.{Clone, IsIdCallFrom}
 use Rattle.vm_ids.specs.Laws.IdHistoryLaws.{IdCloneIsReached, IdReadIsReached}
 use Rattle.vm_ranges.proofs.Clones.{clone_is}
-
-history_append : (xs ys : List IdCall) (first mid last : IdState) → IsIdHistoryFrom first xs mid → IsIdHistoryFrom mid ys last → IsIdHistoryFrom first (xs ++ ys) last
-history_append [] ys first mid last h k = subst (λ (v : IdState). IsIdHistoryFrom v ys last) h k
-history_append (x ∷ xs) ys first mid last h k = (h.0, h.1, history_append xs ys h.0 mid last h.2 k)
+use Rattle.vm_ranges.proofs.Histories.{history_append}
 
 pub clone_is_reached : IdCloneIsReached
 clone_is_reached calls old clone r c = (
@@ -15,7 +11,7 @@ clone_is_reached calls old clone r c = (
   record {
     first = r.first;
     begins = r.begins;
-    history = history_append calls (Cloning (Ok clone) ∷ []) r.first old clone r.history (clone, (c, refl), refl);
+    history = history_append IsIdCallFrom calls ((Clone, Ok clone) ∷ []) r.first old clone r.history (clone, (c, refl), refl);
   },
 )
 

@@ -1,29 +1,19 @@
 -- Histories of an id allocator: lists of calls with their results. A history can go on with a clone.
-use Rattle.std.specs.Prelude.{◌≡◌, ℕ, ◌≤◌, ◌⊎◌, ◌||◌, Bool, true, false, if◌then◌else◌, nat_eq, List, [], ◌∷◌, Option, Result, Ok, Err}
+use Rattle.std.specs.Prelude.{◌≡◌, ℕ, ◌≤◌, ◌⊎◌, ◌||◌, Bool, true, false, if◌then◌else◌, nat_eq, List, [], ◌∷◌, Option, Result, Ok, Err, MatchResult}
 use Rattle.std.specs.List.{Contains}
 use Rattle.std.specs.FinSet as set
 use Rattle.std.specs.Ordering.{nat_cmp}
 use Rattle.std.specs.Result.{result_unwrap_or}
 use Rattle.serde_json.specs.Data.{Data}
 use Rattle.vm_ranges.specs.Cloning.{Clones}
+use Rattle.vm_ranges.specs.Histories.{CallOf, IsHistory}
 use Rattle.vm_ids.specs.Values.IdValues.{EncodesIds}
 use Rattle.vm_ids.specs.FreedLists.{MakesOfIds}
 use Rattle.vm_ids.specs.Ids.{MAX_ID, IdState, MakesIds, AllocatesId, FreesId}
 use Rattle.vm_ids.specs.IdRequests.{AllocatesExactId, AllocatesIdIn, AllocatesIds, MakesWithHeld}
-use Rattle.vm_ranges.specs.declared.error.Error.{Error}
-use Rattle.vm_ranges.specs.declared.error.Error.TheVariants.{OutOfMemory}
 
--- A call with its result. It allocates the lowest id, a given id, an id of a window or several ids, frees an id, or creates
--- a clone.
-pub data IdCall : Type 0 where
-  Allocation : Result ℕ Error → IdCall
-  ExactAllocation : ℕ → Result ℕ Error → IdCall
-  WindowAllocation : ℕ → ℕ → Result ℕ Error → IdCall
-  SeveralAllocations : ℕ → Result (List ℕ) Error → IdCall
-  Release : ℕ → Result ℕ Error → IdCall
-  Cloning : Result IdState Error → IdCall
-
--- A call without its result.
+-- What can be asked of an id allocator: the lowest id, a given id, an id from first to last, several ids, the freeing of an
+-- id, or a clone.
 pub data IdAsked : Type 0 where
   Allocate : IdAsked
   AllocateExact : ℕ → IdAsked
@@ -32,38 +22,32 @@ pub data IdAsked : Type 0 where
   Free : ℕ → IdAsked
   Clone : IdAsked
 
--- The call without its result.
-abbrev pub id_asked_by : IdCall → IdAsked
-id_asked_by (Allocation answer) = Allocate
-id_asked_by (ExactAllocation id answer) = AllocateExact id
-id_asked_by (WindowAllocation first last answer) = AllocateIn first last
-id_asked_by (SeveralAllocations count answer) = AllocateSeveral count
-id_asked_by (Release id answer) = Free id
-id_asked_by (Cloning answer) = Clone
+-- The type of the value that a call returns: an id, several ids, or the state of a clone.
+abbrev pub IdValue : IdAsked → Type 0
+IdValue Allocate = ℕ
+IdValue (AllocateExact id) = ℕ
+IdValue (AllocateIn first last) = ℕ
+IdValue (AllocateSeveral count) = List ℕ
+IdValue (Free id) = ℕ
+IdValue Clone = IdState
 
--- The call returned OutOfMemory.
-abbrev pub RunsOutOfMemory : IdCall → Type 0
-RunsOutOfMemory (Allocation answer) = ⊥
-RunsOutOfMemory (ExactAllocation id answer) = answer ≡ Err OutOfMemory
-RunsOutOfMemory (WindowAllocation first last answer) = answer ≡ Err OutOfMemory
-RunsOutOfMemory (SeveralAllocations count answer) = answer ≡ Err OutOfMemory
-RunsOutOfMemory (Release id answer) = answer ≡ Err OutOfMemory
-RunsOutOfMemory (Cloning answer) = answer ≡ Err OutOfMemory
+-- A call with its result, for example (Free 5, Ok 5).
+abbrev pub IdCall : Type 0
+IdCall = CallOf IdValue
 
 -- In the state old the call has its result, and leaves the state new. After a clone is made, new is the state of the
 -- clone.
 abbrev pub IsIdCallFrom : IdState → IdCall → IdState → Type 0
-IsIdCallFrom old (Allocation answer) new = AllocatesId old answer new
-IsIdCallFrom old (ExactAllocation id answer) new = AllocatesExactId old id answer new
-IsIdCallFrom old (WindowAllocation first last answer) new = AllocatesIdIn old first last answer new
-IsIdCallFrom old (SeveralAllocations count answer) new = AllocatesIds old count answer new
-IsIdCallFrom old (Release id answer) new = FreesId old id answer new
-IsIdCallFrom old (Cloning answer) new = Clones old answer × (new ≡ result_unwrap_or answer old)
+IsIdCallFrom old (Allocate, answer) new = AllocatesId old answer new
+IsIdCallFrom old (AllocateExact id, answer) new = AllocatesExactId old id answer new
+IsIdCallFrom old (AllocateIn first last, answer) new = AllocatesIdIn old first last answer new
+IsIdCallFrom old (AllocateSeveral count, answer) new = AllocatesIds old count answer new
+IsIdCallFrom old (Free id, answer) new = FreesId old id answer new
+IsIdCallFrom old (Clone, answer) new = Clones old answer × (new ≡ result_unwrap_or answer old)
 
 -- The calls lead from the state old to the state new: each begins in the state that the call before it left.
 abbrev pub IsIdHistoryFrom : IdState → List IdCall → IdState → Type 0
-IsIdHistoryFrom old [] new = new ≡ old
-IsIdHistoryFrom old (call ∷ calls) new = (mid : IdState) × IsIdCallFrom old call mid × IsIdHistoryFrom mid calls new
+IsIdHistoryFrom = IsHistory IsIdCallFrom
 
 -- The state of a new id allocator.
 pub record AreIdsMade (state : IdState) : Type 0 where
@@ -102,27 +86,22 @@ pub record AreIdsReached (calls : List IdCall) (state : IdState) : Type 0 where
 
 -- The call allocated the id.
 abbrev pub AllocatedTheId : ℕ → IdCall → Type 0
-AllocatedTheId id (Allocation answer) = answer ≡ Ok id
-AllocatedTheId id (ExactAllocation i answer) = answer ≡ Ok id
-AllocatedTheId id (WindowAllocation first last answer) = answer ≡ Ok id
-AllocatedTheId id (SeveralAllocations count (Ok ids)) = Contains ids id
-AllocatedTheId id (SeveralAllocations count (Err e)) = ⊥
-AllocatedTheId id (Release i answer) = ⊥
-AllocatedTheId id (Cloning answer) = ⊥
+AllocatedTheId id (Allocate, answer) = answer ≡ Ok id
+AllocatedTheId id (AllocateExact i, answer) = answer ≡ Ok id
+AllocatedTheId id (AllocateIn first last, answer) = answer ≡ Ok id
+AllocatedTheId id (AllocateSeveral count, answer) = MatchResult answer (λ ids. Contains ids id) (λ e. ⊥)
+AllocatedTheId id (Free i, answer) = ⊥
+AllocatedTheId id (Clone, answer) = ⊥
 
 -- Whether the id is held after a call. The parameter `before` is whether it was held before the call.
 abbrev pub is_held_after : ℕ → Bool → IdCall → Bool
-is_held_after id before (Allocation (Ok i)) = if nat_eq i id then true else before
-is_held_after id before (Allocation (Err e)) = before
-is_held_after id before (ExactAllocation asked (Ok i)) = if nat_eq i id then true else before
-is_held_after id before (ExactAllocation asked (Err e)) = before
-is_held_after id before (WindowAllocation first last (Ok i)) = if nat_eq i id then true else before
-is_held_after id before (WindowAllocation first last (Err e)) = before
-is_held_after id before (SeveralAllocations count (Ok ids)) = before || set.contains (set.from_list {R = nat_cmp} ids) id
-is_held_after id before (SeveralAllocations count (Err e)) = before
-is_held_after id before (Release i (Ok back)) = if nat_eq i id then false else before
-is_held_after id before (Release i (Err e)) = before
-is_held_after id before (Cloning answer) = before
+is_held_after id before (asked, Err e) = before
+is_held_after id before (Allocate, Ok i) = if nat_eq i id then true else before
+is_held_after id before (AllocateExact asked, Ok i) = if nat_eq i id then true else before
+is_held_after id before (AllocateIn first last, Ok i) = if nat_eq i id then true else before
+is_held_after id before (AllocateSeveral count, Ok ids) = before || set.contains (set.from_list {R = nat_cmp} ids) id
+is_held_after id before (Free i, Ok back) = if nat_eq i id then false else before
+is_held_after id before (Clone, Ok state) = before
 
 -- Whether the id is held after the calls: `before` is true or a call allocated it, and it was not freed since.
 abbrev pub is_allocated_after : ℕ → Bool → List IdCall → Bool

@@ -2,14 +2,14 @@
 //!
 //! A history is a list of calls of an allocator that was created or read. It can go on with a
 //! clone.
+ghost use Rattle.vm_ranges.specs.Histories.{EveryListHasHistory, SameCallsSameResults};
+ghost use Rattle.vm_ids.specs.Histories.IdHistories.{IsIdCallFrom};
 ghost use Rattle.vm_ids.specs.Laws.IdHistoryLaws.{
   EachIsLowestNotHeld,
   NoIdIsHeldTwice,
   HeldIsAllocated,
   StatesAreOfIds,
   EveryIdCallIsAnswered,
-  EveryIdListHasHistory,
-  SameIdCallsSameResults,
   IdCloneIsReached,
   IdReadIsReached,
 };
@@ -34,14 +34,14 @@ fn held_ids_are_allocated()
 #[tactic(auto, using(crate::proofs::Ids::EveryIdCall::answers))]
 fn every_id_call_is_answered()
     ensures call { EveryIdCallIsAnswered }
-    ensures list { EveryIdListHasHistory }
+    ensures list { EveryListHasHistory IsIdCallFrom }
 {}
 
 /// Proves that the same list of calls in the same state has the same results and leads to the same
 /// state, if memory suffices.
 #[tactic(auto, using(crate::proofs::Ids::SameIdCalls::same_id_results))]
 fn same_id_calls_have_same_results()
-    ensures { SameIdCallsSameResults }
+    ensures { SameCallsSameResults IsIdCallFrom }
 {}
 
 /// Proves that a clone is reached by a history. So what is true for every history is true for
