@@ -1,6 +1,5 @@
 -- Every call of a manager has a result, so every list of calls has a history.
-use Rattle.std.proofs.Common.{◌≡◌, ◌≢◌, ℕ, [], ◌∷◌, refl, ap, arith, inl, Option, Some, None, Result, Ok, Err}
-use Rattle.std.proofs.lemmas.List.Elements.{All-nil, All-cons}
+use Rattle.std.proofs.Common.{◌≡◌, ◌≢◌, ℕ, refl, ap, arith, inl, Option, Some, None, Result, Ok, Err}
 use Rattle.std.specs.FinMap as map
 use Rattle.vm_ranges.specs.Range.{Range}
 use Rattle.vm_ranges.specs.Request.{Request}
@@ -14,8 +13,10 @@ use Rattle.vm_allocator.proofs.Results.EveryAddressCall.{every_call}
 use Rattle.vm_ids.proofs.Ids.EveryIdCall.{every_call as every_id_call}
 use Rattle.vm_devices.specs.declared.device_slot.DeviceSlot.{DeviceSlot}
 use Rattle.vm_devices.specs.Devices.{DeviceState, made_devices, with_device, without_device, MakesManager, Reserves, Releases}
-use Rattle.vm_devices.specs.Histories.{DeviceCall, Reservation, Release, Cloning, DeviceAsked, Reserve, GiveBack, Clone, device_asked_by, RunsOutOfMemory, IsDeviceCallFrom}
-use Rattle.vm_devices.specs.Laws.{EveryDeviceCallIsAnswered, EveryDeviceListHasHistory}
+use Rattle.vm_devices.specs.Histories.{Reserve, Release, Clone, IsDeviceCallFrom}
+use Rattle.vm_devices.specs.Laws.{EveryDeviceCallIsAnswered}
+use Rattle.vm_ranges.specs.Histories.{EveryCallIsAnswered, EveryListHasHistory}
+use Rattle.vm_ranges.proofs.Histories.{every_list}
 use Rattle.vm_devices.proofs.DeviceCalls.{id_refused, id_peeked}
 
 -- ---- Creating
@@ -62,26 +63,15 @@ unfolding Releases
 total_releases_at old id None e = (Err (NeverAllocated id), old, rw e (refl, refl), λ h. cc (h))
 total_releases_at old id (Some r) e = (Ok tt, without_device id r old, rw e (inl (refl, refl)), λ h. cc (h))
 
+total_call : EveryCallIsAnswered IsDeviceCallFrom
+total_call old (Reserve request) = total_reserves old request
+total_call old (Release id) = total_releases_at old id (map.get old.devices id) refl
+total_call old Clone = (Ok old, old, (inl refl, refl), λ h. cc (h))
+
 pub every_device_call : EveryDeviceCallIsAnswered
-every_device_call = record {
-  made = total_makes;
-  reserved = total_reserves;
-  released = λ old id. total_releases_at old id (map.get old.devices id) refl;
-  cloned = λ old. (Ok old, inl refl, λ h. cc (h));
-}
+every_device_call = record { made = total_makes; called = total_call }
 
--- ---- Each list of calls has a history
-total_call : (old : DeviceState) (asked : DeviceAsked) →
-    (call : DeviceCall) × (new : DeviceState) × IsDeviceCallFrom old call new × (device_asked_by call ≡ asked) × ¬ RunsOutOfMemory call
-total_call old (Reserve request) = let a = total_reserves old request in (Reservation request a.0, a.1, a.2, refl, a.3)
-total_call old (GiveBack id) = let f = every_device_call.released old id in (Release id f.0, f.1, f.2, refl, f.3)
-total_call old Clone = (Cloning (Ok old), old, (inl refl, refl), refl, λ h. cc (h))
+pub every_list_of_devices : EveryListHasHistory IsDeviceCallFrom
+every_list_of_devices = every_list IsDeviceCallFrom total_call
 
-pub every_list : EveryDeviceListHasHistory
-every_list old [] = ([], old, refl, refl, All-nil _)
-every_list old (asked ∷ more) =
-    let a = total_call old asked in
-    let rest = every_list a.1 more in
-    (a.0 ∷ rest.0, rest.1, (a.1, a.2, rest.2), (λ i. a.3 i ∷ rest.3 i), All-cons (λ call. ¬ RunsOutOfMemory call) a.0 rest.0 a.4 rest.4)
-
-pub ruleset answers = (every_device_call, every_list)
+pub ruleset answers = (every_device_call, every_list_of_devices)

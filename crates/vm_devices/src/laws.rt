@@ -1,13 +1,14 @@
 //! Laws: theorems about the definitions that the contracts of the calls cite.
 //!
 //! Each law is the contract of a function that does nothing.
+ghost use Rattle.vm_ranges.specs.Histories.{EveryListHasHistory};
+ghost use Rattle.vm_devices.specs.Histories.{IsDeviceCallFrom};
 ghost use Rattle.vm_devices.specs.Laws.{
   DevicesAreValid,
   ReservedAgain,
   RangeIsReservedAgain,
   DevicesDecide,
   EveryDeviceCallIsAnswered,
-  EveryDeviceListHasHistory,
   ManagerIsReadAgain,
   ManagerIsReadFromText,
   DevicesAreListed,
@@ -43,7 +44,7 @@ fn devices_decide()
 #[tactic(auto, using(crate::proofs::EveryDeviceCall::answers))]
 fn every_call_is_answered()
     ensures call { EveryDeviceCallIsAnswered }
-    ensures list { EveryDeviceListHasHistory }
+    ensures list { EveryListHasHistory IsDeviceCallFrom }
 {}
 
 /// Proves that a manager that was written is read again, and that a value encodes at most one

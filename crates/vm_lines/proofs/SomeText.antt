@@ -13,6 +13,7 @@ use Rattle.vm_lines.specs.Laws.{HasReply, HasText, AreAnsweredInMemory}
 use Rattle.vm_lines.specs.Lines.{newline}
 use Rattle.vm_devices.specs.declared.device_slot.DeviceSlot.{DeviceSlot}
 use Rattle.vm_devices.specs.Devices.{DeviceState}
+use Rattle.vm_devices.specs.Histories.{Reserve, Release}
 use Rattle.vm_devices.proofs.EveryDeviceCall.{every_device_call}
 use Rattle.vm_lines.specs.Machines.{Machine, start, with_space, with_ids, with_devices, OnPart, OnSpace, OnIds, OnDevices, AllocatesRange, Does}
 use Rattle.vm_lines.specs.Replies.{text_of, done_reply, range_reply, id_reply, device_reply}
@@ -111,9 +112,9 @@ does_replied (Manager id_lo id_hi base size) old =
     let h = every_device_call.made id_lo id_hi base size in
     (done_reply h.0, with_devices old h.0, (h.0, h.1, refl, refl), plain_done h.0 h.2)
 does_replied (Device size alignment) old =
-    on_devices old _ (λ state. replied device_reply plain_device _ (every_device_call.reserved state (request_for size alignment FirstMatch)))
+    on_devices old _ (λ state. replied device_reply plain_device _ (every_device_call.called state (Reserve (request_for size alignment FirstMatch))))
 does_replied (Undevice id) old =
-    on_devices old _ (λ state. replied done_reply plain_done _ (every_device_call.released state id))
+    on_devices old _ (λ state. replied done_reply plain_done _ (every_device_call.called state (Release id)))
 
 -- Several lines.
 
