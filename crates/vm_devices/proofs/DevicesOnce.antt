@@ -10,6 +10,10 @@ use Rattle.vm_allocator.proofs.Results.InMemory.{placed_once, made_once}
 use Rattle.vm_ids.proofs.Ids.IdResults.{making_is_determined, by_same_lowest}
 use Rattle.vm_devices.specs.declared.device_slot.DeviceSlot.{DeviceSlot}
 use Rattle.vm_devices.specs.Devices.{DeviceState, made_devices, MakesManager, Pairs, Reserves, Releases}
+use Rattle.vm_ranges.specs.Histories.{CallsAreDetermined, SameCallsSameResults}
+use Rattle.vm_ranges.proofs.Clones.{clones_once}
+use Rattle.vm_ranges.proofs.Histories.{same_results}
+use Rattle.vm_devices.specs.Histories.{Reserve, Release, Clone, IsDeviceCallFrom}
 use Rattle.vm_devices.specs.Laws.{DevicesDecide}
 
 made_with : (ids : Result IdState Error) (x y : Result AddressState Error) (answer other : Result DeviceState Error) → answer ≢ Err OutOfMemory → other ≢ Err OutOfMemory →
@@ -49,5 +53,15 @@ released_once : (old new later : DeviceState) (id : ℕ) (answer other : Result 
 unfolding Releases
 released_once old new later id answer other p q a b = grind arith
 
+call_once : CallsAreDetermined IsDeviceCallFrom
+call_once old new later (Reserve request) x y p q a b = reserved_once old new later request x y p q a b
+call_once old new later (Release id) x y p q a b = released_once old new later id x y p q a b
+call_once old new later Clone x y p q a b = clones_once old new later x y p q a b
+
 pub devices_decide : DevicesDecide
-devices_decide = record { made = manager_once; reserved = reserved_once; released = released_once }
+devices_decide = record { made = manager_once; called = call_once }
+
+pub same_device_results : SameCallsSameResults IsDeviceCallFrom
+same_device_results = same_results IsDeviceCallFrom call_once
+
+pub ruleset decides = (devices_decide, same_device_results)

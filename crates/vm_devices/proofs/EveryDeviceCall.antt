@@ -9,6 +9,7 @@ use Rattle.vm_ids.specs.Ids.{IdState, PeeksId, ByLowestNotHeld}
 use Rattle.vm_ranges.specs.declared.error.Error.{Error}
 use Rattle.vm_ranges.specs.declared.error.Error.TheVariants.{NeverAllocated, OutOfMemory}
 use Rattle.vm_ids.proofs.Ids.IdResults.{makes_ids_no_memory}
+use Rattle.vm_allocator.specs.Histories.AddressHistories.{Allocate}
 use Rattle.vm_allocator.proofs.Results.EveryAddressCall.{every_call}
 use Rattle.vm_ids.proofs.Ids.EveryIdCall.{every_call as every_id_call}
 use Rattle.vm_devices.specs.declared.device_slot.DeviceSlot.{DeviceSlot}
@@ -51,7 +52,7 @@ peeked_plainly ids p = grind arith
 by_peeking : (old : DeviceState) (request : Request) (peeked : Result ℕ Error) → PeeksId old.ids peeked → IsAnswered old request
 by_peeking old request (Err e) p =
     (Err e, old, id_refused old old request e p refl, λ h. let same : e ≡ OutOfMemory = cc (h) in peeked_plainly old.ids (rw same at p))
-by_peeking old request (Ok id) p = let a = every_call.allocated old.space request in with_id old request id a.0 a.1 p a.2 a.3
+by_peeking old request (Ok id) p = let a = every_call.called old.space (Allocate request) in with_id old request id a.0 a.1 p a.2 a.3
 
 total_reserves : (old : DeviceState) (request : Request) → IsAnswered old request
 total_reserves old request = let p = every_id_call.peeked old.ids in by_peeking old request p.0 p.1

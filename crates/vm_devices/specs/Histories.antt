@@ -1,5 +1,5 @@
 -- Histories of a manager of devices: lists of calls with their results.
-use Rattle.std.specs.Prelude.{◌≡◌, ℕ, ◌%◌, ◌≤◌, ◌⊎◌, List, Result, Ok, IfSome}
+use Rattle.std.specs.Prelude.{◌≡◌, ℕ, ◌%◌, ◌≤◌, ◌⊎◌, List, Ok, IfSome}
 use Rattle.std.specs.List.{Contains}
 use Rattle.std.specs.Result.{result_unwrap_or}
 use Rattle.serde_json.specs.Data.{Data}

@@ -8,7 +8,7 @@ use Rattle.serde_json.specs.declared.error.Error as json
 use Rattle.serde_json.specs.declared.value.Value.{Value}
 use Rattle.vm_ranges.specs.Range.{Range, MAX, IsIn, Overlaps, Covers, address_count}
 use Rattle.vm_ranges.specs.Request.{Request, request_for}
-use Rattle.vm_ranges.specs.Histories.{EveryCallIsAnswered}
+use Rattle.vm_ranges.specs.Histories.{EveryCallIsAnswered, CallsAreDetermined}
 use Rattle.vm_ranges.specs.Texts.{IsTextOf, Parses}
 use Rattle.vm_engine.specs.Answer.{SPLIT_LIMIT_MIN_HELD}
 use Rattle.vm_ids.specs.Ids.{IsOfRange, held_count, held_ids}
@@ -65,12 +65,7 @@ pub record DevicesDecide : Type 0 where
   pub made : (lo hi base size : ℕ) (answer other : Result DeviceState Error) →
       answer ≢ Err OutOfMemory → other ≢ Err OutOfMemory →
       MakesManager lo hi base size answer → MakesManager lo hi base size other → answer ≡ other
-  pub reserved : (old new later : DeviceState) (request : Request) (answer other : Result DeviceSlot Error) →
-      answer ≢ Err OutOfMemory → other ≢ Err OutOfMemory →
-      Reserves old request answer new → Reserves old request other later → (answer ≡ other) × (new ≡ later)
-  pub released : (old new later : DeviceState) (id : ℕ) (answer other : Result (Unit {0}) Error) →
-      answer ≢ Err OutOfMemory → other ≢ Err OutOfMemory →
-      Releases old id answer new → Releases old id other later → (answer ≡ other) × (new ≡ later)
+  pub called : CallsAreDetermined IsDeviceCallFrom
 
 -- In every state each call has a result other than OutOfMemory. So has the creation of a manager.
 pub record EveryDeviceCallIsAnswered : Type 0 where

@@ -1,7 +1,7 @@
 //! Laws: theorems about the definitions that the contracts of the calls cite.
 //!
 //! Each law is the contract of a function that does nothing.
-ghost use Rattle.vm_ranges.specs.Histories.{EveryListHasHistory};
+ghost use Rattle.vm_ranges.specs.Histories.{EveryListHasHistory, SameCallsSameResults};
 ghost use Rattle.vm_devices.specs.Histories.{IsDeviceCallFrom};
 ghost use Rattle.vm_devices.specs.Laws.{
   DevicesAreValid,
@@ -35,9 +35,10 @@ fn released_devices_are_reserved_again()
 {}
 
 /// Proves that the result of a call depends only on ids, space and devices, if memory suffices.
-#[tactic(auto, using(crate::proofs::DevicesOnce::devices_decide))]
+#[tactic(auto, using(crate::proofs::DevicesOnce::decides))]
 fn devices_decide()
-    ensures { DevicesDecide }
+    ensures call { DevicesDecide }
+    ensures list { SameCallsSameResults IsDeviceCallFrom }
 {}
 
 /// Proves that every call has a result in every state, so every list of calls has a history.

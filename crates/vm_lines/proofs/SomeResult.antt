@@ -9,8 +9,8 @@ use Rattle.vm_ids.specs.Ids.{IdState, AllocatesId, FreesId, MakesIds}
 use Rattle.vm_ranges.specs.declared.error.Error.{Error}
 use Rattle.vm_ranges.specs.declared.error.Error.TheVariants.{InvalidRange, OutOfMemory}
 use Rattle.vm_ranges.proofs.Decisions.{Decided, decided_both, decided_below, decided_up_to}
-use Rattle.vm_allocator.proofs.Results.InMemory.{frees_no_memory}
-use Rattle.vm_ids.specs.Histories.IdHistories.{Allocate, Free}
+use Rattle.vm_allocator.specs.Histories.AddressHistories.{Allocate, Free}
+use Rattle.vm_ids.specs.Histories.IdHistories.{Allocate as AllocateId, Free as FreeId}
 use Rattle.vm_ids.proofs.Ids.IdResults.{makes_ids_no_memory}
 use Rattle.vm_allocator.proofs.Results.EveryAddressCall.{every_call}
 use Rattle.vm_ids.proofs.Ids.EveryIdCall.{every_call as every_id_call}
@@ -22,7 +22,7 @@ IsAnswered {A} {S} allowed =
     (answer : Result A Error) × (new : S) × allowed answer new × (answer ≢ Err OutOfMemory)
 
 pub allocates_answered : (old : AddressState) (request : Request) → IsAnswered (Allocates old request)
-allocates_answered old request = every_call.allocated old request
+allocates_answered old request = every_call.called old (Allocate request)
 
 pub makes_answered : (base size : ℕ) → (answer : Result AddressState Error) × Makes base size answer × (answer ≢ Err OutOfMemory)
 makes_answered base size = every_call.made base size
@@ -42,16 +42,16 @@ unfolding FreesRange
 releases_answered old start end =
     ⊎_elim
     (λ (range : IsRange start end).
-    let freed = every_call.freed old (record { start = start; end = end }) in
-    (freed.0, freed.1, inr (range, freed.2), frees_no_memory old freed.1 (record { start = start; end = end }) freed.0 freed.2))
+    let freed = every_call.called old (Free (record { start = start; end = end })) in
+    (freed.0, freed.1, inr (range, freed.2), freed.3))
     (λ (none : IsRange start end → ⊥). (Err (InvalidRange start end), old, inl (none, (refl, refl)), λ e. cc e))
     (decided_range start end)
 
 pub allocates_id_answered : (old : IdState) → IsAnswered (AllocatesId old)
-allocates_id_answered old = every_id_call.called old Allocate
+allocates_id_answered old = every_id_call.called old AllocateId
 
 pub frees_id_answered : (old : IdState) (id : ℕ) → IsAnswered (FreesId old id)
-frees_id_answered old id = every_id_call.called old (Free id)
+frees_id_answered old id = every_id_call.called old (FreeId id)
 
 pub makes_ids_answered : (lo hi : ℕ) → (answer : Result IdState Error) × MakesIds lo hi answer × (answer ≢ Err OutOfMemory)
 makes_ids_answered lo hi =

@@ -1,7 +1,7 @@
 -- Histories of every kind of object, from facts of its calls.
 use Rattle.std.proofs.Common.{◌≡◌, ◌≢◌, List, [], ◌∷◌, ◌++◌, map, refl, sym, ap, ◌∙◌, subst, Result, Err}
 use Rattle.std.proofs.lemmas.List.Elements.{All-nil, All-cons, All-head, All-tail}
-use Rattle.vm_ranges.specs.Histories.{CallOf, RunsOutOfMemory, IsHistory, EveryCallIsAnswered, EveryListHasHistory, SameCallsSameResults}
+use Rattle.vm_ranges.specs.Histories.{CallOf, RunsOutOfMemory, IsHistory, EveryCallIsAnswered, EveryListHasHistory, CallsAreDetermined, SameCallsSameResults}
 use Rattle.vm_ranges.specs.declared.error.Error.{Error}
 use Rattle.vm_ranges.specs.declared.error.Error.TheVariants.{OutOfMemory}
 
@@ -37,22 +37,15 @@ module _ {State Asked : Type 0} {Value : Asked → Type 0} (IsCall : State → C
         All-cons (λ (call : CallOf Value). ¬ RunsOutOfMemory call) (asked, a.0) rest.0 a.3 rest.4,
       )
 
-  -- Each call has one result and one next state, if it does not return OutOfMemory.
-  abbrev pub IsDetermined : Type 0
-  IsDetermined =
-      (asked : Asked) (answer other : Result (Value asked) Error) (old new later : State) →
-      answer ≢ Err OutOfMemory → other ≢ Err OutOfMemory →
-      IsCall old (asked, answer) new → IsCall old (asked, other) later → (answer ≡ other) × (new ≡ later)
-
-  call_once : IsDetermined → (c d : CallOf Value) (old new later : State) → d.0 ≡ c.0 → ¬ RunsOutOfMemory c → ¬ RunsOutOfMemory d → IsCall old c new → IsCall old d later → (c ≡ d) × (new ≡ later)
+  call_once : CallsAreDetermined IsCall → (c d : CallOf Value) (old new later : State) → d.0 ≡ c.0 → ¬ RunsOutOfMemory c → ¬ RunsOutOfMemory d → IsCall old c new → IsCall old d later → (c ≡ d) × (new ≡ later)
   call_once once c d old new later e p m h k =
       let own : (y : Result (Value c.0) Error) × (d ≡ (c.0, y)) =
       subst (λ (v : Asked). (y : Result (Value v) Error) × (d ≡ (v, y))) e (d.1, refl) in
       let plain : own.0 ≢ Err OutOfMemory = subst (λ (v : CallOf Value). ¬ RunsOutOfMemory v) own.1 m in
-      let same = once c.0 c.1 own.0 old new later p plain h (subst (λ (v : CallOf Value). IsCall old v later) own.1 k) in
+      let same = once old new later c.0 c.1 own.0 p plain h (subst (λ (v : CallOf Value). IsCall old v later) own.1 k) in
       (ap (λ (y : Result (Value c.0) Error). (c.0, y)) same.0 ∙ sym own.1, same.1)
 
-  pub same_results : IsDetermined → SameCallsSameResults IsCall
+  pub same_results : CallsAreDetermined IsCall → SameCallsSameResults IsCall
   same_results once old new later [] [] h k e p m = (refl, h ∙ sym k)
   same_results once old new later [] (d ∷ others) h k e p m = absurd (cc e)
   same_results once old new later (c ∷ calls) [] h k e p m = absurd (cc e)

@@ -33,6 +33,14 @@ EveryListHasHistory {State} {Asked} {Value} IsCall =
     (calls : List (CallOf Value)) × (new : State) × IsHistory IsCall old calls new ×
     (map (λ call. call.0) calls ≡ asked) × All (λ call. ¬ RunsOutOfMemory call) calls
 
+-- In every state a call has one result and one next state, if it does not return OutOfMemory.
+abbrev pub CallsAreDetermined : {State Asked : Type 0} {Value : Asked → Type 0} →
+    (State → CallOf Value → State → Type 0) → Type 0
+CallsAreDetermined {State} {Asked} {Value} IsCall =
+    (old new later : State) (asked : Asked) (answer other : Result (Value asked) Error) →
+    answer ≢ Err OutOfMemory → other ≢ Err OutOfMemory →
+    IsCall old (asked, answer) new → IsCall old (asked, other) later → (answer ≡ other) × (new ≡ later)
+
 -- The same list of calls in the same state has the same results and the same last state, if no call returns OutOfMemory.
 abbrev pub SameCallsSameResults : {State Asked : Type 0} {Value : Asked → Type 0} →
     (State → CallOf Value → State → Type 0) → Type 0
