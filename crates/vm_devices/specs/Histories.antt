@@ -14,7 +14,7 @@ use Rattle.vm_devices.specs.Devices.{DeviceState, IsDevice, MakesManager, Reserv
 use Rattle.vm_devices.specs.Listed.{MakesOfDevices}
 use Rattle.vm_devices.specs.Saved.{EncodesManager}
 
--- What can be asked of a manager: a reservation by a request, a release by an id, or a clone.
+-- A call without its result: a reservation by a request, a release by an id, or the creation of a clone.
 pub data DeviceAsked : Type 0 where
   Reserve : Request → DeviceAsked
   Release : ℕ → DeviceAsked

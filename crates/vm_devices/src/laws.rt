@@ -1,7 +1,7 @@
 //! Laws: theorems about the definitions that the contracts of the calls cite.
 //!
 //! Each law is the contract of a function that does nothing.
-ghost use Rattle.vm_ranges.specs.Histories.{EveryListHasHistory, SameCallsSameResults};
+ghost use Rattle.vm_ranges.specs.Histories.{ErrorsChangeNothing, EveryListHasHistory, SameCallsSameResults};
 ghost use Rattle.vm_devices.specs.Histories.{IsDeviceCallFrom};
 ghost use Rattle.vm_devices.specs.Laws.{
   DevicesAreValid,
@@ -34,11 +34,13 @@ fn released_devices_are_reserved_again()
     ensures range { RangeIsReservedAgain }
 {}
 
-/// Proves that the result of a call depends only on ids, space and devices, if memory suffices.
+/// Proves that the result of a call depends only on ids, space and devices, if memory suffices, and
+/// that an error changes nothing.
 #[tactic(auto, using(crate::proofs::DevicesOnce::decides))]
 fn devices_decide()
     ensures call { DevicesDecide }
     ensures list { SameCallsSameResults IsDeviceCallFrom }
+    ensures errors { ErrorsChangeNothing IsDeviceCallFrom }
 {}
 
 /// Proves that every call has a result in every state, so every list of calls has a history.

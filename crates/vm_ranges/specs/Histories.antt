@@ -18,6 +18,12 @@ abbrev pub IsHistory : {State Call : Type 0} → (State → Call → State → T
 IsHistory IsCall old [] new = new ≡ old
 IsHistory {State} IsCall old (call ∷ calls) new = (mid : State) × IsCall old call mid × IsHistory IsCall mid calls new
 
+-- An error changes nothing.
+abbrev pub ErrorsChangeNothing : {State Asked : Type 0} {Value : Asked → Type 0} →
+    (State → CallOf Value → State → Type 0) → Type 0
+ErrorsChangeNothing {State} {Asked} {Value} IsCall =
+    (old new : State) (asked : Asked) (e : Error) → IsCall old (asked, Err e) new → new ≡ old
+
 -- In every state each call has a result other than OutOfMemory.
 abbrev pub EveryCallIsAnswered : {State Asked : Type 0} {Value : Asked → Type 0} →
     (State → CallOf Value → State → Type 0) → Type 0

@@ -16,8 +16,8 @@ use Rattle.vm_ranges.specs.Histories.{CallOf, IsHistory}
 use Rattle.vm_allocator.specs.Values.AllocatorValues.{EncodesAddresses}
 use Rattle.vm_allocator.specs.Values.RepairedValues.{EncodesRepaired}
 
--- What can be asked of an address allocator: a range for a request, a range for each of several requests, the freeing of a
--- range, the move of a range to the place of a request, or a clone.
+-- A call without its result: a request, several requests at once, the freeing of a range, the move of a range to the place
+-- of a request, or the creation of a clone.
 pub data Asked : Type 0 where
   Allocate : Request → Asked
   AllocateAll : List Request → Asked

@@ -85,17 +85,6 @@ PlacesAnswer =
     (old : Reached) (new : AddressState) (request : Request) (answer : Result Range Error) →
     Allocates old.state request answer new → IsAnswered old.state request answer new
 
--- An error changes nothing.
-pub record ErrorsChangeNothing : Type 0 where
-  pub allocation : (old : Reached) (new : AddressState) (request : Request) (e : Error) →
-      Allocates old.state request (Err e) new → new ≡ old.state
-  pub several : (old : Reached) (new : AddressState) (requests : List Request) (e : Error) →
-      AllocatesAll old.state requests (Err e) new → new ≡ old.state
-  pub move : (old : Reached) (new : AddressState) (r : Range) (request : Request) (e : Error) →
-      MovesRange old.state r request (Err e) new → new ≡ old.state
-  pub release : (old : Reached) (new : AddressState) (r : Range) (e : Error) →
-      Frees old.state r (Err e) new → new ≡ old.state
-
 -- In every history the state is valid and the held ranges are disjoint. Each of them was allocated as requested, or was
 -- held from the start.
 pub record HeldAreValid : Type 0 where

@@ -2,7 +2,7 @@
 //!
 //! A history is a list of calls of an allocator that was created or read. It can go on with a
 //! clone.
-ghost use Rattle.vm_ranges.specs.Histories.{EveryListHasHistory, SameCallsSameResults};
+ghost use Rattle.vm_ranges.specs.Histories.{ErrorsChangeNothing, EveryListHasHistory, SameCallsSameResults};
 ghost use Rattle.vm_allocator.specs.Values.AllocatorValues.{EncodesAddresses};
 ghost use Rattle.vm_allocator.specs.Values.RepairedValues.{EncodesRepaired};
 ghost use Rattle.vm_engine.specs.Values.SavedTrees.{HasHeldKeys, HasTreeOf};
@@ -12,7 +12,6 @@ ghost use Rattle.vm_allocator.specs.Laws.HistoryLaws.{
   LastIsHighest,
   ExactIsAtItsStart,
   PlacesAnswer,
-  ErrorsChangeNothing,
   HeldAreValid,
   StateDecides,
   FreeUndoes,
@@ -39,7 +38,7 @@ fn chosen_places_are_allocated()
 #[tactic(auto, using(crate::proofs::Histories::HistoryResults::places_answer, crate::proofs::Histories::HistoryResults::errors_change_nothing))]
 fn places_answer()
     ensures answers { PlacesAnswer }
-    ensures refusals { ErrorsChangeNothing }
+    ensures refusals { ErrorsChangeNothing IsCallFrom }
 {}
 
 /// Proves that allocated ranges never overlap, lie in the space and do not contain `u64::MAX`.

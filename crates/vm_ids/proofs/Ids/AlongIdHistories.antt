@@ -18,10 +18,11 @@ use Rattle.std.specs.BTreeSet.{BTreeSet}
 use Rattle.vm_ids.proofs.Ids.IdFields.{is_state}
 use Rattle.vm_ids.proofs.Ids.FreedParts.{parts_are_ids}
 use Rattle.vm_ids.specs.Ids.{IdState, IsHeld, IsLowestNotHeld, IsIdState, ids_of, new_ids, holding_id, releasing_id, MakesIds, ByLowestNotHeld, AllocatesId, FreesId}
-use Rattle.vm_ids.specs.Histories.IdHistories.{IdAsked, Allocate, AllocateExact, AllocateIn, AllocateSeveral, Free, Clone, IdCall, IsIdCallFrom, IsIdHistoryFrom, AreIdsMade, AreIdsMadeOfFreed, AreIdsMadeOfHeld, AreIdsRead, AllocatedTheId, is_held_after, is_allocated_after}
+use Rattle.vm_ids.specs.Histories.IdHistories.{Allocate, AllocateExact, AllocateIn, AllocateSeveral, Free, Clone, IdCall, IsIdCallFrom, IsIdHistoryFrom, AreIdsMade, AreIdsMadeOfFreed, AreIdsMadeOfHeld, AreIdsRead, AllocatedTheId, is_held_after, is_allocated_after}
 use Rattle.vm_ids.specs.Laws.IdHistoryLaws.{EachIsLowestNotHeld, NoIdIsHeldTwice, HeldIsAllocated, StatesAreOfIds}
 use Rattle.vm_ranges.specs.declared.error.Error.{Error}
 use Rattle.vm_ranges.proofs.Clones.{cloning_keeps}
+use Rattle.vm_ranges.specs.Histories.{ErrorsChangeNothing}
 use Rattle.vm_ranges.proofs.Histories.{state_between, history_keeps}
 use Rattle.vm_ids.proofs.Ids.ReadIdStates.{encoded_state}
 use Rattle.vm_ids.proofs.Ids.IdResults.{id_states_are_preserved}
@@ -71,14 +72,13 @@ several_state old new count ids (inr (_, inl a)) =
     let e : ids ≡ take count (free_ids old) = cc (a.0) in
     (e, a.1 ∙ ap (λ (xs : List ℕ). holding_ids xs old) (sym e))
 
--- An error changes nothing.
-error_keeps : (asked : IdAsked) (old new : IdState) (e : Error) → IsIdCallFrom old (asked, Err e) new → new ≡ old
-error_keeps Allocate old new e h = refused_request_keeps old new e h
-error_keeps (AllocateExact i) old new e h = exact_unchanged old new i (Err e) h
-error_keeps (AllocateIn first last) old new e h = in_unchanged old new first last (Err e) h
-error_keeps (AllocateSeveral count) old new e h = refused_several_keep old new count e h
-error_keeps (Free i) old new e h = refused_return_keeps old new i e h
-error_keeps Clone old new e h = cloning_keeps old new (Err e) h.0 h.1
+pub errors_change_nothing : ErrorsChangeNothing IsIdCallFrom
+errors_change_nothing old new Allocate e h = refused_request_keeps old new e h
+errors_change_nothing old new (AllocateExact i) e h = exact_unchanged old new i (Err e) h
+errors_change_nothing old new (AllocateIn first last) e h = in_unchanged old new first last (Err e) h
+errors_change_nothing old new (AllocateSeveral count) e h = refused_several_keep old new count e h
+errors_change_nothing old new (Free i) e h = refused_return_keeps old new i e h
+errors_change_nothing old new Clone e h = cloning_keeps old new (Err e) h.0 h.1
 
 -- The state after a call, by its result.
 abbrev after : IdCall → IdState → IdState
@@ -91,7 +91,7 @@ after (Free i, Ok back) old = releasing_id i old
 after (Clone, Ok state) old = old
 
 call_after : (call : IdCall) (old new : IdState) → IsIdCallFrom old call new → new ≡ after call old
-call_after (asked, Err e) old new h = error_keeps asked old new e h
+call_after (asked, Err e) old new h = errors_change_nothing old new asked e h
 call_after (Allocate, Ok i) old new h = id_state old new (Ok i) h
 call_after (AllocateExact asked, Ok i) old new h =
     let a = exact_state old new asked (Ok i) h in a.1 ∙ ap (λ (v : ℕ). holding_id v old) (sym a.0)
@@ -187,7 +187,7 @@ held_is_out = record {
       (λ h. sym e ∙ h, λ h. e ∙ h);
 }
 
-pub ruleset held_ids = (held_is_out, states_are_of_ids)
+pub ruleset held_ids = (held_is_out, states_are_of_ids, errors_change_nothing)
 
 -- The allocated ids.
 

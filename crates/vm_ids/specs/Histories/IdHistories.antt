@@ -12,8 +12,8 @@ use Rattle.vm_ids.specs.FreedLists.{MakesOfIds}
 use Rattle.vm_ids.specs.Ids.{MAX_ID, IdState, MakesIds, AllocatesId, FreesId}
 use Rattle.vm_ids.specs.IdRequests.{AllocatesExactId, AllocatesIdIn, AllocatesIds, MakesWithHeld}
 
--- What can be asked of an id allocator: the lowest id, a given id, an id from first to last, several ids, the freeing of an
--- id, or a clone.
+-- A call without its result. It allocates the lowest id, a given id, an id of a window or several ids, frees an id, or
+-- creates a clone.
 pub data IdAsked : Type 0 where
   Allocate : IdAsked
   AllocateExact : ℕ → IdAsked

@@ -2,7 +2,7 @@
 //!
 //! A history is a list of calls of an allocator that was created or read. It can go on with a
 //! clone.
-ghost use Rattle.vm_ranges.specs.Histories.{EveryListHasHistory, SameCallsSameResults};
+ghost use Rattle.vm_ranges.specs.Histories.{ErrorsChangeNothing, EveryListHasHistory, SameCallsSameResults};
 ghost use Rattle.vm_ids.specs.Histories.IdHistories.{IsIdCallFrom};
 ghost use Rattle.vm_ids.specs.Laws.IdHistoryLaws.{
   EachIsLowestNotHeld,
@@ -23,11 +23,12 @@ fn lowest_ids_are_allocated()
 {}
 
 /// Proves which ids are allocated: the ids that a call allocated or that were allocated in the
-/// value that was read, without the ids that were freed since.
+/// value that was read, without the ids that were freed since. An error changes nothing.
 #[tactic(auto, using(crate::proofs::Ids::AlongIdHistories::held_ids))]
 fn held_ids_are_allocated()
     ensures held { HeldIsAllocated }
     ensures states { StatesAreOfIds }
+    ensures errors { ErrorsChangeNothing IsIdCallFrom }
 {}
 
 /// Proves that every call has a result in every state, so every list of calls has a history.
