@@ -5,10 +5,9 @@ use Rattle.vm_ranges.specs.Range.{Range}
 use Rattle.vm_ranges.specs.Request.{Request}
 use Rattle.vm_engine.specs.Address.{AddressState}
 use Rattle.vm_engine.specs.Answer.{Allocates}
-use Rattle.vm_ids.specs.Ids.{IdState, PeeksId, ByLowestNotHeld}
+use Rattle.vm_ids.specs.Ids.{IdState, PeeksId}
 use Rattle.vm_ranges.specs.declared.error.Error.{Error}
 use Rattle.vm_ranges.specs.declared.error.Error.TheVariants.{NeverAllocated, OutOfMemory}
-use Rattle.vm_ids.proofs.Ids.IdResults.{makes_ids_no_memory}
 use Rattle.vm_allocator.specs.Histories.AddressHistories.{Allocate}
 use Rattle.vm_allocator.proofs.Results.EveryAddressCall.{every_call}
 use Rattle.vm_ids.proofs.Ids.EveryIdCall.{every_call as every_id_call}
@@ -29,7 +28,7 @@ unfolding MakesManager
 total_makes lo hi base size =
     let ids = every_id_call.made lo hi in
     let space = every_call.made base size in
-    (made_devices ids.0 space.0, (ids.0, space.0, ids.1, space.1, refl), made_plainly ids.0 space.0 (makes_ids_no_memory lo hi ids.0 ids.1) space.2)
+    (made_devices ids.0 space.0, (ids.0, space.0, ids.1, space.1, refl), made_plainly ids.0 space.0 ids.2 space.2)
 
 -- ---- Reserving
 -- The request has a result other than OutOfMemory, and a next state.
@@ -44,18 +43,13 @@ with_id old request id (Err e) space p a plain =
 with_id old request id (Ok r) space p a plain =
     (Ok (record { id = id; range = r }), with_device id r old, id_peeked old (with_device id r old) request id space (Ok r) _ p a (inl (refl, refl)), λ h. cc (h))
 
--- `peek_id` does not run out of memory.
-peeked_plainly : (ids : IdState) → ¬ PeeksId ids (Err OutOfMemory)
-unfolding PeeksId ByLowestNotHeld
-peeked_plainly ids p = grind arith
-
-by_peeking : (old : DeviceState) (request : Request) (peeked : Result ℕ Error) → PeeksId old.ids peeked → IsAnswered old request
-by_peeking old request (Err e) p =
-    (Err e, old, id_refused old old request e p refl, λ h. let same : e ≡ OutOfMemory = cc (h) in peeked_plainly old.ids (rw same at p))
-by_peeking old request (Ok id) p = let a = every_call.called old.space (Allocate request) in with_id old request id a.0 a.1 p a.2 a.3
+by_peeking : (old : DeviceState) (request : Request) (peeked : Result ℕ Error) → PeeksId old.ids peeked → peeked ≢ Err OutOfMemory → IsAnswered old request
+by_peeking old request (Err e) p plain =
+    (Err e, old, id_refused old old request e p refl, λ h. let same : e ≡ OutOfMemory = cc (h) in plain (ap (λ (v : Error). Err v) same))
+by_peeking old request (Ok id) p plain = let a = every_call.called old.space (Allocate request) in with_id old request id a.0 a.1 p a.2 a.3
 
 total_reserves : (old : DeviceState) (request : Request) → IsAnswered old request
-total_reserves old request = let p = every_id_call.peeked old.ids in by_peeking old request p.0 p.1
+total_reserves old request = let p = every_id_call.peeked old.ids in by_peeking old request p.0 p.1 p.2
 
 -- ---- Releasing
 total_releases_at : (old : DeviceState) (id : ℕ) (at : Option Range) → map.get old.devices id ≡ at →

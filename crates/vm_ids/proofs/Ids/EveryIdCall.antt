@@ -11,7 +11,6 @@ use Rattle.vm_ids.specs.Histories.IdHistories.{Allocate, AllocateExact, Allocate
 use Rattle.vm_ids.specs.Laws.IdHistoryLaws.{EveryIdCallIsAnswered}
 use Rattle.vm_ranges.specs.declared.error.Error.{Error}
 use Rattle.vm_ranges.specs.declared.error.Error.TheVariants.{OutOfMemory, Overflow, ResourceNotAvailable, InvalidRange, OutOfRange, NeverAllocated, AlreadyReleased}
-use Rattle.vm_ids.proofs.Ids.IdResults.{allocates_id_no_memory}
 use Rattle.vm_ranges.proofs.Decisions.{Decided, decided_both, decided_below, decided_up_to, lowest_or_none}
 
 -- ---- Decidable facts of an id
@@ -37,34 +36,34 @@ lowest_or_all state =
 
 -- ---- Each call has a result
 -- The result of allocating an id: an id or an error.
-by_lowest : (state : IdState) → ((i : ℕ) × IsLowestNotHeld state i) ⊎ ((e : Error) × ((takes : ℕ → Type 0) (refused : Error → Type 0) → refused e → ByLowestNotHeld state takes refused))
+by_lowest : (state : IdState) → ((i : ℕ) × IsLowestNotHeld state i) ⊎ ((e : Error) × (e ≢ OutOfMemory) × ((takes : ℕ → Type 0) (refused : Error → Type 0) → refused e → ByLowestNotHeld state takes refused))
 unfolding ByLowestNotHeld
 by_lowest state =
     ⊎_elim
     (λ found. inl found)
     (λ (all : AreAllHeld state).
     ⊎_elim
-    (λ (last : state.hi ≡ MAX_ID). inr (Overflow, λ takes refused r. inr (all, inl (last, r))))
-    (λ (not_last : state.hi ≡ MAX_ID → ⊥). inr (ResourceNotAvailable, λ takes refused r. inr (all, inr (not_last, r))))
+    (λ (last : state.hi ≡ MAX_ID). inr (Overflow, λ h. absurd (cc h), λ takes refused r. inr (all, inl (last, r))))
+    (λ (not_last : state.hi ≡ MAX_ID → ⊥). inr (ResourceNotAvailable, λ h. absurd (cc h), λ takes refused r. inr (all, inr (not_last, r))))
     (cases_eq state.hi MAX_ID))
     (lowest_or_all state)
 
-total_allocates : (old : IdState) → (answer : Result ℕ Error) × (new : IdState) × AllocatesId old answer new
+total_allocates : (old : IdState) → (answer : Result ℕ Error) × (new : IdState) × AllocatesId old answer new × (answer ≢ Err OutOfMemory)
 unfolding AllocatesId ByLowestNotHeld
 total_allocates old =
     ⊎_elim
-    (λ found. (Ok found.0, holding_id found.0 old, inl (found.0, found.1, (refl, refl))))
+    (λ found. (Ok found.0, holding_id found.0 old, inl (found.0, found.1, (refl, refl)), λ h. absurd (cc h)))
     (λ refusal.
     let answer : Result ℕ Error = Err refusal.0 in
-    (answer, old, refusal.1 (λ i. (answer ≡ Ok i) × (old ≡ holding_id i old)) (λ e. (answer ≡ Err e) × (old ≡ old)) (refl, refl)))
+    (answer, old, refusal.2 (λ i. (answer ≡ Ok i) × (old ≡ holding_id i old)) (λ e. (answer ≡ Err e) × (old ≡ old)) (refl, refl), λ h. refusal.1 (cc h)))
     (by_lowest old)
 
-total_peeks : (state : IdState) → (answer : Result ℕ Error) × PeeksId state answer
+total_peeks : (state : IdState) → (answer : Result ℕ Error) × PeeksId state answer × (answer ≢ Err OutOfMemory)
 unfolding PeeksId ByLowestNotHeld
 total_peeks state =
     ⊎_elim
-    (λ found. (Ok found.0, inl (found.0, found.1, refl)))
-    (λ refusal. let answer : Result ℕ Error = Err refusal.0 in (answer, refusal.1 (λ i. answer ≡ Ok i) (λ e. answer ≡ Err e) refl))
+    (λ found. (Ok found.0, inl (found.0, found.1, refl), λ h. absurd (cc h)))
+    (λ refusal. let answer : Result ℕ Error = Err refusal.0 in (answer, refusal.2 (λ i. answer ≡ Ok i) (λ e. answer ≡ Err e) refl, λ h. refusal.1 (cc h)))
     (by_lowest state)
 
 total_frees : (old : IdState) (id : ℕ) → (answer : Result ℕ Error) × (new : IdState) × FreesId old id answer new × (answer ≢ Err OutOfMemory)
@@ -83,12 +82,12 @@ total_frees old id =
     (λ (outside : IsOfRange old id → ⊥). (Err (OutOfRange id), old, inl (outside, (refl, refl)), λ h. absurd (cc h)))
     (decided_of_range old id)
 
-total_makes : (lo hi : ℕ) → (answer : Result IdState Error) × MakesIds lo hi answer
+total_makes : (lo hi : ℕ) → (answer : Result IdState Error) × MakesIds lo hi answer × (answer ≢ Err OutOfMemory)
 unfolding MakesIds
 total_makes lo hi =
     ⊎_elim
-    (λ (no_range : hi < lo). (Err (InvalidRange lo hi), inl (no_range, refl)))
-    (λ (range : hi < lo → ⊥). (Ok (new_ids lo hi), inr (range, refl)))
+    (λ (no_range : hi < lo). (Err (InvalidRange lo hi), inl (no_range, refl), λ h. absurd (cc h)))
+    (λ (range : hi < lo → ⊥). (Ok (new_ids lo hi), inr (range, refl), λ h. absurd (cc h)))
     (decided_below hi lo)
 
 total_exact : (old : IdState) (id : ℕ) → (answer : Result ℕ Error) × (new : IdState) × AllocatesExactId old id answer new × (answer ≢ Err OutOfMemory)
@@ -167,7 +166,7 @@ total_makes_with_held lo hi held =
     (decided_below hi lo)
 
 total_call : EveryCallIsAnswered IsIdCallFrom
-total_call old Allocate = let a = total_allocates old in (a.0, a.1, a.2, allocates_id_no_memory old a.1 a.0 a.2)
+total_call old Allocate = total_allocates old
 total_call old (AllocateExact id) = total_exact old id
 total_call old (AllocateIn first last) = total_within old first last
 total_call old (AllocateSeveral count) = total_several old count

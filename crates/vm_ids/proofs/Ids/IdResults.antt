@@ -179,16 +179,3 @@ freeing_removes old new id back (inr (_, inr (_, inr (_, inl a)))) = removes old
 freeing_removes old new id back (inr (_, inr (_, inr (_, inr a)))) = absurd (cc (a.0))
 
 pub ruleset changes = (allocating_adds, freeing_removes)
-
--- Calls that never return OutOfMemory.
-
-pub allocates_id_no_memory : (old new : IdState) (answer : Result ℕ Error) → AllocatesId old answer new → answer ≢ Err OutOfMemory
-unfolding AllocatesId ByLowestNotHeld
-allocates_id_no_memory old new answer (inl k) e = cc (k.2.0, e)
-allocates_id_no_memory old new answer (inr (all, inl k)) e = cc (k.1.0, e)
-allocates_id_no_memory old new answer (inr (all, inr k)) e = cc (k.1.0, e)
-
-pub makes_ids_no_memory : (lo hi : ℕ) (answer : Result IdState Error) → MakesIds lo hi answer → answer ≢ Err OutOfMemory
-unfolding MakesIds
-makes_ids_no_memory lo hi answer (inl k) e = cc (k.1, e)
-makes_ids_no_memory lo hi answer (inr k) e = cc (k.1, e)

@@ -40,10 +40,10 @@ StatesAreOfIds = (calls : List IdCall) (state : IdState) → AreIdsReached calls
 
 -- In every state each call has a result other than OutOfMemory. So has each creation of an allocator.
 pub record EveryIdCallIsAnswered : Type 0 where
-  pub made : (lo hi : ℕ) → (answer : Result IdState Error) × MakesIds lo hi answer
+  pub made : (lo hi : ℕ) → (answer : Result IdState Error) × MakesIds lo hi answer × (answer ≢ Err OutOfMemory)
   pub made_with_held : (lo hi : ℕ) (held : List ℕ) →
       (answer : Result IdState Error) × MakesWithHeld lo hi held answer × (answer ≢ Err OutOfMemory)
-  pub peeked : (state : IdState) → (answer : Result ℕ Error) × PeeksId state answer
+  pub peeked : (state : IdState) → (answer : Result ℕ Error) × PeeksId state answer × (answer ≢ Err OutOfMemory)
   pub called : EveryCallIsAnswered IsIdCallFrom
 
 -- A clone of a reached allocator is reached, and has the state of its original.
