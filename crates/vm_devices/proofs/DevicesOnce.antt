@@ -66,7 +66,7 @@ pub same_device_results : SameCallsSameResults IsDeviceCallFrom
 same_device_results = same_results IsDeviceCallFrom call_once
 
 -- ---- An error changes nothing
-errors_change_nothing : ErrorsChangeNothing IsDeviceCallFrom
+pub errors_change_nothing : ErrorsChangeNothing IsDeviceCallFrom
 errors_change_nothing old new (Reserve request) e h = reserving_unchanged old new request e h
 errors_change_nothing old new (Release id) e h = ⊎_elim (λ refused. refused.2) (λ left. absurd (cc (left.2))) (releasing_outcome old new id (Err e) h)
 errors_change_nothing old new Clone e h = cloning_keeps old new (Err e) h.0 h.1
