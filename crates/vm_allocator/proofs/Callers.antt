@@ -2,16 +2,13 @@
 use Rattle.std.proofs.Common.{◌≡◌, ℕ, ◌+◌, ◌-◌, ◌%◌, List, [], ◌∷◌, length, ◌<◌, ◌≤◌, ◌⊎◌, arith, refl, sym, ap, ◌∙◌, inl, inr, ⊎_elim, subst, Option, Some, None, Result, Ok, Err, IfSome, IfOk, IfErr, OnOk}
 use Rattle.std.specs.List.{Contains}
 use Rattle.serde_json.specs.Data.{Data}
-use Rattle.vm_ranges.proofs.NumberSets.{inserted_here}
 use Rattle.vm_ranges.specs.Range.{Range, IsIn, Overlaps, Covers, address_count, span}
 use Rattle.vm_engine.specs.Address.{AddressState, AreClear, IsPlace, IsAddressState, holding, releasing, without_range}
 use Rattle.vm_ranges.specs.Alignment.{IsAlignment}
 use Rattle.vm_ranges.specs.Request.{Request, request_for, IsRequest, IsStartAligned, ByConstraint}
 use Rattle.vm_engine.specs.Windows.{within}
 use Rattle.vm_engine.specs.Answer.{SPLIT_LIMIT_MIN_HELD, IsChosen, AllocatesAt, Grants, Allocates, Frees}
-use Rattle.vm_allocator.specs.Ids.{IdState, IsIdState, IsHeld, IsLowestNotHeld, holding_id, releasing_id, ByLowestNotHeld, AllocatesId, FreesId}
 use Rattle.vm_allocator.specs.Values.AllocatorValues.{EncodesAddresses}
-use Rattle.vm_allocator.specs.Values.IdValues.{EncodesIds}
 use Rattle.vm_ranges.specs.declared.error.Error.{Error}
 use Rattle.vm_ranges.specs.declared.error.Error.TheVariants.{Overflow, OutOfMemory, ResourceNotAvailable}
 use Rattle.vm_ranges.specs.declared.constraint.AllocPolicy.{AllocPolicy}
@@ -25,18 +22,19 @@ use Rattle.vm_engine.proofs.Choosing.WindowPlaces.{lies_in}
 use Rattle.vm_engine.proofs.Results.Filling.{allocates_chosen}
 use Rattle.vm_engine.proofs.Results.Outcomes.{given_or_refused, allocates_outcome}
 use Rattle.vm_allocator.proofs.Reading.ReadAllocators.{one_addresses, encoded_state as encoded_addresses}
-use Rattle.vm_allocator.proofs.Ids.ReadIdStates.{one_encoded, encoded_state as encoded_ids}
+-- An allocated id was not held before, and is held after. Written ids are read as the ids that were written.
+pub use Rattle.vm_ids.proofs.Callers.{id_was_free, id_is_held, ids_again}
 -- A list of different held ranges or ids contains all of them if and only if its length is their number.
 pub use Rattle.vm_engine.proofs.Blocks.HeldLists.{ranges_listed}
-pub use Rattle.vm_allocator.proofs.Ids.IdCounts.{ids_listed}
+pub use Rattle.vm_ids.proofs.Ids.IdCounts.{ids_listed}
 -- The values of allocators and of ids nest few levels, and a text is parsed to the value that was written.
 pub use Rattle.vm_allocator.proofs.Reading.NestedValues.{addresses_nest, ids_nest, text_gives_again, text_has_value, allocator_through_text, ids_through_text}
 pub use Rattle.vm_ranges.proofs.ReadTexts.{parsed_again}
 -- The held ids are listed in ascending order, and equal states are the same.
-pub use Rattle.vm_allocator.proofs.Ids.HeldIds.{listed_held, in_held_ids}
-pub use Rattle.vm_allocator.proofs.Ids.ComparedIds.{id_state_cmp-Equal}
+pub use Rattle.vm_ids.proofs.Ids.HeldIds.{listed_held, in_held_ids}
+pub use Rattle.vm_ids.proofs.Ids.ComparedIds.{id_state_cmp-Equal}
 -- Maps with numbers as keys.
-pub use Rattle.vm_allocator.proofs.Ids.RisingIds.{keys_rise, entries_of_sorted, same_rising}
+pub use Rattle.vm_ids.proofs.Ids.RisingIds.{keys_rise, entries_of_sorted, same_rising}
 -- Decoding a value finds the range that it encodes.
 pub use Rattle.vm_ranges.proofs.ReadRanges.{found-states, states-found}
 
@@ -231,59 +229,6 @@ fits_again_or_limit mid new r (Err e) i h =
     (λ k. ⊎_elim (λ o. inl (cc o)) (λ o. inr (cc (o.1))) k)
     (i.by new (Err e) h)
 
--- ---- Ids
--- An allocated id was not held before, and is held after.
-pub id_was_free : (old new : IdState) (answer : Result ℕ Error) → AllocatesId old answer new → IfOk answer (λ id. ¬ IsHeld old id)
-unfolding AllocatesId ByLowestNotHeld IsLowestNotHeld
-id_was_free old new (Ok id) h =
-    ⊎_elim
-    (λ l. let e : l.0 ≡ id = cc (l.2.0) in subst (λ (v : ℕ). ¬ IsHeld old v) e l.1.0.1)
-    (λ r. absurd (⊎_elim (λ f. cc (f.1.0)) (λ f. cc (f.1.0)) r.1))
-    h
-id_was_free old new (Err e) h = tt
-
-pub id_is_held : (old new : IdState) (answer : Result ℕ Error) → AllocatesId old answer new → IfOk answer (λ id. IsHeld new id)
-unfolding AllocatesId ByLowestNotHeld
-id_is_held old new (Ok id) h =
-    ⊎_elim
-    (λ l.
-    let e : l.0 ≡ id = cc (l.2.0) in
-    let here : IsHeld (holding_id l.0 old) l.0 = inserted_here old.held l.0 in
-    subst (λ (v : IdState). IsHeld v id) (sym l.2.1) (subst (λ (v : ℕ). IsHeld (holding_id l.0 old) v) e here))
-    (λ r. absurd (⊎_elim (λ f. cc (f.1.0)) (λ f. cc (f.1.0)) r.1))
-    h
-id_is_held old new (Err e) h = tt
-
--- An allocated id is the lowest that was not held.
-pub id_is_lowest : (old new : IdState) (answer : Result ℕ Error) → AllocatesId old answer new → IfOk answer (λ id. IsLowestNotHeld old id)
-unfolding AllocatesId ByLowestNotHeld
-id_is_lowest old new (Ok id) h =
-    ⊎_elim
-    (λ l. let e : l.0 ≡ id = cc (l.2.0) in subst (IsLowestNotHeld old) e l.1)
-    (λ r. absurd (⊎_elim (λ f. cc (f.1.0)) (λ f. cc (f.1.0)) r.1))
-    h
-id_is_lowest old new (Err e) h = tt
-
--- Only this id is held in addition after the call.
-pub id_state : (old new : IdState) (answer : Result ℕ Error) → AllocatesId old answer new → IfOk answer (λ id. new ≡ holding_id id old)
-unfolding AllocatesId ByLowestNotHeld
-id_state old new (Ok id) h =
-    ⊎_elim
-    (λ l. let e : l.0 ≡ id = cc (l.2.0) in l.2.1 ∙ ap (λ (v : ℕ). holding_id v old) e)
-    (λ r. absurd (⊎_elim (λ f. cc (f.1.0)) (λ f. cc (f.1.0)) r.1))
-    h
-id_state old new (Err e) h = tt
-
--- A freed id is not held after the call, and nothing else changes.
-pub freed_id_state : (old new : IdState) (id : ℕ) (answer : Result ℕ Error) → FreesId old id answer new → IfOk answer (λ i. (i ≡ id) × (new ≡ releasing_id id old))
-unfolding FreesId
-freed_id_state old new id (Ok i) h =
-    ⊎_elim (λ a. absurd (cc (a.1.0))) (λ b.
-    ⊎_elim (λ a. absurd (cc (a.1.0))) (λ c.
-    ⊎_elim (λ a. absurd (cc (a.1.0))) (λ d.
-    ⊎_elim (λ k. (cc (k.0), k.1)) (λ k. absurd (cc (k.0))) d.1) c.1) b.1) h
-freed_id_state old new id (Err e) h = tt
-
 -- An allocated range was not held before.
 pub range_was_free : (old new : AddressState) (request : Request) (r : Range) → Allocates old request (Ok r) new → ¬ Contains old.held r
 unfolding IsPlace
@@ -313,16 +258,10 @@ frees_held old r c = releases_held old r (held_contains old.held r c)
 
 -- ---- Saved values
 -- The allocator that is read from a written value is the allocator that was written.
-pub ids_again : (d : Data) (old new : IdState) → EncodesIds d old → EncodesIds d new → new ≡ old
-ids_again d old new s t = one_encoded d new old t s
-
 pub addresses_again : (d : Data) (old new : AddressState) → EncodesAddresses d old → EncodesAddresses d new → new ≡ old
 addresses_again d old new s t = one_addresses d new old t s
 
 -- A state that a value encodes is valid.
-pub ids_encoded : (d : Data) (state : IdState) → EncodesIds d state → IsIdState state
-ids_encoded d state s = encoded_ids d state s
-
 pub addresses_encoded : (d : Data) (state : AddressState) → EncodesAddresses d state → IsAddressState state
 addresses_encoded d state s = encoded_addresses d state s
 

@@ -1,4 +1,3 @@
-pub mod Ids
 pub mod Decisions
 pub mod Results
 pub mod Histories

@@ -1,6 +1,2 @@
 pub mod AllocatorChecks
-pub mod IdChecks
-pub mod IdQueries
-pub mod FreedBetween
-pub mod FreedChecks
 pub mod FreeChecks

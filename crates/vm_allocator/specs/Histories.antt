@@ -1,2 +1,2 @@
 pub mod AddressHistories
-pub mod IdHistories
+pub use Rattle.vm_ids.specs.Histories.IdHistories

@@ -5,9 +5,10 @@ pub mod WindowLaws
 pub mod MoveLaws
 pub mod ValueLaws
 pub mod RestoredLaws
-pub mod IdLaws
-pub mod IdRequestLaws
-pub mod IdHistoryLaws
 pub use Rattle.vm_ranges.specs.RangeLaws
 pub use Rattle.vm_engine.specs.Laws.AddressLaws
 pub use Rattle.vm_engine.specs.Laws.QueryLaws
+pub use Rattle.vm_ids.specs.Laws.IdLaws
+pub use Rattle.vm_ids.specs.Laws.IdRequestLaws
+pub use Rattle.vm_ids.specs.Laws.IdHistoryLaws
+pub use Rattle.vm_ids.specs.Laws.IdPartLaws

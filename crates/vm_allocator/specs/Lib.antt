@@ -1,8 +1,4 @@
 pub mod Allocator
-pub mod Ids
-pub mod IdRequests
-pub mod IdOrder
-pub mod FreedLists
 pub mod Several
 pub mod Moves
 pub mod Conflicts
@@ -29,3 +25,7 @@ pub use Rattle.vm_engine.specs.Queries
 pub use Rattle.vm_engine.specs.Comparison
 pub use Rattle.vm_engine.specs.Tree
 pub use Rattle.vm_engine.specs.Counts
+pub use Rattle.vm_ids.specs.Ids
+pub use Rattle.vm_ids.specs.IdRequests
+pub use Rattle.vm_ids.specs.IdOrder
+pub use Rattle.vm_ids.specs.FreedLists

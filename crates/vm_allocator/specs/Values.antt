@@ -1,5 +1,5 @@
 pub mod RepairedValues
 pub mod AllocatorValues
-pub mod IdValues
 pub use Rattle.vm_ranges.specs.RangeValues
 pub use Rattle.vm_engine.specs.Values.TreeValues
+pub use Rattle.vm_ids.specs.Values.IdValues

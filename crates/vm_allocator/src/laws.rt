@@ -3,9 +3,6 @@
 //! Each law is the contract of a function that does nothing.
 mod gaps;
 mod histories;
-mod id_histories;
-mod id_requests;
-mod ids;
 mod moves;
 mod saved;
 mod several;

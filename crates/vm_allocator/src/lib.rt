@@ -6,14 +6,12 @@
 
 mod address_allocator;
 pub mod allocation_engine;
-mod id_allocator;
 mod laws;
 mod saved;
 
 pub use address_allocator::{AddressAllocator, Conflict};
-pub use id_allocator::{FreedIds, HeldIds, IdAllocator};
-pub use saved::ReadIds;
 pub use vm_engine::{Ranges, RangesIn, ReadNodes, Side, WrittenBlocks, WrittenNode, WrittenTree};
+pub use vm_ids::{FreedIds, HeldIds, IdAllocator, ReadIds};
 pub use vm_ranges::{
     AllocPolicy, Condition, Constraint, DEFAULT_CONSTRAINT_ALIGN, Error, ListError, RangeInclusive,
     Result, SavedError, ValueError,

@@ -1,7 +1,3 @@
-//! Saved values of both allocators, and of the address allocators that the Rust crate saved.
+//! Saved values of address allocators, and of those that the Rust crate saved.
 mod allocator;
-mod ids;
 mod nodes;
-mod read_ids;
-
-pub use read_ids::ReadIds;

@@ -8,10 +8,10 @@ use Rattle.std.specs.FinSet as set
 use Rattle.vm_ranges.specs.Range.{Range, MAX, Covers, address_count}
 use Rattle.vm_engine.specs.Address.{AddressState, holding, releasing}
 use Rattle.vm_engine.specs.Answer.{Makes, IsChosen, Allocates, Frees}
-use Rattle.vm_allocator.specs.Ids.{MAX_ID, IdState, IsHeld, MakesIds, new_ids, IsLowestNotHeld, ByLowestNotHeld, AllocatesId, holding_id, PeeksId, releasing_id}
+use Rattle.vm_ids.specs.Ids.{MAX_ID, IdState, IsHeld, MakesIds, new_ids, IsLowestNotHeld, ByLowestNotHeld, AllocatesId, holding_id, PeeksId, releasing_id}
 use Rattle.vm_ranges.specs.declared.error.Error.{Error}
 use Rattle.vm_engine.proofs.Results.AddressResults.{made_is, state_is_preserved, freeing_undoes}
-use Rattle.vm_allocator.proofs.Ids.IdResults.{id_states_are_preserved, peeking_predicts}
+use Rattle.vm_ids.proofs.Ids.IdResults.{id_states_are_preserved, peeking_predicts}
 use Rattle.vm_devices.specs.Devices.{DeviceState, IsDeviceState, MakesManager, IsDevice, with_device, without_device, Pairs, Reserves, Releases, devices_of}
 use Rattle.vm_ranges.specs.Request.{Request, MakesConstraint}
 use Rattle.vm_ranges.specs.declared.error.Error.TheVariants.{NeverAllocated, OutOfMemory}

@@ -1,16 +1,19 @@
 -- Facts of every history of a manager.
-use Rattle.std.proofs.Common.{◌≡◌, ◌≢◌, ℕ, ◌<◌, ◌⊎◌, List, [], ◌∷◌, suc, arith, sym, ap, ◌∙◌, inl, inr, ⊎_elim, subst, Some, Ok}
+use Rattle.std.proofs.Common.{◌≡◌, ◌≢◌, ℕ, ◌<◌, ◌⊎◌, List, [], ◌∷◌, suc, arith, sym, ap, ◌∙◌, inl, inr, ⊎_elim, subst, Some, Result, Ok}
 use Rattle.std.specs.Ordering.{nat_cmp}
 use Rattle.std.specs.FinMap as map
 use Rattle.vm_ranges.specs.Range.{Range, MAX, Overlaps, Covers}
 use Rattle.vm_engine.specs.Address.{holding}
-use Rattle.vm_allocator.specs.Ids.{IsOfRange}
+use Rattle.vm_ids.specs.Ids.{IsOfRange}
 use Rattle.vm_engine.proofs.Results.AddressResults.{lie_apart}
 use Rattle.vm_allocator.proofs.Callers.{given}
 use Rattle.vm_devices.specs.declared.device_slot.DeviceSlot.{DeviceSlot}
 use Rattle.vm_devices.specs.Devices.{DeviceState, IsDevice, IsDeviceState}
 use Rattle.vm_ranges.proofs.Clones.{cloning_keeps}
-use Rattle.vm_devices.specs.Histories.{DeviceCall, Reservation, Release, Cloning, IsDeviceCallFrom, IsDeviceHistoryFrom, IsManagerMade, BeginsWithDevices, AreDevicesReached, WasReserved, WasThereFirst}
+use Rattle.vm_ranges.proofs.Histories.{history_keeps}
+use Rattle.vm_ranges.specs.Request.{Request}
+use Rattle.vm_ranges.specs.declared.error.Error.{Error}
+use Rattle.vm_devices.specs.Histories.{Reserve, Release, Clone, DeviceCall, IsDeviceCallFrom, IsDeviceHistoryFrom, IsManagerMade, BeginsWithDevices, AreDevicesReached, WasReserved, WasThereFirst}
 use Rattle.vm_devices.specs.Laws.{DevicesAreValid}
 use Rattle.vm_devices.proofs.Tables.{with_cases, without_is}
 use Rattle.vm_devices.proofs.Pairs.{id_held}
@@ -18,14 +21,10 @@ use Rattle.vm_devices.proofs.DeviceCalls.{made_state, IsReserved, reserving_outc
 use Rattle.vm_devices.proofs.SavedManagers.{encoded_state}
 
 -- ---- Every reached state is valid
-call_state : (old new : DeviceState) (call : DeviceCall) → IsDeviceCallFrom old call new → IsDeviceState old → IsDeviceState new
-call_state old new (Reservation request answer) h i = reserved_state old new request answer i h
-call_state old new (Release id answer) h i = released_state old new id answer i h
-call_state old new (Cloning answer) h i = subst IsDeviceState (sym (cloning_keeps old new answer h.0 h.1)) i
-
-history_state : (calls : List DeviceCall) (first last : DeviceState) → IsDeviceHistoryFrom first calls last → IsDeviceState first → IsDeviceState last
-history_state [] first last h i = subst IsDeviceState (sym h) i
-history_state (call ∷ calls) first last h i = history_state calls h.0 last h.2 (call_state first h.0 call h.1 i)
+call_state : (call : DeviceCall) (old new : DeviceState) → IsDeviceState old → IsDeviceCallFrom old call new → IsDeviceState new
+call_state (Reserve request, answer) old new i h = reserved_state old new request answer i h
+call_state (Release id, answer) old new i h = released_state old new id answer i h
+call_state (Clone, answer) old new i h = subst IsDeviceState (sym (cloning_keeps old new answer h.0 h.1)) i
 
 first_state : (first : DeviceState) → IsManagerMade first ⊎ BeginsWithDevices first → IsDeviceState first
 first_state first (inl m) = (made_state m.lo m.hi m.base m.size first m.id m.word m.made).0
@@ -33,7 +32,7 @@ first_state first (inr (inl m)) = subst IsDeviceState (sym m.made.2) (record { i
 first_state first (inr (inr r)) = encoded_state r.value first r.encoded
 
 reached_state : (calls : List DeviceCall) (old : DeviceState) → AreDevicesReached calls old → IsDeviceState old
-reached_state calls old r = history_state calls r.first old r.history (first_state r.first r.begins)
+reached_state calls old r = history_keeps IsDeviceCallFrom IsDeviceState call_state calls r.first old (first_state r.first r.begins) r.history
 
 -- ---- Each device was reserved
 reserved_later : (call : DeviceCall) (calls : List DeviceCall) (id : ℕ) (r : Range) → WasReserved calls id r → WasReserved (call ∷ calls) id r
@@ -44,7 +43,7 @@ reserved_later call calls id r g =
 -- A device after a call was a device before it, or the call reserved it.
 call_reserves : (old new : DeviceState) (call : DeviceCall) (calls : List DeviceCall) (id : ℕ) (r : Range) → IsDeviceCallFrom old call new →
     IsDevice new id r → IsDevice old id r ⊎ WasReserved (call ∷ calls) id r
-call_reserves old new (Reservation request answer) calls id r h d =
+call_reserves old new (Reserve request, answer) calls id r h d =
     ⊎_elim
     (λ refused. inl (rw refused.2 at d))
     (λ made.
@@ -53,9 +52,10 @@ call_reserves old new (Reservation request answer) calls id r h d =
     (λ same.
     let is : slot ≡ record { id = id; range = r } = λ k. record { id = sym same.0 k; range = sym same.1 k } in
     let m = subst (λ (s : DeviceSlot). IsReserved old request s new) is made.2 in
+    let call_of : Request → Result DeviceSlot Error → DeviceCall = λ q x. (Reserve q, x) in
     inr (record {
       request = request;
-      call = (0, omega arith, ap (Reservation request) (made.1 ∙ ap (λ (s : DeviceSlot). Ok s) is));
+      call = (0, omega arith, ap (call_of request) (made.1 ∙ ap (λ (s : DeviceSlot). Ok s) is));
       aligned = m.fits.1;
       long = (given old.space (holding r old.space) request r m.given).long;
       inside = m.inside;
@@ -63,9 +63,9 @@ call_reserves old new (Reservation request answer) calls id r h d =
     (λ before. inl before)
     (with_cases old.devices slot.id slot.range id r (rw made.2.left at d)))
     (reserving_outcome old new request answer h)
-call_reserves old new (Release q answer) calls id r h d =
+call_reserves old new (Release q, answer) calls id r h d =
     inl (⊎_elim (λ refused. rw refused.2 at d) (λ left. (without_is old.devices q id r (rw left.3 at d)).1) (releasing_outcome old new q answer h))
-call_reserves old new (Cloning answer) calls id r h d = inl (rw (cloning_keeps old new answer h.0 h.1) at d)
+call_reserves old new (Clone, answer) calls id r h d = inl (rw (cloning_keeps old new answer h.0 h.1) at d)
 
 history_reserves : (calls : List DeviceCall) (first last : DeviceState) (id : ℕ) (r : Range) → IsDeviceHistoryFrom first calls last →
     IsDevice last id r → IsDevice first id r ⊎ WasReserved calls id r

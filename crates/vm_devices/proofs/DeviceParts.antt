@@ -5,8 +5,9 @@ use Rattle.vm_ranges.specs.Range.{Range}
 use Rattle.vm_ranges.specs.Request.{Request}
 use Rattle.vm_ranges.specs.declared.error.Error.{Error}
 use Rattle.vm_ranges.specs.declared.error.Error.TheVariants.{OutOfMemory}
-use Rattle.vm_engine.specs.Counts.Parts.{Allocating, Freeing, HasParts, TakesParts}
-use Rattle.vm_engine.proofs.Counts.TakenParts.{parts_then, no_parts, allocated_only}
+use Rattle.vm_engine.specs.Counts.Parts.{Allocating, Freeing, HasPart, HasParts, TakesParts}
+use Rattle.vm_ranges.proofs.Histories.{history_append}
+use Rattle.vm_engine.proofs.Counts.TakenParts.{no_parts, allocated_only}
 use Rattle.vm_allocator.proofs.TakenParts.{allocated_and_freed}
 use Rattle.vm_allocator.specs.Allocator.{SpaceInTree}
 use Rattle.vm_devices.specs.Manager.{DevicesInTree, GivesBack, ReservesInParts}
@@ -35,7 +36,7 @@ pub range_returned : (old new : DevicesInTree) (mid : SpaceInTree) (request : Re
 range_returned old new mid request r freed is first second same =
     let free : (m : ℕ) × HasParts mid.tree (Freeing r m ∷ []) new.addresses.tree =
     subst (λ (v : Result (Unit {0}) Error). OnOk v ((m : ℕ) × HasParts mid.tree (Freeing r m ∷ []) new.addresses.tree)) is second in
-    let both = parts_then old.addresses.tree mid.tree new.addresses.tree (Allocating request (Ok r) first.0 ∷ []) (Freeing r free.0) first.1 free.1 in
+    let both = history_append HasPart (Allocating request (Ok r) first.0 ∷ []) (Freeing r free.0 ∷ []) old.addresses.tree mid.tree new.addresses.tree first.1 free.1 in
     let back : GivesBack old.addresses.tree request new.addresses.tree = (r, first.0, free.0, both) in
     record {
       parts = allocated_and_freed old.addresses mid new.addresses request (Ok r) r freed first second same;

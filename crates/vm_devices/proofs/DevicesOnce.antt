@@ -1,16 +1,21 @@
 -- A call of a manager has one result, if memory suffices.
-use Rattle.std.proofs.Common.{◌≡◌, ◌≢◌, ℕ, sym, ap, ◌∙◌, arith, Result, Ok, Err}
+use Rattle.std.proofs.Common.{◌≡◌, ◌≢◌, ℕ, sym, ap, ◌∙◌, arith, ⊎_elim, Result, Ok, Err}
 use Rattle.vm_ranges.specs.Range.{Range}
 use Rattle.vm_ranges.specs.Request.{Request}
 use Rattle.vm_engine.specs.Address.{AddressState}
-use Rattle.vm_allocator.specs.Ids.{IdState}
+use Rattle.vm_ids.specs.Ids.{IdState}
 use Rattle.vm_ranges.specs.declared.error.Error.{Error}
 use Rattle.vm_ranges.specs.declared.error.Error.TheVariants.{OutOfMemory}
 use Rattle.vm_allocator.proofs.Results.InMemory.{placed_once, made_once}
-use Rattle.vm_allocator.proofs.Ids.IdResults.{making_is_determined, by_same_lowest}
+use Rattle.vm_ids.proofs.Ids.IdResults.{making_is_determined, by_same_lowest}
 use Rattle.vm_devices.specs.declared.device_slot.DeviceSlot.{DeviceSlot}
 use Rattle.vm_devices.specs.Devices.{DeviceState, made_devices, MakesManager, Pairs, Reserves, Releases}
+use Rattle.vm_ranges.specs.Histories.{ErrorsChangeNothing, CallsAreDetermined, SameCallsSameResults}
+use Rattle.vm_ranges.proofs.Clones.{cloning_keeps, clones_once}
+use Rattle.vm_ranges.proofs.Histories.{same_results}
+use Rattle.vm_devices.specs.Histories.{Reserve, Release, Clone, IsDeviceCallFrom}
 use Rattle.vm_devices.specs.Laws.{DevicesDecide}
+use Rattle.vm_devices.proofs.DeviceCalls.{reserving_unchanged, releasing_outcome}
 
 made_with : (ids : Result IdState Error) (x y : Result AddressState Error) (answer other : Result DeviceState Error) → answer ≢ Err OutOfMemory → other ≢ Err OutOfMemory →
     (x ≢ Err OutOfMemory → y ≢ Err OutOfMemory → x ≡ y) → answer ≡ made_devices ids x → other ≡ made_devices ids y → answer ≡ other
@@ -49,5 +54,21 @@ released_once : (old new later : DeviceState) (id : ℕ) (answer other : Result 
 unfolding Releases
 released_once old new later id answer other p q a b = grind arith
 
+call_once : CallsAreDetermined IsDeviceCallFrom
+call_once old new later (Reserve request) x y p q a b = reserved_once old new later request x y p q a b
+call_once old new later (Release id) x y p q a b = released_once old new later id x y p q a b
+call_once old new later Clone x y p q a b = clones_once old new later x y p q a b
+
 pub devices_decide : DevicesDecide
-devices_decide = record { made = manager_once; reserved = reserved_once; released = released_once }
+devices_decide = record { made = manager_once; called = call_once }
+
+pub same_device_results : SameCallsSameResults IsDeviceCallFrom
+same_device_results = same_results IsDeviceCallFrom call_once
+
+-- ---- An error changes nothing
+pub errors_change_nothing : ErrorsChangeNothing IsDeviceCallFrom
+errors_change_nothing old new (Reserve request) e h = reserving_unchanged old new request e h
+errors_change_nothing old new (Release id) e h = ⊎_elim (λ refused. refused.2) (λ left. absurd (cc (left.2))) (releasing_outcome old new id (Err e) h)
+errors_change_nothing old new Clone e h = cloning_keeps old new (Err e) h.0 h.1
+
+pub ruleset decides = (devices_decide, same_device_results, errors_change_nothing)

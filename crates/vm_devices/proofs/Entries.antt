@@ -18,7 +18,7 @@ use Rattle.vm_ranges.specs.Range.{Range}
 use Rattle.vm_allocator.proofs.Callers.{keys_rise, entries_of_sorted, ranges_listed, ids_listed}
 use Rattle.vm_devices.specs.Queries.{device_of, entry_of}
 use Rattle.vm_engine.specs.Address.{AddressState, IsAddressState}
-use Rattle.vm_allocator.specs.Ids.{IdState, IsHeld, held_count}
+use Rattle.vm_ids.specs.Ids.{IdState, IsHeld, held_count}
 use Rattle.vm_devices.specs.Devices.{DeviceState, ArePaired}
 
 found : (q : ℕ) (es : List (ℕ × Range)) → map.find nat_cmp q es ≡ lookup (eq_by_cmp nat_cmp q) es

@@ -1,21 +1,22 @@
 -- Every call of a manager has a result, so every list of calls has a history.
-use Rattle.std.proofs.Common.{◌≡◌, ◌≢◌, ℕ, [], ◌∷◌, refl, ap, arith, inl, Option, Some, None, Result, Ok, Err}
-use Rattle.std.proofs.lemmas.List.Elements.{All-nil, All-cons}
+use Rattle.std.proofs.Common.{◌≡◌, ◌≢◌, ℕ, refl, ap, arith, inl, Option, Some, None, Result, Ok, Err}
 use Rattle.std.specs.FinMap as map
 use Rattle.vm_ranges.specs.Range.{Range}
 use Rattle.vm_ranges.specs.Request.{Request}
 use Rattle.vm_engine.specs.Address.{AddressState}
 use Rattle.vm_engine.specs.Answer.{Allocates}
-use Rattle.vm_allocator.specs.Ids.{IdState, PeeksId, ByLowestNotHeld}
+use Rattle.vm_ids.specs.Ids.{IdState, PeeksId}
 use Rattle.vm_ranges.specs.declared.error.Error.{Error}
 use Rattle.vm_ranges.specs.declared.error.Error.TheVariants.{NeverAllocated, OutOfMemory}
-use Rattle.vm_allocator.proofs.Results.InMemory.{makes_ids_no_memory}
+use Rattle.vm_allocator.specs.Histories.AddressHistories.{Allocate}
 use Rattle.vm_allocator.proofs.Results.EveryAddressCall.{every_call}
-use Rattle.vm_allocator.proofs.Ids.EveryIdCall.{every_call as every_id_call}
+use Rattle.vm_ids.proofs.Ids.EveryIdCall.{every_call as every_id_call}
 use Rattle.vm_devices.specs.declared.device_slot.DeviceSlot.{DeviceSlot}
 use Rattle.vm_devices.specs.Devices.{DeviceState, made_devices, with_device, without_device, MakesManager, Reserves, Releases}
-use Rattle.vm_devices.specs.Histories.{DeviceCall, Reservation, Release, Cloning, DeviceAsked, Reserve, GiveBack, Clone, device_asked_by, RunsOutOfMemory, IsDeviceCallFrom}
-use Rattle.vm_devices.specs.Laws.{EveryDeviceCallIsAnswered, EveryDeviceListHasHistory}
+use Rattle.vm_devices.specs.Histories.{Reserve, Release, Clone, IsDeviceCallFrom}
+use Rattle.vm_devices.specs.Laws.{EveryDeviceCallIsAnswered}
+use Rattle.vm_ranges.specs.Histories.{EveryCallIsAnswered, EveryListHasHistory}
+use Rattle.vm_ranges.proofs.Histories.{every_list}
 use Rattle.vm_devices.proofs.DeviceCalls.{id_refused, id_peeked}
 
 -- ---- Creating
@@ -27,7 +28,7 @@ unfolding MakesManager
 total_makes lo hi base size =
     let ids = every_id_call.made lo hi in
     let space = every_call.made base size in
-    (made_devices ids.0 space.0, (ids.0, space.0, ids.1, space.1, refl), made_plainly ids.0 space.0 (makes_ids_no_memory lo hi ids.0 ids.1) space.2)
+    (made_devices ids.0 space.0, (ids.0, space.0, ids.1, space.1, refl), made_plainly ids.0 space.0 ids.2 space.2)
 
 -- ---- Reserving
 -- The request has a result other than OutOfMemory, and a next state.
@@ -42,18 +43,13 @@ with_id old request id (Err e) space p a plain =
 with_id old request id (Ok r) space p a plain =
     (Ok (record { id = id; range = r }), with_device id r old, id_peeked old (with_device id r old) request id space (Ok r) _ p a (inl (refl, refl)), λ h. cc (h))
 
--- `peek_id` does not run out of memory.
-peeked_plainly : (ids : IdState) → ¬ PeeksId ids (Err OutOfMemory)
-unfolding PeeksId ByLowestNotHeld
-peeked_plainly ids p = grind arith
-
-by_peeking : (old : DeviceState) (request : Request) (peeked : Result ℕ Error) → PeeksId old.ids peeked → IsAnswered old request
-by_peeking old request (Err e) p =
-    (Err e, old, id_refused old old request e p refl, λ h. let same : e ≡ OutOfMemory = cc (h) in peeked_plainly old.ids (rw same at p))
-by_peeking old request (Ok id) p = let a = every_call.allocated old.space request in with_id old request id a.0 a.1 p a.2 a.3
+by_peeking : (old : DeviceState) (request : Request) (peeked : Result ℕ Error) → PeeksId old.ids peeked → peeked ≢ Err OutOfMemory → IsAnswered old request
+by_peeking old request (Err e) p plain =
+    (Err e, old, id_refused old old request e p refl, λ h. let same : e ≡ OutOfMemory = cc (h) in plain (ap (λ (v : Error). Err v) same))
+by_peeking old request (Ok id) p plain = let a = every_call.called old.space (Allocate request) in with_id old request id a.0 a.1 p a.2 a.3
 
 total_reserves : (old : DeviceState) (request : Request) → IsAnswered old request
-total_reserves old request = let p = every_id_call.peeked old.ids in by_peeking old request p.0 p.1
+total_reserves old request = let p = every_id_call.peeked old.ids in by_peeking old request p.0 p.1 p.2
 
 -- ---- Releasing
 total_releases_at : (old : DeviceState) (id : ℕ) (at : Option Range) → map.get old.devices id ≡ at →
@@ -62,26 +58,15 @@ unfolding Releases
 total_releases_at old id None e = (Err (NeverAllocated id), old, rw e (refl, refl), λ h. cc (h))
 total_releases_at old id (Some r) e = (Ok tt, without_device id r old, rw e (inl (refl, refl)), λ h. cc (h))
 
+total_call : EveryCallIsAnswered IsDeviceCallFrom
+total_call old (Reserve request) = total_reserves old request
+total_call old (Release id) = total_releases_at old id (map.get old.devices id) refl
+total_call old Clone = (Ok old, old, (inl refl, refl), λ h. cc (h))
+
 pub every_device_call : EveryDeviceCallIsAnswered
-every_device_call = record {
-  made = total_makes;
-  reserved = total_reserves;
-  released = λ old id. total_releases_at old id (map.get old.devices id) refl;
-  cloned = λ old. (Ok old, inl refl, λ h. cc (h));
-}
+every_device_call = record { made = total_makes; called = total_call }
 
--- ---- Each list of calls has a history
-total_call : (old : DeviceState) (asked : DeviceAsked) →
-    (call : DeviceCall) × (new : DeviceState) × IsDeviceCallFrom old call new × (device_asked_by call ≡ asked) × ¬ RunsOutOfMemory call
-total_call old (Reserve request) = let a = total_reserves old request in (Reservation request a.0, a.1, a.2, refl, a.3)
-total_call old (GiveBack id) = let f = every_device_call.released old id in (Release id f.0, f.1, f.2, refl, f.3)
-total_call old Clone = (Cloning (Ok old), old, (inl refl, refl), refl, λ h. cc (h))
+pub every_list_of_devices : EveryListHasHistory IsDeviceCallFrom
+every_list_of_devices = every_list IsDeviceCallFrom total_call
 
-pub every_list : EveryDeviceListHasHistory
-every_list old [] = ([], old, refl, refl, All-nil _)
-every_list old (asked ∷ more) =
-    let a = total_call old asked in
-    let rest = every_list a.1 more in
-    (a.0 ∷ rest.0, rest.1, (a.1, a.2, rest.2), (λ i. a.3 i ∷ rest.3 i), All-cons (λ call. ¬ RunsOutOfMemory call) a.0 rest.0 a.4 rest.4)
-
-pub ruleset answers = (every_device_call, every_list)
+pub ruleset answers = (every_device_call, every_list_of_devices)

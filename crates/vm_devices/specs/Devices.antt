@@ -8,7 +8,7 @@ use Rattle.vm_ranges.specs.Range.{Range, range_code}
 use Rattle.vm_engine.specs.Address.{AddressState, address_state_code, IsAddressState, holding, releasing}
 use Rattle.vm_ranges.specs.Request.{Request}
 use Rattle.vm_engine.specs.Answer.{Allocates, Makes}
-use Rattle.vm_allocator.specs.Ids.{IdState, id_state_code, IsHeld, IsIdState, MakesIds, ByLowestNotHeld, holding_id, releasing_id}
+use Rattle.vm_ids.specs.Ids.{IdState, id_state_code, IsHeld, IsIdState, MakesIds, ByLowestNotHeld, holding_id, releasing_id}
 use Rattle.vm_ranges.specs.declared.error.Error.{Error}
 use Rattle.vm_ranges.specs.declared.error.Error.TheVariants.{NeverAllocated, OutOfMemory}
 use Rattle.vm_devices.specs.declared.device_slot.DeviceSlot.{DeviceSlot}

@@ -1,56 +1,45 @@
 -- Histories of a manager of devices: lists of calls with their results.
-use Rattle.std.specs.Prelude.{◌≡◌, ℕ, ◌%◌, ◌≤◌, ◌⊎◌, List, [], ◌∷◌, Result, Ok, Err, IfSome}
+use Rattle.std.specs.Prelude.{◌≡◌, ℕ, ◌%◌, ◌≤◌, ◌⊎◌, List, Ok, IfSome}
 use Rattle.std.specs.List.{Contains}
 use Rattle.std.specs.Result.{result_unwrap_or}
 use Rattle.serde_json.specs.Data.{Data}
 use Rattle.vm_ranges.specs.Range.{Range, MAX, Covers, span}
 use Rattle.vm_ranges.specs.Request.{Request}
 use Rattle.vm_ranges.specs.Cloning.{Clones}
+use Rattle.vm_ranges.specs.Histories.{CallOf, IsHistory}
 use Rattle.vm_engine.specs.Address.{AddressState, IsAddressState}
-use Rattle.vm_allocator.specs.Ids.{MAX_ID, IdState, IsIdState}
-use Rattle.vm_ranges.specs.declared.error.Error.{Error}
-use Rattle.vm_ranges.specs.declared.error.Error.TheVariants.{OutOfMemory}
+use Rattle.vm_ids.specs.Ids.{MAX_ID, IdState, IsIdState}
 use Rattle.vm_devices.specs.declared.device_slot.DeviceSlot.{DeviceSlot}
 use Rattle.vm_devices.specs.Devices.{DeviceState, IsDevice, MakesManager, Reserves, Releases}
 use Rattle.vm_devices.specs.Listed.{MakesOfDevices}
 use Rattle.vm_devices.specs.Saved.{EncodesManager}
 
--- A call with its result: a reservation by a request, a release by an id, or the creation of a clone.
-pub data DeviceCall : Type 0 where
-  Reservation : Request → Result DeviceSlot Error → DeviceCall
-  Release : ℕ → Result (Unit {0}) Error → DeviceCall
-  Cloning : Result DeviceState Error → DeviceCall
-
--- A call without its result.
+-- A call without its result: a reservation by a request, a release by an id, or the creation of a clone.
 pub data DeviceAsked : Type 0 where
   Reserve : Request → DeviceAsked
-  GiveBack : ℕ → DeviceAsked
+  Release : ℕ → DeviceAsked
   Clone : DeviceAsked
 
--- The call without its result.
-abbrev pub device_asked_by : DeviceCall → DeviceAsked
-device_asked_by (Reservation request answer) = Reserve request
-device_asked_by (Release id answer) = GiveBack id
-device_asked_by (Cloning answer) = Clone
+-- The type of the value that a call returns: a device, nothing, or the state of a clone.
+abbrev pub DeviceValue : DeviceAsked → Type 0
+DeviceValue (Reserve request) = DeviceSlot
+DeviceValue (Release id) = Unit {0}
+DeviceValue Clone = DeviceState
 
--- The call returned OutOfMemory.
-abbrev pub RunsOutOfMemory : DeviceCall → Type 0
-RunsOutOfMemory (Reservation request answer) = answer ≡ Err OutOfMemory
-RunsOutOfMemory (Release id answer) = answer ≡ Err OutOfMemory
-RunsOutOfMemory (Cloning answer) = answer ≡ Err OutOfMemory
+-- A call with its result.
+abbrev pub DeviceCall : Type 0
+DeviceCall = CallOf DeviceValue
 
 -- In the state old the call has its result, and leaves the state new. After a clone is made, new is the state of the
 -- clone.
 abbrev pub IsDeviceCallFrom : DeviceState → DeviceCall → DeviceState → Type 0
-IsDeviceCallFrom old (Reservation request answer) new = Reserves old request answer new
-IsDeviceCallFrom old (Release id answer) new = Releases old id answer new
-IsDeviceCallFrom old (Cloning answer) new = Clones old answer × (new ≡ result_unwrap_or answer old)
+IsDeviceCallFrom old (Reserve request, answer) new = Reserves old request answer new
+IsDeviceCallFrom old (Release id, answer) new = Releases old id answer new
+IsDeviceCallFrom old (Clone, answer) new = Clones old answer × (new ≡ result_unwrap_or answer old)
 
 -- The calls lead from the state old to the state new: each begins in the state that the call before it left.
 abbrev pub IsDeviceHistoryFrom : DeviceState → List DeviceCall → DeviceState → Type 0
-IsDeviceHistoryFrom old [] new = new ≡ old
-IsDeviceHistoryFrom old (call ∷ calls) new =
-    (mid : DeviceState) × IsDeviceCallFrom old call mid × IsDeviceHistoryFrom mid calls new
+IsDeviceHistoryFrom = IsHistory IsDeviceCallFrom
 
 -- The state of a new manager.
 pub record IsManagerMade (state : DeviceState) : Type 0 where
@@ -91,7 +80,7 @@ pub record AreDevicesReached (calls : List DeviceCall) (state : DeviceState) : T
 -- window of the request, if it has one.
 pub record WasReserved (calls : List DeviceCall) (id : ℕ) (r : Range) : Type 0 where
   pub request : Request
-  pub call : Contains calls (Reservation request (Ok (record { id = id; range = r })))
+  pub call : Contains calls (Reserve request, Ok (record { id = id; range = r }))
   pub aligned : r.start % request.align ≡ 0
   pub long : r ≡ span r.start request.size
   pub inside : IfSome request.window (λ window. Covers window r)

@@ -1,6 +1,6 @@
 -- Laws of every history of a manager of devices that was made or read.
 use Rattle.std.specs.Prelude.{◌≡◌, ◌≢◌, ℕ, ◌<◌, ◌≤◌, ◌⊎◌, ◌↔◌, List, ◌∷◌, ◌++◌, map, length, Option, Some, Result, Ok, Err, MatchResult}
-use Rattle.std.specs.List.{All, Contains}
+use Rattle.std.specs.List.{Contains}
 use Rattle.serde_json.specs.Data.{Data}
 use Rattle.serde_json.specs.Errors.{IsMemory}
 use Rattle.serde_json.specs.View.{view}
@@ -8,10 +8,10 @@ use Rattle.serde_json.specs.declared.error.Error as json
 use Rattle.serde_json.specs.declared.value.Value.{Value}
 use Rattle.vm_ranges.specs.Range.{Range, MAX, IsIn, Overlaps, Covers, address_count}
 use Rattle.vm_ranges.specs.Request.{Request, request_for}
-use Rattle.vm_ranges.specs.Cloning.{Clones}
+use Rattle.vm_ranges.specs.Histories.{EveryCallIsAnswered, CallsAreDetermined}
 use Rattle.vm_ranges.specs.Texts.{IsTextOf, Parses}
 use Rattle.vm_engine.specs.Answer.{SPLIT_LIMIT_MIN_HELD}
-use Rattle.vm_allocator.specs.Ids.{IsOfRange, held_count, held_ids}
+use Rattle.vm_ids.specs.Ids.{IsOfRange, held_count, held_ids}
 use Rattle.vm_ranges.specs.declared.error.Error.{Error}
 use Rattle.vm_ranges.specs.declared.error.Error.TheVariants.{Overflow, OutOfMemory}
 use Rattle.vm_ranges.specs.declared.saved.SavedError.{SavedError}
@@ -24,7 +24,7 @@ use Rattle.vm_devices.specs.Devices.{DeviceState, IsDevice, IsDeviceState, Makes
 use Rattle.vm_devices.specs.Listed.{HaveAscendingIds, PushesDevice, listed_state, AreDevicesOf, MakesOfDevices}
 use Rattle.vm_devices.specs.Queries.{device_list, device_count, DeviceAt}
 use Rattle.vm_devices.specs.Saved.{EncodesManager, ReadsInParts}
-use Rattle.vm_devices.specs.Histories.{DeviceCall, DeviceAsked, device_asked_by, RunsOutOfMemory, IsDeviceHistoryFrom, AreDevicesReached, WasReserved, WasThereFirst}
+use Rattle.vm_devices.specs.Histories.{DeviceCall, IsDeviceCallFrom, AreDevicesReached, WasReserved, WasThereFirst}
 
 -- In every history the devices pair the held ids with the held ranges, and no two devices share an address. Each device
 -- has an id of the range and a range in the space, below MAX. It was reserved as requested, or was there from the start.
@@ -65,32 +65,13 @@ pub record DevicesDecide : Type 0 where
   pub made : (lo hi base size : ℕ) (answer other : Result DeviceState Error) →
       answer ≢ Err OutOfMemory → other ≢ Err OutOfMemory →
       MakesManager lo hi base size answer → MakesManager lo hi base size other → answer ≡ other
-  pub reserved : (old new later : DeviceState) (request : Request) (answer other : Result DeviceSlot Error) →
-      answer ≢ Err OutOfMemory → other ≢ Err OutOfMemory →
-      Reserves old request answer new → Reserves old request other later → (answer ≡ other) × (new ≡ later)
-  pub released : (old new later : DeviceState) (id : ℕ) (answer other : Result (Unit {0}) Error) →
-      answer ≢ Err OutOfMemory → other ≢ Err OutOfMemory →
-      Releases old id answer new → Releases old id other later → (answer ≡ other) × (new ≡ later)
+  pub called : CallsAreDetermined IsDeviceCallFrom
 
--- In every state each call has a result other than OutOfMemory.
+-- In every state each call has a result other than OutOfMemory. So has the creation of a manager.
 pub record EveryDeviceCallIsAnswered : Type 0 where
   pub made : (lo hi base size : ℕ) →
       (answer : Result DeviceState Error) × MakesManager lo hi base size answer × (answer ≢ Err OutOfMemory)
-  pub reserved : (old : DeviceState) (request : Request) →
-      (answer : Result DeviceSlot Error) × (new : DeviceState) ×
-      Reserves old request answer new × (answer ≢ Err OutOfMemory)
-  pub released : (old : DeviceState) (id : ℕ) →
-      (answer : Result (Unit {0}) Error) × (new : DeviceState) ×
-      Releases old id answer new × (answer ≢ Err OutOfMemory)
-  pub cloned : (old : DeviceState) →
-      (answer : Result DeviceState Error) × Clones old answer × (answer ≢ Err OutOfMemory)
-
--- Every list of calls has a history in which no call returns OutOfMemory.
-abbrev pub EveryDeviceListHasHistory : Type 0
-EveryDeviceListHasHistory =
-    (old : DeviceState) (asked : List DeviceAsked) →
-    (calls : List DeviceCall) × (new : DeviceState) × IsDeviceHistoryFrom old calls new ×
-    (map device_asked_by calls ≡ asked) × All (λ call. ¬ RunsOutOfMemory call) calls
+  pub called : EveryCallIsAnswered IsDeviceCallFrom
 
 -- The value that was written for a manager is read as this manager, unless memory runs out. A value encodes at most one
 -- manager.

@@ -9,7 +9,7 @@ use Rattle.vm_ranges.specs.declared.error.Error.{Error}
 use Rattle.vm_ranges.specs.declared.error.Error.TheVariants.{OutOfMemory}
 use Rattle.vm_tree.specs.Shape.{Shape}
 use Rattle.vm_engine.specs.Counts.Parts.{Allocating, Freeing, HasParts, TakesParts}
-use Rattle.vm_allocator.specs.Ids.{IdState, id_state_code}
+use Rattle.vm_ids.specs.Ids.{IdState, id_state_code}
 use Rattle.vm_allocator.specs.Allocator.{SpaceInTree, space_code, state_of}
 use Rattle.vm_devices.specs.Devices.{DeviceState, devices_of}
 use Rattle.vm_devices.specs.declared.device_slot.DeviceSlot.{DeviceSlot}

@@ -9,10 +9,10 @@ use Rattle.vm_ranges.specs.Fields.{field_count, FieldIs}
 use Rattle.vm_ranges.specs.Lists.{EncodesListOf}
 use Rattle.vm_ranges.specs.Numbers.{number_in}
 use Rattle.vm_ranges.specs.Range.{Range}
-use Rattle.vm_allocator.specs.Ids.{MAX_ID}
+use Rattle.vm_ids.specs.Ids.{MAX_ID}
 use Rattle.vm_ranges.specs.RangeValues.{EncodesRange}
 use Rattle.vm_allocator.specs.Values.AllocatorValues.{EncodesAddresses}
-use Rattle.vm_allocator.specs.Values.IdValues.{EncodesIds}
+use Rattle.vm_ids.specs.Values.IdValues.{EncodesIds}
 use Rattle.vm_ranges.specs.declared.saved.ValueError.{ValueError}
 use Rattle.vm_ranges.specs.declared.saved.ValueError.TheVariants.{NotAState, OutOfMemory}
 use Rattle.vm_devices.specs.Devices.{DeviceState, ArePaired}

@@ -16,7 +16,7 @@ use Rattle.vm_ranges.specs.declared.saved.SavedError.{SavedError}
 use Rattle.vm_ranges.specs.declared.saved.SavedError.TheVariants.{Violated, OutOfMemory}
 use Rattle.vm_engine.specs.Address.{AddressState}
 use Rattle.vm_allocator.specs.Checks.AllocatorChecks.{WritesAllocator}
-use Rattle.vm_allocator.specs.Ids.{IdState, IsHeld}
+use Rattle.vm_ids.specs.Ids.{IdState, IsHeld}
 use Rattle.vm_leaf.specs.declared.block.Block.{Block}
 use Rattle.vm_devices.specs.declared.device_slot.DeviceSlot.{DeviceSlot}
 use Rattle.vm_devices.specs.Checks.{StartsAt}

@@ -1,13 +1,14 @@
 //! Laws: theorems about the definitions that the contracts of the calls cite.
 //!
 //! Each law is the contract of a function that does nothing.
+ghost use Rattle.vm_ranges.specs.Histories.{ErrorsChangeNothing, EveryListHasHistory, SameCallsSameResults};
+ghost use Rattle.vm_devices.specs.Histories.{IsDeviceCallFrom};
 ghost use Rattle.vm_devices.specs.Laws.{
   DevicesAreValid,
   ReservedAgain,
   RangeIsReservedAgain,
   DevicesDecide,
   EveryDeviceCallIsAnswered,
-  EveryDeviceListHasHistory,
   ManagerIsReadAgain,
   ManagerIsReadFromText,
   DevicesAreListed,
@@ -33,17 +34,20 @@ fn released_devices_are_reserved_again()
     ensures range { RangeIsReservedAgain }
 {}
 
-/// Proves that the result of a call depends only on ids, space and devices, if memory suffices.
-#[tactic(auto, using(crate::proofs::DevicesOnce::devices_decide))]
+/// Proves that the result of a call depends only on ids, space and devices, if memory suffices, and
+/// that an error changes nothing.
+#[tactic(auto, using(crate::proofs::DevicesOnce::decides))]
 fn devices_decide()
-    ensures { DevicesDecide }
+    ensures call { DevicesDecide }
+    ensures list { SameCallsSameResults IsDeviceCallFrom }
+    ensures errors { ErrorsChangeNothing IsDeviceCallFrom }
 {}
 
 /// Proves that every call has a result in every state, so every list of calls has a history.
 #[tactic(auto, using(crate::proofs::EveryDeviceCall::answers))]
 fn every_call_is_answered()
     ensures call { EveryDeviceCallIsAnswered }
-    ensures list { EveryDeviceListHasHistory }
+    ensures list { EveryListHasHistory IsDeviceCallFrom }
 {}
 
 /// Proves that a manager that was written is read again, and that a value encodes at most one

@@ -9,5 +9,4 @@ pub mod Parts
 pub mod Known
 pub mod Progress
 pub mod OneText
-pub mod SomeResult
 pub mod SomeText

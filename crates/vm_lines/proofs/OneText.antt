@@ -3,17 +3,18 @@ use Rattle.std.proofs.Common.{◌≡◌, ◌≢◌, ℕ, ◌↔◌, Bool, true, 
 use Rattle.std.specs.Prelude.{IsTrue}
 use Rattle.vm_engine.specs.Address.{AddressState}
 use Rattle.vm_ranges.specs.Request.{Request, request_for}
-use Rattle.vm_allocator.specs.Ids.{IdState, IsHeld}
+use Rattle.vm_ids.specs.Ids.{IdState, IsHeld}
 use Rattle.vm_ranges.specs.declared.constraint.AllocPolicy.TheVariants.{FirstMatch, LastMatch, ExactMatch}
 use Rattle.vm_ranges.specs.declared.error.Error.{Error}
 use Rattle.vm_ranges.specs.declared.error.Error.TheVariants.{OutOfMemory}
 use Rattle.vm_ranges.proofs.TwoFacts.{unless_same}
 use Rattle.vm_engine.proofs.Results.Once.{frees_once}
 use Rattle.vm_allocator.proofs.Results.InMemory.{placed_once, made_once}
-use Rattle.vm_allocator.proofs.Ids.IdResults.{making_is_determined, allocating_is_determined, freeing_is_determined}
+use Rattle.vm_ids.proofs.Ids.IdResults.{making_is_determined, allocating_is_determined, freeing_is_determined}
 use Rattle.vm_lines.specs.Commands.{command_of}
 use Rattle.vm_lines.specs.Lines.{newline}
 use Rattle.vm_devices.specs.Devices.{DeviceState}
+use Rattle.vm_devices.specs.Histories.{Reserve, Release}
 use Rattle.vm_devices.proofs.DevicesOnce.{devices_decide}
 use Rattle.vm_lines.specs.Machines.{Machine, start, with_space, with_ids, with_devices, OnPart, OnSpace, OnIds, OnDevices, AllocatesRange, FreesRange, Does}
 use Rattle.vm_lines.specs.Replies.{text_of, done_reply, range_reply, id_reply, device_reply}
@@ -127,11 +128,11 @@ does_once (Manager id_lo id_hi base size) old m n x y p q a b =
     (same_outcome done_reply x y a.0 b.0 a.2 b.2 e, a.3 ∙ ap (with_devices old) e ∙ sym b.3)
 does_once (Device size alignment) old m n x y p q a b =
     on_devices_once old m n x y _ _ (λ state later after u v.
-    let same = devices_decide.reserved state later after (request_for size alignment FirstMatch) u.0 v.0 (not_memory device_reply x u.0 refl u.2 p) (not_memory device_reply y v.0 refl v.2 q) u.1 v.1 in
+    let same = devices_decide.called state later after (Reserve (request_for size alignment FirstMatch)) u.0 v.0 (not_memory device_reply x u.0 refl u.2 p) (not_memory device_reply y v.0 refl v.2 q) u.1 v.1 in
     (same_outcome device_reply x y u.0 v.0 u.2 v.2 same.0, same.1)) a b
 does_once (Undevice id) old m n x y p q a b =
     on_devices_once old m n x y _ _ (λ state later after u v.
-    let same = devices_decide.released state later after id u.0 v.0 (not_memory done_reply x u.0 refl u.2 p) (not_memory done_reply y v.0 refl v.2 q) u.1 v.1 in
+    let same = devices_decide.called state later after (Release id) u.0 v.0 (not_memory done_reply x u.0 refl u.2 p) (not_memory done_reply y v.0 refl v.2 q) u.1 v.1 in
     (same_outcome done_reply x y u.0 v.0 u.2 v.2 same.0, same.1)) a b
 
 -- Several lines.

@@ -1,29 +1,50 @@
 -- Each line has a reply, so each input has an output.
-use Rattle.std.proofs.Common.{◌≡◌, ◌≢◌, ℕ, List, [], ◌∷◌, ◌++◌, refl, ap, Option, Some, None, Result, Ok, Err}
+use Rattle.std.proofs.Common.{◌≡◌, ◌≢◌, ℕ, List, [], ◌∷◌, ◌++◌, refl, ap, inl, inr, ⊎_elim, Option, Some, None, Result, Ok, Err}
 use Rattle.std.specs.FinSet as set
-use Rattle.vm_ranges.specs.Range.{Range}
+use Rattle.vm_ranges.specs.Range.{Range, IsRange}
 use Rattle.vm_engine.specs.Address.{AddressState}
-use Rattle.vm_allocator.specs.Ids.{IdState}
+use Rattle.vm_ids.specs.Ids.{IdState}
 use Rattle.vm_ranges.specs.Request.{Request, request_for}
 use Rattle.vm_ranges.specs.declared.constraint.AllocPolicy.TheVariants.{FirstMatch, LastMatch, ExactMatch}
 use Rattle.vm_ranges.specs.declared.error.Error.{Error}
-use Rattle.vm_ranges.specs.declared.error.Error.TheVariants.{OutOfMemory}
+use Rattle.vm_ranges.specs.declared.error.Error.TheVariants.{InvalidRange, OutOfMemory}
 use Rattle.vm_lines.specs.Commands.{command_of}
 use Rattle.vm_lines.specs.Laws.{HasReply, HasText, AreAnsweredInMemory}
 use Rattle.vm_lines.specs.Lines.{newline}
 use Rattle.vm_devices.specs.declared.device_slot.DeviceSlot.{DeviceSlot}
 use Rattle.vm_devices.specs.Devices.{DeviceState}
+use Rattle.vm_devices.specs.Histories.{Reserve, Release}
 use Rattle.vm_devices.proofs.EveryDeviceCall.{every_device_call}
-use Rattle.vm_lines.specs.Machines.{Machine, start, with_space, with_ids, with_devices, OnPart, OnSpace, OnIds, OnDevices, AllocatesRange, Does}
+use Rattle.vm_allocator.specs.Histories.AddressHistories.{Allocate, Free as FreeRange}
+use Rattle.vm_allocator.proofs.Results.EveryAddressCall.{every_call}
+use Rattle.vm_ids.specs.Histories.IdHistories.{Allocate as AllocateId, Free as FreeId}
+use Rattle.vm_ids.proofs.Ids.EveryIdCall.{every_call as every_id_call}
+use Rattle.vm_lines.specs.Machines.{Machine, start, with_space, with_ids, with_devices, OnPart, OnSpace, OnIds, OnDevices, FreesRange, AllocatesRange, Does}
 use Rattle.vm_lines.specs.Replies.{text_of, done_reply, range_reply, id_reply, device_reply}
 use Rattle.vm_lines.specs.Runs.{AreAnswered}
 use Rattle.vm_lines.specs.declared.command.Command.{Command}
 use Rattle.vm_lines.specs.declared.command.Command.TheVariants.{Space, First, Last, Exact, Free, Ids, Id, Unid, Has, Manager, Device, Undevice, Malformed}
 use Rattle.vm_lines.specs.declared.reply.Reply.{Reply}
 use Rattle.vm_lines.specs.declared.reply.Reply.TheVariants.{Held, Failed, NoSpace, NoIds, NoManager, NotInLanguage}
-use Rattle.vm_lines.proofs.SomeResult.{IsAnswered, allocates_answered, releases_answered, makes_answered, allocates_id_answered, frees_id_answered, makes_ids_answered}
+use Rattle.vm_allocator.proofs.Decisions.{decided_range}
 
 -- One line.
+
+-- The relation is true for some result other than OutOfMemory and some next state.
+abbrev IsAnswered : {A S : Type 0} → (Result A Error → S → Type 0) → Type 0
+IsAnswered {A} {S} allowed =
+    (answer : Result A Error) × (new : S) × allowed answer new × (answer ≢ Err OutOfMemory)
+
+-- Freeing has a result for all ends, also if they are not those of a range.
+frees_range : (old : AddressState) (start end : ℕ) → IsAnswered (FreesRange old start end)
+unfolding FreesRange
+frees_range old start end =
+    ⊎_elim
+    (λ (range : IsRange start end).
+    let freed = every_call.called old (FreeRange (record { start = start; end = end })) in
+    (freed.0, freed.1, inr (range, freed.2), freed.3))
+    (λ (none : IsRange start end → ⊥). (Err (InvalidRange start end), old, inl (none, (refl, refl)), λ e. cc e))
+    (decided_range start end)
 
 -- The relation is true for some reply, other than that memory ran out, and some next state.
 abbrev IsReplied : {S : Type 0} → (Reply → S → Type 0) → Type 0
@@ -86,34 +107,34 @@ on_devices old call each = on_part old.devices (λ s. record old { devices = Som
 places_replied : (old : Machine) (request : Request) → IsReplied (λ reply new. AllocatesRange old request reply new)
 unfolding AllocatesRange
 places_replied old request =
-    on_space old _ (λ state. replied range_reply plain_given _ (allocates_answered state request))
+    on_space old _ (λ state. replied range_reply plain_given _ (every_call.called state (Allocate request)))
 
 -- Each command has a reply.
 does_replied : (command : Command) (old : Machine) → IsReplied (λ reply new. Does old command reply new)
 unfolding Does
 does_replied Malformed old = (NotInLanguage, old, (refl, refl), λ e. cc)
 does_replied (Space base size) old =
-    let h = makes_answered base size in
+    let h = every_call.made base size in
     (done_reply h.0, with_space old h.0, (h.0, h.1, refl, refl), plain_done h.0 h.2)
 does_replied (First size alignment) old = places_replied old (request_for size alignment FirstMatch)
 does_replied (Last size alignment) old = places_replied old (request_for size alignment LastMatch)
 does_replied (Exact size alignment start) old = places_replied old (request_for size alignment (ExactMatch start))
 does_replied (Free start end) old =
-    on_space old _ (λ state. replied done_reply plain_done _ (releases_answered state start end))
+    on_space old _ (λ state. replied done_reply plain_done _ (frees_range state start end))
 does_replied (Ids range_base range_end) old =
-    let h = makes_ids_answered range_base range_end in
+    let h = every_id_call.made range_base range_end in
     (done_reply h.0, with_ids old h.0, (h.0, h.1, refl, refl), plain_done h.0 h.2)
-does_replied Id old = on_ids old _ (λ state. replied id_reply plain_id _ (allocates_id_answered state))
-does_replied (Unid id) old = on_ids old _ (λ state. replied id_reply plain_id _ (frees_id_answered state id))
+does_replied Id old = on_ids old _ (λ state. replied id_reply plain_id _ (every_id_call.called state AllocateId))
+does_replied (Unid id) old = on_ids old _ (λ state. replied id_reply plain_id _ (every_id_call.called state (FreeId id)))
 does_replied (Has id) old =
     on_ids old _ (λ state. let held = set.contains state.held id in (Held held, state, (held, (λ h. h, λ h. h), refl, refl), λ e. cc))
 does_replied (Manager id_lo id_hi base size) old =
     let h = every_device_call.made id_lo id_hi base size in
     (done_reply h.0, with_devices old h.0, (h.0, h.1, refl, refl), plain_done h.0 h.2)
 does_replied (Device size alignment) old =
-    on_devices old _ (λ state. replied device_reply plain_device _ (every_device_call.reserved state (request_for size alignment FirstMatch)))
+    on_devices old _ (λ state. replied device_reply plain_device _ (every_device_call.called state (Reserve (request_for size alignment FirstMatch))))
 does_replied (Undevice id) old =
-    on_devices old _ (λ state. replied done_reply plain_done _ (every_device_call.released state id))
+    on_devices old _ (λ state. replied done_reply plain_done _ (every_device_call.called state (Release id)))
 
 -- Several lines.
 

@@ -7,7 +7,7 @@ use Rattle.vm_ranges.specs.Range.{Range, IsRange}
 use Rattle.vm_engine.specs.Address.{AddressState, address_state_code}
 use Rattle.vm_engine.specs.Answer.{Allocates, Frees, Makes}
 use Rattle.vm_ranges.specs.Request.{Request, request_for}
-use Rattle.vm_allocator.specs.Ids.{IdState, id_state_code, IsHeld, MakesIds, AllocatesId, FreesId}
+use Rattle.vm_ids.specs.Ids.{IdState, id_state_code, IsHeld, MakesIds, AllocatesId, FreesId}
 use Rattle.vm_ranges.specs.declared.constraint.AllocPolicy.TheVariants.{FirstMatch, LastMatch, ExactMatch}
 use Rattle.vm_ranges.specs.declared.error.Error.{Error}
 use Rattle.vm_ranges.specs.declared.error.Error.TheVariants.{InvalidRange}

@@ -19,3 +19,4 @@ pub mod Nulls
 pub mod ReadRanges
 pub mod ReadStates
 pub mod ReadTexts
+pub mod Histories

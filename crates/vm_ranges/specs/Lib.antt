@@ -13,3 +13,4 @@ pub mod Numbers
 pub mod Lists
 pub mod RangeValues
 pub mod RangeLaws
+pub mod Histories

@@ -1,19 +1,15 @@
 -- The states that histories reach: those of clones, those that were read, and those that are equal to others.
-use Rattle.std.proofs.Common.{List, [], ◌∷◌, ◌++◌, refl, subst, inl, inr, Ok}
-use Rattle.vm_engine.specs.Address.{AddressState}
+use Rattle.std.proofs.Common.{[], ◌∷◌, refl, inl, inr, Ok}
 use Rattle.vm_allocator.specs.Values.AllocatorValues.{EncodesAddresses}
 use Rattle.vm_allocator.specs.Values.RepairedValues.{EncodesRepaired}
-use Rattle.vm_allocator.specs.Histories.AddressHistories.{Call, Cloning, IsHistoryFrom, IsReadOfNodes}
+use Rattle.vm_allocator.specs.Histories.AddressHistories.{Clone, IsCallFrom, IsReadOfNodes}
 use Rattle.vm_engine.specs.Values.SavedTrees.{HasHeldKeys, HasTreeOf}
 use Rattle.vm_allocator.specs.Laws.HistoryLaws.{CloneIsReached, ReadIsReached, NodesAreReached, EqualStatesAreEqual, FreeMakesEqual, FreesInAnyOrderMakeEqual}
 use Rattle.vm_ranges.proofs.Clones.{clone_is}
+use Rattle.vm_ranges.proofs.Histories.{history_append}
 use Rattle.vm_engine.proofs.Comparing.StateOrders.{equal_states}
 use Rattle.vm_allocator.proofs.Histories.AlongHistories.{alike_state, release_undoes}
 use Rattle.vm_allocator.proofs.Histories.Releases.{order_is_free}
-
-pub history_append : (xs ys : List Call) (first mid last : AddressState) → IsHistoryFrom first xs mid → IsHistoryFrom mid ys last → IsHistoryFrom first (xs ++ ys) last
-history_append [] ys first mid last h k = subst (λ (v : AddressState). IsHistoryFrom v ys last) h k
-history_append (x ∷ xs) ys first mid last h k = (h.0, h.1, history_append xs ys h.0 mid last h.2 k)
 
 pub clone_is_reached : CloneIsReached
 clone_is_reached old clone c =
@@ -22,7 +18,7 @@ clone_is_reached old clone c =
       record {
         first = r.first;
         begins = r.begins;
-        history = history_append old.calls (Cloning (Ok clone) ∷ []) r.first old.state clone r.history (clone, (c, refl), refl);
+        history = history_append IsCallFrom old.calls ((Clone, Ok clone) ∷ []) r.first old.state clone r.history (clone, (c, refl), refl);
       },
     )
 

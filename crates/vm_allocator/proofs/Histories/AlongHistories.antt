@@ -7,7 +7,7 @@ use Rattle.vm_ranges.specs.Request.{Request}
 use Rattle.vm_engine.specs.Answer.{Allocates, Frees}
 use Rattle.vm_allocator.specs.Several.{AllocatesEach, AllocatesAll}
 use Rattle.vm_allocator.specs.Moves.{MovesRange}
-use Rattle.vm_allocator.specs.Histories.AddressHistories.{Call, Allocation, Several, Release, Move, Cloning, IsCallFrom, IsHistoryFrom, Begins, Reached, Gives, WasAllocated, WasHeldFirst}
+use Rattle.vm_allocator.specs.Histories.AddressHistories.{Allocate, AllocateAll, Free, MoveTo, Clone, Call, IsCallFrom, IsHistoryFrom, Begins, Reached, Gives, WasAllocated, WasHeldFirst}
 use Rattle.vm_allocator.specs.Laws.HistoryLaws.{HeldAreValid, HaveSameState, StateDecides, FreeUndoes}
 use Rattle.vm_ranges.specs.declared.error.Error.{Error}
 use Rattle.vm_engine.proofs.Blocks.PlainWords.{IsHeld, contains_held, held_contains}
@@ -16,6 +16,7 @@ use Rattle.vm_allocator.proofs.Reading.ReadAllocators.{encoded_state}
 use Rattle.vm_allocator.proofs.Reading.ReadRepaired.{repaired_state}
 use Rattle.vm_allocator.proofs.Reading.ReadNodes.{tree_read_state, keys_read_state}
 use Rattle.vm_ranges.proofs.Clones.{cloning_keeps}
+use Rattle.vm_ranges.proofs.Histories.{history_keeps}
 use Rattle.vm_engine.proofs.Results.Once.{allocates_once, frees_once}
 use Rattle.vm_allocator.proofs.Callers.{given, request_inside}
 use Rattle.vm_allocator.proofs.Histories.SeveralOnce.{all_once}
@@ -32,17 +33,16 @@ each_valid [] (r ∷ rs) old new i e = absurd e
 each_valid (q ∷ qs) [] old new i e = absurd e
 each_valid (q ∷ qs) (r ∷ rs) old new i e = each_valid qs rs e.0 new (allocated_state old e.0 q (Ok r) i e.1) e.2
 
-call_state : (old new : AddressState) (call : Call) → IsCallFrom old call new → IsAddressState old → IsAddressState new
-call_state old new (Allocation request answer) h i = allocated_state old new request answer i h
-call_state old new (Several requests (Ok rs)) h i = each_valid requests rs old new i h
-call_state old new (Several requests (Err e)) h i = subst IsAddressState (sym h.0) i
-call_state old new (Release r answer) h i = freed_state old new r answer i h
-call_state old new (Move r request answer) h i = move_state old new r request answer i h
-call_state old new (Cloning answer) h i = subst IsAddressState (sym (cloning_keeps old new answer h.0 h.1)) i
+call_state : (call : Call) (old new : AddressState) → IsAddressState old → IsCallFrom old call new → IsAddressState new
+call_state (Allocate request, answer) old new i h = allocated_state old new request answer i h
+call_state (AllocateAll requests, Ok rs) old new i h = each_valid requests rs old new i h
+call_state (AllocateAll requests, Err e) old new i h = subst IsAddressState (sym h.0) i
+call_state (Free r, answer) old new i h = freed_state old new r answer i h
+call_state (MoveTo r request, answer) old new i h = move_state old new r request answer i h
+call_state (Clone, answer) old new i h = subst IsAddressState (sym (cloning_keeps old new answer h.0 h.1)) i
 
-pub history_state : (calls : List Call) (first last : AddressState) → IsHistoryFrom first calls last → IsAddressState first → IsAddressState last
-history_state [] first last h i = subst IsAddressState (sym h) i
-history_state (call ∷ calls) first last h i = history_state calls h.0 last h.2 (call_state first h.0 call h.1 i)
+pub history_state : (calls : List Call) (first last : AddressState) → IsAddressState first → IsHistoryFrom first calls last → IsAddressState last
+history_state = history_keeps IsCallFrom IsAddressState call_state
 
 first_state : (first : AddressState) → Begins first → IsAddressState first
 first_state first (inl m) = made_state m.base m.size first m.word m.made
@@ -52,7 +52,7 @@ first_state first (inr (inr (inl r))) = ⊎_elim (encoded_state r.value first) (
 
 pub reached_state : (old : Reached) → IsAddressState old.state
 reached_state old =
-    let r = old.reached in history_state old.calls r.first old.state r.history (first_state r.first r.begins)
+    let r = old.reached in history_state old.calls r.first old.state (first_state r.first r.begins) r.history
 
 -- ---- The held ranges
 -- A range that some calls allocated is allocated by a longer list of calls too.
@@ -113,7 +113,7 @@ each_gives (q ∷ qs) (x ∷ rs) old new r e h =
 -- A range that is held after a call was held before it, or the call allocated it.
 call_gives : (old new : AddressState) (call : Call) (calls : List Call) (r : Range) → IsCallFrom old call new → IsHeld new.held r → IsHeld old.held r ⊎ WasAllocated (call ∷ calls) r
 unfolding Frees
-call_gives old new (Allocation request answer) calls r s h =
+call_gives old new (Allocate request, answer) calls r s h =
     let P : AddressState → Type 0 = λ v. IsHeld v.held r in
     ⊎_elim
     (λ (l : IsRefused old answer new). inl (subst P l.2 h))
@@ -121,25 +121,25 @@ call_gives old new (Allocation request answer) calls r s h =
     ⊎_elim
     (λ (e : span g.from request.size ≡ r).
     let ok : answer ≡ Ok r = g.given ∙ ap (λ (v : Range). Ok v) e in
-    inr (given_here old new request r (Allocation request answer) calls (refl, ok) (subst (λ (v : Result Range Error). Allocates old request v new) ok s)))
+    inr (given_here old new request r (Allocate request, answer) calls (refl, ok) (subst (λ (v : Result Range Error). Allocates old request v new) ok s)))
     (λ (k : IsHeld old.held r). inl k)
     (held_with (span g.from request.size) r old.held (subst P g.left h)))
     (outcome request old new answer s)
-call_gives old new (Several requests (Ok rs)) calls r s h =
+call_gives old new (AllocateAll requests, Ok rs) calls r s h =
     ⊎_elim
     (λ (k : IsHeld old.held r). inl k)
-    (λ (one : IsOneOf requests rs r). inr (given_here one.old one.new one.request r (Several requests (Ok rs)) calls one.pair one.allocated))
+    (λ (one : IsOneOf requests rs r). inr (given_here one.old one.new one.request r (AllocateAll requests, Ok rs) calls one.pair one.allocated))
     (each_gives requests rs old new r s h)
-call_gives old new (Several requests (Err e)) calls r s h = inl (subst (λ (v : AddressState). IsHeld v.held r) s.0 h)
-call_gives old new (Release q answer) calls r s h =
+call_gives old new (AllocateAll requests, Err e) calls r s h = inl (subst (λ (v : AddressState). IsHeld v.held r) s.0 h)
+call_gives old new (Free q, answer) calls r s h =
     let P : AddressState → Type 0 = λ v. IsHeld v.held r in
     ⊎_elim (λ l. inl (held_without q r old.held (subst P l.1.1 h))) (λ l. inl (subst P l.1.1 h)) s
-call_gives old new (Move q request answer) calls r s h =
+call_gives old new (MoveTo q request, answer) calls r s h =
     ⊎_elim
     (λ (k : IsHeld old.held r). inl k)
-    (λ (p : IsNewPlace old q request answer r). inr (given_here old p.mid request r (Move q request answer) calls (refl, p.given) p.allocated))
+    (λ (p : IsNewPlace old q request answer r). inr (given_here old p.mid request r (MoveTo q request, answer) calls (refl, p.given) p.allocated))
     (move_gives old new q request answer r s h)
-call_gives old new (Cloning answer) calls r s h =
+call_gives old new (Clone, answer) calls r s h =
     let P : AddressState → Type 0 = λ v. IsHeld v.held r in
     inl (subst P (cloning_keeps old new answer s.0 s.1) h)
 

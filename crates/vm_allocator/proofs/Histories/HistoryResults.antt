@@ -7,7 +7,10 @@ use Rattle.vm_engine.specs.Windows.{within}
 use Rattle.vm_engine.proofs.Results.Requests.{request_in}
 use Rattle.vm_ranges.specs.Request.{Request, ByPolicy, IsRequest, ByConstraint, MakesConstraint}
 use Rattle.vm_engine.specs.Answer.{IsChosen, ByStart, ByExactPolicy, ByPlace, AllocatesAt, Grants, Allocates, Frees}
-use Rattle.vm_allocator.specs.Laws.HistoryLaws.{FirstIsLowest, LastIsHighest, ExactIsAtItsStart, FailsInOrder, IsAnswered, PlacesAnswer, ErrorsChangeNothing}
+use Rattle.vm_ranges.specs.Histories.{ErrorsChangeNothing}
+use Rattle.vm_ranges.proofs.Clones.{cloning_keeps}
+use Rattle.vm_allocator.specs.Histories.AddressHistories.{Allocate, AllocateAll, Free, MoveTo, Clone, IsCallFrom}
+use Rattle.vm_allocator.specs.Laws.HistoryLaws.{FirstIsLowest, LastIsHighest, ExactIsAtItsStart, FailsInOrder, IsAnswered, PlacesAnswer}
 use Rattle.vm_ranges.specs.declared.error.Error.{Error}
 use Rattle.vm_ranges.specs.declared.error.Error.TheVariants.{Overflow, ResourceNotAvailable}
 use Rattle.vm_ranges.specs.declared.constraint.AllocPolicy.{AllocPolicy}
@@ -173,10 +176,9 @@ release_refused : (old new : AddressState) (r : Range) (e : Error) → Frees old
 unfolding Frees
 release_refused old new r e h = ⊎_elim (λ l. absurd (cc (l.1.0))) (λ k. k.1.1) h
 
-pub errors_change_nothing : ErrorsChangeNothing
-errors_change_nothing = record {
-  allocation = λ old new request e h. allocation_refused request old.state new e h;
-  several = λ old new requests e h. h.0;
-  move = λ old new r request e h. move_error_keeps old.state new r request e h;
-  release = λ old new r e h. release_refused old.state new r e h;
-}
+pub errors_change_nothing : ErrorsChangeNothing IsCallFrom
+errors_change_nothing old new (Allocate request) e h = allocation_refused request old new e h
+errors_change_nothing old new (AllocateAll requests) e h = h.0
+errors_change_nothing old new (Free r) e h = release_refused old new r e h
+errors_change_nothing old new (MoveTo r request) e h = move_error_keeps old new r request e h
+errors_change_nothing old new Clone e h = cloning_keeps old new (Err e) h.0 h.1

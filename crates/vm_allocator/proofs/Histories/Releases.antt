@@ -40,7 +40,7 @@ left_space (r ∷ rs) old new s = left_space rs s.0 new s.2 ∙ ap (λ (v : Addr
 
 same_left : (old first second : AddressState) (rs qs : List Range) → IsAddressState old → ((r : Range) → Contains rs r ↔ Contains qs r) → IsHistoryFrom old (releases rs) first → IsHistoryFrom old (releases qs) second → first ≡ second
 same_left old first second rs qs i e s t =
-    same_state first second (history_state (releases rs) old first s i) (history_state (releases qs) old second t i) (left_space rs old first s ∙ sym (left_space qs old second t))
+    same_state first second (history_state (releases rs) old first i s) (history_state (releases qs) old second i t) (left_space rs old first s ∙ sym (left_space qs old second t))
     (λ r.
     let m = same_members rs qs e r in
     let l = left_held rs old first r i s in

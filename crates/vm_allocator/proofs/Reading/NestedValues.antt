@@ -17,12 +17,12 @@ use Rattle.vm_ranges.specs.declared.saved.ValueError.{ValueError}
 use Rattle.vm_ranges.specs.declared.saved.ValueError.TheVariants.{OutOfMemory}
 use Rattle.vm_engine.proofs.Reading.NestedTrees.{tree_nests}
 use Rattle.vm_engine.specs.Address.{AddressState}
-use Rattle.vm_allocator.specs.Ids.{IdState}
+use Rattle.vm_ids.specs.Ids.{IdState}
 use Rattle.vm_allocator.specs.Values.AllocatorValues.{EncodesTree, EncodesAddresses}
-use Rattle.vm_allocator.specs.Values.IdValues.{EncodesNext, EncodesNumber, EncodesIds}
+use Rattle.vm_ids.specs.Values.IdValues.{EncodesNext, EncodesNumber, EncodesIds}
 use Rattle.vm_allocator.specs.Laws.ValueLaws.{ReadsWritten, ReadsText}
 use Rattle.vm_allocator.proofs.Reading.ReadAllocators.{one_addresses}
-use Rattle.vm_allocator.proofs.Ids.ReadIdStates.{one_encoded}
+use Rattle.vm_ids.proofs.Ids.ReadIdStates.{one_encoded}
 use Rattle.vm_allocator.proofs.Reading.ReadAgain.{range_again, state_again, allocator_again, ids_again}
 
 -- ---- How deep the values nest

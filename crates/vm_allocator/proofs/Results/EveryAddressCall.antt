@@ -11,21 +11,21 @@ use Rattle.vm_engine.proofs.Results.Requests.{request_in}
 use Rattle.vm_engine.proofs.Results.AddressResults.{outcome}
 use Rattle.vm_engine.proofs.Results.Outcomes.{IsGiven}
 use Rattle.vm_engine.specs.Answer.{SPLIT_LIMIT_MIN_HELD, IsChosen, ByStart, ByExactPolicy, ByPlace, AllocatesAt, Grants, Allocates, Frees, Makes}
-use Rattle.vm_ranges.specs.Cloning.{Clones}
+use Rattle.vm_ranges.specs.Histories.{EveryCallIsAnswered, EveryListHasHistory}
+use Rattle.vm_ranges.proofs.Histories.{every_list}
 use Rattle.vm_engine.specs.Held.{first_fault, BySpace, MakesHeld, MakesWithHeld}
 use Rattle.vm_tree.specs.Building.{TOO_MANY_BLOCKS}
 use Rattle.vm_engine.specs.Tree.Blocks.{blocks_of}
 use Rattle.vm_allocator.specs.Several.{RefusesOne, AllocatesAll}
 use Rattle.vm_allocator.specs.Moves.{IsFor, MovesRange}
 use Rattle.vm_allocator.specs.Holes.{holes_after, last_end, wrong_index, MakesWithFree}
-use Rattle.vm_allocator.specs.Histories.AddressHistories.{Allocation, Several, Release, Move, Cloning, Asked, Allocate, AllocateAll, Free, MoveTo, Clone, RunsOutOfMemory}
-use Rattle.vm_allocator.specs.Laws.HistoryLaws.{EveryCallIsAnswered, EveryListHasHistory}
+use Rattle.vm_allocator.specs.Histories.AddressHistories.{Allocate, AllocateAll, Free, MoveTo, Clone, IsCallFrom}
+use Rattle.vm_allocator.specs.Laws.HistoryLaws.{EveryAddressCallIsAnswered}
 use Rattle.vm_ranges.specs.declared.error.Error.{Error}
 use Rattle.vm_ranges.specs.declared.error.Error.TheVariants.{OutOfMemory, Overflow, ResourceNotAvailable, Underflow, InvalidRange, InvalidStateTransition, InvalidSize, InvalidAlignment, UnalignedAddress}
 use Rattle.vm_ranges.specs.declared.state.NodeState.TheVariants.{Allocated}
 use Rattle.vm_ranges.specs.declared.constraint.AllocPolicy.{AllocPolicy}
 use Rattle.vm_ranges.specs.declared.constraint.AllocPolicy.TheVariants.{FirstMatch, LastMatch, ExactMatch}
-use Rattle.std.proofs.lemmas.List.Elements.{All-nil, All-cons}
 use Rattle.vm_ranges.proofs.Decisions.{Decided, decided_below, decided_up_to, decided_alignment, decided_start, lowest_or_none, highest_or_none}
 use Rattle.vm_engine.proofs.Making.HeldTrees.{first_fault_known}
 use Rattle.vm_allocator.proofs.Results.Moves.{move_refused, move_stays}
@@ -123,13 +123,13 @@ total_allocates old request =
     total_unless old _ (Refuses old UnalignedAddress) _ (decided_start request.align request.policy) (refusal old UnalignedAddress (λ e. cc e)) (λ aligned.
     total_grants request.policy request.window request.size request.align old (omega (arith, some)) aligned)))
 
--- ---- Freeing a range, creating an allocator and cloning have a result
-total_frees : (old : AddressState) (r : Range) → (answer : Result (Unit {0}) Error) × (new : AddressState) × Frees old r answer new
+-- ---- Freeing a range, moving a range and creating an allocator have a result
+total_frees : (old : AddressState) (r : Range) → (answer : Result (Unit {0}) Error) × (new : AddressState) × Frees old r answer new × (answer ≢ Err OutOfMemory)
 unfolding Frees
 total_frees old r =
     ⊎_elim
-    (λ (held : Contains old.held r). (Ok tt, releasing r old, inl (held, (refl, refl))))
-    (λ (not_held : Contains old.held r → ⊥). (Err ResourceNotAvailable, old, inr (not_held, (refl, refl))))
+    (λ (held : Contains old.held r). (Ok tt, releasing r old, inl (held, (refl, refl)), λ h. absurd (cc h)))
+    (λ (not_held : Contains old.held r → ⊥). (Err ResourceNotAvailable, old, inr (not_held, (refl, refl)), λ h. absurd (cc h)))
     (decided_held old.held r)
 
 -- A move for another range has the result of its allocation.
@@ -163,9 +163,6 @@ total_makes base size =
     (λ (fits : MAX < base + size - 1 → ⊥). (Ok (record { space = span base size; held = [] }), inr (some, inr (fits, inl refl)), λ h. absurd (cc h)))
     (decided_below MAX (base + size - 1)))
     (cases_eq size 0)
-
-total_clones : (old : AddressState) → (answer : Result AddressState Error) × Clones old answer × (answer ≢ Err OutOfMemory)
-total_clones old = (Ok old, inl refl, λ h. absurd (cc h))
 
 -- ---- Several requests, and an allocator with held ranges
 error_keeps : (old new : AddressState) (request : Request) (e : Error) → Allocates old request (Err e) new → new ≡ old
@@ -233,66 +230,18 @@ total_makes_with_free (r ∷ rs) =
       | Some i ↦ (Err ResourceNotAvailable, refl, λ h. absurd (cc h))
     ]
 
-pub every_call : EveryCallIsAnswered
-every_call = record {
-  made = total_makes;
-  made_with_held = total_makes_held;
-  made_with_free = total_makes_with_free;
-  several = total_several;
-  allocated = total_allocates;
-  freed = total_frees;
-  moved = total_moves;
-  cloned = total_clones;
-}
+-- ---- Each call of a history
+total_call : EveryCallIsAnswered IsCallFrom
+total_call old (Allocate request) = total_allocates old request
+total_call old (AllocateAll requests) = total_several old requests
+total_call old (Free r) = total_frees old r
+total_call old (MoveTo r request) = total_moves old r request
+total_call old Clone = (Ok old, old, (inl refl, refl), λ h. absurd (cc h))
 
--- ---- Each list of calls has a history
-pub every_list : EveryListHasHistory
-unfolding total_clones
-every_list old [] = ([], old, refl, refl, All-nil _)
-every_list old (Allocate request ∷ asked) =
-    let a = total_allocates old request in
-    let rest = every_list a.1 asked in (
-      Allocation request a.0 ∷ rest.0,
-      rest.1,
-      (a.1, a.2, rest.2),
-      ap (λ (v : List Asked). Allocate request ∷ v) rest.3,
-      All-cons (λ call. ¬ RunsOutOfMemory call) (Allocation request a.0) rest.0 a.3 rest.4,
-    )
-every_list old (AllocateAll requests ∷ asked) =
-    let a = total_several old requests in
-    let rest = every_list a.1 asked in (
-      Several requests a.0 ∷ rest.0,
-      rest.1,
-      (a.1, a.2, rest.2),
-      ap (λ (v : List Asked). AllocateAll requests ∷ v) rest.3,
-      All-cons (λ call. ¬ RunsOutOfMemory call) (Several requests a.0) rest.0 a.3 rest.4,
-    )
-every_list old (Free r ∷ asked) =
-    let f = total_frees old r in
-    let rest = every_list f.1 asked in (
-      Release r f.0 ∷ rest.0,
-      rest.1,
-      (f.1, f.2, rest.2),
-      ap (λ (v : List Asked). Free r ∷ v) rest.3,
-      All-cons (λ call. ¬ RunsOutOfMemory call) (Release r f.0) rest.0 (λ h. h) rest.4,
-    )
-every_list old (MoveTo r request ∷ asked) =
-    let a = total_moves old r request in
-    let rest = every_list a.1 asked in (
-      Move r request a.0 ∷ rest.0,
-      rest.1,
-      (a.1, a.2, rest.2),
-      ap (λ (v : List Asked). MoveTo r request ∷ v) rest.3,
-      All-cons (λ call. ¬ RunsOutOfMemory call) (Move r request a.0) rest.0 a.3 rest.4,
-    )
-every_list old (Clone ∷ asked) =
-    let c = total_clones old in
-    let rest = every_list old asked in (
-      Cloning c.0 ∷ rest.0,
-      rest.1,
-      (old, (c.1, refl), rest.2),
-      ap (λ (v : List Asked). Clone ∷ v) rest.3,
-      All-cons (λ call. ¬ RunsOutOfMemory call) (Cloning c.0) rest.0 c.2 rest.4,
-    )
+pub every_call : EveryAddressCallIsAnswered
+every_call = record { made = total_makes; made_with_held = total_makes_held; made_with_free = total_makes_with_free; called = total_call }
 
-pub ruleset answers = (every_call, every_list)
+pub every_list_of_addresses : EveryListHasHistory IsCallFrom
+every_list_of_addresses = every_list IsCallFrom total_call
+
+pub ruleset answers = (every_call, every_list_of_addresses)

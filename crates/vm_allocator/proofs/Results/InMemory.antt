@@ -1,17 +1,15 @@
--- A call has one result if memory suffices. Some calls never return OutOfMemory.
+-- A call has one result if memory suffices.
 use Rattle.std.proofs.Common.{◌≡◌, ◌≢◌, ℕ, sym, ◌∙◌, inl, inr, ⊎_elim, Result, Err}
 use Rattle.vm_ranges.specs.Range.{Range}
 use Rattle.vm_engine.specs.Address.{AddressState}
 use Rattle.vm_ranges.specs.Request.{Request}
-use Rattle.vm_engine.specs.Answer.{Allocates, Frees, Makes}
+use Rattle.vm_engine.specs.Answer.{Allocates, Makes}
 use Rattle.vm_engine.specs.Laws.AddressLaws.{AgreeUnlessMemory}
-use Rattle.vm_allocator.specs.Ids.{IdState, ByLowestNotHeld, AllocatesId, MakesIds}
 use Rattle.vm_ranges.specs.declared.error.Error.{Error}
 use Rattle.vm_ranges.specs.declared.error.Error.TheVariants.{OutOfMemory}
 use Rattle.vm_ranges.proofs.TwoFacts.{if_same}
 use Rattle.vm_engine.proofs.Results.Once.{allocates_once}
 
--- ---- One result
 -- Results that agree unless memory runs out are equal if it does not.
 pub same_in_memory : {A : Type 0} (x y : Result A Error) (new later : AddressState) → x ≢ Err OutOfMemory → y ≢ Err OutOfMemory → AgreeUnlessMemory x new y later → (x ≡ y) × (new ≡ later)
 same_in_memory x y new later p q (inl same) = same
@@ -33,20 +31,3 @@ made_once base size x y p q a b =
     if_same _ _ _ _ _ a b (λ u v. u ∙ sym v)
     (λ a b. if_same _ _ _ _ _ a b (λ u v. u ∙ sym v) (λ u v.
     ⊎_elim (λ e. ⊎_elim (λ f. e ∙ sym f) (λ f. absurd (q f)) v) (λ e. absurd (p e)) u))
-
--- ---- Calls that never return OutOfMemory
-pub frees_no_memory : (old new : AddressState) (r : Range) (answer : Result (Unit {0}) Error) → Frees old r answer new → answer ≢ Err OutOfMemory
-unfolding Frees
-frees_no_memory old new r answer (inl k) e = cc (k.1.0, e)
-frees_no_memory old new r answer (inr k) e = cc (k.1.0, e)
-
-pub allocates_id_no_memory : (old new : IdState) (answer : Result ℕ Error) → AllocatesId old answer new → answer ≢ Err OutOfMemory
-unfolding AllocatesId ByLowestNotHeld
-allocates_id_no_memory old new answer (inl k) e = cc (k.2.0, e)
-allocates_id_no_memory old new answer (inr (all, inl k)) e = cc (k.1.0, e)
-allocates_id_no_memory old new answer (inr (all, inr k)) e = cc (k.1.0, e)
-
-pub makes_ids_no_memory : (lo hi : ℕ) (answer : Result IdState Error) → MakesIds lo hi answer → answer ≢ Err OutOfMemory
-unfolding MakesIds
-makes_ids_no_memory lo hi answer (inl k) e = cc (k.1, e)
-makes_ids_no_memory lo hi answer (inr k) e = cc (k.1, e)

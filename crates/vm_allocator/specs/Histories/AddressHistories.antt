@@ -1,5 +1,5 @@
 -- Histories of an address allocator: lists of calls with their results. A history can go on with a clone.
-use Rattle.std.specs.Prelude.{◌≡◌, ℕ, ◌%◌, ◌≤◌, ◌⊎◌, List, [], ◌∷◌, Result, Ok, Err, IfSome, MatchResult}
+use Rattle.std.specs.Prelude.{◌≡◌, ℕ, ◌%◌, ◌≤◌, ◌⊎◌, List, [], ◌∷◌, Ok, IfSome, MatchResult}
 use Rattle.std.specs.List.{All, Contains, zip}
 use Rattle.std.specs.Result.{result_unwrap_or}
 use Rattle.serde_json.specs.Data.{Data}
@@ -12,21 +12,12 @@ use Rattle.vm_engine.specs.Values.SavedTrees.{Saved, HasHeldKeys, HasTreeOf}
 use Rattle.vm_allocator.specs.Several.{AllocatesAll}
 use Rattle.vm_allocator.specs.Moves.{MovesRange}
 use Rattle.vm_ranges.specs.Cloning.{Clones}
+use Rattle.vm_ranges.specs.Histories.{CallOf, IsHistory}
 use Rattle.vm_allocator.specs.Values.AllocatorValues.{EncodesAddresses}
 use Rattle.vm_allocator.specs.Values.RepairedValues.{EncodesRepaired}
-use Rattle.vm_ranges.specs.declared.error.Error.{Error}
-use Rattle.vm_ranges.specs.declared.error.Error.TheVariants.{OutOfMemory}
 
--- A call with its result: a request, several requests at once, the freeing of a range, the move of a range to the place of a
--- request, or the creation of a clone.
-pub data Call : Type 0 where
-  Allocation : Request → Result Range Error → Call
-  Several : List Request → Result (List Range) Error → Call
-  Release : Range → Result (Unit {0}) Error → Call
-  Move : Range → Request → Result Range Error → Call
-  Cloning : Result AddressState Error → Call
-
--- A call without its result.
+-- A call without its result: a request, several requests at once, the freeing of a range, the move of a range to the place
+-- of a request, or the creation of a clone.
 pub data Asked : Type 0 where
   Allocate : Request → Asked
   AllocateAll : List Request → Asked
@@ -34,35 +25,30 @@ pub data Asked : Type 0 where
   MoveTo : Range → Request → Asked
   Clone : Asked
 
--- The call without its result.
-abbrev pub asked_by : Call → Asked
-asked_by (Allocation request answer) = Allocate request
-asked_by (Several requests answer) = AllocateAll requests
-asked_by (Release r answer) = Free r
-asked_by (Move r request answer) = MoveTo r request
-asked_by (Cloning answer) = Clone
+-- The type of the value that a call returns: a range, several ranges, nothing, or the state of a clone.
+abbrev pub AskedValue : Asked → Type 0
+AskedValue (Allocate request) = Range
+AskedValue (AllocateAll requests) = List Range
+AskedValue (Free r) = Unit {0}
+AskedValue (MoveTo r request) = Range
+AskedValue Clone = AddressState
 
--- The call returned OutOfMemory.
-abbrev pub RunsOutOfMemory : Call → Type 0
-RunsOutOfMemory (Allocation request answer) = answer ≡ Err OutOfMemory
-RunsOutOfMemory (Several requests answer) = answer ≡ Err OutOfMemory
-RunsOutOfMemory (Release r answer) = ⊥
-RunsOutOfMemory (Move r request answer) = answer ≡ Err OutOfMemory
-RunsOutOfMemory (Cloning answer) = answer ≡ Err OutOfMemory
+-- A call with its result, for example (Free r, Ok tt).
+abbrev pub Call : Type 0
+Call = CallOf AskedValue
 
 -- In the state old the call has its result, and leaves the state new. After a clone is made, new is the state of the
 -- clone.
 abbrev pub IsCallFrom : AddressState → Call → AddressState → Type 0
-IsCallFrom old (Allocation request answer) new = Allocates old request answer new
-IsCallFrom old (Several requests answer) new = AllocatesAll old requests answer new
-IsCallFrom old (Release r answer) new = Frees old r answer new
-IsCallFrom old (Move r request answer) new = MovesRange old r request answer new
-IsCallFrom old (Cloning answer) new = Clones old answer × (new ≡ result_unwrap_or answer old)
+IsCallFrom old (Allocate request, answer) new = Allocates old request answer new
+IsCallFrom old (AllocateAll requests, answer) new = AllocatesAll old requests answer new
+IsCallFrom old (Free r, answer) new = Frees old r answer new
+IsCallFrom old (MoveTo r request, answer) new = MovesRange old r request answer new
+IsCallFrom old (Clone, answer) new = Clones old answer × (new ≡ result_unwrap_or answer old)
 
 -- The calls lead from the state old to the state new: each begins in the state that the call before it left.
 abbrev pub IsHistoryFrom : AddressState → List Call → AddressState → Type 0
-IsHistoryFrom old [] new = new ≡ old
-IsHistoryFrom old (call ∷ calls) new = (mid : AddressState) × IsCallFrom old call mid × IsHistoryFrom mid calls new
+IsHistoryFrom = IsHistory IsCallFrom
 
 -- The state of a new allocator.
 pub record IsMade (state : AddressState) : Type 0 where
@@ -115,12 +101,12 @@ pub record Reached : Type 0 where
 
 -- The call allocated the range for the request.
 abbrev pub Gives : Call → Request → Range → Type 0
-Gives (Allocation asked answer) request r = (asked ≡ request) × (answer ≡ Ok r)
-Gives (Several requests answer) request r =
+Gives (Allocate asked, answer) request r = (asked ≡ request) × (answer ≡ Ok r)
+Gives (AllocateAll requests, answer) request r =
     MatchResult answer (λ ranges. Contains (zip requests ranges) (request, r)) (λ e. ⊥)
-Gives (Release q answer) request r = ⊥
-Gives (Move q asked answer) request r = (asked ≡ request) × (answer ≡ Ok r)
-Gives (Cloning answer) request r = ⊥
+Gives (Free q, answer) request r = ⊥
+Gives (MoveTo q asked, answer) request r = (asked ≡ request) × (answer ≡ Ok r)
+Gives (Clone, answer) request r = ⊥
 
 -- A call allocated the range: with the requested length, at a multiple of the requested alignment, and in the window of the
 -- request, if it has one.
@@ -141,4 +127,4 @@ pub record WasHeldFirst (first : AddressState) (r : Range) : Type 0 where
 -- The calls that free the ranges in this order, each with success.
 abbrev pub releases : List Range → List Call
 releases [] = []
-releases (r ∷ rs) = Release r (Ok tt) ∷ releases rs
+releases (r ∷ rs) = (Free r, Ok tt) ∷ releases rs

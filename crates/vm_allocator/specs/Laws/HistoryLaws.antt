@@ -1,6 +1,6 @@
 -- Laws of every history of an address allocator that was made or read.
-use Rattle.std.specs.Prelude.{◌≡◌, ◌≢◌, ℕ, ◌+◌, ◌-◌, ◌<◌, ◌≤◌, ◌⊎◌, ◌↔◌, List, [], ◌∷◌, ◌++◌, map, Result, Ok, Err}
-use Rattle.std.specs.List.{All, Contains}
+use Rattle.std.specs.Prelude.{◌≡◌, ◌≢◌, ℕ, ◌+◌, ◌-◌, ◌<◌, ◌≤◌, ◌⊎◌, ◌↔◌, List, [], ◌∷◌, ◌++◌, Result, Ok, Err}
+use Rattle.std.specs.List.{Contains}
 use Rattle.std.specs.List.Sorted.{IsPermutation}
 use Rattle.serde_json.specs.Data.{Data}
 use Rattle.vm_ranges.specs.Range.{Range, MAX, IsRange, IsIn, span}
@@ -15,8 +15,9 @@ use Rattle.vm_allocator.specs.Moves.{MovesRange}
 use Rattle.vm_allocator.specs.Holes.{MakesWithFree}
 use Rattle.vm_engine.specs.Laws.AddressLaws.{AgreeUnlessMemory, AreDisjoint}
 use Rattle.vm_ranges.specs.Cloning.{Clones}
+use Rattle.vm_ranges.specs.Histories.{EveryCallIsAnswered}
 use Rattle.vm_engine.specs.Comparison.{AreEqual}
-use Rattle.vm_allocator.specs.Histories.AddressHistories.{Call, Cloning, Asked, asked_by, RunsOutOfMemory, IsHistoryFrom, IsReached, Reached, WasAllocated, WasHeldFirst, releases}
+use Rattle.vm_allocator.specs.Histories.AddressHistories.{Clone, IsCallFrom, IsHistoryFrom, IsReached, Reached, WasAllocated, WasHeldFirst, releases}
 use Rattle.vm_ranges.specs.declared.error.Error.{Error}
 use Rattle.vm_ranges.specs.declared.error.Error.TheVariants.{Overflow, ResourceNotAvailable, InvalidStateTransition, OutOfMemory}
 use Rattle.vm_ranges.specs.declared.state.NodeState.TheVariants.{Allocated}
@@ -84,17 +85,6 @@ PlacesAnswer =
     (old : Reached) (new : AddressState) (request : Request) (answer : Result Range Error) →
     Allocates old.state request answer new → IsAnswered old.state request answer new
 
--- An error changes nothing.
-pub record ErrorsChangeNothing : Type 0 where
-  pub allocation : (old : Reached) (new : AddressState) (request : Request) (e : Error) →
-      Allocates old.state request (Err e) new → new ≡ old.state
-  pub several : (old : Reached) (new : AddressState) (requests : List Request) (e : Error) →
-      AllocatesAll old.state requests (Err e) new → new ≡ old.state
-  pub move : (old : Reached) (new : AddressState) (r : Range) (request : Request) (e : Error) →
-      MovesRange old.state r request (Err e) new → new ≡ old.state
-  pub release : (old : Reached) (new : AddressState) (r : Range) (e : Error) →
-      Frees old.state r (Err e) new → new ≡ old.state
-
 -- In every history the state is valid and the held ranges are disjoint. Each of them was allocated as requested, or was
 -- held from the start.
 pub record HeldAreValid : Type 0 where
@@ -126,14 +116,6 @@ pub record StateDecides : Type 0 where
       (answer other : Result (Unit {0}) Error) → HaveSameState first.state second.state →
       Frees first.state r answer new → Frees second.state r other later → (answer ≡ other) × (new ≡ later)
 
--- The same list of calls in the same state has the same results and the same last state, if no call returns OutOfMemory.
-abbrev pub SameCallsSameResults : Type 0
-SameCallsSameResults =
-    (old new later : AddressState) (calls others : List Call) →
-    IsHistoryFrom old calls new → IsHistoryFrom old others later → map asked_by calls ≡ map asked_by others →
-    All (λ call. ¬ RunsOutOfMemory call) calls → All (λ call. ¬ RunsOutOfMemory call) others →
-    (calls ≡ others) × (new ≡ later)
-
 -- Freeing the range that was just allocated succeeds, and leaves the state before the allocation.
 abbrev pub FreeUndoes : Type 0
 FreeUndoes =
@@ -148,40 +130,21 @@ pub record FreesInAnyOrder : Type 0 where
       ((r : Range) → Contains rs r ↔ Contains qs r) →
       IsHistoryFrom old.state (releases rs) first → IsHistoryFrom old.state (releases qs) second → first ≡ second
 
--- In every state each call has a result other than OutOfMemory.
-pub record EveryCallIsAnswered : Type 0 where
+-- In every state each call has a result other than OutOfMemory. So has each creation of an allocator.
+pub record EveryAddressCallIsAnswered : Type 0 where
   pub made : (base size : ℕ) →
       (answer : Result AddressState Error) × Makes base size answer × (answer ≢ Err OutOfMemory)
   pub made_with_held : (base size : ℕ) (held : List Range) →
       (answer : Result AddressState Error) × MakesWithHeld base size held answer × (answer ≢ Err OutOfMemory)
   pub made_with_free : (free : List Range) →
       (answer : Result AddressState Error) × MakesWithFree free answer × (answer ≢ Err OutOfMemory)
-  pub several : (old : AddressState) (requests : List Request) →
-      (answer : Result (List Range) Error) × (new : AddressState) ×
-      AllocatesAll old requests answer new × (answer ≢ Err OutOfMemory)
-  pub allocated : (old : AddressState) (request : Request) →
-      (answer : Result Range Error) × (new : AddressState) ×
-      Allocates old request answer new × (answer ≢ Err OutOfMemory)
-  pub freed : (old : AddressState) (r : Range) →
-      (answer : Result (Unit {0}) Error) × (new : AddressState) × Frees old r answer new
-  pub moved : (old : AddressState) (r : Range) (request : Request) →
-      (answer : Result Range Error) × (new : AddressState) ×
-      MovesRange old r request answer new × (answer ≢ Err OutOfMemory)
-  pub cloned : (old : AddressState) →
-      (answer : Result AddressState Error) × Clones old answer × (answer ≢ Err OutOfMemory)
-
--- Every list of calls has a history in which no call returns OutOfMemory.
-abbrev pub EveryListHasHistory : Type 0
-EveryListHasHistory =
-    (old : AddressState) (asked : List Asked) →
-    (calls : List Call) × (new : AddressState) × IsHistoryFrom old calls new × (map asked_by calls ≡ asked) ×
-    All (λ call. ¬ RunsOutOfMemory call) calls
+  pub called : EveryCallIsAnswered IsCallFrom
 
 -- A clone of a reached allocator is reached, and has the state of its original.
 abbrev pub CloneIsReached : Type 0
 CloneIsReached =
     (old : Reached) (clone : AddressState) → Clones old.state (Ok clone) →
-    (clone ≡ old.state) × IsReached (old.calls ++ Cloning (Ok clone) ∷ []) clone
+    (clone ≡ old.state) × IsReached (old.calls ++ (Clone, Ok clone) ∷ []) clone
 
 -- The state of an allocator that was read is reached without a call.
 abbrev pub ReadIsReached : (Data → AddressState → Type 0) → Type 0

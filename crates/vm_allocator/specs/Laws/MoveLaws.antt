@@ -5,7 +5,7 @@ use Rattle.vm_ranges.specs.Range.{Range, Covers, address_count}
 use Rattle.vm_ranges.specs.Request.{Request, IsRequest}
 use Rattle.vm_engine.specs.Address.{AddressState, AreClear}
 use Rattle.vm_allocator.specs.Moves.{IsFor, MovesRange}
-use Rattle.vm_allocator.specs.Histories.AddressHistories.{Allocation, Release, IsHistoryFrom, Reached}
+use Rattle.vm_allocator.specs.Histories.AddressHistories.{Allocate, Free, IsHistoryFrom, Reached}
 
 -- The range is as long as requested, starts at a multiple of the requested alignment, and lies in the window of the request.
 pub record IsAsRequested (request : Request) (r : Range) : Type 0 where
@@ -31,4 +31,4 @@ abbrev pub MoveIsTwoCalls : Type 0
 MoveIsTwoCalls =
     (old new : AddressState) (r q : Range) (request : Request) → ¬ IsFor r request →
     MovesRange old r request (Ok q) new ↔
-    (Contains old.held r × IsHistoryFrom old (Allocation request (Ok q) ∷ Release r (Ok tt) ∷ []) new)
+    (Contains old.held r × IsHistoryFrom old ((Allocate request, Ok q) ∷ (Free r, Ok tt) ∷ []) new)

@@ -1,5 +1,5 @@
 -- Laws of saved values that follow only from the definitions.
-use Rattle.std.specs.Prelude.{◌≡◌, ◌↔◌, ℕ, ◌≤◌, ◌⊎◌, List, [], ◌∷◌, ◌++◌, length, Result, Ok, Err, MatchResult}
+use Rattle.std.specs.Prelude.{◌≡◌, ℕ, ◌≤◌, ◌⊎◌, List, length, Result, Ok, Err, MatchResult}
 use Rattle.serde_json.specs.Data.{Data}
 use Rattle.serde_json.specs.Errors.{IsMemory}
 use Rattle.serde_json.specs.View.{view}
@@ -7,16 +7,12 @@ use Rattle.serde_json.specs.declared.error.Error as json
 use Rattle.serde_json.specs.declared.value.Value.{Value}
 use Rattle.vm_engine.specs.Address.{AddressState}
 use Rattle.vm_engine.specs.Answer.{SPLIT_LIMIT_MIN_HELD}
-use Rattle.vm_allocator.specs.Ids.{IdState, IsIdState, freed_ids, next_id_of, ids_of}
-use Rattle.vm_allocator.specs.FreedLists.{AreFreedOf, PushesId, MakesOfIds}
 use Rattle.vm_allocator.specs.Values.AllocatorValues.{EncodesAddresses}
 use Rattle.vm_allocator.specs.Values.RepairedValues.{EncodesRepaired}
 use Rattle.vm_ranges.specs.Saving.{Saves, Reads}
 use Rattle.vm_ranges.specs.Texts.{IsTextOf, Parses}
 use Rattle.vm_ranges.specs.declared.saved.ValueError.{ValueError}
 use Rattle.vm_ranges.specs.declared.saved.ValueError.TheVariants.{OutOfMemory}
-use Rattle.vm_ranges.specs.declared.saved.SavedError.{SavedError}
-use Rattle.vm_ranges.specs.declared.saved.SavedError.TheVariants as saved_errors
 
 -- A value encodes at most one object.
 abbrev pub EncodesAtMostOne : {X : Type 0} → (Data → X → Type 0) → Type 0
@@ -46,22 +42,3 @@ ReadersAgree =
     Reads (EncodesAddresses (view value)) (Ok state) → length state.held ≤ SPLIT_LIMIT_MIN_HELD →
     Reads (EncodesRepaired (view value)) answer →
     (answer ≡ Ok state) ⊎ (answer ≡ Err OutOfMemory)
-
--- The parts of a valid state are read as this state: a writer passes on its range, its next id and its freed ids, one by
--- one. Only the memory for the freed ids can be refused.
-pub record WrittenIdsAreRead : Type 0 where
-  pub accepted : (state : IdState) → IsIdState state →
-      AreFreedOf state.lo state.hi (next_id_of state) (freed_ids state)
-  pub same : (state : IdState) → IsIdState state →
-      ids_of state.lo state.hi (next_id_of state) (record { keys = freed_ids state }) ≡ state
-  pub pushed : (state : IdState) (before after new : List ℕ) (id : ℕ) (answer : Result (Unit {0}) SavedError) →
-      freed_ids state ≡ before ++ id ∷ after → PushesId before id answer new →
-      ((answer ≡ Ok tt) × (new ≡ before ++ id ∷ [])) ⊎ (answer ≡ Err saved_errors.OutOfMemory)
-  pub made : (state : IdState) (answer : Result IdState SavedError) → IsIdState state →
-      MakesOfIds state.lo state.hi (next_id_of state) (freed_ids state) answer → answer ≡ Ok state
-
--- Valid states are equal if and only if they have the same range, the same next id and the same freed ids.
-abbrev pub PartsDecideIds : Type 0
-PartsDecideIds =
-    (a b : IdState) → IsIdState a → IsIdState b →
-    (a ≡ b) ↔ ((a.lo ≡ b.lo) × (a.hi ≡ b.hi) × (next_id_of a ≡ next_id_of b) × (freed_ids a ≡ freed_ids b))

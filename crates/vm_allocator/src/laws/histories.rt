@@ -2,22 +2,21 @@
 //!
 //! A history is a list of calls of an allocator that was created or read. It can go on with a
 //! clone.
+ghost use Rattle.vm_ranges.specs.Histories.{ErrorsChangeNothing, EveryListHasHistory, SameCallsSameResults};
 ghost use Rattle.vm_allocator.specs.Values.AllocatorValues.{EncodesAddresses};
 ghost use Rattle.vm_allocator.specs.Values.RepairedValues.{EncodesRepaired};
 ghost use Rattle.vm_engine.specs.Values.SavedTrees.{HasHeldKeys, HasTreeOf};
+ghost use Rattle.vm_allocator.specs.Histories.AddressHistories.{IsCallFrom};
 ghost use Rattle.vm_allocator.specs.Laws.HistoryLaws.{
   FirstIsLowest,
   LastIsHighest,
   ExactIsAtItsStart,
   PlacesAnswer,
-  ErrorsChangeNothing,
   HeldAreValid,
   StateDecides,
-  SameCallsSameResults,
   FreeUndoes,
   FreesInAnyOrder,
-  EveryCallIsAnswered,
-  EveryListHasHistory,
+  EveryAddressCallIsAnswered,
   CloneIsReached,
   ReadIsReached,
   NodesAreReached,
@@ -39,7 +38,7 @@ fn chosen_places_are_allocated()
 #[tactic(auto, using(crate::proofs::Histories::HistoryResults::places_answer, crate::proofs::Histories::HistoryResults::errors_change_nothing))]
 fn places_answer()
     ensures answers { PlacesAnswer }
-    ensures refusals { ErrorsChangeNothing }
+    ensures refusals { ErrorsChangeNothing IsCallFrom }
 {}
 
 /// Proves that allocated ranges never overlap, lie in the space and do not contain `u64::MAX`.
@@ -63,9 +62,9 @@ fn state_decides()
 ///
 /// An allocator that `from_nodes` restores has the state of the saved one. So later calls have the
 /// same results for both.
-#[tactic(auto, using(crate::proofs::Histories::SameCalls::same_results))]
+#[tactic(auto, using(crate::proofs::Histories::SameCalls::same_address_results))]
 fn same_calls_have_same_results()
-    ensures { SameCallsSameResults }
+    ensures { SameCallsSameResults IsCallFrom }
 {}
 
 /// Proves that freed ranges leave no trace, in whatever order they are freed.
@@ -78,8 +77,8 @@ fn frees_leave_no_trace()
 /// Proves that every call has a result in every state, so every list of calls has a history.
 #[tactic(auto, using(crate::proofs::Results::EveryAddressCall::answers))]
 fn every_call_is_answered()
-    ensures call { EveryCallIsAnswered }
-    ensures list { EveryListHasHistory }
+    ensures call { EveryAddressCallIsAnswered }
+    ensures list { EveryListHasHistory IsCallFrom }
 {}
 
 /// Proves that a clone is reached by a history. So what is true for every history is true for

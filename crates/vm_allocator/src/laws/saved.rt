@@ -2,9 +2,9 @@
 ghost use Rattle.vm_ranges.specs.RangeValues.{EncodesRange, EncodesState};
 ghost use Rattle.vm_allocator.specs.Values.AllocatorValues.{EncodesAddresses};
 ghost use Rattle.vm_allocator.specs.Values.RepairedValues.{EncodesRepaired};
-ghost use Rattle.vm_allocator.specs.Values.IdValues.{EncodesIds};
+ghost use Rattle.vm_ids.specs.Values.IdValues.{EncodesIds};
 ghost use Rattle.vm_allocator.specs.Histories.AddressHistories.{IsHistoryFrom};
-ghost use Rattle.vm_allocator.specs.Histories.IdHistories.{IsIdHistoryFrom};
+ghost use Rattle.vm_ids.specs.Histories.IdHistories.{IsIdHistoryFrom};
 ghost use Rattle.vm_allocator.specs.Laws.RestoredLaws.{
   RestoredIsSaved,
   RestoredNodesHaveState,
@@ -14,8 +14,6 @@ ghost use Rattle.vm_allocator.specs.Laws.ValueLaws.{
   ReadsWritten,
   ReadsText,
   ReadersAgree,
-  WrittenIdsAreRead,
-  PartsDecideIds,
 };
 
 /// Proves that a value encodes at most one object of each type.
@@ -65,13 +63,4 @@ fn texts_are_read()
 #[tactic(auto, using(crate::proofs::Reading::ReadAgain::reads_alike))]
 fn both_readers_agree()
     ensures { ReadersAgree }
-{}
-
-/// Proves that the parts of an id allocator are read as this allocator, unless memory runs out: its
-/// range, its next id and its freed ids, which are added one by one. Allocators are equal if and
-/// only if their parts are.
-#[tactic(auto, using(crate::proofs::Ids::WrittenIds::written))]
-fn written_ids_are_read()
-    ensures read { WrittenIdsAreRead }
-    ensures equal { PartsDecideIds }
 {}

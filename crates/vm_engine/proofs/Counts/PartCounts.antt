@@ -50,8 +50,8 @@ held_after_free old new r answer f =
     f
 
 held_after : (old new : Shape) (part : Part) → HasPart old part new → length (tree_state new).held ≤ length (tree_state old).held + 1
-held_after old new (Allocating request answer count) p = held_after_allocation (tree_state old) (tree_state new) request answer p.0
-held_after old new (Freeing r count) p = held_after_free (tree_state old) (tree_state new) r (Ok tt) p.0
+held_after old new (Allocating request answer count) p = held_after_allocation (tree_state old) (tree_state new) request answer p.1
+held_after old new (Freeing r count) p = held_after_free (tree_state old) (tree_state new) r (Ok tt) p.1
 
 -- ---- The nodes that each part enters
 -- The most nodes that a request enters in a higher tree with more ranges.
@@ -63,8 +63,8 @@ most_raised (ExactMatch t) h g k m a b = a
 enters_at_most : (old new : Shape) (part : Part) (h k : ℕ) → HasPart old part new → height_of old ≤ h → length (tree_state old).held ≤ k →
     EntersAtMost h k part
 enters_at_most old new (Allocating request answer count) h k p a b =
-    omega (arith, p.2.granting.most, most_raised request.policy (height_of old) h (length (tree_state old).held) k a b)
-enters_at_most old new (Freeing r count) h k p a b = omega (arith, p.1.most, a)
+    omega (arith, p.3.granting.most, most_raised request.policy (height_of old) h (length (tree_state old).held) k a b)
+enters_at_most old new (Freeing r count) h k p a b = omega (arith, p.2.most, a)
 
 in_higher : (h g k : ℕ) (part : Part) → h ≤ g → EntersAtMost h k part → EntersAtMost g k part
 in_higher h g k (Allocating request answer count) l e = omega (arith, e, most_raised request.policy h g k k l (omega arith))
@@ -74,18 +74,22 @@ one_at_two : fibonacci 2 ≡ 1
 unfolding fibonacci fibonacci_pair
 one_at_two = refl
 
+balanced_before : (old new : Shape) (part : Part) → HasPart old part new → IsBalancedTreeOf (tree_state old) old
+balanced_before old new (Allocating request answer count) p = p.0
+balanced_before old new (Freeing r count) p = p.0
+
 -- The bound for a list of parts: the greatest height of their trees.
 few_entered : (k : ℕ) (old new : Shape) (parts : List Part) → HasParts old parts new → length (tree_state old).held + length parts ≤ k →
     (h : ℕ) × (fibonacci (h + 2) ≤ 2 * k + 2) × All (EntersAtMost h k) parts
 few_entered k old new [] p l = (0, omega (arith, one_at_two), All-nil (EntersAtMost 0 k))
 few_entered k old new (part ∷ parts) p l =
-    let rest = few_entered k p.0 new parts p.3 (omega (arith, l, held_after old p.0 part p.2)) in
+    let rest = few_entered k p.0 new parts p.2 (omega (arith, l, held_after old p.0 part p.1)) in
     ⊎_elim
     (λ (c : height_of old < rest.0).
-    (rest.0, rest.1, All-cons (EntersAtMost rest.0 k) part parts (enters_at_most old p.0 part rest.0 k p.2 (omega (arith, c)) (omega (arith, l))) rest.2))
+    (rest.0, rest.1, All-cons (EntersAtMost rest.0 k) part parts (enters_at_most old p.0 part rest.0 k p.1 (omega (arith, c)) (omega (arith, l))) rest.2))
     (λ (c : rest.0 ≤ height_of old).
     let raised : All (EntersAtMost (height_of old) k) parts = λ i d e. in_higher rest.0 (height_of old) k _ c (rest.2 i d e) in
-    (height_of old, omega (arith, l, p.1.low), All-cons (EntersAtMost (height_of old) k) part parts (enters_at_most old p.0 part (height_of old) k p.2 (omega arith) (omega (arith, l))) raised))
+    (height_of old, omega (arith, l, (balanced_before old p.0 part p.1).low), All-cons (EntersAtMost (height_of old) k) part parts (enters_at_most old p.0 part (height_of old) k p.1 (omega arith) (omega (arith, l))) raised))
     (cases_lt (height_of old) rest.0)
 
 pub parts_enter_few : PartsEnterFew
@@ -100,19 +104,20 @@ pub allocation_part : (old new : Shape) (request : Request) (answer : Result Ran
     (n : ℕ) × HasParts old (Allocating request answer n ∷ []) new
 allocation_part old new request answer count v b g same enters most =
     let part : HasPart old (Allocating request answer count) new = (
+      b,
       request_allocates request (tree_state old) (tree_state new) answer v g,
       entered_if_valid old request count v enters,
       valid_count (height_of old) (tree_state old) request answer count v most,
       same,
     ) in
-    let parts : HasParts old (Allocating request answer count ∷ []) new = (new, b, part, refl) in
+    let parts : HasParts old (Allocating request answer count ∷ []) new = (new, part, refl) in
     (count, parts)
 
 pub free_part : (old new : Shape) (r : Range) (answer : Result (Unit {0}) Error) (count : ℕ) → OnOk answer (IsBalancedTreeOf (tree_state old) old) →
     Frees (tree_state old) r answer (tree_state new) → IsFreeCount old r answer count →
     OnOk answer ((n : ℕ) × HasParts old (Freeing r n ∷ []) new)
 free_part old new r (Ok tt) count b f most =
-    let part : HasPart old (Freeing r count) new = (f, most) in
-    let parts : HasParts old (Freeing r count ∷ []) new = (new, b, part, refl) in
+    let part : HasPart old (Freeing r count) new = (b, f, most) in
+    let parts : HasParts old (Freeing r count ∷ []) new = (new, part, refl) in
     (count, parts)
 free_part old new r (Err e) count b f most = tt

@@ -7,20 +7,15 @@ use Rattle.std.specs.List.{Contains}
 use Rattle.vm_ranges.specs.Range.{Range}
 use Rattle.vm_ranges.specs.Request.{Request}
 use Rattle.vm_ranges.specs.declared.error.Error.{Error}
+use Rattle.vm_ranges.proofs.Histories.{history_append}
 use Rattle.vm_tree.specs.Shape.{Shape}
-use Rattle.vm_engine.specs.Counts.Parts.{Part, Allocating, Freeing, HasParts, IsPartFor, TakesParts}
-
--- One part after others.
-pub parts_then : (old mid new : Shape) (parts : List Part) (part : Part) → HasParts old parts mid → HasParts mid (part ∷ []) new →
-    HasParts old (parts ++ part ∷ []) new
-parts_then old mid new [] part e h = subst (λ (s : Shape). HasParts s (part ∷ []) new) e h
-parts_then old mid new (first ∷ parts) part t h = (t.0, t.1, t.2, parts_then t.0 mid new parts part t.3 h)
+use Rattle.vm_engine.specs.Counts.Parts.{Part, Allocating, Freeing, HasPart, HasParts, IsPartFor, TakesParts}
 
 one_more : (n : ℕ) (old mid new : Shape) (requests : List Request) (part : Part) → TakesParts n old requests mid →
     HasParts mid (part ∷ []) new → IsPartFor requests part → TakesParts (n + 1) old requests new
 one_more n old mid new requests part taken h for_requests = record {
   parts = taken.parts ++ part ∷ [];
-  from = parts_then old mid new taken.parts part taken.from h;
+  from = history_append HasPart taken.parts (part ∷ []) old mid new taken.from h;
   for_requests = All-append (IsPartFor requests) taken.parts (part ∷ []) taken.for_requests
       (All-cons (IsPartFor requests) part [] for_requests (All-nil (IsPartFor requests)));
   few = omega (arith, length-append taken.parts (part ∷ []), taken.few);

@@ -1,6 +1,7 @@
 -- Calls that are made of several allocations and frees, and the nodes that these parts enter.
-use Rattle.std.specs.Prelude.{◌≡◌, ℕ, ◌*◌, ◌≤◌, List, [], ◌∷◌, length, Result, Ok, OnErr}
+use Rattle.std.specs.Prelude.{◌≡◌, ℕ, ◌*◌, ◌≤◌, List, length, Result, Ok, OnErr}
 use Rattle.std.specs.List.{All, Contains}
+use Rattle.vm_ranges.specs.Histories.{IsHistory}
 use Rattle.vm_ranges.specs.Range.{Range}
 use Rattle.vm_ranges.specs.Request.{Request}
 use Rattle.vm_ranges.specs.declared.error.Error.{Error}
@@ -14,18 +15,18 @@ pub data Part : Type 0 where
   Allocating : Request → Result Range Error → ℕ → Part
   Freeing : Range → ℕ → Part
 
--- The part has its result and its count in the tree old, and leaves the tree new. An error leaves the same tree.
+-- The part has its result and its count in the balanced tree old, and leaves the tree new. An error leaves the same tree.
 abbrev pub HasPart : Shape → Part → Shape → Type 0
 HasPart old (Allocating request answer count) new =
-    Allocates (tree_state old) request answer (tree_state new) × EntersToAllocate old request count
-    × IsAllocationCount (height_of old) (tree_state old) request answer count × OnErr answer (new ≡ old)
-HasPart old (Freeing r count) new = Frees (tree_state old) r (Ok tt) (tree_state new) × IsFreeCount old r (Ok tt) count
+    IsBalancedTreeOf (tree_state old) old × Allocates (tree_state old) request answer (tree_state new)
+    × EntersToAllocate old request count × IsAllocationCount (height_of old) (tree_state old) request answer count
+    × OnErr answer (new ≡ old)
+HasPart old (Freeing r count) new =
+    IsBalancedTreeOf (tree_state old) old × Frees (tree_state old) r (Ok tt) (tree_state new) × IsFreeCount old r (Ok tt) count
 
--- The parts lead from the tree old to the tree new: each begins with the tree that the part before it left, which is balanced.
+-- The parts lead from the tree old to the tree new: each begins with the tree that the part before it left.
 abbrev pub HasParts : Shape → List Part → Shape → Type 0
-HasParts old [] new = new ≡ old
-HasParts old (part ∷ parts) new =
-    (mid : Shape) × IsBalancedTreeOf (tree_state old) old × HasPart old part mid × HasParts mid parts new
+HasParts = IsHistory HasPart
 
 -- The part is a free, or an allocation for one of the requests.
 abbrev pub IsPartFor : List Request → Part → Type 0

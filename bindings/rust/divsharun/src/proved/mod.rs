@@ -11,6 +11,7 @@
 pub mod vm_allocator;
 pub mod vm_devices;
 pub mod vm_engine;
+pub mod vm_ids;
 mod vm_leaf;
 #[cfg(feature = "std")]
 pub mod vm_lines;

@@ -3,7 +3,7 @@ ghost use Rattle.std.specs.Prelude.{◌≡◌, [], ◌∷◌, ◌++◌, IfOk};
 ghost use Rattle.vm_ranges.specs.Cases.{IsTestOf};
 ghost use Rattle.vm_engine.specs.Address.{IsAddressState};
 ghost use Rattle.vm_allocator.specs.Allocator.{state_of};
-ghost use Rattle.vm_allocator.specs.Ids.{IsIdState};
+ghost use Rattle.vm_ids.specs.Ids.{IsIdState};
 ghost use Rattle.vm_devices.specs.Devices.{IsDeviceState};
 ghost use Rattle.vm_devices.specs.Manager.{device_state, made_manager};
 ghost use Rattle.vm_devices.specs.Listed.{HaveAscendingIds, PushesDevice, MakesOfDevices};

@@ -7,16 +7,14 @@
 
 mod address_allocator;
 pub mod allocation_engine;
-mod id_allocator;
 mod saved;
 
 pub use crate::proved::vm_engine::{
     Ranges, RangesIn, ReadNodes, Side, WrittenBlocks, WrittenNode, WrittenTree,
 };
+pub use crate::proved::vm_ids::{FreedIds, HeldIds, IdAllocator, ReadIds};
 pub use crate::proved::vm_ranges::{
     AllocPolicy, Condition, Constraint, Error, ListError, RangeInclusive, Result, SavedError,
     ValueError, DEFAULT_CONSTRAINT_ALIGN,
 };
 pub use address_allocator::{AddressAllocator, Conflict};
-pub use id_allocator::{FreedIds, HeldIds, IdAllocator};
-pub use saved::ReadIds;

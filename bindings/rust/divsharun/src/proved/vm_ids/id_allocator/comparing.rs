@@ -1,0 +1,35 @@
+// Written by bindings/erase from crates/vm_ids/src/id_allocator/comparing.rt: do not edit.
+
+//! Equality of id allocators.
+
+use super::IdAllocator;
+use crate::rattle::BTreeSet;
+
+impl PartialEq for IdAllocator {
+    /// Returns `true` if both allocators have the same range, the same allocated ids and the same ids
+    /// that were allocated at some time.
+    ///
+    /// It stops at the first difference and does not allocate memory.
+    fn eq(&self, other: &IdAllocator) -> bool {
+        self.has_bounds_of(other) && same_set(&self.freed_ids, &other.freed_ids)
+    }
+}
+
+impl Eq for IdAllocator {}
+
+impl IdAllocator {
+    /// Returns `true` if both allocators have the same range and the same ids that were allocated at
+    /// some time.
+    fn has_bounds_of(&self, other: &IdAllocator) -> bool {
+        self.range_base == other.range_base
+            && self.range_end == other.range_end
+            && self.next_id == other.next_id
+    }
+}
+
+/// Returns `true` if both sets have the same ids.
+fn same_set(a: &BTreeSet<u32>, b: &BTreeSet<u32>) -> bool {
+    // Sets of different lengths differ, and no walk over them is needed.
+    let same_length = a.len() == b.len();
+    same_length && a == b
+}

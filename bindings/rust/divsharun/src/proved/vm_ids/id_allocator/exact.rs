@@ -1,0 +1,112 @@
+// Written by bindings/erase from crates/vm_ids/src/id_allocator/exact.rt: do not edit.
+
+//! The allocation of a given id, or of an id between two others.
+
+use super::{bound_of, IdAllocator};
+use crate::proved::vm_ranges::{Error, Result};
+use crate::rattle::AllocFailed;
+use crate::rattle::BTreeSet;
+
+impl IdAllocator {
+    /// Allocates this id, and returns it.
+    ///
+    /// All ids of the range below it count as allocated at some time. Those that never were are freed
+    /// ids afterwards, and time and memory are linear in their number. The call does not allocate memory
+    /// if the id is at most the next id.
+    ///
+    /// # Errors
+    ///
+    /// An error changes nothing. In this order:
+    /// - `OutOfRange(id)` if the id is outside the range.
+    /// - `ResourceNotAvailable` if the id is already allocated.
+    /// - `OutOfMemory` if an allocation of memory fails.
+    pub fn allocate_exact(&mut self, id: u32) -> Result<u32> {
+        if !self.id_in_range(id) {
+            return Err(Error::OutOfRange(id));
+        }
+        if !self.was_allocated(id) {
+            return self.allocate_new(id);
+        }
+        if !self.freed_ids.remove(&id) {
+            return Err(Error::ResourceNotAvailable);
+        }
+        Ok(id)
+    }
+
+    /// Allocates an id of the range that was never allocated. The ids below it that were never allocated
+    /// are freed ids afterwards.
+    pub(super) fn allocate_new(&mut self, id: u32) -> Result<u32> {
+        let next = bound_of(self.next_id, self.range_end) as u32;
+        add_between(&mut self.freed_ids, next, id)?;
+        self.next_id = id.checked_add(1);
+        Ok(id)
+    }
+
+    /// Allocates the lowest free id from `first` to `last`, both included, and returns it.
+    ///
+    /// The id is found in logarithmic time. It is allocated as by
+    /// [`allocate_exact`](Self::allocate_exact).
+    ///
+    /// # Errors
+    ///
+    /// An error changes nothing. In this order:
+    /// - `InvalidRange(first, last)` if `last` is below `first`.
+    /// - `ResourceNotAvailable` if no id from `first` to `last` is in the range and free.
+    /// - `OutOfMemory` if an allocation of memory fails.
+    pub fn allocate_in(&mut self, first: u32, last: u32) -> Result<u32> {
+        if last < first {
+            return Err(Error::InvalidRange(first.into(), last.into()));
+        }
+        match self.lowest_in(first, last) {
+            None => Err(Error::ResourceNotAvailable),
+            Some(id) => self.allocate_exact(id),
+        }
+    }
+
+    /// Returns the lowest id from `first` to `last` that is in the range and free.
+    fn lowest_in(&self, first: u32, last: u32) -> Option<u32> {
+        // A freed id is below all ids that were never allocated.
+        if let Some(freed) = first_between(&self.freed_ids, first, last) {
+            return Some(freed);
+        }
+        let Some(next) = self.next_id else {
+            return None;
+        };
+        let id = next.max(first);
+        if id > last || id > self.range_end {
+            return None;
+        }
+        Some(id)
+    }
+}
+
+/// Returns the lowest id of a set from `first` to `last`, both included.
+fn first_between(ids: &BTreeSet<u32>, first: u32, last: u32) -> Option<u32> {
+    ids.range(first..=last).next().copied()
+}
+
+/// Adds the ids from `from` up to below `to` to a set that has none of them. An error changes nothing.
+fn add_between(
+    ids: &mut BTreeSet<u32>,
+    from: u32,
+    to: u32,
+) -> core::result::Result<(), AllocFailed<u32>> {
+    // From the highest to the lowest: in this order an insert moves few ids in the sets of the Rust crate
+    // that is generated from this source.
+    let mut id = to;
+    while id > from {
+        id -= 1;
+        if let Err(failed) = ids.insert(id) {
+            remove_between(ids, id + 1, to);
+            return Err(failed);
+        }
+    }
+    Ok(())
+}
+
+/// Removes the ids from `from` up to below `to` from a set.
+fn remove_between(ids: &mut BTreeSet<u32>, from: u32, to: u32) {
+    for id in from..to {
+        ids.remove(&id);
+    }
+}

@@ -1,0 +1,30 @@
+-- Rows: the numbers from a to below a + n.
+use Rattle.std.proofs.Common.{◌≡◌, ℕ, zero, suc, ◌+◌, ◌<◌, ◌≤◌, Bool, List, [], ◌∷◌, ◌++◌, refl, ap, ◌∙◌, arith}
+use Rattle.std.proofs.lemmas.List.Kept.{IsStrictlySortedBy-filter}
+use Rattle.std.specs.List.{filter, range_with_len}
+use Rattle.std.specs.List.Sorted.{IsStrictlySortedBy}
+use Rattle.std.specs.Ordering.{nat_cmp}
+use Rattle.vm_ids.specs.Checks.IdQueries.{AscendWithin}
+use Rattle.vm_ids.proofs.Ids.AscendingBounds.{sorted}
+
+-- Two tests that agree on a row keep the same ids of it.
+pub same_kept : (p q : ℕ → Bool) (a n : ℕ) → ((i : ℕ) → a ≤ i → i < a + n → p i ≡ q i) → filter p (range_with_len a n) ≡ filter q (range_with_len a n)
+same_kept p q a zero h = refl
+same_kept p q a (suc n) h =
+    rw (h a (omega arith) (omega arith), same_kept p q (a + 1) n (λ i l u. h i (omega arith) (omega arith))) refl
+
+-- The last number of a row.
+pub row_end : (a n : ℕ) → range_with_len a (suc n) ≡ range_with_len a n ++ (a + n) ∷ []
+row_end a zero = let last : a ≡ a + 0 = omega arith in ap (λ (i : ℕ). i ∷ []) last
+row_end a (suc n) =
+    let last : a + 1 + n ≡ a + suc n = omega arith in
+    ap (λ (is : List ℕ). a ∷ is) (row_end (a + 1) n ∙ ap (λ (i : ℕ). range_with_len (a + 1) n ++ i ∷ []) last)
+
+row_rises : (n a bound : ℕ) → a + n ≡ bound → AscendWithin a bound (range_with_len a n)
+row_rises zero a bound e = tt
+row_rises (suc n) a bound e = (omega arith, omega arith, row_rises n (a + 1) bound (omega arith))
+
+-- The numbers of a range that pass a test are in ascending order.
+pub passed_rise : (p : ℕ → Bool) (a n : ℕ) → IsStrictlySortedBy nat_cmp (filter p (range_with_len a n))
+passed_rise p a n =
+    IsStrictlySortedBy-filter nat_cmp p (range_with_len a n) (sorted a (a + n) (range_with_len a n) (row_rises n a (a + n) refl))

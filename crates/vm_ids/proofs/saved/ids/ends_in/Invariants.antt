@@ -1,0 +1,12 @@
+use Rattle.std.proofs.Common.{ℕ, List}
+use Rattle.vm_ids.specs.Checks.FreedChecks.{AreEndsOf}
+use Rattle.vm_ids.proofs.Ids.AscendingNumbers.{Gathers}
+use Rattle.vm_ids.proofs.saved.ids.ends_in.Given as goal
+
+-- The ends are those of the ids so far.
+abbrev pub invariant-loop-item : goal.invariant-loop-item
+invariant-loop-item l = record {
+  ids : List ℕ;
+  ends : AreEndsOf l.ends ids;
+  so_far : Gathers l.item-index l.list ids;
+}

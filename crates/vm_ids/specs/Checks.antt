@@ -1,0 +1,4 @@
+pub mod IdChecks
+pub mod IdQueries
+pub mod FreedBetween
+pub mod FreedChecks

@@ -1,0 +1,34 @@
+-- The check of the freed ids of a saved id allocator, of which only the first and the last are kept. Only private functions
+-- cite these definitions.
+use Rattle.std.specs.Prelude.{◌≡◌, ℕ, List, [], ◌∷◌, ◌++◌, Option, None, Some, Result, Ok, Err}
+use Rattle.std.specs.List.Sorted.{IsStrictlySortedBy}
+use Rattle.std.specs.Ordering.{nat_cmp}
+use Rattle.vm_ranges.specs.declared.saved.SavedError.{SavedError}
+use Rattle.vm_ranges.specs.declared.saved.SavedError.TheVariants.{Violated, OutOfMemory}
+use Rattle.vm_ids.specs.declared.saved.read_ids.Ends.{Ends}
+use Rattle.vm_ids.specs.FreedLists.{AreFreedOf, violated_by}
+
+-- The last of the ids after `first`, or `first` if there are none.
+abbrev pub last_of : ℕ → List ℕ → ℕ
+last_of first [] = first
+last_of first (id ∷ ids) = last_of id ids
+
+-- The first and the last of the ids, if there are any.
+abbrev pub ends_of : List ℕ → Option Ends
+ends_of [] = None
+ends_of (id ∷ ids) = Some (record { first = id; last = last_of id ids })
+
+-- The ids are in strictly ascending order, and these are their ends.
+abbrev pub AreEndsOf : Option Ends → List ℕ → Type 0
+AreEndsOf ends ids = IsStrictlySortedBy nat_cmp ids × (ends ≡ ends_of ids)
+
+-- The result of adding an id at the end: the new ends, or None if the ids are not in strictly ascending order then.
+abbrev pub AddsAtEnd : List ℕ → ℕ → Option Ends → Type 0
+AddsAtEnd ids id None = ¬ IsStrictlySortedBy nat_cmp (ids ++ id ∷ [])
+AddsAtEnd ids id (Some ends) = AreEndsOf (Some ends) (ids ++ id ∷ [])
+
+-- The result of checking the parts of an id allocator: the first condition that they violate.
+abbrev pub ChecksParts : ℕ → ℕ → Option ℕ → List ℕ → Result (Unit {0}) SavedError → Type 0
+ChecksParts lo hi next freed (Ok _) = AreFreedOf lo hi next freed
+ChecksParts lo hi next freed (Err (Violated c)) = (c ≡ violated_by lo hi next) × ¬ AreFreedOf lo hi next freed
+ChecksParts lo hi next freed (Err OutOfMemory) = ⊥

@@ -1,0 +1,97 @@
+-- The results of calls that allocate a given id, an id of a window, or several ids.
+use Rattle.std.specs.Prelude.{◌≡◌, ℕ, ◌+◌, ◌-◌, ◌<◌, ◌≤◌, ◌⊎◌, ◌||◌, not, nat_lt, if◌then◌else◌, List, [], ◌∷◌, length, take, Option, Some, None, MatchOption, Result, Ok, Err}
+use Rattle.std.specs.List.{Contains, filter, range_with_len}
+use Rattle.std.specs.FinSet as set
+use Rattle.vm_ranges.specs.Cases.{IfElse, Unless}
+use Rattle.vm_ranges.specs.declared.error.Error.{Error}
+use Rattle.vm_ranges.specs.declared.error.Error.TheVariants.{Overflow, OutOfRange, ResourceNotAvailable, InvalidRange, OutOfMemory}
+use Rattle.vm_ids.specs.Ids.{MAX_ID, IdState, IsOfRange, IsHeld, IsNotHeld, new_ids, holding_id}
+
+-- The ids of the range that are not held, in ascending order.
+abbrev pub free_ids : IdState → List ℕ
+free_ids state = filter (λ i. not (set.contains state.held i)) (range_with_len state.lo (state.hi + 1 - state.lo))
+
+-- The state after the ids are allocated one after the other.
+abbrev pub holding_ids : List ℕ → IdState → IdState
+holding_ids [] state = state
+holding_ids (i ∷ is) state = holding_ids is (holding_id i state)
+
+-- The id i is allocated, or memory runs out and nothing changes. An id up to the bound needs no memory.
+unfoldable pub HoldsId : IdState → ℕ → Result ℕ Error → IdState → Type 0
+HoldsId old i answer new =
+    ((answer ≡ Ok i) × (new ≡ holding_id i old)) ⊎ ((old.bound < i) × (answer ≡ Err OutOfMemory) × (new ≡ old))
+
+-- The result of `allocate_exact`. An error changes nothing. The first condition that is true decides:
+-- - OutOfRange if the id is not in the range.
+-- - ResourceNotAvailable if the id is held.
+-- - Otherwise the id is allocated, or the result is OutOfMemory.
+unfoldable pub AllocatesExactId : IdState → ℕ → Result ℕ Error → IdState → Type 0
+AllocatesExactId old i answer new =
+    let refused : Error → Type 0 = λ e. (answer ≡ Err e) × (new ≡ old) in
+    Unless (IsOfRange old i) (refused (OutOfRange i)) (
+    IfElse (IsHeld old i) (refused ResourceNotAvailable)
+    (HoldsId old i answer new))
+
+-- The id i is in the range, from first to last, and not held.
+abbrev pub IsNotHeldIn : ℕ → ℕ → IdState → ℕ → Type 0
+IsNotHeldIn first last state i = (first ≤ i) × (i ≤ last) × IsNotHeld state i
+
+-- The id i is the lowest from first to last that is in the range and not held.
+unfoldable pub IsLowestNotHeldIn : ℕ → ℕ → IdState → ℕ → Type 0
+IsLowestNotHeldIn first last state i =
+    IsNotHeldIn first last state i × ((j : ℕ) → IsNotHeldIn first last state j → i ≤ j)
+
+-- No id from first to last is in the range and not held.
+unfoldable pub IsNoneNotHeldIn : ℕ → ℕ → IdState → Type 0
+IsNoneNotHeldIn first last state = (i : ℕ) → ¬ IsNotHeldIn first last state i
+
+-- The result of `allocate_in` for the ids from first to last. An error changes nothing. The first condition that is
+-- true decides:
+-- - InvalidRange if last is below first.
+-- - ResourceNotAvailable if no id there is in the range and not held.
+-- - Otherwise the lowest of them is allocated, or the result is OutOfMemory.
+unfoldable pub AllocatesIdIn : IdState → ℕ → ℕ → Result ℕ Error → IdState → Type 0
+AllocatesIdIn old first last answer new =
+    let refused : Error → Type 0 = λ e. (answer ≡ Err e) × (new ≡ old) in
+    IfElse (last < first) (refused (InvalidRange first last)) (
+    (IsNoneNotHeldIn first last old × refused ResourceNotAvailable)
+    ⊎ ((i : ℕ) × IsLowestNotHeldIn first last old i × HoldsId old i answer new))
+
+-- The result of `allocate_ids`. An error changes nothing. If fewer than `count` ids are free, the error is the one of
+-- `allocate_id` if all ids are held. Otherwise the `count` lowest free ids are allocated, or the result is OutOfMemory.
+unfoldable pub AllocatesIds : IdState → ℕ → Result (List ℕ) Error → IdState → Type 0
+AllocatesIds old count answer new =
+    let refused : Error → Type 0 = λ e. (answer ≡ Err e) × (new ≡ old) in
+    IfElse (length (free_ids old) < count)
+    (IfElse (old.hi ≡ MAX_ID) (refused Overflow) (refused ResourceNotAvailable))
+    (((answer ≡ Ok (take count (free_ids old))) × (new ≡ holding_ids (take count (free_ids old)) old))
+    ⊎ ((0 < count) × refused OutOfMemory))
+
+-- The error of the first id that is wrong, or None. An id is wrong if it is not in the range from lo to hi, or is below
+-- `next`, which is one past the id before it.
+abbrev pub fault_of_held : ℕ → ℕ → ℕ → List ℕ → Option Error
+fault_of_held lo hi next [] = None
+fault_of_held lo hi next (i ∷ is) =
+    if nat_lt i lo || nat_lt hi i then Some (OutOfRange i)
+    else if nat_lt i next then Some ResourceNotAvailable
+    else fault_of_held lo hi (i + 1) is
+
+-- The list skips an id: an id from lo up to an id of the list is not in the list.
+pub record SkipsId (lo : ℕ) (held : List ℕ) : Type 0 where
+  pub skipped : ℕ
+  pub above : ℕ
+  pub between : (lo ≤ skipped) × (skipped < above)
+  pub listed : Contains held above
+  pub not_listed : ¬ Contains held skipped
+
+-- The result of `with_held` for the ids from lo to hi. The first condition that is true decides:
+-- - InvalidRange if hi is below lo.
+-- - The error of the first id that is wrong.
+-- - Otherwise the ids are allocated in a new allocator, or the result is OutOfMemory. A list that skips no id needs no
+--   memory.
+unfoldable pub MakesWithHeld : ℕ → ℕ → List ℕ → Result IdState Error → Type 0
+MakesWithHeld lo hi held answer =
+    IfElse (hi < lo) (answer ≡ Err (InvalidRange lo hi))
+    (MatchOption (fault_of_held lo hi lo held)
+    ((answer ≡ Ok (holding_ids held (new_ids lo hi))) ⊎ (SkipsId lo held × (answer ≡ Err OutOfMemory)))
+    (λ e. answer ≡ Err e))

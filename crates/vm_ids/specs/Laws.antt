@@ -1,0 +1,4 @@
+pub mod IdLaws
+pub mod IdRequestLaws
+pub mod IdHistoryLaws
+pub mod IdPartLaws

@@ -1,0 +1,8 @@
+pub mod Ids
+pub mod IdRequests
+pub mod IdOrder
+pub mod FreedLists
+pub mod Histories
+pub mod Laws
+pub mod Values
+pub mod Checks

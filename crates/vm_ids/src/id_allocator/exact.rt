@@ -1,0 +1,170 @@
+//! The allocation of a given id, or of an id between two others.
+ghost use Rattle.std.specs.Prelude.{◌≡◌, ℕ, ◌≤◌, ◌<◌, false, Ok, IfOk, IfSome, IfNone, IsOk, OnOk, OnErr};
+ghost use Rattle.std.specs.Ordering.{nat_cmp};
+ghost use Rattle.std.specs.BTreeSet.{contains, IsSameSet};
+ghost use Rattle.vm_ids.specs.Ids.{IsNotHeld, holding_id};
+ghost use Rattle.vm_ids.specs.IdRequests.{
+  AllocatesExactId,
+  AllocatesIdIn,
+  IsNotHeldIn,
+  IsLowestNotHeldIn,
+  IsNoneNotHeldIn,
+  HoldsId,
+};
+ghost use Rattle.vm_ids.specs.Checks.FreedBetween.{
+  IsBetween,
+  AddsBetween,
+  RemovesBetween,
+  IsLowestBetween,
+};
+
+use super::{IdAllocator, bound_of};
+use std::alloc::AllocFailed;
+use std::collections::BTreeSet;
+use vm_ranges::{Error, Result};
+
+impl IdAllocator {
+    /// Allocates this id, and returns it.
+    ///
+    /// All ids of the range below it count as allocated at some time. Those that never were are freed
+    /// ids afterwards, and time and memory are linear in their number. The call does not allocate memory
+    /// if the id is at most the next id.
+    ///
+    /// # Errors
+    ///
+    /// An error changes nothing. In this order:
+    /// - `OutOfRange(id)` if the id is outside the range.
+    /// - `ResourceNotAvailable` if the id is already allocated.
+    /// - `OutOfMemory` if an allocation of memory fails.
+    #[tactic(auto, using(crate::proofs::Ids::ExactIds::exact))]
+    pub fn allocate_exact(&mut self, id: u32) -> Result<u32>
+        // The id is held after the call, and it was not held before.
+        ensures held { IfOk result (λ i. (i ≡ id) × (self.new ≡ holding_id id self.old)) }
+        ensures free { IfOk result (λ i. IsNotHeld self.old i) }
+        ensures succeeds { IsNotHeld self.old id → id ≤ self.old.bound → result ≡ Ok id }
+        ensures unchanged { OnErr result (self.new ≡ self.old) }
+
+        // Each result under its exact condition.
+        ensures answer { AllocatesExactId self.old id result self.new }
+    {
+        if !self.id_in_range(id) {
+            return Err(Error::OutOfRange(id));
+        }
+        if !self.was_allocated(id) {
+            return self.allocate_new(id);
+        }
+        if !self.freed_ids.remove(&id) {
+            return Err(Error::ResourceNotAvailable);
+        }
+        Ok(id)
+    }
+
+    /// Allocates an id of the range that was never allocated. The ids below it that were never allocated
+    /// are freed ids afterwards.
+    #[tactic(auto, using(crate::proofs::Ids::ExactIds::holds_new))]
+    pub(super) fn allocate_new(&mut self, id: u32) -> Result<u32>
+        requires { (self.old.bound ≤ id) × (id ≤ self.old.hi) }
+        ensures { HoldsId self.old id result self.new }
+    {
+        let next = bound_of(self.next_id, self.range_end) as u32;
+        add_between(&mut self.freed_ids, next, id)?;
+        self.next_id = id.checked_add(1);
+        Ok(id)
+    }
+
+    /// Allocates the lowest free id from `first` to `last`, both included, and returns it.
+    ///
+    /// The id is found in logarithmic time. It is allocated as by
+    /// [`allocate_exact`](Self::allocate_exact).
+    ///
+    /// # Errors
+    ///
+    /// An error changes nothing. In this order:
+    /// - `InvalidRange(first, last)` if `last` is below `first`.
+    /// - `ResourceNotAvailable` if no id from `first` to `last` is in the range and free.
+    /// - `OutOfMemory` if an allocation of memory fails.
+    #[tactic(auto, using(crate::proofs::Ids::LowestIds::within))]
+    pub fn allocate_in(&mut self, first: u32, last: u32) -> Result<u32>
+        // The id is the lowest that is not held there. It is held after the call.
+        ensures lowest { IfOk result (λ id. IsLowestNotHeldIn first last self.old id) }
+        ensures held { IfOk result (λ id. self.new ≡ holding_id id self.old) }
+        ensures succeeds { (id : ℕ) → IsNotHeldIn first last self.old id → id ≤ self.old.bound → IsOk result }
+        ensures unchanged { OnErr result (self.new ≡ self.old) }
+
+        // Each result under its exact condition.
+        ensures answer { AllocatesIdIn self.old first last result self.new }
+    {
+        if last < first {
+            return Err(Error::InvalidRange(first.into(), last.into()));
+        }
+        match self.lowest_in(first, last) {
+            None => Err(Error::ResourceNotAvailable),
+            Some(id) => self.allocate_exact(id),
+        }
+    }
+
+    /// Returns the lowest id from `first` to `last` that is in the range and free.
+    #[tactic(auto, using(crate::proofs::Ids::LowestIds::finds))]
+    fn lowest_in(&self, first: u32, last: u32) -> Option<u32>
+        requires { first ≤ last }
+        ensures found { IfSome result (λ id. IsLowestNotHeldIn first last self.now id) }
+        ensures none { IfNone result (IsNoneNotHeldIn first last self.now) }
+    {
+        // A freed id is below all ids that were never allocated.
+        if let Some(freed) = first_between(&self.freed_ids, first, last) {
+            return Some(freed);
+        }
+        let Some(next) = self.next_id else {
+            return None;
+        };
+        let id = next.max(first);
+        if id > last || id > self.range_end {
+            return None;
+        }
+        Some(id)
+    }
+}
+
+/// Returns the lowest id of a set from `first` to `last`, both included.
+fn first_between(ids: &BTreeSet<u32>, first: u32, last: u32) -> Option<u32>
+    requires { first ≤ last }
+    ensures found { IfSome result (λ id. IsLowestBetween first last ids.now id) }
+    ensures none { IfNone result ((id : ℕ) → first ≤ id → id ≤ last → contains nat_cmp ids.now id ≡ false) }
+{
+    ids.range(first..=last).next().copied()
+}
+
+/// Adds the ids from `from` up to below `to` to a set that has none of them. An error changes nothing.
+fn add_between(
+    ids: &mut BTreeSet<u32>,
+    from: u32,
+    to: u32,
+) -> std::result::Result<(), AllocFailed<u32>>
+    requires order { from ≤ to }
+    requires new { (i : ℕ) → IsBetween from to i → contains nat_cmp ids.old i ≡ false }
+    ensures added { OnOk result (AddsBetween from to ids.old ids.new) }
+    ensures unchanged { OnErr result (IsSameSet nat_cmp ids.old ids.new) }
+    ensures succeeds { from ≡ to → IsOk result }
+{
+    // From the highest to the lowest: in this order an insert moves few ids in the sets of the Rust crate
+    // that is generated from this source.
+    let mut id = to;
+    while id > from {
+        id -= 1;
+        if let Err(failed) = ids.insert(id) {
+            remove_between(ids, id + 1, to);
+            return Err(failed);
+        }
+    }
+    Ok(())
+}
+
+/// Removes the ids from `from` up to below `to` from a set.
+fn remove_between(ids: &mut BTreeSet<u32>, from: u32, to: u32)
+    requires { from ≤ to }
+    ensures { RemovesBetween from to ids.old ids.new }
+{
+    for id in from..to {
+        ids.remove(&id);
+    }
+}

@@ -1,0 +1,117 @@
+//! The allocated ids, as an iterator from both ends.
+//!
+//! It walks over the ids that were allocated at some time, and beside them over the freed ids. Each
+//! end has its own iterator over the freed ids, so the ends share nothing but the bounds.
+ghost use Rattle.std.specs.Prelude.{◌≡◌, length};
+ghost use Rattle.std.specs.Iterator.{YieldsFirst, YieldsLast, item_count};
+ghost use Rattle.vm_ids.specs.Ids.{held_ids};
+
+use super::{IdAllocator, bound_of};
+use std::collections::btree_set::Iter;
+use std::marker::Model;
+
+/// An iterator over the allocated ids, from the lowest to the highest, or backwards. It does not
+/// allocate.
+///
+/// Its model is the list of the ids that it has not returned yet.
+#[derive(Clone, Drop)]
+pub struct HeldIds<'a> {
+    // The lowest id that was not visited, and the bound of those that were not visited.
+    next: u64,
+    bound: u64,
+    // The lowest freed id that was not visited, and the freed ids above it.
+    next_freed: Option<u32>,
+    freed_above: Iter<'a, u32>,
+    // The highest freed id that was not visited, and the freed ids below it.
+    last_freed: Option<u32>,
+    freed_below: Iter<'a, u32>,
+    // The number of ids that were not returned.
+    left: u64,
+}
+
+impl<'a> Model for HeldIds<'a> {
+    ghost use Rattle.std.specs.Prelude.{ℕ, List};
+    ghost use Rattle.vm_ids.specs.Checks.IdQueries.{freed_from, freed_to, ids_left, AreIdsLeft};
+
+    ghost Value = { List ℕ };
+
+    ghost view = { λ h. ids_left h.next h.bound (freed_from h.next_freed h.freed_above) };
+
+    ghost invariant = { λ h.
+        AreIdsLeft h.next h.bound (freed_from h.next_freed h.freed_above) (freed_to h.freed_below h.last_freed) h.left };
+}
+
+impl<'a> HeldIds<'a> {
+    /// Returns the number of ids that are left. It takes constant time.
+    pub fn count_left(&self) -> u64
+        ensures { result ≡ length self.now }
+    {
+        self.left
+    }
+}
+
+impl<'a> Iterator for HeldIds<'a> {
+    type Item = u32;
+
+    ghost next_gives = { YieldsFirst (λ h. h) };
+
+    ghost remaining = { item_count (λ h. h) };
+
+    /// Returns the lowest allocated id that is left.
+    #[tactic(auto, using(crate::proofs::Ids::HeldIds::walks))]
+    fn next(&mut self) -> Option<u32> {
+        while self.next < self.bound {
+            let id = self.next as u32;
+            self.next += 1;
+            if self.next_freed != Some(id) {
+                self.left -= 1;
+                return Some(id);
+            }
+            self.next_freed = self.freed_above.next().copied();
+        }
+        None
+    }
+}
+
+impl<'a> DoubleEndedIterator for HeldIds<'a> {
+    ghost next_back_gives = { YieldsLast (λ h. h) };
+
+    /// Returns the highest allocated id that is left.
+    #[tactic(auto, using(crate::proofs::Ids::HeldIds::walks))]
+    fn next_back(&mut self) -> Option<u32> {
+        while self.next < self.bound {
+            self.bound -= 1;
+            let id = self.bound as u32;
+            if self.last_freed != Some(id) {
+                self.left -= 1;
+                return Some(id);
+            }
+            self.last_freed = self.freed_below.next_back().copied();
+        }
+        None
+    }
+}
+
+impl IdAllocator {
+    /// Returns an iterator over the allocated ids, from the lowest to the highest.
+    ///
+    /// It visits each id that was allocated at some time, and does not allocate memory.
+    #[tactic(auto, using(crate::proofs::Ids::HeldIds::lists))]
+    pub fn held_ids(&self) -> HeldIds<'_>
+        ensures { result ≡ held_ids self.now }
+    {
+        let mut freed_above = self.freed_ids.iter();
+        let next_freed = freed_above.next().copied();
+        let mut freed_below = self.freed_ids.iter();
+        let last_freed = freed_below.next_back().copied();
+        HeldIds {
+            next: u64::from(self.range_base),
+            bound: bound_of(self.next_id, self.range_end),
+            next_freed,
+            freed_above,
+            last_freed,
+            freed_below,
+            left: self.held_count(),
+        }
+    }
+}

@@ -1,0 +1,27 @@
+//! Laws of the calls that allocate a given id, an id of a window, or several ids.
+ghost use Rattle.vm_ids.specs.Laws.IdRequestLaws.{
+  SeveralAreAsSingle,
+  ExactIsAsSingle,
+  WindowsOfIds,
+  HeldIdsAreAsExact,
+  IdRequestsAreDetermined,
+  IdRequestsPreserveStates,
+};
+
+/// Proves that these calls allocate the ids that calls of `allocate_id` or `allocate_exact` would
+/// allocate, and leave the same state.
+#[tactic(auto, using(crate::proofs::Ids::IdsInTurn::in_turn))]
+fn requests_are_as_single_calls()
+    ensures several { SeveralAreAsSingle }
+    ensures exact { ExactIsAsSingle }
+    ensures windows { WindowsOfIds }
+    ensures held { HeldIdsAreAsExact }
+{}
+
+/// Proves that these calls have one result and one next state in each state, unless memory runs out,
+/// and preserve the valid states.
+#[tactic(auto, using(crate::proofs::Ids::IdsInTurn::requests))]
+fn requests_are_determined()
+    ensures determined { IdRequestsAreDetermined }
+    ensures preserved { IdRequestsPreserveStates }
+{}

@@ -1,0 +1,169 @@
+//! The freed ids of a saved id allocator that were read so far.
+//!
+//! A reader adds the ids one by one to the set that becomes that of the allocator. It has no other
+//! list of them. The first and the last id show whether all of them are in the range.
+ghost use Rattle.std.specs.Prelude.{◌≡◌, ℕ, ◌≤◌, ◌<◌, ◌↔◌, List, [], IfOk, IsTrue};
+ghost use Rattle.std.specs.List.{Contains};
+ghost use Rattle.vm_ids.specs.Ids.{IsIdState, IsNext};
+ghost use Rattle.vm_ids.specs.FreedLists.{PushesId, MakesOfIds, is_next};
+ghost use Rattle.vm_ids.specs.Checks.FreedChecks.{AreEndsOf, AddsAtEnd, ChecksParts};
+
+use crate::id_allocator::{IdAllocator, bound_of};
+use std::alloc::Global;
+use std::collections::BTreeSet;
+use std::marker::Model;
+use vm_ranges::{Condition, SavedError};
+
+/// The freed ids of a saved id allocator that were read so far, in ascending order.
+///
+/// Its model is the list of these ids.
+#[derive(Drop)]
+pub struct ReadIds {
+    ids: BTreeSet<u32>,
+    // The first and the last of the ids.
+    ends: Option<Ends>,
+}
+
+/// The first and the last of several ids in ascending order.
+#[derive(Clone, Copy)]
+pub(super) struct Ends {
+    first: u32,
+    last: u32,
+}
+
+impl Model for ReadIds {
+    ghost use Rattle.std.specs.Prelude.{ℕ, List};
+    ghost use Rattle.vm_ids.specs.Checks.FreedChecks.{AreEndsOf};
+
+    ghost Value = { List ℕ };
+
+    ghost view = { λ r. r.ids.keys };
+
+    ghost invariant = { λ r. AreEndsOf r.ends r.ids.keys };
+}
+
+impl ReadIds {
+    /// Returns an empty list of ids. It does not allocate.
+    pub fn new(alloc: Global) -> Self
+        ensures { result ≡ [] }
+    {
+        ReadIds {
+            ids: BTreeSet::new(alloc),
+            ends: None,
+        }
+    }
+
+    /// Adds an id at the end. An error changes nothing.
+    ///
+    /// # Errors
+    ///
+    /// In this order:
+    /// - `Violated(Order)` if the id is not above the last one.
+    /// - `OutOfMemory` if an allocation fails.
+    #[tactic(auto, using(crate::proofs::Ids::AddedIds::pushes))]
+    pub fn push(&mut self, id: u32) -> std::result::Result<(), SavedError>
+        ensures { PushesId self.old id result self.new }
+    {
+        let Some(ends) = ends_with(self.ends, id) else {
+            return Err(SavedError::Violated(Condition::Order));
+        };
+        self.ids.insert(id)?;
+        self.ends = Some(ends);
+        Ok(())
+    }
+}
+
+impl IdAllocator {
+    /// Creates an allocator with this range, this next id and these freed ids.
+    ///
+    /// The next id is the lowest that was never allocated, or `None` if it would be past
+    /// `u32::MAX`. All ids of the range below it are allocated, except the freed ones. The parts can
+    /// be untrusted input. It does not allocate memory, and does not visit the ids.
+    ///
+    /// # Errors
+    ///
+    /// In this order:
+    /// - `Violated(IdRange)` if `range_base` is past `range_end`.
+    /// - `Violated(NextId)` if the next id is neither in the range nor right after it, or is `None`
+    ///   although `range_end` is below `u32::MAX`.
+    /// - `Violated(FreedIds)` if a freed id is outside the range or not below the next id.
+    pub fn from_ids(
+        range_base: u32,
+        next_id: Option<u32>,
+        range_end: u32,
+        freed_ids: ReadIds,
+    ) -> std::result::Result<Self, SavedError>
+        ensures answer { MakesOfIds range_base range_end next_id freed_ids result }
+        ensures state { IfOk result IsIdState }
+    {
+        check_parts(range_base, next_id, range_end, freed_ids.ends)?;
+        Ok(IdAllocator {
+            range_base,
+            next_id,
+            range_end,
+            freed_ids: freed_ids.ids,
+        })
+    }
+}
+
+/// Returns the ends of several ids after an id is added at their end. Returns `None` if it is not
+/// above the last one.
+#[tactic(auto, using(crate::proofs::Ids::AddedIds::ends))]
+pub(super) fn ends_with(ends: Option<Ends>, id: u32) -> Option<Ends>
+    ensures { (ids : List ℕ) → AreEndsOf ends ids → AddsAtEnd ids id result }
+{
+    match ends {
+        None => Some(Ends {
+            first: id,
+            last: id,
+        }),
+        Some(ends) if ends.last < id => Some(Ends { last: id, ..ends }),
+        Some(_) => None,
+    }
+}
+
+/// Checks the range, the next id and the freed ids of an id allocator, in this order. Returns the first
+/// condition that they violate as an error. The first and the last of the freed ids decide.
+#[tactic(auto, using(crate::proofs::Ids::FreedParts::parts))]
+pub(super) fn check_parts(
+    base: u32,
+    next: Option<u32>,
+    end: u32,
+    ends: Option<Ends>,
+) -> std::result::Result<(), SavedError>
+    ensures { (ids : List ℕ) → AreEndsOf ends ids → ChecksParts base end next ids result }
+{
+    if base > end {
+        return Err(SavedError::Violated(Condition::IdRange));
+    }
+    if !is_next(next, base, end) {
+        return Err(SavedError::Violated(Condition::NextId));
+    }
+    if !are_within(ends, base.into(), bound_of(next, end)) {
+        return Err(SavedError::Violated(Condition::FreedIds));
+    }
+    Ok(())
+}
+
+/// Returns `true` if `next` can be the next id of the range from `base` to `end`.
+fn is_next(next: Option<u32>, base: u32, end: u32) -> bool
+    ensures value { result ≡ is_next next base end }
+    ensures valid { IsTrue result ↔ IsNext base end next }
+{
+    match next {
+        None => end == u32::MAX,
+        Some(next) => base <= next && u64::from(next) <= u64::from(end) + 1,
+    }
+}
+
+/// Returns `true` if all ids between these ends are at least `lowest` and below `bound`.
+#[tactic(auto, using(crate::proofs::Ids::FreedParts::bounds))]
+fn are_within(ends: Option<Ends>, lowest: u64, bound: u64) -> bool
+    ensures { (ids : List ℕ) → AreEndsOf ends ids
+        → IsTrue result ↔ ((i : ℕ) → Contains ids i → (lowest ≤ i) × (i < bound)) }
+{
+    match ends {
+        None => true,
+        Some(ends) => u64::from(ends.first) >= lowest && u64::from(ends.last) < bound,
+    }
+}
