@@ -2,7 +2,7 @@ use Rattle.std.proofs.Common.{◌≡◌, ap, refl, Ok, Err, rules}
 use Rattle.std.specs.Ordering.{nat_cmp}
 use Rattle.std.specs.FinMap as map
 use Rattle.vm_ranges.specs.Range.{Range}
-use Rattle.vm_allocator.specs.Ids.{IdState}
+use Rattle.vm_ids.specs.Ids.{IdState}
 use Rattle.vm_devices.specs.Manager.{DevicesInTree}
 use Rattle.vm_ranges.specs.declared.error.Error.TheVariants.{OutOfMemory}
 use Rattle.vm_allocator.specs.Allocator.{SpaceInTree, state_of}
@@ -21,7 +21,7 @@ returns-in_err-range-clause-answer c =
     rw (← c.self.view_is, is)
     (id_peeked _ _ c.args.request c.args.id (state_of c.allocate_constraint.new.self) (Err e) _ (rw (← c.self.view_is) at c.requires) c.in_err-range.ensures.answer (refl, same))
 
-manager_of : IdState → SpaceInTree → map.FinMap nat_cmp Range → DevicesInTree
+abbrev manager_of : IdState → SpaceInTree → map.FinMap nat_cmp Range → DevicesInTree
 manager_of ids addresses devices = record { ids = ids; addresses = addresses; devices = devices }
 
 pub returns-in_err-range-clause-parts : goal.returns-in_err-range-clause-parts
