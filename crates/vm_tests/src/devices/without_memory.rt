@@ -2,20 +2,20 @@
 use super::*;
 use crate::fixtures::{fail_from_here, range};
 use vm_allocator::Conflict;
+use vm_devices::DeviceSlot;
 
-/// Makes calls that do not allocate, and checks their results.
-fn replay_refused(
-    rt: &(impl Abort + AllocGlobal),
-    devices: &mut DeviceManager,
-    rows: &[(Call, Expected)],
-) {
-    for (call, want) in rows {
-        expect_eq(rt, &call.ask(devices, rt.alloc()), &want.answer(), call);
-    }
-}
-
-/// Checks the conflict of a request with the device at [0x1000, 0x17FF].
-fn expect_conflict(rt: &impl Abort, devices: &DeviceManager) {
+/// Checks the calls that only read: the device with id 0 has [0x1000, 0x17FF].
+fn expect_one(rt: &impl Abort, devices: &DeviceManager) {
+    let device = Some(DeviceSlot {
+        id: 0,
+        range: range(rt, 0x1000, 0x17FF),
+    });
+    let (mut up, mut down) = (devices.devices(), devices.devices());
+    let listed = (up.next(), up.next(), down.next_back());
+    expect_eq(rt, &listed, &(device, None, device), &"one device");
+    let found = (devices.device_at(0x17FF), devices.device_at(0x1800));
+    expect_eq(rt, &found, &(device, None), &"its last address");
+    expect_eq(rt, &devices.device_count(), &1, &"the number");
     let exact = Constraint::new(8, 1, AllocPolicy::ExactMatch(0x17FF));
     let request = exact.expect(rt, "it is a request");
     let conflict = Some(Conflict::Allocated(range(rt, 0x1000, 0x17FF)));
@@ -46,8 +46,9 @@ fn looked_up_or_refused(rt: HostRuntime) {
         (Release(1), NeverAllocated(1)),
     ];
     fail_from_here(rt.alloc());
-    replay_refused(&rt, &mut devices, rows);
-    expect_conflict(&rt, &devices);
-    expect_no_manager(&rt, (2, 1), 0, 0, Error::InvalidRange(2, 1));
+    replay(&rt, &mut devices, rows);
+    expect_one(&rt, &devices);
+    let refused = DeviceManager::new(rt.alloc(), 2, 1, 0, 0).err();
+    expect_eq(&rt, &refused, &Some(Error::InvalidRange(2, 1)), &"no ids");
     release_first(&rt, &mut devices);
 }
