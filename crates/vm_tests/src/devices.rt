@@ -155,7 +155,10 @@ fn both_or_neither(rt: HostRuntime) {
         (Release(0), Gone),
         (First(0, 1), NoSize),
         (Exact(0x100, 0x100, 0x1080), Unaligned),
-        (FirstIn(0x800, 1, (0x1001, 0x1800)), Device(0, 0x1001, 0x1800)),
+        (
+            FirstIn(0x800, 1, (0x1001, 0x1800)),
+            Device(0, 0x1001, 0x1800),
+        ),
     ];
     replay_in(&rt, (0, 0), 0x1000, 0x1000, one);
 

@@ -1,7 +1,9 @@
 //! Tests of trees.
 //!
 //! They guard against allocations that are not needed, and against sums that wrap.
-use crate::fixtures::{ENOUGH, count_allocations, expect_allocations, expect_eq, expect_true, range};
+use crate::fixtures::{
+    ENOUGH, count_allocations, expect_allocations, expect_eq, expect_true, range,
+};
 use AllocPolicy::{ExactMatch, FirstMatch, LastMatch};
 use std::alloc::Global;
 use std::process::Abort;

@@ -15,8 +15,7 @@ fn expect_written(rt: &(impl Abort + AllocGlobal), space: &AddressAllocator, tex
 }
 
 /// The space [0, 4095] with [1280, 1535] allocated.
-const ONE_HELD: &str =
-    r#"{"address_space":{"start":0,"end":4095},"interval_tree":{"root":{
+const ONE_HELD: &str = r#"{"address_space":{"start":0,"end":4095},"interval_tree":{"root":{
     "key":{"start":1280,"end":1535},"node_state":"Allocated",
     "left":{"key":{"start":0,"end":1279},"node_state":"Free","left":null,"right":null,"height":1},
     "right":{"key":{"start":1536,"end":4095},"node_state":"Free","left":null,"right":null,"height":1},
