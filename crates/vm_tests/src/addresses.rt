@@ -212,17 +212,18 @@ fn free_all(space: &mut AddressAllocator, start: u64, end: u64, form: Form) -> (
 fn replay(
     rt: &(impl Abort + AllocGlobal),
     space: &mut AddressAllocator,
+    form: Form,
     rows: &[(Call, Expected)],
 ) {
     for (call, want) in rows {
-        let answer = call.ask(space, rt.alloc(), Plain);
+        let answer = call.ask(space, rt.alloc(), form);
         expect_eq(rt, &answer, &want.answer(), call);
     }
 }
 
 /// Makes the calls in turn on a new allocator of a space.
 fn replay_in(rt: &(impl Abort + AllocGlobal), base: u64, size: u64, rows: &[(Call, Expected)]) {
-    replay(rt, &mut made(rt, base, size), rows);
+    replay(rt, &mut made(rt, base, size), Plain, rows);
 }
 
 #[test]
@@ -484,5 +485,5 @@ fn every_second_is_clear(rt: &(impl Abort + AllocGlobal), space: &mut AddressAll
         (Free(2, 2), Range(2, 2)),
         (First(3, 1), Range(1, 3)),
     ];
-    replay(rt, space, rows);
+    replay(rt, space, Plain, rows);
 }

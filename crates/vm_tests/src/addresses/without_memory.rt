@@ -5,19 +5,6 @@ use crate::fixtures::{cloned, fail_from_here, full_leaf, gaps_exactly, holds_exa
 use std::cmp::Ordering;
 use vm_allocator::Conflict;
 
-/// Makes the calls in turn without memory, and checks their results.
-fn replay(
-    rt: &(impl Abort + AllocGlobal),
-    space: &mut AddressAllocator,
-    form: Form,
-    rows: &[(Call, Expected)],
-) {
-    for (call, want) in rows {
-        let answer = call.ask(space, rt.alloc(), form);
-        expect_eq(rt, &answer, &want.answer(), call);
-    }
-}
-
 /// Returns the allocator of [0, 15] in which [2, 3], [6, 7] and [10, 11] are allocated.
 fn three_held(rt: &(impl Abort + AllocGlobal)) -> AddressAllocator {
     let mut space = made(rt, 0, 16);
@@ -26,7 +13,7 @@ fn three_held(rt: &(impl Abort + AllocGlobal)) -> AddressAllocator {
         (Exact(2, 1, 6), Range(6, 7)),
         (Exact(2, 1, 10), Range(10, 11)),
     ];
-    super::replay(rt, &mut space, rows);
+    replay(rt, &mut space, Plain, rows);
     space
 }
 
