@@ -4,18 +4,25 @@ use crate::fixtures::{fail_from_here, range};
 use vm_allocator::Conflict;
 use vm_devices::DeviceSlot;
 
-/// Checks the calls that only read: the device with id 0 has [0x1000, 0x17FF].
+/// The id of the device, and the ends of its range.
+const DEVICE: (u32, u64, u64) = (0, 0x1000, 0x17FF);
+
+/// Returns the id of a device, and the ends of its range.
+fn parts(device: DeviceSlot) -> (u32, u64, u64) {
+    (device.id, device.range.start(), device.range.end())
+}
+
+/// Checks the calls that only read: there is one device.
 fn expect_one(rt: &impl Abort, devices: &DeviceManager) {
-    let device = Some(DeviceSlot {
-        id: 0,
-        range: range(rt, 0x1000, 0x17FF),
-    });
-    let (mut up, mut down) = (devices.devices(), devices.devices());
-    let listed = (up.next(), up.next(), down.next_back());
-    expect_eq(rt, &listed, &(device, None, device), &"one device");
-    let found = (devices.device_at(0x17FF), devices.device_at(0x1800));
-    expect_eq(rt, &found, &(device, None), &"its last address");
-    expect_eq(rt, &devices.device_count(), &1, &"the number");
+    let mut up = devices.devices();
+    let listed = (up.next().map(parts), up.next().map(parts));
+    expect_eq(rt, &listed, &(Some(DEVICE), None), &"the device");
+    let last = devices.devices().next_back().map(parts);
+    expect_eq(rt, &last, &Some(DEVICE), &"the last device");
+    let found = devices.device_at(0x17FF).map(parts);
+    expect_eq(rt, &found, &Some(DEVICE), &"its last address");
+    let counts = (devices.device_at(0x1800).is_none(), devices.device_count());
+    expect_eq(rt, &counts, &(true, 1), &"no other device");
     let exact = Constraint::new(8, 1, AllocPolicy::ExactMatch(0x17FF));
     let request = exact.expect(rt, "it is a request");
     let conflict = Some(Conflict::Allocated(range(rt, 0x1000, 0x17FF)));
