@@ -7,12 +7,13 @@ No clause excludes these mutants. The first line of a patch names the change, an
 
     count_rule: TEXT     tests/count_rule or error_rule, with a part of its output. The mutant of error_rule
                          compiles
-    test: NAME[, RUN]    a test, with its crate, as plain Rust in SCRATCH. RUN is `counted` (its allocations are
-                         counted) or `refused` (each allocation fails in turn)
+    test: NAME[, RUN]    a test, with its crate, as plain Rust in SCRATCH. RUN is `counted`: its allocations are
+                         counted
+    memory: TEXT         divsharun/tests/memory.rs, with a part of its output. It counts the allocations of
+                         calls, and makes each fail in turn
 
 The exit status is 1 if a check does not notice a mutant, or if a test fails without one."""
 import glob
-import itertools
 import json
 import os
 import pathlib
@@ -23,17 +24,24 @@ import sys
 
 TOP = os.path.dirname(os.path.dirname(os.path.abspath(__file__)))
 PROJECT, SCRATCH = (os.path.abspath(argument) for argument in sys.argv[1:3])
-COPY, LIBRARY, REFUSED = (os.path.join(SCRATCH, name) for name in ("project", "refuse.so", "refused"))
-BOX_COUNT = os.path.join(SCRATCH, "rust", "box_count")
+COPY, LIBRARY = (os.path.join(SCRATCH, name) for name in ("project", "refuse.so"))
+BOX_COUNT, DIVSHARUN = (os.path.join(SCRATCH, "rust", name) for name in ("box_count", "divsharun"))
 # A backtrace would take longer than the test.
 ENVIRONMENT = dict(os.environ, CARGO_TARGET_DIR=os.path.join(SCRATCH, "target"), RUST_BACKTRACE="0")
 FIXTURES = pathlib.Path(PROJECT, "crates/vm_tests/src/fixtures.rt").read_text("utf-8")
 COUNT = re.search(r" COUNT_ALLOCATION: usize = ([\d_]+);", FIXTURES)[1].replace("_", "")
 
 
-def run(*command, **variables):
+def run(*command, folder=BOX_COUNT, **variables):
     environment = {**ENVIRONMENT, **variables}
-    return subprocess.run(command, cwd=BOX_COUNT, env=environment, text=True, capture_output=True, check=False)
+    return subprocess.run(command, cwd=folder, env=environment, text=True, capture_output=True, check=False)
+
+
+def erased(folder, *options):
+    """Erases the copy of the sources into a package."""
+    done = run(os.path.join(TOP, "bindings/erase/erase.py"), COPY, "src/proved", *options, folder=folder)
+    if done.returncode:
+        sys.exit(f"not erased:\n{done.stderr[-2000:]}")
 
 
 def copy_sources():
@@ -45,11 +53,10 @@ def copy_sources():
 
 def built(*command):
     """Erases the copy of the sources, and returns the output of a command of cargo."""
-    for words in ([os.path.join(TOP, "bindings/erase/erase.py"), COPY, "src/proved", "--tests"],
-                  ["cargo", *command, "--lib", "-q", "--offline", "--message-format=json"]):
-        done = run(*words)
-        if done.returncode:
-            sys.exit(f"not built:\n{(done.stdout + done.stderr)[-2000:]}")
+    erased(BOX_COUNT, "--tests")
+    done = run("cargo", *command, "--lib", "-q", "--offline", "--message-format=json")
+    if done.returncode:
+        sys.exit(f"not built:\n{(done.stdout + done.stderr)[-2000:]}")
     return done.stdout
 
 
@@ -60,22 +67,25 @@ def program():
 
 
 def passes(tests, name, how=""):
-    """Returns `true` if a test passes, if it is run in a certain way. `refused` ends with a run without a failed
-    allocation. There only a failed test counts, because Rust's test harness ends the process if one of its own
-    allocations fails."""
-    command = [tests, "--exact", f"proved::{name}", "--test-threads=1"]
-    for number in itertools.count(1):
-        pathlib.Path(REFUSED).write_text("", "utf-8")
-        refused = {"REFUSE": str(number), "REFUSED": REFUSED}
-        variables = {"": {}, "counted": {"COUNT": COUNT}, "refused": refused}[how]
-        done = run(*command, **variables, **({"LD_PRELOAD": LIBRARY} if how else {}))
-        if done.returncode == 101 and "test result: FAILED" in done.stdout or not os.path.getsize(REFUSED):
-            return done.returncode == 0 and ("1 passed" in done.stdout or sys.exit(f"there is no test {name}"))
+    """Returns `true` if a test passes, with its allocations counted if `how` is `counted`."""
+    variables = {"": {}, "counted": {"COUNT": COUNT, "LD_PRELOAD": LIBRARY}}[how]
+    done = run(tests, "--exact", f"proved::{name}", "--test-threads=1", **variables)
+    return done.returncode == 0 and ("1 passed" in done.stdout or sys.exit(f"there is no test {name}"))
+
+
+def memory_test():
+    """Runs divsharun/tests/memory.rs over the copy of the sources."""
+    erased(DIVSHARUN)
+    without_registry = ["--offline", "--config=../without_registry/config.toml"]
+    return run("cargo", "test", "-q", *without_registry, "--test=memory", folder=DIVSHARUN)
 
 
 def is_noticed(check, rest):
     if check == "test":
         return not passes(program(), *rest.split(", "))
+    if check == "memory":
+        done = memory_test()
+        return done.returncode == 101 and rest in done.stdout + done.stderr
     if check == "error_rule":
         built("check")
     done = run(os.path.join(TOP, "tests", check), COPY)
@@ -93,6 +103,8 @@ def main():
     tests = program()
     wrong = [f"{rest} fails without a mutant" for check, rest in sorted(map(tuple, checks.values()))
              if check == "test" and not passes(tests, *rest.split(", "))]
+    if any(check == "memory" for check, _ in checks.values()) and memory_test().returncode:
+        wrong.append("memory.rs fails without a mutant")
     for patch, (check, rest) in checks.items():
         copy_sources()
         subprocess.run(["git", "apply", patch], cwd=COPY, check=True)

@@ -36,7 +36,6 @@ FOLDERS = {
 }
 FOLDERS_OF_TESTS = {
     "std": ("std", {"io"}),
-    "std::env": ("crate::testing", {"Env"}),
     "std::fmt": ("core::fmt", {"Debug", "Display"}),
     "std::io": ("std::io", {"ErrorKind", "Read", "Write"}),
     "std::process": ("crate::testing", {"Abort"}),
@@ -60,7 +59,7 @@ ASSOCIATED = {
 # Methods of types of other crates. Each was compared with the method of Rust.
 METHODS = set("""and_then as_array as_object as_slice as_str as_u64 checked_add checked_mul checked_sub clone cmp contains
     copied copy_from_slice copy_within enumerate first first_chunk flush get get_mut ilog2 insert into
-    is_ascii_digit is_empty is_err is_none is_null is_power_of_two is_some iter last len max min next
+    is_ascii_digit is_empty is_none is_null is_power_of_two is_some iter last len max min next
     next_back ok ok_or pop pop_first push range read remove rotate_left saturating_add saturating_sub
     simd_eq split_at split_first split_last take to_bitmask trailing_zeros unwrap write_all""".split())
 MACROS = {"json", "matches", "unreachable"}

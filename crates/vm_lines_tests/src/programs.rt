@@ -5,8 +5,6 @@
 ghost use Rattle.std.specs.Prelude.{◌≤◌, length};
 
 mod device_rows;
-mod failed_allocations;
-mod prefixes;
 mod rows;
 
 use device_rows::{ERRORS_OF_DEVICES, MANAGER_BESIDE_OTHERS, PROGRAM_DEVICES, WORDS_ON_DEVICES};
@@ -146,16 +144,6 @@ impl Sink {
             bad_flush,
         }
     }
-
-    /// Returns `true` if memory ran out for a line.
-    fn met_refusal(&self) -> bool {
-        for line in self.text.as_slice().split(|byte| *byte == b'\n') {
-            if line == b"error memory".as_slice() {
-                return true;
-            }
-        }
-        false
-    }
 }
 
 impl Write for Sink {
@@ -184,24 +172,15 @@ struct Outcome {
     sink: Sink,
 }
 
-fn run_once(alloc: Global, mut reader: Pieces) -> Outcome {
+/// Runs the input.
+fn run_on(alloc: Global, input: &[u8], longest: usize, bad_read: u64, fault: ErrorKind) -> Outcome {
+    let mut reader = Pieces::new(input, longest, bad_read, fault);
     let mut sink = Sink::new(0, None);
     let result = run(alloc, &mut reader, &mut sink);
     Outcome {
         result,
         reads: reader.reads,
         sink,
-    }
-}
-
-/// Runs the input. If memory runs out, it runs once more, so the tables are right whichever
-/// allocation fails.
-fn run_on(alloc: Global, input: &[u8], longest: usize, bad_read: u64, fault: ErrorKind) -> Outcome {
-    let outcome = run_once(alloc, Pieces::new(input, longest, bad_read, fault));
-    if outcome.sink.met_refusal() {
-        run_once(alloc, Pieces::new(input, longest, bad_read, fault))
-    } else {
-        outcome
     }
 }
 

@@ -2,7 +2,7 @@
 //!
 //! They guard against definitions with another meaning than the documentation of `allocate` and
 //! `free`: which range is chosen, and which of several errors is returned.
-use crate::fixtures::{block_count, cloned, expect_eq, expect_true, made};
+use crate::fixtures::{block_count, expect_eq, expect_true, made};
 use AllocPolicy::{ExactMatch, FirstMatch, LastMatch};
 use Call::{Exact, ExactIn, First, FirstIn, Free, Last, LastIn, Move, Space};
 use Expected::{Held, NoAlignment, NoSize, NotAvailable, Overflow, Range, Unaligned, Underflow};
@@ -12,21 +12,10 @@ use std::process::Abort;
 use vm_allocator::allocation_engine::NodeState::Allocated;
 use vm_allocator::{AddressAllocator, AllocPolicy, Constraint, Error, RangeInclusive, Result};
 
-mod aligned;
-mod comparing;
-mod conflicts;
 mod differences;
 mod ends;
-mod held;
-mod long_run;
-mod meeting;
-mod moves;
-mod queries;
 mod requests;
 mod several;
-mod splits;
-mod windows;
-mod with_free;
 mod with_held;
 mod without_memory;
 
@@ -219,41 +208,22 @@ fn free_all(space: &mut AddressAllocator, start: u64, end: u64, form: Form) -> (
     }
 }
 
-/// Returns the result of a call. If memory runs out, checks that nothing changed, and repeats the
-/// call.
-fn ask(rt: &(impl Abort + AllocGlobal), space: &mut AddressAllocator, call: Call) -> Answer {
-    let before = cloned(rt, space);
-    match call.ask(space, rt.alloc(), Plain) {
-        Err(Error::OutOfMemory) => {
-            expect_true(rt, *space == before, &"a refusal changes nothing");
-            call.ask(space, rt.alloc(), Plain)
-        }
-        answer => answer,
-    }
-}
-
-/// Returns the result of a call, which is repeated if memory ran out.
-fn call_again(rt: &impl AllocGlobal, space: &mut AddressAllocator, call: Call) -> Answer {
-    match call.ask(space, rt.alloc(), Plain) {
-        Err(Error::OutOfMemory) => call.ask(space, rt.alloc(), Plain),
-        answer => answer,
-    }
-}
-
 /// Makes the calls in turn, and checks their results.
 fn replay(
     rt: &(impl Abort + AllocGlobal),
     space: &mut AddressAllocator,
+    form: Form,
     rows: &[(Call, Expected)],
 ) {
     for (call, want) in rows {
-        expect_eq(rt, &ask(rt, space, *call), &want.answer(), call);
+        let answer = call.ask(space, rt.alloc(), form);
+        expect_eq(rt, &answer, &want.answer(), call);
     }
 }
 
 /// Makes the calls in turn on a new allocator of a space.
 fn replay_in(rt: &(impl Abort + AllocGlobal), base: u64, size: u64, rows: &[(Call, Expected)]) {
-    replay(rt, &mut made(rt, base, size), rows);
+    replay(rt, &mut made(rt, base, size), Plain, rows);
 }
 
 #[test]
@@ -414,53 +384,6 @@ fn a_tree_of_one_block(rt: HostRuntime) {
     expect_counted(&rt, First(0, 1), &found, NoSize, (0, 0));
 }
 
-/// Each address of [0, 5], freed in three orders.
-const ORDERS: [[(Call, Expected); 6]; 3] = [
-    [
-        (Free(0, 0), Range(0, 0)),
-        (Free(1, 1), Range(1, 1)),
-        (Free(2, 2), Range(2, 2)),
-        (Free(3, 3), Range(3, 3)),
-        (Free(4, 4), Range(4, 4)),
-        (Free(5, 5), Range(5, 5)),
-    ],
-    [
-        (Free(5, 5), Range(5, 5)),
-        (Free(4, 4), Range(4, 4)),
-        (Free(3, 3), Range(3, 3)),
-        (Free(2, 2), Range(2, 2)),
-        (Free(1, 1), Range(1, 1)),
-        (Free(0, 0), Range(0, 0)),
-    ],
-    [
-        (Free(1, 1), Range(1, 1)),
-        (Free(3, 3), Range(3, 3)),
-        (Free(5, 5), Range(5, 5)),
-        (Free(0, 0), Range(0, 0)),
-        (Free(2, 2), Range(2, 2)),
-        (Free(4, 4), Range(4, 4)),
-    ],
-];
-
-#[test]
-fn joins_freed_ranges(rt: HostRuntime) {
-    let taken = &[
-        (First(1, 1), Range(0, 0)),
-        (First(1, 1), Range(1, 1)),
-        (First(1, 1), Range(2, 2)),
-        (First(1, 1), Range(3, 3)),
-        (First(1, 1), Range(4, 4)),
-        (First(1, 1), Range(5, 5)),
-        (First(1, 1), NotAvailable),
-    ];
-    for order in &ORDERS {
-        let mut space = made(&rt, 0, 6);
-        replay(&rt, &mut space, taken);
-        replay(&rt, &mut space, order);
-        expect_true(&rt, space == made(&rt, 0, 6), &"all is joined again");
-    }
-}
-
 /// Returns the number at index `n` of the Fibonacci sequence 0, 1, 1, 2, 3, 5, ...
 fn fibonacci(n: u64) -> u64 {
     let mut low: u64 = 0;
@@ -487,15 +410,6 @@ fn is_low(space: &AddressAllocator, held: u64) -> bool {
 /// The maximum number of nodes that freeing enters, in heights of the tree.
 const FREE_BOUND: u64 = 3;
 
-/// Returns the result of a call and the number of entered nodes. The call is repeated if memory ran
-/// out.
-fn count_again(rt: &impl AllocGlobal, space: &mut AddressAllocator, call: Call) -> (Answer, u64) {
-    match call.count(space, rt.alloc(), Counted) {
-        (Err(Error::OutOfMemory), _) => call.count(space, rt.alloc(), Counted),
-        found => found,
-    }
-}
-
 /// Checks the result of a call, and that it entered from `bounds.0` to `bounds.1` nodes.
 fn expect_counted(
     rt: &impl Abort,
@@ -518,7 +432,7 @@ fn expect_counted(
 fn take_first_counted(rt: &(impl Abort + AllocGlobal), space: &mut AddressAllocator, held: u64) {
     let height = space.height();
     let fewest = height / 2 + height % 2;
-    let found = count_again(rt, space, First(1, 1));
+    let found = First(1, 1).count(space, rt.alloc(), Counted);
     expect_counted(rt, First(1, 1), &found, Range(held, held), (fewest, height));
     expect_true(
         rt,
@@ -571,5 +485,5 @@ fn every_second_is_clear(rt: &(impl Abort + AllocGlobal), space: &mut AddressAll
         (Free(2, 2), Range(2, 2)),
         (First(3, 1), Range(1, 3)),
     ];
-    replay(rt, space, rows);
+    replay(rt, space, Plain, rows);
 }

@@ -1,18 +1,15 @@
 //! Tests of managers of devices.
 //!
 //! They guard against a device with an id or a range, but not both.
-use crate::fixtures::{expect_eq, expect_true};
-use Call::{Exact, First, FirstIn, Last, LastIn, LookUp, Release};
+use crate::fixtures::{ENOUGH, expect_eq, expect_true};
+use Call::{Exact, First, FirstIn, Last, LookUp, Release};
 use Expected::{Device, Gone, Held, NeverAllocated, NoSize, NotAvailable, Overflow, Unaligned};
-use serde_json::Value;
 use std::alloc::Global;
 use std::process::Abort;
 use vm_allocator::allocation_engine::NodeState::Allocated;
-use vm_allocator::{AddressAllocator, AllocPolicy, Constraint, Error, RangeInclusive, Result};
+use vm_allocator::{AllocPolicy, Constraint, Error, RangeInclusive, Result};
 use vm_devices::DeviceManager;
 
-mod read_devices;
-mod reserving;
 mod saved;
 mod without_memory;
 
@@ -25,9 +22,8 @@ enum Call {
     Last(u64, u64),
     /// Reserves a range by its size, its alignment and its start.
     Exact(u64, u64, u64),
-    /// Reserve like the first two calls, in a window by its first and its last address.
+    /// Reserves like `First`, in a window by its first and its last address.
     FirstIn(u64, u64, (u64, u64)),
-    LastIn(u64, u64, (u64, u64)),
     /// Releases the device with an id.
     Release(u32),
     /// Looks up the device with an id.
@@ -81,20 +77,8 @@ impl Call {
             }
             LookUp(id) => return Ok(look_up(devices, id)),
             FirstIn(size, align, window) => {
-                return reserve_in(
-                    devices,
-                    alloc,
-                    (size, align, AllocPolicy::FirstMatch),
-                    window,
-                );
-            }
-            LastIn(size, align, window) => {
-                return reserve_in(
-                    devices,
-                    alloc,
-                    (size, align, AllocPolicy::LastMatch),
-                    window,
-                );
+                let first = (size, align, AllocPolicy::FirstMatch);
+                return reserve_in(devices, alloc, first, window);
             }
             First(size, align) => (size, align, AllocPolicy::FirstMatch),
             Last(size, align) => (size, align, AllocPolicy::LastMatch),
@@ -119,15 +103,9 @@ fn reserve_in(
     Ok(Some((slot.id, slot.range.start(), slot.range.end())))
 }
 
-/// Creates a manager. Here and below, the second try is for a run in which one allocation fails.
+/// Creates a manager.
 fn made(rt: &(impl Abort + AllocGlobal), ids: (u32, u32), base: u64, size: u64) -> DeviceManager {
-    match DeviceManager::new(rt.alloc(), ids.0, ids.1, base, size) {
-        Ok(devices) => devices,
-        Err(_) => DeviceManager::new(rt.alloc(), ids.0, ids.1, base, size).expect(
-            rt,
-            "memory is refused once",
-        ),
-    }
+    DeviceManager::new(rt.alloc(), ids.0, ids.1, base, size).expect(rt, ENOUGH)
 }
 
 /// Returns the device with an id, and the ends of its range.
@@ -136,114 +114,72 @@ fn look_up(devices: &DeviceManager, id: u32) -> Option<(u32, u64, u64)> {
     Some((id, range.start(), range.end()))
 }
 
-/// The state of a manager: its saved value, and the allocator of its addresses. The tree of the
-/// allocator can have another shape after an error.
-#[derive(Drop)]
-struct Parts {
-    value: Value,
-    space: AddressAllocator,
-}
-
-impl Parts {
-    fn of(rt: &(impl Abort + AllocGlobal), devices: &DeviceManager) -> Parts {
-        let value = saved_devices(rt, devices);
-        let part = value.get("mmio_allocator").expect(rt, "a manager has it");
-        let space = crate::fixtures::read(rt, part).expect(rt, "it is an allocator");
-        Parts { value, space }
-    }
-
-    /// Returns `true` if a field is the same in both saved values.
-    fn share(&self, other: &Parts, field: &str) -> bool {
-        self.value.get(field) == other.value.get(field)
-    }
-
-    /// Checks that the ids, the devices and the allocated ranges are the same.
-    fn expect_of(&self, rt: &(impl Abort + AllocGlobal), devices: &DeviceManager) {
-        let other = Parts::of(rt, devices);
-        let is_true = self.share(&other, "id_allocator")
-            && self.share(&other, "slots")
-            && self.space == other.space;
-        expect_true(rt, is_true, &"the same manager");
-    }
-}
-
-/// Returns the saved value of a manager.
-fn saved_devices(rt: &(impl Abort + AllocGlobal), devices: &DeviceManager) -> Value {
-    match devices.to_value(rt.alloc()) {
-        Ok(value) => value,
-        Err(_) => devices
-            .to_value(rt.alloc())
-            .expect(rt, "memory is refused once"),
-    }
-}
-
-/// Makes a call and checks its result. If memory runs out, checks that nothing changed, and repeats
-/// the call.
-fn ask(rt: &(impl Abort + AllocGlobal), devices: &mut DeviceManager, call: Call, want: Expected) {
-    let before = Parts::of(rt, devices);
-    let mut answer = call.ask(devices, rt.alloc());
-    if let Err(Error::OutOfMemory) = answer {
-        before.expect_of(rt, devices);
-        answer = call.ask(devices, rt.alloc());
-    }
-    expect_eq(rt, &answer, &want.answer(), &call);
-    if answer.is_err() {
-        before.expect_of(rt, devices);
-    }
-}
-
 /// Makes the calls in turn, and checks their results.
 fn replay(rt: &(impl Abort + AllocGlobal), devices: &mut DeviceManager, rows: &[(Call, Expected)]) {
     for (call, want) in rows {
-        ask(rt, devices, *call, *want);
+        expect_eq(rt, &call.ask(devices, rt.alloc()), &want.answer(), call);
     }
 }
 
-/// Makes one of many calls and checks its result. If memory runs out, checks that the devices are
-/// unchanged, and repeats the call.
-fn call_again(
-    rt: &(impl Abort + AllocGlobal),
-    devices: &mut DeviceManager,
-    call: Call,
-    want: Expected,
-) {
-    let before = slots_of(devices);
-    let mut answer = call.ask(devices, rt.alloc());
-    if let Err(Error::OutOfMemory) = answer {
-        expect_true(rt, slots_of(devices) == before, &"the same devices");
-        answer = call.ask(devices, rt.alloc());
-    }
-    expect_eq(rt, &answer, &want.answer(), &call);
-}
-
-/// Reserves 16 addresses for the device with an id, at a start.
-fn reserve_sixteen(
-    rt: &(impl Abort + AllocGlobal),
-    devices: &mut DeviceManager,
-    id: u32,
-    start: u64,
-) {
-    let want = Device(id, start, start.saturating_add(15));
-    call_again(rt, devices, First(16, 16), want);
-}
-
-/// Returns the ranges of the devices with the first ids.
-fn slots_of(devices: &DeviceManager) -> [Option<RangeInclusive>; 64] {
-    let mut slots = [None; 64];
-    for (id, slot) in slots.iter_mut().enumerate() {
-        *slot = devices.slot(id as u32);
-    }
-    slots
-}
-
-/// Checks that no manager is created for these ids and these addresses.
-fn expect_no_manager(
+/// Makes the calls in turn on a new manager of these ids and these addresses.
+fn replay_in(
     rt: &(impl Abort + AllocGlobal),
     ids: (u32, u32),
     base: u64,
     size: u64,
-    want: Error,
+    rows: &[(Call, Expected)],
 ) {
-    let refused = DeviceManager::new(rt.alloc(), ids.0, ids.1, base, size).err();
-    expect_true(rt, refused == Some(want), &"a refusal");
+    replay(rt, &mut made(rt, ids, base, size), rows);
+}
+
+#[test]
+fn devices_of_the_documentation(rt: HostRuntime) {
+    let rows = &[
+        (First(0x1000, 0x1000), Device(0, 0xD000_0000, 0xD000_0FFF)),
+        (First(0x1000, 0x1000), Device(1, 0xD000_1000, 0xD000_1FFF)),
+        (Release(0), Gone),
+        (Release(0), NeverAllocated(0)),
+        (LookUp(0), Gone),
+        (LookUp(1), Device(1, 0xD000_1000, 0xD000_1FFF)),
+        (First(0x1000, 0x1000), Device(0, 0xD000_0000, 0xD000_0FFF)),
+    ];
+    replay_in(&rt, (0, 100), 0xD000_0000, 0x3000_0000, rows);
+}
+
+#[test]
+fn both_or_neither(rt: HostRuntime) {
+    let one = &[
+        (First(0x800, 1), Device(0, 0x1000, 0x17FF)),
+        (First(0x800, 1), NotAvailable),
+        (First(0, 1), NotAvailable),
+        (Release(0), Gone),
+        (First(0, 1), NoSize),
+        (Exact(0x100, 0x100, 0x1080), Unaligned),
+        (
+            FirstIn(0x800, 1, (0x1001, 0x1800)),
+            Device(0, 0x1001, 0x1800),
+        ),
+    ];
+    replay_in(&rt, (0, 0), 0x1000, 0x1000, one);
+
+    let last = &[
+        (Last(1, 1), Device(u32::MAX, 15, 15)),
+        (Last(1, 1), Overflow),
+        (Release(0), NeverAllocated(0)),
+        (Release(u32::MAX), Gone),
+        (Exact(4, 4, 8), Device(u32::MAX, 8, 11)),
+        (LookUp(u32::MAX), Device(u32::MAX, 8, 11)),
+        (LookUp(0), Gone),
+    ];
+    replay_in(&rt, (u32::MAX, u32::MAX), 0, 16, last);
+
+    let full = &[
+        (First(4, 1), Device(3, 0, 3)),
+        (First(1, 1), NotAvailable),
+        (Exact(4, 1, 0), Held(0, 3)),
+        (Release(4), NeverAllocated(4)),
+        (Release(3), Gone),
+        (First(1, 1), Device(3, 0, 0)),
+    ];
+    replay_in(&rt, (3, 9), 0, 4, full);
 }

@@ -1,5 +1,4 @@
-//! Functions that the tests share. They make a call again if it ran out of memory, because in some runs
-//! one allocation fails.
+//! Functions that the tests share.
 use serde_json::Value;
 use std::alloc::Global;
 use std::fmt::Debug;
@@ -9,18 +8,15 @@ use vm_allocator::{AddressAllocator, AllocPolicy, IdAllocator, RangeInclusive, V
 use vm_devices::DeviceManager;
 
 /// The number of bytes that `fail_from_here` allocates. Nothing else allocates this number.
-/// tests/refused_memory reads it here, and the two below.
+/// tests/refused_memory reads it here, and the one below.
 const LAST_ALLOCATION: usize = 1_000_003;
-
-/// The number of bytes that `balance` allocates.
-const BALANCE_ALLOCATION: usize = 1_000_005;
 
 /// The number of bytes that `count_allocations` allocates. `expect_allocations` allocates one more,
 /// and one for each expected allocation. tests/mutant_tests.py reads it here too.
 const COUNT_ALLOCATION: usize = 1_000_100;
 
-/// The message if the second try fails too.
-const FAILED_ONCE: &str = "memory is refused once";
+/// The message if memory runs out.
+pub(crate) const ENOUGH: &str = "there is enough memory";
 
 /// Ends the test if a result is not the expected one. The message contains `of`.
 pub(crate) fn expect_eq<T: PartialEq + Debug>(rt: &impl Abort, got: &T, want: &T, of: &impl Debug) {
@@ -42,38 +38,21 @@ pub(crate) fn fail_from_here(alloc: Global) {
     let _ = Vec::<u8>::with_capacity(alloc, LAST_ALLOCATION);
 }
 
-/// Allocates, whether that fails or not. tests/refused_memory checks that all memory that is
-/// allocated from one call of this to the next is freed.
-pub(crate) fn balance(alloc: Global) {
-    let _ = Vec::<u8>::with_capacity(alloc, BALANCE_ALLOCATION);
-}
-
 /// Allocates, whether that fails or not. tests/refused_memory counts the allocations after this.
 pub(crate) fn count_allocations(alloc: Global) {
     let _ = Vec::<u8>::with_capacity(alloc, COUNT_ALLOCATION);
 }
 
 /// Allocates, whether that fails or not. tests/refused_memory checks the number of counted
-/// allocations, if none failed.
+/// allocations.
 pub(crate) fn expect_allocations(alloc: Global, number: usize) {
     let size = COUNT_ALLOCATION.saturating_add(number).saturating_add(1);
     let _ = Vec::<u8>::with_capacity(alloc, size);
 }
 
-/// Creates an empty list with memory for a number of items.
-pub(crate) fn list_for<T>(rt: &(impl Abort + AllocGlobal), number: usize) -> Vec<T> {
-    match Vec::with_capacity(rt.alloc(), number) {
-        Ok(list) => list,
-        Err(_) => Vec::with_capacity(rt.alloc(), number).expect(rt, FAILED_ONCE),
-    }
-}
-
 /// Creates the allocator of a space.
 pub(crate) fn made(rt: &(impl Abort + AllocGlobal), base: u64, size: u64) -> AddressAllocator {
-    match AddressAllocator::new(rt.alloc(), base, size) {
-        Ok(space) => space,
-        Err(_) => AddressAllocator::new(rt.alloc(), base, size).expect(rt, FAILED_ONCE),
-    }
+    AddressAllocator::new(rt.alloc(), base, size).expect(rt, ENOUGH)
 }
 
 /// Clones an allocator.
@@ -81,10 +60,7 @@ pub(crate) fn cloned(
     rt: &(impl Abort + AllocGlobal),
     space: &AddressAllocator,
 ) -> AddressAllocator {
-    match space.try_clone(rt.alloc()) {
-        Ok(clone) => clone,
-        Err(_) => space.try_clone(rt.alloc()).expect(rt, FAILED_ONCE),
-    }
+    space.try_clone(rt.alloc()).expect(rt, ENOUGH)
 }
 
 /// Returns `true` if exactly these ranges are allocated.
@@ -119,10 +95,7 @@ pub(crate) fn gaps_exactly(space: &AddressAllocator, ranges: &[(u64, u64)]) -> b
 
 /// Parses the value of a text.
 pub(crate) fn parsed(rt: &(impl Abort + AllocGlobal), text: &str) -> Value {
-    match Value::from_str(rt.alloc(), text) {
-        Ok(value) => value,
-        Err(_) => Value::from_str(rt.alloc(), text).expect(rt, FAILED_ONCE),
-    }
+    Value::from_str(rt.alloc(), text).expect(rt, ENOUGH)
 }
 
 /// Returns the items of a list.
@@ -132,18 +105,12 @@ pub(crate) fn items<'a>(rt: &impl Abort, list: &'a Value) -> &'a [Value] {
 
 /// Returns the text of a value.
 pub(crate) fn text_of(rt: &(impl Abort + AllocGlobal), value: &Value) -> String {
-    match value.to_string(rt.alloc()) {
-        Ok(text) => text,
-        Err(_) => value.to_string(rt.alloc()).expect(rt, FAILED_ONCE),
-    }
+    value.to_string(rt.alloc()).expect(rt, ENOUGH)
 }
 
 /// Returns the saved value of an allocator, with one object for each block.
 pub(crate) fn saved(rt: &(impl Abort + AllocGlobal), space: &AddressAllocator) -> Value {
-    match space.to_value(rt.alloc()) {
-        Ok(value) => value,
-        Err(_) => space.to_value(rt.alloc()).expect(rt, FAILED_ONCE),
-    }
+    space.to_value(rt.alloc()).expect(rt, ENOUGH)
 }
 
 /// Allocates a range that is free.
@@ -153,11 +120,8 @@ pub(crate) fn hold(
     start: u64,
     size: u64,
 ) {
-    let policy = AllocPolicy::ExactMatch(start);
-    if space.allocate(rt.alloc(), size, 1, policy).is_err() {
-        let again = space.allocate(rt.alloc(), size, 1, policy);
-        assert!(rt; again.is_ok(), "{FAILED_ONCE}");
-    }
+    let answer = space.allocate(rt.alloc(), size, 1, AllocPolicy::ExactMatch(start));
+    assert!(rt; answer.is_ok());
 }
 
 /// Returns the allocator of [0, 4095] in which the even addresses up to 30 are allocated. Its 32 blocks
@@ -178,43 +142,7 @@ pub(crate) fn block_count(rt: &(impl Abort + AllocGlobal), space: &AddressAlloca
 
 /// Returns the saved value of an id allocator.
 pub(crate) fn saved_ids(rt: &(impl Abort + AllocGlobal), ids: &IdAllocator) -> Value {
-    match ids.to_value(rt.alloc()) {
-        Ok(value) => value,
-        Err(_) => ids.to_value(rt.alloc()).expect(rt, FAILED_ONCE),
-    }
-}
-
-/// Reads the allocator of a value.
-pub(crate) fn read(
-    rt: &(impl Abort + AllocGlobal),
-    value: &Value,
-) -> Result<AddressAllocator, ValueError> {
-    match AddressAllocator::from_value(rt.alloc(), value) {
-        Err(ValueError::OutOfMemory) => AddressAllocator::from_value(rt.alloc(), value),
-        answer => answer,
-    }
-}
-
-/// Reads the allocator of a value with repairs.
-pub(crate) fn read_repaired(
-    rt: &(impl Abort + AllocGlobal),
-    value: &Value,
-) -> Result<AddressAllocator, ValueError> {
-    match AddressAllocator::from_value_repaired(rt.alloc(), value) {
-        Err(ValueError::OutOfMemory) => AddressAllocator::from_value_repaired(rt.alloc(), value),
-        answer => answer,
-    }
-}
-
-/// Reads the id allocator of a value.
-pub(crate) fn read_ids(
-    rt: &(impl Abort + AllocGlobal),
-    value: &Value,
-) -> Result<IdAllocator, ValueError> {
-    match IdAllocator::from_value(rt.alloc(), value) {
-        Err(ValueError::OutOfMemory) => IdAllocator::from_value(rt.alloc(), value),
-        answer => answer,
-    }
+    ids.to_value(rt.alloc()).expect(rt, ENOUGH)
 }
 
 /// Checks that the result is an allocator that is equal to this one.

@@ -2,40 +2,13 @@
 //!
 //! They guard against an id that is allocated twice, is not the lowest free one, or is lost when it is
 //! freed.
-use crate::fixtures::{
-    balance, expect_eq, expect_true, fail_from_here, parsed, read_ids, saved_ids,
-};
+use crate::fixtures::{expect_eq, expect_true, fail_from_here, parsed, saved_ids};
 use Call::{Allocate, Count, Fields, Free, Holds, Peek, TakeAll};
 use Expected::{AlreadyReleased, Id, NeverAllocated, NotAvailable, OutOfRange, Overflow};
 use std::process::Abort;
 use vm_allocator::{Error, IdAllocator, Result};
 
-mod counts;
-mod from_ids;
-mod held;
 mod requests;
-
-/// Returns the results of the calls that only read: whether some ids are allocated, the number of
-/// allocated ids, and the next id.
-fn answers(ids: &IdAllocator) -> ([bool; 24], u64, Result<u32>) {
-    let mut held = [false; 24];
-    for (id, is_held) in held.iter_mut().enumerate() {
-        *is_held = ids.is_allocated(id as u32);
-    }
-    (held, ids.held_count(), ids.peek_id())
-}
-
-/// Frees an id. If memory runs out, checks that nothing changed, and repeats the call.
-fn free_all(rt: &impl Abort, ids: &mut IdAllocator, id: u32) -> Result<u32> {
-    let before = answers(ids);
-    match ids.free_id(id) {
-        Err(Error::OutOfMemory) => {
-            expect_true(rt, answers(ids) == before, &"the same ids");
-            ids.free_id(id)
-        }
-        answer => answer,
-    }
-}
 
 /// Allocates ids, and checks that they are those from `first` to `last`.
 fn take_all(rt: &impl Abort, ids: &mut IdAllocator, first: u32, last: u32) {
@@ -53,16 +26,6 @@ fn expect_fields(rt: &(impl Abort + AllocGlobal), ids: &IdAllocator, text: &str)
 /// Creates the allocator of the ids from `first` to `last`.
 fn made(rt: &(impl Abort + AllocGlobal), first: u32, last: u32) -> IdAllocator {
     IdAllocator::new(rt.alloc(), first, last).expect(rt, "it is a range")
-}
-
-/// Clones an allocator.
-fn cloned(rt: &(impl Abort + AllocGlobal), ids: &IdAllocator) -> IdAllocator {
-    match ids.try_clone(rt.alloc()) {
-        Ok(clone) => clone,
-        Err(_) => ids
-            .try_clone(rt.alloc())
-            .expect(rt, "memory is refused once"),
-    }
 }
 
 /// A call with its expected result.
@@ -109,7 +72,7 @@ fn replay(rt: &(impl Abort + AllocGlobal), ids: &mut IdAllocator, calls: &[Call]
         match *call {
             Allocate(want) => expect_eq(rt, &ids.allocate_id(), &want.answer(), &"taken"),
             Peek(want) => expect_eq(rt, &ids.peek_id(), &want.answer(), &"next"),
-            Free(id, want) => expect_eq(rt, &free_all(rt, ids, id), &want.answer(), &id),
+            Free(id, want) => expect_eq(rt, &ids.free_id(id), &want.answer(), &id),
             Holds(id, want) => expect_eq(rt, &ids.is_allocated(id), &want, &id),
             Count(want) => expect_eq(rt, &ids.held_count(), &want, &"count"),
             TakeAll(first, last) => take_all(rt, ids, first, last),
@@ -242,22 +205,6 @@ fn test_is_allocated_with_freed(rt: HostRuntime) {
     replay_in(&rt, 5, 23, calls);
 }
 
-#[test]
-fn highest_id_alone(rt: HostRuntime) {
-    let calls = &[
-        Free(HIGH, NeverAllocated(HIGH)),
-        Allocate(Id(HIGH)),
-        Allocate(Overflow),
-        Peek(Overflow),
-        Free(HIGH, Id(HIGH)),
-        Holds(HIGH, false),
-        Peek(Id(HIGH)),
-        Allocate(Id(HIGH)),
-        Allocate(Overflow),
-    ];
-    replay_in(&rt, HIGH, HIGH, calls);
-}
-
 /// Allocates and frees only the highest id.
 fn allocate_highest(rt: &(impl Abort + AllocGlobal)) {
     let mut ids = made(rt, u32::MAX, u32::MAX);
@@ -301,62 +248,4 @@ fn without_memory(rt: HostRuntime) {
     replay(&rt, &mut ids, calls);
     expect_no_range(&rt, 23, 5);
     allocate_highest(&rt);
-}
-
-/// Clones an allocator. Checks that the clone has the same results, or that memory ran out. Nothing
-/// changes in both cases.
-fn clone_or_refuse(rt: &(impl Abort + AllocGlobal), ids: &IdAllocator) {
-    let before = answers(ids);
-    balance(rt.alloc());
-    let is_true = match ids.try_clone(rt.alloc()) {
-        Ok(clone) => answers(&clone) == before,
-        Err(Error::OutOfMemory) => true,
-        Err(_) => false,
-    };
-    expect_true(rt, is_true, &"a whole clone or none");
-    balance(rt.alloc());
-    expect_true(rt, answers(ids) == before, &"the same ids");
-}
-
-#[test]
-fn cloned_or_unchanged(rt: HostRuntime) {
-    let mut ids = made(&rt, 5, 23);
-    replay(&rt, &mut ids, &[TakeAll(5, 7), Free(6, Id(6))]);
-    clone_or_refuse(&rt, &ids);
-    let mut clone = cloned(&rt, &ids);
-    replay(&rt, &mut clone, &[TakeAll(6, 6), TakeAll(8, 8)]);
-    replay(&rt, &mut ids, &[Allocate(Id(6))]);
-}
-
-/// Writes an allocator with twelve allocated ids, and checks that the allocator that is read has
-/// the same results.
-fn write_and_read(rt: &(impl Abort + AllocGlobal), ids: &IdAllocator) {
-    let again = read_ids(rt, &saved_ids(rt, ids)).expect(rt, "it states ids");
-    let is_true = answers(&again) == answers(ids) && again.held_count() == 12;
-    expect_true(rt, is_true, &"the same twelve ids");
-}
-
-/// Clones an allocator without freed ids. Then frees twelve ids, one by one, and writes and reads
-/// the allocator.
-#[test]
-fn memory_for_twelve_ids(rt: HostRuntime) {
-    let mut ids = made(&rt, 0, 23);
-    take_all(&rt, &mut ids, 0, 23);
-    replay(&rt, &mut cloned(&rt, &ids), &[Allocate(NotAvailable)]);
-    let calls = &[
-        Free(0, Id(0)),
-        Free(2, Id(2)),
-        Free(4, Id(4)),
-        Free(6, Id(6)),
-        Free(8, Id(8)),
-        Free(10, Id(10)),
-        Free(12, Id(12)),
-        Free(14, Id(14)),
-        Free(16, Id(16)),
-        Free(18, Id(18)),
-        Free(20, Id(20)),
-        Free(22, Id(22)),
-    ];
-    replay(&rt, &mut ids, calls);
-    write_and_read(&rt, &ids);
 }

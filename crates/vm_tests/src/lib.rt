@@ -2,13 +2,9 @@
 //!
 //! They guard against what no clause excludes:
 //! - a call that returns `OutOfMemory` although memory is available.
-//! - memory that is not freed.
+//! - a call that allocates without need.
 //! - a call that takes too long.
 //! - a definition whose meaning is not that of its words.
-//!
-//! tests/refused_memory runs each test several times. In the first run the first allocation fails, in
-//! the second run the second, and so on. So a test makes a call again if it returned `OutOfMemory`, and
-//! checks that the first call changed nothing.
 #![tactic(auto)]
 
 #[cfg(test)]

@@ -2,10 +2,10 @@
 //!
 //! Each test is fast if its calls are as fast as they should be. It reaches the time limit of a
 //! test if a call takes quadratic time, or descends a deep value completely. tests/refused_memory
-//! skips these tests, and runs the deep ones on a small stack.
+//! runs the deep ones on a small stack.
 use crate::fixtures::{
-    Reader, chain, cloned, expect_eq, expect_refused, expect_space, hold, items, list_for, made,
-    parsed, put, range, read, read_ids, read_repaired, saved, saved_ids,
+    ENOUGH, Reader, chain, cloned, expect_eq, expect_refused, expect_space, hold, items, made,
+    parsed, put, range, saved, saved_ids,
 };
 use serde_json::Value;
 use std::cmp::Ordering;
@@ -26,9 +26,6 @@ const MILLION: u64 = 1_000_000;
 
 /// The nesting depth of a value.
 const DEPTH: u64 = 1_000_000;
-
-/// The message of a call that fails.
-const ENOUGH: &str = "there is enough memory";
 
 /// Returns an allocator with each even address of a space allocated, from the first to the last or
 /// from the last to the first.
@@ -61,8 +58,10 @@ fn expect_states(
     second: &AddressAllocator,
 ) {
     let value = saved(rt, first);
-    expect_space(rt, read(rt, &value), second, "read");
-    expect_space(rt, read_repaired(rt, &value), second, "repaired");
+    let read = AddressAllocator::from_value(rt.alloc(), &value);
+    expect_space(rt, read, second, "read");
+    let repaired = AddressAllocator::from_value_repaired(rt.alloc(), &value);
+    expect_space(rt, repaired, second, "repaired");
 }
 
 #[test]
@@ -105,7 +104,7 @@ fn ranges_looked_up(rt: HostRuntime) {
 
 /// Creates an allocator with each even address of a space allocated.
 fn created_half_held(rt: &(impl Abort + AllocGlobal), number: u64) -> AddressAllocator {
-    let mut held = list_for(rt, 0);
+    let mut held = Vec::new(rt.alloc());
     for index in 0..number {
         let start = index.saturating_mul(2);
         let pushed = held.push(range(rt, start, start));
@@ -156,7 +155,7 @@ fn allocate_many(
 ) -> (AddressAllocator, Option<ListError>) {
     let request = Constraint::new(1, 1, AllocPolicy::FirstMatch);
     let request = request.expect(rt, "it is a request");
-    let mut requests = list_for(rt, 0);
+    let mut requests = Vec::new(rt.alloc());
     for _ in 0..MANY {
         assert!(rt; requests.push(request).is_ok());
     }
@@ -194,7 +193,8 @@ fn ids_looked_up_and_saved(rt: HostRuntime) {
         assert!(rt; ids.free_id(2 * number).is_ok() && ids.peek_id() == Ok(0));
     }
     let clone = ids.try_clone(rt.alloc()).expect(&rt, ENOUGH);
-    let mut again = read_ids(&rt, &saved_ids(&rt, &clone)).expect(&rt, ENOUGH);
+    let again = IdAllocator::from_value(rt.alloc(), &saved_ids(&rt, &clone));
+    let mut again = again.expect(&rt, ENOUGH);
     for id in 0..2 * MANY_IDS {
         let answers = (again.is_allocated(id), again.held_count());
         expect_eq(&rt, &answers, &(id % 2 == 1, MANY), &id);

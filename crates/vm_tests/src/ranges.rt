@@ -2,7 +2,7 @@
 //!
 //! They guard against texts that differ from those of the Rust crate, and against ends that are off by
 //! one.
-use crate::fixtures::{expect_eq, range};
+use crate::fixtures::{ENOUGH, expect_eq, range};
 use std::cmp::Ordering;
 use std::fmt::Display;
 use std::process::Abort;
@@ -39,47 +39,6 @@ fn test_new_range(rt: HostRuntime) {
 fn test_range_upper_bound(rt: HostRuntime) {
     let rows = [(1, MAX, Ok(MAX)), (0, MAX - 1, Ok(MAX)), (MAX, MAX, Ok(1))];
     expect_lengths(&rt, &rows);
-}
-
-/// Ranges by a start and a length: the last address, or the error.
-#[test]
-fn ranges_from_lengths(rt: HostRuntime) {
-    let rows = [
-        (0, 0, Err(Error::InvalidSize(0))),
-        (MAX, 0, Err(Error::InvalidSize(0))),
-        (0, 1, Ok(0)),
-        (0xD000_0000, 0x4000, Ok(0xD000_3FFF)),
-        (0, MAX, Ok(MAX - 1)),
-        (1, MAX, Ok(MAX)),
-        (2, MAX, Err(Error::Overflow)),
-        (MAX, 1, Ok(MAX)),
-        (MAX, 2, Err(Error::Overflow)),
-    ];
-    for (start, len, want) in rows {
-        let end = match RangeInclusive::from_start_len(start, len) {
-            Ok(range) => Ok(range.end()),
-            Err(error) => Err(error),
-        };
-        expect_eq(&rt, &end, &want, &(start, len));
-    }
-}
-
-/// Offsets of addresses in [16, 23], and at both ends of all addresses.
-#[test]
-fn offsets_in_ranges(rt: HostRuntime) {
-    let rows = [
-        ((16, 23), 15, None),
-        ((16, 23), 16, Some(0)),
-        ((16, 23), 23, Some(7)),
-        ((16, 23), 24, None),
-        ((0, 0), 0, Some(0)),
-        ((1, MAX), MAX, Some(MAX - 1)),
-        ((1, MAX), 0, None),
-    ];
-    for ((start, end), address, want) in rows {
-        let range = range(&rt, start, end);
-        expect_eq(&rt, &range.offset_of(address), &want, &(range, address));
-    }
 }
 
 #[test]
@@ -197,14 +156,9 @@ fn constraints(rt: HostRuntime) {
     assert!(rt; AllocPolicy::default() == AllocPolicy::FirstMatch);
 }
 
-/// Returns the text of an error. The second try is for a run in which one allocation fails.
+/// Returns the text of an error.
 fn text_of<T: Display>(rt: &(impl Abort + AllocGlobal), error: &T) -> String {
-    match error.to_string(rt.alloc()) {
-        Ok(text) => text,
-        Err(_) => error
-            .to_string(rt.alloc())
-            .expect(rt, "memory is refused once"),
-    }
+    error.to_string(rt.alloc()).expect(rt, ENOUGH)
 }
 
 #[test]

@@ -1,7 +1,9 @@
 //! Tests of trees.
 //!
 //! They guard against allocations that are not needed, and against sums that wrap.
-use crate::fixtures::{count_allocations, expect_allocations, expect_eq, expect_true, range};
+use crate::fixtures::{
+    ENOUGH, count_allocations, expect_allocations, expect_eq, expect_true, range,
+};
 use AllocPolicy::{ExactMatch, FirstMatch, LastMatch};
 use std::alloc::Global;
 use std::process::Abort;
@@ -12,11 +14,7 @@ mod by_name;
 
 /// Creates the tree of a space.
 fn tree_of(rt: &(impl Abort + AllocGlobal), start: u64, end: u64) -> IntervalTree {
-    let space = range(rt, start, end);
-    match IntervalTree::new(rt.alloc(), space) {
-        Ok(tree) => tree,
-        Err(_) => IntervalTree::new(rt.alloc(), space).expect(rt, "memory is refused once"),
-    }
+    IntervalTree::new(rt.alloc(), range(rt, start, end)).expect(rt, ENOUGH)
 }
 
 /// Creates a request for a tree.
@@ -26,11 +24,8 @@ fn request(rt: &impl Abort, size: u64, align: u64, policy: AllocPolicy) -> Const
 
 /// Allocates a number of addresses that start at an address.
 fn hold(rt: &(impl Abort + AllocGlobal), tree: &mut IntervalTree, start: u64, size: u64) {
-    let constraint = request(rt, size, 1, ExactMatch(start));
-    if tree.allocate(rt.alloc(), constraint).is_err() {
-        let again = tree.allocate(rt.alloc(), constraint);
-        expect_true(rt, again.is_ok(), &"the second try");
-    }
+    let answer = tree.allocate(rt.alloc(), request(rt, size, 1, ExactMatch(start)));
+    expect_true(rt, answer.is_ok(), &start);
 }
 
 #[test]
@@ -39,18 +34,6 @@ fn test_integer_wrapping(rt: HostRuntime) {
     let half = 1 << 63;
     let answer = tree.allocate(rt.alloc(), request(&rt, half, half, ExactMatch(half)));
     expect_eq(&rt, &answer, &Err(Error::Overflow), &"half of all");
-}
-
-/// Creates a tree by one allocation.
-fn tree_of_one_request(rt: &(impl Abort + AllocGlobal), start: u64, end: u64) -> IntervalTree {
-    let space = range(rt, start, end);
-    count_allocations(rt.alloc());
-    let tree = IntervalTree::new(rt.alloc(), space);
-    expect_allocations(rt.alloc(), 1);
-    match tree {
-        Err(Error::OutOfMemory) => tree_of(rt, start, end),
-        answer => answer.expect(rt, "only memory is refused"),
-    }
 }
 
 /// Allocates a number of addresses. Checks their start, and that this allocates no memory.
@@ -72,7 +55,9 @@ fn hold_counting(
 /// do not allocate.
 #[test]
 fn allocations_of_a_tree(rt: HostRuntime) {
-    let mut tree = tree_of_one_request(&rt, 0, 15);
+    count_allocations(rt.alloc());
+    let mut tree = tree_of(&rt, 0, 15);
+    expect_allocations(rt.alloc(), 1);
     let rows = &[
         (2, FirstMatch, 0),
         (2, LastMatch, 14),

@@ -9,7 +9,7 @@ ghost use Rattle.vm_allocator.specs.Allocator.{state_of};
 ghost use Rattle.vm_allocator.specs.Ids.{IsHeld};
 ghost use Rattle.vm_devices.specs.Manager.{device_state};
 
-use crate::fixtures::{expect_true, made, range};
+use crate::fixtures::{ENOUGH, expect_true, made, range};
 use crate::plugging::replugged;
 use crate::windows::{restored, windows};
 use serde_json::Value;
@@ -112,11 +112,7 @@ fn devices_through_text(
 
 /// Allocates two windows.
 fn use_windows(rt: &(impl Abort + AllocGlobal)) {
-    let both = match windows(rt.alloc()) {
-        Err(Error::OutOfMemory) => windows(rt.alloc()),
-        answer => answer,
-    };
-    let (first, second) = both.expect(rt, "there is room");
+    let (first, second) = windows(rt.alloc()).expect(rt, "there is room");
     let are_there = first.start() == 0xD000_0000 && second.start() == 0xD000_1000;
     expect_true(rt, are_there, &"both windows");
 }
@@ -130,10 +126,7 @@ fn ranges_again<'a>(ranges: &Ranges<'a>) -> std::result::Result<Ranges<'a>, Allo
 
 /// Writes and reads a gap.
 fn use_restored(rt: &(impl Abort + AllocGlobal), gap: &AddressAllocator) {
-    let empty = match restored(rt.alloc(), gap) {
-        Ok(empty) => empty,
-        Err(_) => restored(rt.alloc(), gap).expect(rt, "memory is refused once"),
-    };
+    let empty = restored(rt.alloc(), gap).expect(rt, ENOUGH);
     expect_true(rt, empty == *gap, &"the same gap");
 }
 
@@ -170,10 +163,7 @@ fn use_clones(rt: &(impl Abort + AllocGlobal), gap: &AddressAllocator) {
 
 /// Allocates a bar in a gap.
 fn use_bar(rt: &(impl Abort + AllocGlobal), gap: &mut AddressAllocator) {
-    let bar = match place_bar(rt.alloc(), gap, 0x10_0000) {
-        Err(Error::OutOfMemory) => place_bar(rt.alloc(), gap, 0x10_0000),
-        answer => answer,
-    };
+    let bar = place_bar(rt.alloc(), gap, 0x10_0000);
     let want = Ok(range(rt, 0xE010_0000, 0xE01F_FFFF));
     expect_true(rt, bar == want, &bar);
 }
@@ -210,11 +200,7 @@ fn uses(rt: HostRuntime) {
 
 #[test]
 fn replugs(rt: HostRuntime) {
-    let both = match replugged(rt.alloc()) {
-        Err(Error::OutOfMemory) => replugged(rt.alloc()),
-        answer => answer,
-    };
-    let (first, again) = both.expect(&rt, "there is room");
+    let (first, again) = replugged(rt.alloc()).expect(&rt, "there is room");
     let window = range(&rt, 0xD000_0000, 0xD000_0FFF);
     expect_true(&rt, first.id == 0 && first.range == window, &first);
     expect_true(&rt, again == first, &again);

@@ -7,7 +7,7 @@ pub use crate::rattle::{AllocError, Box, Global, Vec};
 #[doc(inline)]
 pub use crate::{__assert as assert, __assert_eq as assert_eq};
 
-/// The argument of a test: the allocator and the environment.
+/// The argument of a test, which has the allocator.
 pub struct HostRuntime;
 
 /// A type whose failed assertion ends the test.
@@ -24,15 +24,6 @@ pub trait AllocGlobal {
 
 impl AllocGlobal for HostRuntime {}
 
-/// A type that returns the variables of the environment. Tests in plain Rust have none.
-pub trait Env {
-    fn var(&self, _name: &str, _room: &mut [u8]) -> Result<usize, AllocError> {
-        Err(AllocError)
-    }
-}
-
-impl Env for HostRuntime {}
-
 /// A type with clones. In Rattle a clone can fail, as it can allocate.
 pub trait Clone: Sized {
     fn clone(value: &Self) -> Result<Self, AllocError>;
@@ -47,26 +38,6 @@ impl<T: core::clone::Clone> Clone for T {
 /// A string that reports a failed allocation.
 #[derive(Debug)]
 pub struct String(alloc::string::String);
-
-impl String {
-    pub fn new(_alloc: Global) -> String {
-        String(alloc::string::String::new())
-    }
-
-    pub fn with_capacity(_alloc: Global, room: usize) -> Result<String, AllocError> {
-        Ok(String(alloc::string::String::with_capacity(room)))
-    }
-
-    pub fn push(&mut self, letter: char) -> Result<(), AllocError> {
-        self.0.push(letter);
-        Ok(())
-    }
-
-    pub fn push_str(&mut self, text: &str) -> Result<(), AllocError> {
-        self.0.push_str(text);
-        Ok(())
-    }
-}
 
 impl Deref for String {
     type Target = alloc::string::String;

@@ -63,11 +63,8 @@ fn call_and_count(
 ) {
     let (call, want, requests) = *row;
     count_allocations(rt.alloc());
-    let mut answer = call.ask(space, rt.alloc(), form);
+    let answer = call.ask(space, rt.alloc(), form);
     expect_allocations(rt.alloc(), requests);
-    if let Err(Error::OutOfMemory) = answer {
-        answer = call.ask(space, rt.alloc(), form);
-    }
     expect_eq(rt, &answer, &want.answer(), &call);
 }
 

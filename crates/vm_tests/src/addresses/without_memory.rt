@@ -1,22 +1,9 @@
 //! Guards against a call that allocates, although its documentation promises the opposite.
 //! tests/refused_memory makes every allocation after `fail_from_here` fail.
 use super::*;
-use crate::fixtures::{fail_from_here, gaps_exactly, holds_exactly, range};
+use crate::fixtures::{cloned, fail_from_here, full_leaf, gaps_exactly, holds_exactly, range};
 use std::cmp::Ordering;
 use vm_allocator::Conflict;
-
-/// Makes the calls in turn without memory, and checks their results.
-fn replay(
-    rt: &(impl Abort + AllocGlobal),
-    space: &mut AddressAllocator,
-    form: Form,
-    rows: &[(Call, Expected)],
-) {
-    for (call, want) in rows {
-        let answer = call.ask(space, rt.alloc(), form);
-        expect_eq(rt, &answer, &want.answer(), call);
-    }
-}
 
 /// Returns the allocator of [0, 15] in which [2, 3], [6, 7] and [10, 11] are allocated.
 fn three_held(rt: &(impl Abort + AllocGlobal)) -> AddressAllocator {
@@ -26,7 +13,7 @@ fn three_held(rt: &(impl Abort + AllocGlobal)) -> AddressAllocator {
         (Exact(2, 1, 6), Range(6, 7)),
         (Exact(2, 1, 10), Range(10, 11)),
     ];
-    super::replay(rt, &mut space, rows);
+    replay(rt, &mut space, Plain, rows);
     space
 }
 
@@ -156,4 +143,18 @@ fn refused(rt: HostRuntime) {
     replay(&rt, &mut space, Counted, rows);
     replay(&rt, &mut highest, Counted, ending_at_max);
     clone_once(&rt, &space);
+}
+
+/// A split of a leaf without room allocates a leaf and a node before the first change.
+#[test]
+fn split_or_unchanged(rt: HostRuntime) {
+    let mut space = full_leaf(&rt);
+    let before = cloned(&rt, &space);
+    fail_from_here(rt.alloc());
+    let answer = First(4, 1).ask(&mut space, rt.alloc(), Plain);
+    let is_true = match &answer {
+        Ok(ends) => *ends == (31, 34) && space.height() == 2,
+        Err(error) => *error == Error::OutOfMemory && space == before,
+    };
+    expect_true(&rt, is_true, &answer);
 }

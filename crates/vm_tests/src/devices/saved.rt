@@ -1,12 +1,8 @@
 //! Tests of managers that are written and read.
 //!
-//! They guard against a manager that is read from a text of another one, and against one that is
-//! incomplete if memory runs out.
+//! They guard against a format with another meaning than its documentation.
 use super::*;
-use crate::fixtures::{balance, parsed};
-use vm_allocator::ValueError;
-
-mod hostile;
+use crate::fixtures::parsed;
 
 /// The ids [0, 1] and the space [4096, 8191]. A device has id 0 and [4096, 6143].
 const ONE_DEVICE: &str = r#"{"version":1,
@@ -50,69 +46,13 @@ const NO_DEVICE: &str = r#"{"version":1,
     "key":{"start":4096,"end":8191},"node_state":"Free","left":null,"right":null,"height":1}}},
     "slots":[]}"#;
 
-/// Reads the manager of a value.
-fn read(
-    rt: &(impl Abort + AllocGlobal),
-    value: &Value,
-) -> std::result::Result<DeviceManager, ValueError> {
-    match DeviceManager::from_value(rt.alloc(), value) {
-        Err(ValueError::OutOfMemory) => DeviceManager::from_value(rt.alloc(), value),
-        answer => answer,
-    }
-}
-
-/// Reads the manager of a valid value.
-fn read_good(rt: &(impl Abort + AllocGlobal), value: &Value) -> DeviceManager {
-    read(rt, value).expect(rt, "it states a manager")
-}
-
-/// Reads a value. Checks that its second device has the last 2,048 addresses, or that memory ran
-/// out.
-fn read_or_refuse(rt: &(impl Abort + AllocGlobal), value: &Value) {
-    let is_true = match DeviceManager::from_value(rt.alloc(), value) {
-        Ok(devices) => look_up(&devices, 1) == Some((1, 6144, 8191)),
-        Err(ValueError::OutOfMemory) => true,
-        Err(_) => false,
-    };
-    expect_true(rt, is_true, &"both devices or none");
-}
-
-#[test]
-fn read_whole_or_not_at_all(rt: HostRuntime) {
-    let value = parsed(&rt, TWO_DEVICES);
-    balance(rt.alloc());
-    read_or_refuse(&rt, &value);
-    balance(rt.alloc());
-}
-
-/// Writes a manager, which does not change, and reads the value.
-fn written_and_read(rt: &(impl Abort + AllocGlobal), devices: &DeviceManager) -> DeviceManager {
-    let before = Parts::of(rt, devices);
-    let value = saved_devices(rt, devices);
-    before.expect_of(rt, devices);
-    let again = read_good(rt, &value);
-    before.expect_of(rt, &again);
-    again
-}
-
-#[test]
-fn devices_written_and_read(rt: HostRuntime) {
-    let mut devices = made(&rt, (0, 1), 4096, 4096);
-    let first = &[(First(2048, 2048), Device(0, 4096, 6143))];
-    replay(&rt, &mut devices, first);
-    let rows = &[
-        (LookUp(0), Device(0, 4096, 6143)),
-        (First(1, 1), Device(1, 6144, 6144)),
-    ];
-    replay(&rt, &mut written_and_read(&rt, &devices), rows);
-}
-
 /// Checks that a text encodes a manager, that the manager is written like this, and that these
 /// calls have their results.
 fn expect_manager(rt: &(impl Abort + AllocGlobal), text: &str, rows: &[(Call, Expected)]) {
     let value = parsed(rt, text);
-    let mut devices = read_good(rt, &value);
-    expect_true(rt, saved_devices(rt, &devices) == value, &text);
+    let mut devices = DeviceManager::from_value(rt.alloc(), &value).expect(rt, text);
+    let saved = devices.to_value(rt.alloc()).expect(rt, ENOUGH);
+    expect_true(rt, saved == value, &text);
     replay(rt, &mut devices, rows);
 }
 
@@ -143,16 +83,4 @@ fn devices_that_values_state(rt: HostRuntime) {
     expect_manager(&rt, TWO_DEVICES, both);
     expect_manager(&rt, TWO_CROSSED, crossed);
     expect_manager(&rt, NO_DEVICE, none);
-}
-
-/// Writes and reads twelve devices, one by one.
-#[test]
-fn memory_for_twelve_devices(rt: HostRuntime) {
-    let mut devices = made(&rt, (0, 11), 0, 0x1000);
-    for id in 0..12u32 {
-        reserve_sixteen(&rt, &mut devices, id, u64::from(id) * 16);
-        devices = read_good(&rt, &saved_devices(&rt, &devices));
-    }
-    call_again(&rt, &mut devices, LookUp(11), Device(11, 176, 191));
-    call_again(&rt, &mut devices, First(16, 16), NotAvailable);
 }

@@ -2,20 +2,27 @@
 use super::*;
 use crate::fixtures::{fail_from_here, range};
 use vm_allocator::Conflict;
+use vm_devices::DeviceSlot;
 
-/// Makes calls that do not allocate, and checks their results.
-fn replay_refused(
-    rt: &(impl Abort + AllocGlobal),
-    devices: &mut DeviceManager,
-    rows: &[(Call, Expected)],
-) {
-    for (call, want) in rows {
-        expect_eq(rt, &call.ask(devices, rt.alloc()), &want.answer(), call);
-    }
+/// The id of the device, and the ends of its range.
+const DEVICE: (u32, u64, u64) = (0, 0x1000, 0x17FF);
+
+/// Returns the id of a device, and the ends of its range.
+fn parts(device: DeviceSlot) -> (u32, u64, u64) {
+    (device.id, device.range.start(), device.range.end())
 }
 
-/// Checks the conflict of a request with the device at [0x1000, 0x17FF].
-fn expect_conflict(rt: &impl Abort, devices: &DeviceManager) {
+/// Checks the calls that only read: there is one device.
+fn expect_one(rt: &impl Abort, devices: &DeviceManager) {
+    let mut up = devices.devices();
+    let listed = (up.next().map(parts), up.next().map(parts));
+    expect_eq(rt, &listed, &(Some(DEVICE), None), &"the device");
+    let last = devices.devices().next_back().map(parts);
+    expect_eq(rt, &last, &Some(DEVICE), &"the last device");
+    let found = devices.device_at(0x17FF).map(parts);
+    expect_eq(rt, &found, &Some(DEVICE), &"its last address");
+    let counts = (devices.device_at(0x1800).is_none(), devices.device_count());
+    expect_eq(rt, &counts, &(true, 1), &"no other device");
     let exact = Constraint::new(8, 1, AllocPolicy::ExactMatch(0x17FF));
     let request = exact.expect(rt, "it is a request");
     let conflict = Some(Conflict::Allocated(range(rt, 0x1000, 0x17FF)));
@@ -46,8 +53,9 @@ fn looked_up_or_refused(rt: HostRuntime) {
         (Release(1), NeverAllocated(1)),
     ];
     fail_from_here(rt.alloc());
-    replay_refused(&rt, &mut devices, rows);
-    expect_conflict(&rt, &devices);
-    expect_no_manager(&rt, (2, 1), 0, 0, Error::InvalidRange(2, 1));
+    replay(&rt, &mut devices, rows);
+    expect_one(&rt, &devices);
+    let refused = DeviceManager::new(rt.alloc(), 2, 1, 0, 0).err();
+    expect_eq(&rt, &refused, &Some(Error::InvalidRange(2, 1)), &"no ids");
     release_first(&rt, &mut devices);
 }

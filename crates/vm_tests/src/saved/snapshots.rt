@@ -292,7 +292,7 @@ fn faults_of_the_other_crate(rt: HostRuntime) {
 #[test]
 fn ids_of_the_other_crate(rt: HostRuntime) {
     let value = parsed(&rt, IDS);
-    let ids = read_ids(&rt, &value).expect(&rt, IDS);
+    let ids = IdAllocator::from_value(rt.alloc(), &value).expect(&rt, IDS);
     for id in 0..32 {
         let held = [5, 7, 8, 10, 11].contains(&id);
         expect_eq(&rt, &ids.is_allocated(id), &held, &id);

@@ -69,5 +69,9 @@ fn checked(rt: HostRuntime) {
     // The only allocation. Its result shows whether the run is without memory.
     let one_node = value_of(&rt, &values, "one_node");
     let space = AddressAllocator::from_value(rt.alloc(), one_node);
-    expect_held_or_no_memory(&rt, space, &[(16, 19)]);
+    let is_true = match space {
+        Ok(space) => holds_exactly(&space, &[(16, 19)]),
+        Err(error) => error == ValueError::OutOfMemory,
+    };
+    assert!(rt; is_true);
 }
