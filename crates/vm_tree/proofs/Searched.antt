@@ -11,11 +11,11 @@ use Rattle.vm_leaf.specs.Block.{free_block}
 use Rattle.vm_leaf.specs.Blocks.{nth, start_of, IsRun}
 use Rattle.vm_leaf.specs.Fit.{IsFit, IsLowestFit, IsHighestFit}
 use Rattle.vm_leaf.specs.Windows.{cut_to, HaveNoFitIn, IsFirstFitIn, IsLastFitIn}
-use Rattle.vm_leaf.specs.declared.leaf.Place.{Place}
+use Rattle.vm_leaf.specs.declared.leaf.Fit.{Fit}
 use Rattle.vm_tree.specs.Ends.{opposite, beyond}
 use Rattle.vm_tree.specs.Shape.{Shape, Tip, Fork, blocks, height_of}
-use Rattle.vm_tree.specs.Allocation.{Spot, IsClosestFit, HasNoPlace, HasNoFitIn, window_of, IsSearch, AllocatesFit}
-use Rattle.vm_tree.specs.Placing.{spot_at, site_of, IsClosestSite}
+use Rattle.vm_tree.specs.Allocation.{ListPlace, IsClosestFit, HasNoPlace, HasNoFitIn, window_of, IsSearch, AllocatesFit}
+use Rattle.vm_tree.specs.Placing.{in_list, place_of_fit, IsClosestLeafPlace}
 use Rattle.vm_tree.specs.Searching.{child_at, reaches_child, may_fit_in_child, nodes_of_child}
 use Rattle.vm_tree.specs.NodeCounts.{may_fit_in, has_fit_in, nodes_of_search}
 use Rattle.vm_tree.specs.declared.end.End.{End}
@@ -37,29 +37,29 @@ is_fit First n a t b h = h.0
 is_fit Last n a t b h = h.0
 
 -- ---- A leaf
-module _ (seek : Search) (bs : List Block) (place : Place) where
-  closest_site : (end : End) → place.index < length bs → IsClosestFit end seek.size seek.alignment (cut_to (window_of seek) (nth bs place.index)) place.start
-      → HasNoPlace seek (beyond end (spot_at bs (site_of bs place)).lower (spot_at bs (site_of bs place)).upper) → IsClosestSite end seek bs (site_of bs place)
-  closest_site end within h none =
-      let f = is_fit end seek.size seek.alignment place.start (cut_to (window_of seek) (nth bs place.index)) h in
-      let gap = gap_of (nth bs place.index) f.0 in
+module _ (seek : Search) (bs : List Block) (found : Fit) where
+  closest_place : (end : End) → found.index < length bs → IsClosestFit end seek.size seek.alignment (cut_to (window_of seek) (nth bs found.index)) found.start
+      → HasNoPlace seek (beyond end (in_list bs (place_of_fit bs found)).lower (in_list bs (place_of_fit bs found)).upper) → IsClosestLeafPlace end seek bs (place_of_fit bs found)
+  closest_place end within h none =
+      let f = is_fit end seek.size seek.alignment found.start (cut_to (window_of seek) (nth bs found.index)) h in
+      let gap = gap_of (nth bs found.index) f.0 in
       record {
         fits = record { within = within; gap = gap; from = omega (arith, f.2); upto = omega (arith, f.3) };
         closest = record {
-          cut = cut_at bs place.index within ∙ ap (λ (b : Block). take place.index bs ++ b ∷ drop (place.index + 1) bs) gap;
+          cut = cut_at bs found.index within ∙ ap (λ (b : Block). take found.index bs ++ b ∷ drop (found.index + 1) bs) gap;
           none = none;
-          fit = subst (λ (b : Block). IsClosestFit end seek.size seek.alignment (cut_to (window_of seek) b) place.start) gap h;
+          fit = subst (λ (b : Block). IsClosestFit end seek.size seek.alignment (cut_to (window_of seek) b) found.start) gap h;
         };
       }
 
-  pub first_site : IsFirstFitIn (window_of seek) seek.size seek.alignment bs place → IsClosestSite First seek bs (site_of bs place)
-  first_site h = closest_site First h.within h.lowest (none_upto (window_of seek) seek.size seek.alignment bs place.index h.first)
+  pub first_place : IsFirstFitIn (window_of seek) seek.size seek.alignment bs found → IsClosestLeafPlace First seek bs (place_of_fit bs found)
+  first_place h = closest_place First h.within h.lowest (none_upto (window_of seek) seek.size seek.alignment bs found.index h.first)
 
-  pub last_site : IsLastFitIn (window_of seek) seek.size seek.alignment bs place → IsClosestSite Last seek bs (site_of bs place)
-  last_site h = closest_site Last h.within h.highest (none_from (window_of seek) seek.size seek.alignment bs (place.index + 1) h.last)
+  pub last_place : IsLastFitIn (window_of seek) seek.size seek.alignment bs found → IsClosestLeafPlace Last seek bs (place_of_fit bs found)
+  last_place h = closest_place Last h.within h.highest (none_from (window_of seek) seek.size seek.alignment bs (found.index + 1) h.last)
 
-pub no_site : (seek : Search) (bs : List Block) → HaveNoFitIn (window_of seek) seek.size seek.alignment bs 0 (length bs) → HasNoPlace seek bs
-no_site seek bs h = subst (HasNoPlace seek) (take_all (length bs) bs (omega arith)) (none_upto (window_of seek) seek.size seek.alignment bs (length bs) h)
+pub no_place : (seek : Search) (bs : List Block) → HaveNoFitIn (window_of seek) seek.size seek.alignment bs 0 (length bs) → HasNoPlace seek bs
+no_place seek bs h = subst (HasNoPlace seek) (take_all (length bs) bs (omega arith)) (none_upto (window_of seek) seek.size seek.alignment bs (length bs) h)
 
 -- ---- The children of a node
 pub none_closest : (end : End) (seek : Search) (old new : List Block) → AllocatesFit end seek old new (Err NoPlace) → HasNoPlace seek old
@@ -69,13 +69,13 @@ module _ (seek : Search) where
   none_both : (l r : List Block) → HasNoPlace seek l → HasNoPlace seek r → HasNoPlace seek (l ++ r)
   none_both l r h k = All-append (HasNoFitIn (window_of seek) seek.size seek.alignment) l r h k
 
-  none_to_left : (end : End) (spot : Spot) (r : List Block) → HasNoPlace seek (beyond end spot.lower spot.upper) → (end ≡ Last → HasNoPlace seek r) → HasNoPlace seek (beyond end spot.lower (spot.upper ++ r))
-  none_to_left First spot r h k = h
-  none_to_left Last spot r h k = none_both spot.upper r h (k refl)
+  none_to_left : (end : End) (place : ListPlace) (r : List Block) → HasNoPlace seek (beyond end place.lower place.upper) → (end ≡ Last → HasNoPlace seek r) → HasNoPlace seek (beyond end place.lower (place.upper ++ r))
+  none_to_left First place r h k = h
+  none_to_left Last place r h k = none_both place.upper r h (k refl)
 
-  none_to_right : (end : End) (spot : Spot) (l : List Block) → HasNoPlace seek (beyond end spot.lower spot.upper) → (end ≡ First → HasNoPlace seek l) → HasNoPlace seek (beyond end (l ++ spot.lower) spot.upper)
-  none_to_right First spot l h k = none_both l spot.lower (k refl) h
-  none_to_right Last spot l h k = h
+  none_to_right : (end : End) (place : ListPlace) (l : List Block) → HasNoPlace seek (beyond end place.lower place.upper) → (end ≡ First → HasNoPlace seek l) → HasNoPlace seek (beyond end (l ++ place.lower) place.upper)
+  none_to_right First place l h k = none_both l place.lower (k refl) h
+  none_to_right Last place l h k = h
 
   in_left : (end : End) (l m r : List Block) (answer : Result Taken Refusal) → (answer ≡ Err NoPlace → HasNoPlace seek r) → (end ≡ Last → HasNoPlace seek r) → AllocatesFit end seek l m answer → AllocatesFit end seek (l ++ r) (m ++ r) answer
   in_left end l m r answer n k h =
@@ -131,7 +131,7 @@ closest_allocated end seek old new taken z h =
       | inr x ↦ (
           let f = is_fit end seek.size seek.alignment x.0.start (cut_to (window_of seek) (free_block x.0.key)) x.1.fit in
           record {
-            spot = x.0;
+            place = x.0;
             cut = x.1.cut;
             inside = record { from = omega (arith, f.2); some = omega arith; upto = omega (arith, f.3) };
             taken_at = x.2;
@@ -268,6 +268,6 @@ module _ (seek : Search) (valid : IsSearch seek) where
   nodes_missed First (Fork l r) k m f = rw (m, none_missed (blocks l) f) refl
   nodes_missed Last (Fork l r) k m f = rw (m, none_missed (blocks r) f) refl
 
-pub ruleset sites = (no_site)
+pub ruleset places = (no_place)
 
 pub ruleset roots = (nodes_leaf, nodes_some, closest_other)

@@ -43,7 +43,7 @@ pub enum Refusal {
     /// An allocation of memory failed, with this error.
     OutOfMemory(AllocError),
     /// The range does not fill its gap, and gaps cannot be split.
-    TooHigh,
+    CannotSplit,
 }
 
 impl From<AllocError> for Refusal {

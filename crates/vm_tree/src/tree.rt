@@ -197,7 +197,7 @@ impl Tree {
     /// Allocates the range of a search that starts at `start`.
     ///
     /// It returns `Held` if exactly this range is allocated, and otherwise `NoPlace` if the range is not in a
-    /// gap and in the window. It returns `PastMax` if the range ends at `u64::MAX`, `TooHigh` if gaps cannot be
+    /// gap and in the window. It returns `PastMax` if the range ends at `u64::MAX`, `CannotSplit` if gaps cannot be
     /// split, and `OutOfMemory` if an allocation fails. An error changes nothing. A range that fills its gap
     /// allocates no memory, and any other range allocates nothing or one leaf and one node.
     ///
@@ -237,7 +237,7 @@ impl Tree {
 
     /// Allocates the place of a search that is closest to an end: the lowest or the highest place.
     ///
-    /// It returns `NoPlace` if there is none, `PastMax` if the range there ends at `u64::MAX`, `TooHigh` if gaps
+    /// It returns `NoPlace` if there is none, `PastMax` if the range there ends at `u64::MAX`, `CannotSplit` if gaps
     /// cannot be split, and `OutOfMemory` if an allocation fails. An error changes nothing. A range that fills
     /// its gap allocates no memory, and any other range allocates nothing or one leaf and one node.
     ///

@@ -18,7 +18,7 @@ use Rattle.vm_engine.specs.Engine.CountedTrees.{IsCountedTree}
 use Rattle.vm_engine.specs.Tree.Blocks.{TilesSpace, IsBlocksOf, held_of, blocks_state}
 use Rattle.vm_engine.specs.Tree.SpaceTree.{space_of, tree_state, IsSpaceTree}
 use Rattle.vm_engine.proofs.Blocks.OneList.{few_blocks}
-use Rattle.vm_engine.proofs.Placing.Spots.{taken_from}
+use Rattle.vm_engine.proofs.Placing.Places.{taken_from}
 use Rattle.vm_engine.proofs.Splitting.TakenRanges.{as_blocks, blocks_split}
 use Rattle.vm_engine.proofs.Trees.CountedTrees.{TakesOne, length_with, taken_counted, taken_fits, gaps_left, gaps_fit}
 use Rattle.vm_engine.proofs.Trees.Spaces.{state_of_tree}
@@ -39,7 +39,7 @@ not_split k r n =
 -- ---- A range that was taken
 module _ (s m : Shape) (can_split : Bool) (n : ℕ) (taken : Taken) (h : IsSpaceTree s) (few : IsTestOf can_split (length (held_of (blocks s)) < SPLIT_LIMIT_MIN_HELD)) (z : 0 < n) (t : Takes can_split n (blocks s) (blocks m) taken) where
   abbrev range : Range
-  range = range_at t.search t.range.spot
+  range = range_at t.search t.range.place
 
   is_range : range ≡ span taken.start n
   is_range = ap (λ (x : ℕ). span x t.search.size) (sym t.range.at.start) ∙ ap (λ (x : ℕ). span taken.start x) t.size
@@ -48,16 +48,16 @@ module _ (s m : Shape) (can_split : Bool) (n : ℕ) (taken : Taken) (h : IsSpace
   unfolding TilesSpace
   holds_range =
       let sp = space_of (blocks s) in
-      let from = taken_from sp (blocks s) h.tiling.tiles t.search (omega (arith, t.size, z)) t.range.spot t.range.cut t.range.in_gap in
-      let k = blocks_split (tree_state s) (blocks s) t.range.spot.lower t.range.spot.upper (free_block t.range.spot.key) range (as_blocks sp (blocks s) h.tiling.tiles) t.range.cut refl from in
+      let from = taken_from sp (blocks s) h.tiling.tiles t.search (omega (arith, t.size, z)) t.range.place t.range.cut t.range.in_gap in
+      let k = blocks_split (tree_state s) (blocks s) t.range.place.lower t.range.place.upper (free_block t.range.place.key) range (as_blocks sp (blocks s) h.tiling.tiles) t.range.cut refl from in
       subst (IsBlocksOf (holding range (tree_state s))) (sym t.range.at.blocks) k
 
   longer : length (blocks m) ≡ length (blocks s) + taken.added
   longer =
-      let spot = t.range.spot in
-      let old = ap length t.range.cut ∙ length-append spot.lower (free_block spot.key ∷ spot.upper) in
-      let new = ap length t.range.at.blocks ∙ length-append spot.lower (parts spot.key range ++ spot.upper) in
-      omega (arith, old, new, length-append (parts spot.key range) spot.upper, t.range.at.added)
+      let place = t.range.place in
+      let old = ap length t.range.cut ∙ length-append place.lower (free_block place.key ∷ place.upper) in
+      let new = ap length t.range.at.blocks ∙ length-append place.lower (parts place.key range ++ place.upper) in
+      omega (arith, old, new, length-append (parts place.key range) place.upper, t.range.at.added)
 
   one_held : length (held_of (blocks m)) ≡ length (held_of (blocks s)) + 1
   one_held = ap length holds_range.held ∙ length_with range (held_of (blocks s))
@@ -69,7 +69,7 @@ module _ (s m : Shape) (can_split : Bool) (n : ℕ) (taken : Taken) (h : IsSpace
       let l = length_with range (held_of (blocks s)) in
       omega arith
   few_split false e =
-      let none : length (parts t.range.spot.key range) ≡ 1 = not_split t.range.spot.key range (λ k. absurd (cc (t.range.at.low k, t.split, e))) in
+      let none : length (parts t.range.place.key range) ≡ 1 = not_split t.range.place.key range (λ k. absurd (cc (t.range.at.low k, t.split, e))) in
       omega (arith, longer, none, t.range.at.added, h.few)
 
   pub takes_one : TakesOne s m (span taken.start n) taken.added

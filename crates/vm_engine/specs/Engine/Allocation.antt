@@ -6,12 +6,12 @@ use Rattle.vm_ranges.specs.declared.error.Error.{Error}
 use Rattle.vm_ranges.specs.declared.error.Error.TheVariants.{Overflow, ResourceNotAvailable, InvalidStateTransition, OutOfMemory}
 use Rattle.vm_ranges.specs.declared.state.NodeState.TheVariants.{Allocated}
 use Rattle.vm_leaf.specs.declared.block.Block.{Block}
-use Rattle.vm_tree.specs.Allocation.{Spot, window_of, IsSpotIn, IsTakenAt}
+use Rattle.vm_tree.specs.Allocation.{ListPlace, window_of, IsPlaceIn, IsTakenAt}
 use Rattle.vm_tree.specs.Shape.{Shape, blocks, height_of}
 use Rattle.vm_tree.specs.declared.search.Search.{Search}
 use Rattle.vm_tree.specs.declared.search.Taken.{Taken}
 use Rattle.vm_tree.specs.declared.search.Refusal.{Refusal}
-use Rattle.vm_tree.specs.declared.search.Refusal.TheVariants.{NoPlace, Held, PastMax, OutOfMemory as NoMemory, TooHigh}
+use Rattle.vm_tree.specs.declared.search.Refusal.TheVariants.{NoPlace, Held, PastMax, OutOfMemory as NoMemory, CannotSplit}
 use Rattle.vm_engine.specs.Answer.{Grants}
 use Rattle.vm_engine.specs.Counts.GapSearch.{SearchesAligned}
 use Rattle.vm_engine.specs.Counts.NodeCounts.{nodes_of_request}
@@ -25,7 +25,7 @@ error_of range NoPlace = ResourceNotAvailable
 error_of range Held = InvalidStateTransition range Allocated
 error_of range PastMax = Overflow
 error_of range (NoMemory e) = OutOfMemory
-error_of range TooHigh = Overflow
+error_of range CannotSplit = Overflow
 
 -- The result of a search, with the error of its refusal.
 abbrev pub with_error : Range → Result Taken Refusal → Result Taken Error
@@ -45,10 +45,10 @@ pub record IsSearchOf (request : Request) (space : Range) (search : Search) : Ty
 
 -- The search took a range out of a gap of the old blocks.
 pub record TakesRange (search : Search) (old new : List Block) (taken : Taken) : Type 0 where
-  pub spot : Spot
-  pub cut : IsSpotIn old spot
-  pub in_gap : (spot.key.start ≤ spot.start) × (spot.start + search.size ≤ spot.key.end + 1)
-  pub at : IsTakenAt search spot new taken
+  pub place : ListPlace
+  pub cut : IsPlaceIn old place
+  pub in_gap : (place.key.start ≤ place.start) × (place.start + search.size ≤ place.key.end + 1)
+  pub at : IsTakenAt search place new taken
 
 -- The n addresses were taken out of a gap. A gap is split only if that is allowed.
 pub record Takes (can_split : Bool) (n : ℕ) (old new : List Block) (taken : Taken) : Type 0 where

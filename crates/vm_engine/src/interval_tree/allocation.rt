@@ -163,7 +163,7 @@ fn with_error(found: std::result::Result<Taken, Refusal>, range: &RangeInclusive
     Err(match refusal {
         Refusal::NoPlace => Error::ResourceNotAvailable,
         Refusal::Held => Error::InvalidStateTransition(*range, NodeState::Allocated),
-        Refusal::PastMax | Refusal::TooHigh => Error::Overflow,
+        Refusal::PastMax | Refusal::CannotSplit => Error::Overflow,
         Refusal::OutOfMemory(failed) => Error::from(failed),
     })
 }

@@ -6,9 +6,9 @@ ghost use Rattle.vm_tree.specs.Links.{side, IsSummed};
 ghost use Rattle.vm_tree.specs.Growth.{IsSubtree, IsChild, GrowsIfOk, GrowsBelowIfOk, CanTakeFrom, LeavesLeaf};
 ghost use Rattle.vm_tree.specs.Allocation.{IsSearch, AllocatesExact};
 ghost use Rattle.vm_tree.specs.NodeCounts.{nodes_to_address};
-ghost use Rattle.vm_tree.specs.Placing.{IsStartIn, RefusesIn, FindsSiteOf};
+ghost use Rattle.vm_tree.specs.Placing.{IsStartIn, RefusesIn, FindsExactPlace};
 
-use super::place::{Site, leaf_of, place_at};
+use super::place::{Place, allocate_at, leaf_of};
 use crate::change::update;
 use crate::link::{Link, Node};
 use crate::search::{Refusal, Search, Taken};
@@ -43,14 +43,14 @@ fn refusal_in(block: &Block, start: u64, search: &Search) -> Option<Refusal>
     }
 }
 
-/// Returns the site of the range of a search that starts at `start` in a leaf, or the reason why the range
+/// Returns the place of the range of a search that starts at `start` in a leaf, or the reason why the range
 /// cannot be allocated.
 #[inline(always)]
 #[tactic(auto, using(crate::proofs::Allocating::finding_exact))]
-fn site_from(leaf: &Leaf, start: u64, search: &Search) -> Result<Site, Refusal>
+fn exact_place(leaf: &Leaf, start: u64, search: &Search) -> Result<Place, Refusal>
     requires search { IsSearch search.now }
     requires start { IsStartIn search.now start leaf.now }
-    ensures { FindsSiteOf search.now start leaf.now result }
+    ensures { FindsExactPlace search.now start leaf.now result }
 {
     // Proof: `len` gives the facts of a leaf.
     let _len = leaf.len();
@@ -58,7 +58,7 @@ fn site_from(leaf: &Leaf, start: u64, search: &Search) -> Result<Site, Refusal>
     let block = leaf.block_at(index);
     match refusal_in(&block, start, search) {
         Some(refusal) => Err(refusal),
-        None => Ok(Site {
+        None => Ok(Place {
             index,
             gap: block.key,
             start,
@@ -85,8 +85,8 @@ pub(crate) fn exact_in_leaf(
         (blocks (side tree.old)) (blocks (side tree.new)) result }
     ensures left { LeavesLeaf lone result tree.old tree.new }
 {
-    let site = site_from(leaf_of(tree), start, search)?;
-    place_at(tree, lone, &site, search, alloc)
+    let place = exact_place(leaf_of(tree), start, search)?;
+    allocate_at(tree, lone, &place, search, alloc)
 }
 
 /// Allocates the range of a search that starts at `start` below a node.

@@ -1,24 +1,24 @@
 //! The allocation of a range at a place in a leaf, which may split the leaf in two.
 ghost use Rattle.std.specs.Prelude.{◌≡◌, ◌+◌, ◌<◌, ◌≤◌, length, OnErr, IfOk, MatchBool};
 ghost use Rattle.vm_leaf.specs.Blocks.{with_parts, parts};
-ghost use Rattle.vm_leaf.specs.Left.{added_by};
+ghost use Rattle.vm_leaf.specs.Rest.{added_by};
 ghost use Rattle.vm_tree.specs.Shape.{Tip, blocks, height_of};
 ghost use Rattle.vm_tree.specs.Links.{side, IsSummed};
 ghost use Rattle.vm_tree.specs.Growth.{Grows, CanTakeFrom, IsTakenLeaf, LeavesLeaf};
 ghost use Rattle.vm_tree.specs.Allocation.{IsSearch, SettlesAt};
-ghost use Rattle.vm_tree.specs.Placing.{spot_at, IsSiteIn, IsClaimIn, IsClaimAt, RefusesClaim};
+ghost use Rattle.vm_tree.specs.Placing.{in_list, IsLeafPlace, IsClaimIn, IsClaimAt, RefusesClaim};
 
 use crate::change::Change;
 use crate::link::{Link, Node, fork_link, into_leaf, leaf_link};
 use crate::search::{Refusal, Search, Taken};
 use std::alloc::{AllocError, Global};
 use std::mem;
-use vm_leaf::{Block, CAPACITY, Leaf, Left, Summary};
+use vm_leaf::{Block, CAPACITY, Leaf, Rest, Summary};
 use vm_ranges::{NodeState, RangeInclusive};
 
 /// A start in a gap of a leaf.
 #[derive(Clone, Copy)]
-pub(super) struct Site {
+pub(super) struct Place {
     /// The index of the gap.
     pub(super) index: usize,
     pub(super) gap: RangeInclusive,
@@ -33,26 +33,26 @@ pub(crate) struct Claim {
     gap: RangeInclusive,
     range: RangeInclusive,
     /// The parts of the gap that stay free.
-    left: Left,
+    rest: Rest,
 }
 
-/// Returns the claim of the range of a search at a site.
+/// Returns the claim of the range of a search at a place.
 #[inline(always)]
-fn claim_at(site: &Site, search: &Search) -> Claim
+fn claim_at(place: &Place, search: &Search) -> Claim
     requires search { IsSearch search.now }
-    requires from { site.now.gap.start ≤ site.now.start }
-    requires upto { site.now.start + search.now.size ≤ site.now.gap.end + 1 }
-    ensures { IsClaimAt search.now site.now result }
+    requires from { place.now.gap.start ≤ place.now.start }
+    requires upto { place.now.start + search.now.size ≤ place.now.gap.end + 1 }
+    ensures { IsClaimAt search.now place.now result }
 {
     // Proof: `end` gives the facts of a range.
-    let (gap, _end) = (site.gap, site.gap.end());
-    let range = RangeInclusive::between(site.start, site.start + (search.size - 1));
-    let left = Left::of(&gap, &range);
+    let (gap, _end) = (place.gap, place.gap.end());
+    let range = RangeInclusive::between(place.start, place.start + (search.size - 1));
+    let rest = Rest::of(&gap, &range);
     Claim {
-        index: site.index,
+        index: place.index,
         gap,
         range,
-        left,
+        rest,
     }
 }
 
@@ -64,8 +64,8 @@ fn refusal_of(claim: &Claim, search: &Search) -> Option<Refusal>
     if claim.range.end() == u64::MAX {
         return Some(Refusal::PastMax);
     }
-    if claim.left.added() > 0 && !search.can_split {
-        return Some(Refusal::TooHigh);
+    if claim.rest.added() > 0 && !search.can_split {
+        return Some(Refusal::CannotSplit);
     }
     None
 }
@@ -92,10 +92,10 @@ pub(super) fn leaf_of(tree: &Link) -> &Leaf
 
 /// Returns `true` if the leaf has room for the parts that stay free.
 #[inline(always)]
-fn has_room(leaf: &Leaf, left: Left) -> bool
-    ensures { MatchBool result (length leaf.now + added_by left ≤ 32) (32 < length leaf.now + added_by left) }
+fn has_room(leaf: &Leaf, rest: Rest) -> bool
+    ensures { MatchBool result (length leaf.now + added_by rest ≤ 32) (32 < length leaf.now + added_by rest) }
 {
-    leaf.len() + left.added() as usize <= CAPACITY
+    leaf.len() + rest.added() as usize <= CAPACITY
 }
 
 /// Allocates the range of a claim in a leaf that has room for it. Unless the leaf is the whole tree (`lone`),
@@ -108,7 +108,7 @@ fn take(tree: &mut Link, lone: bool, claim: &Claim) -> Change
     requires leaf { height_of (side tree.old) < 2 }
     requires can { CanTakeFrom lone tree.old }
     requires claim { IsClaimIn (blocks (side tree.old)) claim.now }
-    requires room { length (blocks (side tree.old)) + added_by claim.now.left ≤ 32 }
+    requires room { length (blocks (side tree.old)) + added_by claim.now.rest ≤ 32 }
     ensures blocks { blocks (side tree.new)
         ≡ with_parts (blocks (side tree.old)) claim.now.index 1 (parts claim.now.gap claim.now.range) }
     ensures taken { IsTakenLeaf lone result tree.old tree.new }
@@ -120,7 +120,7 @@ fn take(tree: &mut Link, lone: bool, claim: &Claim) -> Change
             leaf,
         } => {
             let leaf: &mut Leaf = leaf;
-            leaf.split(claim.index, claim.range, claim.left);
+            leaf.split(claim.index, claim.range, claim.rest);
             // Proof: `len` gives the facts of a leaf.
             let _len = leaf.len();
             if lone {
@@ -168,7 +168,7 @@ fn spare_boxes(claim: &Claim, alloc: Global) -> Result<(Box<Leaf>, Box<Node>), A
 /// link to the node over both leaves.
 fn halve(mut lower: Box<Leaf>, claim: &Claim, mut upper: Box<Leaf>, spare: Box<Node>) -> Link
     requires claim { IsClaimIn lower.value claim.now }
-    requires full { 32 < length lower.value + added_by claim.now.left }
+    requires full { 32 < length lower.value + added_by claim.now.rest }
     ensures blocks { blocks (side result)
         ≡ with_parts lower.value claim.now.index 1 (parts claim.now.gap claim.now.range) }
     ensures grows { Grows (Tip lower.value) (side result) }
@@ -177,7 +177,7 @@ fn halve(mut lower: Box<Leaf>, claim: &Claim, mut upper: Box<Leaf>, spare: Box<N
 {
     let low: &mut Leaf = &mut lower;
     let high: &mut Leaf = &mut upper;
-    low.split_full(claim.index, claim.range, claim.left, high);
+    low.split_full(claim.index, claim.range, claim.rest, high);
     let at = high.key_at(0).start();
     fork_link(leaf_link(lower), at, spare, leaf_link(upper))
 }
@@ -190,7 +190,7 @@ fn split_leaf(tree: &mut Link, claim: Claim, alloc: Global) -> Result<(), AllocE
     requires leaf { height_of (side tree.old) < 2 }
     requires some { 0 < length (blocks (side tree.old)) }
     requires claim { IsClaimIn (blocks (side tree.old)) claim }
-    requires full { 32 < length (blocks (side tree.old)) + added_by claim.left }
+    requires full { 32 < length (blocks (side tree.old)) + added_by claim.rest }
     ensures blocks { IfOk result (λ _. blocks (side tree.new)
         ≡ with_parts (blocks (side tree.old)) claim.index 1 (parts claim.gap claim.range)) }
     ensures grows { IfOk result (λ _. Grows (side tree.old) (side tree.new) × IsSummed tree.new
@@ -203,32 +203,32 @@ fn split_leaf(tree: &mut Link, claim: Claim, alloc: Global) -> Result<(), AllocE
     Ok(())
 }
 
-/// Allocates the range of a search at a site in a leaf, which may become a node with two leaves. Unless the
+/// Allocates the range of a search at a place in a leaf, which may become a node with two leaves. Unless the
 /// leaf is the whole tree (`lone`), it updates what is stored beside the link.
 #[inline(always)]
 #[tactic(auto, using(crate::proofs::AllocatedLeaves::placing))]
-pub(super) fn place_at(
+pub(super) fn allocate_at(
     tree: &mut Link,
     lone: bool,
-    site: &Site,
+    place: &Place,
     search: &Search,
     alloc: Global,
 ) -> Result<Taken, Refusal>
     requires search { IsSearch search.now }
     requires leaf { height_of (side tree.old) < 2 }
     requires can { CanTakeFrom lone tree.old }
-    requires site { IsSiteIn search.now.size (blocks (side tree.old)) site.now }
+    requires place { IsLeafPlace search.now.size (blocks (side tree.old)) place.now }
     ensures answer { SettlesAt search.now
-        (spot_at (blocks (side tree.old)) site.now) (blocks (side tree.new)) result }
+        (in_list (blocks (side tree.old)) place.now) (blocks (side tree.new)) result }
     ensures left { LeavesLeaf lone result tree.old tree.new }
 {
     let leaf = leaf_of(tree);
-    let claim = claim_at(site, search);
+    let claim = claim_at(place, search);
     if let Some(refusal) = refusal_of(&claim, search) {
         return Err(refusal);
     }
-    let (start, added) = (site.start, claim.left.added());
-    if has_room(leaf, claim.left) {
+    let (start, added) = (place.start, claim.rest.added());
+    if has_room(leaf, claim.rest) {
         let change = take(tree, lone, &claim);
         return Ok(Taken {
             start,
