@@ -169,6 +169,7 @@ pub(crate) fn into_fork(link: Link) -> Box<Node>
 {
     match link {
         Link::Fork { node, .. } => node,
+        // The link is one to a node.
         Link::Leaf { .. } | Link::Hole => unreachable!(),
     }
 }
@@ -186,8 +187,10 @@ pub(crate) fn into_leaf(link: Link) -> Box<Leaf>
             // Proof: a node that is read has two children.
             let open: &Node = &node;
             let _at = open.at;
+            // The link is one to a leaf.
             unreachable!()
         }
+        // A hole is filled before the call returns.
         Link::Hole => unreachable!(),
     }
 }

@@ -221,6 +221,7 @@ impl Tree {
         ensures path { IsPathLength self.old count.new }
     {
         match &mut self.root {
+            // A hole is filled before the call returns.
             Link::Hole => unreachable!(),
             Link::Leaf { .. } => {
                 count.enter();
@@ -263,6 +264,7 @@ impl Tree {
         ensures path { result ≢ Err Refusal.NoPlace → height_of self.old ≤ 2 * count.new }
     {
         match &mut self.root {
+            // A hole is filled before the call returns.
             Link::Hole => unreachable!(),
             Link::Leaf { .. } => {
                 let answer = fit_in_leaf(&mut self.root, true, end, search, alloc);

@@ -135,6 +135,7 @@ pub(crate) fn exact_at(
 {
     count.enter();
     match tree {
+        // A hole is filled before the call returns.
         Link::Hole => unreachable!(),
         Link::Leaf { .. } => exact_in_leaf(tree, false, start, search, alloc),
         Link::Fork { node, .. } => {

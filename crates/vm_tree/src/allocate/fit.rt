@@ -164,6 +164,7 @@ pub(crate) fn fit_at(
 {
     count.enter();
     match tree {
+        // A hole is filled before the call returns.
         Link::Hole => unreachable!(),
         Link::Leaf { .. } => fit_in_leaf(tree, false, end, search, alloc),
         Link::Fork { node, .. } => {

@@ -84,8 +84,10 @@ pub(super) fn leaf_of(tree: &Link) -> &Leaf
             // Proof: a node that is read has two children.
             let node: &Node = node;
             let _at = node.at;
+            // The link is one to a leaf.
             unreachable!()
         }
+        // A hole is filled before the call returns.
         Link::Hole => unreachable!(),
     }
 }
@@ -142,8 +144,10 @@ fn take(tree: &mut Link, lone: bool, claim: &Claim) -> Change
             // Proof: a node that is read has two children.
             let node: &Node = node;
             let _at = node.at;
+            // The link is one to a leaf.
             unreachable!()
         }
+        // A hole is filled before the call returns.
         Link::Hole => unreachable!(),
     }
 }
