@@ -184,10 +184,10 @@ impl Tree {
                 let gap = free_in(leaf, key)?;
                 Some(gap.joined)
             }
-            Link::Fork { node, .. } => {
+            Link::Fork { node: _node, .. } => {
                 // Proof: a node that is read has two children.
-                let node: &Node = node;
-                let _at = node.at;
+                let _open: &Node = _node;
+                let _at = _open.at;
                 let freed = free_at(&mut self.root, key, count)?;
                 Some(freed.joined)
             }
@@ -227,10 +227,10 @@ impl Tree {
                 count.enter();
                 exact_in_leaf(&mut self.root, true, start, search, alloc)
             }
-            Link::Fork { node, .. } => {
+            Link::Fork { node: _node, .. } => {
                 // Proof: a node that is read has two children.
-                let node: &Node = node;
-                let _at = node.at;
+                let _open: &Node = _node;
+                let _at = _open.at;
                 exact_at(&mut self.root, start, search, alloc, count)
             }
         }
@@ -271,10 +271,10 @@ impl Tree {
                 count_place(&answer, count);
                 answer
             }
-            Link::Fork { node, .. } => {
+            Link::Fork { node: _node, .. } => {
                 // Proof: a node that is read has two children.
-                let node: &Node = node;
-                let _at = node.at;
+                let _open: &Node = _node;
+                let _at = _open.at;
                 if !fits(&self.root, search) {
                     return Err(Refusal::NoPlace);
                 }

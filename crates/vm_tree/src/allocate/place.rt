@@ -45,7 +45,8 @@ fn claim_at(place: &Place, search: &Search) -> Claim
     ensures { IsClaimAt search.now place.now result }
 {
     // Proof: `end` gives the facts of a range.
-    let (gap, _end) = (place.gap, place.gap.end());
+    let _end = place.gap.end();
+    let gap = place.gap;
     let range = RangeInclusive::between(place.start, place.start + (search.size - 1));
     let rest = Rest::of(&gap, &range);
     Claim {
@@ -80,10 +81,10 @@ pub(super) fn leaf_of(tree: &Link) -> &Leaf
 {
     match tree {
         Link::Leaf { leaf, .. } => leaf,
-        Link::Fork { node, .. } => {
+        Link::Fork { node: _node, .. } => {
             // Proof: a node that is read has two children.
-            let node: &Node = node;
-            let _at = node.at;
+            let _open: &Node = _node;
+            let _at = _open.at;
             // The link is one to a leaf.
             unreachable!()
         }
@@ -140,10 +141,10 @@ fn take(tree: &mut Link, lone: bool, claim: &Claim) -> Change
             *alignments = new.alignments;
             Change::FreeOnly
         }
-        Link::Fork { node, .. } => {
+        Link::Fork { node: _node, .. } => {
             // Proof: a node that is read has two children.
-            let node: &Node = node;
-            let _at = node.at;
+            let _open: &Node = _node;
+            let _at = _open.at;
             // The link is one to a leaf.
             unreachable!()
         }

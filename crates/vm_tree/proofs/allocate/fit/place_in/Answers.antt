@@ -1,4 +1,4 @@
-use Rattle.std.proofs.Common.{◌≡◌, ◌∙◌, sym}
+use Rattle.std.proofs.Common.{◌∙◌, sym}
 use Rattle.vm_tree.proofs.Searched.{first_place, last_place}
 use Rattle.vm_tree.proofs.allocate.fit.place_in.Goals as goal
 use Rattle.vm_tree.proofs.allocate.fit.place_in.Goals.{in-First, in-Last}
