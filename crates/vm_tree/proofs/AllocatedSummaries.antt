@@ -16,8 +16,8 @@ use Rattle.vm_tree.specs.Shape.{Shape, Tip, blocks}
 use Rattle.vm_tree.specs.Changes.{Keeps}
 use Rattle.vm_tree.specs.declared.change.Change.TheVariants as change
 use Rattle.vm_tree.specs.Links.{IsFreeOf}
-use Rattle.vm_tree.specs.Placing.{IsClaimIn}
-use Rattle.vm_tree.specs.declared.allocate.place.Claim.{Claim}
+use Rattle.vm_tree.specs.Placing.{IsLeafPlace}
+use Rattle.vm_tree.specs.declared.allocate.place.Place.{Place}
 use Rattle.vm_tree.proofs.Lists.{longest_append, alignments_append, cut_at}
 
 -- A part of a range has a multiple only if the range has it.
@@ -87,16 +87,16 @@ module _ (bs : List Block) (i : ℕ) (rest : Rest) (k r : Range) (within : i < l
       omega arith
 
 -- A leaf in which a range of such a gap is allocated keeps its summary, its height, and enough blocks.
-pub small_gap : (old : Shape) (bs cs new : List Block) (claim : Claim) (longest alignments n m : ℕ) → old ≡ Tip bs → cs ≡ bs → IsClaimIn (blocks old) claim → IsFreeOf (Tip bs) longest alignments
-    → 12 ≤ length (blocks old) → new ≡ with_parts cs claim.index 1 (parts (nth cs claim.index).key claim.range)
-    → n ≡ address_count claim.gap → m ≡ alignment_count claim.gap → n < longest → m < alignments → Keeps change.Nothing old (Tip new) × IsFreeOf (Tip new) longest alignments
-small_gap old bs cs new claim longest alignments n m q p h s full e long count l f =
-    let c : IsClaimIn bs claim = rw q at h in
-    let k : (nth bs claim.index).key ≡ claim.gap = ap (λ (b : Block). b.key) c.gap in
-    let a = longest_same bs claim.index claim.rest claim.gap claim.range c.within c.gap c.rest c.taken (omega (arith, s.0)) in
-    let b = alignments_same bs claim.index claim.rest claim.gap claim.range c.within c.gap c.rest c.taken (omega (arith, s.1)) in
-    let w : new ≡ with_parts bs claim.index 1 (parts claim.gap claim.range) = rw (p, k) at e in
-    let g = length-with_parts bs claim.index 1 (parts claim.gap claim.range) (omega (arith, c.within)) in
-    let z = some_parts claim.gap claim.range in
+pub small_gap : (old : Shape) (bs cs new : List Block) (place : Place) (longest alignments n m : ℕ) → old ≡ Tip bs → cs ≡ bs → IsLeafPlace (blocks old) place → IsFreeOf (Tip bs) longest alignments
+    → 12 ≤ length (blocks old) → new ≡ with_parts cs place.index 1 (parts (nth cs place.index).key place.range)
+    → n ≡ address_count place.gap → m ≡ alignment_count place.gap → n < longest → m < alignments → Keeps change.Nothing old (Tip new) × IsFreeOf (Tip new) longest alignments
+small_gap old bs cs new place longest alignments n m q p h s full e long count l f =
+    let c : IsLeafPlace bs place = rw q at h in
+    let k : (nth bs place.index).key ≡ place.gap = ap (λ (b : Block). b.key) c.gap in
+    let a = longest_same bs place.index place.rest place.gap place.range c.within c.gap c.rest c.taken (omega (arith, s.0)) in
+    let b = alignments_same bs place.index place.rest place.gap place.range c.within c.gap c.rest c.taken (omega (arith, s.1)) in
+    let w : new ≡ with_parts bs place.index 1 (parts place.gap place.range) = rw (p, k) at e in
+    let g = length-with_parts bs place.index 1 (parts place.gap place.range) (omega (arith, c.within)) in
+    let z = some_parts place.gap place.range in
     let i : 12 ≤ length bs = rw q at full in
     rw (q, w) (((sym a, sym b), refl, omega arith), (s.0 ∙ sym a, s.1 ∙ sym b))

@@ -3,6 +3,7 @@ use Rattle.std.specs.Prelude.{◌⊎◌, Some, Result, Ok, Err, OnErr}
 use Rattle.std.proofs.Common.{◌≡◌, ◌≢◌, ℕ, ◌+◌, ◌-◌, ◌<◌, ◌≤◌, List, [], ◌∷◌, ◌++◌, length, take, drop, refl, ap, ◌∙◌, sym, arith, inl, inr, append_assoc, length-append}
 use Rattle.std.proofs.lemmas.Bool.{cases_lt}
 use Rattle.vm_ranges.specs.Range.{Range, IsIn, span}
+use Rattle.vm_ranges.proofs.RangeCalls.{same_range}
 use Rattle.vm_ranges.specs.declared.state.NodeState.{NodeState}
 use Rattle.vm_ranges.specs.declared.state.NodeState.TheVariants.{Free, Allocated}
 use Rattle.vm_leaf.specs.declared.block.Block.{Block}
@@ -90,7 +91,7 @@ pub settles_left : (seek : Search) (place : ListPlace) (m r : List Block) (answe
 settles_left seek place m r (Ok taken) h =
     let ps = parts place.key (span place.start seek.size) in
     record {
-      start = h.start;
+      range = h.range;
       below = h.below;
       low = h.low;
       blocks = ap (λ (x : List Block). x ++ r) h.blocks ∙ append_assoc place.lower (ps ++ place.upper) r ∙ ap (λ (x : List Block). place.lower ++ x) (append_assoc ps place.upper r);
@@ -107,7 +108,7 @@ pub settles_right : (seek : Search) (place : ListPlace) (l m : List Block) (answ
 settles_right seek place l m (Ok taken) h =
     let ps = parts place.key (span place.start seek.size) in
     record {
-      start = h.start;
+      range = h.range;
       below = h.below;
       low = h.low;
       blocks = ap (λ (x : List Block). l ++ x) h.blocks ∙ sym (append_assoc l place.lower (ps ++ place.upper));
@@ -120,10 +121,10 @@ settles_right seek place l m (Err (OutOfMemory e)) h = (record { below = h.0.bel
 settles_right seek place l m (Err CannotSplit) h = (record { below = h.0.below; splits = h.0.splits }, h.1)
 
 -- The result does not name the change.
-pub settles_other : (seek : Search) (place : ListPlace) (new other : List Block) (taken more : Taken) → other ≡ new → more.start ≡ taken.start → more.added ≡ taken.added
+pub settles_other : (seek : Search) (place : ListPlace) (new other : List Block) (taken more : Taken) → other ≡ new → more.range ≡ taken.range → more.added ≡ taken.added
     → IsTakenAt seek place new taken → IsTakenAt seek place other more
 settles_other seek place new other taken more e f g h = record {
-  start = f ∙ h.start;
+  range = f ∙ h.range;
   below = h.below;
   low = h.low;
   blocks = e ∙ h.blocks;
@@ -149,20 +150,35 @@ module _ (seek : Search) (t : ℕ) (bs : List Block) (i : ℕ) where
   exact_refused refusal l f h = found bs (Err refusal) l f (h (take i bs) (drop (i + 1) bs) bs)
 
   -- A range that lies in a gap and in the window.
-  pub lies_at : i < length bs → IsIn (nth bs i).key t → LiesIn seek t (nth bs i) → IsExactPlace seek t bs (record { index = i; gap = (nth bs i).key; start = t })
-  lies_at l f h = record { fits = record { within = l; gap = gap_of (nth bs i) h.free; from = f.0; upto = h.upto }; start = refl; high = h.high }
+  pub lies_at : (range : Range) → range ≡ record { start = t; end = t + (seek.size - 1) } → 0 < seek.size → i < length bs → IsIn (nth bs i).key t → LiesIn seek t (nth bs i) → IsTakenFrom (nth bs i).key range
+  lies_at range e z l f h = rw e (record { from = f.0; some = omega arith; upto = omega (arith, h.upto) })
+
+  pub exact_at : (place : Place) (range : Range) → range ≡ record { start = t; end = t + (seek.size - 1) } → (place.index ≡ i) × (place.gap ≡ (nth bs i).key) × (place.range ≡ range) → 0 < seek.size → IsRest place.rest (nth bs i).key range → i < length bs → IsIn (nth bs i).key t → LiesIn seek t (nth bs i) → IsExactPlace seek t bs place
+  exact_at place range is e z r l f h =
+      let q : range ≡ span t seek.size = is ∙ same_range _ (span t seek.size) refl (omega (arith, z)) in
+      record {
+        fits = record {
+          inside = record { within = rw e.0 l; gap = rw (e.0, e.1) (gap_of (nth bs i) h.free); taken = rw (e.1, e.2) (lies_at range is z l f h); rest = rw (e.1, e.2) r };
+          sized = rw (e.2, q) refl;
+        };
+        start = rw (e.2, q) refl;
+        high = h.high;
+      }
 
 pub exact_settled : (seek : Search) (t : ℕ) (bs : List Block) (place : Place) (new : List Block) (answer : Result Taken Refusal) → 0 < seek.size → IsExactPlace seek t bs place → SettlesAt seek (in_list bs place) new answer → AllocatesExact seek t bs new answer
-exact_settled seek t bs place new answer z h s = record {
-  lower = take place.index bs;
-  block = free_block place.gap;
-  upper = drop (place.index + 1) bs;
-  at = record {
-    cut = cut_at bs place.index h.fits.within ∙ ap (λ (b : Block). take place.index bs ++ b ∷ drop (place.index + 1) bs) h.fits.gap;
-    inside = (omega (arith, h.fits.from, h.start), omega (arith, h.fits.upto, h.start));
-  };
-  settles = inr ((λ e. elim e [ inl l ↦ omega (arith, h.fits.upto, h.start) | inr l ↦ omega (arith, h.high) ]), rw h.start at s);
-}
+exact_settled seek t bs place new answer z h s =
+    let p = h.fits.inside in
+    let e = ap (λ (r : Range). r.end) h.fits.sized in
+    record {
+      lower = take place.index bs;
+      block = free_block place.gap;
+      upper = drop (place.index + 1) bs;
+      at = record {
+        cut = cut_at bs place.index p.within ∙ ap (λ (b : Block). take place.index bs ++ b ∷ drop (place.index + 1) bs) p.gap;
+        inside = (omega (arith, p.taken.from, h.start), omega (arith, p.taken.some, p.taken.upto, h.start));
+      };
+      settles = inr ((λ x. elim x [ inl l ↦ omega (arith, p.taken.upto, e, h.start) | inr l ↦ omega (arith, h.high) ]), rw h.start at s);
+    }
 
 -- ---- The reason why an exact range cannot be allocated in a block
 module _ (seek : Search) (t : ℕ) (b : Block) where
@@ -251,6 +267,6 @@ exact_start seek t old new (Err refusal) z run h u = ap (λ (s : Shape). start_o
 
 pub ruleset refusing = (refused_held, refused_other_start, refused_other_end, refused_short, refused_past)
 
-pub ruleset finding_exact = (exact_refused, lies_at)
+pub ruleset finding_exact = (exact_refused, lies_at, exact_at)
 
 pub ruleset settling_exact = (exact_settled)

@@ -64,7 +64,7 @@ SplitsAt search place =
 
 -- The range at the place is allocated. `added` is the number of blocks that the list has more than before.
 pub record IsTakenAt (search : Search) (place : ListPlace) (new : List Block) (taken : Taken) : Type 0 where
-  pub start : taken.start ≡ place.start
+  pub range : taken.range ≡ range_at search place
   pub below : (range_at search place).end < MAX
   pub low : SplitsAt search place → search.can_split ≡ true
   pub blocks : new ≡ place.lower ++ (parts place.key (range_at search place) ++ place.upper)

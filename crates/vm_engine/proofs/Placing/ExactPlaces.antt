@@ -95,7 +95,7 @@ module _ (sp : Range) (old : List Block) (tiles : TilesSpace sp old) (search : S
     held_is : b.state ≡ Allocated → AreClear search.size (blocks_state sp old) t → ⊥
     held_is e c = let k = clear_in_block sp old b search.size t here c in let bad = sym e ∙ k.0 in cc
 
-    held_grants : b.state ≡ Allocated → (new : List Block) (answer : Result Taken Refusal) → OnErr answer (new ≡ old) → IfElse (b.key ≡ span t search.size) (answer ≡ Err Held) (answer ≡ Err NoPlace) → Grants (blocks_state sp old) (request_in w search.size a (ExactMatch t)) (taken_range search.size (with_error (span t search.size) answer)) (blocks_state sp new)
+    held_grants : b.state ≡ Allocated → (new : List Block) (answer : Result Taken Refusal) → OnErr answer (new ≡ old) → IfElse (b.key ≡ span t search.size) (answer ≡ Err Held) (answer ≡ Err NoPlace) → Grants (blocks_state sp old) (request_in w search.size a (ExactMatch t)) (taken_range (with_error (span t search.size) answer)) (blocks_state sp new)
     held_grants e new answer u h =
         ⊎_elim
         (λ l.
@@ -140,8 +140,8 @@ module _ (sp : Range) (old : List Block) (tiles : TilesSpace sp old) (search : S
         taken_grants : (answer : Result Range Error) (new : AddressState) → t + search.size - 1 < MAX → AllocatesAt (blocks_state sp old) (span t search.size) answer new → Grants (blocks_state sp old) (request_in w search.size a (ExactMatch t)) answer new
         taken_grants answer new k h = if_in_window o answer new (exact_taken sp old b search.size a t new answer here e l k d h)
 
-        place_grants : (new : List Block) (answer : Result Taken Refusal) → OnErr answer (new ≡ old) → SettlesAt search place new answer → Grants (blocks_state sp old) (request_in w search.size a (ExactMatch t)) (taken_range search.size (with_error (span t search.size) answer)) (blocks_state sp new)
-        place_grants new (Ok taken) u h = taken_grants (Ok (span taken.start search.size)) (blocks_state sp new) h.below (allocated sp old tiles search z place is_cut in_gap few new taken h)
+        place_grants : (new : List Block) (answer : Result Taken Refusal) → OnErr answer (new ≡ old) → SettlesAt search place new answer → Grants (blocks_state sp old) (request_in w search.size a (ExactMatch t)) (taken_range (with_error (span t search.size) answer)) (blocks_state sp new)
+        place_grants new (Ok taken) u h = taken_grants (Ok taken.range) (blocks_state sp new) h.below (allocated sp old tiles search z place is_cut in_gap few new taken h)
         place_grants new (Err NoPlace) u h = absurd h
         place_grants new (Err Held) u h = absurd h
         place_grants new (Err PastMax) u h = rw u (if_in_window o (Err Overflow) (blocks_state sp old) (exact_at_end sp old b search.size a t here e l h))
@@ -150,7 +150,7 @@ module _ (sp : Range) (old : List Block) (tiles : TilesSpace sp old) (search : S
 
       free_grants : (new : List Block) (answer : Result Taken Refusal) → OnErr answer (new ≡ old)
           → IfElse ((b.key.end < t + search.size - 1) ⊎ (search.high < t + search.size - 1)) (answer ≡ Err NoPlace) (SettlesAt search place new answer)
-          → Grants (blocks_state sp old) (request_in w search.size a (ExactMatch t)) (taken_range search.size (with_error (span t search.size) answer)) (blocks_state sp new)
+          → Grants (blocks_state sp old) (request_in w search.size a (ExactMatch t)) (taken_range (with_error (span t search.size) answer)) (blocks_state sp new)
       free_grants new answer u h =
           ⊎_elim
           (λ l.
@@ -162,19 +162,19 @@ module _ (sp : Range) (old : List Block) (tiles : TilesSpace sp old) (search : S
           place_grants one two new answer u l.1)
           h
 
-  settled_in : (lower : List Block) (b : Block) (upper : List Block) (s : NodeState) → s ≡ b.state → IsBlockAt t old lower b upper → (new : List Block) (answer : Result Taken Refusal) → OnErr answer (new ≡ old) → SettlesIn search t lower s b.key upper new answer → Grants (blocks_state sp old) (request_in w search.size a (ExactMatch t)) (taken_range search.size (with_error (span t search.size) answer)) (blocks_state sp new)
+  settled_in : (lower : List Block) (b : Block) (upper : List Block) (s : NodeState) → s ≡ b.state → IsBlockAt t old lower b upper → (new : List Block) (answer : Result Taken Refusal) → OnErr answer (new ≡ old) → SettlesIn search t lower s b.key upper new answer → Grants (blocks_state sp old) (request_in w search.size a (ExactMatch t)) (taken_range (with_error (span t search.size) answer)) (blocks_state sp new)
   settled_in lower b upper Allocated e cut new answer u h = held_grants lower b upper cut (sym e) new answer u h
   settled_in lower b upper Free e cut new answer u h = free_grants lower b upper cut (sym e) new answer u h
 
-  exact_settles : (new : List Block) (answer : Result Taken Refusal) → OnErr answer (new ≡ old) → AllocatesExact search t old new answer → Grants (blocks_state sp old) (request_in w search.size a (ExactMatch t)) (taken_range search.size (with_error (span t search.size) answer)) (blocks_state sp new)
+  exact_settles : (new : List Block) (answer : Result Taken Refusal) → OnErr answer (new ≡ old) → AllocatesExact search t old new answer → Grants (blocks_state sp old) (request_in w search.size a (ExactMatch t)) (taken_range (with_error (span t search.size) answer)) (blocks_state sp new)
   exact_settles new answer u h = settled_in h.lower h.block h.upper h.block.state refl h.at new answer u h.settles
 
 pub exact_grants : (sp : Range) (old : List Block) → TilesSpace sp old → (request : Request) (search : Search) → IsRequest request → IsSearchOf request sp search → IsTestOf search.can_split (length (held_of old) < SPLIT_LIMIT_MIN_HELD)
     → (t : ℕ) → request.policy ≡ ExactMatch t → t < MAX → t + search.size - 1 ≤ MAX → (search.low ≤ t) × (t ≤ search.high)
-    → (new : List Block) (answer : Result Taken Refusal) → OnErr answer (new ≡ old) → AllocatesExact search t old new answer → Grants (blocks_state sp old) request (taken_range search.size (with_error (span t search.size) answer)) (blocks_state sp new)
+    → (new : List Block) (answer : Result Taken Refusal) → OnErr answer (new ≡ old) → AllocatesExact search t old new answer → Grants (blocks_state sp old) request (taken_range (with_error (span t search.size) answer)) (blocks_state sp new)
 exact_grants sp old tiles request search r is few t p m upto i new answer u h =
     let z : 0 < search.size = omega (arith, r.some, is.size) in
     let d : t % request.align ≡ 0 = aligned_if request.align t request.policy p r.start in
     let g = exact_settles sp old tiles search t request.align request.window z m upto d i (as_window request.window sp search is.window) few new answer u h in
-    subst (λ (v : Request). Grants (blocks_state sp old) v (taken_range search.size (with_error (span t search.size) answer)) (blocks_state sp new)) (with_policy request (ExactMatch t) p)
-    (subst (λ (n : ℕ). Grants (blocks_state sp old) (request_in request.window n request.align (ExactMatch t)) (taken_range search.size (with_error (span t search.size) answer)) (blocks_state sp new)) is.size g)
+    subst (λ (v : Request). Grants (blocks_state sp old) v (taken_range (with_error (span t search.size) answer)) (blocks_state sp new)) (with_policy request (ExactMatch t) p)
+    (subst (λ (n : ℕ). Grants (blocks_state sp old) (request_in request.window n request.align (ExactMatch t)) (taken_range (with_error (span t search.size) answer)) (blocks_state sp new)) is.size g)

@@ -60,11 +60,11 @@ module _ (sp : Range) (old : List Block) (tiles : TilesSpace sp old) (search : S
 
   -- The result at the place.
   module _ (few : IsTestOf search.can_split (length (held_of old) < SPLIT_LIMIT_MIN_HELD)) where
-    pub allocated : (new : List Block) (taken : Taken) → IsTakenAt search place new taken → AllocatesAt (blocks_state sp old) (range_at search place) (Ok (span taken.start search.size)) (blocks_state sp new)
+    pub allocated : (new : List Block) (taken : Taken) → IsTakenAt search place new taken → AllocatesAt (blocks_state sp old) (range_at search place) (Ok taken.range) (blocks_state sp new)
     unfolding AllocatesAt
     allocated new taken h =
-        let answer : Result Range Error = Ok (span taken.start search.size) in
-        let both : (answer ≡ Ok (range_at search place)) × (blocks_state sp new ≡ holding (range_at search place) (blocks_state sp old)) = (ap (λ (s : ℕ). Ok (span s search.size)) h.start, taken_state new taken h) in
+        let answer : Result Range Error = Ok taken.range in
+        let both : (answer ≡ Ok (range_at search place)) × (blocks_state sp new ≡ holding (range_at search place) (blocks_state sp old)) = (ap (λ (r : Range). Ok r) h.range, taken_state new taken h) in
         let split : NeedsSplit place.key (range_at search place) → AllocatesAt (blocks_state sp old) (range_at search place) answer (blocks_state sp new) =
         λ n. inr (splits n, inr (λ many. let limit = few_if search.can_split _ few (h.low n) in omega (arith, many, limit), inl both)) in
         ⊎_elim
@@ -91,8 +91,8 @@ module _ (sp : Range) (old : List Block) (tiles : TilesSpace sp old) (search : S
           chosen_grants request (blocks_state sp old) policy place.start new answer chosen (omega (arith, same))
           (subst (λ (n : ℕ). AllocatesAt (blocks_state sp old) (span place.start n) answer new) (sym same) h)
 
-      pub settled : (r : Range) (new : List Block) (answer : Result Taken Refusal) → OnErr answer (new ≡ old) → SettlesAt search place new answer → Grants (blocks_state sp old) request (taken_range search.size (with_error r answer)) (blocks_state sp new)
-      settled r new (Ok taken) u h = at_range (Ok (span taken.start search.size)) (blocks_state sp new) h.below (allocated new taken h)
+      pub settled : (r : Range) (new : List Block) (answer : Result Taken Refusal) → OnErr answer (new ≡ old) → SettlesAt search place new answer → Grants (blocks_state sp old) request (taken_range (with_error r answer)) (blocks_state sp new)
+      settled r new (Ok taken) u h = at_range (Ok taken.range) (blocks_state sp new) h.below (allocated new taken h)
       settled r new (Err NoPlace) u h = absurd h
       settled r new (Err Held) u h = absurd h
       settled r new (Err PastMax) u h = rw u (over_grants request (blocks_state sp old) policy place.start chosen (omega (arith, same, h)))
@@ -119,7 +119,7 @@ module _ (sp : Range) (old : List Block) (tiles : TilesSpace sp old) (request : 
   seen : within (Some (window_of search)) (blocks_state sp old) ≡ within request.window (blocks_state sp old)
   seen = seen_by request.window sp (held_of old) search is.window
 
-  none_granted : (r : Range) (new : List Block) (answer : Result Taken Refusal) → IsNotExact request.policy → OnErr answer (new ≡ old) → HasNoPlace search old → answer ≡ Err NoPlace → Grants (blocks_state sp old) request (taken_range search.size (with_error r answer)) (blocks_state sp new)
+  none_granted : (r : Range) (new : List Block) (answer : Result Taken Refusal) → IsNotExact request.policy → OnErr answer (new ≡ old) → HasNoPlace search old → answer ≡ Err NoPlace → Grants (blocks_state sp old) request (taken_range (with_error r answer)) (blocks_state sp new)
   none_granted r new answer policy u none e =
       let u2 : new ≡ old = subst (λ (v : Result Taken Refusal). OnErr v (new ≡ old)) e u in
       let p = no_place_in (window_of search) search.size search.alignment (blocks_state sp old) old (as_blocks sp old tiles) some none in
@@ -141,7 +141,7 @@ module _ (sp : Range) (old : List Block) (tiles : TilesSpace sp old) (request : 
       let l = highest_place_in (window_of search) search.size search.alignment (blocks_state sp old) old (as_blocks sp old tiles) some place.lower place.upper (free_block place.key) place.start s.cut s.none s.fit in
       (fit_in_gap place s.fit.0, highest_chosen request place.start (blocks_state sp old) policy (rw (← seen, ← is.size, ← is.align) l))
 
-  pub fit_grants : (end : End) (r : Range) (new : List Block) (answer : Result Taken Refusal) → request.policy ≡ policy_of end → OnErr answer (new ≡ old) → AllocatesFit end search old new answer → Grants (blocks_state sp old) request (taken_range search.size (with_error r answer)) (blocks_state sp new)
+  pub fit_grants : (end : End) (r : Range) (new : List Block) (answer : Result Taken Refusal) → request.policy ≡ policy_of end → OnErr answer (new ≡ old) → AllocatesFit end search old new answer → Grants (blocks_state sp old) request (taken_range (with_error r answer)) (blocks_state sp new)
   fit_grants end r new answer policy u h =
       ⊎_elim
       (λ n. none_granted r new answer (not_exact end policy) u n.0 n.1)

@@ -81,17 +81,17 @@ blocks_unchanged : (old new : Shape) (found : Result Taken Refusal) → OnErr fo
 blocks_unchanged old new (Ok taken) u = u
 blocks_unchanged old new (Err e) u = ap blocks u
 
-no_place_if : (n : ℕ) (range : Range) (found : Result Taken Refusal) → taken_range n (with_error range found) ≡ Err ResourceNotAvailable → found ≡ Err NoPlace
-no_place_if n range (Ok taken) e = absurd (cc e)
-no_place_if n range (Err NoPlace) e = refl
-no_place_if n range (Err Held) e = absurd (cc e)
-no_place_if n range (Err PastMax) e = absurd (cc e)
-no_place_if n range (Err (NoMemory x)) e = absurd (cc e)
-no_place_if n range (Err CannotSplit) e = absurd (cc e)
+no_place_if : (range : Range) (found : Result Taken Refusal) → taken_range (with_error range found) ≡ Err ResourceNotAvailable → found ≡ Err NoPlace
+no_place_if range (Ok taken) e = absurd (cc e)
+no_place_if range (Err NoPlace) e = refl
+no_place_if range (Err Held) e = absurd (cc e)
+no_place_if range (Err PastMax) e = absurd (cc e)
+no_place_if range (Err (NoMemory x)) e = absurd (cc e)
+no_place_if range (Err CannotSplit) e = absurd (cc e)
 
-success_path : (n h count : ℕ) (range : Range) (found : Result Taken Refusal) → (found ≢ Err NoPlace → h ≤ 2 * count) → IsOk (taken_range n (with_error range found)) → h ≤ 2 * count
-success_path n h count range (Ok taken) p o = p (λ e. absurd (cc e))
-success_path n h count range (Err e) p o = absurd (cc o)
+success_path : (h count : ℕ) (range : Range) (found : Result Taken Refusal) → (found ≢ Err NoPlace → h ≤ 2 * count) → IsOk (taken_range (with_error range found)) → h ≤ 2 * count
+success_path h count range (Ok taken) p o = p (λ e. absurd (cc e))
+success_path h count range (Err e) p o = absurd (cc o)
 
 high_tree : (s : Shape) → 1 ≤ height_of s
 high_tree (Rattle.vm_tree.specs.Shape.Tip bs) = omega arith
@@ -126,11 +126,11 @@ module _ (sp : Range) (old new : Shape) (tiles : TilesSpace sp (blocks old)) (ra
   takes_none : found ≡ Err NoPlace → IfOk (with_error r found) (λ taken. Takes search.can_split request.size (blocks old) (blocks new) taken)
   takes_none e = rw e tt
 
-  all_of : Grants (blocks_state sp (blocks old)) request (taken_range search.size (with_error r found)) (blocks_state sp (blocks new)) → IfOk (with_error r found) (λ taken. Takes search.can_split request.size (blocks old) (blocks new) taken)
-      → count ≡ nodes_of_request request sp old → IsGrantCount (height_of old) (blocks_state sp (blocks old)) request (taken_range request.size (with_error r found)) count
-      → SearchesAligned (height_of old) (blocks_state sp (blocks old)) request (taken_range request.size (with_error r found)) count → IsAllocation request sp search.can_split old new (with_error r found) count
+  all_of : Grants (blocks_state sp (blocks old)) request (taken_range (with_error r found)) (blocks_state sp (blocks new)) → IfOk (with_error r found) (λ taken. Takes search.can_split request.size (blocks old) (blocks new) taken)
+      → count ≡ nodes_of_request request sp old → IsGrantCount (height_of old) (blocks_state sp (blocks old)) request (taken_range (with_error r found)) count
+      → SearchesAligned (height_of old) (blocks_state sp (blocks old)) request (taken_range (with_error r found)) count → IsAllocation request sp search.can_split old new (with_error r found) count
   all_of g t e s a = record {
-    granted = subst (λ (n : ℕ). Grants (blocks_state sp (blocks old)) request (taken_range n (with_error r found)) (blocks_state sp (blocks new))) is.size g;
+    granted = g;
     taken = t;
     unchanged = unchanged_if r old new found u;
     exact = e;
@@ -152,8 +152,8 @@ module _ (sp : Range) (old new : Shape) (tiles : TilesSpace sp (blocks old)) (ra
         (fit_grants sp (blocks old) tiles request search valid is few end r (blocks new) found policy (blocks_unchanged old new found u) h)
         (⊎_elim (λ n. takes_none n.1) (λ s. settled_takes search request.size (blocks old) (blocks new) r s.0 found is.size (place_of s.0 s.1) s.2) h)
         fit_exact
-        (steps_of request (blocks_state sp (blocks old)) old (taken_range request.size (with_error r found)) count fit_most (success_path request.size (height_of old) count r found path))
-        (searches request sp old (taken_range request.size (with_error r found)) count tiles range (same_bounds b) (λ e. same_none (none_missed search searched (blocks old) (none_closest end search (blocks old) (blocks new) (subst (AllocatesFit end search (blocks old) (blocks new)) (no_place_if request.size r found e) h)))))
+        (steps_of request (blocks_state sp (blocks old)) old (taken_range (with_error r found)) count fit_most (success_path (height_of old) count r found path))
+        (searches request sp old (taken_range (with_error r found)) count tiles range (same_bounds b) (λ e. same_none (none_missed search searched (blocks old) (none_closest end search (blocks old) (blocks new) (subst (AllocatesFit end search (blocks old) (blocks new)) (no_place_if r found e) h)))))
       where
         place_of : (place : ListPlace) → IsClosestPlace end search (blocks old) place → IsPlaceOf search (blocks old) place
         place_of place s = let k = place_chosen sp (blocks old) tiles request search valid is few end policy place s in record { cut = s.cut; in_gap = k.0 }
@@ -266,13 +266,12 @@ module _ (sp : Range) (old new : Shape) (tiles : TilesSpace sp (blocks old)) (re
 
   pub exact_allocation : count ≡ nodes_to_address t old → IsPathLength old count → IsAllocation request sp search.can_split old new (with_error range found) count
   exact_allocation exact path = record {
-    granted = subst (λ (n : ℕ). Grants (blocks_state sp (blocks old)) request (taken_range n (with_error range found)) (blocks_state sp (blocks new))) is.size
-        (exact_grants sp (blocks old) tiles request search valid is few t policy m (omega arith) (omega (arith, i.0), omega (arith, i.1)) (blocks new) found (blocks_unchanged old new found u) h);
+    granted = exact_grants sp (blocks old) tiles request search valid is few t policy m (omega arith) (omega (arith, i.0), omega (arith, i.1)) (blocks new) found (blocks_unchanged old new found u) h;
     taken = taken_by h.block.state refl h.settles;
     unchanged = unchanged_if range old new found u;
     exact = some_entered sp old request search t valid is policy count i m upto exact;
-    steps = steps_of request (blocks_state sp (blocks old)) old (taken_range request.size (with_error range found)) count (rw policy path.upto) (λ o. path.least);
-    search = exact_searches request t (height_of old) (blocks_state sp (blocks old)) (taken_range request.size (with_error range found)) count policy;
+    steps = steps_of request (blocks_state sp (blocks old)) old (taken_range (with_error range found)) count (rw policy path.upto) (λ o. path.least);
+    search = exact_searches request t (height_of old) (blocks_state sp (blocks old)) (taken_range (with_error range found)) count policy;
   }
 
 -- A start in the space is in the blocks.

@@ -1,6 +1,6 @@
 -- The allocation for a request in the tree of a space.
 use Rattle.std.specs.Prelude.{◌≡◌, ℕ, ◌+◌, ◌≤◌, List, Bool, Result, Ok, Err, OnErr, IfOk}
-use Rattle.vm_ranges.specs.Range.{Range, span}
+use Rattle.vm_ranges.specs.Range.{Range}
 use Rattle.vm_ranges.specs.Request.{Request}
 use Rattle.vm_ranges.specs.declared.error.Error.{Error}
 use Rattle.vm_ranges.specs.declared.error.Error.TheVariants.{Overflow, ResourceNotAvailable, InvalidStateTransition, OutOfMemory}
@@ -32,10 +32,10 @@ abbrev pub with_error : Range → Result Taken Refusal → Result Taken Error
 with_error range (Ok taken) = Ok taken
 with_error range (Err refusal) = Err (error_of range refusal)
 
--- The n addresses that were allocated, or the error.
-abbrev pub taken_range : ℕ → Result Taken Error → Result Range Error
-taken_range n (Ok taken) = Ok (span taken.start n)
-taken_range n (Err error) = Err error
+-- The range that was allocated, or the error.
+abbrev pub taken_range : Result Taken Error → Result Range Error
+taken_range (Ok taken) = Ok taken.range
+taken_range (Err error) = Err error
 
 -- The search is that of the request in this space.
 pub record IsSearchOf (request : Request) (space : Range) (search : Search) : Type 0 where
@@ -60,9 +60,9 @@ pub record Takes (can_split : Bool) (n : ℕ) (old new : List Block) (taken : Ta
 -- All about the result of a request: the range, the tree, and the nodes that were entered.
 pub record IsAllocation (request : Request) (space : Range) (can_split : Bool) (old new : Shape) (answer : Result Taken Error)
     (count : ℕ) : Type 0 where
-  pub granted : Grants (blocks_state space (blocks old)) request (taken_range request.size answer) (blocks_state space (blocks new))
+  pub granted : Grants (blocks_state space (blocks old)) request (taken_range answer) (blocks_state space (blocks new))
   pub taken : IfOk answer (λ taken. Takes can_split request.size (blocks old) (blocks new) taken)
   pub unchanged : OnErr answer (new ≡ old)
   pub exact : count ≡ nodes_of_request request space old
-  pub steps : IsGrantCount (height_of old) (blocks_state space (blocks old)) request (taken_range request.size answer) count
-  pub search : SearchesAligned (height_of old) (blocks_state space (blocks old)) request (taken_range request.size answer) count
+  pub steps : IsGrantCount (height_of old) (blocks_state space (blocks old)) request (taken_range answer) count
+  pub search : SearchesAligned (height_of old) (blocks_state space (blocks old)) request (taken_range answer) count

@@ -58,8 +58,7 @@ impl IntervalTree {
         self.gap_count += taken.added;
         self.gap_count -= 1;
         self.free_len -= constraint.size();
-        let range = RangeInclusive::between(taken.start, taken.start + (constraint.size() - 1));
-        (Ok(range), count.entered())
+        (Ok(taken.range), count.entered())
     }
 }
 

@@ -15,21 +15,20 @@ use crate::search::{Refusal, Search, Taken};
 use crate::steps::Steps;
 use std::alloc::Global;
 use vm_leaf::{Block, Leaf};
-use vm_ranges::NodeState;
+use vm_ranges::{NodeState, RangeInclusive};
 
-/// Returns the reason why the range of a search that starts at `start` cannot be allocated in the block that
-/// contains `start`. Returns `None` if the range lies in a gap and in the window.
+/// Returns the reason why the range of a search cannot be allocated in the block that contains its start.
+/// Returns `None` if the range lies in a gap and in the window.
 #[inline(always)]
 #[tactic(auto, using(crate::proofs::Allocating::refusing))]
-fn refusal_in(block: &Block, start: u64, search: &Search) -> Option<Refusal>
-    requires search { IsSearch search.now }
-    requires fits { start + search.now.size ≤ MAX + 1 }
-    ensures { RefusesIn search.now start block.now result }
+fn refusal_in(block: &Block, range: &RangeInclusive, search: &Search) -> Option<Refusal>
+    requires { range.now.end + 1 ≡ range.now.start + search.now.size }
+    ensures { RefusesIn search.now range.now.start block.now result }
 {
-    let end = start + (search.size - 1);
+    let end = range.end();
     match block.state {
         NodeState::Allocated => {
-            if block.key.start() != start || block.key.end() != end {
+            if block.key.start() != range.start() || block.key.end() != end {
                 return Some(Refusal::NoPlace);
             }
             Some(Refusal::Held)
@@ -56,13 +55,10 @@ fn exact_place(leaf: &Leaf, start: u64, search: &Search) -> Result<Place, Refusa
     let _len = leaf.len();
     let index = leaf.index_of(start);
     let block = leaf.block_at(index);
-    match refusal_in(&block, start, search) {
+    let range = RangeInclusive::between(start, start + (search.size - 1));
+    match refusal_in(&block, &range, search) {
         Some(refusal) => Err(refusal),
-        None => Ok(Place {
-            index,
-            gap: block.key,
-            start,
-        }),
+        None => Ok(Place::new(index, block.key, range)),
     }
 }
 
@@ -86,7 +82,7 @@ pub(crate) fn exact_in_leaf(
     ensures left { LeavesLeaf lone result tree.old tree.new }
 {
     let place = exact_place(leaf_of(tree), start, search)?;
-    allocate_at(tree, lone, &place, search, alloc)
+    allocate_at(tree, lone, place, search, alloc)
 }
 
 /// Allocates the range of a search that starts at `start` below a node.

@@ -9,7 +9,7 @@ ghost use Rattle.vm_tree.specs.Links.{side, IsSummed};
 ghost use Rattle.vm_tree.specs.Growth.{IsSubtree, IsChild, GrowsIfOk, GrowsBelowIfOk, CanTakeFrom, LeavesLeaf};
 ghost use Rattle.vm_tree.specs.Allocation.{window_of, IsSearch, HasNoPlace, AllocatesFit};
 ghost use Rattle.vm_tree.specs.NodeCounts.{may_fit_in, nodes_of_search};
-ghost use Rattle.vm_tree.specs.Placing.{IsClosestLeafPlace};
+ghost use Rattle.vm_tree.specs.Placing.{IsClosestFitIn, IsClosestLeafPlace};
 ghost use Rattle.vm_tree.specs.Ends.{opposite};
 ghost use Rattle.vm_tree.specs.Searching.{child_at, may_fit_in_child, nodes_of_child};
 
@@ -21,7 +21,21 @@ use crate::link::{Link, Node};
 use crate::search::{Refusal, Search, Taken};
 use crate::steps::Steps;
 use std::alloc::Global;
-use vm_leaf::Leaf;
+use vm_leaf::{Fit, Leaf};
+use vm_ranges::RangeInclusive;
+
+/// Returns the fit of a search that is closest to an end of a leaf, or `None` if there is none.
+#[inline(always)]
+#[tactic(auto, using(crate::proofs::Searched::no_place))]
+fn fit_in(leaf: &Leaf, end: End, search: &Search) -> Option<Fit>
+    requires search { IsSearch search.now }
+    ensures { MatchOption result (HasNoPlace search.now leaf.now) (IsClosestFitIn end search.now leaf.now) }
+{
+    match end {
+        End::First => leaf.first_fit_in(search.low, search.high, search.size, search.alignment),
+        End::Last => leaf.last_fit_in(search.low, search.high, search.size, search.alignment),
+    }
+}
 
 /// Returns the place of a search that is closest to an end of a leaf, or `None` if there is none.
 #[inline(always)]
@@ -30,15 +44,12 @@ fn place_in(leaf: &Leaf, end: End, search: &Search) -> Option<Place>
     requires search { IsSearch search.now }
     ensures { MatchOption result (HasNoPlace search.now leaf.now) (IsClosestLeafPlace end search.now leaf.now) }
 {
-    let fit = match end {
-        End::First => leaf.first_fit_in(search.low, search.high, search.size, search.alignment),
-        End::Last => leaf.last_fit_in(search.low, search.high, search.size, search.alignment),
-    }?;
-    Some(Place {
-        index: fit.index,
-        gap: leaf.key_at(fit.index),
-        start: fit.start,
-    })
+    let fit = fit_in(leaf, end, search)?;
+    let gap = leaf.key_at(fit.index);
+    // Proof: `end` gives the facts of a range.
+    let _end = gap.end();
+    let range = RangeInclusive::between(fit.start, fit.start + (search.size - 1));
+    Some(Place::new(fit.index, gap, range))
 }
 
 /// Allocates the place of a search that is closest to an end, in a leaf. Unless the leaf is the whole tree
@@ -60,7 +71,7 @@ pub(crate) fn fit_in_leaf(
 {
     match place_in(leaf_of(tree), end, search) {
         None => Err(Refusal::NoPlace),
-        Some(place) => allocate_at(tree, lone, &place, search, alloc),
+        Some(place) => allocate_at(tree, lone, place, search, alloc),
     }
 }
 
