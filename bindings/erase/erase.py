@@ -118,6 +118,9 @@ TOKEN = re.compile(r"""(?P<blank>\s+|//(?![/!])[^\n]*|////[^\n]*)
 CLAUSE_HEAD = re.compile(r"\s+(?:[a-z_]\w*\s*)?(?=\{)")
 GHOST_USE = re.compile(r" use (?:[^;\"\n]|\n(?!\n))*?;")
 GHOST_MEMBER = re.compile(r" [A-Za-z_]\w*(:| =) (?=\{)")
+# A comment for the prover, and statements under it that only read: a field, or a method of the table.
+FOR_PROOF = re.compile(r"// Proof: [^\n]*\n *let _\w")
+READS = re.compile(r"// Proof: [^\n]*(?:\n *let _\w+(?:: &\w+)? = &?\w+(?:\.(?:end|height|len)\(\)|\.\w+(?!\())*;)+")
 # A text with fields by their numbers. `write!` and the derive of `Error` mean the same by it.
 TEXT_OF_ERROR = re.compile(r'"(?:[^"\\{}]|\{[0-9](?::\?)?\})*"')
 OPENING, CLOSING = {"(", "[", "{"}, {")", "]", "}"}
@@ -153,6 +156,8 @@ class Tokens:
         if not found or self.text.startswith("/*", start):
             self.fail(f"text that begins with {self.text[start:start + 12]!r}", start)
         kind, word = found.lastgroup, found.group()
+        if FOR_PROOF.match(self.text, start):
+            return self.reads(start)
         if kind == "blank":
             return found.end()
         if word in CLAUSES:
@@ -166,6 +171,12 @@ class Tokens:
         elif kind == "mark":
             self.depth += (word in OPENING) - (word in CLOSING)
         self.tokens.append(Token(kind, word, start, found.end()))
+        return found.end()
+
+    def reads(self, start):
+        """Removes statements that only read what the prover is to know, and the comment above them."""
+        found = READS.match(self.text, start) or self.fail("a statement for the prover of this form", start)
+        self.cuts.append((start, found.end(), ""))
         return found.end()
 
     def clauses(self, start):

@@ -77,6 +77,8 @@ EDITS = [
     *each(statement, "RangeInclusive _", "self.end as WORD;", "'as WORD'"),
     statement("u64::from::<u64>(self.end);", "'u64' in code"),
     statement("1 + ghost x = { f };", "'ghost' in code"),
+    *each(statement, "self.next() f(self) self.end+1 self.len().next()", "// Proof: a fact.\n        let _x = WORD;",
+          "a statement for the prover"),
     *[(CLAUSE, f"ensures {{ result ≡ f {word} }}", "in a clause") for word in "' \" ` -- // /* {-}".split()],
     (IMPORT, "use std::cmp::Reverse as Ordering;", "an import under another name"),
     (IMPORT, f"{IMPORT}\nuse core::cmp::max;", "an import from 'core'"),

@@ -17,6 +17,7 @@ from erase import INNER
 TOKEN = re.compile(r"""//[^\n]*|r\#".*?"\#|b?"(?:[^"\\]|\\.)*"|b?'(?:[^'\\]|\\.)'|\w+|[^\w\s]""", re.DOTALL)
 # Texts that the first eraser changes, in this order. NAME is the crate.
 CHANGED = [
+    (r"(?m)^ *// Proof:.*\n(?: *let _\w.*;\n)+", ""),
     (r"pub\(crate\)", "pub(in crate::proved::NAME)"),
     (r"\bcrate::(?!proved)", "crate::proved::NAME::"),
     (r"(?<![\w:])(vm_\w+)::", r"crate::proved::\1::"),

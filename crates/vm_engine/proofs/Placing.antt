@@ -1,4 +1,4 @@
 pub mod Counted
-pub mod ExactSpots
+pub mod ExactPlaces
 pub mod Requests
-pub mod Spots
+pub mod Places

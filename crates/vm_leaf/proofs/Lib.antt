@@ -16,7 +16,7 @@ pub mod Highest
 pub mod MultiplesBetween
 pub mod Reaches
 pub mod WindowFits
-pub mod Rests
+pub mod Walks
 pub mod GapBits
 pub mod GapMasks
 pub mod Gaps

@@ -4,10 +4,10 @@ pub mod Blocks
 pub mod Fit
 pub mod GapMasks
 pub mod Leaf
-pub mod Left
+pub mod Rest
 pub mod Multiples
 pub mod Raises
-pub mod Rest
+pub mod Walks
 pub mod Starts
 pub mod States
 pub mod Windows

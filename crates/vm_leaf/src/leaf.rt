@@ -4,7 +4,7 @@ ghost use Rattle.vm_ranges.specs.declared.state.NodeState.TheVariants.{Free, All
 ghost use Rattle.vm_ranges.specs.Range.{IsIn};
 ghost use Rattle.vm_leaf.specs.States.{states_in, moved};
 ghost use Rattle.vm_leaf.specs.Block.{held_block};
-ghost use Rattle.vm_leaf.specs.Left.{IsLeft, added_by};
+ghost use Rattle.vm_leaf.specs.Rest.{IsRest, added_by};
 ghost use Rattle.vm_leaf.specs.Blocks.{nth, start_of, end_of, with_parts, upper_held, lower_held, middle_held, gap_over, parts, freed_at, IsJoined, IsLeaf};
 ghost use Rattle.vm_leaf.specs.Raises.{Raises};
 ghost use Rattle.vm_leaf.specs.Starts.{IsOneIfUpTo, IsNarrowed};
@@ -12,12 +12,12 @@ ghost use Rattle.vm_leaf.specs.Starts.{IsOneIfUpTo, IsNarrowed};
 mod ends;
 mod fits;
 mod gaps;
-mod left;
 mod moves;
+mod rest;
 mod summary;
 mod walk;
 
-pub use self::left::Left;
+pub use self::rest::Rest;
 pub use self::summary::Summary;
 pub use self::walk::Blocks;
 use crate::block::Block;
@@ -46,12 +46,12 @@ pub struct Leaf {
     starts: [u64; CAPACITY],
 }
 
-/// A place in a leaf: the index of a block and an address in it.
+/// A fit in a leaf: the index of a gap, and the first address of a range in it.
 #[derive(Clone, Copy)]
-pub struct Place {
-    /// The index of the block.
+pub struct Fit {
+    /// The index of the gap.
     pub index: usize,
-    /// The address, which is the first one of the range to allocate.
+    /// The first address of the range.
     pub start: u64,
 }
 
@@ -437,26 +437,26 @@ impl Leaf {
         self.len = len - n + 1;
     }
 
-    /// Allocates `range`, which must be in the gap `i`. `left` is the parts of the gap that stay free.
+    /// Allocates `range`, which must be in the gap `i`. `rest` is the parts of the gap that stay free.
     ///
     /// The leaf must have room for these parts. If it has not, [`Leaf::split_full`] allocates the range.
     #[inline(always)]
     #[tactic(auto, using(crate::proofs::Parts::parting, crate::proofs::Tiles::leaf_range))]
-    pub fn split(&mut self, i: usize, range: RangeInclusive, left: Left)
+    pub fn split(&mut self, i: usize, range: RangeInclusive, rest: Rest)
         requires within { i < length self.old }
         requires free { (nth self.old i).state ≡ Free }
-        requires left { IsLeft left (nth self.old i).key range }
-        requires room { length self.old + added_by left ≤ 32 }
+        requires rest { IsRest rest (nth self.old i).key range }
+        requires room { length self.old + added_by rest ≤ 32 }
         ensures { self.new ≡ with_parts self.old i 1 (parts (nth self.old i).key range) }
     {
         // Proof: `len` gives the facts of a leaf.
         let _len = self.len();
         let (start, end) = (range.start(), range.end());
-        match left {
-            Left::Nothing => self.take(i),
-            Left::Before => self.split_upper(i, start),
-            Left::After => self.split_lower(i, end + 1),
-            Left::Both => self.split_middle(i, start, end + 1),
+        match rest {
+            Rest::Nothing => self.take(i),
+            Rest::Before => self.split_upper(i, start),
+            Rest::After => self.split_lower(i, end + 1),
+            Rest::Both => self.split_middle(i, start, end + 1),
         }
     }
 

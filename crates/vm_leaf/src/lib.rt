@@ -5,4 +5,4 @@ mod block;
 mod leaf;
 
 pub use block::Block;
-pub use leaf::{Blocks, CAPACITY, Leaf, Left, MIN_BLOCKS, Place, Summary};
+pub use leaf::{Blocks, CAPACITY, Fit, Leaf, MIN_BLOCKS, Rest, Summary};

@@ -6,7 +6,7 @@ use Rattle.vm_ranges.specs.declared.state.NodeState.{NodeState}
 use Rattle.vm_ranges.specs.declared.state.NodeState.TheVariants.{Allocated}
 use Rattle.vm_leaf.specs.declared.block.Block.{Block}
 use Rattle.vm_leaf.specs.Blocks.{nth, start_of, end_of, Tiles, IsLeaf}
-use Rattle.vm_leaf.specs.Rest.{part_of}
+use Rattle.vm_leaf.specs.Walks.{part_of}
 use Rattle.vm_leaf.proofs.Tiles.{tiles_part}
 use Rattle.vm_tree.specs.Walks.{meets, meeting_blocks, IsFirstFrom, IsCountUpTo}
 

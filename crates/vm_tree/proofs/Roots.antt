@@ -15,7 +15,7 @@ use Rattle.vm_tree.specs.declared.change.Change.TheVariants.{Nothing, FreeOnly, 
 use Rattle.vm_tree.specs.declared.search.Search.{Search}
 use Rattle.vm_tree.specs.declared.search.Taken.{Taken}
 use Rattle.vm_tree.specs.declared.search.Refusal.{Refusal}
-use Rattle.vm_tree.specs.declared.search.Refusal.TheVariants.{NoPlace, Held, PastMax, OutOfMemory, TooHigh}
+use Rattle.vm_tree.specs.declared.search.Refusal.TheVariants.{NoPlace, Held, PastMax, OutOfMemory, CannotSplit}
 use Rattle.vm_tree.proofs.Allocating.{IsAllocated, run_allocated, exact_allocated}
 use Rattle.vm_tree.proofs.Paths.{path_length, search_fits, fit_searches, fit_path}
 use Rattle.vm_tree.specs.Changes.{CanChange, Reduces}
@@ -97,10 +97,10 @@ fill_parts k r a b = rw (le-ltb k.start r.start a, le-ltb r.end k.end b) refl
 
 fill_adds_none : (seek : Search) (old new : List Block) (taken : Taken) → seek.can_split ≡ false → IsAllocated seek old new taken → taken.added ≡ 0
 fill_adds_none seek old new taken c h =
-    let none : (SplitsAt seek h.spot → ⊥) = λ s. true≢false (sym (h.taken_at.low s) ∙ c) in
-    let before : h.spot.start ≤ h.spot.key.start = elim (cases_lt h.spot.key.start h.spot.start) [ inl l ↦ absurd (none (inl l)) | inr k ↦ k ] in
-    let after : h.spot.key.end ≤ (range_at seek h.spot).end = elim (cases_lt (range_at seek h.spot).end h.spot.key.end) [ inl l ↦ absurd (none (inr l)) | inr k ↦ k ] in
-    omega (arith, h.taken_at.added, fill_parts h.spot.key (range_at seek h.spot) before after)
+    let none : (SplitsAt seek h.place → ⊥) = λ s. true≢false (sym (h.taken_at.low s) ∙ c) in
+    let before : h.place.start ≤ h.place.key.start = elim (cases_lt h.place.key.start h.place.start) [ inl l ↦ absurd (none (inl l)) | inr k ↦ k ] in
+    let after : h.place.key.end ≤ (range_at seek h.place).end = elim (cases_lt (range_at seek h.place).end h.place.key.end) [ inl l ↦ absurd (none (inr l)) | inr k ↦ k ] in
+    omega (arith, h.taken_at.added, fill_parts h.place.key (range_at seek h.place) before after)
 
 same_height : (change : Change) (old new : Shape) → GrowsBy change old new → change ≢ Structure → height_of new ≡ height_of old
 same_height Nothing old new g n = sym g.kept.1
@@ -150,7 +150,7 @@ no_place (Err NoPlace) = inl refl
 no_place (Err Held) = inr (λ e. absurd (cc))
 no_place (Err PastMax) = inr (λ e. absurd (cc))
 no_place (Err (OutOfMemory x)) = inr (λ e. absurd (cc))
-no_place (Err TooHigh) = inr (λ e. absurd (cc))
+no_place (Err CannotSplit) = inr (λ e. absurd (cc))
 
 -- ---- The place that is closest to an end
 module _ (end : End) (seek : Search) (valid : IsSearch seek) where

@@ -1,21 +1,25 @@
 -- The place of a tree that is closest to an end, from those of its children.
 use Rattle.std.specs.Prelude.{Result, Ok, Err, OnErr}
-use Rattle.std.proofs.Common.{◌≡◌, ◌≢◌, ℕ, ◌+◌, ◌<◌, ◌≤◌, true, false, List, ◌∷◌, ◌++◌, length, take, drop, refl, ap, ◌∙◌, sym, subst, arith, inl, inr, append_assoc, take_all}
+use Rattle.std.proofs.Common.{◌≡◌, ◌≢◌, ℕ, ◌+◌, ◌-◌, ◌<◌, ◌≤◌, true, false, List, ◌∷◌, ◌++◌, length, take, drop, refl, ap, ◌∙◌, sym, subst, arith, inl, inr, append_assoc, take_all}
 use Rattle.std.specs.List.{list_any}
 use Rattle.std.proofs.lemmas.List.Elements.{All-append}
 use Rattle.std.proofs.lemmas.Bool.{cases_lt, cases_Bool, lt-ltb, le-ltb, le-leb, lt-leb, and_parts}
+use Rattle.vm_ranges.specs.Range.{Range, span}
+use Rattle.vm_ranges.proofs.RangeCalls.{same_range}
 use Rattle.vm_ranges.specs.declared.state.NodeState.TheVariants.{Allocated}
 use Rattle.vm_ranges.proofs.Power.{alignment_pos}
 use Rattle.vm_leaf.specs.declared.block.Block.{Block}
 use Rattle.vm_leaf.specs.Block.{free_block}
-use Rattle.vm_leaf.specs.Blocks.{nth, start_of, IsRun}
+use Rattle.vm_leaf.specs.Blocks.{nth, start_of, IsRun, IsTakenFrom}
+use Rattle.vm_leaf.specs.Rest.{IsRest}
 use Rattle.vm_leaf.specs.Fit.{IsFit, IsLowestFit, IsHighestFit}
-use Rattle.vm_leaf.specs.Windows.{cut_to, HaveNoFitIn, IsFirstFitIn, IsLastFitIn}
-use Rattle.vm_leaf.specs.declared.leaf.Place.{Place}
+use Rattle.vm_leaf.specs.Windows.{cut_to, HaveNoFitIn}
+use Rattle.vm_leaf.specs.declared.leaf.Fit.{Fit}
 use Rattle.vm_tree.specs.Ends.{opposite, beyond}
 use Rattle.vm_tree.specs.Shape.{Shape, Tip, Fork, blocks, height_of}
-use Rattle.vm_tree.specs.Allocation.{Spot, IsClosestFit, HasNoPlace, HasNoFitIn, window_of, IsSearch, AllocatesFit}
-use Rattle.vm_tree.specs.Placing.{spot_at, site_of, IsClosestSite}
+use Rattle.vm_tree.specs.Allocation.{ListPlace, IsClosestFit, IsClosestPlace, HasNoPlace, HasNoFitIn, window_of, IsSearch, AllocatesFit}
+use Rattle.vm_tree.specs.Placing.{IsClosestFitIn, IsClosestLeafPlace}
+use Rattle.vm_tree.specs.declared.allocate.place.Place.{Place}
 use Rattle.vm_tree.specs.Searching.{child_at, reaches_child, may_fit_in_child, nodes_of_child}
 use Rattle.vm_tree.specs.NodeCounts.{may_fit_in, has_fit_in, nodes_of_search}
 use Rattle.vm_tree.specs.declared.end.End.{End}
@@ -37,29 +41,44 @@ is_fit First n a t b h = h.0
 is_fit Last n a t b h = h.0
 
 -- ---- A leaf
-module _ (seek : Search) (bs : List Block) (place : Place) where
-  closest_site : (end : End) → place.index < length bs → IsClosestFit end seek.size seek.alignment (cut_to (window_of seek) (nth bs place.index)) place.start
-      → HasNoPlace seek (beyond end (spot_at bs (site_of bs place)).lower (spot_at bs (site_of bs place)).upper) → IsClosestSite end seek bs (site_of bs place)
-  closest_site end within h none =
-      let f = is_fit end seek.size seek.alignment place.start (cut_to (window_of seek) (nth bs place.index)) h in
-      let gap = gap_of (nth bs place.index) f.0 in
+module _ (seek : Search) (bs : List Block) (found : Fit) where
+  fit_of : (end : End) → IsClosestFitIn end seek bs found → (found.index < length bs) × IsFit seek.size seek.alignment (cut_to (window_of seek) (nth bs found.index)) found.start
+  fit_of First h = (h.within, is_fit First seek.size seek.alignment found.start (cut_to (window_of seek) (nth bs found.index)) h.lowest)
+  fit_of Last h = (h.within, is_fit Last seek.size seek.alignment found.start (cut_to (window_of seek) (nth bs found.index)) h.highest)
+
+  pub fit_taken : (end : End) (gap range : Range) → 0 < seek.size → IsClosestFitIn end seek bs found → gap ≡ (nth bs found.index).key → range ≡ span found.start seek.size → IsTakenFrom gap range
+  fit_taken end gap range z h p q = let f = (fit_of end h).1 in rw (p, q) (record { from = omega (arith, f.2); some = omega arith; upto = omega (arith, f.3) })
+
+  closest_in : (end : End) → IsClosestFitIn end seek bs found → IsClosestPlace end seek bs (record { lower = take found.index bs; key = (nth bs found.index).key; upper = drop (found.index + 1) bs; start = found.start })
+  closest_in end h =
+      let gap = gap_of (nth bs found.index) (fit_of end h).1.0 in
       record {
-        fits = record { within = within; gap = gap; from = omega (arith, f.2); upto = omega (arith, f.3) };
-        closest = record {
-          cut = cut_at bs place.index within ∙ ap (λ (b : Block). take place.index bs ++ b ∷ drop (place.index + 1) bs) gap;
-          none = none;
-          fit = subst (λ (b : Block). IsClosestFit end seek.size seek.alignment (cut_to (window_of seek) b) place.start) gap h;
+        cut = cut_at bs found.index (fit_of end h).0 ∙ ap (λ (b : Block). take found.index bs ++ b ∷ drop (found.index + 1) bs) gap;
+        none = none_by end h;
+        fit = subst (λ (b : Block). IsClosestFit end seek.size seek.alignment (cut_to (window_of seek) b) found.start) gap (fit_by end h);
+      }
+    where
+      none_by : (end : End) → IsClosestFitIn end seek bs found → HasNoPlace seek (beyond end (take found.index bs) (drop (found.index + 1) bs))
+      none_by First h = none_upto (window_of seek) seek.size seek.alignment bs found.index h.first
+      none_by Last h = none_from (window_of seek) seek.size seek.alignment bs (found.index + 1) h.last
+
+      fit_by : (end : End) → IsClosestFitIn end seek bs found → IsClosestFit end seek.size seek.alignment (cut_to (window_of seek) (nth bs found.index)) found.start
+      fit_by First h = h.lowest
+      fit_by Last h = h.highest
+
+  pub closest_place : (end : End) (place : Place) (gap range : Range) → 0 < seek.size → IsClosestFitIn end seek bs found → gap ≡ (nth bs found.index).key → range ≡ record { start = found.start; end = found.start + (seek.size - 1) }
+      → (place.index ≡ found.index) × (place.gap ≡ gap) × (place.range ≡ range) → IsRest place.rest gap range → IsClosestLeafPlace end seek bs place
+  closest_place end place gap range z h p is e r =
+      let q : range ≡ span found.start seek.size = is ∙ same_range _ (span found.start seek.size) refl (omega (arith, z)) in record {
+        fits = record {
+          inside = record { within = rw e.0 (fit_of end h).0; gap = rw (e.0, e.1, p) (gap_of (nth bs found.index) (fit_of end h).1.0); taken = rw (e.1, e.2) (fit_taken end gap range z h p q); rest = rw (e.1, e.2) r };
+          sized = rw (e.2, q) refl;
         };
+        closest = rw (e.0, e.1, p, e.2, q) (closest_in end h);
       }
 
-  pub first_site : IsFirstFitIn (window_of seek) seek.size seek.alignment bs place → IsClosestSite First seek bs (site_of bs place)
-  first_site h = closest_site First h.within h.lowest (none_upto (window_of seek) seek.size seek.alignment bs place.index h.first)
-
-  pub last_site : IsLastFitIn (window_of seek) seek.size seek.alignment bs place → IsClosestSite Last seek bs (site_of bs place)
-  last_site h = closest_site Last h.within h.highest (none_from (window_of seek) seek.size seek.alignment bs (place.index + 1) h.last)
-
-pub no_site : (seek : Search) (bs : List Block) → HaveNoFitIn (window_of seek) seek.size seek.alignment bs 0 (length bs) → HasNoPlace seek bs
-no_site seek bs h = subst (HasNoPlace seek) (take_all (length bs) bs (omega arith)) (none_upto (window_of seek) seek.size seek.alignment bs (length bs) h)
+pub no_place : (seek : Search) (bs : List Block) → HaveNoFitIn (window_of seek) seek.size seek.alignment bs 0 (length bs) → HasNoPlace seek bs
+no_place seek bs h = subst (HasNoPlace seek) (take_all (length bs) bs (omega arith)) (none_upto (window_of seek) seek.size seek.alignment bs (length bs) h)
 
 -- ---- The children of a node
 pub none_closest : (end : End) (seek : Search) (old new : List Block) → AllocatesFit end seek old new (Err NoPlace) → HasNoPlace seek old
@@ -69,13 +88,13 @@ module _ (seek : Search) where
   none_both : (l r : List Block) → HasNoPlace seek l → HasNoPlace seek r → HasNoPlace seek (l ++ r)
   none_both l r h k = All-append (HasNoFitIn (window_of seek) seek.size seek.alignment) l r h k
 
-  none_to_left : (end : End) (spot : Spot) (r : List Block) → HasNoPlace seek (beyond end spot.lower spot.upper) → (end ≡ Last → HasNoPlace seek r) → HasNoPlace seek (beyond end spot.lower (spot.upper ++ r))
-  none_to_left First spot r h k = h
-  none_to_left Last spot r h k = none_both spot.upper r h (k refl)
+  none_to_left : (end : End) (place : ListPlace) (r : List Block) → HasNoPlace seek (beyond end place.lower place.upper) → (end ≡ Last → HasNoPlace seek r) → HasNoPlace seek (beyond end place.lower (place.upper ++ r))
+  none_to_left First place r h k = h
+  none_to_left Last place r h k = none_both place.upper r h (k refl)
 
-  none_to_right : (end : End) (spot : Spot) (l : List Block) → HasNoPlace seek (beyond end spot.lower spot.upper) → (end ≡ First → HasNoPlace seek l) → HasNoPlace seek (beyond end (l ++ spot.lower) spot.upper)
-  none_to_right First spot l h k = none_both l spot.lower (k refl) h
-  none_to_right Last spot l h k = h
+  none_to_right : (end : End) (place : ListPlace) (l : List Block) → HasNoPlace seek (beyond end place.lower place.upper) → (end ≡ First → HasNoPlace seek l) → HasNoPlace seek (beyond end (l ++ place.lower) place.upper)
+  none_to_right First place l h k = none_both l place.lower (k refl) h
+  none_to_right Last place l h k = h
 
   in_left : (end : End) (l m r : List Block) (answer : Result Taken Refusal) → (answer ≡ Err NoPlace → HasNoPlace seek r) → (end ≡ Last → HasNoPlace seek r) → AllocatesFit end seek l m answer → AllocatesFit end seek (l ++ r) (m ++ r) answer
   in_left end l m r answer n k h =
@@ -131,7 +150,7 @@ closest_allocated end seek old new taken z h =
       | inr x ↦ (
           let f = is_fit end seek.size seek.alignment x.0.start (cut_to (window_of seek) (free_block x.0.key)) x.1.fit in
           record {
-            spot = x.0;
+            place = x.0;
             cut = x.1.cut;
             inside = record { from = omega (arith, f.2); some = omega arith; upto = omega (arith, f.3) };
             taken_at = x.2;
@@ -145,7 +164,7 @@ closest_start end seek old new (Ok taken) z run h u = start_allocated seek (bloc
 closest_start end seek old new (Err refusal) z run h u = ap (λ (s : Shape). start_of (blocks s)) u
 
 -- The same with another change.
-pub closest_other : (end : End) (seek : Search) (old new other : List Block) (taken more : Taken) → other ≡ new → more.start ≡ taken.start → more.added ≡ taken.added
+pub closest_other : (end : End) (seek : Search) (old new other : List Block) (taken more : Taken) → other ≡ new → more.range ≡ taken.range → more.added ≡ taken.added
     → AllocatesFit end seek old new (Ok taken) → AllocatesFit end seek old other (Ok more)
 closest_other end seek old new other taken more e f g h =
     elim h [
@@ -268,6 +287,6 @@ module _ (seek : Search) (valid : IsSearch seek) where
   nodes_missed First (Fork l r) k m f = rw (m, none_missed (blocks l) f) refl
   nodes_missed Last (Fork l r) k m f = rw (m, none_missed (blocks r) f) refl
 
-pub ruleset sites = (no_site)
+pub ruleset places = (fit_taken)
 
 pub ruleset roots = (nodes_leaf, nodes_some, closest_other)

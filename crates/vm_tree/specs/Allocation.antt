@@ -17,7 +17,7 @@ use Rattle.vm_tree.specs.declared.end.End.TheVariants.{First, Last}
 use Rattle.vm_tree.specs.declared.search.Search.{Search}
 use Rattle.vm_tree.specs.declared.search.Taken.{Taken}
 use Rattle.vm_tree.specs.declared.search.Refusal.{Refusal}
-use Rattle.vm_tree.specs.declared.search.Refusal.TheVariants.{NoPlace, Held, PastMax, OutOfMemory, TooHigh}
+use Rattle.vm_tree.specs.declared.search.Refusal.TheVariants.{NoPlace, Held, PastMax, OutOfMemory, CannotSplit}
 
 -- The window of a search.
 abbrev pub window_of : Search → Range
@@ -32,65 +32,65 @@ abbrev pub HasNoPlace : Search → List Block → Type 0
 HasNoPlace search bs = All (HasNoFitIn (window_of search) search.size search.alignment) bs
 
 -- A start in a gap of a list: the blocks before the gap, the gap, the blocks after it, and the start.
-pub record Spot : Type 0 where
+pub record ListPlace : Type 0 where
   pub lower : List Block
   pub key : Range
   pub upper : List Block
   pub start : ℕ
 
--- The spot is in a gap of the list.
-abbrev pub IsSpotIn : List Block → Spot → Type 0
-IsSpotIn bs spot = bs ≡ spot.lower ++ free_block spot.key ∷ spot.upper
+-- The place is in a gap of the list.
+abbrev pub IsPlaceIn : List Block → ListPlace → Type 0
+IsPlaceIn bs place = bs ≡ place.lower ++ free_block place.key ∷ place.upper
 
 -- n addresses that start at t are the fit in the block that is closest to the end: the lowest or the highest one.
 abbrev pub IsClosestFit : End → ℕ → ℕ → Block → ℕ → Type 0
 IsClosestFit First n a b t = IsLowestFit n a b t
 IsClosestFit Last n a b t = IsHighestFit n a b t
 
--- The spot is the place of the search in the list that is closest to the end.
-pub record IsClosestSpot (end : End) (search : Search) (bs : List Block) (spot : Spot) : Type 0 where
-  pub cut : IsSpotIn bs spot
-  pub none : HasNoPlace search (beyond end spot.lower spot.upper)
-  pub fit : IsClosestFit end search.size search.alignment (cut_to (window_of search) (free_block spot.key)) spot.start
+-- The place is the one of the search in the list that is closest to the end.
+pub record IsClosestPlace (end : End) (search : Search) (bs : List Block) (place : ListPlace) : Type 0 where
+  pub cut : IsPlaceIn bs place
+  pub none : HasNoPlace search (beyond end place.lower place.upper)
+  pub fit : IsClosestFit end search.size search.alignment (cut_to (window_of search) (free_block place.key)) place.start
 
--- The range of a search at a spot.
-abbrev pub range_at : Search → Spot → Range
-range_at search spot = span spot.start search.size
+-- The range of a search at a place.
+abbrev pub range_at : Search → ListPlace → Range
+range_at search place = span place.start search.size
 
--- The range does not fill the gap of the spot.
-abbrev pub SplitsAt : Search → Spot → Type 0
-SplitsAt search spot =
-    (spot.key.start < spot.start) ⊎ ((range_at search spot).end < spot.key.end)
+-- The range does not fill the gap of the place.
+abbrev pub SplitsAt : Search → ListPlace → Type 0
+SplitsAt search place =
+    (place.key.start < place.start) ⊎ ((range_at search place).end < place.key.end)
 
--- The range at the spot is allocated. `added` is the number of blocks that the list has more than before.
-pub record IsTakenAt (search : Search) (spot : Spot) (new : List Block) (taken : Taken) : Type 0 where
-  pub start : taken.start ≡ spot.start
-  pub below : (range_at search spot).end < MAX
-  pub low : SplitsAt search spot → search.can_split ≡ true
-  pub blocks : new ≡ spot.lower ++ (parts spot.key (range_at search spot) ++ spot.upper)
-  pub added : taken.added + 1 ≡ length (parts spot.key (range_at search spot))
+-- The range at the place is allocated. `added` is the number of blocks that the list has more than before.
+pub record IsTakenAt (search : Search) (place : ListPlace) (new : List Block) (taken : Taken) : Type 0 where
+  pub range : taken.range ≡ range_at search place
+  pub below : (range_at search place).end < MAX
+  pub low : SplitsAt search place → search.can_split ≡ true
+  pub blocks : new ≡ place.lower ++ (parts place.key (range_at search place) ++ place.upper)
+  pub added : taken.added + 1 ≡ length (parts place.key (range_at search place))
 
--- The range at the spot is below MAX, and does not fill its gap.
-pub record IsSplitAt (search : Search) (spot : Spot) : Type 0 where
-  pub below : (range_at search spot).end < MAX
-  pub splits : SplitsAt search spot
+-- The range at the place is below MAX, and does not fill its gap.
+pub record IsSplitAt (search : Search) (place : ListPlace) : Type 0 where
+  pub below : (range_at search place).end < MAX
+  pub splits : SplitsAt search place
 
--- The result of an allocation at the spot:
+-- The result of an allocation at the place:
 -- - PastMax if the range ends at MAX.
 -- - A range that fills its gap is allocated.
--- - Any other range is allocated, or it is OutOfMemory, or TooHigh if gaps cannot be split.
-abbrev pub SettlesAt : Search → Spot → List Block → Result Taken Refusal → Type 0
-SettlesAt search spot new (Ok taken) = IsTakenAt search spot new taken
-SettlesAt search spot new (Err NoPlace) = ⊥
-SettlesAt search spot new (Err Held) = ⊥
-SettlesAt search spot new (Err PastMax) = (range_at search spot).end ≡ MAX
-SettlesAt search spot new (Err (OutOfMemory e)) = IsSplitAt search spot × (search.can_split ≡ true)
-SettlesAt search spot new (Err TooHigh) = IsSplitAt search spot × (search.can_split ≡ false)
+-- - Any other range is allocated, or it is OutOfMemory, or CannotSplit if gaps cannot be split.
+abbrev pub SettlesAt : Search → ListPlace → List Block → Result Taken Refusal → Type 0
+SettlesAt search place new (Ok taken) = IsTakenAt search place new taken
+SettlesAt search place new (Err NoPlace) = ⊥
+SettlesAt search place new (Err Held) = ⊥
+SettlesAt search place new (Err PastMax) = (range_at search place).end ≡ MAX
+SettlesAt search place new (Err (OutOfMemory e)) = IsSplitAt search place × (search.can_split ≡ true)
+SettlesAt search place new (Err CannotSplit) = IsSplitAt search place × (search.can_split ≡ false)
 
 -- The place of the search that is closest to the end is allocated, or its error is returned. NoPlace if there is no place.
 abbrev pub AllocatesFit : End → Search → List Block → List Block → Result Taken Refusal → Type 0
 AllocatesFit end search old new answer =
-    (HasNoPlace search old × (answer ≡ Err NoPlace)) ⊎ ((spot : Spot) × IsClosestSpot end search old spot × SettlesAt search spot new answer)
+    (HasNoPlace search old × (answer ≡ Err NoPlace)) ⊎ ((place : ListPlace) × IsClosestPlace end search old place × SettlesAt search place new answer)
 
 -- The block of a list that contains the address t, with the blocks before and after it.
 pub record IsBlockAt (t : ℕ) (bs lower : List Block) (b : Block) (upper : List Block) : Type 0 where
@@ -99,14 +99,14 @@ pub record IsBlockAt (t : ℕ) (bs lower : List Block) (b : Block) (upper : List
 
 -- The result of a search at the start t in the block that contains t:
 -- - For a held block Held if it is exactly the range, and otherwise NoPlace.
--- - For a gap NoPlace if the gap or the window ends before the range does, and otherwise the result at the spot.
+-- - For a gap NoPlace if the gap or the window ends before the range does, and otherwise the result at the place.
 abbrev pub SettlesIn : Search → ℕ → List Block → NodeState → Range → List Block → List Block → Result Taken Refusal → Type 0
 SettlesIn search t lower Allocated key upper new answer =
     IfElse (key ≡ span t search.size) (answer ≡ Err Held) (answer ≡ Err NoPlace)
 SettlesIn search t lower Free key upper new answer =
     let last : ℕ = (span t search.size).end in
-    let spot : Spot = record { lower = lower; key = key; upper = upper; start = t } in
-    IfElse ((key.end < last) ⊎ (search.high < last)) (answer ≡ Err NoPlace) (SettlesAt search spot new answer)
+    let place : ListPlace = record { lower = lower; key = key; upper = upper; start = t } in
+    IfElse ((key.end < last) ⊎ (search.high < last)) (answer ≡ Err NoPlace) (SettlesAt search place new answer)
 
 -- The range of the search at the start t is allocated, or its error is returned.
 pub record AllocatesExact (search : Search) (t : ℕ) (old new : List Block) (answer : Result Taken Refusal) : Type 0 where

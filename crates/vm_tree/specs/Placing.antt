@@ -4,60 +4,56 @@ use Rattle.vm_ranges.specs.Range.{MAX, span}
 use Rattle.vm_ranges.specs.declared.state.NodeState.TheVariants.{Free}
 use Rattle.vm_leaf.specs.declared.block.Block.{Block}
 use Rattle.vm_leaf.specs.Block.{free_block}
-use Rattle.vm_leaf.specs.Blocks.{nth, start_of, end_of, IsTakenFrom}
-use Rattle.vm_leaf.specs.Left.{IsLeft, added_by}
-use Rattle.vm_leaf.specs.declared.leaf.Place.{Place}
-use Rattle.vm_tree.specs.Allocation.{Spot, IsClosestSpot, SettlesIn, AllocatesExact}
-use Rattle.vm_tree.specs.declared.allocate.place.Claim.{Claim}
-use Rattle.vm_tree.specs.declared.allocate.place.Site.{Site}
+use Rattle.vm_leaf.specs.Blocks.{nth, start_of, end_of, with_parts, parts, IsTakenFrom}
+use Rattle.vm_leaf.specs.Rest.{IsRest, added_by}
+use Rattle.vm_leaf.specs.Windows.{IsFirstFitIn, IsLastFitIn}
+use Rattle.vm_leaf.specs.declared.leaf.Fit.{Fit}
+use Rattle.vm_tree.specs.Allocation.{window_of, ListPlace, IsClosestPlace, SettlesIn, AllocatesExact}
+use Rattle.vm_tree.specs.declared.allocate.place.Place.{Place}
 use Rattle.vm_tree.specs.declared.end.End.{End}
+use Rattle.vm_tree.specs.declared.end.End.TheVariants.{First, Last}
 use Rattle.vm_tree.specs.declared.search.Search.{Search}
 use Rattle.vm_tree.specs.declared.search.Refusal.{Refusal}
-use Rattle.vm_tree.specs.declared.search.Refusal.TheVariants.{NoPlace, Held, PastMax, OutOfMemory, TooHigh}
+use Rattle.vm_tree.specs.declared.search.Refusal.TheVariants.{NoPlace, Held, PastMax, OutOfMemory, CannotSplit}
 
--- The spot of a site in these blocks.
-abbrev pub spot_at : List Block → Site → Spot
-spot_at bs site = record { lower = take site.index bs; key = site.gap; upper = drop (site.index + 1) bs; start = site.start }
+-- The place in a leaf, as one in the list of its blocks.
+abbrev pub in_list : List Block → Place → ListPlace
+in_list bs place = record { lower = take place.index bs; key = place.gap; upper = drop (place.index + 1) bs; start = place.range.start }
 
--- The site is in a gap of the blocks, and n addresses from its start on fit into the gap.
-pub record IsSiteIn (n : ℕ) (bs : List Block) (site : Site) : Type 0 where
-  pub within : site.index < length bs
-  pub gap : nth bs site.index ≡ free_block site.gap
-  pub from : site.gap.start ≤ site.start
-  pub upto : site.start + n ≤ site.gap.end + 1
+-- The blocks with the range of the place allocated.
+abbrev pub with_place : List Block → Place → List Block
+with_place bs place = with_parts bs place.index 1 (parts place.gap place.range)
 
--- The site of a place in these blocks.
-abbrev pub site_of : List Block → Place → Site
-site_of bs place = record { index = place.index; gap = (nth bs place.index).key; start = place.start }
+-- The place is in a gap of the blocks.
+pub record IsLeafPlace (bs : List Block) (place : Place) : Type 0 where
+  pub within : place.index < length bs
+  pub gap : nth bs place.index ≡ free_block place.gap
+  pub taken : IsTakenFrom place.gap place.range
+  pub rest : IsRest place.rest place.gap place.range
 
--- The site is that of the place of the search in the blocks that is closest to the end.
-pub record IsClosestSite (end : End) (search : Search) (bs : List Block) (site : Site) : Type 0 where
-  pub fits : IsSiteIn search.size bs site
-  pub closest : IsClosestSpot end search bs (spot_at bs site)
+-- The place is one for n addresses in a gap of the blocks.
+pub record IsPlaceFor (n : ℕ) (bs : List Block) (place : Place) : Type 0 where
+  pub inside : IsLeafPlace bs place
+  pub sized : place.range ≡ span place.range.start n
 
--- The claim is one of a range in a gap of the blocks.
-pub record IsClaimIn (bs : List Block) (claim : Claim) : Type 0 where
-  pub within : claim.index < length bs
-  pub gap : nth bs claim.index ≡ free_block claim.gap
-  pub taken : IsTakenFrom claim.gap claim.range
-  pub left : IsLeft claim.left claim.gap claim.range
+-- The fit is that of the search in the blocks that is closest to the end.
+abbrev pub IsClosestFitIn : End → Search → List Block → Fit → Type 0
+IsClosestFitIn First search bs fit = IsFirstFitIn (window_of search) search.size search.alignment bs fit
+IsClosestFitIn Last search bs fit = IsLastFitIn (window_of search) search.size search.alignment bs fit
 
--- The claim is that of the range of the search at the site.
-pub record IsClaimAt (search : Search) (site : Site) (claim : Claim) : Type 0 where
-  pub index : claim.index ≡ site.index
-  pub gap : claim.gap ≡ site.gap
-  pub range : claim.range ≡ span site.start search.size
-  pub taken : IsTakenFrom claim.gap claim.range
-  pub left : IsLeft claim.left claim.gap claim.range
+-- The place is the one of the search in the blocks that is closest to the end.
+pub record IsClosestLeafPlace (end : End) (search : Search) (bs : List Block) (place : Place) : Type 0 where
+  pub fits : IsPlaceFor search.size bs place
+  pub closest : IsClosestPlace end search bs (in_list bs place)
 
--- Why the claim cannot be granted, or None if it can: its range ends below MAX, and gaps can be split if it splits one.
-abbrev pub RefusesClaim : Search → Claim → Option Refusal → Type 0
-RefusesClaim search claim None = (claim.range.end < MAX) × (0 < added_by claim.left → search.can_split ≡ true)
-RefusesClaim search claim (Some NoPlace) = ⊥
-RefusesClaim search claim (Some Held) = ⊥
-RefusesClaim search claim (Some PastMax) = claim.range.end ≡ MAX
-RefusesClaim search claim (Some (OutOfMemory e)) = ⊥
-RefusesClaim search claim (Some TooHigh) = (claim.range.end < MAX) × (0 < added_by claim.left) × (search.can_split ≡ false)
+-- Why the range of the place cannot be allocated, or None if it can: it ends below MAX, and gaps can be split if it splits one.
+abbrev pub RefusesPlace : Search → Place → Option Refusal → Type 0
+RefusesPlace search place None = (place.range.end < MAX) × (0 < added_by place.rest → search.can_split ≡ true)
+RefusesPlace search place (Some NoPlace) = ⊥
+RefusesPlace search place (Some Held) = ⊥
+RefusesPlace search place (Some PastMax) = place.range.end ≡ MAX
+RefusesPlace search place (Some (OutOfMemory e)) = ⊥
+RefusesPlace search place (Some CannotSplit) = (place.range.end < MAX) × (0 < added_by place.rest) × (search.can_split ≡ false)
 
 -- The start t of a search is in the blocks and in the window, and its range ends at most at MAX.
 pub record IsStartIn (search : Search) (t : ℕ) (bs : List Block) : Type 0 where
@@ -67,16 +63,16 @@ pub record IsStartIn (search : Search) (t : ℕ) (bs : List Block) : Type 0 wher
   pub high : t ≤ search.high
   pub fits : t + search.size ≤ MAX + 1
 
--- The site is that of the range of the search at t, which lies in a gap of the blocks and in the window.
-pub record IsSiteOf (search : Search) (t : ℕ) (bs : List Block) (site : Site) : Type 0 where
-  pub fits : IsSiteIn search.size bs site
-  pub start : site.start ≡ t
+-- The place is that of the range of the search at t, which lies in a gap of the blocks and in the window.
+pub record IsExactPlace (search : Search) (t : ℕ) (bs : List Block) (place : Place) : Type 0 where
+  pub fits : IsPlaceFor search.size bs place
+  pub start : place.range.start ≡ t
   pub high : t + search.size ≤ search.high + 1
 
--- The site of the range of the search at t, or the reason why the range cannot be allocated.
-abbrev pub FindsSiteOf : Search → ℕ → List Block → Result Site Refusal → Type 0
-FindsSiteOf search t bs (Ok site) = IsSiteOf search t bs site
-FindsSiteOf search t bs (Err refusal) = AllocatesExact search t bs bs (Err refusal)
+-- The place of the range of the search at t, or the reason why the range cannot be allocated.
+abbrev pub FindsExactPlace : Search → ℕ → List Block → Result Place Refusal → Type 0
+FindsExactPlace search t bs (Ok place) = IsExactPlace search t bs place
+FindsExactPlace search t bs (Err refusal) = AllocatesExact search t bs bs (Err refusal)
 
 -- The range of the search at t lies in the block, which is a gap, and in the window.
 pub record LiesIn (search : Search) (t : ℕ) (b : Block) : Type 0 where

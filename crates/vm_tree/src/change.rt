@@ -48,6 +48,7 @@ fn refresh(tree: &mut Link) -> Change
     ensures steady { result ≢ Change.Structure }
 {
     match tree {
+        // The link is one to a node.
         Link::Hole | Link::Leaf { .. } => unreachable!(),
         Link::Fork {
             longest,

@@ -18,6 +18,7 @@ pub(crate) fn leaf_at(tree: &Link, address: u64) -> &Leaf
     ensures { IsLeafAt address (blocks (side tree.now)) result.now }
 {
     match tree {
+        // A hole is filled before the call returns.
         Link::Hole => unreachable!(),
         Link::Leaf { leaf, .. } => leaf,
         Link::Fork { node, .. } => {

@@ -205,6 +205,7 @@ fn end_block(tree: &Link, end: End, count: &mut Steps) -> Block
 {
     count.enter();
     match tree {
+        // A hole is filled before the call returns.
         Link::Hole => unreachable!(),
         Link::Leaf { leaf, .. } => {
             let leaf: &Leaf = leaf;
@@ -233,6 +234,7 @@ fn drop_end(tree: &mut Link, end: End, count: &mut Steps) -> Change
 {
     count.enter();
     match tree {
+        // A hole is filled before the call returns.
         Link::Hole => unreachable!(),
         Link::Leaf {
             longest,
@@ -268,6 +270,7 @@ fn free_end(tree: &mut Link, end: End, start: u64, last: u64, count: &mut Steps)
 {
     count.enter();
     match tree {
+        // A hole is filled before the call returns.
         Link::Hole => unreachable!(),
         Link::Leaf {
             longest,
@@ -417,6 +420,7 @@ pub(crate) fn free_at(tree: &mut Link, key: &RangeInclusive, count: &mut Steps) 
 {
     count.enter();
     match tree {
+        // A hole is filled before the call returns.
         Link::Hole => unreachable!(),
         Link::Leaf {
             longest,

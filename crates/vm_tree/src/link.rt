@@ -68,10 +68,14 @@ pub(crate) fn height(link: &Link) -> u8
 {
     match link {
         Link::Hole | Link::Leaf { .. } => 1,
-        Link::Fork { height, node, .. } => {
+        Link::Fork {
+            height,
+            node: _node,
+            ..
+        } => {
             // Proof: a node that is read has two children.
-            let node: &Node = node;
-            let _at = node.at;
+            let _open: &Node = _node;
+            let _at = _open.at;
             *height
         }
     }
@@ -169,6 +173,7 @@ pub(crate) fn into_fork(link: Link) -> Box<Node>
 {
     match link {
         Link::Fork { node, .. } => node,
+        // The link is one to a node.
         Link::Leaf { .. } | Link::Hole => unreachable!(),
     }
 }
@@ -182,12 +187,14 @@ pub(crate) fn into_leaf(link: Link) -> Box<Leaf>
 {
     match link {
         Link::Leaf { leaf, .. } => leaf,
-        Link::Fork { node, .. } => {
+        Link::Fork { node: _node, .. } => {
             // Proof: a node that is read has two children.
-            let open: &Node = &node;
-            let _at = open.at;
+            let _open: &Node = &_node;
+            let _at = _open.at;
+            // The link is one to a leaf.
             unreachable!()
         }
+        // A hole is filled before the call returns.
         Link::Hole => unreachable!(),
     }
 }

@@ -25,10 +25,10 @@ fn leaf_len(link: &Link) -> usize
             let leaf: &Leaf = leaf;
             leaf.len()
         }
-        Link::Fork { node, .. } => {
+        Link::Fork { node: _node, .. } => {
             // Proof: a node that is read has two children.
-            let node: &Node = node;
-            let _at = node.at;
+            let _open: &Node = _node;
+            let _at = _open.at;
             CAPACITY
         }
     }

@@ -4,6 +4,7 @@ ghost use Rattle.vm_tree.specs.declared.search.Refusal.TheVariants.{OutOfMemory}
 
 use crate::change::Change;
 use std::alloc::AllocError;
+use vm_ranges::RangeInclusive;
 
 /// A search for a place: `size` addresses at a multiple of `alignment`, between `low` and `high`.
 #[derive(Clone, Copy)]
@@ -23,8 +24,7 @@ pub struct Search {
 /// A range that was allocated.
 #[derive(Clone, Copy)]
 pub struct Taken {
-    /// The first address.
-    pub start: u64,
+    pub range: RangeInclusive,
     /// The number of blocks that the tree has more than before: 0, 1 or 2.
     pub added: u64,
     /// The change of the summary of the subtree.
@@ -43,7 +43,7 @@ pub enum Refusal {
     /// An allocation of memory failed, with this error.
     OutOfMemory(AllocError),
     /// The range does not fill its gap, and gaps cannot be split.
-    TooHigh,
+    CannotSplit,
 }
 
 impl From<AllocError> for Refusal {

@@ -185,10 +185,10 @@ impl Tree {
                 let gap = free_in(leaf, key)?;
                 Some(gap.joined)
             }
-            Link::Fork { node, .. } => {
+            Link::Fork { node: _node, .. } => {
                 // Proof: a node that is read has two children.
-                let node: &Node = node;
-                let _at = node.at;
+                let _open: &Node = _node;
+                let _at = _open.at;
                 let freed = free_at(&mut self.root, key, count)?;
                 Some(freed.joined)
             }
@@ -198,7 +198,7 @@ impl Tree {
     /// Allocates the range of a search that starts at `start`.
     ///
     /// It returns `Held` if exactly this range is allocated, and otherwise `NoPlace` if the range is not in a
-    /// gap and in the window. It returns `PastMax` if the range ends at `u64::MAX`, `TooHigh` if gaps cannot be
+    /// gap and in the window. It returns `PastMax` if the range ends at `u64::MAX`, `CannotSplit` if gaps cannot be
     /// split, and `OutOfMemory` if an allocation fails. An error changes nothing. A range that fills its gap
     /// allocates no memory, and any other range allocates nothing or one leaf and one node.
     ///
@@ -222,15 +222,16 @@ impl Tree {
         ensures path { IsPathLength self.old count.new }
     {
         match &mut self.root {
+            // A hole is filled before the call returns.
             Link::Hole => unreachable!(),
             Link::Leaf { .. } => {
                 count.enter();
                 exact_in_leaf(&mut self.root, true, start, search, alloc)
             }
-            Link::Fork { node, .. } => {
+            Link::Fork { node: _node, .. } => {
                 // Proof: a node that is read has two children.
-                let node: &Node = node;
-                let _at = node.at;
+                let _open: &Node = _node;
+                let _at = _open.at;
                 exact_at(&mut self.root, start, search, alloc, count)
             }
         }
@@ -238,7 +239,7 @@ impl Tree {
 
     /// Allocates the place of a search that is closest to an end: the lowest or the highest place.
     ///
-    /// It returns `NoPlace` if there is none, `PastMax` if the range there ends at `u64::MAX`, `TooHigh` if gaps
+    /// It returns `NoPlace` if there is none, `PastMax` if the range there ends at `u64::MAX`, `CannotSplit` if gaps
     /// cannot be split, and `OutOfMemory` if an allocation fails. An error changes nothing. A range that fills
     /// its gap allocates no memory, and any other range allocates nothing or one leaf and one node.
     ///
@@ -264,16 +265,17 @@ impl Tree {
         ensures path { result ≢ Err Refusal.NoPlace → height_of self.old ≤ 2 * count.new }
     {
         match &mut self.root {
+            // A hole is filled before the call returns.
             Link::Hole => unreachable!(),
             Link::Leaf { .. } => {
                 let answer = fit_in_leaf(&mut self.root, true, end, search, alloc);
                 count_place(&answer, count);
                 answer
             }
-            Link::Fork { node, .. } => {
+            Link::Fork { node: _node, .. } => {
                 // Proof: a node that is read has two children.
-                let node: &Node = node;
-                let _at = node.at;
+                let _open: &Node = _node;
+                let _at = _open.at;
                 if !fits(&self.root, search) {
                     return Err(Refusal::NoPlace);
                 }

@@ -105,6 +105,7 @@ impl AddressAllocator {
             (state_of self.new) }
     {
         let Ok(request) = Constraint::new(key.len(), 1, AllocPolicy::ExactMatch(start)) else {
+            // A range has a valid length, and 1 divides its start.
             unreachable!()
         };
         self.move_constraint(alloc, key, request)

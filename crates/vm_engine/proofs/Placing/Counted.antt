@@ -2,7 +2,7 @@
 use Rattle.std.proofs.Common.{◌≡◌, ℕ, ◌+◌, ◌-◌, ◌^◌, ◌<◌, ◌≤◌, ◌⊎◌, true, false, Bool, List, ◌∷◌, ◌++◌, length, refl, sym, ap, ◌∙◌, subst, arith, inl, inr, ⊎_elim, Result, Ok, Err, length-append, ltb}
 use Rattle.std.proofs.lemmas.Bool.{cases_lt, lt-ltb, le-ltb}
 use Rattle.vm_ranges.specs.Cases.{IsTestOf}
-use Rattle.vm_ranges.specs.Range.{Range, MAX, span, address_count}
+use Rattle.vm_ranges.specs.Range.{Range, MAX, address_count}
 use Rattle.vm_ranges.specs.Request.{Request}
 use Rattle.vm_ranges.specs.declared.error.Error.{Error}
 use Rattle.vm_leaf.specs.declared.block.Block.{Block}
@@ -18,13 +18,12 @@ use Rattle.vm_engine.specs.Engine.CountedTrees.{IsCountedTree}
 use Rattle.vm_engine.specs.Tree.Blocks.{TilesSpace, IsBlocksOf, held_of, blocks_state}
 use Rattle.vm_engine.specs.Tree.SpaceTree.{space_of, tree_state, IsSpaceTree}
 use Rattle.vm_engine.proofs.Blocks.OneList.{few_blocks}
-use Rattle.vm_engine.proofs.Placing.Spots.{taken_from}
+use Rattle.vm_engine.proofs.Placing.Places.{taken_from}
 use Rattle.vm_engine.proofs.Splitting.TakenRanges.{as_blocks, blocks_split}
 use Rattle.vm_engine.proofs.Trees.CountedTrees.{TakesOne, length_with, taken_counted, taken_fits, gaps_left, gaps_fit}
 use Rattle.vm_engine.proofs.Trees.Spaces.{state_of_tree}
 use Rattle.vm_engine.proofs.Counts.GapBounds.{aligned_searches}
 use Rattle.vm_engine.specs.Counts.GapSearch.{SearchesGaps, SearchesAligned}
-use Rattle.vm_ranges.proofs.RangeCalls.{same_range}
 
 -- ---- The number of parts
 one_part : (k r : Range) → r.start ≤ k.start → k.end ≤ r.end → length (parts k r) ≡ 1
@@ -39,25 +38,25 @@ not_split k r n =
 -- ---- A range that was taken
 module _ (s m : Shape) (can_split : Bool) (n : ℕ) (taken : Taken) (h : IsSpaceTree s) (few : IsTestOf can_split (length (held_of (blocks s)) < SPLIT_LIMIT_MIN_HELD)) (z : 0 < n) (t : Takes can_split n (blocks s) (blocks m) taken) where
   abbrev range : Range
-  range = range_at t.search t.range.spot
+  range = range_at t.search t.range.place
 
-  is_range : range ≡ span taken.start n
-  is_range = ap (λ (x : ℕ). span x t.search.size) (sym t.range.at.start) ∙ ap (λ (x : ℕ). span taken.start x) t.size
+  is_range : range ≡ taken.range
+  is_range = sym t.range.at.range
 
   holds_range : IsBlocksOf (holding range (tree_state s)) (blocks m)
   unfolding TilesSpace
   holds_range =
       let sp = space_of (blocks s) in
-      let from = taken_from sp (blocks s) h.tiling.tiles t.search (omega (arith, t.size, z)) t.range.spot t.range.cut t.range.in_gap in
-      let k = blocks_split (tree_state s) (blocks s) t.range.spot.lower t.range.spot.upper (free_block t.range.spot.key) range (as_blocks sp (blocks s) h.tiling.tiles) t.range.cut refl from in
+      let from = taken_from sp (blocks s) h.tiling.tiles t.search (omega (arith, t.size, z)) t.range.place t.range.cut t.range.in_gap in
+      let k = blocks_split (tree_state s) (blocks s) t.range.place.lower t.range.place.upper (free_block t.range.place.key) range (as_blocks sp (blocks s) h.tiling.tiles) t.range.cut refl from in
       subst (IsBlocksOf (holding range (tree_state s))) (sym t.range.at.blocks) k
 
   longer : length (blocks m) ≡ length (blocks s) + taken.added
   longer =
-      let spot = t.range.spot in
-      let old = ap length t.range.cut ∙ length-append spot.lower (free_block spot.key ∷ spot.upper) in
-      let new = ap length t.range.at.blocks ∙ length-append spot.lower (parts spot.key range ++ spot.upper) in
-      omega (arith, old, new, length-append (parts spot.key range) spot.upper, t.range.at.added)
+      let place = t.range.place in
+      let old = ap length t.range.cut ∙ length-append place.lower (free_block place.key ∷ place.upper) in
+      let new = ap length t.range.at.blocks ∙ length-append place.lower (parts place.key range ++ place.upper) in
+      omega (arith, old, new, length-append (parts place.key range) place.upper, t.range.at.added)
 
   one_held : length (held_of (blocks m)) ≡ length (held_of (blocks s)) + 1
   one_held = ap length holds_range.held ∙ length_with range (held_of (blocks s))
@@ -69,10 +68,10 @@ module _ (s m : Shape) (can_split : Bool) (n : ℕ) (taken : Taken) (h : IsSpace
       let l = length_with range (held_of (blocks s)) in
       omega arith
   few_split false e =
-      let none : length (parts t.range.spot.key range) ≡ 1 = not_split t.range.spot.key range (λ k. absurd (cc (t.range.at.low k, t.split, e))) in
+      let none : length (parts t.range.place.key range) ≡ 1 = not_split t.range.place.key range (λ k. absurd (cc (t.range.at.low k, t.split, e))) in
       omega (arith, longer, none, t.range.at.added, h.few)
 
-  pub takes_one : TakesOne s m (span taken.start n) taken.added
+  pub takes_one : TakesOne s m taken.range taken.added
   takes_one = record {
     is = subst (λ (r : Range). IsBlocksOf (holding r (tree_state s)) (blocks m)) is_range holds_range;
     below = subst (λ (r : Range). r.end < MAX) is_range t.range.at.below;
@@ -94,15 +93,15 @@ module _ (s m : Shape) (space : Range) (held gaps clear : ℕ) (request : Reques
 
   -- What is true for the state of the space is true for that of the tree.
   module _ (answer : Result Taken Error) (a : IsAllocation request space (ltb held SPLIT_LIMIT_MIN_HELD) s m answer count) where
-    pub search_tree : SearchesGaps (height_of s) (tree_state s) request (taken_range request.size answer) count × SearchesAligned (height_of s) (tree_state s) request (taken_range request.size answer) count
+    pub search_tree : SearchesGaps (height_of s) (tree_state s) request (taken_range answer) count × SearchesAligned (height_of s) (tree_state s) request (taken_range answer) count
     search_tree =
-        let g = subst (λ (v : AddressState). SearchesAligned (height_of s) v request (taken_range request.size answer) count) state_is a.search in
-        (aligned_searches (height_of s) (tree_state s) request (taken_range request.size answer) count g, g)
+        let g = subst (λ (v : AddressState). SearchesAligned (height_of s) v request (taken_range answer) count) state_is a.search in
+        (aligned_searches (height_of s) (tree_state s) request (taken_range answer) count g, g)
 
-    grants_if : tree_state m ≡ blocks_state space (blocks m) → Grants (tree_state s) request (taken_range request.size answer) (tree_state m)
+    grants_if : tree_state m ≡ blocks_state space (blocks m) → Grants (tree_state s) request (taken_range answer) (tree_state m)
     grants_if e =
-        let g = subst (λ (v : AddressState). Grants v request (taken_range request.size answer) (blocks_state space (blocks m))) state_is a.granted in
-        subst (λ (v : AddressState). Grants (tree_state s) request (taken_range request.size answer) v) (sym e) g
+        let g = subst (λ (v : AddressState). Grants v request (taken_range answer) (blocks_state space (blocks m))) state_is a.granted in
+        subst (λ (v : AddressState). Grants (tree_state s) request (taken_range answer) v) (sym e) g
 
   -- ---- An error
   module _ (e : Error) (a : IsAllocation request space (ltb held SPLIT_LIMIT_MIN_HELD) s m (Err e) count) where
@@ -111,30 +110,26 @@ module _ (s m : Shape) (space : Range) (held gaps clear : ℕ) (request : Reques
 
   -- ---- A range
   module _ (taken : Taken) (z : 0 < request.size) (a : IsAllocation request space (ltb held SPLIT_LIMIT_MIN_HELD) s m (Ok taken) count) where
-    one : TakesOne s m (span taken.start request.size) taken.added
+    one : TakesOne s m taken.range taken.added
     one = takes_one s m (ltb held SPLIT_LIMIT_MIN_HELD) request.size taken h.tree (limit_tested held (blocks s) h.held_count) z a.taken
 
-    length_is : request.size ≡ address_count (span taken.start request.size)
-    length_is = omega (arith, z)
+    length_is : request.size ≡ address_count taken.range
+    length_is = let e = a.taken.range.at.range in rw e (omega (arith, z, a.taken.size))
 
     pub taken_new : (gap clears : ℕ) → gap ≡ taken.added → clears ≡ request.size → IsCountedTree m space (held + 1) (gaps + gap - 1) (clear - clears)
-    taken_new gap clears e f = rw e (taken_counted s m space (span taken.start request.size) held gaps clear taken.added h one clears (f ∙ length_is))
+    taken_new gap clears e f = rw e (taken_counted s m space taken.range held gaps clear taken.added h one clears (f ∙ length_is))
 
     pub taken_gaps : (gap : ℕ) → gap ≡ taken.added → (1 ≤ gaps + gap) × (gaps + gap < 2 ^ 50)
     taken_gaps gap e =
         let new = taken_new gap request.size e refl in
-        let some = gaps_left s m space (span taken.start request.size) held gaps clear taken.added h one in
+        let some = gaps_left s m space taken.range held gaps clear taken.added h one in
         (omega (arith, some), omega (arith, some, gaps_fit m space (held + 1) (gaps + gap - 1) (clear - request.size) new))
 
     pub taken_clear : (size : ℕ) → size ≡ request.size → size ≤ clear
-    taken_clear size e = omega (arith, length_is, taken_fits s m space (span taken.start request.size) held gaps clear taken.added h one)
+    taken_clear size e = omega (arith, length_is, taken_fits s m space taken.range held gaps clear taken.added h one)
 
     pub granted_state : IsAddressState (tree_state m)
     granted_state = state_of_tree m (taken_new taken.added request.size refl refl).tree
 
-    pub granted_tree : Grants (tree_state s) request (Ok (span taken.start request.size)) (tree_state m)
+    pub granted_tree : Grants (tree_state s) request (Ok taken.range) (tree_state m)
     granted_tree = grants_if (Ok taken) a (ap (λ (v : Range). blocks_state v (blocks m)) (sym (taken_new taken.added request.size refl refl).is_space))
-
--- The range of a start and a size.
-pub range_is : (start size : ℕ) → 0 < size → record { start = start; end = start + (size - 1) } ≡ span start size
-range_is start size z = same_range _ (span start size) refl (omega arith)

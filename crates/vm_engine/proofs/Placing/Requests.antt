@@ -14,7 +14,7 @@ use Rattle.vm_ranges.specs.declared.state.NodeState.{NodeState}
 use Rattle.vm_leaf.specs.declared.block.Block.{Block}
 use Rattle.vm_leaf.specs.Block.{free_block}
 use Rattle.vm_leaf.specs.Windows.{common}
-use Rattle.vm_tree.specs.Allocation.{Spot, window_of, IsSpotIn, SettlesAt, SettlesIn, IsSearch, AllocatesExact, AllocatesFit, IsClosestSpot}
+use Rattle.vm_tree.specs.Allocation.{ListPlace, window_of, IsPlaceIn, SettlesAt, SettlesIn, IsSearch, AllocatesExact, AllocatesFit, IsClosestPlace}
 use Rattle.vm_tree.specs.GapSearch.{IsSearchCount, gaps_without_place}
 use Rattle.vm_tree.specs.Heights.{held_blocks, one_if_held}
 use Rattle.vm_tree.specs.NodeCounts.{has_fit_in, nodes_to_address, nodes_to_fit}
@@ -26,7 +26,7 @@ use Rattle.vm_tree.specs.declared.end.End.TheVariants.{First, Last}
 use Rattle.vm_tree.specs.declared.search.Search.{Search}
 use Rattle.vm_tree.specs.declared.search.Taken.{Taken}
 use Rattle.vm_tree.specs.declared.search.Refusal.{Refusal}
-use Rattle.vm_tree.specs.declared.search.Refusal.TheVariants.{NoPlace, Held, PastMax, OutOfMemory as NoMemory, TooHigh}
+use Rattle.vm_tree.specs.declared.search.Refusal.TheVariants.{NoPlace, Held, PastMax, OutOfMemory as NoMemory, CannotSplit}
 use Rattle.vm_tree.proofs.Searched.{none_missed, none_closest}
 use Rattle.vm_tree.proofs.Heights.{high_tree_held}
 use Rattle.vm_engine.specs.Address.{AddressState}
@@ -39,8 +39,8 @@ use Rattle.vm_engine.specs.Tree.Blocks.{range_if_held, held_of, blocks_state, Ti
 use Rattle.vm_engine.specs.Windows.{part_in, window_in}
 use Rattle.vm_engine.proofs.Blocks.OneList.{same_block}
 use Rattle.vm_engine.proofs.Counts.GapBounds.{searches, exact_searches}
-use Rattle.vm_engine.proofs.Placing.Spots.{policy_of, fit_grants, spot_chosen}
-use Rattle.vm_engine.proofs.Placing.ExactSpots.{exact_grants}
+use Rattle.vm_engine.proofs.Placing.Places.{policy_of, fit_grants, place_chosen}
+use Rattle.vm_engine.proofs.Placing.ExactPlaces.{exact_grants}
 use Rattle.vm_engine.proofs.Results.Requests.{request_in, with_policy}
 use Rattle.vm_engine.proofs.Trees.Ends.{ends}
 
@@ -63,14 +63,14 @@ low_if_few s true h t e =
 low_if_few s false h t e = absurd (cc e)
 
 -- ---- The meaning of a refusal and of a range
--- The spot is in a gap of the list, and the range of the search lies in this gap.
-record IsSpotOf (search : Search) (old : List Block) (spot : Spot) : Type 0 where
-  cut : IsSpotIn old spot
-  in_gap : (spot.key.start ≤ spot.start) × (spot.start + search.size ≤ spot.key.end + 1)
+-- The place is in a gap of the list, and the range of the search lies in this gap.
+record IsPlaceOf (search : Search) (old : List Block) (place : ListPlace) : Type 0 where
+  cut : IsPlaceIn old place
+  in_gap : (place.key.start ≤ place.start) × (place.start + search.size ≤ place.key.end + 1)
 
-settled_takes : (search : Search) (n : ℕ) (old new : List Block) (range : Range) (spot : Spot) (found : Result Taken Refusal) → search.size ≡ n → IsSpotOf search old spot → SettlesAt search spot new found → IfOk (with_error range found) (λ taken. Takes search.can_split n old new taken)
-settled_takes search n old new range spot (Ok taken) e s h = record { search = search; size = e; split = refl; range = record { spot = spot; cut = s.cut; in_gap = s.in_gap; at = h } }
-settled_takes search n old new range spot (Err e) is s h = tt
+settled_takes : (search : Search) (n : ℕ) (old new : List Block) (range : Range) (place : ListPlace) (found : Result Taken Refusal) → search.size ≡ n → IsPlaceOf search old place → SettlesAt search place new found → IfOk (with_error range found) (λ taken. Takes search.can_split n old new taken)
+settled_takes search n old new range place (Ok taken) e s h = record { search = search; size = e; split = refl; range = record { place = place; cut = s.cut; in_gap = s.in_gap; at = h } }
+settled_takes search n old new range place (Err e) is s h = tt
 
 -- ---- The parts that do not depend on the policy
 unchanged_if : (range : Range) (old new : Shape) (found : Result Taken Refusal) → OnErr found (new ≡ old) → OnErr (with_error range found) (new ≡ old)
@@ -81,17 +81,17 @@ blocks_unchanged : (old new : Shape) (found : Result Taken Refusal) → OnErr fo
 blocks_unchanged old new (Ok taken) u = u
 blocks_unchanged old new (Err e) u = ap blocks u
 
-no_place_if : (n : ℕ) (range : Range) (found : Result Taken Refusal) → taken_range n (with_error range found) ≡ Err ResourceNotAvailable → found ≡ Err NoPlace
-no_place_if n range (Ok taken) e = absurd (cc e)
-no_place_if n range (Err NoPlace) e = refl
-no_place_if n range (Err Held) e = absurd (cc e)
-no_place_if n range (Err PastMax) e = absurd (cc e)
-no_place_if n range (Err (NoMemory x)) e = absurd (cc e)
-no_place_if n range (Err TooHigh) e = absurd (cc e)
+no_place_if : (range : Range) (found : Result Taken Refusal) → taken_range (with_error range found) ≡ Err ResourceNotAvailable → found ≡ Err NoPlace
+no_place_if range (Ok taken) e = absurd (cc e)
+no_place_if range (Err NoPlace) e = refl
+no_place_if range (Err Held) e = absurd (cc e)
+no_place_if range (Err PastMax) e = absurd (cc e)
+no_place_if range (Err (NoMemory x)) e = absurd (cc e)
+no_place_if range (Err CannotSplit) e = absurd (cc e)
 
-success_path : (n h count : ℕ) (range : Range) (found : Result Taken Refusal) → (found ≢ Err NoPlace → h ≤ 2 * count) → IsOk (taken_range n (with_error range found)) → h ≤ 2 * count
-success_path n h count range (Ok taken) p o = p (λ e. absurd (cc e))
-success_path n h count range (Err e) p o = absurd (cc o)
+success_path : (h count : ℕ) (range : Range) (found : Result Taken Refusal) → (found ≢ Err NoPlace → h ≤ 2 * count) → IsOk (taken_range (with_error range found)) → h ≤ 2 * count
+success_path h count range (Ok taken) p o = p (λ e. absurd (cc e))
+success_path h count range (Err e) p o = absurd (cc o)
 
 high_tree : (s : Shape) → 1 ≤ height_of s
 high_tree (Rattle.vm_tree.specs.Shape.Tip bs) = omega arith
@@ -126,11 +126,11 @@ module _ (sp : Range) (old new : Shape) (tiles : TilesSpace sp (blocks old)) (ra
   takes_none : found ≡ Err NoPlace → IfOk (with_error r found) (λ taken. Takes search.can_split request.size (blocks old) (blocks new) taken)
   takes_none e = rw e tt
 
-  all_of : Grants (blocks_state sp (blocks old)) request (taken_range search.size (with_error r found)) (blocks_state sp (blocks new)) → IfOk (with_error r found) (λ taken. Takes search.can_split request.size (blocks old) (blocks new) taken)
-      → count ≡ nodes_of_request request sp old → IsGrantCount (height_of old) (blocks_state sp (blocks old)) request (taken_range request.size (with_error r found)) count
-      → SearchesAligned (height_of old) (blocks_state sp (blocks old)) request (taken_range request.size (with_error r found)) count → IsAllocation request sp search.can_split old new (with_error r found) count
+  all_of : Grants (blocks_state sp (blocks old)) request (taken_range (with_error r found)) (blocks_state sp (blocks new)) → IfOk (with_error r found) (λ taken. Takes search.can_split request.size (blocks old) (blocks new) taken)
+      → count ≡ nodes_of_request request sp old → IsGrantCount (height_of old) (blocks_state sp (blocks old)) request (taken_range (with_error r found)) count
+      → SearchesAligned (height_of old) (blocks_state sp (blocks old)) request (taken_range (with_error r found)) count → IsAllocation request sp search.can_split old new (with_error r found) count
   all_of g t e s a = record {
-    granted = subst (λ (n : ℕ). Grants (blocks_state sp (blocks old)) request (taken_range n (with_error r found)) (blocks_state sp (blocks new))) is.size g;
+    granted = g;
     taken = t;
     unchanged = unchanged_if r old new found u;
     exact = e;
@@ -150,13 +150,13 @@ module _ (sp : Range) (old new : Shape) (tiles : TilesSpace sp (blocks old)) (ra
     fit_allocation =
         all_of
         (fit_grants sp (blocks old) tiles request search valid is few end r (blocks new) found policy (blocks_unchanged old new found u) h)
-        (⊎_elim (λ n. takes_none n.1) (λ s. settled_takes search request.size (blocks old) (blocks new) r s.0 found is.size (spot_of s.0 s.1) s.2) h)
+        (⊎_elim (λ n. takes_none n.1) (λ s. settled_takes search request.size (blocks old) (blocks new) r s.0 found is.size (place_of s.0 s.1) s.2) h)
         fit_exact
-        (steps_of request (blocks_state sp (blocks old)) old (taken_range request.size (with_error r found)) count fit_most (success_path request.size (height_of old) count r found path))
-        (searches request sp old (taken_range request.size (with_error r found)) count tiles range (same_bounds b) (λ e. same_none (none_missed search searched (blocks old) (none_closest end search (blocks old) (blocks new) (subst (AllocatesFit end search (blocks old) (blocks new)) (no_place_if request.size r found e) h)))))
+        (steps_of request (blocks_state sp (blocks old)) old (taken_range (with_error r found)) count fit_most (success_path (height_of old) count r found path))
+        (searches request sp old (taken_range (with_error r found)) count tiles range (same_bounds b) (λ e. same_none (none_missed search searched (blocks old) (none_closest end search (blocks old) (blocks new) (subst (AllocatesFit end search (blocks old) (blocks new)) (no_place_if r found e) h)))))
       where
-        spot_of : (spot : Spot) → IsClosestSpot end search (blocks old) spot → IsSpotOf search (blocks old) spot
-        spot_of spot s = let k = spot_chosen sp (blocks old) tiles request search valid is few end policy spot s in record { cut = s.cut; in_gap = k.0 }
+        place_of : (place : ListPlace) → IsClosestPlace end search (blocks old) place → IsPlaceOf search (blocks old) place
+        place_of place s = let k = place_chosen sp (blocks old) tiles request search valid is few end policy place s in record { cut = s.cut; in_gap = k.0 }
 
 -- ---- The named place
 -- Is looked for if it is in the space and in the window, and its range does not pass MAX.
@@ -242,8 +242,8 @@ module _ (sp : Range) (old new : Shape) (tiles : TilesSpace sp (blocks old)) (re
   free_is : h.block.state ≡ Free → h.block ≡ free_block h.block.key
   free_is e = same_block h.block (free_block h.block.key) refl e
 
-  spot_at : h.block.state ≡ Free → range.end ≤ h.block.key.end → IsSpotOf search (blocks old) (record { lower = h.lower; key = h.block.key; upper = h.upper; start = t })
-  spot_at e l = record {
+  place_at : h.block.state ≡ Free → range.end ≤ h.block.key.end → IsPlaceOf search (blocks old) (record { lower = h.lower; key = h.block.key; upper = h.upper; start = t })
+  place_at e l = record {
     cut = h.at.cut ∙ ap (λ (v : Block). h.lower ++ v ∷ h.upper) (free_is e);
     in_gap = (h.at.inside.0, omega (arith, l, valid.some, is.size));
   }
@@ -261,18 +261,17 @@ module _ (sp : Range) (old new : Shape) (tiles : TilesSpace sp (blocks old)) (re
       (λ l. other_error NoPlace l.1)
       (λ l.
       let fits : range.end ≤ h.block.key.end = ⊎_elim (λ (x : h.block.key.end < range.end). absurd (l.0 (inl x))) (λ (x : range.end ≤ h.block.key.end). x) (cases_lt h.block.key.end range.end) in
-      settled_takes search request.size (blocks old) (blocks new) range (record { lower = h.lower; key = h.block.key; upper = h.upper; start = t }) found is.size (spot_at (sym e) fits) l.1)
+      settled_takes search request.size (blocks old) (blocks new) range (record { lower = h.lower; key = h.block.key; upper = h.upper; start = t }) found is.size (place_at (sym e) fits) l.1)
       k
 
   pub exact_allocation : count ≡ nodes_to_address t old → IsPathLength old count → IsAllocation request sp search.can_split old new (with_error range found) count
   exact_allocation exact path = record {
-    granted = subst (λ (n : ℕ). Grants (blocks_state sp (blocks old)) request (taken_range n (with_error range found)) (blocks_state sp (blocks new))) is.size
-        (exact_grants sp (blocks old) tiles request search valid is few t policy m (omega arith) (omega (arith, i.0), omega (arith, i.1)) (blocks new) found (blocks_unchanged old new found u) h);
+    granted = exact_grants sp (blocks old) tiles request search valid is few t policy m (omega arith) (omega (arith, i.0), omega (arith, i.1)) (blocks new) found (blocks_unchanged old new found u) h;
     taken = taken_by h.block.state refl h.settles;
     unchanged = unchanged_if range old new found u;
     exact = some_entered sp old request search t valid is policy count i m upto exact;
-    steps = steps_of request (blocks_state sp (blocks old)) old (taken_range request.size (with_error range found)) count (rw policy path.upto) (λ o. path.least);
-    search = exact_searches request t (height_of old) (blocks_state sp (blocks old)) (taken_range request.size (with_error range found)) count policy;
+    steps = steps_of request (blocks_state sp (blocks old)) old (taken_range (with_error range found)) count (rw policy path.upto) (λ o. path.least);
+    search = exact_searches request t (height_of old) (blocks_state sp (blocks old)) (taken_range (with_error range found)) count policy;
   }
 
 -- A start in the space is in the blocks.

@@ -1,17 +1,17 @@
 -- The allocation for a request in the tree of a space.
 use Rattle.std.specs.Prelude.{◌≡◌, ℕ, ◌+◌, ◌≤◌, List, Bool, Result, Ok, Err, OnErr, IfOk}
-use Rattle.vm_ranges.specs.Range.{Range, span}
+use Rattle.vm_ranges.specs.Range.{Range}
 use Rattle.vm_ranges.specs.Request.{Request}
 use Rattle.vm_ranges.specs.declared.error.Error.{Error}
 use Rattle.vm_ranges.specs.declared.error.Error.TheVariants.{Overflow, ResourceNotAvailable, InvalidStateTransition, OutOfMemory}
 use Rattle.vm_ranges.specs.declared.state.NodeState.TheVariants.{Allocated}
 use Rattle.vm_leaf.specs.declared.block.Block.{Block}
-use Rattle.vm_tree.specs.Allocation.{Spot, window_of, IsSpotIn, IsTakenAt}
+use Rattle.vm_tree.specs.Allocation.{ListPlace, window_of, IsPlaceIn, IsTakenAt}
 use Rattle.vm_tree.specs.Shape.{Shape, blocks, height_of}
 use Rattle.vm_tree.specs.declared.search.Search.{Search}
 use Rattle.vm_tree.specs.declared.search.Taken.{Taken}
 use Rattle.vm_tree.specs.declared.search.Refusal.{Refusal}
-use Rattle.vm_tree.specs.declared.search.Refusal.TheVariants.{NoPlace, Held, PastMax, OutOfMemory as NoMemory, TooHigh}
+use Rattle.vm_tree.specs.declared.search.Refusal.TheVariants.{NoPlace, Held, PastMax, OutOfMemory as NoMemory, CannotSplit}
 use Rattle.vm_engine.specs.Answer.{Grants}
 use Rattle.vm_engine.specs.Counts.GapSearch.{SearchesAligned}
 use Rattle.vm_engine.specs.Counts.NodeCounts.{nodes_of_request}
@@ -25,17 +25,17 @@ error_of range NoPlace = ResourceNotAvailable
 error_of range Held = InvalidStateTransition range Allocated
 error_of range PastMax = Overflow
 error_of range (NoMemory e) = OutOfMemory
-error_of range TooHigh = Overflow
+error_of range CannotSplit = Overflow
 
 -- The result of a search, with the error of its refusal.
 abbrev pub with_error : Range → Result Taken Refusal → Result Taken Error
 with_error range (Ok taken) = Ok taken
 with_error range (Err refusal) = Err (error_of range refusal)
 
--- The n addresses that were allocated, or the error.
-abbrev pub taken_range : ℕ → Result Taken Error → Result Range Error
-taken_range n (Ok taken) = Ok (span taken.start n)
-taken_range n (Err error) = Err error
+-- The range that was allocated, or the error.
+abbrev pub taken_range : Result Taken Error → Result Range Error
+taken_range (Ok taken) = Ok taken.range
+taken_range (Err error) = Err error
 
 -- The search is that of the request in this space.
 pub record IsSearchOf (request : Request) (space : Range) (search : Search) : Type 0 where
@@ -45,10 +45,10 @@ pub record IsSearchOf (request : Request) (space : Range) (search : Search) : Ty
 
 -- The search took a range out of a gap of the old blocks.
 pub record TakesRange (search : Search) (old new : List Block) (taken : Taken) : Type 0 where
-  pub spot : Spot
-  pub cut : IsSpotIn old spot
-  pub in_gap : (spot.key.start ≤ spot.start) × (spot.start + search.size ≤ spot.key.end + 1)
-  pub at : IsTakenAt search spot new taken
+  pub place : ListPlace
+  pub cut : IsPlaceIn old place
+  pub in_gap : (place.key.start ≤ place.start) × (place.start + search.size ≤ place.key.end + 1)
+  pub at : IsTakenAt search place new taken
 
 -- The n addresses were taken out of a gap. A gap is split only if that is allowed.
 pub record Takes (can_split : Bool) (n : ℕ) (old new : List Block) (taken : Taken) : Type 0 where
@@ -60,9 +60,9 @@ pub record Takes (can_split : Bool) (n : ℕ) (old new : List Block) (taken : Ta
 -- All about the result of a request: the range, the tree, and the nodes that were entered.
 pub record IsAllocation (request : Request) (space : Range) (can_split : Bool) (old new : Shape) (answer : Result Taken Error)
     (count : ℕ) : Type 0 where
-  pub granted : Grants (blocks_state space (blocks old)) request (taken_range request.size answer) (blocks_state space (blocks new))
+  pub granted : Grants (blocks_state space (blocks old)) request (taken_range answer) (blocks_state space (blocks new))
   pub taken : IfOk answer (λ taken. Takes can_split request.size (blocks old) (blocks new) taken)
   pub unchanged : OnErr answer (new ≡ old)
   pub exact : count ≡ nodes_of_request request space old
-  pub steps : IsGrantCount (height_of old) (blocks_state space (blocks old)) request (taken_range request.size answer) count
-  pub search : SearchesAligned (height_of old) (blocks_state space (blocks old)) request (taken_range request.size answer) count
+  pub steps : IsGrantCount (height_of old) (blocks_state space (blocks old)) request (taken_range answer) count
+  pub search : SearchesAligned (height_of old) (blocks_state space (blocks old)) request (taken_range answer) count

@@ -59,8 +59,7 @@ impl IntervalTree {
         self.gap_count += taken.added;
         self.gap_count -= 1;
         self.free_len -= constraint.size();
-        let range = RangeInclusive::between(taken.start, taken.start + (constraint.size() - 1));
-        (Ok(range), count.entered())
+        (Ok(taken.range), count.entered())
     }
 }
 
@@ -165,7 +164,7 @@ fn with_error(found: std::result::Result<Taken, Refusal>, range: &RangeInclusive
     Err(match refusal {
         Refusal::NoPlace => Error::ResourceNotAvailable,
         Refusal::Held => Error::InvalidStateTransition(*range, NodeState::Allocated),
-        Refusal::PastMax | Refusal::TooHigh => Error::Overflow,
+        Refusal::PastMax | Refusal::CannotSplit => Error::Overflow,
         Refusal::OutOfMemory(failed) => Error::from(failed),
     })
 }

@@ -50,9 +50,13 @@ impl IdAllocator {
         let mut ids = Vec::with_capacity(alloc, count)?;
         for _ in 0..count {
             let Ok(id) = self.allocate_id() else {
+                // At least `count` ids are free.
                 unreachable!()
             };
-            let Ok(()) = ids.push(id) else { unreachable!() };
+            let Ok(()) = ids.push(id) else {
+                // The list has the capacity for each id.
+                unreachable!()
+            };
         }
         Ok(ids)
     }

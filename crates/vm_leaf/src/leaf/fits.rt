@@ -8,7 +8,7 @@ ghost use Rattle.vm_leaf.specs.Fit.{FindsLowestFit, FindsHighestFit};
 ghost use Rattle.vm_leaf.specs.Windows.{cut_to, FindsFirstIn, FindsLastIn};
 
 use super::gaps::{lowest_one, without_lowest};
-use super::{Leaf, Place};
+use super::{Fit, Leaf};
 
 /// Returns the highest multiple of `alignment` that is at most `address`. `alignment` must be a power of two.
 #[inline(always)]
@@ -99,7 +99,7 @@ impl Leaf {
     /// Returns the lowest place for `size` free addresses from `low` to `high` at a multiple of `alignment`.
     ///
     /// `size` must not be 0, and `alignment` must be a power of two.
-    pub fn first_fit_in(&self, low: u64, high: u64, size: u64, alignment: u64) -> Option<Place>
+    pub fn first_fit_in(&self, low: u64, high: u64, size: u64, alignment: u64) -> Option<Fit>
         requires sized { 0 < size }
         requires aligned { IsAlignment alignment }
         ensures { FindsFirstIn (record { start = low; end = high }) size alignment self.now result }
@@ -108,7 +108,7 @@ impl Leaf {
         while gaps != 0 {
             let index = lowest_one(gaps);
             if let Some(start) = self.lowest_fit_at(index, low, high, size, alignment) {
-                return Some(Place { index, start });
+                return Some(Fit { index, start });
             }
             gaps = without_lowest(gaps);
         }
@@ -118,7 +118,7 @@ impl Leaf {
     /// Returns the highest place for `size` free addresses from `low` to `high` at a multiple of `alignment`.
     ///
     /// `size` must not be 0, and `alignment` must be a power of two.
-    pub fn last_fit_in(&self, low: u64, high: u64, size: u64, alignment: u64) -> Option<Place>
+    pub fn last_fit_in(&self, low: u64, high: u64, size: u64, alignment: u64) -> Option<Fit>
         requires sized { 0 < size }
         requires aligned { IsAlignment alignment }
         ensures { FindsLastIn (record { start = low; end = high }) size alignment self.now result }
@@ -126,7 +126,7 @@ impl Leaf {
         let mut upto = self.len();
         while let Some(index) = self.last_gap(upto) {
             if let Some(start) = self.highest_fit_at(index, low, high, size, alignment) {
-                return Some(Place { index, start });
+                return Some(Fit { index, start });
             }
             upto = index;
         }

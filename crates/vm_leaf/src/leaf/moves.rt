@@ -3,9 +3,9 @@ ghost use Rattle.std.specs.Prelude.{◌≡◌, ◌+◌, ◌-◌, ◌/◌, ◌<�
 ghost use Rattle.vm_ranges.specs.Range.{IsRange};
 ghost use Rattle.vm_ranges.specs.declared.state.NodeState.TheVariants.{Free};
 ghost use Rattle.vm_leaf.specs.Blocks.{nth, start_of, end_of, from_start, upto_end, with_parts, parts, IsRun};
-ghost use Rattle.vm_leaf.specs.Left.{IsLeft, added_by};
+ghost use Rattle.vm_leaf.specs.Rest.{IsRest, added_by};
 
-use super::{CAPACITY, Leaf, Left, MIN_BLOCKS, low_part, remove_between};
+use super::{CAPACITY, Leaf, MIN_BLOCKS, Rest, low_part, remove_between};
 use vm_ranges::RangeInclusive;
 
 /// Returns the number of blocks that a full leaf keeps when it is split to allocate a range of the gap `i`.
@@ -98,11 +98,11 @@ impl Leaf {
     /// The upper blocks are moved to `upper`, whose old blocks are lost. Both leaves have at least `MIN_BLOCKS`
     /// blocks then.
     #[tactic(auto, using(crate::proofs::Moves::splitting))]
-    pub fn split_full(&mut self, i: usize, range: RangeInclusive, left: Left, upper: &mut Leaf)
+    pub fn split_full(&mut self, i: usize, range: RangeInclusive, rest: Rest, upper: &mut Leaf)
         requires within { i < length self.old }
         requires free { (nth self.old i).state ≡ Free }
-        requires left { IsLeft left (nth self.old i).key range }
-        requires full { 32 < length self.old + added_by left }
+        requires rest { IsRest rest (nth self.old i).key range }
+        requires full { 32 < length self.old + added_by rest }
         ensures blocks { self.new ++ upper.new ≡ with_parts self.old i 1 (parts (nth self.old i).key range) }
         ensures low { (12 ≤ length self.new) × (length self.new ≤ 32) }
         ensures high { (12 ≤ length upper.new) × (length upper.new ≤ 32) }
@@ -110,9 +110,9 @@ impl Leaf {
         let at = kept(i, self.len());
         *upper = self.split_off(at);
         if i < at {
-            self.split(i, range, left);
+            self.split(i, range, rest);
         } else {
-            upper.split(i - at, range, left);
+            upper.split(i - at, range, rest);
         }
     }
 }

@@ -2,7 +2,7 @@
 ghost use Rattle.std.specs.Prelude.{◌≡◌, ◌<◌, ◌≤◌, [], length, slice_index_or};
 ghost use Rattle.std.specs.Iterator.{YieldsFirst, YieldsLast, item_count};
 ghost use Rattle.vm_leaf.specs.Leaf.{end_before};
-ghost use Rattle.vm_leaf.specs.Rest.{part_of};
+ghost use Rattle.vm_leaf.specs.Walks.{part_of};
 
 use super::{Leaf, state_in};
 use crate::block::Block;
@@ -23,7 +23,7 @@ pub struct Blocks<'a> {
 impl<'a> Model for Blocks<'a> {
     ghost use Rattle.std.specs.Prelude.{List};
     ghost use Rattle.vm_leaf.specs.Block.{Block};
-    ghost use Rattle.vm_leaf.specs.Rest.{blocks_left, AreLeft};
+    ghost use Rattle.vm_leaf.specs.Walks.{blocks_left, AreLeft};
 
     ghost Value = { List Block };
 
@@ -104,7 +104,7 @@ impl<'a> DoubleEndedIterator for Blocks<'a> {
 
     /// Removes and returns the highest block that is left.
     #[inline(always)]
-    #[tactic(auto, using(crate::proofs::Rests::lasts))]
+    #[tactic(auto, using(crate::proofs::Walks::lasts))]
     fn next_back(&mut self) -> Option<Block> {
         let Some((start, rest)) = self.starts.split_last() else {
             return None;

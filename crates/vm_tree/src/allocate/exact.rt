@@ -6,30 +6,29 @@ ghost use Rattle.vm_tree.specs.Links.{side, IsSummed};
 ghost use Rattle.vm_tree.specs.Growth.{IsSubtree, IsChild, GrowsIfOk, GrowsBelowIfOk, CanTakeFrom, LeavesLeaf};
 ghost use Rattle.vm_tree.specs.Allocation.{IsSearch, AllocatesExact};
 ghost use Rattle.vm_tree.specs.NodeCounts.{nodes_to_address};
-ghost use Rattle.vm_tree.specs.Placing.{IsStartIn, RefusesIn, FindsSiteOf};
+ghost use Rattle.vm_tree.specs.Placing.{IsStartIn, RefusesIn, FindsExactPlace};
 
-use super::place::{Site, leaf_of, place_at};
+use super::place::{Place, allocate_at, leaf_of};
 use crate::change::update;
 use crate::link::{Link, Node};
 use crate::search::{Refusal, Search, Taken};
 use crate::steps::Steps;
 use std::alloc::Global;
 use vm_leaf::{Block, Leaf};
-use vm_ranges::NodeState;
+use vm_ranges::{NodeState, RangeInclusive};
 
-/// Returns the reason why the range of a search that starts at `start` cannot be allocated in the block that
-/// contains `start`. Returns `None` if the range lies in a gap and in the window.
+/// Returns the reason why the range of a search cannot be allocated in the block that contains its start.
+/// Returns `None` if the range lies in a gap and in the window.
 #[inline(always)]
 #[tactic(auto, using(crate::proofs::Allocating::refusing))]
-fn refusal_in(block: &Block, start: u64, search: &Search) -> Option<Refusal>
-    requires search { IsSearch search.now }
-    requires fits { start + search.now.size ≤ MAX + 1 }
-    ensures { RefusesIn search.now start block.now result }
+fn refusal_in(block: &Block, range: &RangeInclusive, search: &Search) -> Option<Refusal>
+    requires { range.now.end + 1 ≡ range.now.start + search.now.size }
+    ensures { RefusesIn search.now range.now.start block.now result }
 {
-    let end = start + (search.size - 1);
+    let end = range.end();
     match block.state {
         NodeState::Allocated => {
-            if block.key.start() != start || block.key.end() != end {
+            if block.key.start() != range.start() || block.key.end() != end {
                 return Some(Refusal::NoPlace);
             }
             Some(Refusal::Held)
@@ -43,26 +42,23 @@ fn refusal_in(block: &Block, start: u64, search: &Search) -> Option<Refusal>
     }
 }
 
-/// Returns the site of the range of a search that starts at `start` in a leaf, or the reason why the range
+/// Returns the place of the range of a search that starts at `start` in a leaf, or the reason why the range
 /// cannot be allocated.
 #[inline(always)]
 #[tactic(auto, using(crate::proofs::Allocating::finding_exact))]
-fn site_from(leaf: &Leaf, start: u64, search: &Search) -> Result<Site, Refusal>
+fn exact_place(leaf: &Leaf, start: u64, search: &Search) -> Result<Place, Refusal>
     requires search { IsSearch search.now }
     requires start { IsStartIn search.now start leaf.now }
-    ensures { FindsSiteOf search.now start leaf.now result }
+    ensures { FindsExactPlace search.now start leaf.now result }
 {
     // Proof: `len` gives the facts of a leaf.
     let _len = leaf.len();
     let index = leaf.index_of(start);
     let block = leaf.block_at(index);
-    match refusal_in(&block, start, search) {
+    let range = RangeInclusive::between(start, start + (search.size - 1));
+    match refusal_in(&block, &range, search) {
         Some(refusal) => Err(refusal),
-        None => Ok(Site {
-            index,
-            gap: block.key,
-            start,
-        }),
+        None => Ok(Place::new(index, block.key, range)),
     }
 }
 
@@ -85,8 +81,8 @@ pub(crate) fn exact_in_leaf(
         (blocks (side tree.old)) (blocks (side tree.new)) result }
     ensures left { LeavesLeaf lone result tree.old tree.new }
 {
-    let site = site_from(leaf_of(tree), start, search)?;
-    place_at(tree, lone, &site, search, alloc)
+    let place = exact_place(leaf_of(tree), start, search)?;
+    allocate_at(tree, lone, place, search, alloc)
 }
 
 /// Allocates the range of a search that starts at `start` below a node.
@@ -135,6 +131,7 @@ pub(crate) fn exact_at(
 {
     count.enter();
     match tree {
+        // A hole is filled before the call returns.
         Link::Hole => unreachable!(),
         Link::Leaf { .. } => exact_in_leaf(tree, false, start, search, alloc),
         Link::Fork { node, .. } => {

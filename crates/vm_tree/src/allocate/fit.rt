@@ -9,11 +9,11 @@ ghost use Rattle.vm_tree.specs.Links.{side, IsSummed};
 ghost use Rattle.vm_tree.specs.Growth.{IsSubtree, IsChild, GrowsIfOk, GrowsBelowIfOk, CanTakeFrom, LeavesLeaf};
 ghost use Rattle.vm_tree.specs.Allocation.{window_of, IsSearch, HasNoPlace, AllocatesFit};
 ghost use Rattle.vm_tree.specs.NodeCounts.{may_fit_in, nodes_of_search};
-ghost use Rattle.vm_tree.specs.Placing.{IsClosestSite};
+ghost use Rattle.vm_tree.specs.Placing.{IsClosestFitIn, IsClosestLeafPlace};
 ghost use Rattle.vm_tree.specs.Ends.{opposite};
 ghost use Rattle.vm_tree.specs.Searching.{child_at, may_fit_in_child, nodes_of_child};
 
-use super::place::{Site, leaf_of, place_at};
+use super::place::{Place, allocate_at, leaf_of};
 use super::{fits, has_no_place};
 use crate::change::update;
 use crate::end::End;
@@ -21,24 +21,35 @@ use crate::link::{Link, Node};
 use crate::search::{Refusal, Search, Taken};
 use crate::steps::Steps;
 use std::alloc::Global;
-use vm_leaf::Leaf;
+use vm_leaf::{Fit, Leaf};
+use vm_ranges::RangeInclusive;
 
-/// Returns the site of the place of a search that is closest to an end of a leaf, or `None` if there is none.
+/// Returns the fit of a search that is closest to an end of a leaf, or `None` if there is none.
 #[inline(always)]
-#[tactic(auto, using(crate::proofs::Searched::sites))]
-fn site_in(leaf: &Leaf, end: End, search: &Search) -> Option<Site>
+#[tactic(auto, using(crate::proofs::Searched::no_place))]
+fn fit_in(leaf: &Leaf, end: End, search: &Search) -> Option<Fit>
     requires search { IsSearch search.now }
-    ensures { MatchOption result (HasNoPlace search.now leaf.now) (IsClosestSite end search.now leaf.now) }
+    ensures { MatchOption result (HasNoPlace search.now leaf.now) (IsClosestFitIn end search.now leaf.now) }
 {
-    let place = match end {
+    match end {
         End::First => leaf.first_fit_in(search.low, search.high, search.size, search.alignment),
         End::Last => leaf.last_fit_in(search.low, search.high, search.size, search.alignment),
-    }?;
-    Some(Site {
-        index: place.index,
-        gap: leaf.key_at(place.index),
-        start: place.start,
-    })
+    }
+}
+
+/// Returns the place of a search that is closest to an end of a leaf, or `None` if there is none.
+#[inline(always)]
+#[tactic(auto, using(crate::proofs::Searched::places))]
+fn place_in(leaf: &Leaf, end: End, search: &Search) -> Option<Place>
+    requires search { IsSearch search.now }
+    ensures { MatchOption result (HasNoPlace search.now leaf.now) (IsClosestLeafPlace end search.now leaf.now) }
+{
+    let fit = fit_in(leaf, end, search)?;
+    let gap = leaf.key_at(fit.index);
+    // Proof: `end` gives the facts of a range.
+    let _end = gap.end();
+    let range = RangeInclusive::between(fit.start, fit.start + (search.size - 1));
+    Some(Place::new(fit.index, gap, range))
 }
 
 /// Allocates the place of a search that is closest to an end, in a leaf. Unless the leaf is the whole tree
@@ -58,9 +69,9 @@ pub(crate) fn fit_in_leaf(
     ensures answer { AllocatesFit end search.now (blocks (side tree.old)) (blocks (side tree.new)) result }
     ensures left { LeavesLeaf lone result tree.old tree.new }
 {
-    match site_in(leaf_of(tree), end, search) {
+    match place_in(leaf_of(tree), end, search) {
         None => Err(Refusal::NoPlace),
-        Some(site) => place_at(tree, lone, &site, search, alloc),
+        Some(place) => allocate_at(tree, lone, place, search, alloc),
     }
 }
 
@@ -164,6 +175,7 @@ pub(crate) fn fit_at(
 {
     count.enter();
     match tree {
+        // A hole is filled before the call returns.
         Link::Hole => unreachable!(),
         Link::Leaf { .. } => fit_in_leaf(tree, false, end, search, alloc),
         Link::Fork { node, .. } => {

@@ -1,71 +1,60 @@
 //! The allocation of a range at a place in a leaf, which may split the leaf in two.
 ghost use Rattle.std.specs.Prelude.{◌≡◌, ◌+◌, ◌<◌, ◌≤◌, length, OnErr, IfOk, MatchBool};
-ghost use Rattle.vm_leaf.specs.Blocks.{with_parts, parts};
-ghost use Rattle.vm_leaf.specs.Left.{added_by};
+ghost use Rattle.vm_leaf.specs.Blocks.{IsTakenFrom};
+ghost use Rattle.vm_leaf.specs.Rest.{IsRest, added_by};
 ghost use Rattle.vm_tree.specs.Shape.{Tip, blocks, height_of};
 ghost use Rattle.vm_tree.specs.Links.{side, IsSummed};
 ghost use Rattle.vm_tree.specs.Growth.{Grows, CanTakeFrom, IsTakenLeaf, LeavesLeaf};
-ghost use Rattle.vm_tree.specs.Allocation.{IsSearch, SettlesAt};
-ghost use Rattle.vm_tree.specs.Placing.{spot_at, IsSiteIn, IsClaimIn, IsClaimAt, RefusesClaim};
+ghost use Rattle.vm_tree.specs.Allocation.{SettlesAt};
+ghost use Rattle.vm_tree.specs.Placing.{in_list, with_place, IsLeafPlace, IsPlaceFor, RefusesPlace};
 
 use crate::change::Change;
 use crate::link::{Link, Node, fork_link, into_leaf, leaf_link};
 use crate::search::{Refusal, Search, Taken};
 use std::alloc::{AllocError, Global};
 use std::mem;
-use vm_leaf::{Block, CAPACITY, Leaf, Left, Summary};
+use vm_leaf::{Block, CAPACITY, Leaf, Rest, Summary};
 use vm_ranges::{NodeState, RangeInclusive};
-
-/// A start in a gap of a leaf.
-#[derive(Clone, Copy)]
-pub(super) struct Site {
-    /// The index of the gap.
-    pub(super) index: usize,
-    pub(super) gap: RangeInclusive,
-    pub(super) start: u64,
-}
 
 /// A range that is to be allocated in a gap of a leaf.
 #[derive(Clone, Copy)]
-pub(crate) struct Claim {
+pub(super) struct Place {
     /// The index of the gap.
     index: usize,
     gap: RangeInclusive,
     range: RangeInclusive,
     /// The parts of the gap that stay free.
-    left: Left,
+    rest: Rest,
 }
 
-/// Returns the claim of the range of a search at a site.
-#[inline(always)]
-fn claim_at(site: &Site, search: &Search) -> Claim
-    requires search { IsSearch search.now }
-    requires from { site.now.gap.start ≤ site.now.start }
-    requires upto { site.now.start + search.now.size ≤ site.now.gap.end + 1 }
-    ensures { IsClaimAt search.now site.now result }
-{
-    // Proof: `end` gives the facts of a range.
-    let (gap, _end) = (site.gap, site.gap.end());
-    let range = RangeInclusive::between(site.start, site.start + (search.size - 1));
-    let left = Left::of(&gap, &range);
-    Claim {
-        index: site.index,
-        gap,
-        range,
-        left,
+impl Place {
+    /// Returns the place of a range in the gap with this index.
+    #[inline(always)]
+    pub(super) fn new(index: usize, gap: RangeInclusive, range: RangeInclusive) -> Place
+        requires { IsTakenFrom gap range }
+        ensures same { (result.index ≡ index) × (result.gap ≡ gap) × (result.range ≡ range) }
+        ensures rest { IsRest result.rest gap range }
+    {
+        let rest = Rest::of(&gap, &range);
+        Place {
+            index,
+            gap,
+            range,
+            rest,
+        }
     }
 }
 
-/// Returns the reason why a claim of a search cannot be granted, or `None` if it can.
+/// Returns the reason why the range of a place cannot be allocated, or `None` if it can.
 #[inline(always)]
-fn refusal_of(claim: &Claim, search: &Search) -> Option<Refusal>
-    ensures { RefusesClaim search.now claim.now result }
+fn refusal_of(place: &Place, search: &Search) -> Option<Refusal>
+    ensures { RefusesPlace search.now place.now result }
 {
-    if claim.range.end() == u64::MAX {
+    if place.range.end() == u64::MAX {
         return Some(Refusal::PastMax);
     }
-    if claim.left.added() > 0 && !search.can_split {
-        return Some(Refusal::TooHigh);
+    if place.rest.added() > 0 && !search.can_split {
+        return Some(Refusal::CannotSplit);
     }
     None
 }
@@ -80,37 +69,38 @@ pub(super) fn leaf_of(tree: &Link) -> &Leaf
 {
     match tree {
         Link::Leaf { leaf, .. } => leaf,
-        Link::Fork { node, .. } => {
+        Link::Fork { node: _node, .. } => {
             // Proof: a node that is read has two children.
-            let node: &Node = node;
-            let _at = node.at;
+            let _open: &Node = _node;
+            let _at = _open.at;
+            // The link is one to a leaf.
             unreachable!()
         }
+        // A hole is filled before the call returns.
         Link::Hole => unreachable!(),
     }
 }
 
 /// Returns `true` if the leaf has room for the parts that stay free.
 #[inline(always)]
-fn has_room(leaf: &Leaf, left: Left) -> bool
-    ensures { MatchBool result (length leaf.now + added_by left ≤ 32) (32 < length leaf.now + added_by left) }
+fn has_room(leaf: &Leaf, rest: Rest) -> bool
+    ensures { MatchBool result (length leaf.now + added_by rest ≤ 32) (32 < length leaf.now + added_by rest) }
 {
-    leaf.len() + left.added() as usize <= CAPACITY
+    leaf.len() + rest.added() as usize <= CAPACITY
 }
 
-/// Allocates the range of a claim in a leaf that has room for it. Unless the leaf is the whole tree (`lone`),
+/// Allocates the range of a place in a leaf that has room for it. Unless the leaf is the whole tree (`lone`),
 /// it updates what is stored beside the link. Returns the change.
 ///
 /// A gap that is neither the longest nor has the most alignments does not count for the summary.
 #[inline(always)]
 #[tactic(auto, using(crate::proofs::Trees::sizes, crate::proofs::AllocatedLeaves::taking))]
-fn take(tree: &mut Link, lone: bool, claim: &Claim) -> Change
+fn take(tree: &mut Link, lone: bool, place: &Place) -> Change
     requires leaf { height_of (side tree.old) < 2 }
     requires can { CanTakeFrom lone tree.old }
-    requires claim { IsClaimIn (blocks (side tree.old)) claim.now }
-    requires room { length (blocks (side tree.old)) + added_by claim.now.left ≤ 32 }
-    ensures blocks { blocks (side tree.new)
-        ≡ with_parts (blocks (side tree.old)) claim.now.index 1 (parts claim.now.gap claim.now.range) }
+    requires place { IsLeafPlace (blocks (side tree.old)) place.now }
+    requires room { length (blocks (side tree.old)) + added_by place.now.rest ≤ 32 }
+    ensures blocks { blocks (side tree.new) ≡ with_place (blocks (side tree.old)) place.now }
     ensures taken { IsTakenLeaf lone result tree.old tree.new }
 {
     match tree {
@@ -120,13 +110,13 @@ fn take(tree: &mut Link, lone: bool, claim: &Claim) -> Change
             leaf,
         } => {
             let leaf: &mut Leaf = leaf;
-            leaf.split(claim.index, claim.range, claim.left);
+            leaf.split(place.index, place.range, place.rest);
             // Proof: `len` gives the facts of a leaf.
             let _len = leaf.len();
             if lone {
                 return Change::Structure;
             }
-            let gap = Summary::of_gap(&claim.gap);
+            let gap = Summary::of_gap(&place.gap);
             if gap.longest < *longest && gap.alignments < *alignments {
                 return Change::Nothing;
             }
@@ -138,20 +128,22 @@ fn take(tree: &mut Link, lone: bool, claim: &Claim) -> Change
             *alignments = new.alignments;
             Change::FreeOnly
         }
-        Link::Fork { node, .. } => {
+        Link::Fork { node: _node, .. } => {
             // Proof: a node that is read has two children.
-            let node: &Node = node;
-            let _at = node.at;
+            let _open: &Node = _node;
+            let _at = _open.at;
+            // The link is one to a leaf.
             unreachable!()
         }
+        // A hole is filled before the call returns.
         Link::Hole => unreachable!(),
     }
 }
 
 /// Allocates a box for a leaf and one for a node.
-fn spare_boxes(claim: &Claim, alloc: Global) -> Result<(Box<Leaf>, Box<Node>), AllocError> {
+fn spare_boxes(place: &Place, alloc: Global) -> Result<(Box<Leaf>, Box<Node>), AllocError> {
     let block = Block {
-        key: claim.range,
+        key: place.range,
         state: NodeState::Allocated,
     };
     let leaf = Box::new(alloc, Leaf::single(block))?;
@@ -164,81 +156,78 @@ fn spare_boxes(claim: &Claim, alloc: Global) -> Result<(Box<Leaf>, Box<Node>), A
     Ok((leaf, node))
 }
 
-/// Allocates the range of a claim in a leaf that has no room for it, which is split in two. Returns the
+/// Allocates the range of a place in a leaf that has no room for it, which is split in two. Returns the
 /// link to the node over both leaves.
-fn halve(mut lower: Box<Leaf>, claim: &Claim, mut upper: Box<Leaf>, spare: Box<Node>) -> Link
-    requires claim { IsClaimIn lower.value claim.now }
-    requires full { 32 < length lower.value + added_by claim.now.left }
+fn halve(mut lower: Box<Leaf>, place: &Place, mut upper: Box<Leaf>, spare: Box<Node>) -> Link
+    requires place { IsLeafPlace lower.value place.now }
+    requires full { 32 < length lower.value + added_by place.now.rest }
     ensures blocks { blocks (side result)
-        ≡ with_parts lower.value claim.now.index 1 (parts claim.now.gap claim.now.range) }
+        ≡ with_place lower.value place.now }
     ensures grows { Grows (Tip lower.value) (side result) }
     ensures node { 2 ≤ height_of (side result) }
     ensures summed { IsSummed result }
 {
     let low: &mut Leaf = &mut lower;
     let high: &mut Leaf = &mut upper;
-    low.split_full(claim.index, claim.range, claim.left, high);
+    low.split_full(place.index, place.range, place.rest, high);
     let at = high.key_at(0).start();
     fork_link(leaf_link(lower), at, spare, leaf_link(upper))
 }
 
-/// Allocates the range of a claim in a leaf that has no room for it. The link becomes one to a node.
+/// Allocates the range of a place in a leaf that has no room for it. The link becomes one to a node.
 ///
 /// All memory is allocated before the first change.
 #[inline(never)]
-fn split_leaf(tree: &mut Link, claim: Claim, alloc: Global) -> Result<(), AllocError>
+fn split_leaf(tree: &mut Link, place: Place, alloc: Global) -> Result<(), AllocError>
     requires leaf { height_of (side tree.old) < 2 }
     requires some { 0 < length (blocks (side tree.old)) }
-    requires claim { IsClaimIn (blocks (side tree.old)) claim }
-    requires full { 32 < length (blocks (side tree.old)) + added_by claim.left }
+    requires place { IsLeafPlace (blocks (side tree.old)) place }
+    requires full { 32 < length (blocks (side tree.old)) + added_by place.rest }
     ensures blocks { IfOk result (λ _. blocks (side tree.new)
-        ≡ with_parts (blocks (side tree.old)) claim.index 1 (parts claim.gap claim.range)) }
+        ≡ with_place (blocks (side tree.old)) place) }
     ensures grows { IfOk result (λ _. Grows (side tree.old) (side tree.new) × IsSummed tree.new
         × (2 ≤ height_of (side tree.new))) }
     ensures unchanged { OnErr result (tree.new ≡ tree.old) }
 {
-    let (upper, node) = spare_boxes(&claim, alloc)?;
+    let (upper, node) = spare_boxes(&place, alloc)?;
     let lower = into_leaf(mem::replace(tree, Link::Hole));
-    *tree = halve(lower, &claim, upper, node);
+    *tree = halve(lower, &place, upper, node);
     Ok(())
 }
 
-/// Allocates the range of a search at a site in a leaf, which may become a node with two leaves. Unless the
-/// leaf is the whole tree (`lone`), it updates what is stored beside the link.
+/// Allocates the range of a place in a leaf, which may become a node with two leaves. Unless the leaf is the
+/// whole tree (`lone`), it updates what is stored beside the link.
 #[inline(always)]
 #[tactic(auto, using(crate::proofs::AllocatedLeaves::placing))]
-pub(super) fn place_at(
+pub(super) fn allocate_at(
     tree: &mut Link,
     lone: bool,
-    site: &Site,
+    place: Place,
     search: &Search,
     alloc: Global,
 ) -> Result<Taken, Refusal>
-    requires search { IsSearch search.now }
     requires leaf { height_of (side tree.old) < 2 }
     requires can { CanTakeFrom lone tree.old }
-    requires site { IsSiteIn search.now.size (blocks (side tree.old)) site.now }
+    requires place { IsPlaceFor search.now.size (blocks (side tree.old)) place }
     ensures answer { SettlesAt search.now
-        (spot_at (blocks (side tree.old)) site.now) (blocks (side tree.new)) result }
+        (in_list (blocks (side tree.old)) place) (blocks (side tree.new)) result }
     ensures left { LeavesLeaf lone result tree.old tree.new }
 {
-    let leaf = leaf_of(tree);
-    let claim = claim_at(site, search);
-    if let Some(refusal) = refusal_of(&claim, search) {
+    if let Some(refusal) = refusal_of(&place, search) {
         return Err(refusal);
     }
-    let (start, added) = (site.start, claim.left.added());
-    if has_room(leaf, claim.left) {
-        let change = take(tree, lone, &claim);
+    let (range, added) = (place.range, place.rest.added());
+    if has_room(leaf_of(tree), place.rest) {
+        let change = take(tree, lone, &place);
         return Ok(Taken {
-            start,
+            range,
             added,
             change,
         });
     }
-    split_leaf(tree, claim, alloc)?;
+    split_leaf(tree, place, alloc)?;
     Ok(Taken {
-        start,
+        range,
         added,
         change: Change::Structure,
     })

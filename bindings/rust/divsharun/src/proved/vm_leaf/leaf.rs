@@ -5,12 +5,12 @@
 mod ends;
 mod fits;
 mod gaps;
-mod left;
 mod moves;
+mod rest;
 mod summary;
 mod walk;
 
-pub(in crate::proved) use self::left::Left;
+pub(in crate::proved) use self::rest::Rest;
 pub(in crate::proved) use self::summary::Summary;
 pub(in crate::proved) use self::walk::Blocks;
 use crate::proved::vm_leaf::block::Block;
@@ -38,12 +38,12 @@ pub(in crate::proved) struct Leaf {
     starts: [u64; CAPACITY],
 }
 
-/// A place in a leaf: the index of a block and an address in it.
+/// A fit in a leaf: the index of a gap, and the first address of a range in it.
 #[derive(Clone, Copy)]
-pub(in crate::proved) struct Place {
-    /// The index of the block.
+pub(in crate::proved) struct Fit {
+    /// The index of the gap.
     pub(in crate::proved) index: usize,
-    /// The address, which is the first one of the range to allocate.
+    /// The first address of the range.
     pub(in crate::proved) start: u64,
 }
 
@@ -140,8 +140,6 @@ impl Leaf {
     /// Returns the first address of block `i`.
     #[inline(always)]
     fn start_at(&self, i: usize) -> u64 {
-        // Proof: a field is read before the index is checked.
-        let _len = self.len;
         self.starts[i]
     }
 
@@ -203,8 +201,6 @@ impl Leaf {
     /// The block with the address must be one of the `4 * step` blocks starting at `low`.
     #[inline(always)]
     fn narrow_to_quarter(&self, low: usize, step: usize, address: u64) -> usize {
-        // Proof: `len` gives the facts of a leaf.
-        let _len = self.len();
         let first = self.one_if_up_to(low + step, address);
         let second = self.one_if_up_to(low + 2 * step, address);
         let third = self.one_if_up_to(low + 3 * step, address);
@@ -278,19 +274,17 @@ impl Leaf {
         self.len = len - n + 1;
     }
 
-    /// Allocates `range`, which must be in the gap `i`. `left` is the parts of the gap that stay free.
+    /// Allocates `range`, which must be in the gap `i`. `rest` is the parts of the gap that stay free.
     ///
     /// The leaf must have room for these parts. If it has not, [`Leaf::split_full`] allocates the range.
     #[inline(always)]
-    pub(in crate::proved) fn split(&mut self, i: usize, range: RangeInclusive, left: Left) {
-        // Proof: `len` gives the facts of a leaf.
-        let _len = self.len();
+    pub(in crate::proved) fn split(&mut self, i: usize, range: RangeInclusive, rest: Rest) {
         let (start, end) = (range.start(), range.end());
-        match left {
-            Left::Nothing => self.take(i),
-            Left::Before => self.split_upper(i, start),
-            Left::After => self.split_lower(i, end + 1),
-            Left::Both => self.split_middle(i, start, end + 1),
+        match rest {
+            Rest::Nothing => self.take(i),
+            Rest::Before => self.split_upper(i, start),
+            Rest::After => self.split_lower(i, end + 1),
+            Rest::Both => self.split_middle(i, start, end + 1),
         }
     }
 
@@ -309,8 +303,6 @@ impl Leaf {
     /// Replaces the `n` blocks starting at `i` with one gap, and returns its range.
     #[inline(always)]
     fn join_blocks(&mut self, i: usize, n: usize) -> RangeInclusive {
-        // Proof: `len` gives the facts of a leaf.
-        let _len = self.len();
         let gap = RangeInclusive::between(self.start_at(i), self.end_at(i + n - 1));
         self.merge(i, n);
         gap
@@ -319,8 +311,6 @@ impl Leaf {
     /// Frees the allocated block `i`, joins it with its free neighbours, and returns the range of the gap.
     #[inline(always)]
     pub(in crate::proved) fn join(&mut self, i: usize) -> RangeInclusive {
-        // Proof: `len` gives the facts of a leaf.
-        let _len = self.len();
         let after = self.is_free_at(i + 1);
         if i > 0 && self.is_free_at(i - 1) {
             if after {

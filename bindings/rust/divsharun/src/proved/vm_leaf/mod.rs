@@ -6,4 +6,4 @@ mod block;
 mod leaf;
 
 pub(in crate::proved) use block::Block;
-pub(in crate::proved) use leaf::{Blocks, Leaf, Left, Place, Summary, CAPACITY, MIN_BLOCKS};
+pub(in crate::proved) use leaf::{Blocks, Fit, Leaf, Rest, Summary, CAPACITY, MIN_BLOCKS};

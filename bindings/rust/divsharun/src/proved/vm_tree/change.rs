@@ -32,6 +32,7 @@ pub(in crate::proved::vm_tree) fn free_summary(node: &Node) -> Summary {
 #[inline(always)]
 fn refresh(tree: &mut Link) -> Change {
     match tree {
+        // The link is one to a node.
         Link::Hole | Link::Leaf { .. } => unreachable!(),
         Link::Fork {
             longest,

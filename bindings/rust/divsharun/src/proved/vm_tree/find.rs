@@ -9,6 +9,7 @@ use crate::proved::vm_tree::link::{Link, Node};
 /// above all blocks the last one. It follows one path from the root.
 pub(in crate::proved::vm_tree) fn leaf_at(tree: &Link, address: u64) -> &Leaf {
     match tree {
+        // A hole is filled before the call returns.
         Link::Hole => unreachable!(),
         Link::Leaf { leaf, .. } => leaf,
         Link::Fork { node, .. } => {

@@ -41,8 +41,6 @@ fn join_at(leaf: &mut Leaf, i: usize) -> Gap {
 /// Frees a held range of a leaf. Returns `None` if the leaf does not hold it.
 #[inline(always)]
 pub(in crate::proved::vm_tree) fn free_in(leaf: &mut Leaf, key: &RangeInclusive) -> Option<Gap> {
-    // Proof: `len` gives the facts of a leaf.
-    let _len = leaf.len();
     let (start, end) = (key.start(), key.end());
     let i = leaf.index_of(start);
     let block = leaf.block_at(i);
@@ -149,6 +147,7 @@ fn drop_end_in(longest: &mut u64, alignments: &mut u32, leaf: &mut Leaf, end: En
 fn end_block(tree: &Link, end: End, count: &mut Steps) -> Block {
     count.enter();
     match tree {
+        // A hole is filled before the call returns.
         Link::Hole => unreachable!(),
         Link::Leaf { leaf, .. } => {
             let leaf: &Leaf = leaf;
@@ -168,6 +167,7 @@ fn end_block(tree: &Link, end: End, count: &mut Steps) -> Block {
 fn drop_end(tree: &mut Link, end: End, count: &mut Steps) -> Change {
     count.enter();
     match tree {
+        // A hole is filled before the call returns.
         Link::Hole => unreachable!(),
         Link::Leaf {
             longest,
@@ -193,6 +193,7 @@ fn drop_end(tree: &mut Link, end: End, count: &mut Steps) -> Change {
 fn free_end(tree: &mut Link, end: End, start: u64, last: u64, count: &mut Steps) -> Option<Freed> {
     count.enter();
     match tree {
+        // A hole is filled before the call returns.
         Link::Hole => unreachable!(),
         Link::Leaf {
             longest,
@@ -294,6 +295,7 @@ pub(in crate::proved::vm_tree) fn free_at(
 ) -> Option<Freed> {
     count.enter();
     match tree {
+        // A hole is filled before the call returns.
         Link::Hole => unreachable!(),
         Link::Leaf {
             longest,

@@ -39,12 +39,11 @@ pub(in crate::proved::vm_tree) enum Link {
 pub(in crate::proved::vm_tree) fn height(link: &Link) -> u8 {
     match link {
         Link::Hole | Link::Leaf { .. } => 1,
-        Link::Fork { height, node, .. } => {
-            // Proof: a node that is read has two children.
-            let node: &Node = node;
-            let _at = node.at;
-            *height
-        }
+        Link::Fork {
+            height,
+            node: _node,
+            ..
+        } => *height,
     }
 }
 
@@ -123,6 +122,7 @@ impl Node {
 pub(in crate::proved::vm_tree) fn into_fork(link: Link) -> Box<Node> {
     match link {
         Link::Fork { node, .. } => node,
+        // The link is one to a node.
         Link::Leaf { .. } | Link::Hole => unreachable!(),
     }
 }
@@ -131,12 +131,11 @@ pub(in crate::proved::vm_tree) fn into_fork(link: Link) -> Box<Node> {
 pub(in crate::proved::vm_tree) fn into_leaf(link: Link) -> Box<Leaf> {
     match link {
         Link::Leaf { leaf, .. } => leaf,
-        Link::Fork { node, .. } => {
-            // Proof: a node that is read has two children.
-            let open: &Node = &node;
-            let _at = open.at;
+        Link::Fork { node: _node, .. } => {
+            // The link is one to a leaf.
             unreachable!()
         }
+        // A hole is filled before the call returns.
         Link::Hole => unreachable!(),
     }
 }

@@ -22,12 +22,7 @@ fn leaf_len(link: &Link) -> usize {
             let leaf: &Leaf = leaf;
             leaf.len()
         }
-        Link::Fork { node, .. } => {
-            // Proof: a node that is read has two children.
-            let node: &Node = node;
-            let _at = node.at;
-            CAPACITY
-        }
+        Link::Fork { node: _node, .. } => CAPACITY,
     }
 }
 

@@ -2,6 +2,7 @@
 
 //! A search for a place, and its results.
 
+use crate::proved::vm_ranges::RangeInclusive;
 use crate::proved::vm_tree::change::Change;
 use crate::rattle::AllocError;
 
@@ -23,8 +24,7 @@ pub(in crate::proved) struct Search {
 /// A range that was allocated.
 #[derive(Clone, Copy)]
 pub(in crate::proved) struct Taken {
-    /// The first address.
-    pub(in crate::proved) start: u64,
+    pub(in crate::proved) range: RangeInclusive,
     /// The number of blocks that the tree has more than before: 0, 1 or 2.
     pub(in crate::proved) added: u64,
     /// The change of the summary of the subtree.
@@ -43,7 +43,7 @@ pub(in crate::proved) enum Refusal {
     /// An allocation of memory failed, with this error.
     OutOfMemory(AllocError),
     /// The range does not fill its gap, and gaps cannot be split.
-    TooHigh,
+    CannotSplit,
 }
 
 impl From<AllocError> for Refusal {

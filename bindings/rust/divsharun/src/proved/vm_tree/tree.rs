@@ -16,7 +16,7 @@ use crate::proved::vm_tree::copy::{append_blocks, copy};
 use crate::proved::vm_tree::end::End;
 use crate::proved::vm_tree::find::block_at;
 use crate::proved::vm_tree::free::{free_at, free_in};
-use crate::proved::vm_tree::link::{height, leaf_link, Link, Node};
+use crate::proved::vm_tree::link::{height, leaf_link, Link};
 use crate::proved::vm_tree::search::{Refusal, Search, Taken};
 use crate::proved::vm_tree::steps::Steps;
 use crate::proved::vm_tree::walk::Walk;
@@ -123,10 +123,7 @@ impl Tree {
                 let gap = free_in(leaf, key)?;
                 Some(gap.joined)
             }
-            Link::Fork { node, .. } => {
-                // Proof: a node that is read has two children.
-                let node: &Node = node;
-                let _at = node.at;
+            Link::Fork { node: _node, .. } => {
                 let freed = free_at(&mut self.root, key, count)?;
                 Some(freed.joined)
             }
@@ -136,7 +133,7 @@ impl Tree {
     /// Allocates the range of a search that starts at `start`.
     ///
     /// It returns `Held` if exactly this range is allocated, and otherwise `NoPlace` if the range is not in a
-    /// gap and in the window. It returns `PastMax` if the range ends at `u64::MAX`, `TooHigh` if gaps cannot be
+    /// gap and in the window. It returns `PastMax` if the range ends at `u64::MAX`, `CannotSplit` if gaps cannot be
     /// split, and `OutOfMemory` if an allocation fails. An error changes nothing. A range that fills its gap
     /// allocates no memory, and any other range allocates nothing or one leaf and one node.
     ///
@@ -150,23 +147,19 @@ impl Tree {
         count: &mut Steps,
     ) -> Result<Taken, Refusal> {
         match &mut self.root {
+            // A hole is filled before the call returns.
             Link::Hole => unreachable!(),
             Link::Leaf { .. } => {
                 count.enter();
                 exact_in_leaf(&mut self.root, true, start, search, alloc)
             }
-            Link::Fork { node, .. } => {
-                // Proof: a node that is read has two children.
-                let node: &Node = node;
-                let _at = node.at;
-                exact_at(&mut self.root, start, search, alloc, count)
-            }
+            Link::Fork { node: _node, .. } => exact_at(&mut self.root, start, search, alloc, count),
         }
     }
 
     /// Allocates the place of a search that is closest to an end: the lowest or the highest place.
     ///
-    /// It returns `NoPlace` if there is none, `PastMax` if the range there ends at `u64::MAX`, `TooHigh` if gaps
+    /// It returns `NoPlace` if there is none, `PastMax` if the range there ends at `u64::MAX`, `CannotSplit` if gaps
     /// cannot be split, and `OutOfMemory` if an allocation fails. An error changes nothing. A range that fills
     /// its gap allocates no memory, and any other range allocates nothing or one leaf and one node.
     ///
@@ -179,16 +172,14 @@ impl Tree {
         count: &mut Steps,
     ) -> Result<Taken, Refusal> {
         match &mut self.root {
+            // A hole is filled before the call returns.
             Link::Hole => unreachable!(),
             Link::Leaf { .. } => {
                 let answer = fit_in_leaf(&mut self.root, true, end, search, alloc);
                 count_place(&answer, count);
                 answer
             }
-            Link::Fork { node, .. } => {
-                // Proof: a node that is read has two children.
-                let node: &Node = node;
-                let _at = node.at;
+            Link::Fork { node: _node, .. } => {
                 if !fits(&self.root, search) {
                     return Err(Refusal::NoPlace);
                 }

@@ -17,8 +17,6 @@ struct Span {
 /// Returns the index of the first block that ends at an address or above it.
 #[inline(always)]
 fn first_from(leaf: &Leaf, address: u64) -> usize {
-    // Proof: `len` gives the facts of a leaf.
-    let _len = leaf.len();
     if address <= leaf.start() {
         return 0;
     }
@@ -37,8 +35,6 @@ fn count_up_to(leaf: &Leaf, address: u64) -> usize {
 
 /// Returns an iterator over the blocks of a leaf that have an address in common with a span.
 fn part_within<'a>(leaf: &'a Leaf, span: Span) -> Blocks<'a> {
-    // Proof: `len` gives the facts of a leaf.
-    let _len = leaf.len();
     if leaf.end() < span.start || span.end < leaf.start() {
         return Blocks::none();
     }

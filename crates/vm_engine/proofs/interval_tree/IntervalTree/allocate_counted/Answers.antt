@@ -1,7 +1,6 @@
-use Rattle.std.proofs.Common.{◌≡◌, ℕ, ◌+◌, ◌-◌, Ok, Err, arith, refl, ap, ◌∙◌}
-use Rattle.vm_ranges.specs.Range.{span}
+use Rattle.std.proofs.Common.{Ok, Err, arith, refl}
 use Rattle.vm_engine.proofs.Counts.Balanced.{balanced_tree}
-use Rattle.vm_engine.proofs.Placing.Counted.{refused_state, search_tree, taken_new, taken_gaps, taken_clear, granted_state, granted_tree, range_is}
+use Rattle.vm_engine.proofs.Placing.Counted.{refused_state, search_tree, taken_new, taken_gaps, taken_clear, granted_state, granted_tree}
 use Rattle.vm_engine.proofs.Trees.CountedTrees.{held_fits}
 use Rattle.vm_engine.proofs.interval_tree.IntervalTree.allocate_counted.Goals as goal
 
@@ -33,21 +32,14 @@ invariant_of-self-2 c =
     let valid = c.in-Ok.ensures.valid in
     taken_new c.self.inside.tree c.allocate_in.new.tree c.self.inside.space c.self.inside.held_count c.self.inside.gap_count c.self.inside.free_len c.args.constraint c.allocate_in.new.count c.self.invariant c.in-Ok.taken valid.some c.in-Ok.ensures.answer c.in-Ok.taken.added c.size.result refl c.size.ensures.value
 
--- The range that is returned.
-range : (c : goal.After-entered-2) → c.between-range.result ≡ span c.in-Ok.taken.start c.args.constraint.size
-range c =
-    let valid = c.in-Ok.ensures.valid in
-    c.between-range.ensures ∙ ap (λ (n : ℕ). record { start = c.in-Ok.taken.start; end = c.in-Ok.taken.start + (n - 1) }) c.size-2.ensures.value
-    ∙ range_is c.in-Ok.taken.start c.args.constraint.size valid.some
-
 pub returns-clause-answer : goal.returns-clause-answer
 returns-clause-answer c =
     let valid = c.in-Ok.ensures.valid in
-    rw (← c.self.view_is, range c) (granted_tree c.self.inside.tree c.allocate_in.new.tree c.self.inside.space c.self.inside.held_count c.self.inside.gap_count c.self.inside.free_len c.args.constraint c.allocate_in.new.count c.self.invariant c.in-Ok.taken valid.some c.in-Ok.ensures.answer)
+    rw (← c.self.view_is) (granted_tree c.self.inside.tree c.allocate_in.new.tree c.self.inside.space c.self.inside.held_count c.self.inside.gap_count c.self.inside.free_len c.args.constraint c.allocate_in.new.count c.self.invariant c.in-Ok.taken valid.some c.in-Ok.ensures.answer)
 
 pub returns-clause-search : goal.returns-clause-search
 returns-clause-search c =
-    rw (← c.self.view_is, range c, c.entered-2.ensures) (search_tree c.self.inside.tree c.allocate_in.new.tree c.self.inside.space c.self.inside.held_count c.self.inside.gap_count c.self.inside.free_len c.args.constraint c.allocate_in.new.count c.self.invariant (Ok c.in-Ok.taken) c.in-Ok.ensures.answer)
+    rw (← c.self.view_is, c.entered-2.ensures) (search_tree c.self.inside.tree c.allocate_in.new.tree c.self.inside.space c.self.inside.held_count c.self.inside.gap_count c.self.inside.free_len c.args.constraint c.allocate_in.new.count c.self.invariant (Ok c.in-Ok.taken) c.in-Ok.ensures.answer)
 
 pub returns-clause-state : goal.returns-clause-state
 returns-clause-state c =

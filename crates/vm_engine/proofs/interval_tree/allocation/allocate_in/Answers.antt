@@ -4,7 +4,7 @@ use Rattle.vm_tree.specs.Shape.{blocks}
 use Rattle.vm_engine.specs.Answer.{SPLIT_LIMIT_MIN_HELD}
 use Rattle.vm_engine.specs.Tree.Blocks.{held_of}
 use Rattle.vm_engine.proofs.Placing.Requests.{fit_allocation}
-use Rattle.vm_engine.proofs.Placing.Spots.{policy_of}
+use Rattle.vm_engine.proofs.Placing.Places.{policy_of}
 use Rattle.vm_engine.proofs.Trees.Ends.{space_range}
 use Rattle.vm_engine.proofs.interval_tree.allocation.allocate_in.Goals.{in-FirstMatch, in-LastMatch}
 use Rattle.vm_engine.proofs.interval_tree.allocation.allocate_in.Goals as goal

@@ -1,5 +1,5 @@
 use Rattle.std.proofs.Common.{arith}
-use Rattle.vm_leaf.proofs.Rests.{part_is, part_left}
+use Rattle.vm_leaf.proofs.Walks.{part_is, part_left}
 use Rattle.vm_leaf.proofs.leaf.Leaf.part.Goals as goal
 
 pub invariant_of-result : goal.invariant_of-result

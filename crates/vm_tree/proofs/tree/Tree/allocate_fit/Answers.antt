@@ -20,7 +20,7 @@ invariant_of-self c =
 pub invariant_of-self-in-Fork : goal.invariant_of-self-in-Fork
 invariant_of-self-in-Fork c =
     let e = c.fit_at.ensures in
-    let v = c.in-Fork.node.value in
+    let v = c.in-Fork._node.value in
     let new = c.fit_at.new.tree in
     let a = fit_allocates c.args.search.now c.requires.search (blocks v) (blocks (side new)) c.fit_at.result c.args.end e.answer in
     fork_after c.args.search.now c.self.inside.root new c.self.invariant v (ap side c.in-Fork.is) c.fit_at.result a e.change e.summed
@@ -48,9 +48,9 @@ pub returns-else-not-fits-clause-bounds : goal.returns-else-not-fits-clause-boun
 returns-else-not-fits-clause-bounds c =
     let seek = c.args.search.now in
     let w = window_of seek in
-    let v = c.in-Fork.node.value in
+    let v = c.in-Fork._node.value in
     let q : side c.self.inside.root ≡ v = ap side c.in-Fork.is in
-    let tall : 2 ≤ height_of v = omega (arith, ap height_of (c.node.view_is ∙ c.deref-node.ensures), high (side c.node.inside.left)) in
+    let tall : 2 ≤ height_of v = omega (arith, ap height_of (c._open.view_is ∙ c.deref-open.ensures), high (side c._open.inside.left)) in
     let count = c.fit_at.new.count in
     let exact : count ≡ nodes_to_fit c.args.end (window_of seek) seek.size seek.alignment v = omega (arith, c.fit_at.ensures.count, c.requires.count, fit_tall c.args.end seek c.requires.search v tall) in
     subst (λ (v : Shape). IsSearchCount w seek.size seek.alignment (gaps_without_place w seek.size seek.alignment (blocks v)) v count) (sym q ∙ c.self.view_is)
@@ -59,9 +59,9 @@ returns-else-not-fits-clause-bounds c =
 pub returns-else-not-fits-clause-path : goal.returns-else-not-fits-clause-path
 returns-else-not-fits-clause-path c = λ n.
     let seek = c.args.search.now in
-    let v = c.in-Fork.node.value in
+    let v = c.in-Fork._node.value in
     let q : side c.self.inside.root ≡ v = ap side c.in-Fork.is in
-    let tall : 2 ≤ height_of v = omega (arith, ap height_of (c.node.view_is ∙ c.deref-node.ensures), high (side c.node.inside.left)) in
+    let tall : 2 ≤ height_of v = omega (arith, ap height_of (c._open.view_is ∙ c.deref-open.ensures), high (side c._open.inside.left)) in
     let count = c.fit_at.new.count in
     let exact : count ≡ nodes_to_fit c.args.end (window_of seek) seek.size seek.alignment v = omega (arith, c.fit_at.ensures.count, c.requires.count, fit_tall c.args.end seek c.requires.search v tall) in
     let h = fit_least c.args.end seek c.requires.search v (subst IsTree q c.self.invariant.tree) (subst (λ (v : Shape). IsRun (blocks v)) q c.self.invariant.run) (subst (λ (v : Shape). height_of v < 49) q c.self.invariant.height) count exact

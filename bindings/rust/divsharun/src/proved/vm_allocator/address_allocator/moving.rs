@@ -64,6 +64,7 @@ impl AddressAllocator {
         start: u64,
     ) -> Result<RangeInclusive> {
         let Ok(request) = Constraint::new(key.len(), 1, AllocPolicy::ExactMatch(start)) else {
+            // A range has a valid length, and 1 divides its start.
             unreachable!()
         };
         self.move_constraint(alloc, key, request)

@@ -31,6 +31,7 @@ impl AddressAllocator {
             match tree.allocate(alloc, *request) {
                 Ok(range) => {
                     let Ok(()) = ranges.push(range) else {
+                        // The list has the capacity for each range.
                         unreachable!()
                     };
                 }

@@ -30,8 +30,7 @@ impl IntervalTree {
         self.gap_count += taken.added;
         self.gap_count -= 1;
         self.free_len -= constraint.size();
-        let range = RangeInclusive::between(taken.start, taken.start + (constraint.size() - 1));
-        (Ok(range), count.entered())
+        (Ok(taken.range), count.entered())
     }
 }
 
@@ -44,8 +43,6 @@ fn allocate_in(
     alloc: Global,
     count: &mut Steps,
 ) -> Result<Taken> {
-    // Proof: `height` gives the bounds of the tree.
-    let _height = tree.height();
     let search = search_of(constraint, space, can_split);
     let end = match constraint.policy() {
         AllocPolicy::FirstMatch => End::First,
@@ -114,7 +111,7 @@ fn with_error(
     Err(match refusal {
         Refusal::NoPlace => Error::ResourceNotAvailable,
         Refusal::Held => Error::InvalidStateTransition(*range, NodeState::Allocated),
-        Refusal::PastMax | Refusal::TooHigh => Error::Overflow,
+        Refusal::PastMax | Refusal::CannotSplit => Error::Overflow,
         Refusal::OutOfMemory(failed) => Error::from(failed),
     })
 }

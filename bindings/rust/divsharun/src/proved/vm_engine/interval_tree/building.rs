@@ -53,8 +53,6 @@ fn build(
     count: u64,
     left: u64,
 ) -> core::result::Result<IntervalTree, AllocError> {
-    // Proof: this shows that the space is a range.
-    let _end = space.end();
     Ok(IntervalTree {
         tree: Tree::with_held(alloc, count, space, held)?,
         space,

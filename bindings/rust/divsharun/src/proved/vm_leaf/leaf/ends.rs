@@ -19,8 +19,6 @@ impl Leaf {
     /// Returns the first address.
     #[inline(always)]
     pub(in crate::proved) fn start(&self) -> u64 {
-        // Proof: `len` gives the facts of a leaf.
-        let _len = self.len();
         self.start_at(0)
     }
 

@@ -3,7 +3,7 @@
 //! The lowest and the highest place for a request in a leaf, within a window of addresses.
 
 use super::gaps::{lowest_one, without_lowest};
-use super::{Leaf, Place};
+use super::{Fit, Leaf};
 
 /// Returns the highest multiple of `alignment` that is at most `address`. `alignment` must be a power of two.
 #[inline(always)]
@@ -83,12 +83,12 @@ impl Leaf {
         high: u64,
         size: u64,
         alignment: u64,
-    ) -> Option<Place> {
+    ) -> Option<Fit> {
         let mut gaps = self.gaps();
         while gaps != 0 {
             let index = lowest_one(gaps);
             if let Some(start) = self.lowest_fit_at(index, low, high, size, alignment) {
-                return Some(Place { index, start });
+                return Some(Fit { index, start });
             }
             gaps = without_lowest(gaps);
         }
@@ -104,11 +104,11 @@ impl Leaf {
         high: u64,
         size: u64,
         alignment: u64,
-    ) -> Option<Place> {
+    ) -> Option<Fit> {
         let mut upto = self.len();
         while let Some(index) = self.last_gap(upto) {
             if let Some(start) = self.highest_fit_at(index, low, high, size, alignment) {
-                return Some(Place { index, start });
+                return Some(Fit { index, start });
             }
             upto = index;
         }

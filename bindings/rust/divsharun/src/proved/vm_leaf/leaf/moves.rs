@@ -2,7 +2,7 @@
 
 //! Changes at the ends of a leaf, and blocks that move between neighbouring leaves.
 
-use super::{low_part, remove_between, Leaf, Left, CAPACITY, MIN_BLOCKS};
+use super::{low_part, remove_between, Leaf, Rest, CAPACITY, MIN_BLOCKS};
 use crate::proved::vm_ranges::RangeInclusive;
 
 /// Returns the number of blocks that a full leaf keeps when it is split to allocate a range of the gap `i`.
@@ -71,15 +71,15 @@ impl Leaf {
         &mut self,
         i: usize,
         range: RangeInclusive,
-        left: Left,
+        rest: Rest,
         upper: &mut Leaf,
     ) {
         let at = kept(i, self.len());
         *upper = self.split_off(at);
         if i < at {
-            self.split(i, range, left);
+            self.split(i, range, rest);
         } else {
-            upper.split(i - at, range, left);
+            upper.split(i - at, range, rest);
         }
     }
 }

@@ -51,8 +51,6 @@ impl Leaf {
     /// Returns the summary of the gaps of the leaf.
     #[inline(never)]
     pub(in crate::proved) fn summary(&self) -> Summary {
-        // Proof: `len` gives the facts of a leaf.
-        let _len = self.len();
         let (mut longest, mut reached) = (0, 0);
         let mut gaps = self.gaps();
         while gaps != 0 {

@@ -32,8 +32,6 @@ impl Leaf {
         if from == to {
             return Blocks::none();
         }
-        // Proof: a field is read before the index is checked.
-        let _len = self.len;
         Blocks {
             starts: &self.starts[from..to],
             end: self.end_at(to - 1),

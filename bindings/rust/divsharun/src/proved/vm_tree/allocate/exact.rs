@@ -2,23 +2,23 @@
 
 //! The allocation of a range that starts at a given address.
 
-use super::place::{leaf_of, place_at, Site};
+use super::place::{allocate_at, leaf_of, Place};
 use crate::proved::vm_leaf::{Block, Leaf};
-use crate::proved::vm_ranges::NodeState;
+use crate::proved::vm_ranges::{NodeState, RangeInclusive};
 use crate::proved::vm_tree::change::update;
 use crate::proved::vm_tree::link::{Link, Node};
 use crate::proved::vm_tree::search::{Refusal, Search, Taken};
 use crate::proved::vm_tree::steps::Steps;
 use crate::rattle::Global;
 
-/// Returns the reason why the range of a search that starts at `start` cannot be allocated in the block that
-/// contains `start`. Returns `None` if the range lies in a gap and in the window.
+/// Returns the reason why the range of a search cannot be allocated in the block that contains its start.
+/// Returns `None` if the range lies in a gap and in the window.
 #[inline(always)]
-fn refusal_in(block: &Block, start: u64, search: &Search) -> Option<Refusal> {
-    let end = start + (search.size - 1);
+fn refusal_in(block: &Block, range: &RangeInclusive, search: &Search) -> Option<Refusal> {
+    let end = range.end();
     match block.state {
         NodeState::Allocated => {
-            if block.key.start() != start || block.key.end() != end {
+            if block.key.start() != range.start() || block.key.end() != end {
                 return Some(Refusal::NoPlace);
             }
             Some(Refusal::Held)
@@ -32,21 +32,16 @@ fn refusal_in(block: &Block, start: u64, search: &Search) -> Option<Refusal> {
     }
 }
 
-/// Returns the site of the range of a search that starts at `start` in a leaf, or the reason why the range
+/// Returns the place of the range of a search that starts at `start` in a leaf, or the reason why the range
 /// cannot be allocated.
 #[inline(always)]
-fn site_from(leaf: &Leaf, start: u64, search: &Search) -> Result<Site, Refusal> {
-    // Proof: `len` gives the facts of a leaf.
-    let _len = leaf.len();
+fn exact_place(leaf: &Leaf, start: u64, search: &Search) -> Result<Place, Refusal> {
     let index = leaf.index_of(start);
     let block = leaf.block_at(index);
-    match refusal_in(&block, start, search) {
+    let range = RangeInclusive::between(start, start + (search.size - 1));
+    match refusal_in(&block, &range, search) {
         Some(refusal) => Err(refusal),
-        None => Ok(Site {
-            index,
-            gap: block.key,
-            start,
-        }),
+        None => Ok(Place::new(index, block.key, range)),
     }
 }
 
@@ -60,8 +55,8 @@ pub(in crate::proved::vm_tree) fn exact_in_leaf(
     search: &Search,
     alloc: Global,
 ) -> Result<Taken, Refusal> {
-    let site = site_from(leaf_of(tree), start, search)?;
-    place_at(tree, lone, &site, search, alloc)
+    let place = exact_place(leaf_of(tree), start, search)?;
+    allocate_at(tree, lone, place, search, alloc)
 }
 
 /// Allocates the range of a search that starts at `start` below a node.
@@ -88,6 +83,7 @@ pub(in crate::proved::vm_tree) fn exact_at(
 ) -> Result<Taken, Refusal> {
     count.enter();
     match tree {
+        // A hole is filled before the call returns.
         Link::Hole => unreachable!(),
         Link::Leaf { .. } => exact_in_leaf(tree, false, start, search, alloc),
         Link::Fork { node, .. } => {

@@ -5,9 +5,10 @@
 //! Both are one search from an end: from the lowest address up, or from the highest one down. The near child
 //! of a node is the one at that end.
 
-use super::place::{leaf_of, place_at, Site};
+use super::place::{allocate_at, leaf_of, Place};
 use super::{fits, has_no_place};
-use crate::proved::vm_leaf::Leaf;
+use crate::proved::vm_leaf::{Fit, Leaf};
+use crate::proved::vm_ranges::RangeInclusive;
 use crate::proved::vm_tree::change::update;
 use crate::proved::vm_tree::end::End;
 use crate::proved::vm_tree::link::{Link, Node};
@@ -15,18 +16,22 @@ use crate::proved::vm_tree::search::{Refusal, Search, Taken};
 use crate::proved::vm_tree::steps::Steps;
 use crate::rattle::Global;
 
-/// Returns the site of the place of a search that is closest to an end of a leaf, or `None` if there is none.
+/// Returns the fit of a search that is closest to an end of a leaf, or `None` if there is none.
 #[inline(always)]
-fn site_in(leaf: &Leaf, end: End, search: &Search) -> Option<Site> {
-    let place = match end {
+fn fit_in(leaf: &Leaf, end: End, search: &Search) -> Option<Fit> {
+    match end {
         End::First => leaf.first_fit_in(search.low, search.high, search.size, search.alignment),
         End::Last => leaf.last_fit_in(search.low, search.high, search.size, search.alignment),
-    }?;
-    Some(Site {
-        index: place.index,
-        gap: leaf.key_at(place.index),
-        start: place.start,
-    })
+    }
+}
+
+/// Returns the place of a search that is closest to an end of a leaf, or `None` if there is none.
+#[inline(always)]
+fn place_in(leaf: &Leaf, end: End, search: &Search) -> Option<Place> {
+    let fit = fit_in(leaf, end, search)?;
+    let gap = leaf.key_at(fit.index);
+    let range = RangeInclusive::between(fit.start, fit.start + (search.size - 1));
+    Some(Place::new(fit.index, gap, range))
 }
 
 /// Allocates the place of a search that is closest to an end, in a leaf. Unless the leaf is the whole tree
@@ -39,9 +44,9 @@ pub(in crate::proved::vm_tree) fn fit_in_leaf(
     search: &Search,
     alloc: Global,
 ) -> Result<Taken, Refusal> {
-    match site_in(leaf_of(tree), end, search) {
+    match place_in(leaf_of(tree), end, search) {
         None => Err(Refusal::NoPlace),
-        Some(site) => place_at(tree, lone, &site, search, alloc),
+        Some(place) => allocate_at(tree, lone, place, search, alloc),
     }
 }
 
@@ -84,8 +89,6 @@ fn fit_below(
     alloc: Global,
     count: &mut Steps,
 ) -> Result<Taken, Refusal> {
-    // Proof: a node that is read has two children.
-    let _at = node.at;
     let answer = fit_in_child(node, end, end, search, alloc, count);
     if has_no_place(&answer) {
         return fit_in_child(node, end.opposite(), end, search, alloc, count);
@@ -104,6 +107,7 @@ pub(in crate::proved::vm_tree) fn fit_at(
 ) -> Result<Taken, Refusal> {
     count.enter();
     match tree {
+        // A hole is filled before the call returns.
         Link::Hole => unreachable!(),
         Link::Leaf { .. } => fit_in_leaf(tree, false, end, search, alloc),
         Link::Fork { node, .. } => {

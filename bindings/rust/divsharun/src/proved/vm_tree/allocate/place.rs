@@ -2,7 +2,7 @@
 
 //! The allocation of a range at a place in a leaf, which may split the leaf in two.
 
-use crate::proved::vm_leaf::{Block, Leaf, Left, Summary, CAPACITY};
+use crate::proved::vm_leaf::{Block, Leaf, Rest, Summary, CAPACITY};
 use crate::proved::vm_ranges::{NodeState, RangeInclusive};
 use crate::proved::vm_tree::change::Change;
 use crate::proved::vm_tree::link::{fork_link, into_leaf, leaf_link, Link, Node};
@@ -11,49 +11,39 @@ use crate::rattle::Box;
 use crate::rattle::{AllocError, Global};
 use core::mem;
 
-/// A start in a gap of a leaf.
-#[derive(Clone, Copy)]
-pub(super) struct Site {
-    /// The index of the gap.
-    pub(super) index: usize,
-    pub(super) gap: RangeInclusive,
-    pub(super) start: u64,
-}
-
 /// A range that is to be allocated in a gap of a leaf.
 #[derive(Clone, Copy)]
-pub(in crate::proved::vm_tree) struct Claim {
+pub(super) struct Place {
     /// The index of the gap.
     index: usize,
     gap: RangeInclusive,
     range: RangeInclusive,
     /// The parts of the gap that stay free.
-    left: Left,
+    rest: Rest,
 }
 
-/// Returns the claim of the range of a search at a site.
-#[inline(always)]
-fn claim_at(site: &Site, search: &Search) -> Claim {
-    // Proof: `end` gives the facts of a range.
-    let (gap, _end) = (site.gap, site.gap.end());
-    let range = RangeInclusive::between(site.start, site.start + (search.size - 1));
-    let left = Left::of(&gap, &range);
-    Claim {
-        index: site.index,
-        gap,
-        range,
-        left,
+impl Place {
+    /// Returns the place of a range in the gap with this index.
+    #[inline(always)]
+    pub(super) fn new(index: usize, gap: RangeInclusive, range: RangeInclusive) -> Place {
+        let rest = Rest::of(&gap, &range);
+        Place {
+            index,
+            gap,
+            range,
+            rest,
+        }
     }
 }
 
-/// Returns the reason why a claim of a search cannot be granted, or `None` if it can.
+/// Returns the reason why the range of a place cannot be allocated, or `None` if it can.
 #[inline(always)]
-fn refusal_of(claim: &Claim, search: &Search) -> Option<Refusal> {
-    if claim.range.end() == u64::MAX {
+fn refusal_of(place: &Place, search: &Search) -> Option<Refusal> {
+    if place.range.end() == u64::MAX {
         return Some(Refusal::PastMax);
     }
-    if claim.left.added() > 0 && !search.can_split {
-        return Some(Refusal::TooHigh);
+    if place.rest.added() > 0 && !search.can_split {
+        return Some(Refusal::CannotSplit);
     }
     None
 }
@@ -63,28 +53,27 @@ fn refusal_of(claim: &Claim, search: &Search) -> Option<Refusal> {
 pub(super) fn leaf_of(tree: &Link) -> &Leaf {
     match tree {
         Link::Leaf { leaf, .. } => leaf,
-        Link::Fork { node, .. } => {
-            // Proof: a node that is read has two children.
-            let node: &Node = node;
-            let _at = node.at;
+        Link::Fork { node: _node, .. } => {
+            // The link is one to a leaf.
             unreachable!()
         }
+        // A hole is filled before the call returns.
         Link::Hole => unreachable!(),
     }
 }
 
 /// Returns `true` if the leaf has room for the parts that stay free.
 #[inline(always)]
-fn has_room(leaf: &Leaf, left: Left) -> bool {
-    leaf.len() + left.added() as usize <= CAPACITY
+fn has_room(leaf: &Leaf, rest: Rest) -> bool {
+    leaf.len() + rest.added() as usize <= CAPACITY
 }
 
-/// Allocates the range of a claim in a leaf that has room for it. Unless the leaf is the whole tree (`lone`),
+/// Allocates the range of a place in a leaf that has room for it. Unless the leaf is the whole tree (`lone`),
 /// it updates what is stored beside the link. Returns the change.
 ///
 /// A gap that is neither the longest nor has the most alignments does not count for the summary.
 #[inline(always)]
-fn take(tree: &mut Link, lone: bool, claim: &Claim) -> Change {
+fn take(tree: &mut Link, lone: bool, place: &Place) -> Change {
     match tree {
         Link::Leaf {
             longest,
@@ -92,13 +81,11 @@ fn take(tree: &mut Link, lone: bool, claim: &Claim) -> Change {
             leaf,
         } => {
             let leaf: &mut Leaf = leaf;
-            leaf.split(claim.index, claim.range, claim.left);
-            // Proof: `len` gives the facts of a leaf.
-            let _len = leaf.len();
+            leaf.split(place.index, place.range, place.rest);
             if lone {
                 return Change::Structure;
             }
-            let gap = Summary::of_gap(&claim.gap);
+            let gap = Summary::of_gap(&place.gap);
             if gap.longest < *longest && gap.alignments < *alignments {
                 return Change::Nothing;
             }
@@ -110,20 +97,19 @@ fn take(tree: &mut Link, lone: bool, claim: &Claim) -> Change {
             *alignments = new.alignments;
             Change::FreeOnly
         }
-        Link::Fork { node, .. } => {
-            // Proof: a node that is read has two children.
-            let node: &Node = node;
-            let _at = node.at;
+        Link::Fork { node: _node, .. } => {
+            // The link is one to a leaf.
             unreachable!()
         }
+        // A hole is filled before the call returns.
         Link::Hole => unreachable!(),
     }
 }
 
 /// Allocates a box for a leaf and one for a node.
-fn spare_boxes(claim: &Claim, alloc: Global) -> Result<(Box<Leaf>, Box<Node>), AllocError> {
+fn spare_boxes(place: &Place, alloc: Global) -> Result<(Box<Leaf>, Box<Node>), AllocError> {
     let block = Block {
-        key: claim.range,
+        key: place.range,
         state: NodeState::Allocated,
     };
     let leaf = Box::new(alloc, Leaf::single(block))?;
@@ -136,54 +122,52 @@ fn spare_boxes(claim: &Claim, alloc: Global) -> Result<(Box<Leaf>, Box<Node>), A
     Ok((leaf, node))
 }
 
-/// Allocates the range of a claim in a leaf that has no room for it, which is split in two. Returns the
+/// Allocates the range of a place in a leaf that has no room for it, which is split in two. Returns the
 /// link to the node over both leaves.
-fn halve(mut lower: Box<Leaf>, claim: &Claim, mut upper: Box<Leaf>, spare: Box<Node>) -> Link {
+fn halve(mut lower: Box<Leaf>, place: &Place, mut upper: Box<Leaf>, spare: Box<Node>) -> Link {
     let low: &mut Leaf = &mut lower;
     let high: &mut Leaf = &mut upper;
-    low.split_full(claim.index, claim.range, claim.left, high);
+    low.split_full(place.index, place.range, place.rest, high);
     let at = high.key_at(0).start();
     fork_link(leaf_link(lower), at, spare, leaf_link(upper))
 }
 
-/// Allocates the range of a claim in a leaf that has no room for it. The link becomes one to a node.
+/// Allocates the range of a place in a leaf that has no room for it. The link becomes one to a node.
 ///
 /// All memory is allocated before the first change.
 #[inline(never)]
-fn split_leaf(tree: &mut Link, claim: Claim, alloc: Global) -> Result<(), AllocError> {
-    let (upper, node) = spare_boxes(&claim, alloc)?;
+fn split_leaf(tree: &mut Link, place: Place, alloc: Global) -> Result<(), AllocError> {
+    let (upper, node) = spare_boxes(&place, alloc)?;
     let lower = into_leaf(mem::replace(tree, Link::Hole));
-    *tree = halve(lower, &claim, upper, node);
+    *tree = halve(lower, &place, upper, node);
     Ok(())
 }
 
-/// Allocates the range of a search at a site in a leaf, which may become a node with two leaves. Unless the
-/// leaf is the whole tree (`lone`), it updates what is stored beside the link.
+/// Allocates the range of a place in a leaf, which may become a node with two leaves. Unless the leaf is the
+/// whole tree (`lone`), it updates what is stored beside the link.
 #[inline(always)]
-pub(super) fn place_at(
+pub(super) fn allocate_at(
     tree: &mut Link,
     lone: bool,
-    site: &Site,
+    place: Place,
     search: &Search,
     alloc: Global,
 ) -> Result<Taken, Refusal> {
-    let leaf = leaf_of(tree);
-    let claim = claim_at(site, search);
-    if let Some(refusal) = refusal_of(&claim, search) {
+    if let Some(refusal) = refusal_of(&place, search) {
         return Err(refusal);
     }
-    let (start, added) = (site.start, claim.left.added());
-    if has_room(leaf, claim.left) {
-        let change = take(tree, lone, &claim);
+    let (range, added) = (place.range, place.rest.added());
+    if has_room(leaf_of(tree), place.rest) {
+        let change = take(tree, lone, &place);
         return Ok(Taken {
-            start,
+            range,
             added,
             change,
         });
     }
-    split_leaf(tree, claim, alloc)?;
+    split_leaf(tree, place, alloc)?;
     Ok(Taken {
-        start,
+        range,
         added,
         change: Change::Structure,
     })

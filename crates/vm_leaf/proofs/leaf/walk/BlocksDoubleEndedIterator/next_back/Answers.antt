@@ -1,6 +1,6 @@
 use Rattle.std.proofs.Common.{length, ap, ◌∙◌, arith}
 use Rattle.std.proofs.lemmas.List.{length_push}
-use Rattle.vm_leaf.proofs.Rests.{last_of_parts}
+use Rattle.vm_leaf.proofs.Walks.{last_of_parts}
 use Rattle.vm_leaf.proofs.leaf.walk.BlocksDoubleEndedIterator.next_back.Goals as goal
 
 pub returns-clause-goes : goal.returns-clause-goes

@@ -1,6 +1,6 @@
 use Rattle.std.proofs.Common.{length, sym, ap, subst, arith}
 use Rattle.vm_ranges.specs.Range.{IsRange}
-use Rattle.vm_leaf.proofs.Rests.{first_of_parts, first_range, rest_left}
+use Rattle.vm_leaf.proofs.Walks.{first_of_parts, first_range, rest_left}
 use Rattle.vm_leaf.proofs.leaf.walk.BlocksIterator.next.Goals as goal
 
 pub between-key-requires : goal.between-key-requires

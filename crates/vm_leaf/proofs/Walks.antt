@@ -9,7 +9,7 @@ use Rattle.vm_leaf.specs.Block.{Block}
 use Rattle.vm_leaf.specs.Blocks.{nth, blank, IsLeaf}
 use Rattle.vm_leaf.specs.Leaf.{tiling, end_before, blocks_of, IsInside}
 use Rattle.vm_leaf.specs.States.{states_in}
-use Rattle.vm_leaf.specs.Rest.{part_of, blocks_left, AreLeft}
+use Rattle.vm_leaf.specs.Walks.{part_of, blocks_left, AreLeft}
 use Rattle.vm_leaf.specs.declared.leaf.Leaf.TheInside.{Inside}
 use Rattle.vm_leaf.proofs.Tilings.{length-tiling, tiling-append, same_tiling, take-tiling, drop-tiling}
 use Rattle.vm_leaf.proofs.Masks.{high_states}

@@ -16,18 +16,18 @@ use Rattle.vm_engine.specs.Address.{AddressState, AreClear}
 use Rattle.vm_engine.specs.Answer.{SPLIT_LIMIT_MIN_HELD, ByStart, ByExactPolicy, AllocatesAt, Grants}
 use Rattle.vm_engine.specs.Windows.{window_in}
 use Rattle.vm_engine.specs.Tree.Blocks.{held_of, blocks_state, TilesSpace}
-use Rattle.vm_tree.specs.Allocation.{window_of, Spot, SettlesAt, SettlesIn, IsBlockAt, AllocatesExact}
+use Rattle.vm_tree.specs.Allocation.{window_of, ListPlace, SettlesAt, SettlesIn, IsBlockAt, AllocatesExact}
 use Rattle.vm_tree.specs.declared.search.Search.{Search}
 use Rattle.vm_tree.specs.declared.search.Taken.{Taken}
 use Rattle.vm_tree.specs.declared.search.Refusal.{Refusal}
-use Rattle.vm_tree.specs.declared.search.Refusal.TheVariants.{NoPlace, Held, PastMax, TooHigh, OutOfMemory as NoMemory}
+use Rattle.vm_tree.specs.declared.search.Refusal.TheVariants.{NoPlace, Held, PastMax, CannotSplit, OutOfMemory as NoMemory}
 use Rattle.vm_engine.proofs.Blocks.PlainWords.{held_contains}
 use Rattle.vm_engine.proofs.Blocks.OneList.{same_block}
 use Rattle.vm_engine.proofs.Results.Requests.{request_in, with_policy}
 use Rattle.vm_engine.proofs.Choosing.ExactStart.{aligned_if, named, IsWithin, in_space, as_cut, clear_in_block, free_not_held, exact_held, exact_other, exact_short, exact_at_end, exact_taken}
 use Rattle.vm_engine.proofs.Choosing.ExactWindows.{narrow_grants}
 use Rattle.vm_engine.specs.Engine.Allocation.{with_error, taken_range, IsSearchOf}
-use Rattle.vm_engine.proofs.Placing.Spots.{allocated, no_memory, too_high}
+use Rattle.vm_engine.proofs.Placing.Places.{allocated, no_memory, cannot_split}
 
 -- The range of the request lies in the window if it is clear, and its start does.
 abbrev FitsWindow : Option Range → ℕ → ℕ → AddressState → Type 0
@@ -95,7 +95,7 @@ module _ (sp : Range) (old : List Block) (tiles : TilesSpace sp old) (search : S
     held_is : b.state ≡ Allocated → AreClear search.size (blocks_state sp old) t → ⊥
     held_is e c = let k = clear_in_block sp old b search.size t here c in let bad = sym e ∙ k.0 in cc
 
-    held_grants : b.state ≡ Allocated → (new : List Block) (answer : Result Taken Refusal) → OnErr answer (new ≡ old) → IfElse (b.key ≡ span t search.size) (answer ≡ Err Held) (answer ≡ Err NoPlace) → Grants (blocks_state sp old) (request_in w search.size a (ExactMatch t)) (taken_range search.size (with_error (span t search.size) answer)) (blocks_state sp new)
+    held_grants : b.state ≡ Allocated → (new : List Block) (answer : Result Taken Refusal) → OnErr answer (new ≡ old) → IfElse (b.key ≡ span t search.size) (answer ≡ Err Held) (answer ≡ Err NoPlace) → Grants (blocks_state sp old) (request_in w search.size a (ExactMatch t)) (taken_range (with_error (span t search.size) answer)) (blocks_state sp new)
     held_grants e new answer u h =
         ⊎_elim
         (λ l.
@@ -109,8 +109,8 @@ module _ (sp : Range) (old : List Block) (tiles : TilesSpace sp old) (search : S
     free_is : b.state ≡ Free → b ≡ free_block b.key
     free_is e = same_block b (free_block b.key) refl e
 
-    abbrev spot : Spot
-    spot = record { lower = lower; key = b.key; upper = upper; start = t }
+    abbrev place : ListPlace
+    place = record { lower = lower; key = b.key; upper = upper; start = t }
 
     module _ (e : b.state ≡ Free) where
       short_grants : (w : Option Range) → IsWindowOf w sp search → ((b.key.end < t + search.size - 1) → Grants (blocks_state sp old) (request_in w search.size a (ExactMatch t)) (Err ResourceNotAvailable) (blocks_state sp old)) → t + search.size - 1 ≤ b.key.end → search.high < t + search.size - 1 → Grants (blocks_state sp old) (request_in w search.size a (ExactMatch t)) (Err ResourceNotAvailable) (blocks_state sp old)
@@ -140,17 +140,17 @@ module _ (sp : Range) (old : List Block) (tiles : TilesSpace sp old) (search : S
         taken_grants : (answer : Result Range Error) (new : AddressState) → t + search.size - 1 < MAX → AllocatesAt (blocks_state sp old) (span t search.size) answer new → Grants (blocks_state sp old) (request_in w search.size a (ExactMatch t)) answer new
         taken_grants answer new k h = if_in_window o answer new (exact_taken sp old b search.size a t new answer here e l k d h)
 
-        spot_grants : (new : List Block) (answer : Result Taken Refusal) → OnErr answer (new ≡ old) → SettlesAt search spot new answer → Grants (blocks_state sp old) (request_in w search.size a (ExactMatch t)) (taken_range search.size (with_error (span t search.size) answer)) (blocks_state sp new)
-        spot_grants new (Ok taken) u h = taken_grants (Ok (span taken.start search.size)) (blocks_state sp new) h.below (allocated sp old tiles search z spot is_cut in_gap few new taken h)
-        spot_grants new (Err NoPlace) u h = absurd h
-        spot_grants new (Err Held) u h = absurd h
-        spot_grants new (Err PastMax) u h = rw u (if_in_window o (Err Overflow) (blocks_state sp old) (exact_at_end sp old b search.size a t here e l h))
-        spot_grants new (Err (NoMemory e)) u h = rw u (taken_grants (Err OutOfMemory) (blocks_state sp old) h.0.below (no_memory sp old tiles search z spot is_cut in_gap few h.0 h.1))
-        spot_grants new (Err TooHigh) u h = rw u (taken_grants (Err Overflow) (blocks_state sp old) h.0.below (too_high sp old tiles search z spot is_cut in_gap few h.0 h.1))
+        place_grants : (new : List Block) (answer : Result Taken Refusal) → OnErr answer (new ≡ old) → SettlesAt search place new answer → Grants (blocks_state sp old) (request_in w search.size a (ExactMatch t)) (taken_range (with_error (span t search.size) answer)) (blocks_state sp new)
+        place_grants new (Ok taken) u h = taken_grants (Ok taken.range) (blocks_state sp new) h.below (allocated sp old tiles search z place is_cut in_gap few new taken h)
+        place_grants new (Err NoPlace) u h = absurd h
+        place_grants new (Err Held) u h = absurd h
+        place_grants new (Err PastMax) u h = rw u (if_in_window o (Err Overflow) (blocks_state sp old) (exact_at_end sp old b search.size a t here e l h))
+        place_grants new (Err (NoMemory e)) u h = rw u (taken_grants (Err OutOfMemory) (blocks_state sp old) h.0.below (no_memory sp old tiles search z place is_cut in_gap few h.0 h.1))
+        place_grants new (Err CannotSplit) u h = rw u (taken_grants (Err Overflow) (blocks_state sp old) h.0.below (cannot_split sp old tiles search z place is_cut in_gap few h.0 h.1))
 
       free_grants : (new : List Block) (answer : Result Taken Refusal) → OnErr answer (new ≡ old)
-          → IfElse ((b.key.end < t + search.size - 1) ⊎ (search.high < t + search.size - 1)) (answer ≡ Err NoPlace) (SettlesAt search spot new answer)
-          → Grants (blocks_state sp old) (request_in w search.size a (ExactMatch t)) (taken_range search.size (with_error (span t search.size) answer)) (blocks_state sp new)
+          → IfElse ((b.key.end < t + search.size - 1) ⊎ (search.high < t + search.size - 1)) (answer ≡ Err NoPlace) (SettlesAt search place new answer)
+          → Grants (blocks_state sp old) (request_in w search.size a (ExactMatch t)) (taken_range (with_error (span t search.size) answer)) (blocks_state sp new)
       free_grants new answer u h =
           ⊎_elim
           (λ l.
@@ -159,22 +159,22 @@ module _ (sp : Range) (old : List Block) (tiles : TilesSpace sp old) (search : S
           (λ l.
           let one : t + search.size - 1 ≤ b.key.end = ⊎_elim (λ (k : b.key.end < t + search.size - 1). absurd (l.0 (inl k))) (λ (k : t + search.size - 1 ≤ b.key.end). k) (cases_lt b.key.end (t + search.size - 1)) in
           let two : t + search.size - 1 ≤ search.high = ⊎_elim (λ (k : search.high < t + search.size - 1). absurd (l.0 (inr k))) (λ (k : t + search.size - 1 ≤ search.high). k) (cases_lt search.high (t + search.size - 1)) in
-          spot_grants one two new answer u l.1)
+          place_grants one two new answer u l.1)
           h
 
-  settled_in : (lower : List Block) (b : Block) (upper : List Block) (s : NodeState) → s ≡ b.state → IsBlockAt t old lower b upper → (new : List Block) (answer : Result Taken Refusal) → OnErr answer (new ≡ old) → SettlesIn search t lower s b.key upper new answer → Grants (blocks_state sp old) (request_in w search.size a (ExactMatch t)) (taken_range search.size (with_error (span t search.size) answer)) (blocks_state sp new)
+  settled_in : (lower : List Block) (b : Block) (upper : List Block) (s : NodeState) → s ≡ b.state → IsBlockAt t old lower b upper → (new : List Block) (answer : Result Taken Refusal) → OnErr answer (new ≡ old) → SettlesIn search t lower s b.key upper new answer → Grants (blocks_state sp old) (request_in w search.size a (ExactMatch t)) (taken_range (with_error (span t search.size) answer)) (blocks_state sp new)
   settled_in lower b upper Allocated e cut new answer u h = held_grants lower b upper cut (sym e) new answer u h
   settled_in lower b upper Free e cut new answer u h = free_grants lower b upper cut (sym e) new answer u h
 
-  exact_settles : (new : List Block) (answer : Result Taken Refusal) → OnErr answer (new ≡ old) → AllocatesExact search t old new answer → Grants (blocks_state sp old) (request_in w search.size a (ExactMatch t)) (taken_range search.size (with_error (span t search.size) answer)) (blocks_state sp new)
+  exact_settles : (new : List Block) (answer : Result Taken Refusal) → OnErr answer (new ≡ old) → AllocatesExact search t old new answer → Grants (blocks_state sp old) (request_in w search.size a (ExactMatch t)) (taken_range (with_error (span t search.size) answer)) (blocks_state sp new)
   exact_settles new answer u h = settled_in h.lower h.block h.upper h.block.state refl h.at new answer u h.settles
 
 pub exact_grants : (sp : Range) (old : List Block) → TilesSpace sp old → (request : Request) (search : Search) → IsRequest request → IsSearchOf request sp search → IsTestOf search.can_split (length (held_of old) < SPLIT_LIMIT_MIN_HELD)
     → (t : ℕ) → request.policy ≡ ExactMatch t → t < MAX → t + search.size - 1 ≤ MAX → (search.low ≤ t) × (t ≤ search.high)
-    → (new : List Block) (answer : Result Taken Refusal) → OnErr answer (new ≡ old) → AllocatesExact search t old new answer → Grants (blocks_state sp old) request (taken_range search.size (with_error (span t search.size) answer)) (blocks_state sp new)
+    → (new : List Block) (answer : Result Taken Refusal) → OnErr answer (new ≡ old) → AllocatesExact search t old new answer → Grants (blocks_state sp old) request (taken_range (with_error (span t search.size) answer)) (blocks_state sp new)
 exact_grants sp old tiles request search r is few t p m upto i new answer u h =
     let z : 0 < search.size = omega (arith, r.some, is.size) in
     let d : t % request.align ≡ 0 = aligned_if request.align t request.policy p r.start in
     let g = exact_settles sp old tiles search t request.align request.window z m upto d i (as_window request.window sp search is.window) few new answer u h in
-    subst (λ (v : Request). Grants (blocks_state sp old) v (taken_range search.size (with_error (span t search.size) answer)) (blocks_state sp new)) (with_policy request (ExactMatch t) p)
-    (subst (λ (n : ℕ). Grants (blocks_state sp old) (request_in request.window n request.align (ExactMatch t)) (taken_range search.size (with_error (span t search.size) answer)) (blocks_state sp new)) is.size g)
+    subst (λ (v : Request). Grants (blocks_state sp old) v (taken_range (with_error (span t search.size) answer)) (blocks_state sp new)) (with_policy request (ExactMatch t) p)
+    (subst (λ (n : ℕ). Grants (blocks_state sp old) (request_in request.window n request.align (ExactMatch t)) (taken_range (with_error (span t search.size) answer)) (blocks_state sp new)) is.size g)

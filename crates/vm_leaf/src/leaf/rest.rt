@@ -1,12 +1,13 @@
-// Written by bindings/erase from crates/vm_leaf/src/leaf/left.rt: do not edit.
-
 //! The parts of a gap that stay free when a range of it is allocated.
+ghost use Rattle.std.specs.Prelude.{◌≡◌};
+ghost use Rattle.vm_leaf.specs.Blocks.{IsTakenFrom};
+ghost use Rattle.vm_leaf.specs.Rest.{IsRest, added_by};
 
-use crate::proved::vm_ranges::RangeInclusive;
+use vm_ranges::RangeInclusive;
 
 /// The parts of a gap that stay free when a range of it is allocated.
 #[derive(Clone, Copy)]
-pub(in crate::proved) enum Left {
+pub enum Rest {
     /// No part stays free: the range fills the gap.
     Nothing,
     /// The part before the range stays free.
@@ -17,28 +18,33 @@ pub(in crate::proved) enum Left {
     Both,
 }
 
-impl Left {
+impl Rest {
     /// Returns the parts of `gap` that stay free when `range` is allocated. `range` must be in `gap`.
     #[inline(always)]
-    pub(in crate::proved) fn of(gap: &RangeInclusive, range: &RangeInclusive) -> Left {
+    pub fn of(gap: &RangeInclusive, range: &RangeInclusive) -> Rest
+        requires { IsTakenFrom gap.now range.now }
+        ensures { IsRest result gap.now range.now }
+    {
         let before = gap.start() < range.start();
         let after = range.end() < gap.end();
         match (before, after) {
-            (false, false) => Left::Nothing,
-            (true, false) => Left::Before,
-            (false, true) => Left::After,
-            (true, true) => Left::Both,
+            (false, false) => Rest::Nothing,
+            (true, false) => Rest::Before,
+            (false, true) => Rest::After,
+            (true, true) => Rest::Both,
         }
     }
 
     /// Returns the number of these parts, which is the number of blocks that the allocation adds.
     #[inline(always)]
-    pub(in crate::proved) fn added(self) -> u64 {
+    pub fn added(self) -> u64
+        ensures { result ≡ added_by self }
+    {
         match self {
-            Left::Nothing => 0,
-            Left::Before => 1,
-            Left::After => 1,
-            Left::Both => 2,
+            Rest::Nothing => 0,
+            Rest::Before => 1,
+            Rest::After => 1,
+            Rest::Both => 2,
         }
     }
 }

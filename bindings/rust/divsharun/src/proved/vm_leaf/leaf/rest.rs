@@ -1,13 +1,12 @@
-//! The parts of a gap that stay free when a range of it is allocated.
-ghost use Rattle.std.specs.Prelude.{◌≡◌};
-ghost use Rattle.vm_leaf.specs.Blocks.{IsTakenFrom};
-ghost use Rattle.vm_leaf.specs.Left.{IsLeft, added_by};
+// Written by bindings/erase from crates/vm_leaf/src/leaf/rest.rt: do not edit.
 
-use vm_ranges::RangeInclusive;
+//! The parts of a gap that stay free when a range of it is allocated.
+
+use crate::proved::vm_ranges::RangeInclusive;
 
 /// The parts of a gap that stay free when a range of it is allocated.
 #[derive(Clone, Copy)]
-pub enum Left {
+pub(in crate::proved) enum Rest {
     /// No part stays free: the range fills the gap.
     Nothing,
     /// The part before the range stays free.
@@ -18,33 +17,28 @@ pub enum Left {
     Both,
 }
 
-impl Left {
+impl Rest {
     /// Returns the parts of `gap` that stay free when `range` is allocated. `range` must be in `gap`.
     #[inline(always)]
-    pub fn of(gap: &RangeInclusive, range: &RangeInclusive) -> Left
-        requires { IsTakenFrom gap.now range.now }
-        ensures { IsLeft result gap.now range.now }
-    {
+    pub(in crate::proved) fn of(gap: &RangeInclusive, range: &RangeInclusive) -> Rest {
         let before = gap.start() < range.start();
         let after = range.end() < gap.end();
         match (before, after) {
-            (false, false) => Left::Nothing,
-            (true, false) => Left::Before,
-            (false, true) => Left::After,
-            (true, true) => Left::Both,
+            (false, false) => Rest::Nothing,
+            (true, false) => Rest::Before,
+            (false, true) => Rest::After,
+            (true, true) => Rest::Both,
         }
     }
 
     /// Returns the number of these parts, which is the number of blocks that the allocation adds.
     #[inline(always)]
-    pub fn added(self) -> u64
-        ensures { result ≡ added_by self }
-    {
+    pub(in crate::proved) fn added(self) -> u64 {
         match self {
-            Left::Nothing => 0,
-            Left::Before => 1,
-            Left::After => 1,
-            Left::Both => 2,
+            Rest::Nothing => 0,
+            Rest::Before => 1,
+            Rest::After => 1,
+            Rest::Both => 2,
         }
     }
 }
