@@ -499,6 +499,21 @@ static void give_null(void) {
                                              &results.device.range, NULL, NULL) == DVS_NULL);
     CHECK(dvs_address_allocator_allocate_all((dvs_address_allocator *)objects[0], worst, SIZE_MAX,
                                              NULL, NULL, NULL) == DVS_NULL);
+    for (i = 1; i <= 2; i++) {
+        void *made = NULL;
+
+        CHECK(dvs_ids_allocate((dvs_id_allocator *)objects[1], NULL, i) == DVS_NULL);
+        CHECK(dvs_address_allocator_allocate_all((dvs_address_allocator *)objects[0], NULL, i,
+                                                 results.ranges, NULL, NULL) == DVS_NULL);
+        CHECK(dvs_address_allocator_allocate_all((dvs_address_allocator *)objects[0], worst, i, NULL,
+                                                 NULL, NULL) == DVS_NULL);
+        CHECK(dvs_id_allocator_with_held(0, 9, NULL, i, (dvs_id_allocator **)&made, NULL) == DVS_NULL);
+        CHECK(dvs_address_allocator_with_held(0, 9, NULL, i, (dvs_address_allocator **)&made, NULL,
+                                              NULL) == DVS_NULL);
+        CHECK(dvs_address_allocator_with_free(NULL, i, (dvs_address_allocator **)&made, NULL, NULL) ==
+                  DVS_NULL &&
+              made == NULL);
+    }
     dvs_text_destroy(NULL);
     use_objects();
 }
@@ -935,6 +950,37 @@ static const struct {
      "do not pair"},
 };
 
+/* Each field of a format, behind what can be before it. */
+static const struct {
+    int call;
+    const char *before, *field;
+} fields[] = {
+    {IDS_WITHIN, "{", "range_base"},
+    {IDS_WITHIN, "{", "range_end"},
+    {IDS_WITHIN, "{", "next_id"},
+    {IDS_WITHIN, "{", "freed_ids"},
+    {SPACE_WITHIN, "{", "address_space"},
+    {SPACE_WITHIN, "{", "interval_tree"},
+    {SPACE_WITHIN, "{\"address_space\":{", "start"},
+    {SPACE_WITHIN, "{\"address_space\":{", "end"},
+    {SPACE_WITHIN, "{\"interval_tree\":{", "root"},
+    {SPACE_WITHIN, "{\"interval_tree\":{\"root\":{", "key"},
+    {SPACE_WITHIN, "{\"interval_tree\":{\"root\":{\"key\":{", "start"},
+    {SPACE_WITHIN, "{\"interval_tree\":{\"root\":{\"key\":{", "end"},
+    {SPACE_WITHIN, "{\"interval_tree\":{\"root\":{", "node_state"},
+    {SPACE_WITHIN, "{\"interval_tree\":{\"root\":{", "left"},
+    {SPACE_WITHIN, "{\"interval_tree\":{\"root\":{", "right"},
+    {SPACE_WITHIN, "{\"interval_tree\":{\"root\":{", "height"},
+    {MANAGER_WITHIN, "{", "version"},
+    {MANAGER_WITHIN, "{", "id_allocator"},
+    {MANAGER_WITHIN, "{", "mmio_allocator"},
+    {MANAGER_WITHIN, "{", "slots"},
+    {MANAGER_WITHIN, "{\"slots\":[{", "id"},
+    {MANAGER_WITHIN, "{\"slots\":[{", "mmio_range"},
+    {MANAGER_WITHIN, "{\"slots\":[{\"mmio_range\":{", "start"},
+    {MANAGER_WITHIN, "{\"slots\":[{\"mmio_range\":{", "end"},
+};
+
 /* Sets the text of calls, with a limit of nesting. */
 static void give_text(const char *text, size_t length, uint32_t depth) {
     given = usual;
@@ -995,6 +1041,42 @@ static void read_texts(void) {
     given.limits.length = 1;
     refuse(IDS_WITHIN, NULL, DVS_LIMIT_EXCEEDED);
     check_fault(1, NULL, "long");
+}
+
+/* Gives each field a value that it cannot have. */
+static void refuse_fields(void) {
+    size_t i, open;
+
+    for (i = 0; i < sizeof fields / sizeof fields[0]; i++) {
+        const char *before = fields[i].before;
+        char text[128];
+        int length = sprintf(text, "%s\"%s\":", before, fields[i].field);
+        char *end = text + sprintf(text + length, "true") + length;
+
+        for (open = strlen(before); open-- > 0;)
+            if (before[open] == '{' || before[open] == '[')
+                *end++ = before[open] == '{' ? '}' : ']';
+        give_text(text, (size_t)(end - text), 0);
+        refuse(fields[i].call, NULL, DVS_NOT_A_STATE);
+        check_fault((size_t)length, fields[i].field, "");
+    }
+}
+
+/* Puts each byte behind a backslash, in a key and in a value. Eight of them are escapes. */
+static void escape_each_byte(void) {
+    static const char *const texts[] = {"{\"\\?0041\":1}", "{\"range_base\":\"\\?0041\"}"};
+    int i, byte;
+
+    for (i = 0; i < 2; i++)
+        for (byte = 1; byte < 256; byte++) {
+            char text[32];
+            bool is_escape = strchr("\"\\/bfnrtu", byte) != NULL;
+
+            strcpy(text, texts[i]);
+            *strchr(text, '?') = (char)byte;
+            give_text(text, strlen(text), 0);
+            refuse(IDS_WITHIN, NULL, is_escape ? DVS_NOT_A_STATE : DVS_NOT_JSON);
+        }
 }
 
 /* Reads what it saves, and no part of it. The library must not read past a text, so it refuses
@@ -1060,6 +1142,8 @@ int main(void) {
     look_for_no_cause();
     be_quick();
     read_texts();
+    refuse_fields();
+    escape_each_byte();
     read_again();
     say_words();
     for (status = 0; status < STATUSES; status++)

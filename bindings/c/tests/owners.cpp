@@ -90,6 +90,8 @@ static void allocate_in_windows() {
     CHECK(!space.allocate(request::last(0x10, 1).within(low).within({0, UINT32_MAX}), range));
     CHECK(is_range(range, 0x3ff0, 0x3fff));
     CHECK(!space.allocate(request::first(0x10, 1), range) && is_range(range, 0x1000, 0x100f));
+    CHECK(!space.allocate(request::first(0x10, 1).within({0x2800, 0x2fff}).within({0x1000, 0x17ff}), range));
+    CHECK(is_range(range, 0x1010, 0x101f));
     CHECK(!space.allocate({{0x20, 0x20, 0, DVS_LAST, &low}}, range));
     CHECK(is_range(range, 0x1fc0, 0x1fdf));
     CHECK(space.allocate(request::exact(0x20, 1, 0x1fc0).within({0x1fc0, 0x1fc0}), range,
@@ -858,6 +860,7 @@ static void lend_each() {
 }
 
 static void throw_in_a_visit() {
+#ifdef __cpp_exceptions
     dvs::address_allocator space;
     int calls = 0;
 
@@ -875,6 +878,24 @@ static void throw_in_a_visit() {
     /* The allocator is not busy any more. */
     CHECK(!space.free(range_of(1, 1)));
     CHECK(!space.for_each([&calls](dvs_range) { return ++calls < 3; }) && calls == 3);
+#endif
+}
+
+/* The counts of an object in which nothing is free, and of one in which all is. */
+static void count_all_and_none() {
+    dvs::id_allocator ids;
+    dvs::address_allocator space;
+    std::vector<uint32_t> list(2);
+    dvs_range range;
+    uint64_t held = 9, free = 9, gaps = 9;
+
+    CHECK(!ids.make(5, 6) && !ids.id_count(held) && !ids.free_count(free) && held == 0 && free == 2);
+    CHECK(!ids.allocate_all(list));
+    CHECK(!ids.id_count(held) && !ids.free_count(free) && held == 2 && free == 0);
+    CHECK(!space.make(5, 2) && !space.range_count(held) && !space.gap_count(gaps) && !space.free_length(free));
+    CHECK(held == 0 && gaps == 1 && free == 2);
+    CHECK(!space.allocate_first(2, 1, range) && !space.range_count(held) && !space.gap_count(gaps));
+    CHECK(!space.free_length(free) && held == 1 && gaps == 0 && free == 0);
 }
 
 /* A visitor replaces an owner, and then calls `change`. A refused call destroys no object. */
@@ -1020,6 +1041,7 @@ int main() {
     visit_each();
     lend_each();
     throw_in_a_visit();
+    count_all_and_none();
     change_in_a_visit();
     replace_in_a_visit();
     destroy_in_a_visit();

@@ -691,11 +691,17 @@ fn debug_texts_show_the_fields() {
         format!("{slot:?}"),
         format!("DeviceSlot {{ id: 0, range: {range_text} }}")
     );
-    let device_text = format!("DeviceSlot {{ id: 0, range: {range_text} }}");
-    assert!(
-        format!("{devices:?}").starts_with("DeviceManager { ids: IdAllocator { range_base: 0, ")
+    let addresses = format!("base: 16, end: 16, held_count: 1, held_ranges: [{range_text}]");
+    assert_eq!(
+        format!("{devices:?}"),
+        format!(
+            "DeviceManager {{ ids: IdAllocator {{ range_base: 0, next_id: Some(1), range_end: 0, \
+             freed_ids: {{}} }}, addresses: AddressAllocator {{ {addresses} }}, devices: [{slot:?}] }}"
+        )
     );
-    assert!(format!("{devices:?}").ends_with(&format!("devices: [{device_text}] }}")));
+    let mut gaps = AddressAllocator::new(0, 8).unwrap();
+    gaps.allocate(2, 1, AllocPolicy::ExactMatch(3)).unwrap();
+    assert!(format!("{gaps:?}").contains("end: 7, held_count: 1, held_ranges: ["));
     assert_eq!(format!("{:?}", space.held_ranges()), "HeldRanges { .. }");
     let layout = space.layout().named([(held, "disk")]);
     let names = r#"names: {RangeInclusive { start: 19, end: 19 }: "disk"} }"#;
@@ -908,6 +914,7 @@ fn texts_are_padded_as_a_whole() {
         ),
     ];
     assert_eq!(format!("{range:#}"), format!("{range:#x}"));
+    assert_eq!(format!("{range:#20}"), format!("{:20}", "0xd0-0xd7"));
     for (object, text) in texts {
         expect_formats(object, text);
     }
