@@ -3,12 +3,7 @@
 //! An allocator of address ranges.
 //!
 //! The allocator stores its space next to the tree of blocks, so that `base` and `end` are one load
-//! each. The invariant states that the two agree and that the state is valid. The fields are `pub(crate)` because `saved`
-//! builds allocators from values.
-//!
-//! `free` calls its counted version and drops the count, as the tree does in `allocate`. Some clauses
-//! follow from `answer`, and are there because callers rely on them: for example that some calls always
-//! succeed.
+//! each. The fields are `pub(crate)` because `saved` builds allocators from values.
 
 use crate::proved::vm_engine::IntervalTree;
 use crate::proved::vm_ranges::{AllocPolicy, Constraint, Error, ListError, RangeInclusive, Result};
@@ -220,7 +215,7 @@ impl AddressAllocator {
     /// - `ResourceNotAvailable` if exactly this range is not allocated. A part of an allocated
     ///   range cannot be freed.
     pub fn free(&mut self, key: &RangeInclusive) -> Result<()> {
-        self.free_counted(key).0
+        self.interval_tree.free(key)
     }
 
     /// Frees like [`free`](Self::free), and also returns the number of tree nodes that the call

@@ -80,7 +80,7 @@ impl DeviceManager {
     ///
     /// # Errors
     ///
-    /// An error leaves ids, ranges and devices unchanged, and each error but `OutOfMemory` the same tree. In
+    /// An error leaves ids, ranges and devices unchanged, and each error but the last one the same tree. In
     /// this order:
     /// - `Overflow` if all ids are allocated and their range ends at `u32::MAX`.
     /// - `ResourceNotAvailable` if all ids are allocated and their range ends below `u32::MAX`.
@@ -105,7 +105,7 @@ impl DeviceManager {
     ///
     /// # Errors
     ///
-    /// An error leaves ids, ranges and devices unchanged, and each error but `OutOfMemory` the same tree. In
+    /// An error leaves ids, ranges and devices unchanged, and each error but the last one the same tree. In
     /// this order:
     /// - `Overflow` if all ids are allocated and their range ends at `u32::MAX`.
     /// - `ResourceNotAvailable` if all ids are allocated and their range ends below `u32::MAX`.

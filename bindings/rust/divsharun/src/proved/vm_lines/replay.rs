@@ -2,9 +2,6 @@
 
 //! Runs the replay language: reads pieces of the input, splits them into lines, and writes the
 //! replies through a buffer.
-//!
-//! The two facts in the contract of `run` (`AnswersInput`, `AnswersEndedLines`) are about readers
-//! and writers whose bytes are known.
 
 use crate::proved::vm_lines::buffer::{Buffer, CAPACITY};
 use crate::proved::vm_lines::newline::newline_at;

@@ -1,9 +1,6 @@
 // Written by bindings/erase from crates/vm_ranges/src/constraint.rt: do not edit.
 
-//! Requests for a range of addresses.
-//!
-//! The invariant of `Constraint` is that the request is valid, so functions that take a
-//! `Constraint` need no condition.
+//! Requests for a range of addresses. A `Constraint` is always valid.
 
 use crate::proved::vm_ranges::error::{Error, Result};
 use crate::proved::vm_ranges::range::RangeInclusive;

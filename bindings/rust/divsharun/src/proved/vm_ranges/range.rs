@@ -1,8 +1,6 @@
 // Written by bindings/erase from crates/vm_ranges/src/range.rt: do not edit.
 
-//! Closed ranges of addresses.
-//!
-//! Their order is written by hand, so that the contract of `cmp` names it: by start, then by end.
+//! Closed ranges of addresses, in the order of their starts, then of their ends.
 
 use crate::proved::vm_ranges::error::{Error, Result};
 use core::cmp::Ordering;

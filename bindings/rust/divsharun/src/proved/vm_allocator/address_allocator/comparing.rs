@@ -2,8 +2,7 @@
 
 //! Equality and order of allocators.
 //!
-//! Both compare states, so the shapes of the trees do not matter. `IntervalTree` implements the
-//! same traits with its own contracts.
+//! Both compare states, so the shapes of the trees do not matter.
 
 use super::AddressAllocator;
 use core::cmp::Ordering;
