@@ -1,5 +1,37 @@
 -- Facts for callers about allocated ranges and ids, and about allocators that were saved.
-use Rattle.std.proofs.Common.{◌≡◌, ℕ, ◌+◌, ◌-◌, ◌%◌, List, [], ◌∷◌, length, ◌<◌, ◌≤◌, ◌⊎◌, arith, refl, sym, ap, ◌∙◌, inl, inr, ⊎_elim, subst, Option, Some, None, Result, Ok, Err, IfSome, IfOk, IfErr, OnOk}
+use Rattle.std.proofs.Common.{
+  ◌≡◌,
+  ℕ,
+  ◌+◌,
+  ◌-◌,
+  ◌%◌,
+  List,
+  [],
+  ◌∷◌,
+  length,
+  ◌<◌,
+  ◌≤◌,
+  ◌⊎◌,
+  arith,
+  refl,
+  sym,
+  ap,
+  ◌∙◌,
+  inl,
+  inr,
+  ⊎_elim,
+  subst,
+  Option,
+  Some,
+  None,
+  Result,
+  Ok,
+  Err,
+  IfSome,
+  IfOk,
+  IfErr,
+  OnOk,
+}
 use Rattle.std.specs.List.{Contains}
 use Rattle.serde_json.specs.Data.{Data}
 use Rattle.vm_ranges.specs.Range.{Range, IsIn, Overlaps, Covers, address_count, span}
@@ -68,13 +100,15 @@ given old new request r h =
     (allocates_outcome old new (Ok r) request h)
 
 -- An allocated range starts at a multiple of the alignment.
-pub allocated_aligned : (old new : AddressState) (size align : ℕ) (policy : AllocPolicy) (answer : Result Range Error) → Allocates old (request_for size align policy) answer new → IfOk answer (λ r. r.start % align ≡ 0)
+pub allocated_aligned : (old new : AddressState) (size align : ℕ) (policy : AllocPolicy) (answer : Result Range Error) →
+    Allocates old (request_for size align policy) answer new → IfOk answer (λ r. r.start % align ≡ 0)
 unfolding IsPlace
 allocated_aligned old new size align policy (Ok r) h = (given old new (request_for size align policy) r h).place.0
 allocated_aligned old new size align policy (Err e) h = tt
 
 -- An allocated range has the requested number of addresses.
-pub allocated_long : (old new : AddressState) (size align : ℕ) (policy : AllocPolicy) (answer : Result Range Error) → Allocates old (request_for size align policy) answer new → IfOk answer (λ r. address_count r ≡ size)
+pub allocated_long : (old new : AddressState) (size align : ℕ) (policy : AllocPolicy) (answer : Result Range Error) →
+    Allocates old (request_for size align policy) answer new → IfOk answer (λ r. address_count r ≡ size)
 allocated_long old new size align policy (Ok r) h =
     let g = given old new (request_for size align policy) r h in
     let some : 0 < size = g.some in
@@ -82,28 +116,34 @@ allocated_long old new size align policy (Ok r) h =
     omega arith
 allocated_long old new size align policy (Err e) h = tt
 
-pub allocated_fits : (old new : AddressState) (size align : ℕ) (policy : AllocPolicy) (answer : Result Range Error) → Allocates old (request_for size align policy) answer new → IfOk answer (λ r. (address_count r ≡ size) × (r.start % align ≡ 0))
-allocated_fits old new size align policy (Ok r) h = (allocated_long old new size align policy (Ok r) h, allocated_aligned old new size align policy (Ok r) h)
+pub allocated_fits : (old new : AddressState) (size align : ℕ) (policy : AllocPolicy) (answer : Result Range Error) →
+    Allocates old (request_for size align policy) answer new → IfOk answer (λ r. (address_count r ≡ size) × (r.start % align ≡ 0))
+allocated_fits old new size align policy (Ok r) h =
+    (allocated_long old new size align policy (Ok r) h, allocated_aligned old new size align policy (Ok r) h)
 allocated_fits old new size align policy (Err e) h = tt
 
 -- An allocated range is at the place that the policy chooses.
-pub allocated_chosen : (old new : AddressState) (request : Request) (answer : Result Range Error) → Allocates old request answer new → IfOk answer (λ r. IsChosen request old r.start)
+pub allocated_chosen : (old new : AddressState) (request : Request) (answer : Result Range Error) → Allocates old request answer new →
+    IfOk answer (λ r. IsChosen request old r.start)
 allocated_chosen old new request (Ok r) h = (given old new request r h).chosen
 allocated_chosen old new request (Err e) h = tt
 
 -- Only this range is held in addition after the call.
-pub allocated_leaves : (old new : AddressState) (request : Request) (answer : Result Range Error) → Allocates old request answer new → IfOk answer (λ r. new ≡ holding r old)
+pub allocated_leaves : (old new : AddressState) (request : Request) (answer : Result Range Error) → Allocates old request answer new →
+    IfOk answer (λ r. new ≡ holding r old)
 allocated_leaves old new request (Ok r) h = (given old new request r h).left
 allocated_leaves old new request (Err e) h = tt
 
 pub ruleset allocations = (allocated_fits, allocated_chosen, allocated_leaves)
 
 -- The same for a request that was made before, and for the result of a valid request.
-pub granted_allocates : (old new : AddressState) (request : Request) (answer : Result Range Error) → IsRequest request → Grants old request answer new → Allocates old request answer new
+pub granted_allocates : (old new : AddressState) (request : Request) (answer : Result Range Error) → IsRequest request →
+    Grants old request answer new → Allocates old request answer new
 unfolding Allocates ByConstraint
 granted_allocates old new request answer v g = inr (λ e. omega (arith, e, v.some), inr (v.aligned, inr (v.start, g)))
 
-pub request_fits : (old new : AddressState) (request : Request) (answer : Result Range Error) → Allocates old request answer new → IfOk answer (λ r. (address_count r ≡ request.size) × (r.start % request.align ≡ 0))
+pub request_fits : (old new : AddressState) (request : Request) (answer : Result Range Error) → Allocates old request answer new →
+    IfOk answer (λ r. (address_count r ≡ request.size) × (r.start % request.align ≡ 0))
 unfolding IsPlace
 request_fits old new request (Err e) h = tt
 request_fits old new request (Ok r) h =
@@ -113,19 +153,23 @@ request_fits old new request (Ok r) h =
     (omega arith, g.place.0)
 
 -- A range that is allocated for a request with a window lies in the window.
-pub lies_in_window : (old new : AddressState) (request : Request) (w r : Range) → request.window ≡ Some w → Allocates old request (Ok r) new → Covers w r
+pub lies_in_window : (old new : AddressState) (request : Request) (w r : Range) → request.window ≡ Some w →
+    Allocates old request (Ok r) new → Covers w r
 unfolding Covers
 lies_in_window old new request w r e h =
     let g = given old new request r h in
     let place = place_in_window request r.start old g.chosen in
-    let i = lies_in w request.size request.align old g.some r.start (subst (λ (v : Option Range). IsPlace request.size request.align (within v old) r.start) e place) in
+    let i = lies_in w request.size request.align old g.some r.start
+    (subst (λ (v : Option Range). IsPlace request.size request.align (within v old) r.start) e place) in
     subst (Covers w) (sym g.long) (λ x j. (omega (arith, i.0, j.0), omega (arith, i.1, j.0, j.1)))
 
-inside_by : (old new : AddressState) (request : Request) (v : Option Range) (r : Range) → request.window ≡ v → Allocates old request (Ok r) new → IfSome v (λ w. Covers w r)
+inside_by : (old new : AddressState) (request : Request) (v : Option Range) (r : Range) → request.window ≡ v →
+    Allocates old request (Ok r) new → IfSome v (λ w. Covers w r)
 inside_by old new request None r e h = tt
 inside_by old new request (Some w) r e h = lies_in_window old new request w r e h
 
-pub request_inside : (old new : AddressState) (request : Request) (answer : Result Range Error) → Allocates old request answer new → IfOk answer (λ r. IfSome request.window (λ w. Covers w r))
+pub request_inside : (old new : AddressState) (request : Request) (answer : Result Range Error) → Allocates old request answer new →
+    IfOk answer (λ r. IfSome request.window (λ w. Covers w r))
 request_inside old new request (Err e) h = tt
 request_inside old new request (Ok r) h = inside_by old new request request.window r refl h
 
@@ -134,10 +178,12 @@ pub ruleset constraint_allocations = (granted_allocates, request_fits, request_i
 -- An allocated range is held after the call.
 pub allocated_held : (old new : AddressState) (request : Request) (r : Range) → Allocates old request (Ok r) new → Contains new.held r
 allocated_held old new request r h =
-    let g = given old new request r h in contains_held new.held r (subst (λ (v : AddressState). IsHeldRange v.held r) (sym g.left) (held_now r old.held))
+    let g = given old new request r h in contains_held new.held r
+    (subst (λ (v : AddressState). IsHeldRange v.held r) (sym g.left) (held_now r old.held))
 
 -- Two ranges that were allocated one after the other do not overlap.
-pub allocated_apart : (old mid new : AddressState) (first second : Request) (r s : Range) → Allocates old first (Ok r) mid → Allocates mid second (Ok s) new → ¬ Overlaps r s
+pub allocated_apart : (old mid new : AddressState) (first second : Request) (r s : Range) → Allocates old first (Ok r) mid →
+    Allocates mid second (Ok s) new → ¬ Overlaps r s
 unfolding IsPlace Overlaps
 allocated_apart old mid new first second r s h k o =
     let f = given mid new second s k in
@@ -148,7 +194,8 @@ allocated_apart old mid new first second r s h k o =
 
 -- ---- A range that is freed, and requested again by its start
 -- A range that ExactMatch allocates starts at the given start.
-allocated_at_start : (old new : AddressState) (size align start : ℕ) (r : Range) → Allocates old (request_for size align (ExactMatch start)) (Ok r) new → r ≡ span start size
+allocated_at_start : (old new : AddressState) (size align start : ℕ) (r : Range) →
+    Allocates old (request_for size align (ExactMatch start)) (Ok r) new → r ≡ span start size
 unfolding IsChosen
 allocated_at_start old new size align start r h =
     let g = given old new (request_for size align (ExactMatch start)) r h in
@@ -158,7 +205,8 @@ allocated_at_start old new size align start r h =
 same_range : (r : Range) → r.start ≤ r.end → span r.start (address_count r) ≡ r
 same_range r l = let e : r.start + address_count r - 1 ≡ r.end = omega arith in ap (λ (v : ℕ). record { start = r.start; end = v }) e
 
-pub allocated_same : (mid new : AddressState) (r : Range) (answer : Result Range Error) → r.start ≤ r.end → Allocates mid (request_for (address_count r) 1 (ExactMatch r.start)) answer new → IfOk answer (λ again. again ≡ r)
+pub allocated_same : (mid new : AddressState) (r : Range) (answer : Result Range Error) → r.start ≤ r.end →
+    Allocates mid (request_for (address_count r) 1 (ExactMatch r.start)) answer new → IfOk answer (λ again. again ≡ r)
 allocated_same mid new r (Ok again) l h = allocated_at_start mid new (address_count r) 1 r.start again h ∙ same_range r l
 allocated_same mid new r (Err e) l h = tt
 
@@ -169,7 +217,8 @@ range_of (y ∷ ys) x h =
     ⊎_elim (λ (i : IsIn y x). (y, inl refl, i)) (λ (k : IsHeldAddress ys x). let q = range_of ys x k in (q.0, inr q.1, q.2)) h
 
 -- The addresses of a freed range are clear.
-pub released_clear : (old : AddressState) (r : Range) → IsAddressState old → IsHeldRange old.held r → AreClear (address_count r) (releasing r old) r.start
+pub released_clear : (old : AddressState) (r : Range) → IsAddressState old → IsHeldRange old.held r →
+    AreClear (address_count r) (releasing r old) r.start
 released_clear old r i h x low high =
     let lo = old.space.start in
     let hi = old.space.end in
@@ -186,7 +235,8 @@ released_clear old r i h x low high =
 abbrev pub IsSplitError : AddressState → Result Range Error → Type 0
 IsSplitError old answer = (answer ≡ Err OutOfMemory) ⊎ ((SPLIT_LIMIT_MIN_HELD ≤ length old.held) × (answer ≡ Err Overflow))
 
-at_place : (old new : AddressState) (r : Range) (answer : Result Range Error) → AllocatesAt old r answer new → (answer ≡ Ok r) ⊎ IsSplitError old answer
+at_place : (old new : AddressState) (r : Range) (answer : Result Range Error) → AllocatesAt old r answer new →
+    (answer ≡ Ok r) ⊎ IsSplitError old answer
 unfolding AllocatesAt
 at_place old new r answer (inl k) = inl k.1.0
 at_place old new r answer (inr (s, inl k)) = inr (inr (k.0, k.1.0))
@@ -194,7 +244,9 @@ at_place old new r answer (inr (s, inr (few, inl k))) = inl k.0
 at_place old new r answer (inr (s, inr (few, inr k))) = inr (inl k.0)
 
 -- A freed range can be allocated again, unless a split fails.
-pub allocated_again : (old mid new : AddressState) (r : Range) (freed : Result (Unit {0}) Error) (answer : Result Range Error) → IsAddressState old → Contains old.held r → Frees old r freed mid → Allocates mid (request_for (address_count r) 1 (ExactMatch r.start)) answer new → (answer ≡ Ok r) ⊎ IsSplitError mid answer
+pub allocated_again : (old mid new : AddressState) (r : Range) (freed : Result (Unit {0}) Error) (answer : Result Range Error) →
+    IsAddressState old → Contains old.held r → Frees old r freed mid →
+    Allocates mid (request_for (address_count r) 1 (ExactMatch r.start)) answer new → (answer ≡ Ok r) ⊎ IsSplitError mid answer
 unfolding Frees IsPlace IsChosen IsStartAligned IsAlignment
 allocated_again old mid new r freed answer i c f h =
     let held = held_contains old.held r c in
@@ -203,20 +255,24 @@ allocated_again old mid new r freed answer i c f h =
     let request = request_for (address_count r) 1 (ExactMatch r.start) in
     let one : r.start % 1 ≡ 0 = grind arith in
     let valid : IsRequest request = record { some = omega arith; aligned = (0, omega arith, refl); start = one } in
-    let clear : AreClear (address_count r) mid r.start = subst (λ (v : AddressState). AreClear (address_count r) v r.start) (sym left) (released_clear old r i held) in
+    let clear : AreClear (address_count r) mid r.start = subst (λ (v : AddressState). AreClear (address_count r) v r.start) (sym left)
+    (released_clear old r i held) in
     let chosen : IsChosen request mid r.start = (refl, (one, clear)) in
     ⊎_elim
     (λ k. absurd (omega (arith, l.1, l.3, k.0)))
-    (λ k. ⊎_elim (λ t. inl (t ∙ ap (λ (v : Range). Ok v) (same_range r l.1))) (λ t. inr t) (at_place mid new (span r.start (address_count r)) answer k.1))
+    (λ k. ⊎_elim (λ t. inl (t ∙ ap (λ (v : Range). Ok v) (same_range r l.1))) (λ t. inr t)
+    (at_place mid new (span r.start (address_count r)) answer k.1))
     (allocates_chosen request r.start mid new answer valid (omega (arith, l.1, l.3)) chosen h)
 
 -- An allocation of the range by its start returns it, or fails by a limit. A caller's proof finds the state before the
 -- range was freed by the first lemma, and the request by the second: one lemma over both would be tried too often.
 pub record FitsAgain (r : Range) (state : AddressState) : Type 0 where
-  pub by : (new : AddressState) (answer : Result Range Error) → Allocates state (request_for (address_count r) 1 (ExactMatch r.start)) answer new →
+  pub by : (new : AddressState) (answer : Result Range Error) →
+      Allocates state (request_for (address_count r) 1 (ExactMatch r.start)) answer new →
       (answer ≡ Ok r) ⊎ IsSplitError state answer
 
-pub freed_fits_again : (old mid : AddressState) (r : Range) (freed : Result (Unit {0}) Error) → IsAddressState old → Contains old.held r → Frees old r freed mid →
+pub freed_fits_again : (old mid : AddressState) (r : Range) (freed : Result (Unit {0}) Error) → IsAddressState old → Contains old.held r →
+    Frees old r freed mid →
     FitsAgain r mid
 freed_fits_again old mid r freed i c f = record { by = λ new answer h. allocated_again old mid new r freed answer i c f h }
 
@@ -237,16 +293,19 @@ range_was_free old new request r h c =
     let some = g.some in
     let end : r.end ≡ r.start + request.size - 1 = ap (λ (v : Range). v.end) g.long in
     let inside : IsIn r r.start = (omega arith, omega arith) in
-    none_holds old.held r.start (g.place.1 r.start (omega arith) (omega arith)).1 (held_address old.held r r.start (held_contains old.held r c) inside)
+    none_holds old.held r.start (g.place.1 r.start (omega arith) (omega arith)).1
+    (held_address old.held r r.start (held_contains old.held r c) inside)
 
 -- A freed range is not held after the call, and nothing else changes.
-pub freed_state : (old new : AddressState) (r : Range) (answer : Result (Unit {0}) Error) → Frees old r answer new → OnOk answer (new ≡ releasing r old)
+pub freed_state : (old new : AddressState) (r : Range) (answer : Result (Unit {0}) Error) → Frees old r answer new →
+    OnOk answer (new ≡ releasing r old)
 unfolding Frees
 freed_state old new r (Ok u) h = ⊎_elim (λ k. k.1.1) (λ k. absurd (cc (k.1.0))) h
 freed_state old new r (Err e) h = tt
 
 -- A range that is not held cannot be freed.
-pub not_freed : (old new : AddressState) (r : Range) (answer : Result (Unit {0}) Error) → Frees old r answer new → ¬ Contains old.held r → answer ≡ Err ResourceNotAvailable
+pub not_freed : (old new : AddressState) (r : Range) (answer : Result (Unit {0}) Error) → Frees old r answer new → ¬ Contains old.held r →
+    answer ≡ Err ResourceNotAvailable
 unfolding Frees
 not_freed old new r answer h n = ⊎_elim (λ k. absurd (n k.0)) (λ k. k.1.0) h
 
@@ -265,7 +324,19 @@ addresses_again d old new s t = one_addresses d new old t s
 pub addresses_encoded : (d : Data) (state : AddressState) → EncodesAddresses d state → IsAddressState state
 addresses_encoded d state s = encoded_addresses d state s
 
-pub ruleset callers = (allocated_held, allocated_apart, allocated_same, freed_fits_again, fits_again_or_limit, id_was_free, id_is_held, addresses_again, ids_again, text_gives_again, text_has_value)
+pub ruleset callers = (
+  allocated_held,
+  allocated_apart,
+  allocated_same,
+  freed_fits_again,
+  fits_again_or_limit,
+  id_was_free,
+  id_is_held,
+  addresses_again,
+  ids_again,
+  text_gives_again,
+  text_has_value,
+)
 
 -- A value survives being written as text and read back.
 pub ruleset through_text = (allocator_through_text, ids_through_text)

@@ -15,7 +15,8 @@ decided_held_address : (hs : List Range) (x : ℕ) → Decided (IsHeldAddress hs
 decided_held_address [] x = inr (λ h. h)
 decided_held_address (r ∷ rs) x =
     ⊎_elim (λ (i : IsIn r x). inl (inl i))
-    (λ (n : IsIn r x → ⊥). decided_if (IsHeldAddress rs x) (IsHeldAddress (r ∷ rs) x) inr (λ h. ⊎_elim (λ i. absurd (n i)) (λ k. k) h) (decided_held_address rs x))
+    (λ (n : IsIn r x → ⊥). decided_if (IsHeldAddress rs x) (IsHeldAddress (r ∷ rs) x) inr (λ h. ⊎_elim (λ i. absurd (n i)) (λ k. k) h)
+    (decided_held_address rs x))
     (decided_in r x)
 
 decided_clear : (state : AddressState) (x : ℕ) → Decided (IsClear state x)
@@ -40,7 +41,8 @@ decided_split state r =
     decided_if (IsClear state (r.end + 1)) (SplitsGap state r)
     (λ c. (r.end + 1, c, inr refl))
     (λ h. ⊎_elim
-    (λ (e : h.0 + 1 ≡ r.start). let same : h.0 ≡ r.start - 1 = omega (arith, e) in absurd (n (omega (arith, e), subst (λ (v : ℕ). IsClear state v) same h.1)))
+    (λ (e : h.0 + 1 ≡ r.start). let same : h.0 ≡ r.start - 1 = omega (arith, e) in absurd
+    (n (omega (arith, e), subst (λ (v : ℕ). IsClear state v) same h.1)))
     (λ (e : h.0 ≡ r.end + 1). subst (λ (v : ℕ). IsClear state v) e h.1)
     h.2)
     (decided_clear state (r.end + 1)))
@@ -65,13 +67,15 @@ decided_held hs r = decided_if (IsHeld hs r) (Contains hs r) (contains_held hs r
 
 -- Three facts together.
 decided_three : (P Q R : Type 0) → Decided P → Decided Q → Decided R → Decided (P × Q × R)
-decided_three P Q R p q r = decided_if (P × (Q × R)) (P × Q × R) (λ h. (h.0, h.1.0, h.1.1)) (λ h. (h.0, (h.1, h.2))) (decided_both _ _ p (decided_both _ _ q r))
+decided_three P Q R p q r = decided_if (P × (Q × R)) (P × Q × R) (λ h. (h.0, h.1.0, h.1.1)) (λ h. (h.0, (h.1, h.2)))
+    (decided_both _ _ p (decided_both _ _ q r))
 
 -- Whether a request is for exactly a range.
 decided_policy : (policy : AllocPolicy) (t : ℕ) → Decided (policy ≡ ExactMatch t)
 decided_policy FirstMatch t = inr (λ e. absurd (cc e))
 decided_policy LastMatch t = inr (λ e. absurd (cc e))
-decided_policy (ExactMatch s) t = ⊎_elim (λ (e : s ≡ t). inl (ap (λ (v : ℕ). ExactMatch v) e)) (λ (n : s ≡ t → ⊥). inr (λ e. n (cc e))) (cases_eq s t)
+decided_policy (ExactMatch s) t = ⊎_elim (λ (e : s ≡ t). inl (ap (λ (v : ℕ). ExactMatch v) e)) (λ (n : s ≡ t → ⊥). inr (λ e. n (cc e)))
+    (cases_eq s t)
 
 decided_cover : (window : Option Range) (r : Range) → Decided (IfSome window (λ w. Covers w r))
 unfolding Covers
@@ -89,7 +93,8 @@ decided_cover (Some w) r =
 pub decided_for : (r : Range) (request : Request) → Decided (IsFor r request)
 unfolding IsFor
 decided_for r request =
-    decided_if ((request.policy ≡ ExactMatch r.start) × (request.size ≡ address_count r) × IfSome request.window (λ w. Covers w r)) (IsFor r request) (λ h. h) (λ h. h)
+    decided_if ((request.policy ≡ ExactMatch r.start) × (request.size ≡ address_count r) × IfSome request.window (λ w. Covers w r))
+    (IsFor r request) (λ h. h) (λ h. h)
     (decided_three _ _ _ (decided_policy request.policy r.start) (cases_eq request.size (address_count r)) (decided_cover request.window r))
 
 -- Whether two numbers are the ends of a range.

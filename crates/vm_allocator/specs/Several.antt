@@ -44,7 +44,8 @@ pub record FailsAtIndex (old : AddressState) (requests : List Request) (index : 
 -- the allocator is as before.
 abbrev pub FailsAsNamed : Shape → List Request → ListError → Shape → Type 0
 FailsAsNamed old requests failure new =
-    MatchOption failure.index ((failure.error ≡ OutOfMemory) × (new ≡ old)) (λ index. FailsAtIndex (tree_state old) requests index failure.error)
+    MatchOption failure.index ((failure.error ≡ OutOfMemory) × (new ≡ old))
+    (λ index. FailsAtIndex (tree_state old) requests index failure.error)
 
 -- The requests fail together: out of memory, or with the error of the first request that fails. The state is that before.
 abbrev pub FailsAll : AddressState → List Request → Error → AddressState → Type 0

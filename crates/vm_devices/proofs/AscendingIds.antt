@@ -37,7 +37,8 @@ abbrev pub ids_of : List DeviceSlot → List ℕ
 ids_of ds = keys_of (entries_of ds)
 
 ids_more : (ds es : List DeviceSlot) → ids_of (ds ++ es) ≡ ids_of ds ++ ids_of es
-ids_more ds es = ap (λ (l : List (ℕ × Range)). keys_of l) (map-append entry_of ds es) ∙ map-append (λ (e : ℕ × Range). e.0) (entries_of ds) (entries_of es)
+ids_more ds es = ap (λ (l : List (ℕ × Range)). keys_of l) (map-append entry_of ds es)
+    ∙ map-append (λ (e : ℕ × Range). e.0) (entries_of ds) (entries_of es)
 
 pub ids_long : (ds : List DeviceSlot) → length (ids_of ds) ≡ length ds
 ids_long ds = length-map (entries_of ds) (λ (e : ℕ × Range). e.0) ∙ length-map ds entry_of

@@ -14,7 +14,8 @@ use Rattle.vm_devices.proofs.Tables.{with_here}
 pub use Rattle.vm_devices.proofs.NestedManagers.{manager_through_text}
 
 -- A reserved device is a device of the manager.
-pub device_there : (old new : DeviceState) (request : Request) (answer : Result DeviceSlot Error) → Reserves old request answer new → IfOk answer (λ slot. IsDevice new slot.id slot.range)
+pub device_there : (old new : DeviceState) (request : Request) (answer : Result DeviceSlot Error) → Reserves old request answer new →
+    IfOk answer (λ slot. IsDevice new slot.id slot.range)
 device_there old new request (Ok slot) h = rw (reserved_device old new request slot h).left (with_here old.devices slot.id slot.range)
 device_there old new request (Err e) h = tt
 
@@ -27,8 +28,10 @@ devices_share_none old mid new first second slot other h k =
     allocated_apart old.space mid.space (holding other.range mid.space) first second slot.range other.range (rw d.left d.given) e.given
 
 -- A device that is released at once is reserved again by the same request.
-pub device_again : (old mid new later : DeviceState) (request : Request) (slot : DeviceSlot) (answer : Result DeviceSlot Error) → IsDeviceState old →
-    Reserves old request (Ok slot) mid → Releases mid slot.id (Ok tt) new → Reserves new request answer later → IfOk answer (λ again. again ≡ slot)
+pub device_again : (old mid new later : DeviceState) (request : Request) (slot : DeviceSlot) (answer : Result DeviceSlot Error) →
+    IsDeviceState old →
+    Reserves old request (Ok slot) mid → Releases mid slot.id (Ok tt) new → Reserves new request answer later →
+    IfOk answer (λ again. again ≡ slot)
 device_again old mid new later request slot (Ok again) i s f t =
     ⊎_elim (λ e. cc (e)) (λ m. absurd (cc (m)))
     (reserved_again old mid new later request slot (Ok tt) (Ok again) i s f (λ e. cc (e)) t)
@@ -37,11 +40,13 @@ device_again old mid new later request slot (Err e) i s f t = tt
 -- A request of the state reserves this device or fails. The two lemmas share the work of `device_again`, as those of
 -- `FitsAgain` do.
 pub record DeviceFitsAgain (request : Request) (slot : DeviceSlot) (state : DeviceState) : Type 0 where
-  pub by : (later : DeviceState) (answer : Result DeviceSlot Error) → Reserves state request answer later → IfOk answer (λ again. again ≡ slot)
+  pub by : (later : DeviceState) (answer : Result DeviceSlot Error) → Reserves state request answer later →
+      IfOk answer (λ again. again ≡ slot)
 
 pub released_fits_again : (old mid new : DeviceState) (request : Request) (slot : DeviceSlot) → IsDeviceState old →
     Reserves old request (Ok slot) mid → Releases mid slot.id (Ok tt) new → DeviceFitsAgain request slot new
-released_fits_again old mid new request slot i s f = record { by = λ later answer h. device_again old mid new later request slot answer i s f h }
+released_fits_again old mid new request slot i s f = record
+    { by = λ later answer h. device_again old mid new later request slot answer i s f h }
 
 pub fits_again_is_reserved : (new later : DeviceState) (request : Request) (slot : DeviceSlot) (answer : Result DeviceSlot Error) →
     DeviceFitsAgain request slot new → Reserves new request answer later → IfOk answer (λ again. again ≡ slot)

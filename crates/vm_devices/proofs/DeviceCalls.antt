@@ -44,8 +44,10 @@ IsRefusedOrReserved old request answer new =
     ((e : Error) × (answer ≡ Err e) × (new ≡ old))
     ⊎ ((slot : DeviceSlot) × (answer ≡ Ok slot) × IsReserved old request slot new)
 
-paired_outcome : (old new : DeviceState) (space : AddressState) (request : Request) (id : ℕ) (given : Result Range Error) (answer : Result DeviceSlot Error) →
-    IsLowestNotHeld old.ids id → Allocates old.space request given space → Pairs old id given answer new → IsRefusedOrReserved old request answer new
+paired_outcome : (old new : DeviceState) (space : AddressState) (request : Request) (id : ℕ) (given : Result Range Error)
+    (answer : Result DeviceSlot Error) →
+    IsLowestNotHeld old.ids id → Allocates old.space request given space → Pairs old id given answer new →
+    IsRefusedOrReserved old request answer new
 paired_outcome old new space request id (Err e) answer lowest a p = inl (e, p.0, p.1)
 paired_outcome old new space request id (Ok r) answer lowest a p =
     ⊎_elim
@@ -65,14 +67,16 @@ paired_outcome old new space request id (Ok r) answer lowest a p =
     (λ m. inl (OutOfMemory, m.0, m.1))
     p
 
-pub reserving_outcome : (old new : DeviceState) (request : Request) (answer : Result DeviceSlot Error) → Reserves old request answer new → IsRefusedOrReserved old request answer new
+pub reserving_outcome : (old new : DeviceState) (request : Request) (answer : Result DeviceSlot Error) → Reserves old request answer new →
+    IsRefusedOrReserved old request answer new
 unfolding Reserves ByLowestNotHeld
 reserving_outcome old new request answer (inl h) =
     paired_outcome old new h.2.1 request h.0 h.2.0 answer h.1 h.2.2 h.2.3
 reserving_outcome old new request answer (inr (all, inl h)) = inl (_, h.1.0, h.1.1)
 reserving_outcome old new request answer (inr (all, inr h)) = inl (_, h.1.0, h.1.1)
 
-pub reserved_device : (old new : DeviceState) (request : Request) (slot : DeviceSlot) → Reserves old request (Ok slot) new → IsReserved old request slot new
+pub reserved_device : (old new : DeviceState) (request : Request) (slot : DeviceSlot) → Reserves old request (Ok slot) new →
+    IsReserved old request slot new
 reserved_device old new request slot h =
     ⊎_elim
     (λ r. absurd (cc (r.1)))
@@ -90,18 +94,21 @@ IsRefusedOrReleased old id answer new =
     ⊎ ((r : Range) × IsDevice old id r × (answer ≡ Ok tt) × (new ≡ without_device id r old))
 
 released_outcome : (old new : DeviceState) (id : ℕ) (answer : Result (Unit {0}) Error) (at : Option Range) → map.get old.devices id ≡ at →
-    MatchOption at ((answer ≡ Err (NeverAllocated id)) × (new ≡ old)) (λ r. ((answer ≡ Ok tt) × (new ≡ without_device id r old)) ⊎ ((answer ≡ Err OutOfMemory) × (new ≡ old))) →
+    MatchOption at ((answer ≡ Err (NeverAllocated id)) × (new ≡ old))
+    (λ r. ((answer ≡ Ok tt) × (new ≡ without_device id r old)) ⊎ ((answer ≡ Err OutOfMemory) × (new ≡ old))) →
     IsRefusedOrReleased old id answer new
 released_outcome old new id answer None e h = inl (NeverAllocated id, h.0, h.1)
 released_outcome old new id answer (Some r) e h =
     ⊎_elim (λ t. inr (r, e, t.0, t.1)) (λ m. inl (OutOfMemory, m.0, m.1)) h
 
-pub releasing_outcome : (old new : DeviceState) (id : ℕ) (answer : Result (Unit {0}) Error) → Releases old id answer new → IsRefusedOrReleased old id answer new
+pub releasing_outcome : (old new : DeviceState) (id : ℕ) (answer : Result (Unit {0}) Error) → Releases old id answer new →
+    IsRefusedOrReleased old id answer new
 unfolding Releases
 releasing_outcome old new id answer h = released_outcome old new id answer (map.get old.devices id) refl h
 
 -- ---- Each call preserves the pairs
-pub reserved_state : (old new : DeviceState) (request : Request) (answer : Result DeviceSlot Error) → IsDeviceState old → Reserves old request answer new → IsDeviceState new
+pub reserved_state : (old new : DeviceState) (request : Request) (answer : Result DeviceSlot Error) → IsDeviceState old →
+    Reserves old request answer new → IsDeviceState new
 reserved_state old new request answer i h =
     ⊎_elim
     (λ r. subst IsDeviceState (sym r.2) i)
@@ -111,7 +118,8 @@ reserved_state old new request answer i h =
     subst IsDeviceState (sym made.left) (state_with old slot.id slot.range request i (gets_lowest old slot.id made.lowest) made.given))
     (reserving_outcome old new request answer h)
 
-pub released_state : (old new : DeviceState) (id : ℕ) (answer : Result (Unit {0}) Error) → IsDeviceState old → Releases old id answer new → IsDeviceState new
+pub released_state : (old new : DeviceState) (id : ℕ) (answer : Result (Unit {0}) Error) → IsDeviceState old → Releases old id answer new →
+    IsDeviceState new
 released_state old new id answer i h =
     ⊎_elim
     (λ r. subst IsDeviceState (sym r.2) i)
@@ -136,14 +144,16 @@ module _ (lo hi base size : ℕ) where
 pub ruleset makes_managers = (ids_refused, space_refused, manager_made)
 
 -- No id and no range is held, and there is no device.
-no_devices : (lo hi base size : ℕ) (ids : IdState) (space : AddressState) → hi ≤ MAX_ID → size ≤ MAX → MakesIds lo hi (Ok ids) → Makes base size (Ok space) →
+no_devices : (lo hi base size : ℕ) (ids : IdState) (space : AddressState) → hi ≤ MAX_ID → size ≤ MAX → MakesIds lo hi (Ok ids) →
+    Makes base size (Ok space) →
     IsDeviceState (record { ids = ids; space = space; devices = map.empty })
 unfolding MakesIds
 no_devices lo hi base size ids space id word ids_made space_made =
     let none = λ (q : ℕ). map.get-empty {X = Range} nat_cmp q in
     let fresh : ids ≡ new_ids lo hi = ⊎_elim (λ l. absurd (cc (l.1))) (λ r. cc (r.1)) ids_made in
     let held : (r : Range) → ¬ Contains space.held r =
-    λ r c. let none = subst (λ (v : AddressState). Contains v.held r) (made_is base size space space_made).2 c in let below = none.1 in omega (arith, below) in
+    λ r c. let none = subst (λ (v : AddressState). Contains v.held r) (made_is base size space space_made).2 c in let below = none.1 in
+    omega (arith, below) in
     record {
       ids = id_states_are_preserved.made lo hi ids id ids_made;
       space = state_is_preserved.made base size space word space_made;
@@ -158,7 +168,8 @@ no_devices lo hi base size ids space id word ids_made space_made =
       };
     }
 
-pub made_state : (lo hi base size : ℕ) (state : DeviceState) → hi ≤ MAX_ID → size ≤ MAX → MakesManager lo hi base size (Ok state) → IsDeviceState state × (state.devices ≡ map.empty)
+pub made_state : (lo hi base size : ℕ) (state : DeviceState) → hi ≤ MAX_ID → size ≤ MAX → MakesManager lo hi base size (Ok state) →
+    IsDeviceState state × (state.devices ≡ map.empty)
 unfolding MakesManager
 made_state lo hi base size state id word (Err e, space, m, n, h) = absurd (cc (h))
 made_state lo hi base size state id word (Ok ids, Err e, m, n, h) = absurd (cc (h))
@@ -167,12 +178,14 @@ made_state lo hi base size state id word (Ok ids, Ok space, m, n, h) =
     (rw same (no_devices lo hi base size ids space id word m n), ap (λ (s : DeviceState). s.devices) same)
 
 -- ---- Reserving
-pub id_refused : (old new : DeviceState) (request : Request) (e : Error) → PeeksId old.ids (Err e) → new ≡ old → Reserves old request (Err e) new
+pub id_refused : (old new : DeviceState) (request : Request) (e : Error) → PeeksId old.ids (Err e) → new ≡ old →
+    Reserves old request (Err e) new
 unfolding Reserves PeeksId ByLowestNotHeld
 id_refused old new request e p same = grind arith
 
 -- `peek_id` returned an id, and a range was requested.
-pub id_peeked : (old new : DeviceState) (request : Request) (id : ℕ) (space : AddressState) (given : Result Range Error) (answer : Result DeviceSlot Error) →
+pub id_peeked : (old new : DeviceState) (request : Request) (id : ℕ) (space : AddressState) (given : Result Range Error)
+    (answer : Result DeviceSlot Error) →
     PeeksId old.ids (Ok id) → Allocates old.space request given space → Pairs old id given answer new → Reserves old request answer new
 unfolding Reserves PeeksId ByLowestNotHeld
 id_peeked old new request id space given answer (inl h) a p =
@@ -180,12 +193,15 @@ id_peeked old new request id space given answer (inl h) a p =
 id_peeked old new request id space given answer (inr (all, inl h)) a p = absurd (cc (h.1))
 id_peeked old new request id space given answer (inr (all, inr h)) a p = absurd (cc (h.1))
 
-pub request_refused : (old : DeviceState) (request : Request) (id : ℕ) (e : Error) → PeeksId old.ids (Ok id) → MakesConstraint request (Err e) → Reserves old request (Err e) old
-request_refused old request id e p m = id_peeked old old request id old.space (Err e) (Err e) p (allocates_refused old.space request e m) (refl, refl)
+pub request_refused : (old : DeviceState) (request : Request) (id : ℕ) (e : Error) → PeeksId old.ids (Ok id) →
+    MakesConstraint request (Err e) → Reserves old request (Err e) old
+request_refused old request id e p m = id_peeked old old request id old.space (Err e) (Err e) p (allocates_refused old.space request e m)
+    (refl, refl)
 
 pub ruleset reserves = (id_refused, request_refused, constraint_made, reserved_device, reserved_state, reserving_unchanged)
 
-module _ (old : DeviceState) (request : Request) (id : ℕ) (r : Range) (mid : AddressState) (i : IsDeviceState old) (p : PeeksId old.ids (Ok id))
+module _ (old : DeviceState) (request : Request) (id : ℕ) (r : Range) (mid : AddressState) (i : IsDeviceState old)
+    (p : PeeksId old.ids (Ok id))
     (a : Allocates old.space request (Ok r) mid) (ids : IdState) (space : AddressState) (slots : map.FinMap nat_cmp Range) where
   -- The predicted id and the range are entered.
   module _ (taken : Result ℕ Error) (t : AllocatesId old.ids taken ids) (f : space ≡ mid) (e : slots ≡ map.insert old.devices id r) where
@@ -214,20 +230,24 @@ unfolding Releases
 no_device old new id e same = rw e (refl, same)
 
 -- The id of a device is held, so freeing it fails only if memory runs out.
-pub release_refused : (old new : DeviceState) (id : ℕ) (r : Range) (e : Error) (back : Result ℕ Error) → IsDeviceState old → IsDevice old id r →
+pub release_refused : (old new : DeviceState) (id : ℕ) (r : Range) (e : Error) (back : Result ℕ Error) → IsDeviceState old →
+    IsDevice old id r →
     (IsHeld old.ids id → (back ≡ Ok id) ⊎ (back ≡ Err OutOfMemory)) → back ≡ Err e → new ≡ old → Releases old id (Err e) new
 unfolding Releases
 release_refused old new id r e back i d held is same =
     let memory : e ≡ OutOfMemory = ⊎_elim (λ k. absurd (cc (k, is))) (λ k. cc (k, is)) (held (id_held old id r i d)) in
     rw d (inr (ap (λ (v : Error). Err v) memory, same))
 
-range_freed : (old new : AddressState) (r : Range) (answer : Result (Unit {0}) Error) → Contains old.held r → Frees old r answer new → new ≡ releasing r old
+range_freed : (old new : AddressState) (r : Range) (answer : Result (Unit {0}) Error) → Contains old.held r → Frees old r answer new →
+    new ≡ releasing r old
 unfolding Frees
 range_freed old new r answer c f = grind arith
 
 -- The id and the range of a device are freed, and its entry is removed from the table.
-module _ (old : DeviceState) (id : ℕ) (r : Range) (ids : IdState) (space : AddressState) (slots : map.FinMap nat_cmp Range) (answer : Result (Unit {0}) Error)
-    (i : IsDeviceState old) (d : IsDevice old id r) (e : ids ≡ releasing_id id old.ids) (f : Frees old.space r answer space) (g : slots ≡ map.remove old.devices id) where
+module _ (old : DeviceState) (id : ℕ) (r : Range) (ids : IdState) (space : AddressState) (slots : map.FinMap nat_cmp Range)
+    (answer : Result (Unit {0}) Error)
+    (i : IsDeviceState old) (d : IsDevice old id r) (e : ids ≡ releasing_id id old.ids) (f : Frees old.space r answer space)
+    (g : slots ≡ map.remove old.devices id) where
   pub left : devices_of ids space slots ≡ without_device id r old
   left = cc (e, range_freed old.space space r answer (i.pairs.held id r d) f, g)
 

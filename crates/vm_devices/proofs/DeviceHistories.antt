@@ -13,7 +13,19 @@ use Rattle.vm_ranges.proofs.Clones.{cloning_keeps}
 use Rattle.vm_ranges.proofs.Histories.{history_keeps}
 use Rattle.vm_ranges.specs.Request.{Request}
 use Rattle.vm_ranges.specs.declared.error.Error.{Error}
-use Rattle.vm_devices.specs.Histories.{Reserve, Release, Clone, DeviceCall, IsDeviceCallFrom, IsDeviceHistoryFrom, IsManagerMade, BeginsWithDevices, AreDevicesReached, WasReserved, WasThereFirst}
+use Rattle.vm_devices.specs.Histories.{
+  Reserve,
+  Release,
+  Clone,
+  DeviceCall,
+  IsDeviceCallFrom,
+  IsDeviceHistoryFrom,
+  IsManagerMade,
+  BeginsWithDevices,
+  AreDevicesReached,
+  WasReserved,
+  WasThereFirst,
+}
 use Rattle.vm_devices.specs.Laws.{DevicesAreValid}
 use Rattle.vm_devices.proofs.Tables.{with_cases, without_is}
 use Rattle.vm_devices.proofs.Pairs.{id_held}
@@ -28,14 +40,17 @@ call_state (Clone, answer) old new i h = subst IsDeviceState (sym (cloning_keeps
 
 first_state : (first : DeviceState) → IsManagerMade first ⊎ BeginsWithDevices first → IsDeviceState first
 first_state first (inl m) = (made_state m.lo m.hi m.base m.size first m.id m.word m.made).0
-first_state first (inr (inl m)) = subst IsDeviceState (sym m.made.2) (record { ids = m.valid_ids; space = m.valid_space; pairs = m.made.1.pairs })
+first_state first (inr (inl m)) = subst IsDeviceState (sym m.made.2)
+    (record { ids = m.valid_ids; space = m.valid_space; pairs = m.made.1.pairs })
 first_state first (inr (inr r)) = encoded_state r.value first r.encoded
 
 reached_state : (calls : List DeviceCall) (old : DeviceState) → AreDevicesReached calls old → IsDeviceState old
-reached_state calls old r = history_keeps IsDeviceCallFrom IsDeviceState call_state calls r.first old (first_state r.first r.begins) r.history
+reached_state calls old r = history_keeps IsDeviceCallFrom IsDeviceState call_state calls r.first old (first_state r.first r.begins)
+    r.history
 
 -- ---- Each device was reserved
-reserved_later : (call : DeviceCall) (calls : List DeviceCall) (id : ℕ) (r : Range) → WasReserved calls id r → WasReserved (call ∷ calls) id r
+reserved_later : (call : DeviceCall) (calls : List DeviceCall) (id : ℕ) (r : Range) → WasReserved calls id r →
+    WasReserved (call ∷ calls) id r
 reserved_later call calls id r g =
     let c = g.call in
     record { request = g.request; call = (suc c.0, omega (arith, c.1), c.2); aligned = g.aligned; long = g.long; inside = g.inside }
@@ -64,7 +79,8 @@ call_reserves old new (Reserve request, answer) calls id r h d =
     (with_cases old.devices slot.id slot.range id r (rw made.2.left at d)))
     (reserving_outcome old new request answer h)
 call_reserves old new (Release q, answer) calls id r h d =
-    inl (⊎_elim (λ refused. rw refused.2 at d) (λ left. (without_is old.devices q id r (rw left.3 at d)).1) (releasing_outcome old new q answer h))
+    inl (⊎_elim (λ refused. rw refused.2 at d) (λ left. (without_is old.devices q id r (rw left.3 at d)).1)
+    (releasing_outcome old new q answer h))
 call_reserves old new (Clone, answer) calls id r h d = inl (rw (cloning_keeps old new answer h.0 h.1) at d)
 
 history_reserves : (calls : List DeviceCall) (first last : DeviceState) (id : ℕ) (r : Range) → IsDeviceHistoryFrom first calls last →
@@ -77,25 +93,29 @@ history_reserves (call ∷ calls) first last id r h d =
     (history_reserves calls h.0 last id r h.2 d)
 
 -- A new manager has no device. So a device of the first state was there from the start.
-first_devices : (first : DeviceState) (id : ℕ) (r : Range) → IsManagerMade first ⊎ BeginsWithDevices first → IsDevice first id r → WasThereFirst first id r
+first_devices : (first : DeviceState) (id : ℕ) (r : Range) → IsManagerMade first ⊎ BeginsWithDevices first → IsDevice first id r →
+    WasThereFirst first id r
 first_devices first id r (inl m) k =
     let none = (made_state m.lo m.hi m.base m.size first m.id m.word m.made).1 in
     let empty = map.get-empty {X = Range} nat_cmp id in
     absurd (cc (none, empty, k))
 first_devices first id r (inr begins) k = record { begins = begins; device = k }
 
-reached_reserved : (calls : List DeviceCall) (old : DeviceState) (id : ℕ) (r : Range) (h : AreDevicesReached calls old) → IsDevice old id r → WasReserved calls id r ⊎ WasThereFirst h.first id r
+reached_reserved : (calls : List DeviceCall) (old : DeviceState) (id : ℕ) (r : Range) (h : AreDevicesReached calls old) →
+    IsDevice old id r → WasReserved calls id r ⊎ WasThereFirst h.first id r
 reached_reserved calls old id r h d =
     ⊎_elim (λ k. inr (first_devices h.first id r h.begins k)) (λ g. inl g) (history_reserves calls h.first old id r h.history d)
 
 -- ---- The ids and ranges of devices
-devices_apart : (old : DeviceState) (i j : ℕ) (r s : Range) → IsDeviceState old → IsDevice old i r → IsDevice old j s → i ≢ j → ¬ Overlaps r s
+devices_apart : (old : DeviceState) (i j : ℕ) (r s : Range) → IsDeviceState old → IsDevice old i r → IsDevice old j s → i ≢ j →
+    ¬ Overlaps r s
 devices_apart old i j r s is d f ne o =
     let p = is.pairs in
     let same : r ≡ s = (lie_apart old.space is.space).apart r s (p.held i r d) (p.held j s f) o in
     ne (p.once i j s (d ∙ ap Some same) f)
 
-device_inside : (old : DeviceState) (id : ℕ) (r : Range) → IsDeviceState old → IsDevice old id r → IsOfRange old.ids id × Covers old.space.space r × (r.end < MAX)
+device_inside : (old : DeviceState) (id : ℕ) (r : Range) → IsDeviceState old → IsDevice old id r →
+    IsOfRange old.ids id × Covers old.space.space r × (r.end < MAX)
 device_inside old id r is d =
     let l = lie_apart old.space is.space in
     let c = is.pairs.held id r d in

@@ -16,7 +16,8 @@ use Rattle.vm_devices.specs.declared.device_slot.DeviceSlot.{DeviceSlot}
 -- An error before the allocation.
 pub left_same : (old new : DevicesInTree) (request : Request) (e : Error) → new ≡ old → ReservesInParts old request (Err e) new
 left_same old new request e same = record {
-  parts = subst (λ (v : DevicesInTree). TakesParts 2 old.addresses.tree (request ∷ []) v.addresses.tree) (sym same) (no_parts 2 old.addresses.tree (request ∷ []));
+  parts = subst (λ (v : DevicesInTree). TakesParts 2 old.addresses.tree (request ∷ []) v.addresses.tree) (sym same)
+      (no_parts 2 old.addresses.tree (request ∷ []));
   same = inl same;
 }
 
@@ -29,14 +30,16 @@ allocation_failed old new request answer e same part = record {
 }
 
 -- The range was allocated and is freed again, because memory ran out.
-pub range_returned : (old new : DevicesInTree) (mid : SpaceInTree) (request : Request) (r : Range) (freed : Result (Unit {0}) Error) → freed ≡ Ok tt →
+pub range_returned : (old new : DevicesInTree) (mid : SpaceInTree) (request : Request) (r : Range) (freed : Result (Unit {0}) Error) →
+    freed ≡ Ok tt →
     (n : ℕ) × HasParts old.addresses.tree (Allocating request (Ok r) n ∷ []) mid.tree →
     OnOk freed ((m : ℕ) × HasParts mid.tree (Freeing r m ∷ []) new.addresses.tree) → OnErr freed (new.addresses ≡ mid) →
     ReservesInParts old request (Err OutOfMemory) new
 range_returned old new mid request r freed is first second same =
     let free : (m : ℕ) × HasParts mid.tree (Freeing r m ∷ []) new.addresses.tree =
     subst (λ (v : Result (Unit {0}) Error). OnOk v ((m : ℕ) × HasParts mid.tree (Freeing r m ∷ []) new.addresses.tree)) is second in
-    let both = history_append HasPart (Allocating request (Ok r) first.0 ∷ []) (Freeing r free.0 ∷ []) old.addresses.tree mid.tree new.addresses.tree first.1 free.1 in
+    let both = history_append HasPart (Allocating request (Ok r) first.0 ∷ []) (Freeing r free.0 ∷ []) old.addresses.tree mid.tree
+    new.addresses.tree first.1 free.1 in
     let back : GivesBack old.addresses.tree request new.addresses.tree = (r, first.0, free.0, both) in
     record {
       parts = allocated_and_freed old.addresses mid new.addresses request (Ok r) r freed first second same;

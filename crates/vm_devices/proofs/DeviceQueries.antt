@@ -16,7 +16,8 @@ use Rattle.vm_devices.specs.Queries.{device_of, device_list, DeviceAt}
 use Rattle.vm_devices.proofs.Entries.{all_counted, has_range, range_had}
 
 -- ---- The list
-listed_ids : (state : DeviceState) → IsDeviceState state → map_list (λ (device : DeviceSlot). device.id) (device_list state) ≡ held_ids state.ids
+listed_ids : (state : DeviceState) → IsDeviceState state →
+    map_list (λ (device : DeviceSlot). device.id) (device_list state) ≡ held_ids state.ids
 listed_ids state i =
     map-map (λ (device : DeviceSlot). device.id) device_of (map.entries state.devices)
     ∙ same_rising (map.keys state.devices) (held_ids state.ids) (keys_rise state.devices) (listed_held.ascending state.ids) (λ q.
@@ -28,10 +29,13 @@ pub devices_listed : DevicesAreListed
 devices_listed = record {
   ids = listed_ids;
   ranges = λ state r i. (
-    λ c. let d = range_had state.devices r (subst (λ (rs : List Range). Contains rs r) (map-map (λ (device : DeviceSlot). device.range) device_of (map.entries state.devices)) c) in i.pairs.held d.0 r d.1,
+    λ c. let d = range_had state.devices r
+        (subst (λ (rs : List Range). Contains rs r) (map-map (λ (device : DeviceSlot). device.range) device_of (map.entries state.devices)) c)
+        in i.pairs.held d.0 r d.1,
     λ c.
         let d = i.pairs.owned r c in
-        subst (λ (rs : List Range). Contains rs r) (sym (map-map (λ (device : DeviceSlot). device.range) device_of (map.entries state.devices))) (has_range state.devices d.0 r d.1),
+        subst (λ (rs : List Range). Contains rs r)
+        (sym (map-map (λ (device : DeviceSlot). device.range) device_of (map.entries state.devices))) (has_range state.devices d.0 r d.1),
   );
   counted = λ state i.
       let all = all_counted state i.space i.pairs in

@@ -17,7 +17,8 @@ use Rattle.vm_engine.specs.Queries.{IsHeldAt}
 use Rattle.vm_devices.specs.Queries.{DeviceAt}
 
 -- Held ranges with the same start are the same range.
-pub one_start : (space : AddressState) → IsAddressState space → (q r : Range) → Contains space.held q → Contains space.held r → q.start ≡ r.start → q ≡ r
+pub one_start : (space : AddressState) → IsAddressState space → (q r : Range) → Contains space.held q → Contains space.held r →
+    q.start ≡ r.start → q ≡ r
 unfolding Overlaps
 one_start space i q r c d e =
     let l = lie_apart space i in
@@ -25,7 +26,8 @@ one_start space i q r c d e =
     let second = (l.inside r d).0 in
     l.apart q r c d (q.start, (omega arith, omega (arith, first)), (omega (arith, e), omega (arith, e, second)))
 
-pub devices_start_apart : (state : DeviceState) (j k : ℕ) (q r : Range) → IsDeviceState state → IsDevice state j q → IsDevice state k r → q.start ≡ r.start → j ≡ k
+pub devices_start_apart : (state : DeviceState) (j k : ℕ) (q r : Range) → IsDeviceState state → IsDevice state j q → IsDevice state k r →
+    q.start ≡ r.start → j ≡ k
 devices_start_apart state j k q r i a b e =
     i.pairs.once j k r (a ∙ ap Some (one_start state.space i.space q r (i.pairs.held j q a) (i.pairs.held k r b) e)) b
 
@@ -33,14 +35,16 @@ lowest_not_held : (ids : IdState) (id : ℕ) → PeeksId ids (Ok id) → ¬ IsHe
 unfolding PeeksId ByLowestNotHeld IsLowestNotHeld
 lowest_not_held ids id p k = grind arith
 
-pub new_device : (old : DeviceState) (mid : AddressState) (request : Request) (id : ℕ) (r : Range) → IsDeviceState old → PeeksId old.ids (Ok id) → Allocates old.space request (Ok r) mid → IsNew old.devices id r.start
+pub new_device : (old : DeviceState) (mid : AddressState) (request : Request) (id : ℕ) (r : Range) → IsDeviceState old →
+    PeeksId old.ids (Ok id) → Allocates old.space request (Ok r) mid → IsNew old.devices id r.start
 new_device old mid request id r i p a = record {
   id_is_new = absent (map.get old.devices id) (λ q e. lowest_not_held old.ids id p ((i.pairs.ids id).1 (subst IsSome (sym e) refl)));
   start_is_new = λ other h.
       let f = map_some (λ (q : Range). q.start) (map.get old.devices other) r.start h in
       let held = i.pairs.held other f.0 f.1 in
       let added = adds_range old.space mid request r i.space a in
-      let one = one_start mid (state_is_preserved.allocated old.space mid request (Ok r) i.space a) f.0 r ((added.held f.0).1 (inl held)) ((added.held r).1 (inr refl)) f.2 in
+      let one = one_start mid (state_is_preserved.allocated old.space mid request (Ok r) i.space a) f.0 r ((added.held f.0).1 (inl held))
+      ((added.held r).1 (inr refl)) f.2 in
       range_was_free old.space mid request r a (subst (Contains old.space.held) one held);
 }
 

@@ -22,18 +22,21 @@ use Rattle.vm_devices.proofs.Pairs.{id_held}
 use Rattle.vm_devices.proofs.DeviceCalls.{reserved_device}
 
 -- A device that was released is gone, unless memory ran out.
-device_released : (old new : DeviceState) (id : ℕ) (r : Range) (answer : Result (Unit {0}) Error) → IsDevice old id r → Releases old id answer new →
+device_released : (old new : DeviceState) (id : ℕ) (r : Range) (answer : Result (Unit {0}) Error) → IsDevice old id r →
+    Releases old id answer new →
     answer ≢ Err OutOfMemory → new ≡ without_device id r old
 unfolding Releases
 device_released old new id r answer d h plain = ⊎_elim (λ t. t.1) (λ m. absurd (plain m.0)) (rw d at h)
 
 -- The result of a reservation, if its request gets the range or memory runs out, and if its split fails.
 told_in_memory : (old new : DeviceState) (id : ℕ) (given : Result Range Error) (answer : Result DeviceSlot Error) (r : Range) →
-    Pairs old id given answer new → (given ≡ Ok r) ⊎ (given ≡ Err OutOfMemory) → (answer ≡ Ok (record { id = id; range = r })) ⊎ (answer ≡ Err OutOfMemory)
+    Pairs old id given answer new → (given ≡ Ok r) ⊎ (given ≡ Err OutOfMemory) →
+    (answer ≡ Ok (record { id = id; range = r })) ⊎ (answer ≡ Err OutOfMemory)
 told_in_memory old new id given answer r p e = grind arith
 
 told : (old new : DeviceState) (id : ℕ) (given : Result Range Error) (answer : Result DeviceSlot Error) (r : Range) →
-    Pairs old id given answer new → (given ≡ Ok r) ⊎ IsSplitError old.space given → (answer ≡ Ok (record { id = id; range = r })) ⊎ IsLimit old answer
+    Pairs old id given answer new → (given ≡ Ok r) ⊎ IsSplitError old.space given →
+    (answer ≡ Ok (record { id = id; range = r })) ⊎ IsLimit old answer
 told old new id given answer r p e = grind arith
 
 -- ---- The same request
@@ -42,11 +45,16 @@ lowest_again : (ids : IdState) (id : ℕ) → IsLowestNotHeld ids id → IsLowes
 unfolding IsLowestNotHeld
 lowest_again ids id h = (
   (h.0.0, λ k. (from_removed (holding_id id ids).held id id k).0 refl),
-  λ j n. h.1 j (n.0, λ k. n.1 (removed_other (holding_id id ids).held id j (λ e. h.0.1 (subst (IsHeld ids) e k)) (inserted_other ids.held id j k))),
+  λ j n. h.1 j (
+    n.0,
+    λ k. n.1
+        (removed_other (holding_id id ids).held id j (λ e. h.0.1 (subst (IsHeld ids) e k)) (inserted_other ids.held id j k)),
+  ),
 )
 
 -- The lowest id that is not held is the id that is allocated.
-for_lowest : (ids : IdState) (id : ℕ) (takes : ℕ → Type 0) (refused : Error → Type 0) → IsLowestNotHeld ids id → ByLowestNotHeld ids takes refused → takes id
+for_lowest : (ids : IdState) (id : ℕ) (takes : ℕ → Type 0) (refused : Error → Type 0) → IsLowestNotHeld ids id →
+    ByLowestNotHeld ids takes refused → takes id
 unfolding ByLowestNotHeld AreAllHeld IsLowestNotHeld
 for_lowest ids id takes refused lowest (inl h) = subst takes (one_lowest ids h.0 id h.1 lowest) h.2
 for_lowest ids id takes refused lowest (inr h) = absurd (lowest.0.1 (h.0 id lowest.0.0))
@@ -65,19 +73,23 @@ reserved_again old mid new later request slot released answer i s f plain t =
     let id = slot.id in
     let r = slot.range in
     let device : IsDevice mid id r = ap (λ (v : DeviceState). map.get v.devices id) m.left ∙ with_here old.devices id r in
-    let left : new ≡ without_device id r (with_device id r old) = device_released mid new id r released device f plain ∙ ap (without_device id r) m.left in
+    let left : new ≡ without_device id r (with_device id r old) = device_released mid new id r released device f plain
+    ∙ ap (without_device id r) m.left in
     let given = holding r old.space in
     let frees = frees_held given r (allocated_held old.space given request r m.given) in
-    let back : releasing r given ≡ old.space = (freeing_undoes old.space given (releasing r given) request r (Ok tt) i.space m.given frees).1 in
+    let back : releasing r given ≡ old.space =
+    (freeing_undoes old.space given (releasing r given) request r (Ok tt) i.space m.given frees).1 in
     let space : new.space ≡ old.space = ap (λ (v : DeviceState). v.space) left ∙ back in
-    let lowest : IsLowestNotHeld new.ids id = subst (λ (v : IdState). IsLowestNotHeld v id) (sym (ap (λ (v : DeviceState). v.ids) left)) (lowest_again old.ids id m.lowest) in
+    let lowest : IsLowestNotHeld new.ids id = subst (λ (v : IdState). IsLowestNotHeld v id) (sym (ap (λ (v : DeviceState). v.ids) left))
+    (lowest_again old.ids id m.lowest) in
     let u = for_lowest new.ids id _ _ lowest t in
     let first = subst (λ (v : AddressState). Allocates v request (Ok r) (holding r v)) (sym space) m.given in
     told_in_memory new later id u.0 answer r u.3 (same_given new.space u.1 request r u.0 first u.2)
 
 -- ---- The same range
 -- After an id is freed, some id is not held.
-for_some : (ids : IdState) (id : ℕ) (takes : ℕ → Type 0) (refused : Error → Type 0) → (ids.lo ≤ id) × (id ≤ ids.hi) → ByLowestNotHeld (releasing_id id ids) takes refused → (some : ℕ) × takes some
+for_some : (ids : IdState) (id : ℕ) (takes : ℕ → Type 0) (refused : Error → Type 0) → (ids.lo ≤ id) × (id ≤ ids.hi) →
+    ByLowestNotHeld (releasing_id id ids) takes refused → (some : ℕ) × takes some
 unfolding ByLowestNotHeld AreAllHeld
 for_some ids id takes refused inside (inl h) = (h.0, h.2)
 for_some ids id takes refused inside (inr h) = absurd ((from_removed ids.held id id (h.0 id inside)).0 refl)

@@ -17,22 +17,27 @@ use Rattle.vm_devices.specs.Histories.{Reserve, Release, Clone, IsDeviceCallFrom
 use Rattle.vm_devices.specs.Laws.{DevicesDecide}
 use Rattle.vm_devices.proofs.DeviceCalls.{reserving_unchanged, releasing_outcome}
 
-made_with : (ids : Result IdState Error) (x y : Result AddressState Error) (answer other : Result DeviceState Error) → answer ≢ Err OutOfMemory → other ≢ Err OutOfMemory →
+made_with : (ids : Result IdState Error) (x y : Result AddressState Error) (answer other : Result DeviceState Error) →
+    answer ≢ Err OutOfMemory → other ≢ Err OutOfMemory →
     (x ≢ Err OutOfMemory → y ≢ Err OutOfMemory → x ≡ y) → answer ≡ made_devices ids x → other ≡ made_devices ids y → answer ≡ other
 made_with (Err e) x y answer other p q same a b = a ∙ sym b
 made_with (Ok ids) x y answer other p q same a b =
     let tell = made_devices (Ok ids) in
     a ∙ ap tell (same (λ e. p (a ∙ ap tell e)) (λ e. q (b ∙ ap tell e))) ∙ sym b
 
-manager_once : (lo hi base size : ℕ) (answer other : Result DeviceState Error) → answer ≢ Err OutOfMemory → other ≢ Err OutOfMemory → MakesManager lo hi base size answer →
+manager_once : (lo hi base size : ℕ) (answer other : Result DeviceState Error) → answer ≢ Err OutOfMemory → other ≢ Err OutOfMemory →
+    MakesManager lo hi base size answer →
     MakesManager lo hi base size other → answer ≡ other
 unfolding MakesManager
 manager_once lo hi base size answer other p q a b =
-    made_with a.0 a.1 b.1 answer other p q (λ x y. made_once base size a.1 b.1 x y a.3 b.3) a.4 (rw (making_is_determined lo hi a.0 b.0 a.2 b.2) b.4)
+    made_with a.0 a.1 b.1 answer other p q (λ x y. made_once base size a.1 b.1 x y a.3 b.3) a.4
+    (rw (making_is_determined lo hi a.0 b.0 a.2 b.2) b.4)
 
 -- Two results for one id, and the states that they leave.
-module _ (old new later : DeviceState) (id : ℕ) (answer other : Result DeviceSlot Error) (p : answer ≢ Err OutOfMemory) (q : other ≢ Err OutOfMemory) where
-  pairs_same : (given : Result Range Error) → Pairs old id given answer new → Pairs old id given other later → (answer ≡ other) × (new ≡ later)
+module _ (old new later : DeviceState) (id : ℕ) (answer other : Result DeviceSlot Error) (p : answer ≢ Err OutOfMemory)
+    (q : other ≢ Err OutOfMemory) where
+  pairs_same : (given : Result Range Error) → Pairs old id given answer new → Pairs old id given other later →
+      (answer ≡ other) × (new ≡ later)
   pairs_same given a b = grind arith
 
   pairs_once : (given again : Result Range Error) → (given ≢ Err OutOfMemory → again ≢ Err OutOfMemory → given ≡ again) →
@@ -41,15 +46,18 @@ module _ (old new later : DeviceState) (id : ℕ) (answer other : Result DeviceS
       let one = same (λ e. p (rw e at a).0) (λ e. q (rw e at b).0) in
       pairs_same again (rw one at a) b
 
-reserved_once : (old new later : DeviceState) (request : Request) (answer other : Result DeviceSlot Error) → answer ≢ Err OutOfMemory → other ≢ Err OutOfMemory →
+reserved_once : (old new later : DeviceState) (request : Request) (answer other : Result DeviceSlot Error) → answer ≢ Err OutOfMemory →
+    other ≢ Err OutOfMemory →
     Reserves old request answer new → Reserves old request other later → (answer ≡ other) × (new ≡ later)
 unfolding Reserves
 reserved_once old new later request answer other p q a b =
     by_same_lowest old.ids _ _ _ _ ((answer ≡ other) × (new ≡ later)) a b
-    (λ id u v. pairs_once old new later id answer other p q u.0 v.0 (λ x y. (placed_once old.space u.1 v.1 request u.0 v.0 x y u.2 v.2).0) u.3 v.3)
+    (λ id u v. pairs_once old new later id answer other p q u.0 v.0 (λ x y. (placed_once old.space u.1 v.1 request u.0 v.0 x y u.2 v.2).0)
+    u.3 v.3)
     (λ e u v. (u.0 ∙ sym v.0, u.1 ∙ sym v.1))
 
-released_once : (old new later : DeviceState) (id : ℕ) (answer other : Result (Unit {0}) Error) → answer ≢ Err OutOfMemory → other ≢ Err OutOfMemory →
+released_once : (old new later : DeviceState) (id : ℕ) (answer other : Result (Unit {0}) Error) → answer ≢ Err OutOfMemory →
+    other ≢ Err OutOfMemory →
     Releases old id answer new → Releases old id other later → (answer ≡ other) × (new ≡ later)
 unfolding Releases
 released_once old new later id answer other p q a b = grind arith
@@ -68,7 +76,8 @@ same_device_results = same_results IsDeviceCallFrom call_once
 -- ---- An error changes nothing
 pub errors_change_nothing : ErrorsChangeNothing IsDeviceCallFrom
 errors_change_nothing old new (Reserve request) e h = reserving_unchanged old new request e h
-errors_change_nothing old new (Release id) e h = ⊎_elim (λ refused. refused.2) (λ left. absurd (cc (left.2))) (releasing_outcome old new id (Err e) h)
+errors_change_nothing old new (Release id) e h = ⊎_elim (λ refused. refused.2) (λ left. absurd (cc (left.2)))
+    (releasing_outcome old new id (Err e) h)
 errors_change_nothing old new Clone e h = cloning_keeps old new (Err e) h.0 h.1
 
 pub ruleset decides = (devices_decide, same_device_results, errors_change_nothing)

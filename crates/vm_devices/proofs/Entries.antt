@@ -1,6 +1,29 @@
 -- The entries of a map of ids to ranges. Devices pair all held ids with all held ranges if their number is right, each is
 -- held, and no two have the same range.
-use Rattle.std.proofs.Common.{◌≡◌, ◌≢◌, ℕ, ◌<◌, cond, List, [], ◌∷◌, length, get_or, map as map_list, refl, sym, ap, ◌∙◌, arith, Some, IsSome, ◌↔◌, subst, Option, None}
+use Rattle.std.proofs.Common.{
+  ◌≡◌,
+  ◌≢◌,
+  ℕ,
+  ◌<◌,
+  cond,
+  List,
+  [],
+  ◌∷◌,
+  length,
+  get_or,
+  map as map_list,
+  refl,
+  sym,
+  ap,
+  ◌∙◌,
+  arith,
+  Some,
+  IsSome,
+  ◌↔◌,
+  subst,
+  Option,
+  None,
+}
 use Rattle.std.proofs.lemmas.Cmp.{eq_by_cmp_equiv}
 use Rattle.std.proofs.lemmas.Simd.{map-map}
 use Rattle.std.proofs.lemmas.List.{map-id, get_or-map, length-map}
@@ -33,15 +56,18 @@ entries_again es = map-map entry_of device_of es ∙ map-id es
 
 module _ (m : map.FinMap nat_cmp Range) where
   pub entry_got : (id : ℕ) (r : Range) → map.get m id ≡ Some r → Contains (map.entries m) (id, r)
-  entry_got id r d = Contains-from_lookup (tells_apart exact_unsigned) id r (map.entries m) (sym (map.get-entries m id ∙ found id (map.entries m)) ∙ d)
+  entry_got id r d = Contains-from_lookup (tells_apart exact_unsigned) id r (map.entries m)
+      (sym (map.get-entries m id ∙ found id (map.entries m)) ∙ d)
 
   pub got_entry : (id : ℕ) (r : Range) → Contains (map.entries m) (id, r) → map.get m id ≡ Some r
   got_entry id r c =
       map.get-entries m id
       ∙ found id (map.entries m)
-      ∙ lookup-from_Contains (eq_by_cmp_equiv nat_cmp_total) id r (map.entries m) (IsDistinct-from_sorted nat_cmp (map.keys m) (keys_rise m)) c
+      ∙ lookup-from_Contains (eq_by_cmp_equiv nat_cmp_total) id r (map.entries m)
+      (IsDistinct-from_sorted nat_cmp (map.keys m) (keys_rise m)) c
 
-  pub entry_at : (k : ℕ) (e : ℕ × Range) → k < length (map.entries m) → map.get m (get_or (map.entries m) k e).0 ≡ Some (get_or (map.entries m) k e).1
+  pub entry_at : (k : ℕ) (e : ℕ × Range) → k < length (map.entries m) →
+      map.get m (get_or (map.entries m) k e).0 ≡ Some (get_or (map.entries m) k e).1
   entry_at k e l = got_entry _ _ (Contains-get_or (map.entries m) k e l)
 
   -- The ids and the ranges, as lists.
@@ -88,21 +114,26 @@ some_range (Some r) h = (r, refl)
 
 module _ (state : DeviceState) (i : IsAddressState state.space) where
   module _ (h : AreHeld state.ids state.space state.devices) where
-    counted_ids : (length (map.keys state.devices) ≡ held_count state.ids) ↔ ((id : ℕ) → IsHeld state.ids id → Contains (map.keys state.devices) id)
+    counted_ids : (length (map.keys state.devices) ≡ held_count state.ids)
+        ↔ ((id : ℕ) → IsHeld state.ids id → Contains (map.keys state.devices) id)
     counted_ids =
         ids_listed state.ids (map.keys state.devices) (ids_differ state.devices)
-        (All-map (IsHeld state.ids) (λ (e : ℕ × Range). e.0) (map.entries state.devices) (λ k e l. (h.held _ _ (entry_at state.devices k e l)).0))
+        (All-map (IsHeld state.ids) (λ (e : ℕ × Range). e.0) (map.entries state.devices)
+        (λ k e l. (h.held _ _ (entry_at state.devices k e l)).0))
 
-    counted_ranges : (length (map.values state.devices) ≡ length state.space.held) ↔ ((r : Range) → Contains state.space.held r → Contains (map.values state.devices) r)
+    counted_ranges : (length (map.values state.devices) ≡ length state.space.held)
+        ↔ ((r : Range) → Contains state.space.held r → Contains (map.values state.devices) r)
     counted_ranges =
         ranges_listed state.space (map.values state.devices) i (ranges_differ state.devices h.once)
-        (All-map (Contains state.space.held) (λ (e : ℕ × Range). e.1) (map.entries state.devices) (λ k e l. (h.held _ _ (entry_at state.devices k e l)).1))
+        (All-map (Contains state.space.held) (λ (e : ℕ × Range). e.1) (map.entries state.devices)
+        (λ k e l. (h.held _ _ (entry_at state.devices k e l)).1))
 
     pub pairs_all : AreCounted state.ids state.space state.devices → ArePaired state
     pairs_all a =
         let m = state.devices in
         let each_id = counted_ids.0 (length-map (map.entries m) (λ (e : ℕ × Range). e.0) ∙ sym (map.len-entries m) ∙ a.ids_counted) in
-        let each_range = counted_ranges.0 (length-map (map.entries m) (λ (e : ℕ × Range). e.1) ∙ sym (map.len-entries m) ∙ a.ranges_counted) in
+        let each_range = counted_ranges.0
+        (length-map (map.entries m) (λ (e : ℕ × Range). e.1) ∙ sym (map.len-entries m) ∙ a.ranges_counted) in
         record {
           ids = λ id. (λ k. id_had m id (each_id id k), λ k. let d = some_range (map.get m id) k in (h.held id d.0 d.1).0);
           held = λ id r d. (h.held id r d).1;
@@ -117,7 +148,8 @@ module _ (state : DeviceState) (i : IsAddressState state.space) where
   all_counted p =
       let m = state.devices in
       record {
-        ids_counted = map.len-entries m ∙ sym (length-map (map.entries m) (λ (e : ℕ × Range). e.0)) ∙ (counted_ids (all_held p)).1 (λ id h. has_id m id ((p.ids id).0 h));
+        ids_counted = map.len-entries m ∙ sym (length-map (map.entries m) (λ (e : ℕ × Range). e.0))
+            ∙ (counted_ids (all_held p)).1 (λ id h. has_id m id ((p.ids id).0 h));
         ranges_counted = map.len-entries m ∙ sym (length-map (map.entries m) (λ (e : ℕ × Range). e.1)) ∙ (counted_ranges (all_held p)).1
             (λ r h. let d = p.owned r h in has_range m d.0 r d.1);
       }

@@ -20,7 +20,8 @@ use Rattle.vm_ranges.proofs.Histories.{every_list}
 use Rattle.vm_devices.proofs.DeviceCalls.{id_refused, id_peeked}
 
 -- ---- Creating
-made_plainly : (ids : Result IdState Error) (space : Result AddressState Error) → ids ≢ Err OutOfMemory → space ≢ Err OutOfMemory → made_devices ids space ≢ Err OutOfMemory
+made_plainly : (ids : Result IdState Error) (space : Result AddressState Error) → ids ≢ Err OutOfMemory → space ≢ Err OutOfMemory →
+    made_devices ids space ≢ Err OutOfMemory
 made_plainly ids space p q h = grind arith
 
 total_makes : (lo hi base size : ℕ) → (answer : Result DeviceState Error) × MakesManager lo hi base size answer × (answer ≢ Err OutOfMemory)
@@ -38,12 +39,23 @@ IsAnswered old request =
 
 with_id : (old : DeviceState) (request : Request) (id : ℕ) (given : Result Range Error) (space : AddressState) → PeeksId old.ids (Ok id) →
     Allocates old.space request given space → given ≢ Err OutOfMemory → IsAnswered old request
-with_id old request id (Err e) space p a plain =
-    (Err e, old, id_peeked old old request id space (Err e) (Err e) p a (refl, refl), λ h. let same : e ≡ OutOfMemory = cc (h) in plain (ap (λ (v : Error). Err v) same))
-with_id old request id (Ok r) space p a plain =
-    (Ok (record { id = id; range = r }), with_device id r old, id_peeked old (with_device id r old) request id space (Ok r) _ p a (inl (refl, refl)), λ h. cc (h))
+with_id old request id (Err e) space p a plain = (
+  Err e,
+  old,
+  id_peeked old old request id space (Err e) (Err e) p a (refl, refl),
+  λ h. let same : e
+      ≡ OutOfMemory = cc (h) in plain (ap (λ (v : Error). Err v) same),
+)
+with_id old request id (Ok r) space p a plain = (
+  Ok (record { id = id; range = r }),
+  with_device id r old,
+  id_peeked old (with_device id r old) request id space (Ok r) _ p a
+      (inl (refl, refl)),
+  λ h. cc (h),
+)
 
-by_peeking : (old : DeviceState) (request : Request) (peeked : Result ℕ Error) → PeeksId old.ids peeked → peeked ≢ Err OutOfMemory → IsAnswered old request
+by_peeking : (old : DeviceState) (request : Request) (peeked : Result ℕ Error) → PeeksId old.ids peeked → peeked ≢ Err OutOfMemory →
+    IsAnswered old request
 by_peeking old request (Err e) p plain =
     (Err e, old, id_refused old old request e p refl, λ h. let same : e ≡ OutOfMemory = cc (h) in plain (ap (λ (v : Error). Err v) same))
 by_peeking old request (Ok id) p plain = let a = every_call.called old.space (Allocate request) in with_id old request id a.0 a.1 p a.2 a.3

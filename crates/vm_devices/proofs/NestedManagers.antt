@@ -33,7 +33,11 @@ manager_nests d state p =
         field_map (codes "id_allocator") d _ _ (λ v k. let e = ids_nest v state.ids k in omega (arith, e)) p.id_allocator,
         (
           field_map (codes "mmio_allocator") d _ _ (λ v k. addresses_nest v state.space k) p.mmio_allocator,
-          (field_map (codes "slots") d _ _ (λ v k. let e = list_within EncodesDevice 2 device_nests v p.listed k in omega (arith, e)) p.slots, tt),
+          (
+            field_map (codes "slots") d _ _ (λ v k. let e = list_within EncodesDevice 2 device_nests v p.listed k in omega (arith, e))
+                p.slots,
+            tt,
+          ),
         ),
       ),
     )
@@ -42,12 +46,14 @@ pub text_again : ManagerIsReadFromText
 text_again old value text parsed w t p =
     at parsed (parsed_again text (view value) parsed (let e = manager_nests (view value) old w in omega (arith, e)) t p) where
       at : (r : Result Value json.Error) → MatchResult r (λ v. view v ≡ view value) IsMemory →
-          MatchResult r (λ v. (answer : Result DeviceState ValueError) → ReadsInParts (EncodesManager (view v)) answer → (answer ≡ Ok old) ⊎ (answer ≡ Err OutOfMemory)) IsMemory
+          MatchResult r (λ v. (answer : Result DeviceState ValueError) → ReadsInParts (EncodesManager (view v)) answer → (answer ≡ Ok old) ⊎
+          (answer ≡ Err OutOfMemory)) IsMemory
       at (Ok v) e = λ answer k. read_again (view v) old answer (subst (λ (d : Data). EncodesManager d old) (sym e) w) k
       at (Err e) m = m
 
 -- The manager that is read through the text of a written value is the manager that was written.
-pub manager_through_text : (d e : Data) (old new : DeviceState) → EncodesManager d old → (depth d ≤ max_depth → e ≡ d) → EncodesManager e new → new ≡ old
+pub manager_through_text : (d e : Data) (old new : DeviceState) → EncodesManager d old → (depth d ≤ max_depth → e ≡ d) →
+    EncodesManager e new → new ≡ old
 manager_through_text d e old new s t q =
     let same = t (let n = manager_nests d old s in omega (arith, n)) in
     one_manager d new old (subst (λ (v : Data). EncodesManager v new) same q) s

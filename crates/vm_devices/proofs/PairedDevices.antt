@@ -1,6 +1,35 @@
 -- Devices that are entered in a table one by one: the table of all of them pairs the held ids with the held ranges, and a
 -- device that is not entered shows that they do not.
-use Rattle.std.proofs.Common.{◌≡◌, ℕ, ◌+◌, ◌<◌, ◌≤◌, ◌↔◌, List, [], ◌∷◌, ◌++◌, length, get_or, take, drop, refl, sym, ap, ◌∙◌, subst, arith, Option, Some, None, Bool, true, false, is_some, not}
+use Rattle.std.proofs.Common.{
+  ◌≡◌,
+  ℕ,
+  ◌+◌,
+  ◌<◌,
+  ◌≤◌,
+  ◌↔◌,
+  List,
+  [],
+  ◌∷◌,
+  ◌++◌,
+  length,
+  get_or,
+  take,
+  drop,
+  refl,
+  sym,
+  ap,
+  ◌∙◌,
+  subst,
+  arith,
+  Option,
+  Some,
+  None,
+  Bool,
+  true,
+  false,
+  is_some,
+  not,
+}
 use Rattle.std.proofs.lemmas.Grind.{common_steps}
 use Rattle.std.proofs.lemmas.List.{length-map, get_or-map, map-append, take_more, take_all, take-append-drop, length-take-le}
 use Rattle.std.proofs.lemmas.List.Elements.{Contains-get_or}
@@ -26,9 +55,12 @@ use Rattle.vm_devices.proofs.AscendingIds.{ids_of, front_ascends, id_at, ids_lon
 use Rattle.vm_devices.proofs.Tables.{absent, get_with}
 
 -- A device that is held can be inserted if and only if no id is found at its start.
-pub start_tested : (ids : IdState) (space : AddressState) (table : map.FinMap nat_cmp Range) (d : DeviceSlot) (new : Bool) (found : Option ℕ) → is_some found ≡ not new →
-    IsHeld ids d.id → Contains space.held d.range → ((id : ℕ) → (found ≡ Some id) ↔ StartsAt table id d.range.start) → IsTestOf new (CanBeInserted ids space table d)
-start_tested ids space table d true None e i r h = record { id_is_held = i; range_is_held = r; start_is_new = λ id s. absurd (cc ((h id).1 s)) }
+pub start_tested : (ids : IdState) (space : AddressState) (table : map.FinMap nat_cmp Range) (d : DeviceSlot) (new : Bool)
+    (found : Option ℕ) → is_some found ≡ not new →
+    IsHeld ids d.id → Contains space.held d.range → ((id : ℕ) → (found ≡ Some id) ↔ StartsAt table id d.range.start) →
+    IsTestOf new (CanBeInserted ids space table d)
+start_tested ids space table d true None e i r h = record
+    { id_is_held = i; range_is_held = r; start_is_new = λ id s. absurd (cc ((h id).1 s)) }
 start_tested ids space table d true (Some j) e i r h = absurd (cc (e))
 start_tested ids space table d false None e i r h = absurd (cc (e))
 start_tested ids space table d false (Some j) e i r h = λ can. can.start_is_new j ((h j).0 refl)
@@ -51,7 +83,8 @@ module _ (ds : List DeviceSlot) (s : HaveAscendingIds ds) where
       let c = Contains-get_or (entries_of ds) k (entry_of d) (omega (arith, l, length-map ds entry_of)) in
       got_entry (table_of ds) _ _ (rw entries_are (subst (Contains (entries_of ds)) at c))
 
-  place_of : (id : ℕ) (r : Range) → map.get (table_of ds) id ≡ Some r → (k : ℕ) × (k < length ds) × (get_or ds k (record { id = id; range = r }) ≡ record { id = id; range = r })
+  place_of : (id : ℕ) (r : Range) → map.get (table_of ds) id ≡ Some r →
+      (k : ℕ) × (k < length ds) × (get_or ds k (record { id = id; range = r }) ≡ record { id = id; range = r })
   place_of id r h =
       let d : DeviceSlot = record { id = id; range = r } in
       let c = rw entries_are at (entry_got (table_of ds) id r h) in
@@ -84,7 +117,8 @@ module _ (ids : IdState) (space : AddressState) (ds : List DeviceSlot) (s : Have
     other_ranges_held other a = other (sym (all_counted (listed_state ids space ds) v a.pairs).ranges_counted ∙ table_long ds s)
 
   -- The next device.
-  module _ (i : ℕ) (table : map.FinMap nat_cmp Range) (p : ArePairedSoFar ids space ds i table) (d : DeviceSlot) (l : i < length ds) (e : d ≡ get_or ds i d) where
+  module _ (i : ℕ) (table : map.FinMap nat_cmp Range) (p : ArePairedSoFar ids space ds i table) (d : DeviceSlot) (l : i < length ds)
+      (e : d ≡ get_or ds i d) where
     front : HaveAscendingIds (take i ds)
     front = front_ascends (take i ds) (drop i ds) (rw take-append-drop s)
 
@@ -97,7 +131,15 @@ module _ (ids : IdState) (space : AddressState) (ds : List DeviceSlot) (s : Have
         let same : get_or ds k.0 f ≡ f = grind (arith, common_steps, k.2) in
         let below = below_from_sorted (ids_of ds) k.0 i 0 s (omega arith) (omega (arith, l, ids_long ds)) in (
           subst (λ (g : DeviceSlot). map.get (table_of ds) g.id ≡ Some g.range) same (placed ds s k.0 f (omega arith)),
-          omega (arith, below, id_at ds k.0 f (omega arith), id_at ds i d l, ap (λ (g : DeviceSlot). g.id) same, ap (λ (g : DeviceSlot). g.id) e),
+          omega (
+            arith,
+            below,
+            id_at ds k.0 f (omega arith),
+            id_at ds i d l,
+            ap (λ (g : DeviceSlot). g.id) same,
+            ap
+                (λ (g : DeviceSlot). g.id) e,
+          ),
         )
 
     id_is_new : map.get table d.id ≡ None
@@ -109,7 +151,8 @@ module _ (ids : IdState) (space : AddressState) (ds : List DeviceSlot) (s : Have
     pub all_can_be_inserted : IsAddressState space → AreDevicesOf ids space ds → CanBeInserted ids space table d
     all_can_be_inserted v a =
         let all = all_held (listed_state ids space ds) v a.pairs in
-        let mine : map.get (table_of ds) d.id ≡ Some d.range = subst (λ (f : DeviceSlot). map.get (table_of ds) f.id ≡ Some f.range) (sym e) (placed ds s i d l) in
+        let mine : map.get (table_of ds) d.id ≡ Some d.range = subst (λ (f : DeviceSlot). map.get (table_of ds) f.id ≡ Some f.range) (sym e)
+        (placed ds s i d l) in
         let here = all.held d.id d.range mine in
         record {
           id_is_held = here.0;
@@ -128,25 +171,39 @@ module _ (ids : IdState) (space : AddressState) (ds : List DeviceSlot) (s : Have
         table_is = u
             ∙ ap (λ (m : map.FinMap nat_cmp Range). map.insert m d.id d.range) p.table_is
             ∙ sym (map.from_entries_push nat_cmp_total map.nat_cmp-IsAntisymmetric (entries_of (take i ds)) d.id d.range
-            (sym (map.get-from_entries nat_cmp_total (entries_of (take i ds)) d.id) ∙ ap (λ (m : map.FinMap nat_cmp Range). map.get m d.id) (sym p.table_is) ∙ id_is_new))
+            (sym (map.get-from_entries nat_cmp_total (entries_of (take i ds)) d.id)
+            ∙ ap (λ (m : map.FinMap nat_cmp Range). map.get m d.id) (sym p.table_is) ∙ id_is_new))
             ∙ ap (λ (es : List (ℕ × Range)). map.from_entries es)
-            (ap (λ (f : DeviceSlot). entries_of (take i ds) ++ entry_of f ∷ []) e ∙ sym (map-append entry_of (take i ds) (get_or ds i d ∷ []))
+            (ap (λ (f : DeviceSlot). entries_of (take i ds) ++ entry_of f ∷ []) e
+            ∙ sym (map-append entry_of (take i ds) (get_or ds i d ∷ []))
             ∙ ap (λ (fs : List DeviceSlot). entries_of fs) (sym (take_more ds i d l)));
         held = record {
           held = λ id r h. grind (arith, u, get_with table d.id d.range id, p.held.held id r, can.id_is_held, can.range_is_held, h);
           once = λ j k r g h.
-              grind (arith, u, get_with table d.id d.range j, get_with table d.id d.range k, p.held.once j k r, can.start_is_new j, can.start_is_new k, g, h);
+              grind (
+                arith,
+                u,
+                get_with table d.id d.range j,
+                get_with table d.id d.range k,
+                p.held.once j k r,
+                can.start_is_new j,
+                can.start_is_new k,
+                g,
+                h,
+              );
         };
       }
 
   -- After the last device.
-  pub all_in_pairs : (i : ℕ) (table : map.FinMap nat_cmp Range) → ArePairedSoFar ids space ds i table → length ds ≤ i → IsAddressState space →
+  pub all_in_pairs : (i : ℕ) (table : map.FinMap nat_cmp Range) → ArePairedSoFar ids space ds i table → length ds ≤ i →
+      IsAddressState space →
       held_count ids ≡ length ds → length space.held ≡ length ds → AreDevicesOf ids space ds × (table ≡ map.from_entries (entries_of ds))
   all_in_pairs i table p l v m n =
       let same : table ≡ table_of ds = p.table_is ∙ ap (λ (fs : List DeviceSlot). table_of fs) (take_all i ds l) in (
         record {
           ascending = s;
-          pairs = pairs_all (listed_state ids space ds) v (subst (AreHeld ids space) same p.held) (record { ids_counted = table_long ds s ∙ sym m; ranges_counted = table_long ds s ∙ sym n });
+          pairs = pairs_all (listed_state ids space ds) v (subst (AreHeld ids space) same p.held)
+              (record { ids_counted = table_long ds s ∙ sym m; ranges_counted = table_long ds s ∙ sym n });
         },
         same,
       )

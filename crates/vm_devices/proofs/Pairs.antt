@@ -46,17 +46,23 @@ module _ (old : DeviceState) (id : ℕ) (r : Range) where
   state_with request i a s = record {
     ids = id_states_are_preserved.allocated old.ids (holding_id id old.ids) (Ok id) i.ids a;
     space = state_is_preserved.allocated old.space (holding r old.space) request (Ok r) i.space s;
-    pairs = pairs_with i.pairs (id_was_free old.ids (holding_id id old.ids) (Ok id) a) (allocating_adds old.ids (holding_id id old.ids) id i.ids a)
+    pairs = pairs_with i.pairs (id_was_free old.ids (holding_id id old.ids) (Ok id) a)
+        (allocating_adds old.ids (holding_id id old.ids) id i.ids a)
         (range_was_free old.space (holding r old.space) request r s) (adds_range old.space (holding r old.space) request r i.space s);
   }
 
   -- ---- A released device
-  pairs_without : ArePaired old → IsDevice old id r → RemovesId old.ids (releasing_id id old.ids) id → RemovesRange old.space (releasing r old.space) r →
+  pairs_without : ArePaired old → IsDevice old id r → RemovesId old.ids (releasing_id id old.ids) id →
+      RemovesRange old.space (releasing r old.space) r →
       ArePaired (without_device id r old)
   pairs_without p d a s = record {
     ids = λ q. (
       λ h. grind (arith, get_without old.devices id q, (p.ids q).0, (a.held q).0 h),
-      λ k. (a.held q).1 (grind (arith, get_without old.devices id q, (p.ids q).1, k), λ e. grind (arith, get_without old.devices id q, k, e)),
+      λ k. (a.held q).1 (
+        grind (arith, get_without old.devices id q, (p.ids q).1, k),
+        λ e. grind
+            (arith, get_without old.devices id q, k, e),
+      ),
     );
     held = λ q t k.
         let w = without_is old.devices id q t k in
@@ -86,5 +92,6 @@ module _ (old : DeviceState) (id : ℕ) (r : Range) where
     state_without = record {
       ids = id_states_are_preserved.freed old.ids (releasing_id id old.ids) id (Ok id) i.ids frees_id;
       space = state_is_preserved.freed old.space (releasing r old.space) r (Ok tt) i.space frees_range;
-      pairs = pairs_without i.pairs d (freeing_removes old.ids (releasing_id id old.ids) id id frees_id) (removes_range old.space (releasing r old.space) r i.space frees_range);
+      pairs = pairs_without i.pairs d (freeing_removes old.ids (releasing_id id old.ids) id id frees_id)
+          (removes_range old.space (releasing r old.space) r i.space frees_range);
     }

@@ -1,5 +1,41 @@
 -- A manager's value and its list of devices: what is read is what they encode, and a written value encodes the manager.
-use Rattle.std.proofs.Common.{◌≡◌, ℕ, ◌+◌, ◌<◌, List, [], ◌∷◌, ◌++◌, length, get_or, take, zero, suc, Some, None, option_and_then, Ok, Err, refl, sym, ap, ◌∙◌, subst, arith, codes, ◌⊎◌, Bool, true, Option, Result, map as map_list, inl, inr, cond, option_map}
+use Rattle.std.proofs.Common.{
+  ◌≡◌,
+  ℕ,
+  ◌+◌,
+  ◌<◌,
+  List,
+  [],
+  ◌∷◌,
+  ◌++◌,
+  length,
+  get_or,
+  take,
+  zero,
+  suc,
+  Some,
+  None,
+  option_and_then,
+  Ok,
+  Err,
+  refl,
+  sym,
+  ap,
+  ◌∙◌,
+  subst,
+  arith,
+  codes,
+  ◌⊎◌,
+  Bool,
+  true,
+  Option,
+  Result,
+  map as map_list,
+  inl,
+  inr,
+  cond,
+  option_map,
+}
 use Rattle.std.proofs.lemmas.List.{take_more}
 use Rattle.std.proofs.lemmas.Option.{same_Some}
 use Rattle.serde_json.specs.Data.{Data, Items, no_items, item}
@@ -84,7 +120,8 @@ front_encoded (v ∷ vs) (suc i) (e ∷ es) s =
     (e ∷ f.0, f.1, (s.0, f.2), ap (λ (xs : List (ℕ × Range)). e ∷ xs) f.3)
 
 -- Each item encodes a device.
-some_device : (vs : List Value) (i : ℕ) (v : Value) (es : List (ℕ × Range)) → i < length vs → EncodesItems EncodesDevice (items_view vs) es → (e : ℕ × Range) × EncodesDevice (view (get_or vs i v)) e
+some_device : (vs : List Value) (i : ℕ) (v : Value) (es : List (ℕ × Range)) → i < length vs →
+    EncodesItems EncodesDevice (items_view vs) es → (e : ℕ × Range) × EncodesDevice (view (get_or vs i v)) e
 some_device [] i v es l s = absurd (omega (arith, l))
 some_device (w ∷ vs) i v [] l s = absurd s
 some_device (w ∷ vs) zero v (e ∷ es) l s = (e, s.0)
@@ -103,7 +140,8 @@ module _ (vs : List Value) (i : ℕ) (v : Value) (l : i < length vs) (e : v ≡ 
       let both : None ≡ Some some.0 = sym none ∙ found in
       absurd (cc (both))
 
-  module _ (devices : List DeviceSlot) (d : DeviceSlot) (s : AreReadSoFar vs i devices) (f : decoded_device (view v) ≡ Some (entry_of d)) where
+  module _ (devices : List DeviceSlot) (d : DeviceSlot) (s : AreReadSoFar vs i devices)
+      (f : decoded_device (view v) ≡ Some (entry_of d)) where
     one_more : EncodesItems EncodesDevice (items_view (take (i + 1) vs)) (entries_of (devices ++ d ∷ []))
     one_more =
         encodes_more EncodesDevice entry_of (take i vs) (take (i + 1) vs) v devices d
@@ -112,10 +150,12 @@ module _ (vs : List Value) (i : ℕ) (v : Value) (l : i < length vs) (e : v ≡ 
     pub one_read : (new : List DeviceSlot) → PushesDevice devices d (Ok tt) new → AreReadSoFar vs (i + 1) new
     one_read new p = record { encoded = rw p.0 one_more; ascending = p.1 }
 
-    pub push_refused : (error : SavedError) (new : List DeviceSlot) → PushesDevice devices d (Err error) new → ReadsInParts (EncodesDevices (items_view vs)) (Err (value_error error))
+    pub push_refused : (error : SavedError) (new : List DeviceSlot) → PushesDevice devices d (Err error) new →
+        ReadsInParts (EncodesDevices (items_view vs)) (Err (value_error error))
     push_refused (Violated c) new p = λ t.
         let front = front_encoded vs (i + 1) (entries_of t.0) t.1.encoded in
-        let same : front.0 ≡ entries_of (devices ++ d ∷ []) = one_list (items_view (take (i + 1) vs)) front.0 (entries_of (devices ++ d ∷ [])) front.2 one_more in
+        let same : front.0 ≡ entries_of (devices ++ d ∷ []) = one_list (items_view (take (i + 1) vs)) front.0
+        (entries_of (devices ++ d ∷ [])) front.2 one_more in
         p.2 (subst Sorted same (front_entries front.0 front.1 (subst Sorted front.3 t.1.ascending)))
     push_refused OutOfMemory new p = tt
 
@@ -130,7 +170,8 @@ pub record EncodesFields (p : ℕ × Data × Data × Items) (state : DeviceState
   pub listed : state ≡ listed_state state.ids state.space devices
   pub pairs : ArePaired state
 
-pub fields_of : (d : Data) (state : DeviceState) → EncodesManager d state → (p : ℕ × Data × Data × Items) × (decoded_manager d ≡ Some p) × EncodesFields p state
+pub fields_of : (d : Data) (state : DeviceState) → EncodesManager d state →
+    (p : ℕ × Data × Data × Items) × (decoded_manager d ≡ Some p) × EncodesFields p state
 fields_of d state s =
     let ids = in_field (codes "id_allocator") d (λ v. EncodesIds v state.ids) s.id_allocator in
     let space = in_field (codes "mmio_allocator") d (λ v. EncodesAddresses v state.space) s.mmio_allocator in
@@ -161,7 +202,8 @@ opened t a b c e p h = grind arith
 
 module _ (d : Data) (p : ℕ × Data × Data × Items) (found : decoded_manager d ≡ Some p) where
   to_fields : (state : DeviceState) → EncodesManager d state → EncodesFields p state
-  to_fields state s = let f = fields_of d state s in subst (λ (q : ℕ × Data × Data × Items). EncodesFields q state) (same_Some f.0 p (sym f.1 ∙ found)) f.2
+  to_fields state s = let f = fields_of d state s in subst (λ (q : ℕ × Data × Data × Items). EncodesFields q state)
+      (same_Some f.0 p (sym f.1 ∙ found)) f.2
 
   from_fields : (state : DeviceState) → EncodesFields p state → EncodesManager d state
   from_fields state f =
@@ -181,7 +223,8 @@ module _ (d : Data) (p : ℕ × Data × Data × Items) (found : decoded_manager 
       }
 
   -- The result of reading the fields is the result of reading the value.
-  pub fields_read : (answer : Result DeviceState ValueError) → ReadsInParts (EncodesFields p) answer → ReadsInParts (EncodesManager d) answer
+  pub fields_read : (answer : Result DeviceState ValueError) → ReadsInParts (EncodesFields p) answer →
+      ReadsInParts (EncodesManager d) answer
   fields_read (Ok state) f = from_fields state f
   fields_read (Err NotAState) none = λ h. none (h.0, to_fields h.0 h.1)
   fields_read (Err OutOfMemory) r = tt
@@ -200,7 +243,8 @@ module _ (p : ℕ × Data × Data × Items) where
   slots_refused NotAState none = λ h. none (h.1.devices, h.1.slots)
   slots_refused OutOfMemory r = tt
 
-  module _ (ids : IdState) (space : AddressState) (devices : List DeviceSlot) (i : EncodesIds p.1 ids) (a : EncodesAddresses p.2 space) (l : EncodesDevices p.3 devices) where
+  module _ (ids : IdState) (space : AddressState) (devices : List DeviceSlot) (i : EncodesIds p.1 ids) (a : EncodesAddresses p.2 space)
+      (l : EncodesDevices p.3 devices) where
     -- A manager that the fields encode has these parts.
     its_parts : (state : DeviceState) → EncodesFields p state → state ≡ listed_state ids space devices
     its_parts state f =
@@ -210,10 +254,13 @@ module _ (p : ℕ × Data × Data × Items) where
         f.listed ∙ (λ k. devices_of (same_ids k) (same_space k) (map.from_entries (list k)))
 
     pub parts_read : (state : DeviceState) → MakesOfDevices p.0 ids space devices (Ok state) → EncodesFields p state
-    parts_read state made = rw made.2 (record { version = made.0; ids = i; space = a; devices = devices; slots = l; listed = refl; pairs = made.1.pairs })
+    parts_read state made = rw made.2
+        (record { version = made.0; ids = i; space = a; devices = devices; slots = l; listed = refl; pairs = made.1.pairs })
 
-    pub parts_refused : (e : SavedError) → MakesOfDevices p.0 ids space devices (Err e) → ReadsInParts (EncodesFields p) (Err (value_error e))
-    parts_refused (Violated c) (inl refused) = λ h. refused.1.1 (record { ascending = l.ascending; pairs = subst ArePaired (its_parts h.0 h.1) h.1.pairs })
+    pub parts_refused : (e : SavedError) → MakesOfDevices p.0 ids space devices (Err e) →
+        ReadsInParts (EncodesFields p) (Err (value_error e))
+    parts_refused (Violated c) (inl refused) = λ h. refused.1.1
+        (record { ascending = l.ascending; pairs = subst ArePaired (its_parts h.0 h.1) h.1.pairs })
     parts_refused (Violated c) (inr refused) = λ h. refused.0 h.1.version
     parts_refused saved_errors.OutOfMemory made = tt
 
@@ -228,7 +275,8 @@ one_manager d a b s t =
     let f = fields_of d b t in
     its_parts f.0 b.ids b.space f.2.devices f.2.ids f.2.space f.2.slots a (to_fields d f.0 f.1 a s) ∙ sym f.2.listed
 
-pub read_again : (d : Data) (old : DeviceState) (answer : Result DeviceState ValueError) → EncodesManager d old → ReadsInParts (EncodesManager d) answer → (answer ≡ Ok old) ⊎ (answer ≡ Err OutOfMemory)
+pub read_again : (d : Data) (old : DeviceState) (answer : Result DeviceState ValueError) → EncodesManager d old →
+    ReadsInParts (EncodesManager d) answer → (answer ≡ Ok old) ⊎ (answer ≡ Err OutOfMemory)
 read_again d old (Ok new) s r = inl (ap (λ (v : DeviceState). Ok v) (one_manager d new old r s))
 read_again d old (Err NotAState) s r = absurd (r (old, s))
 read_again d old (Err OutOfMemory) s r = inr refl
@@ -237,7 +285,8 @@ pub manager_again : ManagerIsReadAgain
 manager_again = record { one = one_manager; again = read_again }
 
 -- ---- A written value encodes the manager
-pub manager_written : {d ids space slots : Data} {i : IdState} {a : AddressState} (table : map.FinMap nat_cmp Range) → ManagerParts d ids space slots →
+pub manager_written : {d ids space slots : Data} {i : IdState} {a : AddressState} (table : map.FinMap nat_cmp Range) →
+    ManagerParts d ids space slots →
     EncodesIds ids i → EncodesAddresses space a → EncodesList slots (entries_of (device_list (devices_of i a table))) →
     IsDeviceState (devices_of i a table) → EncodesManager d (devices_of i a table)
 manager_written {d} {ids} {space} {slots} {i} {a} table p is held ss state = record {
@@ -246,7 +295,8 @@ manager_written {d} {ids} {space} {slots} {i} {a} table p is held ss state = rec
   id_allocator = field_is (codes "id_allocator") d ids (λ v. EncodesIds v i) p.ids_is is;
   mmio_allocator = field_is (codes "mmio_allocator") d space (λ v. EncodesAddresses v a) p.space_is held;
   listed = map.entries table;
-  slots = field_is (codes "slots") d slots (λ v. EncodesList v (map.entries table)) p.slots_is (rw (entries_again (map.entries table)) at ss);
+  slots = field_is (codes "slots") d slots (λ v. EncodesList v (map.entries table)) p.slots_is
+      (rw (entries_again (map.entries table)) at ss);
   ascending = keys_rise table;
   devices = sym (whole_map table);
   pairs = state.pairs;

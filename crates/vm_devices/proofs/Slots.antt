@@ -1,5 +1,36 @@
 -- Ranges of devices in a list of slots.
-use Rattle.std.proofs.Common.{◌≡◌, ◌==◌, ℕ, suc, nat_lt, ◌+◌, ◌-◌, ◌≤◌, ◌<◌, cond, slice_set, List, [], ◌∷◌, ◌++◌, length, map as map_list, get_or, Option, Some, None, refl, sym, ap, ◌∙◌, append_assoc, append-nil, drop, arith, Less}
+use Rattle.std.proofs.Common.{
+  ◌≡◌,
+  ◌==◌,
+  ℕ,
+  suc,
+  nat_lt,
+  ◌+◌,
+  ◌-◌,
+  ◌≤◌,
+  ◌<◌,
+  cond,
+  slice_set,
+  List,
+  [],
+  ◌∷◌,
+  ◌++◌,
+  length,
+  map as map_list,
+  get_or,
+  Option,
+  Some,
+  None,
+  refl,
+  sym,
+  ap,
+  ◌∙◌,
+  append_assoc,
+  append-nil,
+  drop,
+  arith,
+  Less,
+}
 use Rattle.std.proofs.lemmas.Grind.{common_steps}
 use Rattle.std.proofs.lemmas.List.{drop_all, drop_more, length_push, map-append}
 use Rattle.std.specs.Cmp.{nat_cmp_total, unsigned_tied}
@@ -20,7 +51,8 @@ use Rattle.vm_devices.proofs.Tables.{get_with, get_without}
 abbrev slot_of : ℕ → List (Option Range) → ℕ → Option Range
 slot_of f slots q = cond (nat_lt q f) None (get_or slots (q - f) None)
 
-next_slot : (f : ℕ) (slot : Option Range) (slots : List (Option Range)) (q : ℕ) → slot_of f (slot ∷ slots) q ≡ cond (q == f) slot (slot_of (f + 1) slots q)
+next_slot : (f : ℕ) (slot : Option Range) (slots : List (Option Range)) (q : ℕ) →
+    slot_of f (slot ∷ slots) q ≡ cond (q == f) slot (slot_of (f + 1) slots q)
 next_slot f slot slots q = grind (arith, common_steps)
 
 found_slot : (f : ℕ) (slots : List (Option Range)) (q : ℕ) → map.find nat_cmp q (slot_entries f slots) ≡ slot_of f slots q
@@ -50,17 +82,21 @@ module _ (f : ℕ) (slots : List (Option Range)) (q : ℕ) (b : f ≤ q) (l : q 
   pub inserted_here : (r : Range) → slot_map f (slice_set slots (q - f) (Some r)) ≡ map.insert (slot_map f slots) q r
   inserted_here r =
       map.same_map nat_cmp_total map.nat_cmp-IsAntisymmetric _ _ (λ p.
-      got_slot f (slice_set slots (q - f) (Some r)) p ∙ written (Some r) p ∙ ap (cond (p == q) (Some r)) (sym (got_slot f slots p)) ∙ sym (get_with (slot_map f slots) q r p))
+      got_slot f (slice_set slots (q - f) (Some r)) p ∙ written (Some r) p ∙ ap (cond (p == q) (Some r)) (sym (got_slot f slots p))
+      ∙ sym (get_with (slot_map f slots) q r p))
 
   pub removed_here : slot_map f (slice_set slots (q - f) None) ≡ map.remove (slot_map f slots) q
   removed_here =
       map.same_map nat_cmp_total map.nat_cmp-IsAntisymmetric _ _ (λ p.
-      got_slot f (slice_set slots (q - f) None) p ∙ written None p ∙ ap (cond (p == q) None) (sym (got_slot f slots p)) ∙ sym (get_without (slot_map f slots) q p))
+      got_slot f (slice_set slots (q - f) None) p ∙ written None p ∙ ap (cond (p == q) None) (sym (got_slot f slots p))
+      ∙ sym (get_without (slot_map f slots) q p))
 
 pub none_removed : {X : Type 0} (m : map.FinMap nat_cmp X) (k : ℕ) → map.get m k ≡ None → m ≡ map.remove m k
-none_removed m k n = map.same_map nat_cmp_total map.nat_cmp-IsAntisymmetric m (map.remove m k) (λ q. let r = get_without m k q in grind (arith, common_steps, r, n))
+none_removed m k n = map.same_map nat_cmp_total map.nat_cmp-IsAntisymmetric m (map.remove m k)
+    (λ q. let r = get_without m k q in grind (arith, common_steps, r, n))
 
-pub none_left : (f : ℕ) (slots : List (Option Range)) (q : ℕ) → slot_of f slots q ≡ None → slot_map f slots ≡ map.remove (slot_map f slots) q
+pub none_left : (f : ℕ) (slots : List (Option Range)) (q : ℕ) → slot_of f slots q ≡ None →
+    slot_map f slots ≡ map.remove (slot_map f slots) q
 none_left f slots q n = none_removed (slot_map f slots) q (got_slot f slots q ∙ n)
 
 pub ruleset removals = (got_slot, none_left, removed_here)
@@ -75,7 +111,8 @@ pub no_slots : (f g : ℕ) (slots : List (Option Range)) → length slots ≡ 0 
 no_slots f g [] e = refl
 no_slots f g (s ∷ slots) e = absurd (omega (arith, e))
 
-pub lowered : (f g n : ℕ) (ss ts : List (Option Range)) → ((id : ℕ) → slot_entries id ss ≡ slot_entries (id + n) ts) → f + n ≡ g → slot_entries f ss ≡ slot_entries g ts
+pub lowered : (f g n : ℕ) (ss ts : List (Option Range)) → ((id : ℕ) → slot_entries id ss ≡ slot_entries (id + n) ts) → f + n ≡ g →
+    slot_entries f ss ≡ slot_entries g ts
 lowered f g n ss ts h e = h f ∙ ap (λ (v : ℕ). slot_entries v ts) e
 
 pub ruleset first_lowered = (no_slots, lowered)
@@ -103,40 +140,55 @@ entries_counted f slots = map.len-entries (slot_map f slots) ∙ ap length (entr
 pub ruleset listings = (entries_of_slots, entries_counted)
 
 -- ---- The last slot
-one_further : (f : ℕ) (slots : List (Option Range)) (r : Range) {all : List (ℕ × Range)} → all ≡ slot_entries (f + 1) slots ++ (f + 1 + length slots, r) ∷ [] → all ≡ slot_entries (f + 1) slots ++ (f + suc (length slots), r) ∷ []
-one_further f slots r e = let here : f + 1 + length slots ≡ f + suc (length slots) = omega arith in e ∙ ap (λ (n : ℕ). slot_entries (f + 1) slots ++ (n, r) ∷ []) here
+one_further : (f : ℕ) (slots : List (Option Range)) (r : Range) {all : List (ℕ × Range)} →
+    all ≡ slot_entries (f + 1) slots ++ (f + 1 + length slots, r) ∷ [] →
+    all ≡ slot_entries (f + 1) slots ++ (f + suc (length slots), r) ∷ []
+one_further f slots r e = let here : f + 1 + length slots ≡ f + suc (length slots) = omega arith in e
+    ∙ ap (λ (n : ℕ). slot_entries (f + 1) slots ++ (n, r) ∷ []) here
 
-device_last : (f : ℕ) (slots : List (Option Range)) (r : Range) → slot_entries f (slots ++ Some r ∷ []) ≡ slot_entries f slots ++ (f + length slots, r) ∷ []
+device_last : (f : ℕ) (slots : List (Option Range)) (r : Range) →
+    slot_entries f (slots ++ Some r ∷ []) ≡ slot_entries f slots ++ (f + length slots, r) ∷ []
 device_last f [] r = let here : f ≡ f + 0 = omega arith in ap (λ (n : ℕ). (n, r) ∷ []) here
 device_last f (None ∷ slots) r = one_further f slots r (device_last (f + 1) slots r)
 device_last f (Some s ∷ slots) r = ap (λ (v : List (ℕ × Range)). (f, s) ∷ v) (one_further f slots r (device_last (f + 1) slots r))
 
-pub last_counted : (f : ℕ) (slots : List (Option Range)) (r : Range) → length (slot_entries f (slots ++ Some r ∷ [])) ≡ length (slot_entries f slots) + 1
+pub last_counted : (f : ℕ) (slots : List (Option Range)) (r : Range) →
+    length (slot_entries f (slots ++ Some r ∷ [])) ≡ length (slot_entries f slots) + 1
 last_counted f slots r = ap length (device_last f slots r) ∙ length_push (slot_entries f slots) (f + length slots, r)
 
-pub last_listed : (f : ℕ) (slots : List (Option Range)) (r : Range) → map_list device_of (slot_entries f (slots ++ Some r ∷ [])) ≡ map_list device_of (slot_entries f slots) ++ device_of (f + length slots, r) ∷ []
-last_listed f slots r = ap (map_list device_of) (device_last f slots r) ∙ map-append device_of (slot_entries f slots) ((f + length slots, r) ∷ [])
+pub last_listed : (f : ℕ) (slots : List (Option Range)) (r : Range) →
+    map_list device_of (slot_entries f (slots ++ Some r ∷ []))
+    ≡ map_list device_of (slot_entries f slots) ++ device_of (f + length slots, r) ∷ []
+last_listed f slots r = ap (map_list device_of) (device_last f slots r)
+    ∙ map-append device_of (slot_entries f slots) ((f + length slots, r) ∷ [])
 
-pub one_more_listed : (f : ℕ) (slots : List (Option Range)) (r : Range) → length (map_list device_of (slot_entries f (slots ++ Some r ∷ []))) ≡ length (map_list device_of (slot_entries f slots)) + 1
-one_more_listed f slots r = ap length (last_listed f slots r) ∙ length_push (map_list device_of (slot_entries f slots)) (device_of (f + length slots, r))
+pub one_more_listed : (f : ℕ) (slots : List (Option Range)) (r : Range) →
+    length (map_list device_of (slot_entries f (slots ++ Some r ∷ []))) ≡ length (map_list device_of (slot_entries f slots)) + 1
+one_more_listed f slots r = ap length (last_listed f slots r)
+    ∙ length_push (map_list device_of (slot_entries f slots)) (device_of (f + length slots, r))
 
 pub ruleset last_slot = (empty_last, last_counted, last_listed, one_more_listed)
 
 -- ---- Slots that are copied behind empty slots
 -- One more empty slot in front leaves the entries of the next id.
-pub more_empty : (slots : List (Option Range)) (n : ℕ) → ((id : ℕ) (rest : List (Option Range)) → slot_entries id (slots ++ rest) ≡ slot_entries (id + n) rest) → (id : ℕ) (rest : List (Option Range)) → slot_entries id ((slots ++ None ∷ []) ++ rest) ≡ slot_entries (id + (n + 1)) rest
+pub more_empty : (slots : List (Option Range)) (n : ℕ) →
+    ((id : ℕ) (rest : List (Option Range)) → slot_entries id (slots ++ rest) ≡ slot_entries (id + n) rest) →
+    (id : ℕ) (rest : List (Option Range)) → slot_entries id ((slots ++ None ∷ []) ++ rest) ≡ slot_entries (id + (n + 1)) rest
 more_empty slots n empty id rest =
     let one : id + n + 1 ≡ id + (n + 1) = omega arith in
     ap (slot_entries id) (append_assoc slots (None ∷ []) rest) ∙ empty id (None ∷ rest) ∙ ap (λ first. slot_entries first rest) one
 
 -- After the last slot is copied behind empty slots, the entries are those of a higher first id.
-pub all_copied : (all first slots : List (Option Range)) (i n : ℕ) → ((id : ℕ) (rest : List (Option Range)) → slot_entries id (first ++ rest) ≡ slot_entries (id + n) rest) → all ++ drop i slots ≡ first ++ slots → length slots ≤ i → (id : ℕ) → slot_entries id all ≡ slot_entries (id + n) slots
+pub all_copied : (all first slots : List (Option Range)) (i n : ℕ) →
+    ((id : ℕ) (rest : List (Option Range)) → slot_entries id (first ++ rest) ≡ slot_entries (id + n) rest) →
+    all ++ drop i slots ≡ first ++ slots → length slots ≤ i → (id : ℕ) → slot_entries id all ≡ slot_entries (id + n) slots
 all_copied all first slots i n empty same done id =
     let whole : all ≡ first ++ slots = sym (append-nil all) ∙ ap (λ rest. all ++ rest) (sym (drop_all i slots done)) ∙ same in
     ap (slot_entries id) whole ∙ empty id slots
 
 -- One more slot is copied to the end.
-pub slot_copied : (new all first slots : List (Option Range)) (i : ℕ) (slot : Option Range) → new ≡ all ++ slot ∷ [] → slot ≡ get_or slots i slot → i < length slots → all ++ drop i slots ≡ first ++ slots → new ++ drop (i + 1) slots ≡ first ++ slots
+pub slot_copied : (new all first slots : List (Option Range)) (i : ℕ) (slot : Option Range) → new ≡ all ++ slot ∷ [] →
+    slot ≡ get_or slots i slot → i < length slots → all ++ drop i slots ≡ first ++ slots → new ++ drop (i + 1) slots ≡ first ++ slots
 slot_copied new all first slots i slot pushed is below same =
     ap (λ copied. copied ++ drop (i + 1) slots) pushed
     ∙ append_assoc all (slot ∷ []) (drop (i + 1) slots)

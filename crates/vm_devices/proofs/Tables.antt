@@ -22,14 +22,16 @@ module _ {X : Type 0} where
   pub with_here : (m : map.FinMap nat_cmp X) (k : ℕ) (v : X) → map.get (map.insert m k v) k ≡ Some v
   with_here m k v = let at = get_with m k v k in grind (arith, at)
 
-  pub with_cases : (m : map.FinMap nat_cmp X) (k : ℕ) (v : X) (q : ℕ) (w : X) → map.get (map.insert m k v) q ≡ Some w → ((q ≡ k) × (w ≡ v)) ⊎ (map.get m q ≡ Some w)
+  pub with_cases : (m : map.FinMap nat_cmp X) (k : ℕ) (v : X) (q : ℕ) (w : X) → map.get (map.insert m k v) q ≡ Some w →
+      ((q ≡ k) × (w ≡ v)) ⊎ (map.get m q ≡ Some w)
   with_cases m k v q w h = let at = get_with m k v q in grind (arith, at, h)
 
   pub without_is : (m : map.FinMap nat_cmp X) (k q : ℕ) (w : X) → map.get (map.remove m k) q ≡ Some w → ¬ (q ≡ k) × (map.get m q ≡ Some w)
   without_is m k q w h = let at = get_without m k q in (λ e. grind (arith, at, h, e), grind (arith, at, h))
 
   -- The value of each key of a tree after one key is written.
-  pub updated : (old new : BTreeMap ℕ X) (k : ℕ) (w : Option X) → Updates nat_cmp old new k w → (q : ℕ) → tree.get nat_cmp new q ≡ cond (k == q) w (tree.get nat_cmp old q)
+  pub updated : (old new : BTreeMap ℕ X) (k : ℕ) (w : Option X) → Updates nat_cmp old new k w → (q : ℕ) →
+      tree.get nat_cmp new q ≡ cond (k == q) w (tree.get nat_cmp old q)
   updated old new k w u q = u.0 q ∙ ap (λ t. cond t w (tree.get nat_cmp old q)) (unsigned_tied k q)
 
 pub no_starts : (devices : map.FinMap nat_cmp Range) (ids : BTreeMap ℕ ℕ) → devices ≡ map.empty → IsEmpty ids → AreIdsByStart devices ids
@@ -38,7 +40,8 @@ no_starts devices ids e f = record {
 }
 
 module _ {devices : map.FinMap nat_cmp Range} {ids : BTreeMap ℕ ℕ} (a : AreIdsByStart devices ids) where
-  pub same_starts : (left : map.FinMap nat_cmp Range) (later : BTreeMap ℕ ℕ) → left ≡ devices → IsUnchanged ids later → AreIdsByStart left later
+  pub same_starts : (left : map.FinMap nat_cmp Range) (later : BTreeMap ℕ ℕ) → left ≡ devices → IsUnchanged ids later →
+      AreIdsByStart left later
   same_starts left later e f = record { at = λ start id. rw (e, f) (a.at start id) }
 
   module _ (new : BTreeMap ℕ ℕ) (id start : ℕ) (r : Range) (s : start ≡ r.start) where
@@ -64,7 +67,8 @@ module _ {devices : map.FinMap nat_cmp Range} {ids : BTreeMap ℕ ℕ} (a : AreI
           );
     }
 
-    pub starts_undone : (later : BTreeMap ℕ ℕ) → IsNew devices id r.start → Updates nat_cmp ids new start (Some id) → Updates nat_cmp new later start None →
+    pub starts_undone : (later : BTreeMap ℕ ℕ) → IsNew devices id r.start → Updates nat_cmp ids new start (Some id) →
+        Updates nat_cmp new later start None →
         AreIdsByStart devices later
     starts_undone later n u v = record {
       at = λ x q.

@@ -33,14 +33,17 @@ same_state state =
 its_devices : (state : DeviceState) → IsDeviceState state → AreDevicesOf state.ids state.space (device_list state)
 its_devices state i = record { ascending = list_ascends state; pairs = rw (same_state state) i.pairs }
 
-its_pushes : (state : DeviceState) (front rest : List DeviceSlot) (device : DeviceSlot) (answer : Result (Unit {0}) SavedError) (new : List DeviceSlot) → IsDeviceState state →
+its_pushes : (state : DeviceState) (front rest : List DeviceSlot) (device : DeviceSlot) (answer : Result (Unit {0}) SavedError)
+    (new : List DeviceSlot) → IsDeviceState state →
     device_list state ≡ front ++ device ∷ rest → PushesDevice front device answer new → (answer ≡ Ok tt) ⊎ (answer ≡ Err OutOfMemory)
 its_pushes state front rest device (Ok u) new i e p = inl refl
 its_pushes state front rest device (Err (Violated c)) new i e p =
-    absurd (p.2 (front_ascends (front ++ device ∷ []) rest (subst HaveAscendingIds (e ∙ sym (append_assoc front (device ∷ []) rest)) (list_ascends state))))
+    absurd (p.2 (front_ascends (front ++ device ∷ []) rest
+    (subst HaveAscendingIds (e ∙ sym (append_assoc front (device ∷ []) rest)) (list_ascends state))))
 its_pushes state front rest device (Err OutOfMemory) new i e p = inr refl
 
-its_answer : (state : DeviceState) (answer : Result DeviceState SavedError) → IsDeviceState state → MakesOfDevices 1 state.ids state.space (device_list state) answer →
+its_answer : (state : DeviceState) (answer : Result DeviceState SavedError) → IsDeviceState state →
+    MakesOfDevices 1 state.ids state.space (device_list state) answer →
     (answer ≡ Ok state) ⊎ (answer ≡ Err OutOfMemory)
 its_answer state (Ok again) i made = inl (ap (λ (v : DeviceState). Ok v) (made.2 ∙ same_state state))
 its_answer state (Err (Violated c)) i (inl refused) = absurd (refused.1.1 (its_devices state i))
@@ -60,7 +63,8 @@ pub equal_parts : EqualManagersHaveEqualParts
 equal_parts a b = (
   λ e. (ap (λ (v : DeviceState). v.ids) e, ap (λ (v : DeviceState). v.space) e, ap device_list e),
   λ e.
-      let listed : listed_state a.ids a.space (device_list a) ≡ listed_state b.ids b.space (device_list b) = λ k. listed_state (e.0 k) (e.1 k) (e.2 k) in
+      let listed : listed_state a.ids a.space (device_list a)
+      ≡ listed_state b.ids b.space (device_list b) = λ k. listed_state (e.0 k) (e.1 k) (e.2 k) in
       sym (same_state a) ∙ listed ∙ same_state b,
 )
 
@@ -85,16 +89,19 @@ device_state_cmp-Equal a b s t = (
       let q = both_equal _ _ p.1 in
       let ids = (id_state_cmp-Equal a.ids b.ids s.ids t.ids).0 p.0 in
       let space = one_state a.space b.space ((state_cmp-Equal a.space b.space).0 q.0) in
-      let devices = map.same_entries_map a.devices b.devices (slice_cmp-IsAntisymmetric entry_cmp-exact (map.entries a.devices) (map.entries b.devices) q.1) in
+      let devices = map.same_entries_map a.devices b.devices
+      (slice_cmp-IsAntisymmetric entry_cmp-exact (map.entries a.devices) (map.entries b.devices) q.1) in
       λ i. record { ids = ids i; space = space i; devices = devices i },
   λ e. ap (device_state_cmp a) (sym e) ∙ tied_itself device_state_cmp-total a,
 )
 
 -- A test of equality of valid states agrees with the order.
-pub tested_by_order : (a b : DeviceState) (r : Bool) → IsDeviceState a → IsDeviceState b → IsTrue r ↔ (a ≡ b) → r ≡ eq_by_cmp device_state_cmp a b
+pub tested_by_order : (a b : DeviceState) (r : Bool) → IsDeviceState a → IsDeviceState b → IsTrue r ↔ (a ≡ b) →
+    r ≡ eq_by_cmp device_state_cmp a b
 tested_by_order a b r s t h =
     let k = device_state_cmp-Equal a b s t in
-    same_from_decides r (is_eq (device_state_cmp a b)) h (λ v. k.0 ((Equal-is (device_state_cmp a b)).0 v), λ e. (Equal-is (device_state_cmp a b)).1 (k.1 e))
+    same_from_decides r (is_eq (device_state_cmp a b)) h
+    (λ v. k.0 ((Equal-is (device_state_cmp a b)).0 v), λ e. (Equal-is (device_state_cmp a b)).1 (k.1 e))
 
 -- With equal allocators, the devices decide.
 pub tested : (s t : DeviceState) (r : Bool) → HaveSameAllocators s t → IsTrue r ↔ (device_list s ≡ device_list t) → IsTrue r ↔ (s ≡ t)

@@ -55,4 +55,5 @@ entry_cmp-total =
 pub device_state_cmp-total : IsTotalOrder device_state_cmp
 device_state_cmp-total =
     then_total (on_total (λ (s : DeviceState). s.ids) id_state_cmp-total) (
-    then_total (on_total (λ (s : DeviceState). s.space) state_cmp-total) (on_total (λ (s : DeviceState). map.entries s.devices) (lists_total entry_cmp-total)))
+    then_total (on_total (λ (s : DeviceState). s.space) state_cmp-total)
+    (on_total (λ (s : DeviceState). map.entries s.devices) (lists_total entry_cmp-total)))

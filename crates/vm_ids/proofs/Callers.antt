@@ -50,7 +50,8 @@ id_state old new (Ok id) h =
 id_state old new (Err e) h = tt
 
 -- A freed id is not held after the call, and nothing else changes.
-pub freed_id_state : (old new : IdState) (id : ℕ) (answer : Result ℕ Error) → FreesId old id answer new → IfOk answer (λ i. (i ≡ id) × (new ≡ releasing_id id old))
+pub freed_id_state : (old new : IdState) (id : ℕ) (answer : Result ℕ Error) → FreesId old id answer new →
+    IfOk answer (λ i. (i ≡ id) × (new ≡ releasing_id id old))
 unfolding FreesId
 freed_id_state old new id (Ok i) h =
     ⊎_elim (λ a. absurd (cc (a.1.0))) (λ b.

@@ -1,5 +1,29 @@
 -- The results of calls that allocate a given id, an id of a window, or several ids.
-use Rattle.std.specs.Prelude.{◌≡◌, ℕ, ◌+◌, ◌-◌, ◌<◌, ◌≤◌, ◌⊎◌, ◌||◌, not, nat_lt, if◌then◌else◌, List, [], ◌∷◌, length, take, Option, Some, None, MatchOption, Result, Ok, Err}
+use Rattle.std.specs.Prelude.{
+  ◌≡◌,
+  ℕ,
+  ◌+◌,
+  ◌-◌,
+  ◌<◌,
+  ◌≤◌,
+  ◌⊎◌,
+  ◌||◌,
+  not,
+  nat_lt,
+  if◌then◌else◌,
+  List,
+  [],
+  ◌∷◌,
+  length,
+  take,
+  Option,
+  Some,
+  None,
+  MatchOption,
+  Result,
+  Ok,
+  Err,
+}
 use Rattle.std.specs.List.{Contains, filter, range_with_len}
 use Rattle.std.specs.FinSet as set
 use Rattle.vm_ranges.specs.Cases.{IfElse, Unless}

@@ -1,6 +1,28 @@
 -- The state of an id allocator, and the result of each of its calls. An id is *held* if it is allocated and was not
 -- freed since.
-use Rattle.std.specs.Prelude.{◌≡◌, ℕ, ◌+◌, ◌-◌, ◌<◌, ◌≤◌, ◌⊎◌, not, nat_le, if◌then◌else◌, max, List, Option, Some, None, unwrap_or, IsTrue, Result, Ok, Err, refl}
+use Rattle.std.specs.Prelude.{
+  ◌≡◌,
+  ℕ,
+  ◌+◌,
+  ◌-◌,
+  ◌<◌,
+  ◌≤◌,
+  ◌⊎◌,
+  not,
+  nat_le,
+  if◌then◌else◌,
+  max,
+  List,
+  Option,
+  Some,
+  None,
+  unwrap_or,
+  IsTrue,
+  Result,
+  Ok,
+  Err,
+  refl,
+}
 use Rattle.std.specs.List.{filter, range_with_len}
 use Rattle.std.specs.Ordering.{nat_cmp}
 use Rattle.std.specs.Coded.{Coded, code_by, coded×, coded_ℕ}
@@ -8,7 +30,15 @@ use Rattle.std.specs.BTreeSet.{BTreeSet, contains}
 use Rattle.std.specs.FinSet as set
 use Rattle.vm_ranges.specs.Cases.{IfElse, Unless}
 use Rattle.vm_ranges.specs.declared.error.Error.{Error}
-use Rattle.vm_ranges.specs.declared.error.Error.TheVariants.{Overflow, OutOfRange, AlreadyReleased, NeverAllocated, ResourceNotAvailable, InvalidRange, OutOfMemory}
+use Rattle.vm_ranges.specs.declared.error.Error.TheVariants.{
+  Overflow,
+  OutOfRange,
+  AlreadyReleased,
+  NeverAllocated,
+  ResourceNotAvailable,
+  InvalidRange,
+  OutOfMemory,
+}
 
 -- The highest id, u32::MAX.
 abbrev pub MAX_ID : ℕ

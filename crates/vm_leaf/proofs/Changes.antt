@@ -24,7 +24,8 @@ pub record WithFree (m : ℕ) (i : ℕ) (r : ℕ) : Type 0 where
   pub others : (k : ℕ) → k ≢ i → states_in r k ≡ states_in m k
   pub bound : (n : ℕ) → m < 2 ^ n → r < 2 ^ n
 
-module _ (a : Inside) (bs : List Block) (i : ℕ) (v : IsInside a) (e : length a.starts ≡ 32) (view : blocks_of a ≡ bs) (within : i < length bs) where
+module _ (a : Inside) (bs : List Block) (i : ℕ) (v : IsInside a) (e : length a.starts ≡ 32) (view : blocks_of a ≡ bs)
+    (within : i < length bs) where
   long : length bs ≡ a.len
   long = ap length (sym view) ∙ length_of a v e
 
@@ -39,7 +40,8 @@ module _ (a : Inside) (bs : List Block) (i : ℕ) (v : IsInside a) (e : length a
   recoloured m others bound =
       let n = long in
       record {
-        starts = sym (take-append-drop (i + 1) (take a.len a.starts)) ∙ ap (λ (x : List ℕ). x ++ drop (i + 1) (take a.len a.starts)) (take-take (i + 1) a.len a.starts (omega arith));
+        starts = sym (take-append-drop (i + 1) (take a.len a.starts))
+            ∙ ap (λ (x : List ℕ). x ++ drop (i + 1) (take a.len a.starts)) (take-take (i + 1) a.len a.starts (omega arith));
         below = λ k l. others k (λ f. omega arith);
         above = λ k. others (i + 1 + 0 + k) (λ f. omega arith) ∙ ap (states_in a.held) (omega arith);
         end = refl;
@@ -53,17 +55,21 @@ module _ (a : Inside) (bs : List Block) (i : ℕ) (v : IsInside a) (e : length a
       let n = long in
       let q : i + 1 - 1 ≡ i = omega arith in
       let s = recoloured m w.others (w.bound a.len (omega arith) v.mask) in
-      spliced a (record a { held = m }) i 1 [] bs s v e view (omega arith) (omega arith) (held_block (nth bs i).key ∷ []) (rw (w.same, q) refl) (leaf_held bs i leaf within free)
+      spliced a (record a { held = m }) i 1 [] bs s v e view (omega arith) (omega arith) (held_block (nth bs i).key ∷ [])
+      (rw (w.same, q) refl) (leaf_held bs i leaf within free)
 
-  pub released : (m : ℕ) → WithFree a.held i m → (0 < i → (nth bs (i - 1)).state ≡ Allocated) → (i + 1 < length bs → (nth bs (i + 1)).state ≡ Allocated)
+  pub released : (m : ℕ) → WithFree a.held i m → (0 < i → (nth bs (i - 1)).state ≡ Allocated) →
+      (i + 1 < length bs → (nth bs (i + 1)).state ≡ Allocated)
       → IsInside (record a { held = m }) × (blocks_of (record a { held = m }) ≡ with_parts bs i 1 (gap_over bs i 1))
   released m w before after =
       let n = long in
       let s = recoloured m w.others (w.bound a.len v.mask) in
-      spliced a (record a { held = m }) i 1 [] bs s v e view (omega arith) (omega arith) (gap_over bs i 1) (rw w.same refl) (leaf_merged bs i 1 leaf (omega arith) (omega arith) before after)
+      spliced a (record a { held = m }) i 1 [] bs s v e view (omega arith) (omega arith) (gap_over bs i 1) (rw w.same refl)
+      (leaf_merged bs i 1 leaf (omega arith) (omega arith) before after)
 
   -- The cuts `extra` are inserted after the block, and the bit j is set.
-  widened : (extra S : List ℕ) (r to j m : ℕ) → take (a.len + length extra) S ≡ take (i + 1) a.starts ++ (extra ++ drop (i + 1) (take a.len a.starts))
+  widened : (extra S : List ℕ) (r to j m : ℕ) →
+      take (a.len + length extra) S ≡ take (i + 1) a.starts ++ (extra ++ drop (i + 1) (take a.len a.starts))
       → to ≡ i + 1 + length extra → r ≡ moved a.held (i + 1) (i + 1) to → WithHeld r j m → i ≤ j → j < to
       → Spliced a (record { starts = S; end = a.end; held = m; len = a.len + length extra }) i 1 extra
   widened extra S r to j m h t f w l u =
@@ -84,7 +90,8 @@ module _ (a : Inside) (bs : List Block) (i : ℕ) (v : IsInside a) (e : length a
       }
 
   -- The state of the block after the mask is widened.
-  kept_free : (r to j m : ℕ) → i + 1 ≤ to → r ≡ moved a.held (i + 1) (i + 1) to → WithHeld r j m → i ≢ j → (nth bs i).state ≡ Free → states_in m i ≡ Free
+  kept_free : (r to j m : ℕ) → i + 1 ≤ to → r ≡ moved a.held (i + 1) (i + 1) to → WithHeld r j m → i ≢ j → (nth bs i).state ≡ Free →
+      states_in m i ≡ Free
   kept_free r to j m t f w l free =
       w.others i l ∙ ap (λ (z : ℕ). states_in z i) f ∙ moved_below a.held (i + 1) (i + 1) to i t (omega arith) ∙ held_is ∙ free
 
@@ -95,41 +102,50 @@ module _ (a : Inside) (bs : List Block) (i : ℕ) (v : IsInside a) (e : length a
   pub upper : (S : List ℕ) (r m x : ℕ) → take (a.len + 1) S ≡ take (i + 1) a.starts ++ (x ∷ drop (i + 1) (take a.len a.starts))
       → r ≡ moved a.held (i + 1) (i + 1) (i + 2) → WithHeld r (i + 1) m → (nth bs i).state ≡ Free → length bs + 1 ≤ 32
       → (nth bs i).key.start < x → x ≤ (nth bs i).key.end
-      → let b : Inside = record { starts = S; end = a.end; held = m; len = a.len + 1 } in IsInside b × (blocks_of b ≡ with_parts bs i 1 (upper_held (nth bs i).key x))
+      → let b : Inside = record { starts = S; end = a.end; held = m; len = a.len + 1 } in IsInside b
+      × (blocks_of b ≡ with_parts bs i 1 (upper_held (nth bs i).key x))
   upper S r m x h f w free room after upto =
       let q : i + 1 - 1 ≡ i = omega arith in
       let s = widened (x ∷ []) S r (i + 2) (i + 1) m h (omega arith) f w (omega arith) (omega arith) in
       let st = kept_free r (i + 2) (i + 1) m (omega arith) f w (λ z. omega arith) free in
-      spliced a (record { starts = S; end = a.end; held = m; len = a.len + 1 }) i 1 (x ∷ []) bs s v e view (omega arith) (omega arith) (upper_held (nth bs i).key x)
+      spliced a (record { starts = S; end = a.end; held = m; len = a.len + 1 }) i 1 (x ∷ []) bs s v e view (omega arith) (omega arith)
+      (upper_held (nth bs i).key x)
       (rw (st, w.same, q) refl) (leaf_upper bs i leaf within free x room after upto)
 
   pub lower : (S : List ℕ) (r m x : ℕ) → take (a.len + 1) S ≡ take (i + 1) a.starts ++ (x ∷ drop (i + 1) (take a.len a.starts))
       → r ≡ moved a.held (i + 1) (i + 1) (i + 2) → WithHeld r i m → (nth bs i).state ≡ Free → length bs + 1 ≤ 32
       → (nth bs i).key.start < x → x ≤ (nth bs i).key.end
-      → let b : Inside = record { starts = S; end = a.end; held = m; len = a.len + 1 } in IsInside b × (blocks_of b ≡ with_parts bs i 1 (lower_held (nth bs i).key x))
+      → let b : Inside = record { starts = S; end = a.end; held = m; len = a.len + 1 } in IsInside b
+      × (blocks_of b ≡ with_parts bs i 1 (lower_held (nth bs i).key x))
   lower S r m x h f w free room after upto =
       let q : i + 1 - 1 ≡ i = omega arith in
       let s = widened (x ∷ []) S r (i + 2) i m h (omega arith) f w (omega arith) (omega arith) in
       let st = new_free r (i + 2) i m (i + 1) f w (λ z. omega arith) (omega arith) (omega arith) in
-      spliced a (record { starts = S; end = a.end; held = m; len = a.len + 1 }) i 1 (x ∷ []) bs s v e view (omega arith) (omega arith) (lower_held (nth bs i).key x)
+      spliced a (record { starts = S; end = a.end; held = m; len = a.len + 1 }) i 1 (x ∷ []) bs s v e view (omega arith) (omega arith)
+      (lower_held (nth bs i).key x)
       (rw (st, w.same, q) refl) (leaf_lower bs i leaf within free x room after upto)
 
   pub middle : (S : List ℕ) (r m x y : ℕ) → take (a.len + 2) S ≡ take (i + 1) a.starts ++ (x ∷ (y ∷ drop (i + 1) (take a.len a.starts)))
       → r ≡ moved a.held (i + 1) (i + 1) (i + 3) → WithHeld r (i + 1) m → (nth bs i).state ≡ Free → length bs + 2 ≤ 32
       → (nth bs i).key.start < x → x < y → y ≤ (nth bs i).key.end
-      → let b : Inside = record { starts = S; end = a.end; held = m; len = a.len + 2 } in IsInside b × (blocks_of b ≡ with_parts bs i 1 (middle_held (nth bs i).key x y))
+      → let b : Inside = record { starts = S; end = a.end; held = m; len = a.len + 2 } in IsInside b
+      × (blocks_of b ≡ with_parts bs i 1 (middle_held (nth bs i).key x y))
   middle S r m x y h f w free room after order upto =
       let q : i + 1 - 1 ≡ i = omega arith in
       let s = widened (x ∷ y ∷ []) S r (i + 3) (i + 1) m h (omega arith) f w (omega arith) (omega arith) in
       let st = kept_free r (i + 3) (i + 1) m (omega arith) f w (λ z. omega arith) free in
-      let su : states_in m (i + 1 + 1) ≡ Free = ap (states_in m) (omega arith) ∙ new_free r (i + 3) (i + 1) m (i + 2) f w (λ z. omega arith) (omega arith) (omega arith) in
-      spliced a (record { starts = S; end = a.end; held = m; len = a.len + 2 }) i 1 (x ∷ y ∷ []) bs s v e view (omega arith) (omega arith) (middle_held (nth bs i).key x y)
+      let su : states_in m (i + 1 + 1) ≡ Free = ap (states_in m) (omega arith)
+      ∙ new_free r (i + 3) (i + 1) m (i + 2) f w (λ z. omega arith) (omega arith) (omega arith) in
+      spliced a (record { starts = S; end = a.end; held = m; len = a.len + 2 }) i 1 (x ∷ y ∷ []) bs s v e view (omega arith) (omega arith)
+      (middle_held (nth bs i).key x y)
       (rw (st, w.same, su, q) refl) (leaf_middle bs i leaf within free x y room after order upto)
 
-  pub merged : (n : ℕ) (S : List ℕ) (m : ℕ) → 0 < n → i + n ≤ length bs → take (a.len - (i + n) + (i + 1)) S ≡ take (i + 1) a.starts ++ drop (i + n) (take a.len a.starts)
+  pub merged : (n : ℕ) (S : List ℕ) (m : ℕ) → 0 < n → i + n ≤ length bs →
+      take (a.len - (i + n) + (i + 1)) S ≡ take (i + 1) a.starts ++ drop (i + n) (take a.len a.starts)
       → m ≡ moved a.held i (i + n) (i + 1)
       → (0 < i → (nth bs (i - 1)).state ≡ Allocated) → (i + n < length bs → (nth bs (i + n)).state ≡ Allocated)
-      → let b : Inside = record { starts = S; end = a.end; held = m; len = a.len - n + 1 } in IsInside b × (blocks_of b ≡ with_parts bs i n (gap_over bs i n))
+      → let b : Inside = record { starts = S; end = a.end; held = m; len = a.len - n + 1 } in IsInside b
+      × (blocks_of b ≡ with_parts bs i n (gap_over bs i n))
   merged n S m some fits h f before after =
       let z = long in
       let c : a.len - (i + n) + (i + 1) ≡ a.len - n + 1 = omega arith in

@@ -17,7 +17,8 @@ pub length_blocks : (S : List ℕ) (m len hi : ℕ) → len ≤ length S → len
 length_blocks S m len hi h = length-tiling (states_in m) 0 (take len S) hi ∙ length-take-le len S h
 
 pub nth_inner : (S : List ℕ) (m len hi i : ℕ) → len ≤ length S → i + 1 < len
-    → nth (tiling (states_in m) 0 (take len S) hi) i ≡ record { key = record { start = get_or S i 0; end = get_or S (i + 1) 0 - 1 }; state = states_in m i }
+    → nth (tiling (states_in m) 0 (take len S) hi) i
+    ≡ record { key = record { start = get_or S i 0; end = get_or S (i + 1) 0 - 1 }; state = states_in m i }
 nth_inner S m len hi i h l =
     let n = length-take-le len S h in
     let at_i : get_or (take len S) i 0 ≡ get_or S i 0 = get_or-take len S i 0 (omega arith) in
@@ -40,8 +41,14 @@ length_of a v h = length_blocks a.starts a.held a.len a.end (omega (arith, v.fit
 
 -- The block at i, by the fields of the leaf.
 pub record IsBlockAt (a : Inside) (i : ℕ) : Type 0 where
-  pub inner : i + 1 < a.len → nth (blocks_of a) i ≡ record { key = record { start = get_or a.starts i 0; end = get_or a.starts (i + 1) 0 - 1 }; state = states_in a.held i }
-  pub last : i + 1 ≡ a.len → nth (blocks_of a) i ≡ record { key = record { start = get_or a.starts i 0; end = a.end }; state = states_in a.held i }
+  pub inner : i + 1 < a.len →
+      nth (blocks_of a) i ≡ record {
+        key = record { start = get_or a.starts i 0; end = get_or a.starts (i + 1) 0 - 1 };
+        state = states_in
+            a.held i;
+      }
+  pub last : i + 1 ≡ a.len →
+      nth (blocks_of a) i ≡ record { key = record { start = get_or a.starts i 0; end = a.end }; state = states_in a.held i }
   pub above : 0 < i → 1 ≤ get_or a.starts i 0
   pub start : (nth (blocks_of a) i).key.start ≡ get_or a.starts i 0
   pub state : (nth (blocks_of a) i).state ≡ states_in a.held i
@@ -55,9 +62,16 @@ block_at a i v e l =
     let last = nth_last a.starts a.held a.len a.end i h in
     let p = leaf_part (blocks_of a) i v.blocks (omega arith) in
     let start : (nth (blocks_of a) i).key.start ≡ get_or a.starts i 0 =
-    elim (cases_lt (i + 1) a.len) [ inl q ↦ ap (λ (b : Block). b.key.start) (inner q) | inr q ↦ ap (λ (b : Block). b.key.start) (last (omega arith)) ] in
+    elim (cases_lt (i + 1) a.len) [
+      | inl q ↦ ap (λ (b : Block). b.key.start) (inner q)
+      | inr q ↦ ap (λ (b : Block). b.key.start)
+          (last (omega arith))
+    ] in
     let state : (nth (blocks_of a) i).state ≡ states_in a.held i =
-    elim (cases_lt (i + 1) a.len) [ inl q ↦ ap (λ (b : Block). b.state) (inner q) | inr q ↦ ap (λ (b : Block). b.state) (last (omega arith)) ] in
+    elim (cases_lt (i + 1) a.len) [
+      | inl q ↦ ap (λ (b : Block). b.state) (inner q)
+      | inr q ↦ ap (λ (b : Block). b.state) (last (omega arith))
+    ] in
     record {
       inner = inner;
       last = last;
@@ -67,7 +81,8 @@ block_at a i v e l =
       range = leaf_range (blocks_of a) i v.blocks (omega arith);
     }
 
-module _ (a : Inside) (bs : List Block) (i : ℕ) (v : IsInside a) (e : length a.starts ≡ 32) (view : blocks_of a ≡ bs) (l : i < length bs) where
+module _ (a : Inside) (bs : List Block) (i : ℕ) (v : IsInside a) (e : length a.starts ≡ 32) (view : blocks_of a ≡ bs)
+    (l : i < length bs) where
   within : i < a.len
   within = let n = length_of a v e in let m = ap length view in omega arith
 

@@ -15,7 +15,8 @@ unfolding IsAlignment
 whole a h =
     let k : 64 ≡ 64 - h.0 + h.0 = omega (arith, h.1) in
     let e : 2 ^ 64 ≡ 2 ^ (64 - h.0) * 2 ^ h.0 + 0 = ap (λ (j : ℕ). 2 ^ j) k ∙ pow-add 2 (64 - h.0) h.0 ∙ omega arith in
-    ap (λ (v : ℕ). 18446744073709551616 % v) h.2 ∙ (ap (λ (v : ℕ). v % 2 ^ h.0) e ∙ mul-add-mod_self_right (2 ^ (64 - h.0)) (2 ^ h.0) 0 ∙ zero-mod (2 ^ h.0))
+    ap (λ (v : ℕ). 18446744073709551616 % v) h.2
+    ∙ (ap (λ (v : ℕ). v % 2 ^ h.0) e ∙ mul-add-mod_self_right (2 ^ (64 - h.0)) (2 ^ h.0) 0 ∙ zero-mod (2 ^ h.0))
 
 -- The mask of an alignment gives the highest multiple.
 pub highest_masked : (x a : ℕ) → x < 2 ^ 64 → IsAlignment a → IsHighestMultiple a x (bit_and x (18446744073709551615 - (a - 1)))
@@ -39,11 +40,13 @@ pub no_fit_over : (n a : ℕ) (b : Block) → 0 < n → IsAlignment a → b.key.
 unfolding HasNoFit
 no_fit_over n a b z h m u t f = none_left b.key.start a t h u f.1 f.2 (omega (arith, f.3))
 
-pub no_fit_short : (n a m s : ℕ) (b : Block) → IsAlignment a → m ≡ b.key.start + (a - 1) → IsHighestMultiple a m s → b.key.end + 1 < s + n → HasNoFit n a b
+pub no_fit_short : (n a m s : ℕ) (b : Block) → IsAlignment a → m ≡ b.key.start + (a - 1) → IsHighestMultiple a m s → b.key.end + 1 < s + n →
+    HasNoFit n a b
 unfolding HasNoFit IsLowestMultiple
 no_fit_short n a m s b h e u l t f = let i = (from_start a b.key.start m s h e u).2 t f.1 f.2 in omega (arith, f.3)
 
-pub lowest_fit : (n a m s : ℕ) (b : Block) → IsAlignment a → m ≡ b.key.start + (a - 1) → IsHighestMultiple a m s → s + n ≤ b.key.end + 1 → b.state ≡ Free → IsLowestFit n a b s
+pub lowest_fit : (n a m s : ℕ) (b : Block) → IsAlignment a → m ≡ b.key.start + (a - 1) → IsHighestMultiple a m s → s + n ≤ b.key.end + 1 →
+    b.state ≡ Free → IsLowestFit n a b s
 unfolding IsLowestFit IsLowestMultiple
 lowest_fit n a m s b h e u l f =
     let i = from_start a b.key.start m s h e u in
@@ -57,15 +60,18 @@ pub no_fit_low : (n a x s : ℕ) (b : Block) → IsHighestMultiple a x s → x +
 unfolding HasNoFit IsHighestMultiple
 no_fit_low n a x s b u e l t f = let i = u.2 t f.1 (omega (arith, f.3)) in omega (arith, f.2)
 
-pub highest_fit : (n a x s : ℕ) (b : Block) → IsHighestMultiple a x s → x + n ≡ b.key.end + 1 → b.key.start ≤ s → b.state ≡ Free → IsHighestFit n a b s
+pub highest_fit : (n a x s : ℕ) (b : Block) → IsHighestMultiple a x s → x + n ≡ b.key.end + 1 → b.key.start ≤ s → b.state ≡ Free →
+    IsHighestFit n a b s
 unfolding IsHighestFit IsHighestMultiple
 highest_fit n a x s b u q l e = ((e, u.0, l, omega (arith, u.1)), λ t f. u.2 t f.1 (omega (arith, f.3)))
 
 -- The same for a free block that is given by its ends.
-pub no_fit_over_ends : (n a s e : ℕ) → 0 < n → IsAlignment a → e ≤ MAX → MAX < s + (a - 1) → HasNoFit n a (free_block (record { start = s; end = e }))
+pub no_fit_over_ends : (n a s e : ℕ) → 0 < n → IsAlignment a → e ≤ MAX → MAX < s + (a - 1) →
+    HasNoFit n a (free_block (record { start = s; end = e }))
 no_fit_over_ends n a s e z h m u = no_fit_over n a (free_block (record { start = s; end = e })) z h m u
 
-pub no_fit_short_ends : (n a m p s e : ℕ) → IsAlignment a → m ≡ s + (a - 1) → IsHighestMultiple a m p → e + 1 < p + n → HasNoFit n a (free_block (record { start = s; end = e }))
+pub no_fit_short_ends : (n a m p s e : ℕ) → IsAlignment a → m ≡ s + (a - 1) → IsHighestMultiple a m p → e + 1 < p + n →
+    HasNoFit n a (free_block (record { start = s; end = e }))
 no_fit_short_ends n a m p s e h f u l = no_fit_short n a m p (free_block (record { start = s; end = e })) h f u l
 
 pub no_fit_small_ends : (n a s e : ℕ) → e + 1 < s + n → HasNoFit n a (free_block (record { start = s; end = e }))

@@ -17,7 +17,8 @@ held_if x e = rw e refl
 module _ (m x upto : ℕ) (fits : m < 2 ^ 32) (low : upto ≤ 32) (rest : x ≡ (18446744073709551615 - m) % 2 ^ upto) where
   pub opposite : (k : ℕ) → k < upto → bit_at m k ≡ 1 - bit_at x k
   opposite k l =
-      let e : bit_at x k ≡ bit_at (18446744073709551615 - m) k = ap (λ (v : ℕ). bit_at v k) rest ∙ bit_of_mod (18446744073709551615 - m) upto k l in
+      let e : bit_at x k ≡ bit_at (18446744073709551615 - m) k = ap (λ (v : ℕ). bit_at v k) rest
+      ∙ bit_of_mod (18446744073709551615 - m) upto k l in
       let f : bit_at (18446744073709551615 - m) k ≡ 1 - bit_at m k = bit_at_not w64 m k (omega arith) (omega arith) in
       omega (arith, bit_at-lt m k)
 
@@ -32,7 +33,8 @@ module _ (m x upto : ℕ) (fits : m < 2 ^ 32) (low : upto ≤ 32) (rest : x ≡ 
     gap_below =
         elim (cases_lt j upto) [
           | inl l ↦ l
-          | inr l ↦ (let up : 2 ^ upto ≤ 2 ^ j = pow_mono (omega arith) in absurd (omega (arith, mod-lt (18446744073709551615 - m) (pow_pos upto))))
+          | inr l ↦ (let up : 2 ^ upto ≤ 2 ^ j = pow_mono (omega arith) in absurd
+              (omega (arith, mod-lt (18446744073709551615 - m) (pow_pos upto))))
         ]
 
     pub last_found : states_in m j ≡ Free

@@ -3,7 +3,18 @@ use Rattle.std.proofs.Common.{◌≡◌, ℕ, ◌+◌, ◌-◌, ◌*◌, ◌/◌
 use Rattle.std.specs.Int.{bit_at, trailing_zeros}
 use Rattle.std.proofs.lemmas.Bool.{cases_lt}
 use Rattle.std.proofs.lemmas.Nat.{and_le_r, pow_pos}
-use Rattle.std.proofs.lemmas.Nat.Bits.{bit_at_and, bit_at_above, bit_at-lt, bit_at-pow_same, bit_at-pow_other, bit_at_ones_above, bit_at_cat_low, bit_at_cat_high, bit_at-trailing_zeros, same_from_bits_below}
+use Rattle.std.proofs.lemmas.Nat.Bits.{
+  bit_at_and,
+  bit_at_above,
+  bit_at-lt,
+  bit_at-pow_same,
+  bit_at-pow_other,
+  bit_at_ones_above,
+  bit_at_cat_low,
+  bit_at_cat_high,
+  bit_at-trailing_zeros,
+  same_from_bits_below,
+}
 use Rattle.std.proofs.Math.Nat.{pow-suc, mod-lt, div-add-mod'}
 use Rattle.vm_ranges.specs.declared.state.NodeState.TheVariants.{Free, Allocated}
 use Rattle.vm_leaf.specs.Block.{Block}
@@ -64,7 +75,8 @@ less_without m z = omega (arith, and_le_r m (m - 1))
 pub ruleset lowest_ones = (lowest_of, mask_above, less_without)
 
 -- The inverted mask of the states has a 1 for each gap.
-module _ (bs : List Block) (m x : ℕ) (long : length bs ≤ 32) (fits : m < 2 ^ length bs) (small : m < 2 ^ 32) (states : (k : ℕ) → k < length bs → (nth bs k).state ≡ states_in m k)
+module _ (bs : List Block) (m x : ℕ) (long : length bs ≤ 32) (fits : m < 2 ^ length bs) (small : m < 2 ^ 32)
+    (states : (k : ℕ) → k < length bs → (nth bs k).state ≡ states_in m k)
     (rest : x ≡ (18446744073709551615 - m) % 2 ^ length bs) where
   inverse : (k : ℕ) → k < length bs → bit_at x k ≡ 1 - bit_at m k
   inverse k l = omega (arith, opposite m x (length bs) small long rest k l, bit_at-lt m k, bit_at-lt x k)

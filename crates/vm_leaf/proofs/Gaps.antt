@@ -20,9 +20,11 @@ not_both s e f = cc
 -- The result of `gap_before` for a mask, and that of `last_gap` for a list.
 abbrev pub FindsBefore : (ℕ → NodeState) → ℕ → Option ℕ → Type 0
 FindsBefore st upto r =
-    MatchOption r ((k : ℕ) → k < upto → st k ≡ Allocated) (λ i. (i < upto) × (st i ≡ Free) × ((k : ℕ) → i < k → k < upto → st k ≡ Allocated))
+    MatchOption r ((k : ℕ) → k < upto → st k ≡ Allocated)
+    (λ i. (i < upto) × (st i ≡ Free) × ((k : ℕ) → i < k → k < upto → st k ≡ Allocated))
 
-same_finds : (st su : ℕ → NodeState) (upto : ℕ) → ((k : ℕ) → k < upto → su k ≡ st k) → (r : Option ℕ) → FindsBefore st upto r → FindsBefore su upto r
+same_finds : (st su : ℕ → NodeState) (upto : ℕ) → ((k : ℕ) → k < upto → su k ≡ st k) → (r : Option ℕ) → FindsBefore st upto r →
+    FindsBefore su upto r
 same_finds st su upto e None h = λ k l. e k l ∙ h k l
 same_finds st su upto e (Some i) h = (h.0, e i h.0 ∙ h.1, λ k l u. e k u ∙ h.2 k l u)
 
@@ -45,7 +47,8 @@ module _ (a : Inside) (bs : List Block) (v : IsInside a) (e : length a.starts �
   pub gap_skipped : (k : ℕ) → states_in a.held k ≡ Allocated → k < length bs → (nth bs k).state ≡ Allocated
   gap_skipped k h l = sym (state_is a bs k v e view l) ∙ h
 
-  pub gap_last : (upto : ℕ) (r : Option ℕ) → upto ≤ length bs → FindsBefore (states_in a.held) upto r → FindsBefore (λ k. (nth bs k).state) upto r
+  pub gap_last : (upto : ℕ) (r : Option ℕ) → upto ≤ length bs → FindsBefore (states_in a.held) upto r →
+      FindsBefore (λ k. (nth bs k).state) upto r
   gap_last upto r l h = same_finds (states_in a.held) (λ k. (nth bs k).state) upto (λ k u. sym (state_is a bs k v e view (omega arith))) r h
 
   pub gap_mask : (x : ℕ) → x ≡ (18446744073709551615 - a.held) % 2 ^ a.len → AreGapsFrom 0 bs x

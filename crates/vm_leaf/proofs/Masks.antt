@@ -2,7 +2,16 @@
 use Rattle.std.proofs.Common.{◌≡◌, ℕ, zero, suc, ◌+◌, ◌-◌, ◌*◌, ◌/◌, ◌%◌, ◌^◌, ◌<◌, ◌≤◌, ◌≢◌, bit_and, bit_or, w64, refl, ap, ◌∙◌, sym, arith, inl, inr}
 use Rattle.std.specs.Int.{bit_at}
 use Rattle.std.proofs.lemmas.Bool.{cases_lt}
-use Rattle.std.proofs.lemmas.Nat.Bits.{shr_and_one, bit_at_set_same, bit_at_set_other, bit_at_clear_same, bit_at_clear_other, bit_at_cat_low, bit_at_cat_high, bit_at_above}
+use Rattle.std.proofs.lemmas.Nat.Bits.{
+  shr_and_one,
+  bit_at_set_same,
+  bit_at_set_other,
+  bit_at_clear_same,
+  bit_at_clear_other,
+  bit_at_cat_low,
+  bit_at_cat_high,
+  bit_at_above,
+}
 use Rattle.std.proofs.lemmas.Nat.{pow-add, or_lt, and_le_l}
 use Rattle.std.proofs.Math.Nat.{mod-lt, div-add-mod', div-div-eq-div-mul, mul-le-mul_right, mod-eq_of_lt}
 use Rattle.std.proofs.Math.Pow.{pow_pos, pow_mono, pow-lt, shr_lt, shl_exact}
@@ -81,7 +90,8 @@ clear_same m i h = ap state_of (bit_at_clear_same w64 m i h)
 pub clear_lt : (m i n : ℕ) → m < 2 ^ n → bit_and m (18446744073709551615 - 1 * 2 ^ i % 2 ^ 64) < 2 ^ n
 clear_lt m i n h = omega (arith, and_le_l m (18446744073709551615 - 1 * 2 ^ i % 2 ^ 64))
 
-pub clear_other : (m i k : ℕ) → m < 2 ^ 64 → i < 64 → k ≢ i → states_in (bit_and m (18446744073709551615 - 1 * 2 ^ i % 2 ^ 64)) k ≡ states_in m k
+pub clear_other : (m i k : ℕ) → m < 2 ^ 64 → i < 64 → k ≢ i →
+    states_in (bit_and m (18446744073709551615 - 1 * 2 ^ i % 2 ^ 64)) k ≡ states_in m k
 clear_other m i k fits h n =
     elim (cases_lt k 64) [
       | inl l ↦ ap state_of (bit_at_clear_other w64 m i h k l n)
@@ -116,7 +126,8 @@ appended_lt len more m n u l =
     rw e (omega arith)
 
 pub appended_room : (len more m n : ℕ) → m < 2 ^ len → n < 2 ^ more → len + more ≤ 32 → n * 2 ^ len + m < 2 ^ 64
-appended_room len more m n u l h = let a = appended_lt len more m n u l in let b : 2 ^ (len + more) ≤ 2 ^ 64 = pow_mono (wide (len + more) h) in omega arith
+appended_room len more m n u l h = let a = appended_lt len more m n u l in let b : 2 ^ (len + more)
+    ≤ 2 ^ 64 = pow_mono (wide (len + more) h) in omega arith
   where
     wide : (k : ℕ) → k ≤ 32 → k ≤ 64
     wide k h = omega arith

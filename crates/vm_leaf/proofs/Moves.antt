@@ -23,8 +23,10 @@ parts_low bs ys h i l =
     let e : h ≡ i + 1 + (h - (i + 1)) = omega arith in
     let f : i + 1 + (h - (i + 1)) ≡ h = omega arith in
     let front : take i (take h bs) ≡ take i bs = take-take i h bs (omega arith) in
-    let rest : drop (i + 1) (take h bs) ≡ take (h - (i + 1)) (drop (i + 1) bs) = ap (λ j. drop (i + 1) (take j bs)) e ∙ drop-take (i + 1) (h - (i + 1)) bs in
-    let far : drop h bs ≡ drop (h - (i + 1)) (drop (i + 1) bs) = sym (drop-drop (h - (i + 1)) (i + 1) bs ∙ ap (λ j. drop j bs) (omega arith)) in
+    let rest : drop (i + 1) (take h bs) ≡ take (h - (i + 1)) (drop (i + 1) bs) = ap (λ j. drop (i + 1) (take j bs)) e
+    ∙ drop-take (i + 1) (h - (i + 1)) bs in
+    let far : drop h bs ≡ drop (h - (i + 1)) (drop (i + 1) bs) = sym
+    (drop-drop (h - (i + 1)) (i + 1) bs ∙ ap (λ j. drop j bs) (omega arith)) in
     append_assoc (take i (take h bs)) (ys ++ drop (i + 1) (take h bs)) (drop h bs)
     ∙ ap (λ (z : List Block). take i (take h bs) ++ z) (append_assoc ys (drop (i + 1) (take h bs)) (drop h bs))
     ∙ rw (front, rest, far) (ap (λ (z : List Block). take i bs ++ (ys ++ z)) (take-append-drop (h - (i + 1)) (drop (i + 1) bs)))

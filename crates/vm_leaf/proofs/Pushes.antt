@@ -1,5 +1,28 @@
 -- A leaf with one more block, and the last address of a leaf.
-use Rattle.std.proofs.Common.{◌≡◌, ℕ, ◌+◌, ◌-◌, ◌^◌, ◌<◌, ◌≤◌, List, [], ◌∷◌, ◌++◌, length, take, set, refl, ap, ◌∙◌, sym, subst, arith, length-take-le, length-append}
+use Rattle.std.proofs.Common.{
+  ◌≡◌,
+  ℕ,
+  ◌+◌,
+  ◌-◌,
+  ◌^◌,
+  ◌<◌,
+  ◌≤◌,
+  List,
+  [],
+  ◌∷◌,
+  ◌++◌,
+  length,
+  take,
+  set,
+  refl,
+  ap,
+  ◌∙◌,
+  sym,
+  subst,
+  arith,
+  length-take-le,
+  length-append,
+}
 use Rattle.std.proofs.lemmas.List.{get_or_append_left, get_or-append_right, take_more_set}
 use Rattle.std.proofs.lemmas.Nat.Bits.{bit_at_above}
 use Rattle.std.proofs.Math.Pow.{pow_mono}
@@ -38,21 +61,27 @@ module _ (a : Inside) (xs : List Block) (v : IsInside a) (e : length a.starts �
         let r = length-append xs (b ∷ []) in
         let p = leaf_part (xs ++ b ∷ []) (a.len - 1) h (omega (arith, v.some)) in
         let c : a.len - 1 + 1 ≡ a.len = omega (arith, v.some) in
-        let next : (nth (xs ++ b ∷ []) a.len).key.start ≡ (nth (xs ++ b ∷ []) (a.len - 1)).key.end + 1 = rw c at (p.next (omega (arith, v.some))) in
+        let next : (nth (xs ++ b ∷ []) a.len).key.start
+        ≡ (nth (xs ++ b ∷ []) (a.len - 1)).key.end + 1 = rw c at (p.next (omega (arith, v.some))) in
         let none : a.len - a.len ≡ 0 = omega arith in
-        let one : nth (xs ++ b ∷ []) a.len ≡ b = get_or-append_right xs (b ∷ []) a.len a.len blank n (omega arith) ∙ ap (nth (b ∷ [])) none in
-        let two : nth (xs ++ b ∷ []) (a.len - 1) ≡ nth xs (a.len - 1) = get_or_append_left xs (b ∷ []) blank (a.len - 1) (omega (arith, v.some)) in
+        let one : nth (xs ++ b ∷ []) a.len ≡ b = get_or-append_right xs (b ∷ []) a.len a.len blank n (omega arith)
+        ∙ ap (nth (b ∷ [])) none in
+        let two : nth (xs ++ b ∷ []) (a.len - 1)
+        ≡ nth xs (a.len - 1) = get_or_append_left xs (b ∷ []) blank (a.len - 1) (omega (arith, v.some)) in
         let t : a.end ≡ (nth xs (a.len - 1)).key.end = (end_is a xs (a.len - 1) v e view (omega (arith, v.some))).1 (omega arith) in
         let u = ap (λ (z : Block). z.key.start) one in
         let w = ap (λ (z : Block). z.key.end) two in
         omega arith
 
-    pub pushed : (s t m : ℕ) → s ≡ b.key.start → t ≡ b.key.end → states_in m a.len ≡ b.state → ((k : ℕ) → k < a.len → states_in m k ≡ states_in a.held k) → m < 2 ^ (a.len + 1)
-        → let c : Inside = record { starts = set a.starts a.len s; end = t; held = m; len = a.len + 1 } in IsInside c × (blocks_of c ≡ xs ++ b ∷ [])
+    pub pushed : (s t m : ℕ) → s ≡ b.key.start → t ≡ b.key.end → states_in m a.len ≡ b.state →
+        ((k : ℕ) → k < a.len → states_in m k ≡ states_in a.held k) → m < 2 ^ (a.len + 1)
+        → let c : Inside = record { starts = set a.starts a.len s; end = t; held = m; len = a.len + 1 } in IsInside c
+        × (blocks_of c ≡ xs ++ b ∷ [])
     pushed s t m f g same others bound =
         let n = length-take-le a.len a.starts (omega (arith, v.fits)) in
         let r = room in
-        let front : take (a.len + 1) (set a.starts a.len s) ≡ take a.len a.starts ++ s ∷ [] = take_more_set a.starts a.len s (omega arith) in
+        let front : take (a.len + 1) (set a.starts a.len s)
+        ≡ take a.len a.starts ++ s ∷ [] = take_more_set a.starts a.len s (omega arith) in
         let one : tiling (states_in m) 0 (take a.len a.starts) a.end ≡ xs =
         same_tiling (states_in m) (states_in a.held) 0 0 (take a.len a.starts) a.end (λ k l.
         let z : 0 + k ≡ k = omega arith in rw z (others k (omega arith))) ∙ view in

@@ -1,5 +1,31 @@
 -- The summary of some blocks after a gap is made of a part of them.
-use Rattle.std.proofs.Common.{◌≡◌, ℕ, ◌+◌, ◌-◌, ◌^◌, ◌<◌, ◌≤◌, max, List, [], ◌∷◌, ◌++◌, length, take, drop, refl, ap, ◌∙◌, sym, subst, arith, length-take-le, length-drop, inl, inr}
+use Rattle.std.proofs.Common.{
+  ◌≡◌,
+  ℕ,
+  ◌+◌,
+  ◌-◌,
+  ◌^◌,
+  ◌<◌,
+  ◌≤◌,
+  max,
+  List,
+  [],
+  ◌∷◌,
+  ◌++◌,
+  length,
+  take,
+  drop,
+  refl,
+  ap,
+  ◌∙◌,
+  sym,
+  subst,
+  arith,
+  length-take-le,
+  length-drop,
+  inl,
+  inr,
+}
 use Rattle.std.proofs.lemmas.Bool.{cases_lt}
 use Rattle.std.proofs.lemmas.List.{get_or-take, get_or-drop}
 use Rattle.vm_ranges.specs.Range.{Range, IsRange, address_count}
@@ -60,7 +86,8 @@ longest_upto p lo hi (b ∷ bs) t =
     let o = tiles_order b.state (b.key.end + 1) hi bs t.3 in
     omega (arith, length_upto b)
 
-most_upto : (k : Range) (p : NodeState) (lo hi : ℕ) (bs : List Block) → k.start ≤ lo → hi ≤ k.end → Tiles p lo bs hi → most_alignments bs ≤ alignment_count k
+most_upto : (k : Range) (p : NodeState) (lo hi : ℕ) (bs : List Block) → k.start ≤ lo → hi ≤ k.end → Tiles p lo bs hi →
+    most_alignments bs ≤ alignment_count k
 most_upto k p lo hi [] l u t = omega arith
 most_upto k p lo hi (b ∷ bs) l u t =
     let h = most_upto k b.state (b.key.end + 1) hi bs (omega arith) u t.3 in
@@ -89,7 +116,8 @@ module _ (bs : List Block) (i n : ℕ) (h : IsLeaf bs) (some : 0 < n) (within : 
   middle : (q : NodeState) × Tiles q k.start xs k.end
   middle =
       let long : length xs ≡ n = length-take-le n (drop i bs) (omega (arith, length-drop i bs)) in
-      let t = tiles_after Allocated h.lo h.hi (take i bs) (xs ++ us) (subst (λ (x : List Block). Tiles Allocated h.lo x h.hi) (sym (parted bs i n)) h.tiles) in
+      let t = tiles_after Allocated h.lo h.hi (take i bs) (xs ++ us)
+      (subst (λ (x : List Block). Tiles Allocated h.lo x h.hi) (sym (parted bs i n)) h.tiles) in
       let c = cut_tiles t.0 t.1 h.hi xs us (omega arith) t.2 in
       let first : nth xs 0 ≡ nth bs i = get_or-take n (drop i bs) 0 blank some ∙ get_or-drop i bs 0 blank ∙ ap (nth bs) (omega arith) in
       let last : nth xs (length xs - 1) ≡ nth bs (i + n - 1) =
@@ -116,9 +144,11 @@ module _ (bs : List Block) (i n : ℕ) (h : IsLeaf bs) (some : 0 < n) (within : 
       let a = longest_upto t.0 k.start k.end xs t.1 in
       let b = most_upto k t.0 k.start k.end xs (omega arith) (omega arith) t.1 in
       let c : longest_gap bs ≡ max (longest_gap (take i bs)) (max (longest_gap xs) (longest_gap us)) =
-      ap longest_gap (sym (parted bs i n)) ∙ longest_append (take i bs) (xs ++ us) ∙ ap (max (longest_gap (take i bs))) (longest_append xs us) in
+      ap longest_gap (sym (parted bs i n)) ∙ longest_append (take i bs) (xs ++ us)
+      ∙ ap (max (longest_gap (take i bs))) (longest_append xs us) in
       let d : most_alignments bs ≡ max (most_alignments (take i bs)) (max (most_alignments xs) (most_alignments us)) =
-      ap most_alignments (sym (parted bs i n)) ∙ alignments_append (take i bs) (xs ++ us) ∙ ap (max (most_alignments (take i bs))) (alignments_append xs us) in
+      ap most_alignments (sym (parted bs i n)) ∙ alignments_append (take i bs) (xs ++ us)
+      ∙ ap (max (most_alignments (take i bs))) (alignments_append xs us) in
       let f : longest_gap new ≡ max (longest_gap (take i bs)) (max (address_count k) (longest_gap us)) =
       ap longest_gap e ∙ longest_append (take i bs) (gap_over bs i n ++ us) in
       let g : most_alignments new ≡ max (most_alignments (take i bs)) (max (alignment_count k) (most_alignments us)) =

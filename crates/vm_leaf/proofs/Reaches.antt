@@ -1,5 +1,36 @@
 -- The highest bit of some numbers together is the highest of their highest bits.
-use Rattle.std.proofs.Common.{◌≡◌, ◌≢◌, ℕ, ◌+◌, ◌-◌, ◌*◌, ◌^◌, ◌<◌, ◌≤◌, max, bit_or, bit_xor, List, [], ◌∷◌, ◌++◌, length, take, refl, ap, ◌∙◌, sym, arith, take_all, zero, suc, add-one, pow_mono, inl, inr}
+use Rattle.std.proofs.Common.{
+  ◌≡◌,
+  ◌≢◌,
+  ℕ,
+  ◌+◌,
+  ◌-◌,
+  ◌*◌,
+  ◌^◌,
+  ◌<◌,
+  ◌≤◌,
+  max,
+  bit_or,
+  bit_xor,
+  List,
+  [],
+  ◌∷◌,
+  ◌++◌,
+  length,
+  take,
+  refl,
+  ap,
+  ◌∙◌,
+  sym,
+  arith,
+  take_all,
+  zero,
+  suc,
+  add-one,
+  pow_mono,
+  inl,
+  inr,
+}
 use Rattle.std.proofs.lemmas.Bool.{cases_lt}
 use Rattle.std.proofs.lemmas.List.{take_more}
 use Rattle.std.proofs.lemmas.Nat.{or_lt, xor_lt, le_or_l, le_or_r}
@@ -62,7 +93,8 @@ xor_length r z l w =
         ]
         | inr big ↦ (let e : alignment_count r ≡ 64 = omega arith in rw e (xor_lt 64 (r.start - 1) r.end (omega arith) (omega arith)))
       ];
-      above = λ some. (powers_up_to r (alignment_count r - 1) z l).0 ((count_is_exact (alignment_count r - 1) r (omega arith)).0 (omega arith));
+      above = λ some. (powers_up_to r (alignment_count r - 1) z l).0
+          ((count_is_exact (alignment_count r - 1) r (omega arith)).0 (omega arith));
     }
 
 pub zero_length : (r : Range) → r.start ≡ 0 → IsBitLength 18446744073709551615 (alignment_count r)
@@ -74,7 +106,8 @@ most_push : (bs : List Block) (b : Block) → most_alignments (bs ++ (b ∷ []))
 most_push [] b = omega arith
 most_push (x ∷ bs) b = let h = most_push bs b in rw h (omega arith)
 
-pub most_more : (bs : List Block) (i : ℕ) → i < length bs → most_alignments (take (i + 1) bs) ≡ max (most_alignments (take i bs)) (free_alignments (nth bs i))
+pub most_more : (bs : List Block) (i : ℕ) → i < length bs →
+    most_alignments (take (i + 1) bs) ≡ max (most_alignments (take i bs)) (free_alignments (nth bs i))
 most_more bs i h = ap most_alignments (take_more bs i blank h) ∙ most_push (take i bs) (nth bs i)
 
 -- ---- Blocks that are held add nothing
@@ -91,8 +124,10 @@ skip_by bs i (suc d) l h =
     let e : i + suc d ≡ i + d + 1 = omega arith in
     let r = skip_by bs i d (omega arith) (λ k f u. h k f (omega arith)) in
     let held = h (i + d) (omega arith) (omega arith) in
-    let a : longest_gap (take (i + d + 1) bs) ≡ longest_gap (take i bs) = omega (arith, longest_more bs (i + d) (omega arith), held_length (nth bs (i + d)) held, r.0) in
-    let b : most_alignments (take (i + d + 1) bs) ≡ most_alignments (take i bs) = omega (arith, most_more bs (i + d) (omega arith), held_alignments (nth bs (i + d)) held, r.1) in
+    let a : longest_gap (take (i + d + 1) bs) ≡ longest_gap (take i bs) = omega
+    (arith, longest_more bs (i + d) (omega arith), held_length (nth bs (i + d)) held, r.0) in
+    let b : most_alignments (take (i + d + 1) bs)
+    ≡ most_alignments (take i bs) = omega (arith, most_more bs (i + d) (omega arith), held_alignments (nth bs (i + d)) held, r.1) in
     rw e (a, b)
 
 -- The summary of the gaps before an index.
@@ -100,7 +135,8 @@ pub record IsSummed (bs : List Block) (i longest reached : ℕ) : Type 0 where
   pub longest_is : longest ≡ longest_gap (take i bs)
   pub reached_is : IsBitLength reached (most_alignments (take i bs))
 
-pub skipped : (bs : List Block) (i j x y : ℕ) → i ≤ j → j ≤ length bs → ((k : ℕ) → i ≤ k → k < j → (nth bs k).state ≡ Allocated) → IsSummed bs i x y → IsSummed bs j x y
+pub skipped : (bs : List Block) (i j x y : ℕ) → i ≤ j → j ≤ length bs → ((k : ℕ) → i ≤ k → k < j → (nth bs k).state ≡ Allocated) →
+    IsSummed bs i x y → IsSummed bs j x y
 skipped bs i j x y l u h s =
     let e : i + (j - i) ≡ j = omega arith in
     let r = skip_by bs i (j - i) (omega arith) (λ k f g. h k f (omega arith)) in
@@ -118,7 +154,8 @@ gap_alignments : (b : Block) → b.state ≡ Free → free_alignments b ≡ alig
 gap_alignments b e = rw e refl
 
 -- One more gap.
-pub summed : (bs : List Block) (i x y z n : ℕ) (k : Range) → i < length bs → (nth bs i).state ≡ Free → k ≡ (nth bs i).key → n ≡ address_count k → IsBitLength z (alignment_count k)
+pub summed : (bs : List Block) (i x y z n : ℕ) (k : Range) → i < length bs → (nth bs i).state ≡ Free → k ≡ (nth bs i).key →
+    n ≡ address_count k → IsBitLength z (alignment_count k)
     → IsSummed bs i x y → IsSummed bs (i + 1) (max x n) (bit_or y z)
 summed bs i x y z n k l free key long h s =
     let a : free_length (nth bs i) ≡ n = gap_length (nth bs i) free ∙ ap address_count (sym key) ∙ sym long in
@@ -129,7 +166,8 @@ summed bs i x y z n k l free key long h s =
     }
 
 -- All gaps.
-pub all_summed : (bs : List Block) (i x y c : ℕ) → length bs ≤ i → IsSummed bs i x y → IsBitLength y c → (x ≡ longest_gap bs) × (c ≡ most_alignments bs)
+pub all_summed : (bs : List Block) (i x y c : ℕ) → length bs ≤ i → IsSummed bs i x y → IsBitLength y c →
+    (x ≡ longest_gap bs) × (c ≡ most_alignments bs)
 all_summed bs i x y c l s h =
     let e : take i bs ≡ bs = take_all i bs l in (
       s.longest_is ∙ ap longest_gap e,

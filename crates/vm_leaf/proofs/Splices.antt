@@ -1,5 +1,29 @@
 -- The fields after some blocks were replaced.
-use Rattle.std.proofs.Common.{◌≡◌, ℕ, ◌+◌, ◌-◌, ◌^◌, ◌<◌, ◌≤◌, List, [], ◌∷◌, ◌++◌, length, get_or, take, drop, refl, ap, ◌∙◌, sym, subst, arith, length-take-le, append_assoc}
+use Rattle.std.proofs.Common.{
+  ◌≡◌,
+  ℕ,
+  ◌+◌,
+  ◌-◌,
+  ◌^◌,
+  ◌<◌,
+  ◌≤◌,
+  List,
+  [],
+  ◌∷◌,
+  ◌++◌,
+  length,
+  get_or,
+  take,
+  drop,
+  refl,
+  ap,
+  ◌∙◌,
+  sym,
+  subst,
+  arith,
+  length-take-le,
+  append_assoc,
+}
 use Rattle.std.proofs.lemmas.List.{take_more, take-take}
 use Rattle.vm_leaf.specs.Block.{Block}
 use Rattle.vm_leaf.specs.Blocks.{nth, with_parts, IsLeaf}
@@ -22,25 +46,30 @@ pub record Spliced (a b : Inside) (i n : ℕ) (extra : List ℕ) : Type 0 where
 module _ (a b : Inside) (i n : ℕ) (extra : List ℕ) (bs : List Block) (s : Spliced a b i n extra) (v : IsInside a) (e : length a.starts ≡ 32)
     (view : blocks_of a ≡ bs) (some : 0 < n) (fits : i + n ≤ length bs) where
   -- The blocks of the new fields.
-  pub view_spliced : blocks_of b ≡ with_parts bs i n (tiling (states_in b.held) i ((nth bs i).key.start ∷ extra) (nth bs (i + n - 1)).key.end)
+  pub view_spliced : blocks_of b ≡ with_parts bs i n
+      (tiling (states_in b.held) i ((nth bs i).key.start ∷ extra) (nth bs (i + n - 1)).key.end)
   view_spliced =
       let ss = take a.len a.starts in
       let long : length bs ≡ a.len = ap length (sym view) ∙ length_of a v e in
       let n_ss : length ss ≡ a.len = length-take-le a.len a.starts (omega (arith, v.fits)) in
       let c : get_or ss i 0 ≡ (nth bs i).key.start =
-      sym (ap (λ (x : Block). x.key.start) (nth-tiling (states_in a.held) 0 i ss a.end (omega arith))) ∙ ap (λ (x : List Block). (nth x i).key.start) view in
+      sym (ap (λ (x : Block). x.key.start) (nth-tiling (states_in a.held) 0 i ss a.end (omega arith)))
+      ∙ ap (λ (x : List Block). (nth x i).key.start) view in
       let stop : end_before (drop (i + n) ss) a.end ≡ (nth bs (i + n - 1)).key.end =
       let q : i + n - 1 + 1 ≡ i + n = omega arith in
       sym (ap (λ j. end_before (drop j ss) a.end) q)
-      ∙ sym (ap (λ (x : Block). x.key.end) (nth-tiling (states_in a.held) 0 (i + n - 1) ss a.end (omega arith))) ∙ ap (λ (x : List Block). (nth x (i + n - 1)).key.end) view in
+      ∙ sym (ap (λ (x : Block). x.key.end) (nth-tiling (states_in a.held) 0 (i + n - 1) ss a.end (omega arith)))
+      ∙ ap (λ (x : List Block). (nth x (i + n - 1)).key.end) view in
       let front : take (i + 1) a.starts ≡ take i ss ++ (get_or ss i 0 ∷ []) =
       sym (take-take (i + 1) a.len a.starts (omega arith)) ∙ take_more ss i 0 (omega arith) in
       let all : take b.len b.starts ≡ take i ss ++ (get_or ss i 0 ∷ (extra ++ drop (i + n) ss)) =
-      s.starts ∙ ap (λ (x : List ℕ). x ++ (extra ++ drop (i + n) ss)) front ∙ append_assoc (take i ss) (get_or ss i 0 ∷ []) (extra ++ drop (i + n) ss) in
+      s.starts ∙ ap (λ (x : List ℕ). x ++ (extra ++ drop (i + n) ss)) front
+      ∙ append_assoc (take i ss) (get_or ss i 0 ∷ []) (extra ++ drop (i + n) ss) in
       ap (λ (x : List ℕ). tiling (states_in b.held) 0 x b.end) all
       ∙ ap (λ hi. tiling (states_in b.held) 0 (take i ss ++ (get_or ss i 0 ∷ (extra ++ drop (i + n) ss))) hi) s.end
       ∙ replaced (states_in a.held) (states_in b.held) ss extra a.end i n (omega arith) s.below s.above
-      ∙ ap (λ (x : List Block). with_parts x i n (tiling (states_in b.held) i (get_or ss i 0 ∷ extra) (end_before (drop (i + n) ss) a.end))) view
+      ∙ ap (λ (x : List Block). with_parts x i n (tiling (states_in b.held) i (get_or ss i 0 ∷ extra) (end_before (drop (i + n) ss) a.end)))
+      view
       ∙ rw (c, stop) refl
 
   -- The new fields are those of a leaf if the new blocks are.
@@ -49,7 +78,8 @@ module _ (a b : Inside) (i n : ℕ) (extra : List ℕ) (bs : List Block) (s : Sp
   spliced ys w h =
       let q : blocks_of b ≡ with_parts bs i n ys = view_spliced ∙ ap (with_parts bs i n) w in
       let long : length bs ≡ a.len = ap length (sym view) ∙ length_of a v e in
-      let same : length ys ≡ 1 + length extra = ap length (sym w) ∙ length-tiling (states_in b.held) i ((nth bs i).key.start ∷ extra) (nth bs (i + n - 1)).key.end ∙ omega arith in
+      let same : length ys ≡ 1 + length extra = ap length (sym w)
+      ∙ length-tiling (states_in b.held) i ((nth bs i).key.start ∷ extra) (nth bs (i + n - 1)).key.end ∙ omega arith in
       let count = length-with_parts bs i n ys fits in (
         record {
           some = omega (arith, s.len);

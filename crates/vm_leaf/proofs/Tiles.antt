@@ -86,7 +86,8 @@ last_state p [] = p
 last_state p (b ∷ bs) = last_state b.state bs
 
 -- Other blocks after the first ones.
-pub tiles_under : (p : NodeState) (lo hi : ℕ) (l xs ys : List Block) → ((m : ℕ) → Tiles (last_state p l) m xs hi → Tiles (last_state p l) m ys hi)
+pub tiles_under : (p : NodeState) (lo hi : ℕ) (l xs ys : List Block) →
+    ((m : ℕ) → Tiles (last_state p l) m xs hi → Tiles (last_state p l) m ys hi)
     → Tiles p lo (l ++ xs) hi → Tiles p lo (l ++ ys) hi
 tiles_under p lo hi [] xs ys h t = h lo t
 tiles_under p lo hi (b ∷ l) xs ys h t = (t.0, t.1, t.2, tiles_under b.state (b.key.end + 1) hi l xs ys h t.3)
@@ -99,7 +100,8 @@ pub tiles_weaken : (p : NodeState) (lo hi : ℕ) (bs : List Block) → Tiles p l
 tiles_weaken p lo hi [] t = t
 tiles_weaken p lo hi (b ∷ bs) t = (t.0, t.1, tt, t.3)
 
-pub length-with_parts : (bs : List Block) (i n : ℕ) (ys : List Block) → i + n ≤ length bs → length (with_parts bs i n ys) + n ≡ length bs + length ys
+pub length-with_parts : (bs : List Block) (i n : ℕ) (ys : List Block) → i + n ≤ length bs →
+    length (with_parts bs i n ys) + n ≡ length bs + length ys
 length-with_parts bs i n ys h =
     let a = length-take-le i bs (omega arith) in
     let b = length-drop (i + n) bs in
@@ -110,12 +112,15 @@ length-with_parts bs i n ys h =
 -- A list in three parts.
 pub parted : (bs : List Block) (i n : ℕ) → take i bs ++ (take n (drop i bs) ++ drop (i + n) bs) ≡ bs
 parted bs i n =
-    ap (λ (x : List Block). take i bs ++ x) (ap (λ (x : List Block). take n (drop i bs) ++ x) (sym (drop-drop n i bs)) ∙ take-append-drop n (drop i bs))
+    ap (λ (x : List Block). take i bs ++ x)
+    (ap (λ (x : List Block). take n (drop i bs) ++ x) (sym (drop-drop n i bs)) ∙ take-append-drop n (drop i bs))
     ∙ take-append-drop i bs
 
 -- A leaf with some blocks replaced.
-leaf_replaced : (bs : List Block) (i n : ℕ) (ys : List Block) (h : IsLeaf bs) → i + n ≤ length bs → 0 < length ys → length bs + length ys ≤ 32 + n
-    → ((m : ℕ) → Tiles (last_state Allocated (take i bs)) m (take n (drop i bs) ++ drop (i + n) bs) h.hi → Tiles (last_state Allocated (take i bs)) m (ys ++ drop (i + n) bs) h.hi)
+leaf_replaced : (bs : List Block) (i n : ℕ) (ys : List Block) (h : IsLeaf bs) → i + n ≤ length bs → 0 < length ys →
+    length bs + length ys ≤ 32 + n
+    → ((m : ℕ) → Tiles (last_state Allocated (take i bs)) m (take n (drop i bs) ++ drop (i + n) bs) h.hi →
+    Tiles (last_state Allocated (take i bs)) m (ys ++ drop (i + n) bs) h.hi)
     → IsLeaf (with_parts bs i n ys)
 leaf_replaced bs i n ys h within some room step =
     let count = length-with_parts bs i n ys within in
@@ -148,24 +153,42 @@ module _ (bs : List Block) (i : ℕ) (h : IsLeaf bs) (within : i < length bs) (f
   pub leaf_upper : (first : ℕ) → length bs + 1 ≤ 32 → (nth bs i).key.start < first → first ≤ (nth bs i).key.end
       → IsLeaf (with_parts bs i 1 (upper_held (nth bs i).key first))
   leaf_upper first room after upto =
-      leaf_with bs i (upper_held (nth bs i).key first) h within (omega arith) (omega arith) (λ q m us t.
-      (t.0, omega (arith, t.0), subst (NotBothFree q) free t.2, (omega arith, omega arith, tt, tiles_weaken (nth bs i).state ((nth bs i).key.end + 1) h.hi us t.3)))
+      leaf_with bs i (upper_held (nth bs i).key first) h within (omega arith) (omega arith) (λ q m us t. (
+        t.0,
+        omega (arith, t.0),
+        subst (NotBothFree q) free t.2,
+        (omega arith, omega arith, tt, tiles_weaken (nth bs i).state ((nth bs i).key.end + 1) h.hi us t.3),
+      ))
 
   pub leaf_lower : (next : ℕ) → length bs + 1 ≤ 32 → (nth bs i).key.start < next → next ≤ (nth bs i).key.end
       → IsLeaf (with_parts bs i 1 (lower_held (nth bs i).key next))
   leaf_lower next room after upto =
-      leaf_with bs i (lower_held (nth bs i).key next) h within (omega arith) (omega arith) (λ q m us t.
-      (t.0, omega (arith, t.0), after_held q, (omega arith, omega arith, tt, subst (λ (v : NodeState). Tiles v ((nth bs i).key.end + 1) us h.hi) free t.3)))
+      leaf_with bs i (lower_held (nth bs i).key next) h within (omega arith) (omega arith) (λ q m us t. (
+        t.0,
+        omega (arith, t.0),
+        after_held q,
+        (omega arith, omega arith, tt, subst (λ (v : NodeState). Tiles v ((nth bs i).key.end + 1) us h.hi) free t.3),
+      ))
 
   pub leaf_middle : (first next : ℕ) → length bs + 2 ≤ 32 → (nth bs i).key.start < first → first < next → next ≤ (nth bs i).key.end
       → IsLeaf (with_parts bs i 1 (middle_held (nth bs i).key first next))
   leaf_middle first next room after order upto =
-      leaf_with bs i (middle_held (nth bs i).key first next) h within (omega arith) (omega arith) (λ q m us t.
-      (t.0, omega (arith, t.0), subst (NotBothFree q) free t.2, (omega arith, omega arith, tt, (omega arith, omega arith, tt, subst (λ (v : NodeState). Tiles v ((nth bs i).key.end + 1) us h.hi) free t.3))))
+      leaf_with bs i (middle_held (nth bs i).key first next) h within (omega arith) (omega arith) (λ q m us t. (
+        t.0,
+        omega (arith, t.0),
+        subst (NotBothFree q) free t.2,
+        (
+          omega arith,
+          omega arith,
+          tt,
+          (omega arith, omega arith, tt, subst (λ (v : NodeState). Tiles v ((nth bs i).key.end + 1) us h.hi) free t.3),
+        ),
+      ))
 
 -- Some blocks of a cover, and the cover after them.
 peeled : (q : NodeState) (m hi : ℕ) (xs us : List Block) → 0 < length xs → Tiles q m (xs ++ us) hi
-    → ((nth xs 0).key.start ≡ m) × (m ≤ (nth xs (length xs - 1)).key.end) × ((r : NodeState) × Tiles r ((nth xs (length xs - 1)).key.end + 1) us hi)
+    → ((nth xs 0).key.start ≡ m) × (m ≤ (nth xs (length xs - 1)).key.end)
+    × ((r : NodeState) × Tiles r ((nth xs (length xs - 1)).key.end + 1) us hi)
 peeled q m hi [] us l t = absurd (omega arith)
 peeled q m hi (b ∷ []) us l t = (t.0, t.1, (b.state, t.3))
 peeled q m hi (b ∷ c ∷ xs) us l t =
@@ -173,11 +196,13 @@ peeled q m hi (b ∷ c ∷ xs) us l t =
     let e : suc (suc (length xs)) - 1 ≡ suc (suc (length xs) - 1) = omega arith in
     rw e (t.0, omega (arith, t.1, r.1), r.2)
 
-after_free : (r : NodeState) (m hi : ℕ) (us : List Block) → (0 < length us → (nth us 0).state ≡ Allocated) → Tiles r m us hi → Tiles Free m us hi
+after_free : (r : NodeState) (m hi : ℕ) (us : List Block) → (0 < length us → (nth us 0).state ≡ Allocated) → Tiles r m us hi →
+    Tiles Free m us hi
 after_free r m hi [] h t = t
 after_free r m hi (b ∷ us) h t = (t.0, t.1, subst (NotBothFree Free) (sym (h (omega arith))) tt, t.3)
 
-last_held : (p : NodeState) (bs : List Block) (i : ℕ) → i ≤ length bs → (i ≡ 0 → p ≡ Allocated) → (0 < i → (nth bs (i - 1)).state ≡ Allocated) → last_state p (take i bs) ≡ Allocated
+last_held : (p : NodeState) (bs : List Block) (i : ℕ) → i ≤ length bs → (i ≡ 0 → p ≡ Allocated) →
+    (0 < i → (nth bs (i - 1)).state ≡ Allocated) → last_state p (take i bs) ≡ Allocated
 last_held p bs zero l f h = f refl
 last_held p [] (suc i) l f h = absurd (omega arith)
 last_held p (b ∷ bs) (suc zero) l f h = h (omega arith)
@@ -199,7 +224,8 @@ leaf_merged bs i n h some within before after =
     let last : nth xs (length xs - 1) ≡ nth bs (i + n - 1) =
     get_or-take n (drop i bs) (length xs - 1) blank (omega arith) ∙ get_or-drop i bs (length xs - 1) blank ∙ ap (nth bs) (omega arith) in
     let next : 0 < length us → (nth us 0).state ≡ Allocated =
-    λ l. ap (λ (b : Block). b.state) (get_or-drop (i + n) bs 0 blank ∙ ap (nth bs) (omega arith)) ∙ after (omega (arith, length-drop (i + n) bs)) in
+    λ l. ap (λ (b : Block). b.state) (get_or-drop (i + n) bs 0 blank ∙ ap (nth bs) (omega arith))
+    ∙ after (omega (arith, length-drop (i + n) bs)) in
     leaf_replaced bs i n (gap_over bs i n) h within (omega arith) (omega (arith, h.fits)) (λ m t.
     let p = peeled (last_state Allocated (take i bs)) m h.hi xs us (omega arith) t in
     let start : (nth bs i).key.start ≡ m = ap (λ (b : Block). b.key.start) (sym first) ∙ p.0 in
@@ -210,7 +236,8 @@ leaf_merged bs i n h some within before after =
       subst (λ (v : ℕ). Tiles Free (v + 1) us h.hi) stop (after_free p.2.0 ((nth xs (length xs - 1)).key.end + 1) h.hi us next p.2.1),
     ))
 
-tiles_apart : (p : NodeState) (lo hi : ℕ) (bs : List Block) (i : ℕ) → Tiles p lo bs hi → i + 1 < length bs → NotBothFree (nth bs i).state (nth bs (i + 1)).state
+tiles_apart : (p : NodeState) (lo hi : ℕ) (bs : List Block) (i : ℕ) → Tiles p lo bs hi → i + 1 < length bs →
+    NotBothFree (nth bs i).state (nth bs (i + 1)).state
 tiles_apart p lo hi [] i t l = absurd (omega arith)
 tiles_apart p lo hi (b ∷ []) i t l = absurd (omega arith)
 tiles_apart p lo hi (b ∷ c ∷ bs) zero t l = t.3.2
@@ -229,10 +256,13 @@ one_held Free Free h e = absurd h
 one_held Free Allocated h e = absurd (cc)
 
 -- The neighbours of a gap are held.
-pub held_after : (bs : List Block) (i j : ℕ) → IsLeaf bs → j ≡ i + 1 → (nth bs i).state ≡ Free → j < length bs → (nth bs j).state ≡ Allocated
-held_after bs i j h e f l = rw e (other_held (nth bs i).state (nth bs (i + 1)).state (tiles_apart Allocated h.lo h.hi bs i h.tiles (omega arith)) f)
+pub held_after : (bs : List Block) (i j : ℕ) → IsLeaf bs → j ≡ i + 1 → (nth bs i).state ≡ Free → j < length bs →
+    (nth bs j).state ≡ Allocated
+held_after bs i j h e f l = rw e
+    (other_held (nth bs i).state (nth bs (i + 1)).state (tiles_apart Allocated h.lo h.hi bs i h.tiles (omega arith)) f)
 
-pub held_before : (bs : List Block) (i : ℕ) → IsLeaf bs → i < length bs → (nth bs i).state ≡ Free → 0 < i → (nth bs (i - 1)).state ≡ Allocated
+pub held_before : (bs : List Block) (i : ℕ) → IsLeaf bs → i < length bs → (nth bs i).state ≡ Free → 0 < i →
+    (nth bs (i - 1)).state ≡ Allocated
 held_before bs i h l f z =
     let e : i - 1 + 1 ≡ i = omega arith in
     one_held (nth bs (i - 1)).state (nth bs i).state (rw e at (tiles_apart Allocated h.lo h.hi bs (i - 1) h.tiles (omega arith))) f
@@ -269,7 +299,12 @@ module _ (bs : List Block) (at : ℕ) (h : IsRun bs) (some : 0 < at) (rest : at 
         hi = (nth (take at bs) (length (take at bs) - 1)).key.end;
         some = omega arith;
         tiles = run_halves.0;
-        range = (omega (arith, p.from, p.some, p.upto), omega (arith, q.from, q.some, q.upto, h.range.1), λ e. omega (arith, q.from, q.some, q.upto, h.range.1));
+        range = (
+          omega (arith, p.from, p.some, p.upto),
+          omega (arith, q.from, q.some, q.upto, h.range.1),
+          λ e. omega
+              (arith, q.from, q.some, q.upto, h.range.1),
+        );
       }
 
   pub run_high : IsRun (drop at bs)

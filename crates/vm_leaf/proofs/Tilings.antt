@@ -1,5 +1,28 @@
 -- The blocks with given starts, over any function for their states.
-use Rattle.std.proofs.Common.{◌≡◌, ℕ, zero, suc, ◌+◌, ◌-◌, ◌<◌, List, [], ◌∷◌, ◌++◌, length, get_or, take, drop, refl, ap, ◌∙◌, sym, arith, length-take-le, take-append-drop}
+use Rattle.std.proofs.Common.{
+  ◌≡◌,
+  ℕ,
+  zero,
+  suc,
+  ◌+◌,
+  ◌-◌,
+  ◌<◌,
+  List,
+  [],
+  ◌∷◌,
+  ◌++◌,
+  length,
+  get_or,
+  take,
+  drop,
+  refl,
+  ap,
+  ◌∙◌,
+  sym,
+  arith,
+  length-take-le,
+  take-append-drop,
+}
 use Rattle.std.proofs.lemmas.List.{take_at, drop_more}
 use Rattle.vm_leaf.specs.Block.{Block}
 use Rattle.vm_leaf.specs.Blocks.{nth, with_parts}
@@ -31,7 +54,8 @@ same_tiling st su i j (s ∷ ss) hi h =
     rw (first, rest) refl
 
 pub nth-tiling : (st : ℕ → NodeState) (i k : ℕ) (ss : List ℕ) (hi : ℕ) → k < length ss
-    → nth (tiling st i ss hi) k ≡ record { key = record { start = get_or ss k 0; end = end_before (drop (k + 1) ss) hi }; state = st (i + k) }
+    → nth (tiling st i ss hi) k ≡ record
+    { key = record { start = get_or ss k 0; end = end_before (drop (k + 1) ss) hi }; state = st (i + k) }
 nth-tiling st i k [] hi h = absurd (omega (arith, h))
 nth-tiling st i zero (s ∷ ss) hi h = let e : i + 0 ≡ i = omega arith in rw e refl
 nth-tiling st i (suc k) (s ∷ ss) hi h =
@@ -73,7 +97,9 @@ replaced st su ss extra hi i n l below above =
     let first : tiling su 0 (take i ss) (c - 1) ≡ take i (tiling st 0 ss hi) =
     same_tiling su st 0 0 (take i ss) (c - 1) (λ k q. grind (arith, below k)) ∙ sym (take-tiling st ss hi i l) in
     let rest : tiling su (i + 1 + length extra) r hi ≡ drop (i + n) (tiling st 0 ss hi) =
-    same_tiling su st (i + 1 + length extra) (i + n) r hi (λ k q. above k) ∙ sym (drop-tiling st 0 ss hi (i + n) ∙ ap (λ j. tiling st j r hi) (omega arith)) in
+    same_tiling su st (i + 1 + length extra) (i + n) r hi (λ k q. above k)
+    ∙ sym (drop-tiling st 0 ss hi (i + n) ∙ ap (λ j. tiling st j r hi) (omega arith)) in
     tiling-append su 0 i (take i ss) (c ∷ (extra ++ r)) hi (omega arith)
-    ∙ ap (λ (z : List Block). tiling su 0 (take i ss) (c - 1) ++ z) (tiling-append su i (i + 1 + length extra) (c ∷ extra) r hi (omega arith))
+    ∙ ap (λ (z : List Block). tiling su 0 (take i ss) (c - 1) ++ z)
+    (tiling-append su i (i + 1 + length extra) (c ∷ extra) r hi (omega arith))
     ∙ rw (first, rest) refl

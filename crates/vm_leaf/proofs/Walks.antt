@@ -1,5 +1,33 @@
 -- The blocks that an iteration over a leaf has left, less one at an end.
-use Rattle.std.proofs.Common.{◌≡◌, ℕ, ◌+◌, ◌-◌, ◌/◌, ◌^◌, ◌<◌, ◌≤◌, List, [], ◌∷◌, ◌++◌, length, get_or, take, drop, refl, ap, ◌∙◌, sym, subst, arith, inl, inr, length-append, length-take-le, take_all}
+use Rattle.std.proofs.Common.{
+  ◌≡◌,
+  ℕ,
+  ◌+◌,
+  ◌-◌,
+  ◌/◌,
+  ◌^◌,
+  ◌<◌,
+  ◌≤◌,
+  List,
+  [],
+  ◌∷◌,
+  ◌++◌,
+  length,
+  get_or,
+  take,
+  drop,
+  refl,
+  ap,
+  ◌∙◌,
+  sym,
+  subst,
+  arith,
+  inl,
+  inr,
+  length-append,
+  length-take-le,
+  take_all,
+}
 use Rattle.std.proofs.lemmas.Bool.{cases_lt}
 use Rattle.std.proofs.lemmas.List.{take-take, take_at, get_or-take, get_or_push, drop-take}
 use borrow.Rule.Slice.PartMut.{mid_of}
@@ -17,7 +45,8 @@ use Rattle.vm_leaf.proofs.Fields.{length_of, end_is}
 use Rattle.vm_leaf.proofs.Tiles.{leaf_range, leaf_low, leaf_high}
 
 -- ---- A part of a leaf
-module _ (a : Inside) (bs : List Block) (v : IsInside a) (e : length a.starts ≡ 32) (view : blocks_of a ≡ bs) (i j : ℕ) (order : i < j) (within : j ≤ length bs) (t : ℕ) (end : t ≡ (nth bs (j - 1)).key.end) where
+module _ (a : Inside) (bs : List Block) (v : IsInside a) (e : length a.starts ≡ 32) (view : blocks_of a ≡ bs) (i j : ℕ) (order : i < j)
+    (within : j ≤ length bs) (t : ℕ) (end : t ≡ (nth bs (j - 1)).key.end) where
   abbrev ss : List ℕ
   ss = take a.len a.starts
 
@@ -33,7 +62,8 @@ module _ (a : Inside) (bs : List Block) (v : IsInside a) (e : length a.starts �
             let stop : get_or (take a.len a.starts) j 0 ≡ get_or a.starts j 0 = get_or-take a.len a.starts j 0 c in
             let g : get_or a.starts j 0 - 1 ≡ t = rw one at (f.0 (omega arith)) ∙ sym end in
             let h : get_or (take a.len a.starts) j 0 - 1 ≡ t = ap (λ (z : ℕ). z - 1) stop ∙ g in
-            ap (take j) (sym view) ∙ take-tiling (states_in a.held) (take a.len a.starts) a.end j (omega arith) ∙ ap (tiling (states_in a.held) 0 (take j (take a.len a.starts))) h
+            ap (take j) (sym view) ∙ take-tiling (states_in a.held) (take a.len a.starts) a.end j (omega arith)
+            ∙ ap (tiling (states_in a.held) 0 (take j (take a.len a.starts))) h
             )
         | inr c ↦ (
             let g : a.end ≡ t = f.1 (omega arith) ∙ sym end in
@@ -48,7 +78,8 @@ module _ (a : Inside) (bs : List Block) (v : IsInside a) (e : length a.starts �
       let m = ap length view in
       let sum : i + (j - i) ≡ j = omega arith in
       let front : take j (take a.len a.starts) ≡ take j a.starts = take-take j a.len a.starts (omega arith) in
-      let mid : drop i (take j a.starts) ≡ mid_of i (j - i) a.starts = ap (λ (k : ℕ). drop i (take k a.starts)) (sym sum) ∙ drop-take i (j - i) a.starts in
+      let mid : drop i (take j a.starts) ≡ mid_of i (j - i) a.starts = ap (λ (k : ℕ). drop i (take k a.starts)) (sym sum)
+      ∙ drop-take i (j - i) a.starts in
       same_tiling (states_in (a.held / 2 ^ i)) (states_in a.held) 0 (0 + i) (mid_of i (j - i) a.starts) t (λ k l.
       let z : 0 + k ≡ k = omega arith in let y : 0 + i + k ≡ i + k = omega arith in rw (z, y) (high_states a.held i k))
       ∙ ap (λ (x : List ℕ). tiling (states_in a.held) (0 + i) x t) (sym (ap (drop i) front ∙ mid))
@@ -75,9 +106,11 @@ module _ (a : Inside) (bs : List Block) (v : IsInside a) (e : length a.starts �
 -- ---- Without the first block
 module _ (ss : List ℕ) (hi m s : ℕ) (rest : List ℕ) (e : ss ≡ s ∷ rest) where
   same_rest : tiling (states_in m) 1 rest hi ≡ blocks_left rest hi (m / 2)
-  same_rest = same_tiling (states_in m) (states_in (m / 2)) 1 0 rest hi (λ k l. let z : 0 + k ≡ k = omega arith in rw z (sym (high_states m 1 k)))
+  same_rest = same_tiling (states_in m) (states_in (m / 2)) 1 0 rest hi
+      (λ k l. let z : 0 + k ≡ k = omega arith in rw z (sym (high_states m 1 k)))
 
-  pub first_left : blocks_left ss hi m ≡ record { key = record { start = s; end = end_before rest hi }; state = states_in m 0 } ∷ blocks_left rest hi (m / 2)
+  pub first_left : blocks_left ss hi m ≡ record { key = record { start = s; end = end_before rest hi }; state = states_in m 0 } ∷
+      blocks_left rest hi (m / 2)
   first_left = ap (λ (z : List ℕ). blocks_left z hi m) e ∙ rw same_rest refl
 
   module _ (a : AreLeft (blocks_left ss hi m)) where
@@ -91,13 +124,16 @@ module _ (ss : List ℕ) (hi m s : ℕ) (rest : List ℕ) (e : ss ≡ s ∷ rest
     rest_left l = leaf_high _ 1 leaf (omega arith) (omega arith)
 
 -- The same, where the block is made of its parts.
-pub first_of_parts : (bs : List Block) (ss : List ℕ) (hi m s t : ℕ) (rest : List ℕ) (k : Range) (st : NodeState) → blocks_left ss hi m ≡ bs → ss ≡ s ∷ rest
-    → k ≡ record { start = s; end = t } → t ≡ end_before rest hi → st ≡ states_in m 0 → bs ≡ record { key = k; state = st } ∷ blocks_left rest hi (m / 2)
+pub first_of_parts : (bs : List Block) (ss : List ℕ) (hi m s t : ℕ) (rest : List ℕ) (k : Range) (st : NodeState) →
+    blocks_left ss hi m ≡ bs → ss ≡ s ∷ rest
+    → k ≡ record { start = s; end = t } → t ≡ end_before rest hi → st ≡ states_in m 0 →
+    bs ≡ record { key = k; state = st } ∷ blocks_left rest hi (m / 2)
 first_of_parts bs ss hi m s t rest k st v e f g h = sym v ∙ first_left ss hi m s rest e ∙ rw (f, g, h) refl
 
 -- ---- Without the last block
 module _ (ss : List ℕ) (hi m s : ℕ) (rest : List ℕ) (e : ss ≡ rest ++ s ∷ []) where
-  pub last_left : blocks_left ss hi m ≡ blocks_left rest (s - 1) m ++ record { key = record { start = s; end = hi }; state = states_in m (length rest) } ∷ []
+  pub last_left : blocks_left ss hi m ≡ blocks_left rest (s - 1) m ++ record
+      { key = record { start = s; end = hi }; state = states_in m (length rest) } ∷ []
   last_left = ap (λ (z : List ℕ). blocks_left z hi m) e ∙ tiling-append (states_in m) 0 (length rest) rest (s ∷ []) hi (omega arith)
 
   long : length (blocks_left rest (s - 1) m) ≡ length rest
@@ -117,8 +153,10 @@ module _ (ss : List ℕ) (hi m s : ℕ) (rest : List ℕ) (e : ss ≡ rest ++ s 
     last_range =
         let n = long in
         let k = length-append (blocks_left rest (s - 1) m) (last ∷ []) in
-        let f : nth (blocks_left rest (s - 1) m ++ last ∷ []) (length (blocks_left rest (s - 1) m)) ≡ last = get_or_push (blocks_left rest (s - 1) m) last blank (length (blocks_left rest (s - 1) m)) refl in
-        subst (λ (b : Block). IsRange b.key.start b.key.end) f (leaf_range (blocks_left rest (s - 1) m ++ last ∷ []) (length (blocks_left rest (s - 1) m)) whole (omega arith))
+        let f : nth (blocks_left rest (s - 1) m ++ last ∷ []) (length (blocks_left rest (s - 1) m))
+        ≡ last = get_or_push (blocks_left rest (s - 1) m) last blank (length (blocks_left rest (s - 1) m)) refl in
+        subst (λ (b : Block). IsRange b.key.start b.key.end) f
+        (leaf_range (blocks_left rest (s - 1) m ++ last ∷ []) (length (blocks_left rest (s - 1) m)) whole (omega arith))
 
     pub lower_left : AreLeft (blocks_left rest (s - 1) m)
     lower_left l =
@@ -126,8 +164,10 @@ module _ (ss : List ℕ) (hi m s : ℕ) (rest : List ℕ) (e : ss ≡ rest ++ s 
         subst IsLeaf (take_at (blocks_left rest (s - 1) m) (last ∷ []) (length (blocks_left rest (s - 1) m)) refl)
         (leaf_low (blocks_left rest (s - 1) m ++ last ∷ []) (length (blocks_left rest (s - 1) m)) whole l (omega arith))
 
-pub last_of_parts : (bs : List Block) (ss : List ℕ) (hi m s t : ℕ) (rest : List ℕ) (k : Range) (st : NodeState) → blocks_left ss hi m ≡ bs → ss ≡ rest ++ s ∷ []
-    → k ≡ record { start = s; end = hi } → t ≡ s - 1 → st ≡ states_in m (length rest) → bs ≡ blocks_left rest t m ++ record { key = k; state = st } ∷ []
+pub last_of_parts : (bs : List Block) (ss : List ℕ) (hi m s t : ℕ) (rest : List ℕ) (k : Range) (st : NodeState) → blocks_left ss hi m ≡ bs →
+    ss ≡ rest ++ s ∷ []
+    → k ≡ record { start = s; end = hi } → t ≡ s - 1 → st ≡ states_in m (length rest) →
+    bs ≡ blocks_left rest t m ++ record { key = k; state = st } ∷ []
 last_of_parts bs ss hi m s t rest k st v e f g h = sym v ∙ last_left ss hi m s rest e ∙ rw (f, g, h) refl
 
 pub ruleset lasts = (last_of_parts, few_left, last_range, lower_left)

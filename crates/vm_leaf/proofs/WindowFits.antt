@@ -15,19 +15,25 @@ same_part : (b : Block) (low high s e : ℕ) → b.state ≡ Free → s ≡ b.ke
 same_part b low high s e free from upto = rw (from, upto, ← free) refl
 
 pub lowest_part : (n a : ℕ) (b : Block) (low high s e : ℕ) (found : Option ℕ) → b.state ≡ Free → s ≡ b.key.start → e ≡ b.key.end
-    → FindsLowestFit n a (free_block (record { start = max low s; end = min high e })) found → FindsLowestFit n a (cut_to (record { start = low; end = high }) b) found
-lowest_part n a b low high s e found free from upto h = subst (λ (p : Block). FindsLowestFit n a p found) (same_part b low high s e free from upto) h
+    → FindsLowestFit n a (free_block (record { start = max low s; end = min high e })) found →
+    FindsLowestFit n a (cut_to (record { start = low; end = high }) b) found
+lowest_part n a b low high s e found free from upto h = subst (λ (p : Block). FindsLowestFit n a p found)
+    (same_part b low high s e free from upto) h
 
 pub highest_part : (n a : ℕ) (b : Block) (low high s e : ℕ) (found : Option ℕ) → b.state ≡ Free → s ≡ b.key.start → e ≡ b.key.end
-    → FindsHighestFit n a (free_block (record { start = max low s; end = min high e })) found → FindsHighestFit n a (cut_to (record { start = low; end = high }) b) found
-highest_part n a b low high s e found free from upto h = subst (λ (p : Block). FindsHighestFit n a p found) (same_part b low high s e free from upto) h
+    → FindsHighestFit n a (free_block (record { start = max low s; end = min high e })) found →
+    FindsHighestFit n a (cut_to (record { start = low; end = high }) b) found
+highest_part n a b low high s e found free from upto h = subst (λ (p : Block). FindsHighestFit n a p found)
+    (same_part b low high s e free from upto) h
 
 -- Held blocks have no fit.
-pub none_held : (w : Range) (n a : ℕ) (bs : List Block) (i j : ℕ) → ((k : ℕ) → i ≤ k → k < j → (nth bs k).state ≡ Allocated) → HaveNoFitIn w n a bs i j
+pub none_held : (w : Range) (n a : ℕ) (bs : List Block) (i j : ℕ) → ((k : ℕ) → i ≤ k → k < j → (nth bs k).state ≡ Allocated) →
+    HaveNoFitIn w n a bs i j
 unfolding HaveNoFitIn
 none_held w n a bs i j h k l u = no_fit_held n a (cut_to w (nth bs k)) (h k l u)
 
-pub none_joined : (w : Range) (n a : ℕ) (bs : List Block) (i j l : ℕ) → HaveNoFitIn w n a bs i j → HaveNoFitIn w n a bs j l → HaveNoFitIn w n a bs i l
+pub none_joined : (w : Range) (n a : ℕ) (bs : List Block) (i j l : ℕ) → HaveNoFitIn w n a bs i j → HaveNoFitIn w n a bs j l →
+    HaveNoFitIn w n a bs i l
 unfolding HaveNoFitIn
 none_joined w n a bs i j l h g k f u =
     elim (cases_lt k j) [ inl q ↦ h k f q | inr q ↦ g k q u ]

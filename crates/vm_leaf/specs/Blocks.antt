@@ -80,7 +80,8 @@ lower_held k next =
 -- The blocks that replace the gap k when its part from `first` up to, but not including, `next` is allocated.
 abbrev pub middle_held : Range → ℕ → ℕ → List Block
 middle_held k first next =
-    free_block (record { start = k.start; end = first - 1 }) ∷ held_block (record { start = first; end = next - 1 }) ∷ free_block (record { start = next; end = k.end }) ∷ []
+    free_block (record { start = k.start; end = first - 1 }) ∷ held_block (record { start = first; end = next - 1 }) ∷ free_block
+    (record { start = next; end = k.end }) ∷ []
 
 -- The gap that replaces the n blocks starting at i.
 abbrev pub gap_over : List Block → ℕ → ℕ → List Block

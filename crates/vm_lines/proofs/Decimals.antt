@@ -1,5 +1,41 @@
 -- The digits of a number, written from the last to the first before index 20 of an array.
-use Rattle.std.proofs.Common.{◌≡◌, ℕ, ◌+◌, ◌-◌, ◌/◌, ◌%◌, ◌^◌, ◌<◌, ◌≤◌, List, [], ◌∷◌, ◌++◌, length, take, drop, set, refl, sym, ap, arith, add-one, append_assoc, length-append, ◌∙◌, Bool, true, false, zero, suc, ◌&&◌, ◌==◌, ◌*◌, get_or, ⊎_elim}
+use Rattle.std.proofs.Common.{
+  ◌≡◌,
+  ℕ,
+  ◌+◌,
+  ◌-◌,
+  ◌/◌,
+  ◌%◌,
+  ◌^◌,
+  ◌<◌,
+  ◌≤◌,
+  List,
+  [],
+  ◌∷◌,
+  ◌++◌,
+  length,
+  take,
+  drop,
+  set,
+  refl,
+  sym,
+  ap,
+  arith,
+  add-one,
+  append_assoc,
+  length-append,
+  ◌∙◌,
+  Bool,
+  true,
+  false,
+  zero,
+  suc,
+  ◌&&◌,
+  ◌==◌,
+  ◌*◌,
+  get_or,
+  ⊎_elim,
+}
 use Rattle.std.specs.Fmt.{decimal}
 use Rattle.std.proofs.lemmas.Fmt.{decimal_step, decimal_digit, decimal_nonempty, length-decimal-le}
 use Rattle.std.proofs.Math.Seq.{take-append-add}
@@ -24,7 +60,16 @@ short n fits = length-decimal-le 10 n (omega arith) (omega arith) (omega arith)
 pub id_behind : (old text named told all : List ℕ) (id last : ℕ) → id < 2 ^ 32 → named ≡ old ++ text → told ≡ named ++ decimal id
     → all ≡ told ++ last ∷ [] → length all ≤ length old + length text + 11
 id_behind old text named told all id last fits a b c =
-    omega (arith, ap length a, length-append old text, ap length b, length-append named (decimal id), short id fits, ap length c, length-append told (last ∷ []))
+    omega (
+      arith,
+      ap length a,
+      length-append old text,
+      ap length b,
+      length-append named (decimal id),
+      short id fits,
+      ap length c,
+      length-append told (last ∷ []),
+    )
 
 -- One more digit before the others.
 take_next : (n x : ℕ) (xs : List ℕ) → take (n + 1) (x ∷ xs) ≡ x ∷ take n xs
@@ -54,7 +99,8 @@ pair_step n h fits =
 pub put_more : (n : ℕ) (more there text : List ℕ) → 100 ≤ n → n < 2 ^ 64
     → more ≡ (48 + n % 100 / 10) ∷ (48 + n % 100 % 10) ∷ there → decimal n ++ there ≡ text → decimal (n / 100) ++ more ≡ text
 put_more n more there text h fits two e =
-    rw two (sym (append_assoc (decimal (n / 100)) ((48 + n % 100 / 10) ∷ (48 + n % 100 % 10) ∷ []) there) ∙ ap (λ d. d ++ there) (sym (pair_step n h fits)) ∙ e)
+    rw two (sym (append_assoc (decimal (n / 100)) ((48 + n % 100 / 10) ∷ (48 + n % 100 % 10) ∷ []) there)
+    ∙ ap (λ d. d ++ there) (sym (pair_step n h fits)) ∙ e)
 
 -- The first two digits are written.
 pub put_two : (n : ℕ) (more there text : List ℕ) → 10 ≤ n → n < 100 → more ≡ (48 + n / 10) ∷ (48 + n % 10) ∷ there
@@ -97,7 +143,8 @@ pub put_both : (start one ten : ℕ) (digits : List ℕ) → 1 < start → start
 put_both start one ten digits some within room =
     let two : start - 1 - 1 ≡ start - 2 = omega arith in
     let first = put start one digits (omega arith) within room in
-    let second = put (start - 1) ten (set digits (start - 1) one) (omega arith) (omega arith) (omega (arith, length-set digits (start - 1) one)) in
+    let second = put (start - 1) ten (set digits (start - 1) one) (omega arith) (omega arith)
+    (omega (arith, length-set digits (start - 1) one)) in
     rw two at second ∙ ap (λ d. ten ∷ d) first
 
 -- The hundredth of a number has two digits less.
@@ -116,7 +163,14 @@ pub twenty_more : (bytes old digits : List ℕ) (total start : ℕ) → start �
 twenty_more bytes old digits total start within long room is =
     let count : start + 20 - start ≡ 20 = omega arith in
     let added = length-take-le (start + 20 - start) (drop start digits) (omega (arith, length-drop start digits)) in
-    omega (arith, length-take-le total bytes room, ap length is, length-append old (take (start + 20 - start) (drop start digits)), added, count)
+    omega (
+      arith,
+      length-take-le total bytes room,
+      ap length is,
+      length-append old (take (start + 20 - start) (drop start digits)),
+      added,
+      count,
+    )
 
 -- The bytes after the number are removed again.
 pub cut_back : (bytes old digits : List ℕ) (total start : ℕ) → start ≤ 20 → length digits ≡ 40 → total ≤ length bytes

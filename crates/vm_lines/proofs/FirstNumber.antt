@@ -1,5 +1,33 @@
 -- The number of the first word of a text.
-use Rattle.std.proofs.Common.{◌≡◌, ◌≢◌, ℕ, ◌+◌, ◌-◌, ◌<◌, ◌≤◌, Bool, true, false, List, [], ◌∷◌, length, take, drop, get_or, Option, Some, None, ◌==◌, refl, sym, ap, ◌∙◌, arith, ⊎_elim}
+use Rattle.std.proofs.Common.{
+  ◌≡◌,
+  ◌≢◌,
+  ℕ,
+  ◌+◌,
+  ◌-◌,
+  ◌<◌,
+  ◌≤◌,
+  Bool,
+  true,
+  false,
+  List,
+  [],
+  ◌∷◌,
+  length,
+  take,
+  drop,
+  get_or,
+  Option,
+  Some,
+  None,
+  ◌==◌,
+  refl,
+  sym,
+  ap,
+  ◌∙◌,
+  arith,
+  ⊎_elim,
+}
 use Rattle.std.specs.Prelude.{not}
 use Rattle.std.specs.List.{position_or_len, after_first}
 use Rattle.std.specs.Option.{option_map, option_zip}
@@ -81,7 +109,9 @@ three_some [] behind number e = absurd cc
 three_some (word ∷ words) behind number e =
     let h = says_some word words behind number e in rw (sym h.1, h.0) (zip (two_in number_of words))
   where
-    zip : (o : Option (ℕ × ℕ)) → option_map {U = ℕ × ℕ × ℕ} (λ p. (p.0, p.1.0, p.1.1)) (option_zip (Some number) o) ≡ option_map {U = ℕ × ℕ × ℕ} (λ p. (number, p.0, p.1)) o
+    zip : (o : Option (ℕ × ℕ)) →
+        option_map {U = ℕ × ℕ × ℕ} (λ p. (p.0, p.1.0, p.1.1)) (option_zip (Some number) o)
+        ≡ option_map {U = ℕ × ℕ × ℕ} (λ p. (number, p.0, p.1)) o
     zip None = refl
     zip (Some p) = refl
 
@@ -115,7 +145,8 @@ mixed_none : (text : List ℕ) (n : ℕ) → n ≡ leading_digits text → n < e
 mixed_none text n is more =
     let m = end_of_word text in
     let within : n < length (take m text) = omega (arith, length-take-le m text (end_within text)) in
-    let stops : is_digit (get_or text (leading_digits text) 0) ≡ false = prefix_len_stops is_digit text 0 (omega (arith, end_within text)) in
+    let stops : is_digit (get_or text (leading_digits text) 0)
+    ≡ false = prefix_len_stops is_digit text 0 (omega (arith, end_within text)) in
     let at : is_digit (get_or (take m text) n 0) ≡ false = rw (get_or-take m text n 0 more, is) stops in
     let mixed = list_all_at is_digit (take m text) n 0 within at in
     rw mixed (grind (arith, nat_tests))
@@ -155,7 +186,8 @@ pub then_blank : (text : List ℕ) (number n : ℕ) → n ≡ leading_digits tex
 then_blank text number n is within at e =
     let there : (get_or text n 0 == blank) ≡ true = grind (arith, nat_tests) in
     let near : end_of_word text ≤ n =
-    ⊎_elim (λ more. absurd (let other = fails_before_first (λ byte. byte == blank) text n 0 more in cc)) (λ l. l) (cases_lt n (end_of_word text)) in
+    ⊎_elim (λ more. absurd (let other = fails_before_first (λ byte. byte == blank) text n 0 more in cc)) (λ l. l)
+    (cases_lt n (end_of_word text)) in
     let ends : end_of_word text ≡ n = omega (arith, digits_before_blank text) in
     let first = words_some text n (rw ends (grind (arith, nat_tests))) in
     let says : number_of (take n text) ≡ Some number = rw (sym is) at e in

@@ -27,7 +27,8 @@ id_is word = grind (arith, nat_tests)
 -- The id of a number that is converted.
 pub converted : (E : Type 0) (n : ℕ) (r : Result ℕ E) → OkIff r (n < 2 ^ 32) n → result_ok r ≡ id_in (Some n)
 converted E n (Ok x) h = let is = OkIff-at_ok {E = E} (Ok x) (n < 2 ^ 32) n x h refl in rw (is.1, lt-ltb n (2 ^ 32) is.0) refl
-converted E n (Err e) h = let high : 2 ^ 32 ≤ n = omega (arith, OkIff-at_err {E = E} (Err e) (n < 2 ^ 32) n e h refl) in rw (le-ltb n (2 ^ 32) high) refl
+converted E n (Err e) h = let high : 2 ^ 32 ≤ n = omega (arith, OkIff-at_err {E = E} (Err e) (n < 2 ^ 32) n e h refl) in rw
+    (le-ltb n (2 ^ 32) high) refl
 
 pub one_id : (words : List (List ℕ)) → one_in id_of words ≡ id_in (one_in number_of words)
 one_id [] = refl
@@ -67,7 +68,9 @@ four_some (word ∷ second ∷ words) behind number e =
     let h = says_some word (second ∷ words) behind number e in
     rw (sym h.1, id_is word, h.0, id_is second) (zip (number_of second) (two_in number_of words))
   where
-    zip : (o : Option ℕ) (p : Option (ℕ × ℕ)) → option_zip (option_zip (id_in (Some number)) (id_in o)) p ≡ ids_among number (option_map {U = ℕ × ℕ × ℕ} (λ q. (q.0, q.1.0, q.1.1)) (option_zip o p))
+    zip : (o : Option ℕ) (p : Option (ℕ × ℕ)) →
+        option_zip (option_zip (id_in (Some number)) (id_in o)) p
+        ≡ ids_among number (option_map {U = ℕ × ℕ × ℕ} (λ q. (q.0, q.1.0, q.1.1)) (option_zip o p))
     zip None p = none (id_in (Some number))
       where
         none : (o : Option ℕ) → option_zip {U = ℕ × ℕ} (option_zip {U = ℕ} o None) p ≡ None
@@ -89,7 +92,10 @@ pub four_less : (words behind : List (List ℕ)) (number : ℕ) → number_first
 four_less words behind number e less = four_some words behind number e ∙ ap (ids_among number) less
 
 -- The result from the two ids, either of which can be None.
-pub four_ids : (words : List (List ℕ)) (rest : Option (List ℕ)) (text : List ℕ) (number second third fourth : ℕ) (i j : Option ℕ) → number_first words ≡ Some (number, words_after rest) → rest ≡ Some text
-    → Some (second, third, fourth) ≡ three_in number_of (words_of text) → i ≡ id_in (Some number) → j ≡ id_in (Some second) → four_in id_of number_of words ≡ option_map (λ ids. (ids, (third, fourth))) (option_zip i j)
+pub four_ids : (words : List (List ℕ)) (rest : Option (List ℕ)) (text : List ℕ) (number second third fourth : ℕ) (i j : Option ℕ) →
+    number_first words ≡ Some (number, words_after rest) → rest ≡ Some text
+    → Some (second, third, fourth) ≡ three_in number_of (words_of text) → i ≡ id_in (Some number) → j ≡ id_in (Some second) →
+    four_in id_of number_of words ≡ option_map (λ ids. (ids, (third, fourth))) (option_zip i j)
 four_ids words rest text number second third fourth i j first some three is js =
-    four_some words (words_after rest) number first ∙ ap (λ r. ids_among number (three_in number_of (words_after r))) some ∙ ap (ids_among number) (sym three) ∙ rw (is, js) refl
+    four_some words (words_after rest) number first ∙ ap (λ r. ids_among number (three_in number_of (words_after r))) some
+    ∙ ap (ids_among number) (sym three) ∙ rw (is, js) refl

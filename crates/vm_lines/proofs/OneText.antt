@@ -44,7 +44,8 @@ released_once old m n start end x y a b =
     unless_same _ _ _ _ _ a b (λ u v. (u.0 ∙ sym v.0, u.1 ∙ sym v.1)) (frees_once old m n (record { start = start; end = end }) x y)
 
 -- Whether an id is held has one result.
-outcome_once : (state : IdState) (id : ℕ) (held other : Bool) → IsTrue held ↔ IsHeld state id → IsTrue other ↔ IsHeld state id → held ≡ other
+outcome_once : (state : IdState) (id : ℕ) (held other : Bool) → IsTrue held ↔ IsHeld state id → IsTrue other ↔ IsHeld state id →
+    held ≡ other
 outcome_once state id true true p q = refl
 outcome_once state id true false p q = absurd (cc (q.1 (p.0 refl)))
 outcome_once state id false true p q = absurd (cc (p.1 (q.0 refl)))
@@ -91,7 +92,8 @@ places_once : (old m n : Machine) (request : Request) (x y : Reply) → x ≢ Fa
 unfolding AllocatesRange
 places_once old m n request x y p q a b =
     on_space_once old m n x y _ _ (λ state later after u v.
-    let same = placed_once state later after request u.0 v.0 (not_memory range_reply x u.0 refl u.2 p) (not_memory range_reply y v.0 refl v.2 q) u.1 v.1 in
+    let same = placed_once state later after request u.0 v.0 (not_memory range_reply x u.0 refl u.2 p)
+    (not_memory range_reply y v.0 refl v.2 q) u.1 v.1 in
     (same_outcome range_reply x y u.0 v.0 u.2 v.2 same.0, same.1)) a b
 
 -- A line has one reply and leaves one machine.
@@ -118,21 +120,25 @@ does_once Id old m n x y p q a b =
     (same_outcome id_reply x y u.0 v.0 u.2 v.2 same.0, same.1)) a b
 does_once (Unid id) old m n x y p q a b =
     on_ids_once old m n x y _ _ (λ state later after u v.
-    let same = freeing_is_determined state later after id u.0 v.0 (not_memory id_reply x u.0 refl u.2 p) (not_memory id_reply y v.0 refl v.2 q) u.1 v.1 in
+    let same = freeing_is_determined state later after id u.0 v.0 (not_memory id_reply x u.0 refl u.2 p)
+    (not_memory id_reply y v.0 refl v.2 q) u.1 v.1 in
     (same_outcome id_reply x y u.0 v.0 u.2 v.2 same.0, same.1)) a b
 does_once (Has id) old m n x y p q a b =
     on_ids_once old m n x y _ _ (λ state later after u v.
     (u.2 ∙ ap Held (outcome_once state id u.0 v.0 u.1 v.1) ∙ sym v.2, u.3 ∙ sym v.3)) a b
 does_once (Manager id_lo id_hi base size) old m n x y p q a b =
-    let e = devices_decide.made id_lo id_hi base size a.0 b.0 (not_memory done_reply x a.0 refl a.2 p) (not_memory done_reply y b.0 refl b.2 q) a.1 b.1 in
+    let e = devices_decide.made id_lo id_hi base size a.0 b.0 (not_memory done_reply x a.0 refl a.2 p)
+    (not_memory done_reply y b.0 refl b.2 q) a.1 b.1 in
     (same_outcome done_reply x y a.0 b.0 a.2 b.2 e, a.3 ∙ ap (with_devices old) e ∙ sym b.3)
 does_once (Device size alignment) old m n x y p q a b =
     on_devices_once old m n x y _ _ (λ state later after u v.
-    let same = devices_decide.called state later after (Reserve (request_for size alignment FirstMatch)) u.0 v.0 (not_memory device_reply x u.0 refl u.2 p) (not_memory device_reply y v.0 refl v.2 q) u.1 v.1 in
+    let same = devices_decide.called state later after (Reserve (request_for size alignment FirstMatch)) u.0 v.0
+    (not_memory device_reply x u.0 refl u.2 p) (not_memory device_reply y v.0 refl v.2 q) u.1 v.1 in
     (same_outcome device_reply x y u.0 v.0 u.2 v.2 same.0, same.1)) a b
 does_once (Undevice id) old m n x y p q a b =
     on_devices_once old m n x y _ _ (λ state later after u v.
-    let same = devices_decide.called state later after (Release id) u.0 v.0 (not_memory done_reply x u.0 refl u.2 p) (not_memory done_reply y v.0 refl v.2 q) u.1 v.1 in
+    let same = devices_decide.called state later after (Release id) u.0 v.0 (not_memory done_reply x u.0 refl u.2 p)
+    (not_memory done_reply y v.0 refl v.2 q) u.1 v.1 in
     (same_outcome done_reply x y u.0 v.0 u.2 v.2 same.0, same.1)) a b
 
 -- Several lines.

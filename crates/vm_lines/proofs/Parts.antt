@@ -23,7 +23,8 @@ glued_nothing [] h = absurd (omega arith)
 glued_nothing (other ∷ others) h = refl
 
 -- A byte before the first part does not change what is after the last part.
-glued_onto : (x : ℕ) (parts others : List (List ℕ)) → 0 < length parts → onto_first x (glued parts others) ≡ glued (onto_first x parts) others
+glued_onto : (x : ℕ) (parts others : List (List ℕ)) → 0 < length parts →
+    onto_first x (glued parts others) ≡ glued (onto_first x parts) others
 glued_onto x [] others h = absurd (omega arith)
 glued_onto x (last ∷ []) [] h = refl
 glued_onto x (last ∷ []) (other ∷ others) h = refl

@@ -1,5 +1,35 @@
 -- The state of a session after a prefix of its input.
-use Rattle.std.proofs.Common.{◌≡◌, ℕ, ◌+◌, ◌-◌, ◌<◌, Bool, true, false, List, [], ◌∷◌, ◌++◌, length, take, drop, ◌==◌, nat_le, nat_lt, Some, None, refl, sym, ap, ◌∙◌, subst, append-nil, append_assoc, length-append, arith}
+use Rattle.std.proofs.Common.{
+  ◌≡◌,
+  ℕ,
+  ◌+◌,
+  ◌-◌,
+  ◌<◌,
+  Bool,
+  true,
+  false,
+  List,
+  [],
+  ◌∷◌,
+  ◌++◌,
+  length,
+  take,
+  drop,
+  ◌==◌,
+  nat_le,
+  nat_lt,
+  Some,
+  None,
+  refl,
+  sym,
+  ap,
+  ◌∙◌,
+  subst,
+  append-nil,
+  append_assoc,
+  length-append,
+  arith,
+}
 use Rattle.std.specs.Prelude.{if◌then◌else◌, MatchBool, position}
 use Rattle.std.proofs.lemmas.Bool.Decides.{nat_tests}
 use Rattle.vm_lines.specs.Commands.{command_of, max_line_len}
@@ -8,7 +38,18 @@ use Rattle.vm_lines.specs.Lines.{newline, parts_of, lines_of, ended_lines_of, li
 use Rattle.vm_lines.specs.Machines.{Machine, start, Does}
 use Rattle.vm_lines.specs.Replies.{text_of}
 use Rattle.vm_lines.specs.Runs.{AreAnswered, MayAnswer}
-use Rattle.vm_lines.specs.Sessions.{Session, within_max_len, line_after, with_more, pending_command, has_begun, EndsLine, AnswersParts, AnswersPiece, AnswersLastLine}
+use Rattle.vm_lines.specs.Sessions.{
+  Session,
+  within_max_len,
+  line_after,
+  with_more,
+  pending_command,
+  has_begun,
+  EndsLine,
+  AnswersParts,
+  AnswersPiece,
+  AnswersLastLine,
+}
 use Rattle.vm_lines.proofs.Parts.{glued, some_parts, parts_glued, glued_is, ended_is, lines_are}
 use Rattle.vm_lines.proofs.Splitting.{parts_some, parts_none}
 
@@ -40,9 +81,24 @@ begun_of_line line = step (nat_le (length line) max_line_len) refl
 pub answered_push : (old mid new : Machine) (lines : List (List ℕ)) (line text : List ℕ) (reply : Reply)
     → AreAnswered old lines text mid → Does mid (command_of line) reply new
     → AreAnswered old (lines ++ line ∷ []) (text ++ (text_of reply ++ newline ∷ [])) new
-answered_push old mid new [] line text reply r d = (reply, new, [], subst (λ s. Does s (command_of line) reply new) r.1 d, (refl, refl), ap (λ t. t ++ (text_of reply ++ newline ∷ [])) r.0)
-answered_push old mid new (x ∷ lines) line text reply r d =
-    (r.0, r.1, r.2 ++ (text_of reply ++ newline ∷ []), r.3, answered_push r.1 mid new lines line r.2 reply r.4 d, ap (λ t. t ++ (text_of reply ++ newline ∷ [])) r.5 ∙ append_assoc (text_of r.0) (newline ∷ r.2) (text_of reply ++ newline ∷ []))
+answered_push old mid new [] line text reply r d = (
+  reply,
+  new,
+  [],
+  subst (λ s. Does s (command_of line) reply new) r.1 d,
+  (refl, refl),
+  ap (λ t. t ++ (text_of reply ++ newline ∷ []))
+      r.0,
+)
+answered_push old mid new (x ∷ lines) line text reply r d = (
+  r.0,
+  r.1,
+  r.2 ++ (text_of reply ++ newline ∷ []),
+  r.3,
+  answered_push r.1 mid new lines line r.2 reply r.4 d,
+  ap
+      (λ t. t ++ (text_of reply ++ newline ∷ [])) r.5 ∙ append_assoc (text_of r.0) (newline ∷ r.2) (text_of reply ++ newline ∷ []),
+)
 
 -- The text is the output of the ended parts, and the session has the last part as the line that has begun.
 pub record Holds (parts : List (List ℕ)) (text : List ℕ) (session : Session) : Type 0 where
@@ -65,13 +121,16 @@ holds_line : (parts : List (List ℕ)) (part text added : List ℕ) (old new : S
     → EndsLine (with_more old part) added new
     → Holds ((h.ended ++ (h.begun ++ part) ∷ []) ++ [] ∷ []) (text ++ added) new
 holds_line parts part text added old new h f =
-    let asks = ap (λ l. pending_command (line_after l part)) h.line ∙ ap pending_command (append_more h.begun part) ∙ pending_of_line (h.begun ++ part) in
+    let asks = ap (λ l. pending_command (line_after l part)) h.line ∙ ap pending_command (append_more h.begun part)
+    ∙ pending_of_line (h.begun ++ part) in
     record {
       ended = h.ended ++ (h.begun ++ part) ∷ [];
       begun = [];
       parts_are = refl;
       line = f.2;
-      answered = subst (λ t. AreAnswered start (h.ended ++ (h.begun ++ part) ∷ []) (text ++ t) new.machine) (sym f.3) (answered_push start old.machine new.machine h.ended (h.begun ++ part) text f.0 h.answered (subst (λ q. Does old.machine q f.0 new.machine) asks f.1));
+      answered = subst (λ t. AreAnswered start (h.ended ++ (h.begun ++ part) ∷ []) (text ++ t) new.machine) (sym f.3)
+          (answered_push start old.machine new.machine h.ended (h.begun ++ part) text f.0 h.answered
+          (subst (λ q. Does old.machine q f.0 new.machine) asks f.1));
     }
 
 -- More parts are read.
@@ -93,7 +152,8 @@ holds_parts (part ∷ next ∷ others) parts text added old new some h f =
     let behind : glued (ended ++ [] ∷ []) (next ∷ others) ≡ glued parts (part ∷ next ∷ others) =
     glued_is ended [] next others ∙ append_assoc h.ended ((h.begun ++ part) ∷ []) (next ∷ others)
     ∙ sym (ap (λ ps. glued ps (part ∷ next ∷ others)) h.parts_are ∙ glued_is h.ended h.begun part (next ∷ others)) in
-    subst (λ t. Holds (glued parts (part ∷ next ∷ others)) t new) (append_assoc text f.1 f.2 ∙ ap (λ t. text ++ t) (sym f.5)) (subst (λ ps. Holds ps ((text ++ f.1) ++ f.2) new) behind all)
+    subst (λ t. Holds (glued parts (part ∷ next ∷ others)) t new) (append_assoc text f.1 f.2 ∙ ap (λ t. text ++ t) (sym f.5))
+    (subst (λ ps. Holds ps ((text ++ f.1) ++ f.2) new) behind all)
 
 -- One more piece is read.
 pub at_feeds : (piece read text added : List ℕ) (old new : Session) → At read text old → AnswersPiece old piece added new
@@ -121,7 +181,11 @@ feeds_none piece old e = rw (parts_none piece e) (refl, refl)
 
 -- After a failed read the output is that of the ended lines.
 pub at_fault : (read text : List ℕ) (session : Session) → At read text session → MayAnswer (ended_lines_of read) text
-at_fault read text session a = (session.machine, subst (λ ls. AreAnswered start ls text session.machine) (sym (ap ended_among a.parts_are ∙ ended_is a.ended a.begun)) a.answered)
+at_fault read text session a = (
+  session.machine,
+  subst (λ ls. AreAnswered start ls text session.machine) (sym (ap ended_among a.parts_are ∙ ended_is a.ended a.begun))
+      a.answered,
+)
 
 -- The end of the input, by whether a line has begun.
 at_end : (read text added : List ℕ) (session : Session) (b : Bool) (a : At read text session)
@@ -129,8 +193,14 @@ at_end : (read text added : List ℕ) (session : Session) (b : Bool) (a : At rea
     → MayAnswer (a.ended ++ (if length a.begun == 0 then [] else a.begun ∷ [])) (text ++ added)
 at_end read text added session true a e f =
     let some : (length a.begun == 0) ≡ false = grind (arith, nat_tests) in
-    let asks = ap (λ l. pending_command (line_after l [])) a.line ∙ ap pending_command (append_more a.begun []) ∙ pending_of_line (a.begun ++ []) ∙ ap command_of (append-nil a.begun) in
-    rw some (f.0.machine, subst (λ t. AreAnswered start (a.ended ++ a.begun ∷ []) (text ++ t) f.0.machine) (sym f.1.3) (answered_push start session.machine f.0.machine a.ended a.begun text f.1.0 a.answered (subst (λ q. Does session.machine q f.1.0 f.0.machine) asks f.1.1)))
+    let asks = ap (λ l. pending_command (line_after l [])) a.line ∙ ap pending_command (append_more a.begun [])
+    ∙ pending_of_line (a.begun ++ []) ∙ ap command_of (append-nil a.begun) in
+    rw some (
+      f.0.machine,
+      subst (λ t. AreAnswered start (a.ended ++ a.begun ∷ []) (text ++ t) f.0.machine) (sym f.1.3)
+          (answered_push start session.machine f.0.machine a.ended a.begun text f.1.0 a.answered
+          (subst (λ q. Does session.machine q f.1.0 f.0.machine) asks f.1.1)),
+    )
 at_end read text added session false a e f =
     let none : (length a.begun == 0) ≡ true = grind (arith, nat_tests) in
     rw (none, f, append-nil a.ended, append-nil text) (session.machine, a.answered)
@@ -140,10 +210,13 @@ pub at_finish : (read text added : List ℕ) (session : Session) → At read tex
     → MayAnswer (lines_of read) (text ++ added)
 at_finish read text added session a f =
     subst (λ ls. MayAnswer ls (text ++ added)) (sym (ap lines_among a.parts_are ∙ lines_are a.ended a.begun))
-    (at_end read text added session (nat_lt 0 (length a.begun)) a refl (subst (λ b. MatchBool b ((new : Session) × EndsLine (with_more session []) added new) (added ≡ [])) (ap has_begun a.line ∙ begun_of_line a.begun) f))
+    (at_end read text added session (nat_lt 0 (length a.begun)) a refl
+    (subst (λ b. MatchBool b ((new : Session) × EndsLine (with_more session []) added new) (added ≡ []))
+    (ap has_begun a.line ∙ begun_of_line a.begun) f))
 
 -- If a line has begun, it ends at the end of the input.
-pub answers_last_some : (old new : Session) (text : List ℕ) → has_begun old.line ≡ true → EndsLine (with_more old []) text new → AnswersLastLine old text
+pub answers_last_some : (old new : Session) (text : List ℕ) → has_begun old.line ≡ true → EndsLine (with_more old []) text new →
+    AnswersLastLine old text
 answers_last_some old new text e h = rw e (new, h)
 
 -- If no line has begun, the end of the input has no output.

@@ -53,7 +53,8 @@ IsReplied {S} allowed = (reply : Reply) × (new : S) × allowed reply new × (re
 -- The reply to another error is not that memory ran out.
 plain_refused : (e : Error) {A : Type 0} → (let answer : Result A Error = Err e in answer ≢ Err OutOfMemory)
     → Failed e ≢ Failed OutOfMemory
-plain_refused e {A} plain same = let told : e ≡ OutOfMemory = cc in plain (ap (λ (f : Error). let answer : Result A Error = Err f in answer) told)
+plain_refused e {A} plain same = let told : e ≡ OutOfMemory = cc in plain
+    (ap (λ (f : Error). let answer : Result A Error = Err f in answer) told)
 
 plain_done : {A : Type 0} (answer : Result A Error) → answer ≢ Err OutOfMemory → done_reply answer ≢ Failed OutOfMemory
 plain_done (Ok value) plain = λ e. cc
@@ -132,7 +133,8 @@ does_replied (Manager id_lo id_hi base size) old =
     let h = every_device_call.made id_lo id_hi base size in
     (done_reply h.0, with_devices old h.0, (h.0, h.1, refl, refl), plain_done h.0 h.2)
 does_replied (Device size alignment) old =
-    on_devices old _ (λ state. replied device_reply plain_device _ (every_device_call.called state (Reserve (request_for size alignment FirstMatch))))
+    on_devices old _ (λ state. replied device_reply plain_device _
+    (every_device_call.called state (Reserve (request_for size alignment FirstMatch))))
 does_replied (Undevice id) old =
     on_devices old _ (λ state. replied done_reply plain_done _ (every_device_call.called state (Release id)))
 

@@ -1,5 +1,35 @@
 -- The words of a line and the parts of a piece, by the index of the first byte between them.
-use Rattle.std.proofs.Common.{◌≡◌, ◌≢◌, ℕ, ◌+◌, ◌-◌, ◌<◌, ◌≤◌, Bool, true, false, List, [], ◌∷◌, length, take, drop, Some, None, ◌==◌, refl, arith, rules, ◌++◌, get_or, length-drop, sym, ⊎_elim, ap, ◌∙◌}
+use Rattle.std.proofs.Common.{
+  ◌≡◌,
+  ◌≢◌,
+  ℕ,
+  ◌+◌,
+  ◌-◌,
+  ◌<◌,
+  ◌≤◌,
+  Bool,
+  true,
+  false,
+  List,
+  [],
+  ◌∷◌,
+  length,
+  take,
+  drop,
+  Some,
+  None,
+  ◌==◌,
+  refl,
+  arith,
+  rules,
+  ◌++◌,
+  get_or,
+  length-drop,
+  sym,
+  ⊎_elim,
+  ap,
+  ◌∙◌,
+}
 use Rattle.std.specs.Prelude.{position}
 use Rattle.std.specs.List.{position_or_len, slice_split, after_first}
 use Rattle.std.proofs.lemmas.List.Splits.{slice_split_first, length-slice_split}
@@ -24,7 +54,8 @@ some_below c text i e = search (rules, common_steps)
 -- A text with such a byte.
 cut_some : (c : ℕ) (text : List ℕ) (i : ℕ) → position (λ byte. byte == c) text ≡ Some i
     → cut_at c text ≡ take i text ∷ cut_at c (take (length text - (i + 1)) (drop (i + 1) text))
-cut_some c text i e = let h = some_below c text i e in search (rules, common_steps, slice_split_first (λ byte. byte == c) text 0 (omega arith))
+cut_some c text i e = let h = some_below c text i e in search
+    (rules, common_steps, slice_split_first (λ byte. byte == c) text 0 (omega arith))
 
 -- A text without such a byte is one part.
 none_step : (c : ℕ) (xs : List ℕ) → length xs ≤ position_or_len (λ byte. byte == c) xs → cut_at c xs ≡ xs ∷ []
@@ -58,8 +89,11 @@ begins_with text word next more e =
     let first = slice_split_first (λ byte. byte == blank) text 0 within in
     let is : word ≡ take m text = cc in
     let ends : get_or text m 0 ≡ blank = let there = passes_at_first (λ byte. byte == blank) text 0 within in grind (arith, nat_tests) in
-    let rest = after_first (λ byte. byte == blank) text in
-    (rest, split_at_first (λ byte. byte == blank) text 0 within ∙ ap (λ byte. take m text ++ byte ∷ rest) ends ∙ ap (λ w. w ++ blank ∷ rest) (sym is)))
+    let rest = after_first (λ byte. byte == blank) text in (
+      rest,
+      split_at_first (λ byte. byte == blank) text 0 within ∙ ap (λ byte. take m text ++ byte ∷ rest) ends
+          ∙ ap (λ w. w ++ blank ∷ rest) (sym is),
+    ))
     (λ all. absurd (let alone = words_none text (grind (arith, nat_tests)) in cc))
     (cases_lt m (length text))
 
@@ -74,7 +108,8 @@ pub begins_so : (text prefix : List ℕ) → length prefix ≤ length text
     → ((i : ℕ) → i < length prefix → get_or text i 0 ≡ get_or prefix i 0)
     → text ≡ prefix ++ take (length text - length prefix) (drop (length prefix) text)
 begins_so text prefix fits same =
-    rw (take_all (length text - length prefix) (drop (length prefix) text) (omega (arith, length-drop (length prefix) text))) (front_from_reads 0 text prefix fits same)
+    rw (take_all (length text - length prefix) (drop (length prefix) text) (omega (arith, length-drop (length prefix) text)))
+    (front_from_reads 0 text prefix fits same)
 
 -- The first part of a piece with a newline, and the parts after it.
 pub parts_some : (piece : List ℕ) (i : ℕ) → position (λ byte. byte == newline) piece ≡ Some i

@@ -2,7 +2,21 @@
 use Rattle.std.specs.Prelude.{ℕ, if◌then◌else◌, List, ◌∷◌, ◌++◌, codes, decimal, Result, Ok, Err}
 use Rattle.vm_ranges.specs.Range.{Range}
 use Rattle.vm_ranges.specs.declared.error.Error.{Error}
-use Rattle.vm_ranges.specs.declared.error.Error.TheVariants.{Overflow, OutOfRange, AlreadyReleased, NeverAllocated, ResourceNotAvailable, InvalidRange, InvalidAlignment, Overlap, InvalidStateTransition, UnalignedAddress, Underflow, InvalidSize, OutOfMemory}
+use Rattle.vm_ranges.specs.declared.error.Error.TheVariants.{
+  Overflow,
+  OutOfRange,
+  AlreadyReleased,
+  NeverAllocated,
+  ResourceNotAvailable,
+  InvalidRange,
+  InvalidAlignment,
+  Overlap,
+  InvalidStateTransition,
+  UnalignedAddress,
+  Underflow,
+  InvalidSize,
+  OutOfMemory,
+}
 use Rattle.vm_devices.specs.declared.device_slot.DeviceSlot.{DeviceSlot}
 use Rattle.vm_lines.specs.Words.{blank}
 use Rattle.vm_lines.specs.declared.reply.Reply.{Reply}

@@ -11,7 +11,8 @@ pub down_refused : (x a : ℕ) → is_power_of_two a ≡ false → AlignsDown x 
 unfolding AlignsDown
 down_refused x a e = inl (no_alignment_if_false a e, refl)
 
-pub down_given : (x a : ℕ) → x < 2 ^ 64 → a < 2 ^ 64 → is_power_of_two a ≡ true → AlignsDown x a (Ok (bit_and x (18446744073709551615 - (a - 1))))
+pub down_given : (x a : ℕ) → x < 2 ^ 64 → a < 2 ^ 64 → is_power_of_two a ≡ true →
+    AlignsDown x a (Ok (bit_and x (18446744073709551615 - (a - 1))))
 unfolding AlignsDown
 down_given x a p q e =
     let h = alignment_if_true a q e in
@@ -30,6 +31,13 @@ up_over x a z p = inr (λ e. omega arith, inl (omega arith, refl))
 pub up_given : (x a : ℕ) (answer : Result ℕ Error) → 0 < a → x + (a - 1) ≤ MAX → AlignsDown (x + (a - 1)) a answer → AlignsUp x a answer
 unfolding AlignsUp AlignsDown
 up_given x a answer z p h =
-    inr (λ e. omega arith, inr (λ k. omega arith, ⊎_elim (λ l. inl l) (λ r. inr (r.0, (r.1.0, r.1.1, lowest_multiple a x r.1.0 z r.1.2))) h))
+    inr (
+      λ e. omega arith,
+      inr (
+        λ k. omega arith,
+        ⊎_elim (λ l. inl l) (λ r. inr (r.0, (r.1.0, r.1.1, lowest_multiple a x r.1.0 z r.1.2)))
+            h,
+      ),
+    )
 
 pub ruleset aligns = (down_refused, down_given, up_zero, up_over, up_given)

@@ -16,7 +16,8 @@ cloning_keeps {X} old new answer h e =
 
 -- Cloning has one result and one next state, if it does not return OutOfMemory.
 pub clones_once : {X : Type 0} (old new later : X) (answer other : Result X Error) → answer ≢ Err OutOfMemory → other ≢ Err OutOfMemory →
-    Clones old answer × (new ≡ result_unwrap_or answer old) → Clones old other × (later ≡ result_unwrap_or other old) → (answer ≡ other) × (new ≡ later)
+    Clones old answer × (new ≡ result_unwrap_or answer old) → Clones old other × (later ≡ result_unwrap_or other old) →
+    (answer ≡ other) × (new ≡ later)
 clones_once old new later answer other p m h k = (
   ⊎_elim (λ e. ⊎_elim (λ f. e ∙ sym f) (λ f. absurd (m f)) k.0) (λ e. absurd (p e)) h.0,
   cloning_keeps old new answer h.0 h.1 ∙ sym (cloning_keeps old later other k.0 k.1),

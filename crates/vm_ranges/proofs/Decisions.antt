@@ -43,7 +43,8 @@ pub decided_in : (r : Range) (x : ℕ) → Decided (IsIn r x)
 decided_in r x = decided_both _ _ (decided_up_to r.start x) (decided_up_to x r.end)
 
 pub decided_same : (r q : Range) → Decided (r ≡ q)
-decided_same r q = decided_if ((r.start ≡ q.start) × (r.end ≡ q.end)) (r ≡ q) (λ h. same_range r q h.0 h.1) (λ e. (cc, cc)) (decided_both _ _ (cases_eq r.start q.start) (cases_eq r.end q.end))
+decided_same r q = decided_if ((r.start ≡ q.start) × (r.end ≡ q.end)) (r ≡ q) (λ h. same_range r q h.0 h.1) (λ e. (cc, cc))
+    (decided_both _ _ (cases_eq r.start q.start) (cases_eq r.end q.end))
 
 pub decided_alignment : (a : ℕ) → Decided (IsAlignment a)
 decided_alignment a =
@@ -64,27 +65,36 @@ decided_start a (ExactMatch t) = cases_eq (t % a) 0
 
 -- ---- Searches
 -- Either no number below the bound has the fact, or there is a lowest number with the fact.
-pub lowest_or_none : (P : ℕ → Type 0) → ((x : ℕ) → Decided (P x)) → (bound : ℕ) → ((x : ℕ) → x < bound → ¬ P x) ⊎ ((x : ℕ) × P x × ((y : ℕ) → P y → x ≤ y))
+pub lowest_or_none : (P : ℕ → Type 0) → ((x : ℕ) → Decided (P x)) → (bound : ℕ) →
+    ((x : ℕ) → x < bound → ¬ P x) ⊎ ((x : ℕ) × P x × ((y : ℕ) → P y → x ≤ y))
 lowest_or_none P decide zero = inl (λ x l p. omega arith)
 lowest_or_none P decide (suc bound) =
     ⊎_elim
     (λ (none : (x : ℕ) → x < bound → ¬ P x).
     ⊎_elim
     (λ (p : P bound). inr (bound, p, λ y q. ⊎_elim (λ (l : y < bound). absurd (none y l q)) (λ (l : bound ≤ y). l) (cases_lt y bound)))
-    (λ (n : P bound → ⊥). inl (λ x l p. ⊎_elim (λ (e : x ≡ bound). n (subst P e p)) (λ (d : x ≡ bound → ⊥). none x (omega arith) p) (cases_eq x bound)))
+    (λ (n : P bound → ⊥). inl (λ x l p. ⊎_elim (λ (e : x ≡ bound). n (subst P e p)) (λ (d : x ≡ bound → ⊥). none x (omega arith) p)
+    (cases_eq x bound)))
     (decide bound))
     (λ found. inr found)
     (lowest_or_none P decide bound)
 
 -- Either no number below the bound has the fact, or there is a highest number below the bound with the fact.
-pub highest_or_none : (P : ℕ → Type 0) → ((x : ℕ) → Decided (P x)) → (bound : ℕ) → ((x : ℕ) → x < bound → ¬ P x) ⊎ ((x : ℕ) × P x × ((y : ℕ) → y < bound → P y → y ≤ x))
+pub highest_or_none : (P : ℕ → Type 0) → ((x : ℕ) → Decided (P x)) → (bound : ℕ) →
+    ((x : ℕ) → x < bound → ¬ P x) ⊎ ((x : ℕ) × P x × ((y : ℕ) → y < bound → P y → y ≤ x))
 highest_or_none P decide zero = inl (λ x l p. omega arith)
 highest_or_none P decide (suc bound) =
     ⊎_elim
     (λ (p : P bound). inr (bound, p, λ y l q. omega arith))
     (λ (n : P bound → ⊥).
     ⊎_elim
-    (λ (none : (x : ℕ) → x < bound → ¬ P x). inl (λ x l p. ⊎_elim (λ (e : x ≡ bound). n (subst P e p)) (λ (d : x ≡ bound → ⊥). none x (omega arith) p) (cases_eq x bound)))
-    (λ found. inr (found.0, found.1, λ y l q. ⊎_elim (λ (e : y ≡ bound). absurd (n (subst P e q))) (λ (d : y ≡ bound → ⊥). found.2 y (omega arith) q) (cases_eq y bound)))
+    (λ (none : (x : ℕ) → x < bound → ¬ P x). inl
+    (λ x l p. ⊎_elim (λ (e : x ≡ bound). n (subst P e p)) (λ (d : x ≡ bound → ⊥). none x (omega arith) p) (cases_eq x bound)))
+    (λ found. inr (
+      found.0,
+      found.1,
+      λ y l q. ⊎_elim (λ (e : y ≡ bound). absurd (n (subst P e q)))
+          (λ (d : y ≡ bound → ⊥). found.2 y (omega arith) q) (cases_eq y bound),
+    ))
     (highest_or_none P decide bound))
     (decide bound)

@@ -7,18 +7,21 @@ use Rattle.vm_ranges.specs.declared.error.Error.TheVariants.{OutOfMemory}
 
 -- ---- Histories in two parts, and facts that each call keeps
 module _ {State Call : Type 0} (IsCall : State → Call → State → Type 0) where
-  pub history_append : (xs ys : List Call) (first mid last : State) → IsHistory IsCall first xs mid → IsHistory IsCall mid ys last → IsHistory IsCall first (xs ++ ys) last
+  pub history_append : (xs ys : List Call) (first mid last : State) → IsHistory IsCall first xs mid → IsHistory IsCall mid ys last →
+      IsHistory IsCall first (xs ++ ys) last
   history_append [] ys first mid last h k = subst (λ (v : State). IsHistory IsCall v ys last) h k
   history_append (x ∷ xs) ys first mid last h k = (h.0, h.1, history_append xs ys h.0 mid last h.2 k)
 
   -- A history of two parts has a state between them.
-  pub state_between : (xs ys : List Call) (first last : State) → IsHistory IsCall first (xs ++ ys) last → (mid : State) × IsHistory IsCall first xs mid × IsHistory IsCall mid ys last
+  pub state_between : (xs ys : List Call) (first last : State) → IsHistory IsCall first (xs ++ ys) last →
+      (mid : State) × IsHistory IsCall first xs mid × IsHistory IsCall mid ys last
   state_between [] ys first last h = (first, refl, h)
   state_between (x ∷ xs) ys first last h =
       let rest = state_between xs ys h.0 last h.2 in (rest.0, (h.0, h.1, rest.1), rest.2)
 
   -- A fact of the first state that each call keeps is true for the last state.
-  pub history_keeps : (P : State → Type 0) → ((call : Call) (old new : State) → P old → IsCall old call new → P new) → (calls : List Call) (first last : State) → P first → IsHistory IsCall first calls last → P last
+  pub history_keeps : (P : State → Type 0) → ((call : Call) (old new : State) → P old → IsCall old call new → P new) →
+      (calls : List Call) (first last : State) → P first → IsHistory IsCall first calls last → P last
   history_keeps P keeps [] first last p e = subst P (sym e) p
   history_keeps P keeps (call ∷ calls) first last p h =
       history_keeps P keeps calls h.0 last (keeps call first h.0 p h.1) h.2
@@ -37,7 +40,8 @@ module _ {State Asked : Type 0} {Value : Asked → Type 0} (IsCall : State → C
         All-cons (λ (call : CallOf Value). ¬ RunsOutOfMemory call) (asked, a.0) rest.0 a.3 rest.4,
       )
 
-  call_once : CallsAreDetermined IsCall → (c d : CallOf Value) (old new later : State) → d.0 ≡ c.0 → ¬ RunsOutOfMemory c → ¬ RunsOutOfMemory d → IsCall old c new → IsCall old d later → (c ≡ d) × (new ≡ later)
+  call_once : CallsAreDetermined IsCall → (c d : CallOf Value) (old new later : State) → d.0 ≡ c.0 → ¬ RunsOutOfMemory c →
+      ¬ RunsOutOfMemory d → IsCall old c new → IsCall old d later → (c ≡ d) × (new ≡ later)
   call_once once c d old new later e p m h k =
       let own : (y : Result (Value c.0) Error) × (d ≡ (c.0, y)) =
       subst (λ (v : Asked). (y : Result (Value v) Error) × (d ≡ (v, y))) e (d.1, refl) in

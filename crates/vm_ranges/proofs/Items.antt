@@ -8,7 +8,8 @@ use Rattle.serde_json.specs.View.{view, items_view}
 use Rattle.serde_json.specs.declared.value.Value.{Value}
 
 -- The items starting at an index are the item there and the items after it.
-pub items_from : (vs : List Value) (i : ℕ) (v : Value) → i < length vs → v ≡ get_or vs i v → items_view (drop i vs) ≡ item (view v) (items_view (drop (i + 1) vs))
+pub items_from : (vs : List Value) (i : ℕ) (v : Value) → i < length vs → v ≡ get_or vs i v →
+    items_view (drop i vs) ≡ item (view v) (items_view (drop (i + 1) vs))
 items_from vs i v h e = ap items_view (drop_more vs i v h ∙ ap (λ (x : Value). x ∷ drop (i + 1) vs) (sym e))
 
 pub less : (n m : ℕ) → n < m → nat_cmp n m ≡ Less

@@ -21,11 +21,13 @@ module _ {K : Type 0} {eq : K → K → Bool} (tells : (x y : K) → Decides (eq
   listed_is P xs x a m = let c = (is_member-Decides tells xs x).0 m in subst P c.2 (a c.0 x c.1)
 
   -- A thing that is not in the list would make the list too long.
-  pub each_listed : (P : K → Type 0) (most : ℕ) → AreAtMost P most → (xs : List K) (x : K) → Differ xs → All P xs → length xs ≡ most → P x → Contains xs x
+  pub each_listed : (P : K → Type 0) (most : ℕ) → AreAtMost P most → (xs : List K) (x : K) → Differ xs → All P xs → length xs ≡ most → P x →
+      Contains xs x
   each_listed P most few xs x d a e p =
       ⊎_elim
       (λ (m : list_any (eq x) xs ≡ true). (is_member-Decides tells xs x).0 m)
       (λ (n : list_any (eq x) xs ≡ false).
-      let differ = AllPairs-cons (λ y z. y ≢ z) x xs (λ k b l q. both_ways _ n ((is_member-Decides tells xs x).1 (subst (Contains xs) (sym q) (Contains-get_or xs k b l)))) d in
+      let differ = AllPairs-cons (λ y z. y ≢ z) x xs
+      (λ k b l q. both_ways _ n ((is_member-Decides tells xs x).1 (subst (Contains xs) (sym q) (Contains-get_or xs k b l)))) d in
       absurd (omega (arith, few (x ∷ xs) differ (All-cons P x xs p a), e)))
       (cases_Bool (list_any (eq x) xs))

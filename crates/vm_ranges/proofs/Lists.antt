@@ -10,7 +10,8 @@ module _ {X : Type 0} (States : Data → X → Type 0) where
   -- The items of a list that encodes something.
   pub in_list : (d : Data) (xs : List X) → EncodesListOf States d xs → (ds : Items) × (as_array d ≡ Some ds) × EncodesItems States ds xs
   in_list d xs s = found (as_array d) s where
-    found : (o : Option Items) → MatchOption o ⊥ (λ ds. EncodesItems States ds xs) → (ds : Items) × (o ≡ Some ds) × EncodesItems States ds xs
+    found : (o : Option Items) → MatchOption o ⊥ (λ ds. EncodesItems States ds xs) →
+        (ds : Items) × (o ≡ Some ds) × EncodesItems States ds xs
     found None s = absurd s
     found (Some ds) s = (ds, refl, s)
 
@@ -29,6 +30,7 @@ module _ {X : Type 0} (States : Data → X → Type 0) where
   map_last f (z ∷ ys) y = ap (λ (l : List X). f z ∷ l) (map_last f ys y)
 
   -- A list after one more item is written.
-  pub encodes_more : {Y : Type 0} (f : Y → X) (vs ws : List Value) (v : Value) (ys : List Y) (y : Y) → ws ≡ vs ++ v ∷ [] → States (view v) (f y) →
+  pub encodes_more : {Y : Type 0} (f : Y → X) (vs ws : List Value) (v : Value) (ys : List Y) (y : Y) → ws ≡ vs ++ v ∷ [] →
+      States (view v) (f y) →
       EncodesItems States (items_view vs) (map f ys) → EncodesItems States (items_view ws) (map f (ys ++ y ∷ []))
   encodes_more f vs ws v ys y e t s = rw (e, map_last f ys y) (push_item vs v (map f ys) (f y) s t)

@@ -1,11 +1,60 @@
 -- How deep an object nests, by the values of its fields.
-use Rattle.std.proofs.Common.{◌≡◌, ℕ, suc, ◌≤◌, max, false, List, [], ◌∷◌, length, Option, Some, None, option_and_then, MatchOption, Ordering, Less, Equal, Greater, bytes_eq, nat_cmp, is_eq, codes, refl, sym, ap, ◌∙◌, subst, arith, true≢false}
+use Rattle.std.proofs.Common.{
+  ◌≡◌,
+  ℕ,
+  suc,
+  ◌≤◌,
+  max,
+  false,
+  List,
+  [],
+  ◌∷◌,
+  length,
+  Option,
+  Some,
+  None,
+  option_and_then,
+  MatchOption,
+  Ordering,
+  Less,
+  Equal,
+  Greater,
+  bytes_eq,
+  nat_cmp,
+  is_eq,
+  codes,
+  refl,
+  sym,
+  ap,
+  ◌∙◌,
+  subst,
+  arith,
+  true≢false,
+}
 use Rattle.std.proofs.lemmas.Map.Text.{is_eq-slice_cmp}
 use Rattle.std.proofs.lemmas.Option.{same_Some}
 use Rattle.std.proofs.lemmas.Slice.Eq.{bytes_eq-Decides}
 use Rattle.std.specs.Cmp.Lexicographic.{slice_cmp}
 use Rattle.std.specs.Ordering.{match_ordering}
-use Rattle.serde_json.specs.Data.{Num, Data, null, boolean, number, string, array, object, Items, no_items, item, Members, no_members, member, depth, items_depth, members_depth}
+use Rattle.serde_json.specs.Data.{
+  Num,
+  Data,
+  null,
+  boolean,
+  number,
+  string,
+  array,
+  object,
+  Items,
+  no_items,
+  item,
+  Members,
+  no_members,
+  member,
+  depth,
+  items_depth,
+  members_depth,
+}
 use Rattle.serde_json.specs.Events.{members_len}
 use Rattle.serde_json.specs.Find.{get, get_member, as_number, as_u64}
 use Rattle.vm_ranges.specs.Fields.{field_count, FieldIs}
@@ -22,8 +71,10 @@ abbrev without : List ℕ → Members → Members
 without k no_members = no_members
 without k (member l e ms) = match_ordering (slice_cmp nat_cmp k l) (member l e (without k ms)) ms (member l e (without k ms))
 
-len_at : (o : Ordering) (l : List ℕ) (e v : Data) (ms less : Members) (found : Option Data) → match_ordering o found (Some e) found ≡ Some v →
-    (found ≡ Some v → members_len ms ≡ suc (members_len less)) → suc (members_len ms) ≡ suc (members_len (match_ordering o (member l e less) ms (member l e less)))
+len_at : (o : Ordering) (l : List ℕ) (e v : Data) (ms less : Members) (found : Option Data) →
+    match_ordering o found (Some e) found ≡ Some v →
+    (found ≡ Some v → members_len ms ≡ suc (members_len less)) →
+    suc (members_len ms) ≡ suc (members_len (match_ordering o (member l e less) ms (member l e less)))
 len_at Less l e v ms less found h next = ap suc (next h)
 len_at Equal l e v ms less found h next = refl
 len_at Greater l e v ms less found h next = ap suc (next h)
@@ -32,13 +83,16 @@ len_without : (k : List ℕ) (ms : Members) (v : Data) → get_member k ms ≡ S
 len_without k no_members v h = absurd (cc)
 len_without k (member l e ms) v h = len_at (slice_cmp nat_cmp k l) l e v ms (without k ms) (get_member k ms) h (len_without k ms v)
 
-depth_at : (o : Ordering) (n : ℕ) (l : List ℕ) (e v : Data) (ms less : Members) (found : Option Data) → match_ordering o found (Some e) found ≡ Some v → depth v ≤ n →
-    (found ≡ Some v → members_depth less ≤ n → members_depth ms ≤ n) → members_depth (match_ordering o (member l e less) ms (member l e less)) ≤ n → max (depth e) (members_depth ms) ≤ n
+depth_at : (o : Ordering) (n : ℕ) (l : List ℕ) (e v : Data) (ms less : Members) (found : Option Data) →
+    match_ordering o found (Some e) found ≡ Some v → depth v ≤ n →
+    (found ≡ Some v → members_depth less ≤ n → members_depth ms ≤ n) →
+    members_depth (match_ordering o (member l e less) ms (member l e less)) ≤ n → max (depth e) (members_depth ms) ≤ n
 depth_at Less n l e v ms less found h p next q = let r = next h (omega (arith, q)) in omega (arith, q, r)
 depth_at Equal n l e v ms less found h p next q = let s = subst (λ (x : Data). depth x ≤ n) (sym (same_Some e v h)) p in omega (arith, q, s)
 depth_at Greater n l e v ms less found h p next q = let r = next h (omega (arith, q)) in omega (arith, q, r)
 
-depth_without : (n : ℕ) (k : List ℕ) (ms : Members) (v : Data) → get_member k ms ≡ Some v → depth v ≤ n → members_depth (without k ms) ≤ n → members_depth ms ≤ n
+depth_without : (n : ℕ) (k : List ℕ) (ms : Members) (v : Data) → get_member k ms ≡ Some v → depth v ≤ n → members_depth (without k ms) ≤ n →
+    members_depth ms ≤ n
 depth_without n k no_members v h p q = absurd (cc)
 depth_without n k (member l e ms) v h p q =
     depth_at (slice_cmp nat_cmp k l) n l e v ms (without k ms) (get_member k ms) h p (λ f r. depth_without n k ms v f p r) q
@@ -52,7 +106,8 @@ skipped Less x y n = refl
 skipped Equal x y n = absurd (true≢false n)
 skipped Greater x y n = refl
 
-other_at : (o : Ordering) (j k l : List ℕ) (e : Data) (ms less : Members) → slice_cmp nat_cmp k l ≡ o → bytes_eq j k ≡ false → get_member j less ≡ get_member j ms →
+other_at : (o : Ordering) (j k l : List ℕ) (e : Data) (ms less : Members) → slice_cmp nat_cmp k l ≡ o → bytes_eq j k ≡ false →
+    get_member j less ≡ get_member j ms →
     get_member j (match_ordering o (member l e less) ms (member l e less)) ≡ get_member j (member l e ms)
 other_at Less j k l e ms less is n s = rw s refl
 other_at Greater j k l e ms less is n s = rw s refl
@@ -100,7 +155,8 @@ no_depth : (n : ℕ) (ms : Members) → members_len ms ≡ 0 → members_depth m
 no_depth n no_members e = omega arith
 no_depth n (member l d ms) e = absurd (omega (arith, e))
 
-members_within : (n : ℕ) (ks : List (List ℕ)) (ms : Members) → AreNew ks → AreWithin n ks ms → members_len ms ≡ length ks → members_depth ms ≤ n
+members_within : (n : ℕ) (ks : List (List ℕ)) (ms : Members) → AreNew ks → AreWithin n ks ms → members_len ms ≡ length ks →
+    members_depth ms ≤ n
 members_within n [] ms a w e = no_depth n ms e
 members_within n (k ∷ ks) ms a w e =
     let at = found_within n (get_member k ms) w.0 in
@@ -113,7 +169,8 @@ in_members n [] ms w = tt
 in_members n (k ∷ ks) ms w = (w.0, in_members n ks ms w.1)
 
 -- An object with exactly these fields nests one deeper than they do.
-pub object_within : (n : ℕ) (ks : List (List ℕ)) (d : Data) → AreNew ks → field_count d ≡ Some (length ks) → FieldsWithin n ks d → depth d ≤ suc n
+pub object_within : (n : ℕ) (ks : List (List ℕ)) (d : Data) → AreNew ks → field_count d ≡ Some (length ks) → FieldsWithin n ks d →
+    depth d ≤ suc n
 object_within n ks null a c w = absurd (cc)
 object_within n ks (boolean b) a c w = absurd (cc)
 object_within n ks (number x) a c w = absurd (cc)

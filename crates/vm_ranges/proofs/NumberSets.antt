@@ -20,7 +20,8 @@ same_test true b f g = sym (f refl)
 same_test false true f g = g refl
 same_test false false f g = refl
 
-pub same_members : (s t : set.FinSet nat_cmp) → ((q : ℕ) → IsTrue (set.contains s q) → IsTrue (set.contains t q)) → ((q : ℕ) → IsTrue (set.contains t q) → IsTrue (set.contains s q)) → s ≡ t
+pub same_members : (s t : set.FinSet nat_cmp) → ((q : ℕ) → IsTrue (set.contains s q) → IsTrue (set.contains t q)) →
+    ((q : ℕ) → IsTrue (set.contains t q) → IsTrue (set.contains s q)) → s ≡ t
 same_members s t there back =
     set.same_set nat_cmp_total set.nat_cmp-IsAntisymmetric s t (λ q. same_test (set.contains s q) (set.contains t q) (there q) (back q))
 
@@ -50,5 +51,6 @@ from_removed s k q h =
 pub changed_here : (old new : BTreeSet ℕ) (k : ℕ) (b : Bool) → Updates nat_cmp old new k b → contains nat_cmp new k ≡ b
 changed_here old new k b u = u.0 k ∙ ap (λ (t : Bool). cond t b (contains nat_cmp old k)) (tied_here k)
 
-pub changed_other : (old new : BTreeSet ℕ) (k q : ℕ) (b : Bool) → Updates nat_cmp old new k b → (k ≡ q → ⊥) → contains nat_cmp new q ≡ contains nat_cmp old q
+pub changed_other : (old new : BTreeSet ℕ) (k q : ℕ) (b : Bool) → Updates nat_cmp old new k b → (k ≡ q → ⊥) →
+    contains nat_cmp new q ≡ contains nat_cmp old q
 changed_other old new k q b u ne = u.0 q ∙ ap (λ (t : Bool). cond t b (contains nat_cmp old q)) (apart_not_tied k q ne)

@@ -16,7 +16,8 @@ unfolding count_ones
 ones_of_one = refl
 
 -- The lowest bit of n is r, and the other bits are those of a.
-last_bit : (w n a r : ℕ) → (a < 2 ^ w → count_ones a ≡ 1 → (k : ℕ) × (k < w) × (a ≡ 2 ^ k)) → n ≡ a * 2 + r → n < 2 ^ suc w → count_ones n ≡ 1 → r < 2 → (k : ℕ) × (k < suc w) × (n ≡ 2 ^ k)
+last_bit : (w n a r : ℕ) → (a < 2 ^ w → count_ones a ≡ 1 → (k : ℕ) × (k < w) × (a ≡ 2 ^ k)) → n ≡ a * 2 + r → n < 2 ^ suc w →
+    count_ones n ≡ 1 → r < 2 → (k : ℕ) × (k < suc w) × (n ≡ 2 ^ k)
 last_bit w n a zero rest e p c s =
     let ones : count_ones n ≡ count_ones a + count_ones 0 = ap count_ones e ∙ ones_cat 1 a 0 (omega arith) in
     let one : count_ones a ≡ 1 = omega (arith, ones_of_zero) in
@@ -72,7 +73,8 @@ pub masked : (x a : ℕ) → x < 2 ^ 64 → IsAlignment a → bit_and x (1844674
 unfolding IsAlignment
 masked x a p h =
     let low = low_bits x a h in
-    let both : bit_and (18446744073709551615 - (a - 1)) x + bit_and (a - 1) x ≡ x = and-not 64 (a - 1) x (omega (arith, alignment_below a h)) p in
+    let both : bit_and (18446744073709551615 - (a - 1)) x + bit_and (a - 1) x
+    ≡ x = and-not 64 (a - 1) x (omega (arith, alignment_below a h)) p in
     and_comm x (18446744073709551615 - (a - 1)) ∙ omega (arith, both, low, and_comm (a - 1) x)
 
 -- The distance of two multiples of a is at least a.
@@ -81,7 +83,8 @@ gap a m r p q l =
     let em : m / a * a + m % a ≡ m = div-add-mod' m a in
     let er : r / a * a + r % a ≡ r = div-add-mod' r a in
     ⊎_elim
-    (λ (h : m / a < r / a). let k : (m / a + 1) * a ≤ r / a * a = mul-le (m / a + 1) a (r / a) a (omega arith) (omega arith) in omega (arith, add-mul (m / a) 1 a))
+    (λ (h : m / a < r / a). let k : (m / a + 1) * a
+    ≤ r / a * a = mul-le (m / a + 1) a (r / a) a (omega arith) (omega arith) in omega (arith, add-mul (m / a) 1 a))
     (λ (h : r / a ≤ m / a). let k : r / a * a ≤ m / a * a = mul-le (r / a) a (m / a) a h (omega arith) in absurd (omega arith))
     (cases_lt (m / a) (r / a))
 
@@ -99,7 +102,8 @@ highest_multiple a x z =
       d,
       omega arith,
       λ m p q.
-          ⊎_elim (λ (h : x - x % a < m). let g = gap a (x - x % a) m d p h in absurd (omega arith)) (λ (h : m ≤ x - x % a). h) (cases_lt (x - x % a) m),
+          ⊎_elim (λ (h : x - x % a < m). let g = gap a (x - x % a) m d p h in absurd (omega arith)) (λ (h : m ≤ x - x % a). h)
+          (cases_lt (x - x % a) m),
     )
 
 -- Rounding x up is rounding x + (a - 1) down.

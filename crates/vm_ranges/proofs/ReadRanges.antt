@@ -1,5 +1,34 @@
 -- The range that a value encodes.
-use Rattle.std.proofs.Common.{◌≡◌, ℕ, zero, suc, ◌<◌, Bool, true, false, not, cond, ◌&&◌, ◌||◌, eqb, leb, ltb, Some, None, Ok, Err, codes, refl, sym, ◌∙◌, subst, arith, inl, inr, ⊎_elim}
+use Rattle.std.proofs.Common.{
+  ◌≡◌,
+  ℕ,
+  zero,
+  suc,
+  ◌<◌,
+  Bool,
+  true,
+  false,
+  not,
+  cond,
+  ◌&&◌,
+  ◌||◌,
+  eqb,
+  leb,
+  ltb,
+  Some,
+  None,
+  Ok,
+  Err,
+  codes,
+  refl,
+  sym,
+  ◌∙◌,
+  subst,
+  arith,
+  inl,
+  inr,
+  ⊎_elim,
+}
 use Rattle.std.proofs.lemmas.Bool.{and_parts, and_from, eq-eqb, ne_eqb, leb-true, ltb-true, le-leb, lt-ltb, or_cases, not-true}
 use Rattle.std.proofs.lemmas.Option.{same_Some}
 use Rattle.serde_json.specs.Data.{Data}
@@ -15,8 +44,13 @@ use Rattle.vm_ranges.specs.declared.error.Error.{Error}
 ends_of : (s e : ℕ) → are_ends s e ≡ true → IsRange s e
 ends_of s e h =
     let p = and_parts (leb s e) (leb e MAX && (not (eqb s 0) || ltb e MAX)) h in
-    let q = and_parts (leb e MAX) (not (eqb s 0) || ltb e MAX) p.1 in
-    (leb-true s e p.0, leb-true e MAX q.0, λ z. ⊎_elim (λ (n : not (eqb s 0) ≡ true). absurd (let a = not-true _ n in let b = eq-eqb s 0 z in cc)) (λ (l : ltb e MAX ≡ true). ltb-true e MAX l) (or_cases (not (eqb s 0)) (ltb e MAX) q.1))
+    let q = and_parts (leb e MAX) (not (eqb s 0) || ltb e MAX) p.1 in (
+      leb-true s e p.0,
+      leb-true e MAX q.0,
+      λ z. ⊎_elim
+          (λ (n : not (eqb s 0) ≡ true). absurd (let a = not-true _ n in let b = eq-eqb s 0 z in cc)) (λ (l : ltb e MAX ≡ true). ltb-true e MAX l)
+          (or_cases (not (eqb s 0)) (ltb e MAX) q.1),
+    )
 
 true_ends : (s e : ℕ) → IsRange s e → are_ends s e ≡ true
 true_ends s e r = and_from _ _ (le-leb s e r.0) (and_from _ _ (le-leb e MAX r.1) (not_all s r.2)) where
@@ -45,7 +79,8 @@ found-states d r h =
     let end = and_then_some _ (number_in (codes "end") d) r start.2 in
     let ends = if_some (are_ends start.0 end.0) _ r end.2 in
     let is = same_Some _ r ends.1 in
-    subst (EncodesRange d) is (record { two_fields = count-true 2 (field_count d) two.0; start = start.1; end = end.1; range = ends_of start.0 end.0 ends.0 })
+    subst (EncodesRange d) is (record
+    { two_fields = count-true 2 (field_count d) two.0; start = start.1; end = end.1; range = ends_of start.0 end.0 ends.0 })
 
 pub states-found : (d : Data) (r : Range) → EncodesRange d r → decoded_range d ≡ Some r
 states-found d r s = rw (true-count 2 (field_count d) s.two_fields, s.start, s.end, true_ends r.start r.end s.range) refl

@@ -12,7 +12,9 @@ use Rattle.vm_ranges.specs.declared.state.NodeState.TheVariants.{Free, Allocated
 spelled : (o : Option (List ℕ)) (s : NodeState) → state_named o ≡ Some s → o ≡ Some (state_name s)
 spelled None s h = absurd (cc)
 spelled (Some t) s h =
-    elim (bytes_eq t (codes "Free")) as (λ v. bytes_eq t (codes "Free") ≡ v → cond v (Some Free) (cond (bytes_eq t (codes "Allocated")) (Some Allocated) None) ≡ Some s → Some t ≡ Some (state_name s)) [
+    elim (bytes_eq t (codes "Free")) as
+    (λ v. bytes_eq t (codes "Free") ≡ v → cond v (Some Free) (cond (bytes_eq t (codes "Allocated")) (Some Allocated) None) ≡ Some s →
+    Some t ≡ Some (state_name s)) [
       | true ↦ λ e k. ap Some ((bytes_eq-Decides t (codes "Free")).0 e ∙ ap state_name (same_Some Free s k))
       | false ↦ λ e k.
           let p = if_some (bytes_eq t (codes "Allocated")) (Some Allocated) s k in

@@ -11,19 +11,23 @@ pub constrains_size : (request : Request) → request.size ≡ 0 → MakesConstr
 unfolding MakesConstraint ByConstraint
 constrains_size request e = inl (e, refl)
 
-pub constrains_alignment : (request : Request) → 0 < request.size → is_power_of_two request.align ≡ false → MakesConstraint request (Err InvalidAlignment)
+pub constrains_alignment : (request : Request) → 0 < request.size → is_power_of_two request.align ≡ false →
+    MakesConstraint request (Err InvalidAlignment)
 unfolding MakesConstraint ByConstraint
 constrains_alignment request z e = inr (λ e. omega arith, inl (no_alignment_if_false request.align e, refl))
 
-pub constrains_start : (request : Request) → 0 < request.size → request.align < 2 ^ 64 → is_power_of_two request.align ≡ true → ¬ IsStartAligned request.align request.policy → MakesConstraint request (Err UnalignedAddress)
+pub constrains_start : (request : Request) → 0 < request.size → request.align < 2 ^ 64 → is_power_of_two request.align ≡ true →
+    ¬ IsStartAligned request.align request.policy → MakesConstraint request (Err UnalignedAddress)
 unfolding MakesConstraint ByConstraint
 constrains_start request z l e u = inr (λ e. omega arith, inr (alignment_if_true request.align l e, inl (u, refl)))
 
-pub constrains_given : (request : Request) → 0 < request.size → request.align < 2 ^ 64 → is_power_of_two request.align ≡ true → IsStartAligned request.align request.policy → MakesConstraint request (Ok request)
+pub constrains_given : (request : Request) → 0 < request.size → request.align < 2 ^ 64 → is_power_of_two request.align ≡ true →
+    IsStartAligned request.align request.policy → MakesConstraint request (Ok request)
 unfolding MakesConstraint ByConstraint
 constrains_given request z l e u = inr (λ e. omega arith, inr (alignment_if_true request.align l e, inr (u, refl)))
 
-pub is_valid_request : (size align : ℕ) (policy : AllocPolicy) → 0 < size → align < 2 ^ 64 → is_power_of_two align ≡ true → IsStartAligned align policy → IsRequest (request_for size align policy)
+pub is_valid_request : (size align : ℕ) (policy : AllocPolicy) → 0 < size → align < 2 ^ 64 → is_power_of_two align ≡ true →
+    IsStartAligned align policy → IsRequest (request_for size align policy)
 is_valid_request size align policy z l e u = record { some = z; aligned = alignment_if_true align l e; start = u }
 
 pub ruleset constrains = (constrains_size, constrains_alignment, constrains_start, constrains_given, is_valid_request)
@@ -43,7 +47,8 @@ unfolding MakesConstraint ByConstraint
 valid_request_made request r = inr (λ e. omega (arith, e, r.some), inr (r.aligned, inr (r.start, refl)))
 
 -- A fact that follows from the fact of each case of a request.
-pub constraint_map : (request : Request) (P Q : Error → Type 0) (R S : Type 0) → ((e : Error) → P e → Q e) → (R → S) → ByConstraint request P R → ByConstraint request Q S
+pub constraint_map : (request : Request) (P Q : Error → Type 0) (R S : Type 0) → ((e : Error) → P e → Q e) → (R → S) →
+    ByConstraint request P R → ByConstraint request Q S
 unfolding ByConstraint
 constraint_map request P Q R S f g h =
     ⊎_elim (λ l. inl (l.0, f _ l.1)) (λ r. inr (

@@ -2,7 +2,8 @@
 use Rattle.std.proofs.Common.{◌≡◌, Bool, true, false, cond, Option, Some, None, option_map, option_and_then, refl}
 use Rattle.std.proofs.lemmas.Option.{same_Some}
 
-pub and_then_some : {A B : Type 0} (f : A → Option B) (o : Option A) (b : B) → option_and_then f o ≡ Some b → (a : A) × (o ≡ Some a) × (f a ≡ Some b)
+pub and_then_some : {A B : Type 0} (f : A → Option B) (o : Option A) (b : B) → option_and_then f o ≡ Some b →
+    (a : A) × (o ≡ Some a) × (f a ≡ Some b)
 and_then_some f None b e = absurd (cc)
 and_then_some f (Some a) b e = (a, refl, e)
 

@@ -32,7 +32,8 @@ address_some x (Tip bs) = omega arith
 address_some x (Fork l r) = omega arith
 
 -- ---- The start in a child
-pub start_in_left : (seek : Search) (t : ℕ) (l r : Shape) → IsSubtree (Fork l r) → IsStartIn seek t (blocks l ++ blocks r) → t < start_of (blocks r) → IsStartIn seek t (blocks l)
+pub start_in_left : (seek : Search) (t : ℕ) (l r : Shape) → IsSubtree (Fork l r) → IsStartIn seek t (blocks l ++ blocks r) →
+    t < start_of (blocks r) → IsStartIn seek t (blocks l)
 start_in_left seek t l r h s k =
     let a = full_some l h.full.0 in
     let b = full_some r h.full.1 in
@@ -40,12 +41,24 @@ start_in_left seek t l r h s k =
     let f = start_append (blocks l) (blocks r) (omega arith) in
     record { from = omega (arith, s.from); upto = omega arith; low = s.low; high = s.high; fits = s.fits }
 
-pub start_in_right : (seek : Search) (t : ℕ) (l r : Shape) → IsSubtree (Fork l r) → IsStartIn seek t (blocks l ++ blocks r) → start_of (blocks r) ≤ t → IsStartIn seek t (blocks r)
+pub start_in_right : (seek : Search) (t : ℕ) (l r : Shape) → IsSubtree (Fork l r) → IsStartIn seek t (blocks l ++ blocks r) →
+    start_of (blocks r) ≤ t → IsStartIn seek t (blocks r)
 start_in_right seek t l r h s k =
     let b = full_some r h.full.1 in
     let f = end_append (blocks l) (blocks r) (omega arith) in
     record { from = k; upto = omega (arith, s.upto); low = s.low; high = s.high; fits = s.fits }
 
-pub ruleset below = (address_left, address_right, start_in_left, start_in_right, subtree_left, subtree_right, answered_left, answered_right, exact_left, exact_right)
+pub ruleset below = (
+  address_left,
+  address_right,
+  start_in_left,
+  start_in_right,
+  subtree_left,
+  subtree_right,
+  answered_left,
+  answered_right,
+  exact_left,
+  exact_right,
+)
 
 pub ruleset whole = (address_leaf, address_some)

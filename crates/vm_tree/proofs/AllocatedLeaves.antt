@@ -24,7 +24,8 @@ module _ (lone : Bool) (change : Change) (old new : Link) where
   pub taken_lone : lone ≡ true → IsTree (side new) → height_of (side new) < 2 → IsTakenLeaf lone change old new
   taken_lone e t h = rw e (t, h)
 
-  pub taken_summed : lone ≡ false → GrowsBy change (side old) (side new) → change ≢ Structure → IsSummed new → IsTakenLeaf lone change old new
+  pub taken_summed : lone ≡ false → GrowsBy change (side old) (side new) → change ≢ Structure → IsSummed new →
+      IsTakenLeaf lone change old new
   taken_summed e g n s = rw e (g, n, s)
 
 pub ruleset taking = (taken_lone, taken_summed)
@@ -36,10 +37,17 @@ splits_if Before k r h z = inl h.0
 splits_if After k r h z = inr h.1
 splits_if Both k r h z = inl h.0
 
-pub no_memory : (seek : Search) (bs : List Block) (place : Place) → IsPlaceFor seek.size bs place → RefusesPlace seek place None → 0 < added_by place.rest → IsSplitAt seek (in_list bs place) × (seek.can_split ≡ true)
+pub no_memory : (seek : Search) (bs : List Block) (place : Place) → IsPlaceFor seek.size bs place → RefusesPlace seek place None →
+    0 < added_by place.rest → IsSplitAt seek (in_list bs place) × (seek.can_split ≡ true)
 no_memory seek bs place p h z =
-    let end = ap (λ (r : Range). r.end) p.sized in
-    (record { below = omega (arith, h.0, end); splits = elim (splits_if place.rest place.gap place.range p.inside.rest z) [ inl l ↦ inl l | inr l ↦ inr (omega (arith, l, end)) ] }, h.1 z)
+    let end = ap (λ (r : Range). r.end) p.sized in (
+      record {
+        below = omega (arith, h.0, end);
+        splits = elim (splits_if place.rest place.gap place.range p.inside.rest z)
+            [ inl l ↦ inl l | inr l ↦ inr (omega (arith, l, end)) ];
+      },
+      h.1 z,
+    )
 
 pub leaf_some : (lone : Bool) (old : Link) → CanTakeFrom lone old → 0 < length (blocks (side old))
 leaf_some true old h = rooted_some (side old) h.leaves
@@ -60,7 +68,8 @@ module _ (lone : Bool) (old new : Link) (leaf : height_of (side old) < 2) where
       by_lone true h = (tt, (h.0, omega (arith, h.1)), λ k. absurd (omega (arith, h.1)))
       by_lone false h = ((h.0, λ z. h.1), h.2)
 
-  pub left_split : (taken : Taken) → 0 < taken.added → taken.change ≡ Structure → Grows (side old) (side new) → 2 ≤ height_of (side new) → IsSummed new → LeavesLeaf lone (Ok taken) old new
+  pub left_split : (taken : Taken) → 0 < taken.added → taken.change ≡ Structure → Grows (side old) (side new) → 2 ≤ height_of (side new) →
+      IsSummed new → LeavesLeaf lone (Ok taken) old new
   left_split taken z e g h s = by_lone lone
     where
       by_lone : (lone : Bool) → LeavesLeaf lone (Ok taken) old new

@@ -66,7 +66,8 @@ pub some_parts : (k r : Range) → 1 ≤ length (parts k r)
 some_parts k r = omega (arith, length-append (before_part k r) (held_block r ∷ after_part k r))
 
 -- A gap that is not the longest does not count, and neither does one that has not the most alignments.
-module _ (bs : List Block) (i : ℕ) (rest : Rest) (k r : Range) (within : i < length bs) (gap : nth bs i ≡ free_block k) (rest_is : IsRest rest k r) (taken : IsTakenFrom k r) where
+module _ (bs : List Block) (i : ℕ) (rest : Rest) (k r : Range) (within : i < length bs) (gap : nth bs i ≡ free_block k)
+    (rest_is : IsRest rest k r) (taken : IsTakenFrom k r) where
   around : bs ≡ take i bs ++ free_block k ∷ drop (i + 1) bs
   around = cut_at bs i within ∙ ap (λ (b : Block). take i bs ++ b ∷ drop (i + 1) bs) gap
 
@@ -87,9 +88,11 @@ module _ (bs : List Block) (i : ℕ) (rest : Rest) (k r : Range) (within : i < l
       omega arith
 
 -- A leaf in which a range of such a gap is allocated keeps its summary, its height, and enough blocks.
-pub small_gap : (old : Shape) (bs cs new : List Block) (place : Place) (longest alignments n m : ℕ) → old ≡ Tip bs → cs ≡ bs → IsLeafPlace (blocks old) place → IsFreeOf (Tip bs) longest alignments
+pub small_gap : (old : Shape) (bs cs new : List Block) (place : Place) (longest alignments n m : ℕ) → old ≡ Tip bs → cs ≡ bs →
+    IsLeafPlace (blocks old) place → IsFreeOf (Tip bs) longest alignments
     → 12 ≤ length (blocks old) → new ≡ with_parts cs place.index 1 (parts (nth cs place.index).key place.range)
-    → n ≡ address_count place.gap → m ≡ alignment_count place.gap → n < longest → m < alignments → Keeps change.Nothing old (Tip new) × IsFreeOf (Tip new) longest alignments
+    → n ≡ address_count place.gap → m ≡ alignment_count place.gap → n < longest → m < alignments →
+    Keeps change.Nothing old (Tip new) × IsFreeOf (Tip new) longest alignments
 small_gap old bs cs new place longest alignments n m q p h s full e long count l f =
     let c : IsLeafPlace bs place = rw q at h in
     let k : (nth bs place.index).key ≡ place.gap = ap (λ (b : Block). b.key) c.gap in

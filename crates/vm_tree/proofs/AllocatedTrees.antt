@@ -18,7 +18,13 @@ use Rattle.vm_tree.proofs.Trees.{full_some, full_rooted, rooted_full, tall, high
 
 -- ---- Children of a subtree
 pub subtree_left : (l r : Shape) → IsSubtree (Fork l r) → IsSubtree l
-subtree_left l r h = record { balanced = h.balanced.0; full = h.full.0; run = cover_left (blocks l) (blocks r) h.run (omega (arith, full_some l h.full.0)); low = omega (arith, h.low) }
+subtree_left l r h = record {
+  balanced = h.balanced.0;
+  full = h.full.0;
+  run = cover_left (blocks l) (blocks r) h.run
+      (omega (arith, full_some l h.full.0));
+  low = omega (arith, h.low);
+}
 
 pub subtree_right : (l r : Shape) → IsSubtree (Fork l r) → IsSubtree r
 subtree_right l r h = record {
@@ -38,8 +44,10 @@ unfolding GrowsBelow
 grew_right change l r s g = inr (refl, g)
 
 -- A mended node of which a child is one higher than before.
-mended : (l r m s final : Shape) → IsSubtree (Fork l r) → HasFullLeaves m → HasFullLeaves s → max (height_of m) (height_of s) ≤ max (height_of l) (height_of r) + 1
-    → (max (height_of m) (height_of s) ≤ max (height_of l) (height_of r) → (2 ≤ height_of m) × (2 ≤ height_of s) × (height_of m ≡ height_of s) × (height_of m ≡ max (height_of l) (height_of r)))
+mended : (l r m s final : Shape) → IsSubtree (Fork l r) → HasFullLeaves m → HasFullLeaves s →
+    max (height_of m) (height_of s) ≤ max (height_of l) (height_of r) + 1
+    → (max (height_of m) (height_of s) ≤ max (height_of l) (height_of r) →
+    (2 ≤ height_of m) × (2 ≤ height_of s) × (height_of m ≡ height_of s) × (height_of m ≡ max (height_of l) (height_of r)))
     → Mends m s final → Grows (Fork l r) final
 mended l r m s final t a b upto close u =
     let n = full_some m a in
@@ -175,7 +183,8 @@ can_update change (Fork l r) (Fork m s) g t run =
       | inr x ↦ (let e = x.0 in rw e (update_right l r s t change (rw e at run) x.1))
     ]
 
-pub has_grown : (change : Change) (old new final : Shape) → GrowsBelow change old new → IsSubtree old → Updates change new final → Grows old final
+pub has_grown : (change : Change) (old new final : Shape) → GrowsBelow change old new → IsSubtree old → Updates change new final →
+    Grows old final
 unfolding GrowsBelow
 has_grown change (Tip bs) new final g t u = absurd g
 has_grown change (Fork l r) (Tip bs) final g t u = absurd g
@@ -185,7 +194,8 @@ has_grown change (Fork l r) (Fork m s) final g t u =
       | inr x ↦ (let e = x.0 in grown_right l r s t change final x.1 (rw e at u))
     ]
 
-pub grown_height : (change : Change) (old new : Shape) → GrowsBelow change old new → (2 ≤ height_of new) × (height_of new ≤ height_of old + 1)
+pub grown_height : (change : Change) (old new : Shape) → GrowsBelow change old new →
+    (2 ≤ height_of new) × (height_of new ≤ height_of old + 1)
 unfolding GrowsBelow
 grown_height change (Tip bs) new g = absurd g
 grown_height change (Fork l r) (Tip bs) g = absurd g
@@ -204,7 +214,8 @@ same_blocks Structure (Tip bs) final u = absurd u
 same_blocks Structure (Fork m s) final u = u.blocks
 
 -- ---- By what is stored beside the link
-pub can_update_stored : (change : Change) (n new : Shape) (longest alignments height : ℕ) → IsFreeOf n longest alignments × (height ≡ height_of n) → GrowsBelow change n new → IsSubtree n → IsRun (blocks new)
+pub can_update_stored : (change : Change) (n new : Shape) (longest alignments height : ℕ) →
+    IsFreeOf n longest alignments × (height ≡ height_of n) → GrowsBelow change n new → IsSubtree n → IsRun (blocks new)
     → CanUpdate change longest alignments height new
 can_update_stored change n new longest alignments height s g t run =
     let a = s.0.0 in
@@ -212,8 +223,10 @@ can_update_stored change n new longest alignments height s g t run =
     let c = s.1 in
     rw (a, b, c) (can_update change n new g t run)
 
-pub grown_by : (change more : Change) (t n new final : Shape) (longest alignments height : ℕ) → t ≡ n → IsFreeOf n longest alignments × (height ≡ height_of n) → GrowsBelow change n new → IsSubtree n
-    → Updates change new final → Reports more longest alignments height final → (more ≡ Structure → height_of final ≢ height) → GrowsBy more t final
+pub grown_by : (change more : Change) (t n new final : Shape) (longest alignments height : ℕ) → t ≡ n →
+    IsFreeOf n longest alignments × (height ≡ height_of n) → GrowsBelow change n new → IsSubtree n
+    → Updates change new final → Reports more longest alignments height final → (more ≡ Structure → height_of final ≢ height) →
+    GrowsBy more t final
 grown_by change more t n new final longest alignments height q s g tree u r m =
     let a = s.0.0 in
     let b = s.0.1 in
@@ -234,7 +247,8 @@ pub answered_right : (answer : Result Taken Refusal) → (l r s : Shape) → Gro
 answered_right (Ok taken) l r s h = (grew_right taken.change l r s h.0, h.1)
 answered_right (Err refusal) l r s h = ap (λ (t : Shape). Fork l t) h
 
-pub answered_tall : (answer : Result Taken Refusal) → (old new : Shape) → 2 ≤ height_of old → GrowsBelowIfOk answer old new → 2 ≤ height_of new
+pub answered_tall : (answer : Result Taken Refusal) → (old new : Shape) → 2 ≤ height_of old → GrowsBelowIfOk answer old new →
+    2 ≤ height_of new
 answered_tall (Ok taken) old new t h = (grown_height taken.change old new h.0).0
 answered_tall (Err refusal) old new t h = omega (arith, t, ap height_of h)
 

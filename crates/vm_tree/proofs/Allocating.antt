@@ -1,6 +1,30 @@
 -- A list of blocks in which a range is allocated.
 use Rattle.std.specs.Prelude.{◌⊎◌, Some, Result, Ok, Err, OnErr}
-use Rattle.std.proofs.Common.{◌≡◌, ◌≢◌, ℕ, ◌+◌, ◌-◌, ◌<◌, ◌≤◌, List, [], ◌∷◌, ◌++◌, length, take, drop, refl, ap, ◌∙◌, sym, arith, inl, inr, append_assoc, length-append}
+use Rattle.std.proofs.Common.{
+  ◌≡◌,
+  ◌≢◌,
+  ℕ,
+  ◌+◌,
+  ◌-◌,
+  ◌<◌,
+  ◌≤◌,
+  List,
+  [],
+  ◌∷◌,
+  ◌++◌,
+  length,
+  take,
+  drop,
+  refl,
+  ap,
+  ◌∙◌,
+  sym,
+  arith,
+  inl,
+  inr,
+  append_assoc,
+  length-append,
+}
 use Rattle.std.proofs.lemmas.Bool.{cases_lt}
 use Rattle.vm_ranges.specs.Range.{Range, IsIn, span}
 use Rattle.vm_ranges.proofs.RangeCalls.{same_range}
@@ -39,15 +63,26 @@ rest_of k r t =
     ]
 
 -- ---- The parts of a gap cover what the gap covered
-tiles_parts : (rest : Rest) (k r : Range) (q : NodeState) (m hi : ℕ) (us : List Block) → IsRest rest k r → IsTakenFrom k r → Tiles q m (free_block k ∷ us) hi → Tiles q m (parts k r ++ us) hi
+tiles_parts : (rest : Rest) (k r : Range) (q : NodeState) (m hi : ℕ) (us : List Block) → IsRest rest k r → IsTakenFrom k r →
+    Tiles q m (free_block k ∷ us) hi → Tiles q m (parts k r ++ us) hi
 tiles_parts Nothing k r q m hi us h t c =
     rw (parts_all k r h.0 h.1) (c.0, c.1, after_held q, tiles_weaken Free (k.end + 1) hi us c.3)
 tiles_parts Before k r q m hi us h t c =
-    rw (parts_upper k r h.0 h.1) (c.0, omega (arith, c.0), c.2, (omega arith, omega (arith, t.some, t.upto), tt, tiles_weaken Free (k.end + 1) hi us c.3))
+    rw (parts_upper k r h.0 h.1) (
+      c.0,
+      omega (arith, c.0),
+      c.2,
+      (omega arith, omega (arith, t.some, t.upto), tt, tiles_weaken Free (k.end + 1) hi us c.3),
+    )
 tiles_parts After k r q m hi us h t c =
     rw (parts_lower k r h.0 h.1) (c.0, omega (arith, c.0, t.some), after_held q, (omega arith, omega arith, tt, c.3))
 tiles_parts Both k r q m hi us h t c =
-    rw (parts_middle k r h.0 h.1) (c.0, omega (arith, c.0), c.2, (omega arith, omega (arith, t.some), tt, (omega arith, omega arith, tt, c.3)))
+    rw (parts_middle k r h.0 h.1) (
+      c.0,
+      omega (arith, c.0),
+      c.2,
+      (omega arith, omega (arith, t.some), tt, (omega arith, omega arith, tt, c.3)),
+    )
 
 some_parts : (k r : Range) → IsTakenFrom k r → 1 ≤ length (parts k r)
 some_parts k r t =
@@ -65,12 +100,14 @@ start_tiles p lo hi [] l t = absurd (omega arith)
 start_tiles p lo hi (b ∷ bs) l t = t.0
 
 -- ---- A run in which a range of a gap is allocated
-module _ (old new lower upper : List Block) (k r : Range) (run : IsRun old) (cut : old ≡ lower ++ free_block k ∷ upper) (taken : IsTakenFrom k r) (after : new ≡ lower ++ (parts k r ++ upper)) where
+module _ (old new lower upper : List Block) (k r : Range) (run : IsRun old) (cut : old ≡ lower ++ free_block k ∷ upper)
+    (taken : IsTakenFrom k r) (after : new ≡ lower ++ (parts k r ++ upper)) where
   new_tiles : Tiles Allocated run.lo new run.hi
   new_tiles =
       let l = rest_of k r taken in
       let t : Tiles Allocated run.lo (lower ++ free_block k ∷ upper) run.hi = rw cut at run.tiles in
-      rw after (tiles_under Allocated run.lo run.hi lower (free_block k ∷ upper) (parts k r ++ upper) (λ m c. tiles_parts l.0 k r (last_state Allocated lower) m run.hi upper l.1 taken c) t)
+      rw after (tiles_under Allocated run.lo run.hi lower (free_block k ∷ upper) (parts k r ++ upper)
+      (λ m c. tiles_parts l.0 k r (last_state Allocated lower) m run.hi upper l.1 taken c) t)
 
   new_some : 0 < length new
   new_some =
@@ -83,7 +120,8 @@ module _ (old new lower upper : List Block) (k r : Range) (run : IsRun old) (cut
   run_after = record { lo = run.lo; hi = run.hi; some = new_some; tiles = new_tiles; range = run.range }
 
   pub start_after : start_of new ≡ start_of old
-  start_after = start_tiles Allocated run.lo run.hi new new_some new_tiles ∙ sym (start_tiles Allocated run.lo run.hi old run.some run.tiles)
+  start_after = start_tiles Allocated run.lo run.hi new new_some new_tiles
+      ∙ sym (start_tiles Allocated run.lo run.hi old run.some run.tiles)
 
 -- ---- The result at a place in the left part of a list, and in the right part
 pub settles_left : (seek : Search) (place : ListPlace) (m r : List Block) (answer : Result Taken Refusal) → SettlesAt seek place m answer
@@ -94,7 +132,8 @@ settles_left seek place m r (Ok taken) h =
       range = h.range;
       below = h.below;
       low = h.low;
-      blocks = ap (λ (x : List Block). x ++ r) h.blocks ∙ append_assoc place.lower (ps ++ place.upper) r ∙ ap (λ (x : List Block). place.lower ++ x) (append_assoc ps place.upper r);
+      blocks = ap (λ (x : List Block). x ++ r) h.blocks ∙ append_assoc place.lower (ps ++ place.upper) r
+          ∙ ap (λ (x : List Block). place.lower ++ x) (append_assoc ps place.upper r);
       added = h.added;
     }
 settles_left seek place m r (Err NoPlace) h = h
@@ -121,7 +160,8 @@ settles_right seek place l m (Err (OutOfMemory e)) h = (record { below = h.0.bel
 settles_right seek place l m (Err CannotSplit) h = (record { below = h.0.below; splits = h.0.splits }, h.1)
 
 -- The result does not name the change.
-pub settles_other : (seek : Search) (place : ListPlace) (new other : List Block) (taken more : Taken) → other ≡ new → more.range ≡ taken.range → more.added ≡ taken.added
+pub settles_other : (seek : Search) (place : ListPlace) (new other : List Block) (taken more : Taken) → other ≡ new →
+    more.range ≡ taken.range → more.added ≡ taken.added
     → IsTakenAt seek place new taken → IsTakenAt seek place other more
 settles_other seek place new other taken more e f g h = record {
   range = f ∙ h.range;
@@ -146,26 +186,37 @@ module _ (seek : Search) (t : ℕ) (bs : List Block) (i : ℕ) where
       → SettlesIn seek t (take i bs) (nth bs i).state (nth bs i).key (drop (i + 1) bs) new answer → AllocatesExact seek t bs new answer
   found new answer l f h = record { lower = take i bs; block = nth bs i; upper = drop (i + 1) bs; at = here l f; settles = h }
 
-  pub exact_refused : (refusal : Refusal) → i < length bs → IsIn (nth bs i).key t → RefusesIn seek t (nth bs i) (Some refusal) → AllocatesExact seek t bs bs (Err refusal)
+  pub exact_refused : (refusal : Refusal) → i < length bs → IsIn (nth bs i).key t → RefusesIn seek t (nth bs i) (Some refusal) →
+      AllocatesExact seek t bs bs (Err refusal)
   exact_refused refusal l f h = found bs (Err refusal) l f (h (take i bs) (drop (i + 1) bs) bs)
 
   -- A range that lies in a gap and in the window.
-  pub lies_at : (range : Range) → range ≡ record { start = t; end = t + (seek.size - 1) } → 0 < seek.size → i < length bs → IsIn (nth bs i).key t → LiesIn seek t (nth bs i) → IsTakenFrom (nth bs i).key range
+  pub lies_at : (range : Range) → range ≡ record { start = t; end = t + (seek.size - 1) } → 0 < seek.size → i < length bs →
+      IsIn (nth bs i).key t → LiesIn seek t (nth bs i) → IsTakenFrom (nth bs i).key range
   lies_at range e z l f h = rw e (record { from = f.0; some = omega arith; upto = omega (arith, h.upto) })
 
-  pub exact_at : (place : Place) (range : Range) → range ≡ record { start = t; end = t + (seek.size - 1) } → (place.index ≡ i) × (place.gap ≡ (nth bs i).key) × (place.range ≡ range) → 0 < seek.size → IsRest place.rest (nth bs i).key range → i < length bs → IsIn (nth bs i).key t → LiesIn seek t (nth bs i) → IsExactPlace seek t bs place
+  pub exact_at : (place : Place) (range : Range) → range ≡ record { start = t; end = t + (seek.size - 1) } →
+      (place.index ≡ i) × (place.gap ≡ (nth bs i).key) × (place.range ≡ range) → 0 < seek.size → IsRest place.rest (nth bs i).key range →
+      i < length bs → IsIn (nth bs i).key t → LiesIn seek t (nth bs i) → IsExactPlace seek t bs place
   exact_at place range is e z r l f h =
       let q : range ≡ span t seek.size = is ∙ same_range _ (span t seek.size) refl (omega (arith, z)) in
       record {
         fits = record {
-          inside = record { within = rw e.0 l; gap = rw (e.0, e.1) (gap_of (nth bs i) h.free); taken = rw (e.1, e.2) (lies_at range is z l f h); rest = rw (e.1, e.2) r };
+          inside = record {
+            within = rw e.0 l;
+            gap = rw (e.0, e.1) (gap_of (nth bs i) h.free);
+            taken = rw (e.1, e.2)
+                (lies_at range is z l f h);
+            rest = rw (e.1, e.2) r;
+          };
           sized = rw (e.2, q) refl;
         };
         start = rw (e.2, q) refl;
         high = h.high;
       }
 
-pub exact_settled : (seek : Search) (t : ℕ) (bs : List Block) (place : Place) (new : List Block) (answer : Result Taken Refusal) → 0 < seek.size → IsExactPlace seek t bs place → SettlesAt seek (in_list bs place) new answer → AllocatesExact seek t bs new answer
+pub exact_settled : (seek : Search) (t : ℕ) (bs : List Block) (place : Place) (new : List Block) (answer : Result Taken Refusal) →
+    0 < seek.size → IsExactPlace seek t bs place → SettlesAt seek (in_list bs place) new answer → AllocatesExact seek t bs new answer
 exact_settled seek t bs place new answer z h s =
     let p = h.fits.inside in
     let e = ap (λ (r : Range). r.end) h.fits.sized in
@@ -198,21 +249,24 @@ module _ (seek : Search) (t : ℕ) (b : Block) where
   refused_past state past = λ lower upper new. rw state (inl (inr past, refl))
 
 -- ---- An exact range in the left part of a list, and in the right part
-in_left : (seek : Search) (t : ℕ) (lower : List Block) (state : NodeState) (key : Range) (upper m r : List Block) (answer : Result Taken Refusal)
+in_left : (seek : Search) (t : ℕ) (lower : List Block) (state : NodeState) (key : Range) (upper m r : List Block)
+    (answer : Result Taken Refusal)
     → SettlesIn seek t lower state key upper m answer → SettlesIn seek t lower state key (upper ++ r) (m ++ r) answer
 in_left seek t lower Allocated key upper m r answer h = h
 in_left seek t lower Free key upper m r answer h =
     let place : ListPlace = record { lower = lower; key = key; upper = upper; start = t } in
     elim h [ inl x ↦ inl x | inr x ↦ inr (x.0, settles_left seek place m r answer x.1) ]
 
-in_right : (seek : Search) (t : ℕ) (lower : List Block) (state : NodeState) (key : Range) (upper l m : List Block) (answer : Result Taken Refusal)
+in_right : (seek : Search) (t : ℕ) (lower : List Block) (state : NodeState) (key : Range) (upper l m : List Block)
+    (answer : Result Taken Refusal)
     → SettlesIn seek t lower state key upper m answer → SettlesIn seek t (l ++ lower) state key upper (l ++ m) answer
 in_right seek t lower Allocated key upper l m answer h = h
 in_right seek t lower Free key upper l m answer h =
     let place : ListPlace = record { lower = lower; key = key; upper = upper; start = t } in
     elim h [ inl x ↦ inl x | inr x ↦ inr (x.0, settles_right seek place l m answer x.1) ]
 
-pub exact_left : (seek : Search) (t : ℕ) (l m r : List Block) (answer : Result Taken Refusal) → AllocatesExact seek t l m answer → AllocatesExact seek t (l ++ r) (m ++ r) answer
+pub exact_left : (seek : Search) (t : ℕ) (l m r : List Block) (answer : Result Taken Refusal) → AllocatesExact seek t l m answer →
+    AllocatesExact seek t (l ++ r) (m ++ r) answer
 exact_left seek t l m r answer h = record {
   lower = h.lower;
   block = h.block;
@@ -221,7 +275,8 @@ exact_left seek t l m r answer h = record {
   settles = in_left seek t h.lower h.block.state h.block.key h.upper m r answer h.settles;
 }
 
-pub exact_right : (seek : Search) (t : ℕ) (l r m : List Block) (answer : Result Taken Refusal) → AllocatesExact seek t r m answer → AllocatesExact seek t (l ++ r) (l ++ m) answer
+pub exact_right : (seek : Search) (t : ℕ) (l r m : List Block) (answer : Result Taken Refusal) → AllocatesExact seek t r m answer →
+    AllocatesExact seek t (l ++ r) (l ++ m) answer
 exact_right seek t l r m answer h = record {
   lower = l ++ h.lower;
   block = h.block;
@@ -241,28 +296,40 @@ pub record IsAllocated (seek : Search) (old new : List Block) (taken : Taken) : 
   pub taken_at : IsTakenAt seek place new taken
 
 pub run_allocated : (seek : Search) (old new : List Block) (taken : Taken) → IsRun old → IsAllocated seek old new taken → IsRun new
-run_allocated seek old new taken run h = run_after old new h.place.lower h.place.upper h.place.key (span h.place.start seek.size) run h.cut h.inside h.taken_at.blocks
+run_allocated seek old new taken run h = run_after old new h.place.lower h.place.upper h.place.key (span h.place.start seek.size) run h.cut
+    h.inside h.taken_at.blocks
 
-pub start_allocated : (seek : Search) (old new : List Block) (taken : Taken) → IsRun old → IsAllocated seek old new taken → start_of new ≡ start_of old
-start_allocated seek old new taken run h = start_after old new h.place.lower h.place.upper h.place.key (span h.place.start seek.size) run h.cut h.inside h.taken_at.blocks
+pub start_allocated : (seek : Search) (old new : List Block) (taken : Taken) → IsRun old → IsAllocated seek old new taken →
+    start_of new ≡ start_of old
+start_allocated seek old new taken run h = start_after old new h.place.lower h.place.upper h.place.key (span h.place.start seek.size) run
+    h.cut h.inside h.taken_at.blocks
 
-pub exact_allocated : (seek : Search) (t : ℕ) (old new : List Block) (taken : Taken) → 0 < seek.size → AllocatesExact seek t old new (Ok taken) → IsAllocated seek old new taken
+pub exact_allocated : (seek : Search) (t : ℕ) (old new : List Block) (taken : Taken) → 0 < seek.size →
+    AllocatesExact seek t old new (Ok taken) → IsAllocated seek old new taken
 exact_allocated seek t old new taken z h = by_state h.lower h.block.state h.block.key h.upper h.at.cut h.at.inside h.settles
   where
-    by_state : (lower : List Block) (state : NodeState) (key : Range) (upper : List Block) → old ≡ lower ++ record { key = key; state = state } ∷ upper → IsIn key t
+    by_state : (lower : List Block) (state : NodeState) (key : Range) (upper : List Block) →
+        old ≡ lower ++ record { key = key; state = state } ∷ upper → IsIn key t
         → SettlesIn seek t lower state key upper new (Ok taken) → IsAllocated seek old new taken
     by_state lower Allocated key upper cut inside s = elim s [ inl x ↦ (let e = x.1 in absurd (cc)) | inr x ↦ (let e = x.1 in absurd (cc)) ]
     by_state lower Free key upper cut inside s =
         let place : ListPlace = record { lower = lower; key = key; upper = upper; start = t } in
         elim s [
           | inl x ↦ (let e = x.1 in absurd (cc))
-          | inr x ↦ record { place = place; cut = cut; inside = record { from = inside.0; some = omega arith; upto = gap_end key.end (t + seek.size - 1) seek.high x.0 }; taken_at = x.1 }
+          | inr x ↦ record {
+            place = place;
+            cut = cut;
+            inside = record
+                { from = inside.0; some = omega arith; upto = gap_end key.end (t + seek.size - 1) seek.high x.0 };
+            taken_at = x.1;
+          }
         ]
 
 -- The first address stays the same.
 pub exact_start : (seek : Search) (t : ℕ) (old new : Shape) (answer : Result Taken Refusal) → 0 < seek.size → IsRun (blocks old)
     → AllocatesExact seek t (blocks old) (blocks new) answer → OnErr answer (new ≡ old) → start_of (blocks new) ≡ start_of (blocks old)
-exact_start seek t old new (Ok taken) z run h u = start_allocated seek (blocks old) (blocks new) taken run (exact_allocated seek t (blocks old) (blocks new) taken z h)
+exact_start seek t old new (Ok taken) z run h u = start_allocated seek (blocks old) (blocks new) taken run
+    (exact_allocated seek t (blocks old) (blocks new) taken z h)
 exact_start seek t old new (Err refusal) z run h u = ap (λ (s : Shape). start_of (blocks s)) u
 
 pub ruleset refusing = (refused_held, refused_other_start, refused_other_end, refused_short, refused_past)

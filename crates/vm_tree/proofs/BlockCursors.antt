@@ -1,5 +1,27 @@
 -- The first block of a cursor, and the cursor after it.
-use Rattle.std.proofs.Common.{◌≡◌, ◌≢◌, ℕ, ◌+◌, ◌-◌, ◌≤◌, ◌<◌, List, [], ◌∷◌, ◌++◌, length, refl, sym, ap, ◌∙◌, subst, arith, ⊎_elim, append_assoc, length-append}
+use Rattle.std.proofs.Common.{
+  ◌≡◌,
+  ◌≢◌,
+  ℕ,
+  ◌+◌,
+  ◌-◌,
+  ◌≤◌,
+  ◌<◌,
+  List,
+  [],
+  ◌∷◌,
+  ◌++◌,
+  length,
+  refl,
+  sym,
+  ap,
+  ◌∙◌,
+  subst,
+  arith,
+  ⊎_elim,
+  append_assoc,
+  length-append,
+}
 use Rattle.std.proofs.lemmas.Bool.{cases_lt, lt-ltb, le-ltb}
 use Rattle.vm_ranges.specs.Range.{Range}
 use Rattle.vm_ranges.specs.declared.state.NodeState.{NodeState}
@@ -22,17 +44,23 @@ pub some_address : (lo hi : ℕ) (rs : List Range) → lo ≤ hi + 1 → AreInOr
 some_address lo hi [] l s n = ⊎_elim (λ (c : hi < lo). absurd (n (no_gap lo (hi + 1) (omega arith)))) (λ (c : lo ≤ hi). c) (cases_lt hi lo)
 some_address lo hi (r ∷ rs) l s n = omega (arith, s.0, s.1, s.2)
 
-pub last_gap : (lo hi : ℕ) → lo ≤ hi → blocks_between lo [] hi ≡ free_block (record { start = lo; end = hi }) ∷ blocks_between (hi + 1) [] hi
+pub last_gap : (lo hi : ℕ) → lo ≤ hi →
+    blocks_between lo [] hi ≡ free_block (record { start = lo; end = hi }) ∷ blocks_between (hi + 1) [] hi
 last_gap lo hi l =
     let end : hi + 1 - 1 ≡ hi = omega arith in
-    gap lo (hi + 1) (omega arith) ∙ ap (λ (v : ℕ). free_block (record { start = lo; end = v }) ∷ []) end ∙ ap (λ (v : List Block). free_block (record { start = lo; end = hi }) ∷ v) (sym (no_gap (hi + 1) (hi + 1) (omega arith)))
+    gap lo (hi + 1) (omega arith) ∙ ap (λ (v : ℕ). free_block (record { start = lo; end = v }) ∷ []) end
+    ∙ ap (λ (v : List Block). free_block (record { start = lo; end = hi }) ∷ v) (sym (no_gap (hi + 1) (hi + 1) (omega arith)))
 
-pub gap_first : (lo hi : ℕ) (r : Range) (rs : List Range) → lo < r.start → blocks_between lo (r ∷ rs) hi ≡ free_block (record { start = lo; end = r.start - 1 }) ∷ blocks_between r.start (r ∷ rs) hi
+pub gap_first : (lo hi : ℕ) (r : Range) (rs : List Range) → lo < r.start →
+    blocks_between lo (r ∷ rs) hi ≡ free_block (record { start = lo; end = r.start - 1 }) ∷ blocks_between r.start (r ∷ rs) hi
 gap_first lo hi r rs l =
     let rest = held_block r ∷ blocks_between (r.end + 1) rs hi in
-    ap (λ (v : List Block). v ++ rest) (gap lo r.start l) ∙ ap (λ (v : List Block). free_block (record { start = lo; end = r.start - 1 }) ∷ (v ++ rest)) (sym (no_gap r.start r.start (omega arith)))
+    ap (λ (v : List Block). v ++ rest) (gap lo r.start l)
+    ∙ ap (λ (v : List Block). free_block (record { start = lo; end = r.start - 1 }) ∷ (v ++ rest))
+    (sym (no_gap r.start r.start (omega arith)))
 
-pub held_first : (lo hi : ℕ) (r : Range) (rs : List Range) → r.start ≤ lo → blocks_between lo (r ∷ rs) hi ≡ held_block r ∷ blocks_between (r.end + 1) rs hi
+pub held_first : (lo hi : ℕ) (r : Range) (rs : List Range) → r.start ≤ lo →
+    blocks_between lo (r ∷ rs) hi ≡ held_block r ∷ blocks_between (r.end + 1) rs hi
 held_first lo hi r rs l = ap (λ (v : List Block). v ++ held_block r ∷ blocks_between (r.end + 1) rs hi) (no_gap lo r.start l)
 
 pub ruleset firsts = (some_address, last_gap, gap_first, held_first)
@@ -76,7 +104,8 @@ some_left old xs ys n e l k z =
 pub one_more : (old xs ys more : List Block) (b : Block) → old ≡ xs ++ ys → ys ≡ b ∷ more → old ≡ (xs ++ b ∷ []) ++ more
 one_more old xs ys more b e f = e ∙ ap (λ (v : List Block). xs ++ v) f ∙ sym (append_assoc xs (b ∷ []) more)
 
-pub leaf_one_more : (old xs ys more : List Block) (b : Block) → IsRun old → old ≡ xs ++ ys → ys ≡ b ∷ more → length xs < 32 → IsLeaf (xs ++ b ∷ [])
+pub leaf_one_more : (old xs ys more : List Block) (b : Block) → IsRun old → old ≡ xs ++ ys → ys ≡ b ∷ more → length xs < 32 →
+    IsLeaf (xs ++ b ∷ [])
 leaf_one_more old xs ys more b run e f l =
     let n = length-append xs (b ∷ []) in
     let g = one_more old xs ys more b e f in
@@ -87,7 +116,8 @@ none_of_none bs n l k z = let g : length bs ≡ 0 = ap length z in absurd (omega
 
 pub ruleset filling = (cursor_run, some_left, one_more, leaf_one_more, none_of_none, length-append)
 
-pub first_address : (lo hi : ℕ) (rs : List Range) → lo ≤ hi + 1 → AreInOrder lo rs hi → blocks_between lo rs hi ≢ [] → lo ≡ start_of (blocks_between lo rs hi)
+pub first_address : (lo hi : ℕ) (rs : List Range) → lo ≤ hi + 1 → AreInOrder lo rs hi → blocks_between lo rs hi ≢ [] →
+    lo ≡ start_of (blocks_between lo rs hi)
 first_address lo hi rs l s n = sym (start_is_low Allocated lo hi (blocks_between lo rs hi) n (between_tiles lo hi rs l s))
   where
     start_is_low : (p : NodeState) (lo hi : ℕ) (bs : List Block) → bs ≢ [] → Tiles p lo bs hi → start_of bs ≡ lo

@@ -1,5 +1,34 @@
 -- A tree that is built by halves.
-use Rattle.std.proofs.Common.{◌≡◌, ◌≢◌, ℕ, zero, suc, ◌+◌, ◌-◌, ◌*◌, ◌/◌, ◌^◌, ◌<◌, ◌≤◌, max, min, List, [], ◌++◌, length, refl, sym, ap, ◌∙◌, subst, arith, inl, inr, append_assoc, length-append}
+use Rattle.std.proofs.Common.{
+  ◌≡◌,
+  ◌≢◌,
+  ℕ,
+  zero,
+  suc,
+  ◌+◌,
+  ◌-◌,
+  ◌*◌,
+  ◌/◌,
+  ◌^◌,
+  ◌<◌,
+  ◌≤◌,
+  max,
+  min,
+  List,
+  [],
+  ◌++◌,
+  length,
+  refl,
+  sym,
+  ap,
+  ◌∙◌,
+  subst,
+  arith,
+  inl,
+  inr,
+  append_assoc,
+  length-append,
+}
 use Rattle.std.proofs.lemmas.Bool.{cases_lt}
 use Rattle.std.proofs.lemmas.Grind.{pow_more}
 use Rattle.std.proofs.Math.Pow.{pow_mono}
@@ -83,10 +112,12 @@ height_above a b (suc (suc h)) z l m p =
     (omega (arith, p.0), omega (arith, p.1))
 
 -- ---- A leaf
-pub leaf_is_built : (e m : ℕ) (old : List Block) (s : Shape) (new : List Block) → IsPlan 1 e m → IsBuiltLeaf (e + m) old s new → IsBuilt 1 e m old s new
+pub leaf_is_built : (e m : ℕ) (old : List Block) (s : Shape) (new : List Block) → IsPlan 1 e m → IsBuiltLeaf (e + m) old s new →
+    IsBuilt 1 e m old s new
 leaf_is_built e m old s new p b =
     let o = p.order in
-    let fits : length (blocks s) ≤ 32 = elim (cases_lt 0 m) [ inl k ↦ omega (arith, p.fits_more k, b.count) | inr k ↦ omega (arith, p.fits, b.count) ] in
+    let fits : length (blocks s) ≤ 32 = elim (cases_lt 0 m)
+    [ inl k ↦ omega (arith, p.fits_more k, b.count) | inr k ↦ omega (arith, p.fits, b.count) ] in
     record {
       cut = b.cut;
       count = omega (arith, b.count);
@@ -98,8 +129,10 @@ leaf_is_built e m old s new p b =
     }
 
 -- ---- A node
-module _ (n e m a ma b mb : ℕ) (old xs new : List Block) (l r s : Shape) (two : 12 ≤ e) (sum : a + b ≡ n) (some : 0 < a) (order : a ≤ b) (close : b ≤ a + 1)
-    (count : a * e + ma + (b * e + mb) ≡ n * e + m) (left : IsBuilt a e ma old l xs) (right : IsBuilt b e mb xs r new) (q : s ≡ Fork l r) where
+module _ (n e m a ma b mb : ℕ) (old xs new : List Block) (l r s : Shape) (two : 12 ≤ e) (sum : a + b ≡ n) (some : 0 < a) (order : a ≤ b)
+    (close : b ≤ a + 1)
+    (count : a * e + ma + (b * e + mb) ≡ n * e + m) (left : IsBuilt a e ma old l xs) (right : IsBuilt b e mb xs r new)
+    (q : s ≡ Fork l r) where
   near : (height_of l ≤ height_of r) × (height_of r ≤ height_of l + 1)
   near = (
     not_above a b (height_of l) (height_of r) order left.height right.height,
@@ -147,7 +180,8 @@ some_block zero e mb xs s l h z = absurd (omega arith)
 some_block (suc b) e mb xs s l h z = let g : length xs ≡ 0 = ap length z in let k = add-mul b 1 e in absurd (omega arith)
 
 -- The blocks that are left after the first half are enough for the second half.
-pub enough_left : (n e m low more : ℕ) (old xs : List Block) (l : Shape) → IsPlan n e m → n ≢ 1 → low ≡ n / 2 → more ≡ min m low → n * e + m ≤ length old
+pub enough_left : (n e m low more : ℕ) (old xs : List Block) (l : Shape) → IsPlan n e m → n ≢ 1 → low ≡ n / 2 → more ≡ min m low →
+    n * e + m ≤ length old
     → IsBuilt low e more old l xs → (n - low) * e + (m - more) ≤ length xs
 enough_left n e m low more old xs l p two half share h b =
     let k = halves n e m low more p two half share in
@@ -155,7 +189,8 @@ enough_left n e m low more old xs l p two half share h b =
     omega arith
 
 -- The height of two halves.
-pub halves_low : (n e ma mb : ℕ) (old xs new : List Block) (l r : Shape) → n ≤ 2 ^ 44 → IsBuilt (n / 2) e ma old l xs → IsBuilt (n - n / 2) e mb xs r new → max (height_of l) (height_of r) < 49
+pub halves_low : (n e ma mb : ℕ) (old xs new : List Block) (l r : Shape) → n ≤ 2 ^ 44 → IsBuilt (n / 2) e ma old l xs →
+    IsBuilt (n - n / 2) e mb xs r new → max (height_of l) (height_of r) < 49
 halves_low n e ma mb old xs new l r f left right =
     let a = half_low (n / 2) (height_of l) (omega arith) left.height in
     let b = half_low (n - n / 2) (height_of r) (omega arith) right.height in

@@ -1,12 +1,53 @@
 -- Blocks that are freed.
-use Rattle.std.proofs.Common.{◌≡◌, ℕ, ◌+◌, ◌-◌, ◌<◌, ◌≤◌, max, List, [], ◌∷◌, ◌++◌, length, take, drop, refl, ap, ◌∙◌, sym, subst, arith, append_assoc, length-append, length-take-le, length-drop}
+use Rattle.std.proofs.Common.{
+  ◌≡◌,
+  ℕ,
+  ◌+◌,
+  ◌-◌,
+  ◌<◌,
+  ◌≤◌,
+  max,
+  List,
+  [],
+  ◌∷◌,
+  ◌++◌,
+  length,
+  take,
+  drop,
+  refl,
+  ap,
+  ◌∙◌,
+  sym,
+  subst,
+  arith,
+  append_assoc,
+  length-append,
+  length-take-le,
+  length-drop,
+}
 use Rattle.std.proofs.lemmas.List.{take_at, drop_at, drop_all, append-nil, get_or-append_right}
 use Rattle.vm_ranges.specs.Range.{Range, address_count}
 use Rattle.vm_ranges.specs.declared.state.NodeState.{NodeState}
 use Rattle.vm_ranges.specs.declared.state.NodeState.TheVariants.{Free, Allocated}
 use Rattle.vm_leaf.specs.declared.block.Block.{Block}
 use Rattle.vm_leaf.specs.Block.{held_block, free_block}
-use Rattle.vm_leaf.specs.Blocks.{Tiles, NotBothFree, nth, blank, start_of, freed_between, freed_on, freed_at, from_start, upto_end, with_free, join_if, longest_gap, IsRun, IsLeaf}
+use Rattle.vm_leaf.specs.Blocks.{
+  Tiles,
+  NotBothFree,
+  nth,
+  blank,
+  start_of,
+  freed_between,
+  freed_on,
+  freed_at,
+  from_start,
+  upto_end,
+  with_free,
+  join_if,
+  longest_gap,
+  IsRun,
+  IsLeaf,
+}
 use Rattle.vm_leaf.specs.Multiples.{alignment_count, most_alignments}
 use Rattle.vm_leaf.specs.Raises.{Raises}
 use Rattle.vm_leaf.proofs.Raised.{length_upto, alignments_upto}
@@ -32,7 +73,8 @@ pub with_free_append : (k : Range) (us r : List Block) → 0 < length us → wit
 with_free_append k [] r h = absurd (omega arith)
 with_free_append k (b ∷ us) r h = join_if_append b.state k b us r
 
-freed_on_append : (s : NodeState) (x : Block) (k : Range) (us r : List Block) → 0 < length us → freed_on s x k us ++ r ≡ freed_on s x k (us ++ r)
+freed_on_append : (s : NodeState) (x : Block) (k : Range) (us r : List Block) → 0 < length us →
+    freed_on s x k us ++ r ≡ freed_on s x k (us ++ r)
 freed_on_append Free x k us r h = with_free_append (record { start = x.key.start; end = k.end }) us r h
 freed_on_append Allocated x k us r h = ap (λ (b : List Block). x ∷ b) (with_free_append k us r h)
 
@@ -56,7 +98,8 @@ module _ (was k : Range) (m us x y : List Block) (e : x ≡ m ++ held_block was 
     ap (λ (z : List Block). z ++ r) f ∙ freed_over m us r k n,
   )
 
-join_free : (g : Block) (k : Range) (us : List Block) → g.state ≡ Free → join_if g.state k g us ≡ free_block (record { start = k.start; end = g.key.end }) ∷ us
+join_free : (g : Block) (k : Range) (us : List Block) → g.state ≡ Free →
+    join_if g.state k g us ≡ free_block (record { start = k.start; end = g.key.end }) ∷ us
 join_free g k us e = ap (λ (s : NodeState). join_if s k g us) e
 
 join_held : (g : Block) (k : Range) (us : List Block) → g.state ≡ Allocated → join_if g.state k g us ≡ free_block k ∷ g ∷ us
@@ -74,12 +117,14 @@ freed_gap_after [] g r a z e = sym (join_free g (record { start = a; end = z }) 
 freed_gap_after (x ∷ []) g r a z e = over_gap x.state x g a z r e
 freed_gap_after (x ∷ y ∷ m) g r a z e = ap (λ (b : List Block). x ∷ b) (freed_gap_after (y ∷ m) g r a z e)
 
-over_held : (s : NodeState) (x g : Block) (k : Range) (r : List Block) → g.state ≡ Allocated → freed_on s x k [] ++ g ∷ r ≡ freed_on s x k (g ∷ r)
+over_held : (s : NodeState) (x g : Block) (k : Range) (r : List Block) → g.state ≡ Allocated →
+    freed_on s x k [] ++ g ∷ r ≡ freed_on s x k (g ∷ r)
 over_held Free x g k r e = sym (join_held g (record { start = x.key.start; end = k.end }) r e)
 over_held Allocated x g k r e = ap (λ (b : List Block). x ∷ b) (sym (join_held g k r e))
 
 -- A block before a held block.
-pub freed_held_after : (m : List Block) (g : Block) (r : List Block) (k : Range) → g.state ≡ Allocated → freed_between m k [] ++ g ∷ r ≡ freed_between m k (g ∷ r)
+pub freed_held_after : (m : List Block) (g : Block) (r : List Block) (k : Range) → g.state ≡ Allocated →
+    freed_between m k [] ++ g ∷ r ≡ freed_between m k (g ∷ r)
 freed_held_after [] g r k e = sym (join_held g k r e)
 freed_held_after (x ∷ []) g r k e = over_held x.state x g k r e
 freed_held_after (x ∷ y ∷ m) g r k e = ap (λ (b : List Block). x ∷ b) (freed_held_after (y ∷ m) g r k e)
@@ -91,9 +136,11 @@ freed_gap_before m g us k e =
     ap (λ (z : List Block). m ++ z) (sym (ap (λ (s : NodeState). freed_on s g k us) e)) ∙ sym (freed_under m (g ∷ []) us k (omega arith))
 
 -- A block after a held block.
-pub freed_held_before : (m : List Block) (g : Block) (us : List Block) (k : Range) → g.state ≡ Allocated → (m ++ g ∷ []) ++ with_free k us ≡ freed_between (m ++ g ∷ []) k us
+pub freed_held_before : (m : List Block) (g : Block) (us : List Block) (k : Range) → g.state ≡ Allocated →
+    (m ++ g ∷ []) ++ with_free k us ≡ freed_between (m ++ g ∷ []) k us
 freed_held_before m g us k e =
-    append_assoc m (g ∷ []) (with_free k us) ∙ ap (λ (z : List Block). m ++ z) (sym (ap (λ (s : NodeState). freed_on s g k us) e)) ∙ sym (freed_under m (g ∷ []) us k (omega arith))
+    append_assoc m (g ∷ []) (with_free k us) ∙ ap (λ (z : List Block). m ++ z) (sym (ap (λ (s : NodeState). freed_on s g k us) e))
+    ∙ sym (freed_under m (g ∷ []) us k (omega arith))
 
 length-join_if : (s : NodeState) (k : Range) (b : Block) (us : List Block) → length us + 1 ≤ length (join_if s k b us)
 length-join_if Free k b us = omega arith
@@ -103,13 +150,15 @@ pub length-with_free : (k : Range) (us : List Block) → (length us ≤ length (
 length-with_free k [] = (omega arith, omega arith)
 length-with_free k (b ∷ us) = let h = length-join_if b.state k b us in (omega arith, omega arith)
 
-length-freed_on : (s : NodeState) (x : Block) (k : Range) (us : List Block) → (length us ≤ length (freed_on s x k us)) × (1 ≤ length (freed_on s x k us))
+length-freed_on : (s : NodeState) (x : Block) (k : Range) (us : List Block) →
+    (length us ≤ length (freed_on s x k us)) × (1 ≤ length (freed_on s x k us))
 length-freed_on Free x k us = length-with_free (record { start = x.key.start; end = k.end }) us
 length-freed_on Allocated x k us = let h = length-with_free k us in (omega (arith, h.0), omega (arith, h.1))
 
 -- A freed block takes at most its two neighbours away.
 pub length-freed : (m : List Block) (k : Range) (us : List Block)
-    → (length m + length us ≤ length (freed_between m k us) + 1) × (length m ≤ length (freed_between m k us)) × (length us ≤ length (freed_between m k us))
+    → (length m + length us ≤ length (freed_between m k us) + 1) × (length m ≤ length (freed_between m k us))
+    × (length us ≤ length (freed_between m k us))
 length-freed [] k us = let h = length-with_free k us in (omega (arith, h.0), omega arith, h.0)
 length-freed (x ∷ []) k us = let h = length-freed_on x.state x k us in (omega (arith, h.0), omega (arith, h.1), h.0)
 length-freed (x ∷ y ∷ m) k us = let h = length-freed (y ∷ m) k us in (omega (arith, h.0), omega (arith, h.1), omega (arith, h.2))
@@ -138,15 +187,18 @@ tiles_join : (s : NodeState) (hi a z : ℕ) (b : Block) (us : List Block) → b.
 tiles_join Free hi a z b us e l t = (refl, omega (arith, t.0, t.1), tt, subst (λ (s : NodeState). Tiles s (b.key.end + 1) us hi) e t.3)
 tiles_join Allocated hi a z b us e l t = (refl, l, tt, (t.0, t.1, subst (NotBothFree Free) (sym e) tt, t.3))
 
-tiles_free : (hi a z : ℕ) (us : List Block) → a ≤ z → Tiles Allocated (z + 1) us hi → Tiles Allocated a (with_free (record { start = a; end = z }) us) hi
+tiles_free : (hi a z : ℕ) (us : List Block) → a ≤ z → Tiles Allocated (z + 1) us hi →
+    Tiles Allocated a (with_free (record { start = a; end = z }) us) hi
 tiles_free hi a z [] l t = (refl, l, tt, t)
 tiles_free hi a z (b ∷ us) l t = tiles_join b.state hi a z b us refl l t
 
-from_held : (p : NodeState) (lo hi : ℕ) (k : Range) (us : List Block) → NotBothFree p Free → Tiles Allocated lo (with_free k us) hi → Tiles p lo (with_free k us) hi
+from_held : (p : NodeState) (lo hi : ℕ) (k : Range) (us : List Block) → NotBothFree p Free → Tiles Allocated lo (with_free k us) hi →
+    Tiles p lo (with_free k us) hi
 from_held Allocated lo hi k us n t = t
 from_held Free lo hi k us n t = absurd n
 
-tiles_on : (s p : NodeState) (lo hi : ℕ) (x : Block) (k : Range) (us : List Block) → x.state ≡ s → Tiles p lo (x ∷ held_block k ∷ us) hi → Tiles p lo (freed_on s x k us) hi
+tiles_on : (s p : NodeState) (lo hi : ℕ) (x : Block) (k : Range) (us : List Block) → x.state ≡ s → Tiles p lo (x ∷ held_block k ∷ us) hi →
+    Tiles p lo (freed_on s x k us) hi
 tiles_on Allocated p lo hi x k us e t = (
   t.0,
   t.1,
@@ -159,7 +211,8 @@ tiles_on Free p lo hi x k us e t =
     subst (λ (v : ℕ). Tiles p v (with_free (record { start = x.key.start; end = k.end }) us) hi) t.0
     (from_held p x.key.start hi (record { start = x.key.start; end = k.end }) us (subst (NotBothFree p) e t.2) f)
 
-pub tiles_freed : (p : NodeState) (lo hi : ℕ) (m : List Block) (k : Range) (us : List Block) → 0 < length m → Tiles p lo (m ++ held_block k ∷ us) hi → Tiles p lo (freed_between m k us) hi
+pub tiles_freed : (p : NodeState) (lo hi : ℕ) (m : List Block) (k : Range) (us : List Block) → 0 < length m →
+    Tiles p lo (m ++ held_block k ∷ us) hi → Tiles p lo (freed_between m k us) hi
 tiles_freed p lo hi [] k us h t = absurd (omega arith)
 tiles_freed p lo hi (x ∷ []) k us h t = tiles_on x.state p lo hi x k us refl t
 tiles_freed p lo hi (x ∷ y ∷ m) k us h t = (t.0, t.1, t.2, tiles_freed x.state (x.key.end + 1) hi (y ∷ m) k us (omega arith) t.3)
@@ -171,12 +224,19 @@ cover_freed [] k us h =
       lo = h.lo;
       hi = h.hi;
       some = omega (arith, n.1);
-      tiles = subst (λ (v : ℕ). Tiles Allocated v (with_free k us) h.hi) h.tiles.0 (tiles_free h.hi k.start k.end us (omega (arith, h.tiles.0, h.tiles.1)) h.tiles.3);
+      tiles = subst (λ (v : ℕ). Tiles Allocated v (with_free k us) h.hi) h.tiles.0
+          (tiles_free h.hi k.start k.end us (omega (arith, h.tiles.0, h.tiles.1)) h.tiles.3);
       range = h.range;
     }
 cover_freed (x ∷ m) k us h =
     let n = length-freed (x ∷ m) k us in
-    record { lo = h.lo; hi = h.hi; some = omega (arith, n.1); tiles = tiles_freed Allocated h.lo h.hi (x ∷ m) k us (omega arith) h.tiles; range = h.range }
+    record {
+      lo = h.lo;
+      hi = h.hi;
+      some = omega (arith, n.1);
+      tiles = tiles_freed Allocated h.lo h.hi (x ∷ m) k us (omega arith) h.tiles;
+      range = h.range;
+    }
 
 length-joined : (s : NodeState) (k : Range) (b : Block) (us : List Block) → length (join_if s k b us) ≤ length us + 2
 length-joined Free k b us = omega arith
@@ -208,9 +268,11 @@ module _ (old new : List Block) (i : ℕ) (within : i < length old) (e : new ≡
       let z = length-drop (i + 1) old in
       omega (arith, ap length e)
 
-  pub freed_here : (b : Block) (k : Range) → b ≡ nth old i → b.key.start ≡ k.start → b.key.end ≡ k.end → b.state ≡ Allocated → Frees k old new
+  pub freed_here : (b : Block) (k : Range) → b ≡ nth old i → b.key.start ≡ k.start → b.key.end ≡ k.end → b.state ≡ Allocated →
+      Frees k old new
   freed_here b k q s z h =
-      let f : b ≡ held_block k = held_is b h ∙ ap (λ (v : ℕ). held_block (record { start = v; end = b.key.end })) s ∙ ap (λ (v : ℕ). held_block (record { start = k.start; end = v })) z in
+      let f : b ≡ held_block k = held_is b h ∙ ap (λ (v : ℕ). held_block (record { start = v; end = b.key.end })) s
+      ∙ ap (λ (v : ℕ). held_block (record { start = k.start; end = v })) z in
       let g : nth old i ≡ held_block k = sym q ∙ f in
       record {
         lower = take i old;
@@ -219,16 +281,19 @@ module _ (old new : List Block) (i : ℕ) (within : i < length old) (e : new ≡
         after = e ∙ ap (λ (x : Block). freed_between (take i old) x.key (drop (i + 1) old)) g;
       }
 
-  pub freed_gap : (key : Range) (m n : ℕ) → m ≡ length old → n ≡ length new → IsLeaf new → Raises key old new → JoinsGap (record { range = key; joined = m - n }) old new
+  pub freed_gap : (key : Range) (m n : ℕ) → m ≡ length old → n ≡ length new → IsLeaf new → Raises key old new →
+      JoinsGap (record { range = key; joined = m - n }) old new
   freed_gap key m n a z l r = let h = freed_fewer in record { leaf = l; loss = omega arith; raised = r }
 
-pub freed_index : (m : List Block) (b : Block) (us : List Block) (i : ℕ) → i ≡ length m → freed_at i (m ++ b ∷ us) ≡ freed_between m b.key us
+pub freed_index : (m : List Block) (b : Block) (us : List Block) (i : ℕ) → i ≡ length m →
+    freed_at i (m ++ b ∷ us) ≡ freed_between m b.key us
 freed_index m b us i e =
     let f : take i (m ++ b ∷ us) ≡ m = take_at m (b ∷ us) i (sym e) in
     let z : i - length m ≡ 0 = omega arith in
     let g : nth (m ++ b ∷ us) i ≡ b = get_or-append_right m (b ∷ us) (length m) i blank refl (omega arith) ∙ ap (nth (b ∷ us)) z in
     let n = length-append m (b ∷ []) in
-    let h : drop (i + 1) (m ++ b ∷ us) ≡ us = ap (λ (z : List Block). drop (i + 1) z) (sym (append_assoc m (b ∷ []) us)) ∙ drop_at (m ++ b ∷ []) us (i + 1) (omega arith) in
+    let h : drop (i + 1) (m ++ b ∷ us) ≡ us = ap (λ (z : List Block). drop (i + 1) z) (sym (append_assoc m (b ∷ []) us))
+    ∙ drop_at (m ++ b ∷ []) us (i + 1) (omega arith) in
     rw (f, g, h) refl
 
 -- The list with the block at an end extended to the end of the range k.
@@ -241,21 +306,26 @@ end_none : (end : End) (bs : List Block) → 0 < length bs → beyond end (take 
 end_none First bs some = refl
 end_none Last bs some = drop_all (length bs - 1 + 1) bs (omega arith)
 
-without_is : (end : End) (bs : List Block) → 0 < length bs → without_end end bs ≡ take (end_index end bs) bs ++ drop (end_index end bs + 1) bs
+without_is : (end : End) (bs : List Block) → 0 < length bs →
+    without_end end bs ≡ take (end_index end bs) bs ++ drop (end_index end bs + 1) bs
 without_is First bs some = refl
-without_is Last bs some = sym (append-nil (take (length bs - 1) bs)) ∙ ap (λ (z : List Block). take (length bs - 1) bs ++ z) (sym (end_none Last bs some))
+without_is Last bs some = sym (append-nil (take (length bs - 1) bs))
+    ∙ ap (λ (z : List Block). take (length bs - 1) bs ++ z) (sym (end_none Last bs some))
 
-extended_is : (end : End) (k : Range) (bs : List Block) → 0 < length bs → EndHeld end k bs → extended end k bs ≡ take (end_index end bs) bs ++ held_block k ∷ drop (end_index end bs + 1) bs
+extended_is : (end : End) (k : Range) (bs : List Block) → 0 < length bs → EndHeld end k bs →
+    extended end k bs ≡ take (end_index end bs) bs ++ held_block k ∷ drop (end_index end bs + 1) bs
 extended_is First k bs some h =
     ap (λ (v : ℕ). record { key = record { start = k.start; end = v }; state = (nth bs 0).state } ∷ drop 1 bs) h.inner
     ∙ ap (λ (s : NodeState). record { key = k; state = s } ∷ drop 1 bs) h.held
 extended_is Last k bs some h =
-    ap (λ (v : ℕ). take (length bs - 1) bs ++ record { key = record { start = v; end = k.end }; state = (nth bs (length bs - 1)).state } ∷ []) h.inner
+    ap (λ (v : ℕ). take (length bs - 1) bs ++ record { key = record { start = v; end = k.end }; state = (nth bs (length bs - 1)).state } ∷
+    []) h.inner
     ∙ ap (λ (s : NodeState). take (length bs - 1) bs ++ record { key = k; state = s } ∷ []) h.held
     ∙ ap (λ (z : List Block). take (length bs - 1) bs ++ held_block k ∷ z) (sym (end_none Last bs some))
 
 -- The block at an end of a leaf is extended, and freed.
-module _ (end : End) (k : Range) (old mid : List Block) (i : ℕ) (within : i < length old) (v : i ≡ end_index end old) (h : EndHeld end k old) (e : mid ≡ extended end k old) where
+module _ (end : End) (k : Range) (old mid : List Block) (i : ℕ) (within : i < length old) (v : i ≡ end_index end old)
+    (h : EndHeld end k old) (e : mid ≡ extended end k old) where
   abbrev lower : List Block
   lower = take (end_index end old) old
 
@@ -279,7 +349,8 @@ module _ (end : End) (k : Range) (old mid : List Block) (i : ℕ) (within : i < 
     none = end_none end old (omega arith);
     inner = h.inner;
     before = old_is;
-    after = o ∙ ap (freed_at i) mid_is ∙ freed_index lower (held_block k) upper i (omega (arith, length-take-le (end_index end old) old (omega arith)));
+    after = o ∙ ap (freed_at i) mid_is ∙ freed_index lower (held_block k) upper i
+        (omega (arith, length-take-le (end_index end old) old (omega arith)));
   }
 
   pub joins_end : (gap : Gap) (out : List Block) → JoinsGap gap mid out → JoinsGap gap old out
@@ -290,17 +361,24 @@ module _ (end : End) (k : Range) (old mid : List Block) (i : ℕ) (within : i < 
       let m = ap longest_gap old_is ∙ longest_append lower (held_block b.key ∷ upper) in
       let x = ap most_alignments mid_is ∙ alignments_append lower (held_block k ∷ upper) in
       let y = ap most_alignments old_is ∙ alignments_append lower (held_block b.key ∷ upper) in
-      record { leaf = j.leaf; loss = omega (arith, j.loss); raised = record { longest = omega (arith, j.raised.longest); alignments = omega (arith, j.raised.alignments) } }
+      record {
+        leaf = j.leaf;
+        loss = omega (arith, j.loss);
+        raised = record
+            { longest = omega (arith, j.raised.longest); alignments = omega (arith, j.raised.alignments) };
+      }
 
 -- The summary of a list without the block at an end.
-module _ (end : End) (old new : List Block) (i : ℕ) (k : Range) (within : i < length old) (v : i ≡ end_index end old) (q : k ≡ (nth old i).key) (e : new ≡ without_end end old) where
+module _ (end : End) (old new : List Block) (i : ℕ) (k : Range) (within : i < length old) (v : i ≡ end_index end old)
+    (q : k ≡ (nth old i).key) (e : new ≡ without_end end old) where
   old_cut : old ≡ take i old ++ nth old i ∷ drop (i + 1) old
   old_cut = cut_at old i within
 
   new_cut : new ≡ take i old ++ drop (i + 1) old
   new_cut = e ∙ without_is end old (omega arith) ∙ ap (λ (x : ℕ). take x old ++ drop (x + 1) old) (sym v)
 
-  pub longest_without : (longest : ℕ) → longest ≡ longest_gap old → (longest_gap new ≤ longest) × (longest ≤ max (longest_gap new) (address_count k))
+  pub longest_without : (longest : ℕ) → longest ≡ longest_gap old →
+      (longest_gap new ≤ longest) × (longest ≤ max (longest_gap new) (address_count k))
   longest_without longest f =
       let a = f ∙ ap longest_gap old_cut ∙ longest_append (take i old) (nth old i ∷ drop (i + 1) old) in
       let z = ap longest_gap new_cut ∙ longest_append (take i old) (drop (i + 1) old) in
@@ -308,7 +386,8 @@ module _ (end : End) (old new : List Block) (i : ℕ) (k : Range) (within : i < 
       let w = ap address_count q in
       (omega arith, omega arith)
 
-  pub most_without : (alignments : ℕ) → alignments ≡ most_alignments old → (most_alignments new ≤ alignments) × (alignments ≤ max (most_alignments new) (alignment_count k))
+  pub most_without : (alignments : ℕ) → alignments ≡ most_alignments old →
+      (most_alignments new ≤ alignments) × (alignments ≤ max (most_alignments new) (alignment_count k))
   most_without alignments f =
       let a = f ∙ ap most_alignments old_cut ∙ alignments_append (take i old) (nth old i ∷ drop (i + 1) old) in
       let z = ap most_alignments new_cut ∙ alignments_append (take i old) (drop (i + 1) old) in

@@ -12,7 +12,8 @@ use Rattle.vm_leaf.proofs.Tiles.{IsPart, tiles_part}
 use Rattle.vm_tree.specs.Frees.{Holds, EndHeld}
 use Rattle.vm_tree.specs.declared.end.End.TheVariants.{First, Last}
 
-order : (p : NodeState) (lo hi : ℕ) (bs : List Block) (i j : ℕ) → Tiles p lo bs hi → i < j → j < length bs → (nth bs i).key.end < (nth bs j).key.start
+order : (p : NodeState) (lo hi : ℕ) (bs : List Block) (i j : ℕ) → Tiles p lo bs hi → i < j → j < length bs →
+    (nth bs i).key.end < (nth bs j).key.start
 order p lo hi [] i j t l m = absurd (omega arith)
 order p lo hi (b ∷ bs) i zero t l m = absurd (omega arith)
 order p lo hi (b ∷ bs) zero (suc j) t l m = let q = tiles_part b.state (b.key.end + 1) hi bs j t.3 (omega arith) in omega (arith, q.from)
@@ -42,8 +43,10 @@ module _ (bs : List Block) (i : ℕ) (k : Range) (lo hi : ℕ) (t : Tiles Alloca
 pub not_held : (b : Block) (k : Range) → b.state ≡ Free → b ≡ held_block k → ⊥
 not_held b k n e = let h = ap (λ (x : Block). x.state) e in absurd (cc)
 
-pub held_at : (bs : List Block) (i : ℕ) (k : Range) (x : ℕ) → IsLeaf bs → i < length bs → (nth bs i).key.start ≤ x → x ≤ (nth bs i).key.end → x ≡ k.start → Holds k bs → nth bs i ≡ held_block k
-held_at bs i k x h l a b e f = let s = holds_some bs i k h.lo h.hi h.tiles l f in holds_at bs i k h.lo h.hi h.tiles l f (omega arith) (omega arith)
+pub held_at : (bs : List Block) (i : ℕ) (k : Range) (x : ℕ) → IsLeaf bs → i < length bs → (nth bs i).key.start ≤ x →
+    x ≤ (nth bs i).key.end → x ≡ k.start → Holds k bs → nth bs i ≡ held_block k
+held_at bs i k x h l a b e f = let s = holds_some bs i k h.lo h.hi h.tiles l f in holds_at bs i k h.lo h.hi h.tiles l f (omega arith)
+    (omega arith)
 
 module _ (l r : List Block) (k : Range) (c : IsRun (l ++ r)) (n : 0 < length l) (m : 0 < length r) where
   long : length (l ++ r) ≡ length l + length r
@@ -53,7 +56,8 @@ module _ (l r : List Block) (k : Range) (c : IsRun (l ++ r)) (n : 0 < length l) 
   part i h = tiles_part Allocated c.lo c.hi (l ++ r) i c.tiles h
 
   at_edge : nth (l ++ r) (length l) ≡ nth r 0
-  at_edge = let z : length l - length l ≡ 0 = omega arith in get_or-append_right l r (length l) (length l) blank refl (omega arith) ∙ ap (nth r) z
+  at_edge = let z : length l - length l ≡ 0 = omega arith in get_or-append_right l r (length l) (length l) blank refl (omega arith)
+      ∙ ap (nth r) z
 
   before_edge : nth (l ++ r) (length l - 1) ≡ nth l (length l - 1)
   before_edge = get_or_append_left l r blank (length l - 1) (omega arith)
@@ -64,7 +68,12 @@ module _ (l r : List Block) (k : Range) (c : IsRun (l ++ r)) (n : 0 < length l) 
   in_right : (f : Holds k (l ++ r)) → length l ≤ f.index → Holds k r
   in_right f h =
       let z = long in
-      record { index = f.index - length l; within = omega (arith, f.within); found = sym (get_or-append_right l r (length l) f.index blank refl h) ∙ f.found }
+      record {
+        index = f.index - length l;
+        within = omega (arith, f.within);
+        found = sym
+            (get_or-append_right l r (length l) f.index blank refl h) ∙ f.found;
+      }
 
   pub held_left : k.start < start_of r → Holds k (l ++ r) → Holds k l
   held_left h f =
@@ -77,7 +86,8 @@ module _ (l r : List Block) (k : Range) (c : IsRun (l ++ r)) (n : 0 < length l) 
             let o = part (length l) (omega arith) in
             elim (cases_lt (length l) f.index) [
               | inl j ↦ (let u = order Allocated c.lo c.hi (l ++ r) (length l) f.index c.tiles j f.within in absurd (omega (arith, o.some)))
-              | inr j ↦ (let q : f.index ≡ length l = omega arith in let w = ap (λ (x : ℕ). (nth (l ++ r) x).key.start) q in absurd (omega arith))
+              | inr j ↦ (let q : f.index ≡ length l = omega arith in let w = ap (λ (x : ℕ). (nth (l ++ r) x).key.start) q in absurd
+                  (omega arith))
             ]
             )
       ]
@@ -106,7 +116,8 @@ module _ (l r : List Block) (k : Range) (c : IsRun (l ++ r)) (n : 0 < length l) 
       let y : length l - 1 + 1 ≡ length l = omega arith in
       let next : (nth (l ++ r) (length l)).key.start ≡ (nth (l ++ r) (length l - 1)).key.end + 1 = rw y at (o.next (omega arith)) in
       let s = holds_some (l ++ r) (length l - 1) k c.lo c.hi c.tiles (omega arith) f in
-      let w : nth l (length l - 1) ≡ held_block k = sym before_edge ∙ holds_at (l ++ r) (length l - 1) k c.lo c.hi c.tiles (omega arith) f (omega (arith, o.some)) (omega arith) in
+      let w : nth l (length l - 1) ≡ held_block k = sym before_edge
+      ∙ holds_at (l ++ r) (length l - 1) k c.lo c.hi c.tiles (omega arith) f (omega (arith, o.some)) (omega arith) in
       record { held = ap (λ (x : Block). x.state) w; inner = ap (λ (x : Block). x.key.start) w }
 
   pub held_above : k.start ≡ start_of r → Holds k (l ++ r) → EndHeld First k r
@@ -115,5 +126,6 @@ module _ (l r : List Block) (k : Range) (c : IsRun (l ++ r)) (n : 0 < length l) 
       let e = ap (λ (x : Block). x.key.start) at_edge in
       let o = part (length l) (omega arith) in
       let s = holds_some (l ++ r) (length l) k c.lo c.hi c.tiles (omega arith) f in
-      let w : nth r 0 ≡ held_block k = sym at_edge ∙ holds_at (l ++ r) (length l) k c.lo c.hi c.tiles (omega arith) f (omega arith) (omega (arith, o.some)) in
+      let w : nth r 0 ≡ held_block k = sym at_edge
+      ∙ holds_at (l ++ r) (length l) k c.lo c.hi c.tiles (omega arith) f (omega arith) (omega (arith, o.some)) in
       record { held = ap (λ (x : Block). x.state) w; inner = ap (λ (x : Block). x.key.end) w }

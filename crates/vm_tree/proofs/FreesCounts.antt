@@ -53,12 +53,18 @@ free_before k l r d e = rw (ne_eqb _ _ d, eq-eqb _ _ e) refl
 pub free_left : (k : Range) (l r : Shape) → k.start < start_of (blocks r) → k.end + 1 ≢ start_of (blocks r)
     → nodes_to_free k (Fork l r) ≡ nodes_to_free k l + 1
 unfolding nodes_to_free
-free_left k l r h d = rw (ne_eqb k.start (start_of (blocks r)) (λ z. omega arith), ne_eqb _ _ d, lt-ltb k.start (start_of (blocks r)) h) refl
+free_left k l r h d = rw (ne_eqb k.start (start_of (blocks r)) (λ z. omega arith), ne_eqb _ _ d, lt-ltb k.start (start_of (blocks r)) h)
+    refl
 
 pub free_right : (k : Range) (l r : Shape) → start_of (blocks r) < k.start → k.end + 1 ≢ start_of (blocks r)
     → nodes_to_free k (Fork l r) ≡ nodes_to_free k r + 1
 unfolding nodes_to_free
-free_right k l r h d = rw (ne_eqb k.start (start_of (blocks r)) (λ z. omega arith), ne_eqb _ _ d, le-ltb k.start (start_of (blocks r)) (omega arith)) refl
+free_right k l r h d = rw (
+  ne_eqb k.start (start_of (blocks r)) (λ z. omega arith),
+  ne_eqb _ _ d,
+  le-ltb k.start (start_of (blocks r))
+      (omega arith),
+) refl
 
 -- A call of a child with the count n is part of that of its node.
 pub counted_above : (found : Option Freed) (n old x y : ℕ) → y ≡ x + 1 → OnSome found (n ≡ old + x) → OnSome found (n + 1 ≡ old + y)
@@ -113,7 +119,8 @@ free_path k (Fork l r) h f =
         | inl e ↦ (
             let a = address_left k.start l r (omega arith) in
             let b = free_before k l r apart e in
-            let c = last_path k.start l (can_l l r h) (sym (held_below (blocks l) (blocks r) k h.run (omega arith) (omega arith) e f).inner) in
+            let c = last_path k.start l (can_l l r h)
+            (sym (held_below (blocks l) (blocks r) k h.run (omega arith) (omega arith) e f).inner) in
             let d = near_nodes First l r in
             omega arith
             )

@@ -1,5 +1,29 @@
 -- A freed block at the edge between two trees, or inside one of them.
-use Rattle.std.proofs.Common.{◌≡◌, ◌≢◌, ℕ, ◌+◌, ◌-◌, ◌<◌, ◌≤◌, min, max, List, [], ◌∷◌, ◌++◌, length, take, drop, refl, ap, ◌∙◌, sym, subst, arith, append_assoc}
+use Rattle.std.proofs.Common.{
+  ◌≡◌,
+  ◌≢◌,
+  ℕ,
+  ◌+◌,
+  ◌-◌,
+  ◌<◌,
+  ◌≤◌,
+  min,
+  max,
+  List,
+  [],
+  ◌∷◌,
+  ◌++◌,
+  length,
+  take,
+  drop,
+  refl,
+  ap,
+  ◌∙◌,
+  sym,
+  subst,
+  arith,
+  append_assoc,
+}
 use Rattle.vm_ranges.specs.Range.{Range, IsRange, MAX}
 use Rattle.vm_ranges.specs.declared.state.NodeState.TheVariants.{Free, Allocated}
 use Rattle.vm_leaf.specs.declared.block.Block.{Block}
@@ -8,7 +32,21 @@ use Rattle.vm_leaf.specs.Blocks.{nth, start_of, end_of, freed_between, with_free
 use Rattle.vm_leaf.proofs.Tiles.{tiles_part}
 use Rattle.std.specs.Prelude.{MatchOption, Option, Some, None}
 use Rattle.vm_tree.specs.Ends.{opposite}
-use Rattle.vm_tree.specs.Frees.{Frees, FreesEnd, Holds, EndHeld, CanExtend, FreesBeside, TouchesEdge, inner, between, block_at_end, without_end, fork_at, node_at}
+use Rattle.vm_tree.specs.Frees.{
+  Frees,
+  FreesEnd,
+  Holds,
+  EndHeld,
+  CanExtend,
+  FreesBeside,
+  TouchesEdge,
+  inner,
+  between,
+  block_at_end,
+  without_end,
+  fork_at,
+  node_at,
+}
 use Rattle.vm_tree.specs.declared.free.Freed.{Freed}
 use Rattle.vm_tree.specs.declared.end.End.{End}
 use Rattle.vm_tree.specs.declared.end.End.TheVariants.{First, Last}
@@ -22,11 +60,22 @@ use Rattle.vm_tree.specs.declared.change.Change.TheVariants.{Structure}
 use Rattle.vm_tree.proofs.Lists.{start_append, end_append, end_left, cut_last, cut_at}
 use Rattle.vm_tree.proofs.Trees.{high}
 use Rattle.vm_tree.proofs.Updates.{loosens_left, loosens_right, loosens_both}
-use Rattle.vm_tree.proofs.Frees.{freed_after, freed_before, freed_held_after, freed_gap_after, freed_held_before, freed_gap_before, cover_freed, start_free, start_freed}
+use Rattle.vm_tree.proofs.Frees.{
+  freed_after,
+  freed_before,
+  freed_held_after,
+  freed_gap_after,
+  freed_held_before,
+  freed_gap_before,
+  cover_freed,
+  start_free,
+  start_freed,
+}
 use Rattle.vm_tree.proofs.FreesTrees.{cover_start, cover_end, cover_order, end_length, freed_length, can_l, can_r, many_l, many_r, edge_is, child_can, FreesIn}
 
 cover_range : (bs : List Block) → IsRun bs → IsRange (start_of bs) (end_of bs)
-cover_range bs h = let a = cover_start bs h in let b = cover_end bs h in (omega (arith, h.range.0), omega (arith, h.range.1), λ y. omega (arith, h.range.2))
+cover_range bs h = let a = cover_start bs h in let b = cover_end bs h in
+    (omega (arith, h.range.0), omega (arith, h.range.1), λ y. omega (arith, h.range.2))
 
 next_start : (bs : List Block) → IsRun bs → 1 < length bs → start_of (drop 1 bs) ≡ (nth bs 0).key.end + 1
 next_start [] h n = absurd (omega arith)
@@ -40,8 +89,10 @@ next_fits bs h n =
     let e = p.next n in
     (omega (arith, h.range.1, q.some, q.upto), p.some)
 
-last_fits : (bs : List Block) → IsRun bs → 1 < length bs → (0 < (nth bs (length bs - 1)).key.start) × ((nth bs (length bs - 1)).key.start ≤ end_of bs)
-last_fits bs h n = let p = tiles_part Allocated h.lo h.hi bs (length bs - 1) h.tiles (omega arith) in (omega (arith, p.above (omega arith)), p.some)
+last_fits : (bs : List Block) → IsRun bs → 1 < length bs →
+    (0 < (nth bs (length bs - 1)).key.start) × ((nth bs (length bs - 1)).key.start ≤ end_of bs)
+last_fits bs h n = let p = tiles_part Allocated h.lo h.hi bs (length bs - 1) h.tiles (omega arith) in
+    (omega (arith, p.above (omega arith)), p.some)
 
 frees_cover : (k : Range) (xs ys : List Block) → Frees k xs ys → IsRun xs → IsRun ys
 frees_cover k xs ys f h = subst IsRun (sym f.after) (cover_freed f.lower k f.upper (subst IsRun f.before h))
@@ -55,7 +106,8 @@ lower_some r k [] us e u = absurd (u (ap start_of e))
 lower_some r k (b ∷ m) us e u = omega arith
 
 -- A block inside the left part, or inside the right part.
-inside_left : (l r a : List Block) (k : Range) → IsRun (l ++ r) → 0 < length l → 0 < length r → k.end + 1 ≢ start_of r → Frees k l a → Frees k (l ++ r) (a ++ r)
+inside_left : (l r a : List Block) (k : Range) → IsRun (l ++ r) → 0 < length l → 0 < length r → k.end + 1 ≢ start_of r → Frees k l a →
+    Frees k (l ++ r) (a ++ r)
 inside_left l r a k c n m u f =
     let d = end_left l r c n m in
     let o = freed_before k k f.lower f.upper l a f.before f.after r (upper_some l k f.lower f.upper f.before (λ z. u (omega arith))) in
@@ -82,20 +134,32 @@ same_inner Last k g = refl
 
 -- Only the child c of a node changed.
 pub under_child : (end : End) (k : Range) (c x d : Shape) → CanChange (fork_at end c x) → (o : Option Freed)
-    → MatchOption o ((d ≡ c) × ¬ Holds k (blocks (fork_at end c x))) (λ (g : Freed). Frees k (blocks (fork_at end c x)) (blocks (fork_at end d x)) × (g.joined ≤ 2) × Reduces g.change g.joined c d)
+    → MatchOption o ((d ≡ c) × ¬ Holds k (blocks (fork_at end c x)))
+    (λ (g : Freed). Frees k (blocks (fork_at end c x)) (blocks (fork_at end d x)) × (g.joined ≤ 2) × Reduces g.change g.joined c d)
     → FreesBeside end k c x d x o
 under_child First k c x d h None s = (s.0, refl, s.1)
 under_child Last k c x d h None s = (refl, s.0, s.1)
-under_child First k c x d h (Some g) s = (s.0, loosens_left g.change g.joined c x d h.tree s.1 s.2 (frees_cover k (blocks c ++ blocks x) (blocks d ++ blocks x) s.0 h.run))
-under_child Last k c x d h (Some g) s = (s.0, loosens_right g.change g.joined x c d h.tree s.1 s.2 (frees_cover k (blocks x ++ blocks c) (blocks x ++ blocks d) s.0 h.run))
+under_child First k c x d h (Some g) s =
+    (s.0, loosens_left g.change g.joined c x d h.tree s.1 s.2 (frees_cover k (blocks c ++ blocks x) (blocks d ++ blocks x) s.0 h.run))
+under_child Last k c x d h (Some g) s =
+    (s.0, loosens_right g.change g.joined x c d h.tree s.1 s.2 (frees_cover k (blocks x ++ blocks c) (blocks x ++ blocks d) s.0 h.run))
 
 -- Both children changed.
-both_loosened : (end : End) (k : Range) (a b : Change) (n : ℕ) (c x d y : Shape) → CanChange (fork_at end c x) → n ≤ 1 → Reduces a n c d → Reduces b 1 x y
-    → Frees k (blocks (fork_at end c x)) (blocks (fork_at end d y)) → FreesBeside end k c x d y (Some (record { change = Structure; joined = n + 1 }))
-both_loosened First k a b n c x d y h few s t o = (o, loosens_both a b n 1 c x d y h.tree (omega arith) (omega arith) (omega arith) s t (frees_cover k (blocks c ++ blocks x) (blocks d ++ blocks y) o h.run))
+both_loosened : (end : End) (k : Range) (a b : Change) (n : ℕ) (c x d y : Shape) → CanChange (fork_at end c x) → n ≤ 1 → Reduces a n c d →
+    Reduces b 1 x y
+    → Frees k (blocks (fork_at end c x)) (blocks (fork_at end d y)) →
+    FreesBeside end k c x d y (Some (record { change = Structure; joined = n + 1 }))
+both_loosened First k a b n c x d y h few s t o = (
+  o,
+  loosens_both a b n 1 c x d y h.tree (omega arith) (omega arith) (omega arith) s t
+      (frees_cover k (blocks c ++ blocks x) (blocks d ++ blocks y) o h.run),
+)
 both_loosened Last k a b n c x d y h few s t o =
-    let f : 1 + n ≡ n + 1 = omega arith in
-    (o, rw f at (loosens_both b a 1 n x c y d h.tree (omega arith) (omega arith) (omega arith) t s (frees_cover k (blocks x ++ blocks c) (blocks y ++ blocks d) o h.run)))
+    let f : 1 + n ≡ n + 1 = omega arith in (
+      o,
+      rw f at (loosens_both b a 1 n x c y d h.tree (omega arith) (omega arith) (omega arith) t s
+          (frees_cover k (blocks x ++ blocks c) (blocks y ++ blocks d) o h.run)),
+    )
 
 -- The child c at an end of a node, and the other child x. The range k in c touches the edge between them.
 pub far_can : (end : End) (c x : Shape) → CanChange (fork_at end c x) → CanChange x
@@ -106,7 +170,8 @@ pub far_many : (end : End) (c x : Shape) → CanChange (fork_at end c x) → 1 <
 far_many First c x h = many_r c x h
 far_many Last c x h = many_l x c h
 
-pub near_extends : (end : End) (k : Range) (c x : Shape) → CanChange (fork_at end c x) → TouchesEdge end k (edge_of end c x) → CanExtend (opposite end) k (blocks c)
+pub near_extends : (end : End) (k : Range) (c x : Shape) → CanChange (fork_at end c x) → TouchesEdge end k (edge_of end c x) →
+    CanExtend (opposite end) k (blocks c)
 near_extends First k c x h e =
     let d = edge_is c x h in
     let g = cover_range (blocks c) (can_l c x h).run in
@@ -115,7 +180,8 @@ near_extends Last k c x h e =
     let g = cover_range (blocks c) (can_r x c h).run in
     (omega arith, (omega (arith, g.0), omega (arith, g.1), λ y. omega (arith, g.2)))
 
-pub gap_extends : (end : End) (k : Range) (c x : Shape) → CanChange (fork_at end c x) → CanExtend (opposite end) (with_gap end k (block_at_end end (blocks x)).key) (blocks c)
+pub gap_extends : (end : End) (k : Range) (c x : Shape) → CanChange (fork_at end c x) →
+    CanExtend (opposite end) (with_gap end k (block_at_end end (blocks x)).key) (blocks c)
 gap_extends First k c x h =
     let d = edge_is c x h in
     let g = next_fits (blocks x) (can_r c x h).run (many_r c x h) in
@@ -133,7 +199,8 @@ edge_past First z = z.end + 1
 edge_past Last z = z.start
 
 hull_is : (end : End) (k : Range) (c x : Shape) → CanChange (fork_at end c x) → TouchesEdge end k (edge_of end c x) → k.start ≤ k.end
-    → between (min k.start (block_at_end end (blocks x)).key.start) (max k.end (block_at_end end (blocks x)).key.end) ≡ with_gap end k (block_at_end end (blocks x)).key
+    → between (min k.start (block_at_end end (blocks x)).key.start) (max k.end (block_at_end end (blocks x)).key.end)
+    ≡ with_gap end k (block_at_end end (blocks x)).key
 hull_is First k c x h e o =
     let g = next_fits (blocks x) (can_r c x h).run (many_r c x h) in
     let s : min k.start (nth (blocks x) 0).key.start ≡ k.start = omega arith in
@@ -142,11 +209,13 @@ hull_is First k c x h e o =
 hull_is Last k c x h e o =
     let d = edge_is x c h in
     let g = last_fits (blocks x) (can_l x c h).run (many_l x c h) in
-    let s : min k.start (nth (blocks x) (length (blocks x) - 1)).key.start ≡ (nth (blocks x) (length (blocks x) - 1)).key.start = omega (arith, g.1) in
+    let s : min k.start (nth (blocks x) (length (blocks x) - 1)).key.start
+    ≡ (nth (blocks x) (length (blocks x) - 1)).key.start = omega (arith, g.1) in
     let z : max k.end (nth (blocks x) (length (blocks x) - 1)).key.end ≡ k.end = omega arith in
     rw (s, z) refl
 
-held_beside : (end : End) (k : Range) (c x : Shape) → CanChange (fork_at end c x) → TouchesEdge end k (edge_of end c x) → Holds k (blocks (fork_at end c x)) → EndHeld (opposite end) k (blocks c)
+held_beside : (end : End) (k : Range) (c x : Shape) → CanChange (fork_at end c x) → TouchesEdge end k (edge_of end c x) →
+    Holds k (blocks (fork_at end c x)) → EndHeld (opposite end) k (blocks c)
 held_beside First k c x h e f = held_below (blocks c) (blocks x) k h.run (omega (arith, many_l c x h)) (omega (arith, many_r c x h)) e f
 held_beside Last k c x h e f = held_above (blocks x) (blocks c) k h.run (omega (arith, many_l x c h)) (omega (arith, many_r x c h)) e f
 
@@ -157,19 +226,25 @@ Seals Last k z x y = (us : List Block) → y ++ with_free z us ≡ freed_between
 
 seals_held : (end : End) (k : Range) (x : List Block) → 0 < length x → (block_at_end end x).state ≡ Allocated → Seals end k k x x
 seals_held First k x n st = λ m.
-    ap (λ (u : List Block). freed_between m k [] ++ u) (cut_at x 0 n) ∙ freed_held_after m (nth x 0) (drop 1 x) k st ∙ ap (freed_between m k) (sym (cut_at x 0 n))
+    ap (λ (u : List Block). freed_between m k [] ++ u) (cut_at x 0 n) ∙ freed_held_after m (nth x 0) (drop 1 x) k st
+    ∙ ap (freed_between m k) (sym (cut_at x 0 n))
 seals_held Last k x n st = λ us.
-    ap (λ (u : List Block). u ++ with_free k us) (cut_last x n) ∙ freed_held_before (take (length x - 1) x) (nth x (length x - 1)) us k st ∙ ap (λ (u : List Block). freed_between u k us) (sym (cut_last x n))
+    ap (λ (u : List Block). u ++ with_free k us) (cut_last x n) ∙ freed_held_before (take (length x - 1) x) (nth x (length x - 1)) us k st
+    ∙ ap (λ (u : List Block). freed_between u k us) (sym (cut_last x n))
 
-seals_gap : (end : End) (k : Range) (x : List Block) → 0 < length x → (block_at_end end x).state ≡ Free → Seals end k (with_gap end k (block_at_end end x).key) x (without_end end x)
+seals_gap : (end : End) (k : Range) (x : List Block) → 0 < length x → (block_at_end end x).state ≡ Free →
+    Seals end k (with_gap end k (block_at_end end x).key) x (without_end end x)
 seals_gap First k x n st = λ m. freed_gap_after m (nth x 0) (drop 1 x) k.start k.end st ∙ ap (freed_between m k) (sym (cut_at x 0 n))
-seals_gap Last k x n st = λ us. freed_gap_before (take (length x - 1) x) (nth x (length x - 1)) us k st ∙ ap (λ (u : List Block). freed_between u k us) (sym (cut_last x n))
+seals_gap Last k x n st = λ us. freed_gap_before (take (length x - 1) x) (nth x (length x - 1)) us k st
+    ∙ ap (λ (u : List Block). freed_between u k us) (sym (cut_last x n))
 
 same_range : (k z : Range) → z.start ≡ k.start → z.end ≡ k.end → z ≡ k
 same_range k z s e = ap (λ (v : ℕ). record { start = v; end = z.end }) s ∙ ap (λ (v : ℕ). record { start = k.start; end = v }) e
 
-frees_beside : (end : End) (k z : Range) (c x d y : Shape) → CanChange (fork_at end c x) → TouchesEdge end k (edge_of end c x) → inner (opposite end) z ≡ inner (opposite end) k
-    → FreesEnd (opposite end) z (blocks c) (blocks d) → Seals end k z (blocks x) (blocks y) → Frees k (blocks (fork_at end c x)) (blocks (fork_at end d y))
+frees_beside : (end : End) (k z : Range) (c x d y : Shape) → CanChange (fork_at end c x) → TouchesEdge end k (edge_of end c x) →
+    inner (opposite end) z ≡ inner (opposite end) k
+    → FreesEnd (opposite end) z (blocks c) (blocks d) → Seals end k z (blocks x) (blocks y) →
+    Frees k (blocks (fork_at end c x)) (blocks (fork_at end d y))
 frees_beside First k z c x d y h e i f p =
     let b : blocks c ≡ f.lower ++ held_block f.was ∷ [] = f.before ∙ ap (λ (u : List Block). f.lower ++ held_block f.was ∷ u) f.none in
     let o : end_of (blocks c) ≡ f.was.end = ap end_of b ∙ end_append f.lower (held_block f.was ∷ []) (omega arith) in
@@ -178,7 +253,8 @@ frees_beside First k z c x d y h e i f p =
     record {
       lower = f.lower;
       upper = blocks x;
-      before = ap (λ (u : List Block). u ++ blocks x) b ∙ append_assoc f.lower (held_block f.was ∷ []) (blocks x) ∙ ap (λ (v : Range). f.lower ++ held_block v ∷ blocks x) was;
+      before = ap (λ (u : List Block). u ++ blocks x) b ∙ append_assoc f.lower (held_block f.was ∷ []) (blocks x)
+          ∙ ap (λ (v : Range). f.lower ++ held_block v ∷ blocks x) was;
       after = ap (λ (u : List Block). u ++ blocks y) (f.after ∙ ap (freed_between f.lower z) f.none) ∙ p f.lower;
     }
 frees_beside Last k z c x d y h e i f p =
@@ -191,14 +267,17 @@ frees_beside Last k z c x d y h e i f p =
       after = ap (λ (u : List Block). blocks y ++ u) (f.after ∙ ap (λ (u : List Block). freed_between u z f.upper) f.none) ∙ p f.upper;
     }
 
-pub beside_edge : (end : End) (k : Range) (at : ℕ) (near far : Link) → IsNode (node_at end at near far) → TouchesEdge end k at → TouchesEdge end k (edge_of end (side near) (side far))
+pub beside_edge : (end : End) (k : Range) (at : ℕ) (near far : Link) → IsNode (node_at end at near far) → TouchesEdge end k at →
+    TouchesEdge end k (edge_of end (side near) (side far))
 beside_edge First k at near far n e = e ∙ n.at
 beside_edge Last k at near far n e = e ∙ n.at
 
 -- The block beside the edge is held: only the child c changes.
-pub beside_held : (end : End) (k : Range) (c x d : Shape) → CanChange (fork_at end c x) → TouchesEdge end k (edge_of end c x) → (block_at_end end (blocks x)).state ≡ Allocated
+pub beside_held : (end : End) (k : Range) (c x d : Shape) → CanChange (fork_at end c x) → TouchesEdge end k (edge_of end c x) →
+    (block_at_end end (blocks x)).state ≡ Allocated
     → (o : Option Freed) → FreesIn (opposite end) k c d o → FreesBeside end k c x d x o
-beside_held end k c x d h e st None s = under_child end k c x d h None (s.0, λ (y : Holds k (blocks (fork_at end c x))). s.1 (held_beside end k c x h e y))
+beside_held end k c x d h e st None s = under_child end k c x d h None
+    (s.0, λ (y : Holds k (blocks (fork_at end c x))). s.1 (held_beside end k c x h e y))
 beside_held end k c x d h e st (Some g) s =
     let o = frees_beside end k k c x d x h e refl s.0 (seals_held end k (blocks x) (omega (arith, far_many end c x h)) st) in
     let m = end_length (opposite end) k (blocks c) (blocks d) s.0 in
@@ -210,23 +289,31 @@ pub record Beside (end : End) (k z : Range) (c x : Shape) : Type 0 where
   pub edge : TouchesEdge end k (edge_of end c x)
   pub gap : z ≡ with_gap end k (block_at_end end (blocks x)).key
 
-pub gap_beside : (end : End) (k : Range) (near far : Link) (b : Block) (s l : ℕ) → CanChange (fork_at end (side near) (side far)) → TouchesEdge end k (edge_of end (side near) (side far)) → k.start ≤ k.end
-    → b ≡ block_at_end end (blocks (side far)) → s ≡ min k.start b.key.start → l ≡ max k.end b.key.end → Beside end k (between s l) (side near) (side far)
+pub gap_beside : (end : End) (k : Range) (near far : Link) (b : Block) (s l : ℕ) → CanChange (fork_at end (side near) (side far)) →
+    TouchesEdge end k (edge_of end (side near) (side far)) → k.start ≤ k.end
+    → b ≡ block_at_end end (blocks (side far)) → s ≡ min k.start b.key.start → l ≡ max k.end b.key.end →
+    Beside end k (between s l) (side near) (side far)
 gap_beside end k near far b s l h e o q i j = record { can = h; edge = e; gap = rw (i, j, q) (hull_is end k (side near) (side far) h e o) }
 
 gap_fits : (end : End) (k z : Range) (c x : Shape) → Beside end k z c x → end ≡ First → z.end + 1 ≤ MAX
-gap_fits First k z c x q e = let f = ap (λ (v : Range). v.end) q.gap in let g = next_fits (blocks x) (can_r c x q.can).run (many_r c x q.can) in omega (arith, g.0)
+gap_fits First k z c x q e = let f = ap (λ (v : Range). v.end) q.gap in let g = next_fits (blocks x) (can_r c x q.can).run
+    (many_r c x q.can) in omega (arith, g.0)
 gap_fits Last k z c x q e = absurd (cc)
 
-gap_node : (end : End) (k z : Range) (c x : Shape) → Beside end k z c x → (near far : Link) (at : ℕ) → FreesEnd (opposite end) z (blocks c) (blocks (side near)) → blocks (side far) ≡ without_end end (blocks x)
+gap_node : (end : End) (k z : Range) (c x : Shape) → Beside end k z c x → (near far : Link) (at : ℕ) →
+    FreesEnd (opposite end) z (blocks c) (blocks (side near)) → blocks (side far) ≡ without_end end (blocks x)
     → IsSummed near → IsSummed far → at ≡ edge_past end z → IsNode (node_at end at near far)
 gap_node First k z c x q near far at f w s t a =
     record {
-      at = a ∙ ap (λ (v : Range). v.end + 1) q.gap ∙ sym (next_start (blocks x) (can_r c x q.can).run (many_r c x q.can)) ∙ ap start_of (sym w);
+      at = a ∙ ap (λ (v : Range). v.end + 1) q.gap ∙ sym (next_start (blocks x) (can_r c x q.can).run (many_r c x q.can))
+          ∙ ap start_of (sym w);
       summed = record { left = s; right = t };
     }
 gap_node Last k z c x q near far at f w s t a =
-    record { at = a ∙ sym (ap start_of (f.after ∙ ap (λ (u : List Block). freed_between u z f.upper) f.none) ∙ start_free z f.upper); summed = record { left = t; right = s } }
+    record {
+      at = a ∙ sym (ap start_of (f.after ∙ ap (λ (u : List Block). freed_between u z f.upper) f.none) ∙ start_free z f.upper);
+      summed = record { left = t; right = s };
+    }
 
 -- The gap is dropped, and c is freed together with it.
 module _ {end : End} {k z : Range} {c x : Shape} (q : Beside end k z c x) where
@@ -241,17 +328,23 @@ module _ {end : End} {k z : Range} {c x : Shape} (q : Beside end k z c x) where
 
   pub beside_none : (d : Shape) → (d ≡ c) × ¬ EndHeld (opposite end) z (blocks c) → FreesBeside end k c x d x None
   beside_none d s =
-      under_child end k c x d q.can None
-      (s.0, λ (y : Holds k (blocks (fork_at end c x))). (let f = held_beside end k c x q.can q.edge y in s.1 (record { held = f.held; inner = f.inner ∙ sym inner_is })))
+      under_child end k c x d q.can None (
+        s.0,
+        λ (y : Holds k (blocks (fork_at end c x))).
+            (let f = held_beside end k c x q.can q.edge y in s.1 (record { held = f.held; inner = f.inner ∙ sym inner_is })),
+      )
 
-  module _ (near far : Link) (g : Freed) (f : FreesEnd (opposite end) z (blocks c) (blocks (side near)) × Reduces g.change g.joined c (side near)) where
+  module _ (near far : Link) (g : Freed)
+      (f : FreesEnd (opposite end) z (blocks c) (blocks (side near)) × Reduces g.change g.joined c (side near)) where
     pub beside_few : g.joined ≤ 1
     beside_few = omega (arith, end_length (opposite end) z (blocks c) (blocks (side near)) f.0, f.1.loss)
 
-    pub beside_node : (at : ℕ) → blocks (side far) ≡ without_end end (blocks x) → IsSummed near → IsSummed far → at ≡ edge_past end z → IsNode (node_at end at near far)
+    pub beside_node : (at : ℕ) → blocks (side far) ≡ without_end end (blocks x) → IsSummed near → IsSummed far → at ≡ edge_past end z →
+        IsNode (node_at end at near far)
     beside_node at w s t a = gap_node end k z c x q near far at f.0 w s t a
 
-    pub beside_gap : (ch : Change) → (block_at_end end (blocks x)).state ≡ Free → blocks (side far) ≡ without_end end (blocks x) → Reduces ch 1 x (side far)
+    pub beside_gap : (ch : Change) → (block_at_end end (blocks x)).state ≡ Free → blocks (side far) ≡ without_end end (blocks x) →
+        Reduces ch 1 x (side far)
         → FreesBeside end k c x (side near) (side far) (Some (record { change = Structure; joined = g.joined + 1 }))
     beside_gap ch st w t =
         let p = seals_gap end k (blocks x) (omega (arith, far_many end c x q.can)) st in
@@ -263,29 +356,38 @@ abbrev pub IsInside : End → Range → ℕ → Type 0
 IsInside First k at = (k.start < at) × (k.end + 1 ≢ at)
 IsInside Last k at = at < k.start
 
-inside_held : (end : End) (k : Range) (c x : Shape) → CanChange (fork_at end c x) → IsInside end k (edge_of end c x) → Holds k (blocks (fork_at end c x)) → Holds k (blocks c)
+inside_held : (end : End) (k : Range) (c x : Shape) → CanChange (fork_at end c x) → IsInside end k (edge_of end c x) →
+    Holds k (blocks (fork_at end c x)) → Holds k (blocks c)
 inside_held First k c x h i f = held_left (blocks c) (blocks x) k h.run (omega (arith, many_l c x h)) (omega (arith, many_r c x h)) i.0 f
-inside_held Last k c x h i f = held_right (blocks x) (blocks c) k h.run (omega (arith, many_l x c h)) (omega (arith, many_r x c h)) (omega arith) f
+inside_held Last k c x h i f = held_right (blocks x) (blocks c) k h.run (omega (arith, many_l x c h)) (omega (arith, many_r x c h))
+    (omega arith) f
 
-inside_frees : (end : End) (k : Range) (c x d : Shape) → CanChange (fork_at end c x) → IsInside end k (edge_of end c x) → Frees k (blocks c) (blocks d) → Frees k (blocks (fork_at end c x)) (blocks (fork_at end d x))
-inside_frees First k c x d h i f = inside_left (blocks c) (blocks x) (blocks d) k h.run (omega (arith, many_l c x h)) (omega (arith, many_r c x h)) i.1 f
+inside_frees : (end : End) (k : Range) (c x d : Shape) → CanChange (fork_at end c x) → IsInside end k (edge_of end c x) →
+    Frees k (blocks c) (blocks d) → Frees k (blocks (fork_at end c x)) (blocks (fork_at end d x))
+inside_frees First k c x d h i f = inside_left (blocks c) (blocks x) (blocks d) k h.run (omega (arith, many_l c x h))
+    (omega (arith, many_r c x h)) i.1 f
 inside_frees Last k c x d h i f = inside_right (blocks x) (blocks c) (blocks d) k (λ z. omega arith) f
 
 pub under_inside : (end : End) (k : Range) (c x d : Shape) → CanChange (fork_at end c x) → IsInside end k (edge_of end c x)
-    → (o : Option Freed) → MatchOption o ((d ≡ c) × ¬ Holds k (blocks c)) (λ (g : Freed). Frees k (blocks c) (blocks d) × Reduces g.change g.joined c d) → FreesBeside end k c x d x o
-under_inside end k c x d h i None s = under_child end k c x d h None (s.0, λ (y : Holds k (blocks (fork_at end c x))). s.1 (inside_held end k c x h i y))
+    → (o : Option Freed) →
+    MatchOption o ((d ≡ c) × ¬ Holds k (blocks c)) (λ (g : Freed). Frees k (blocks c) (blocks d) × Reduces g.change g.joined c d) →
+    FreesBeside end k c x d x o
+under_inside end k c x d h i None s = under_child end k c x d h None
+    (s.0, λ (y : Holds k (blocks (fork_at end c x))). s.1 (inside_held end k c x h i y))
 under_inside end k c x d h i (Some g) s =
     let m = freed_length (blocks c) (blocks d) k s.0 in
     under_child end k c x d h (Some g) (inside_frees end k c x d h i s.0, omega (arith, s.1.loss), s.1)
 
 -- The first address of the right subtree stays.
 pub right_start : (r b : Shape) (k : Range) (o : Option Freed) → start_of (blocks r) < k.start
-    → MatchOption o ((b ≡ r) × ¬ Holds k (blocks r)) (λ (f : Freed). Frees k (blocks r) (blocks b) × Reduces f.change f.joined r b) → start_of (blocks r) ≡ start_of (blocks b)
+    → MatchOption o ((b ≡ r) × ¬ Holds k (blocks r)) (λ (f : Freed). Frees k (blocks r) (blocks b) × Reduces f.change f.joined r b) →
+    start_of (blocks r) ≡ start_of (blocks b)
 right_start r b k None s f = ap (λ (x : Shape). start_of (blocks x)) (sym f.0)
 right_start r b k (Some g) s h =
     let f = h.0 in
     let some = lower_some (blocks r) k f.lower f.upper f.before (λ z. omega arith) in
-    ap start_of f.before ∙ start_append f.lower (held_block k ∷ f.upper) some ∙ sym (ap start_of f.after ∙ start_freed f.lower k f.upper some)
+    ap start_of f.before ∙ start_append f.lower (held_block k ∷ f.upper) some
+    ∙ sym (ap start_of f.after ∙ start_freed f.lower k f.upper some)
 
 pub ruleset edges = (can_l, can_r, edge_is, high)
 

@@ -32,12 +32,14 @@ cover_end bs h = let p = tiles_part Allocated h.lo h.hi bs (length bs - 1) h.til
 pub cover_order : (bs : List Block) → IsRun bs → start_of bs ≤ end_of bs
 cover_order bs h = let a = cover_start bs h in let b = cover_end bs h in omega (arith, h.range.0)
 
-tiles_extended : (p : NodeState) (lo hi : ℕ) (was k : Range) (m : List Block) → Tiles p lo (m ++ held_block was ∷ []) hi → was.start ≡ k.start → was.end ≤ k.end → Tiles p lo (m ++ held_block k ∷ []) k.end
+tiles_extended : (p : NodeState) (lo hi : ℕ) (was k : Range) (m : List Block) → Tiles p lo (m ++ held_block was ∷ []) hi →
+    was.start ≡ k.start → was.end ≤ k.end → Tiles p lo (m ++ held_block k ∷ []) k.end
 tiles_extended p lo hi was k [] t i l = (sym i ∙ t.0, omega (arith, t.1), t.2, refl)
 tiles_extended p lo hi was k (x ∷ m) t i l = (t.0, t.1, t.2, tiles_extended x.state (x.key.end + 1) hi was k m t.3 i l)
 
 -- A cover whose block at an end is held and is extended.
-cover_extended : (end : End) (m us : List Block) (was k : Range) → beyond end m us ≡ [] → inner end was ≡ inner end k → IsRun (m ++ held_block was ∷ us) → CanExtend end k (m ++ held_block was ∷ us)
+cover_extended : (end : End) (m us : List Block) (was k : Range) → beyond end m us ≡ [] → inner end was ≡ inner end k →
+    IsRun (m ++ held_block was ∷ us) → CanExtend end k (m ++ held_block was ∷ us)
     → IsRun (m ++ held_block k ∷ us)
 cover_extended First [] us was k n i h x =
     let o = cover_end (held_block was ∷ us) h in
@@ -70,7 +72,8 @@ one_side Last m us n = let e = ap length n in omega arith
 module _ (end : End) (k : Range) (xs ys : List Block) (f : FreesEnd end k xs ys) where
   pub end_cover : IsRun xs → CanExtend end k xs → IsRun ys
   end_cover h x =
-      subst IsRun (sym f.after) (cover_freed f.lower k f.upper (cover_extended end f.lower f.upper f.was k f.none f.inner (subst IsRun f.before h) (subst (CanExtend end k) f.before x)))
+      subst IsRun (sym f.after) (cover_freed f.lower k f.upper
+      (cover_extended end f.lower f.upper f.was k f.none f.inner (subst IsRun f.before h) (subst (CanExtend end k) f.before x)))
 
   end_parts : length xs ≡ length f.lower + length f.upper + 1
   end_parts = let e = ap length f.before ∙ length-append f.lower (held_block f.was ∷ f.upper) in omega arith
@@ -126,12 +129,14 @@ child_end : (end : End) (c x : Shape) → 0 < length (blocks c) → block_at_end
 child_end First c x n = first_append (blocks c) (blocks x) n
 child_end Last c x n = last_append (blocks x) (blocks c) n
 
-child_held : (end : End) (k : Range) (c x : Shape) → CanChange (fork_at end c x) → EndHeld end k (blocks (fork_at end c x)) → EndHeld end k (blocks c)
+child_held : (end : End) (k : Range) (c x : Shape) → CanChange (fork_at end c x) → EndHeld end k (blocks (fork_at end c x)) →
+    EndHeld end k (blocks c)
 child_held end k c x h f =
     let e = child_end end c x (omega (arith, child_many end c x h)) in
     record { held = ap (λ (b : Block). b.state) (sym e) ∙ f.held; inner = ap (λ (b : Block). inner end b.key) (sym e) ∙ f.inner }
 
-pub child_extends : (end : End) (k : Range) (c x : Shape) → CanChange (fork_at end c x) → CanExtend end k (blocks (fork_at end c x)) → CanExtend end k (blocks c)
+pub child_extends : (end : End) (k : Range) (c x : Shape) → CanChange (fork_at end c x) → CanExtend end k (blocks (fork_at end c x)) →
+    CanExtend end k (blocks c)
 child_extends First k c x h w =
     let a = same_start c x h in
     let z = same_end c x h in
@@ -145,7 +150,8 @@ child_extends Last k c x h w =
     let d = edge_is x c h in
     (omega (arith, w.0), (omega (arith, w.0), w.1.1, λ y. absurd (omega arith)))
 
-frees_child : (end : End) (k : Range) (c x d : Shape) → 1 < length (blocks c) → FreesEnd end k (blocks c) (blocks d) → FreesEnd end k (blocks (fork_at end c x)) (blocks (fork_at end d x))
+frees_child : (end : End) (k : Range) (c x d : Shape) → 1 < length (blocks c) → FreesEnd end k (blocks c) (blocks d) →
+    FreesEnd end k (blocks (fork_at end c x)) (blocks (fork_at end d x))
 frees_child First k c x d n f =
     let a = end_parts First k (blocks c) (blocks d) f in
     let e = ap length f.none in
@@ -157,7 +163,8 @@ frees_child Last k c x d n f =
     let o = freed_after f.was k f.lower f.upper (blocks c) (blocks d) f.before f.after (blocks x) (omega arith) in
     record { lower = blocks x ++ f.lower; upper = f.upper; was = f.was; none = f.none; inner = f.inner; before = o.0; after = o.1 }
 
-drops_child : (end : End) (c x d : Shape) → 0 < length (blocks c) → blocks d ≡ without_end end (blocks c) → blocks (fork_at end d x) ≡ without_end end (blocks (fork_at end c x))
+drops_child : (end : End) (c x d : Shape) → 0 < length (blocks c) → blocks d ≡ without_end end (blocks c) →
+    blocks (fork_at end d x) ≡ without_end end (blocks (fork_at end c x))
 drops_child First c x d n e = ap (λ (z : List Block). z ++ blocks x) e ∙ sym (drop_append (blocks c) (blocks x) n)
 drops_child Last c x d n e = ap (λ (z : List Block). blocks x ++ z) e ∙ sym (take_append (blocks x) (blocks c) n)
 
@@ -171,51 +178,63 @@ length_fork First c x n = let e = length-append (blocks c) (blocks x) in omega a
 length_fork Last c x n = let e = length-append (blocks x) (blocks c) in omega arith
 
 -- The child at an end changed, and nothing above it was updated.
-changed_at : (end : End) (ch : Change) (n longest alignments height : ℕ) (t c x d : Shape) → t ≡ fork_at end c x → CanChange (fork_at end c x) → n ≤ 2 → Reduces ch n c d
-    → IsRun (blocks (fork_at end d x)) → IsFreeOf t longest alignments × (height ≡ height_of t) → Changed ch n longest alignments height t (fork_at end d x)
+changed_at : (end : End) (ch : Change) (n longest alignments height : ℕ) (t c x d : Shape) → t ≡ fork_at end c x →
+    CanChange (fork_at end c x) → n ≤ 2 → Reduces ch n c d
+    → IsRun (blocks (fork_at end d x)) → IsFreeOf t longest alignments × (height ≡ height_of t) →
+    Changed ch n longest alignments height t (fork_at end d x)
 changed_at First ch n longest alignments height t c x d q h few g run f = changed q (loosens_left ch n c x d h.tree few g run) f
 changed_at Last ch n longest alignments height t c x d q h few g run f = changed q (loosens_right ch n x c d h.tree few g run) f
 
 -- The block at an end of the tree c was freed if possible, and c became d.
 abbrev pub FreesIn : End → Range → Shape → Shape → Option Freed → Type 0
-FreesIn end k c d o = MatchOption o ((d ≡ c) × ¬ EndHeld end k (blocks c)) (λ (g : Freed). FreesEnd end k (blocks c) (blocks d) × Reduces g.change g.joined c d)
+FreesIn end k c d o = MatchOption o ((d ≡ c) × ¬ EndHeld end k (blocks c))
+    (λ (g : Freed). FreesEnd end k (blocks c) (blocks d) × Reduces g.change g.joined c d)
 
 -- The same of a node t that became v, and of which no summary was updated.
 abbrev pub FreesAbove : End → Range → ℕ → ℕ → ℕ → Shape → Shape → Option Freed → Type 0
 FreesAbove end k longest alignments height t v o =
-    MatchOption o ((v ≡ t) × ¬ EndHeld end k (blocks t)) (λ (g : Freed). FreesEnd end k (blocks t) (blocks v) × Changed g.change g.joined longest alignments height t v)
+    MatchOption o ((v ≡ t) × ¬ EndHeld end k (blocks t))
+    (λ (g : Freed). FreesEnd end k (blocks t) (blocks v) × Changed g.change g.joined longest alignments height t v)
 
 -- The first address of the right child stays if its last block is freed, or none.
-pub last_kept : (k : Range) (c d : Shape) → 1 < length (blocks c) → (o : Option Freed) → FreesIn Last k c d o → start_of (blocks c) ≡ start_of (blocks d)
+pub last_kept : (k : Range) (c d : Shape) → 1 < length (blocks c) → (o : Option Freed) → FreesIn Last k c d o →
+    start_of (blocks c) ≡ start_of (blocks d)
 last_kept k c d n None s = ap (λ (z : Shape). start_of (blocks z)) (sym s.0)
 last_kept k c d n (Some g) s =
     let f = s.0 in
     let a = end_parts Last k (blocks c) (blocks d) f in
     let e = ap length f.none in
-    ap start_of f.before ∙ start_append f.lower (held_block f.was ∷ f.upper) (omega arith) ∙ sym (ap start_of f.after ∙ start_freed f.lower k f.upper (omega arith))
+    ap start_of f.before ∙ start_append f.lower (held_block f.was ∷ f.upper) (omega arith)
+    ∙ sym (ap start_of f.after ∙ start_freed f.lower k f.upper (omega arith))
 
 -- The block at an end of the node t was dropped, and no summary was updated.
 abbrev pub DropsAbove : End → ℕ → ℕ → ℕ → Shape → Shape → Change → Type 0
 DropsAbove end longest alignments height t v ch = (blocks v ≡ without_end end (blocks t)) × Changed ch 1 longest alignments height t v
 
 -- The child c at an end of the node t became d.
-module _ (end e : End) (same : end ≡ e) (longest alignments height : ℕ) (t c x d : Shape) (q : t ≡ fork_at e c x) (can : CanChange t) (f : IsFreeOf t longest alignments × (height ≡ height_of t)) where
+module _ (end e : End) (same : end ≡ e) (longest alignments height : ℕ) (t c x d : Shape) (q : t ≡ fork_at e c x) (can : CanChange t)
+    (f : IsFreeOf t longest alignments × (height ≡ height_of t)) where
   h : CanChange (fork_at e c x)
   h = subst CanChange q can
 
   many : 1 < length (blocks c)
   many = child_many e c x h
 
-  pub frees_above : (k : Range) → CanExtend end k (blocks t) → (o : Option Freed) → FreesIn end k c d o → FreesAbove end k longest alignments height t (fork_at e d x) o
-  frees_above k w None s =
-      (ap (λ (z : Shape). fork_at e z x) s.0 ∙ sym q, λ (y : EndHeld end k (blocks t)). s.1 (rw same (child_held e k c x h (rw (q, same) at y))))
+  pub frees_above : (k : Range) → CanExtend end k (blocks t) → (o : Option Freed) → FreesIn end k c d o →
+      FreesAbove end k longest alignments height t (fork_at e d x) o
+  frees_above k w None s = (
+    ap (λ (z : Shape). fork_at e z x) s.0 ∙ sym q,
+    λ (y : EndHeld end k (blocks t)). s.1
+        (rw same (child_held e k c x h (rw (q, same) at y))),
+  )
   frees_above k w (Some g) s =
       let o = frees_child e k c x d many (rw same at s.0) in
       let m = end_length end k (blocks c) (blocks d) s.0 in
       let run = end_cover e k (blocks (fork_at e c x)) (blocks (fork_at e d x)) o h.run (rw (q, same) at w) in
       (rw (q, same) o, changed_at e g.change g.joined longest alignments height t c x d q h (omega (arith, s.1.loss)) s.1 run f)
 
-  pub drops_above : (ch : Change) → blocks d ≡ without_end end (blocks c) → Reduces ch 1 c d → DropsAbove end longest alignments height t (fork_at e d x) ch
+  pub drops_above : (ch : Change) → blocks d ≡ without_end end (blocks c) → Reduces ch 1 c d →
+      DropsAbove end longest alignments height t (fork_at e d x) ch
   drops_above ch s g =
       let o = drops_child e c x d (omega (arith, many)) (rw same at s) in
       let run = cover_without e (blocks (fork_at e c x)) h.run (length_fork e c x many) in

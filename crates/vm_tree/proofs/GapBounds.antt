@@ -1,6 +1,34 @@
 -- A search within a window enters the paths to the ends of the window and to the place that it finds. It also enters subtrees
 -- with a part of a gap that has no place.
-use Rattle.std.proofs.Common.{◌≡◌, ℕ, ◌+◌, ◌-◌, ◌*◌, ◌<◌, ◌≤◌, max, min, Bool, true, false, cond, ltb, leb, List, [], ◌∷◌, ◌++◌, length, refl, sym, ap, ◌∙◌, arith, ⊎_elim, subst}
+use Rattle.std.proofs.Common.{
+  ◌≡◌,
+  ℕ,
+  ◌+◌,
+  ◌-◌,
+  ◌*◌,
+  ◌<◌,
+  ◌≤◌,
+  max,
+  min,
+  Bool,
+  true,
+  false,
+  cond,
+  ltb,
+  leb,
+  List,
+  [],
+  ◌∷◌,
+  ◌++◌,
+  length,
+  refl,
+  sym,
+  ap,
+  ◌∙◌,
+  arith,
+  ⊎_elim,
+  subst,
+}
 use Rattle.std.specs.List.{list_any, filter}
 use Rattle.std.proofs.Math.Nat.{mul-le-mul}
 use Rattle.std.proofs.lemmas.List.{length-append}
@@ -123,7 +151,8 @@ long_is_misaligned : (n a : ℕ) (b : Block) → n ≤ free_length b → has_fit
 unfolding is_misaligned
 long_is_misaligned n a b p e = rw (le-leb n (free_length b) p, e) refl
 
-misaligned_in_long : (n a : ℕ) (bs : List Block) → 0 < n → n ≤ longest_gap bs → list_any (has_fit n a) bs ≡ false → 1 ≤ length (filter (is_misaligned n a) bs)
+misaligned_in_long : (n a : ℕ) (bs : List Block) → 0 < n → n ≤ longest_gap bs → list_any (has_fit n a) bs ≡ false →
+    1 ≤ length (filter (is_misaligned n a) bs)
 misaligned_in_long n a [] z p e = absurd (omega arith)
 misaligned_in_long n a (b ∷ bs) z p e =
     let none = or_parts (has_fit n a b) (list_any (has_fit n a) bs) e in
@@ -133,7 +162,8 @@ misaligned_in_long n a (b ∷ bs) z p e =
     (λ (k : n ≤ free_length b). omega (arith, split, long_is_misaligned n a b k none.0))
     (cases_lt (free_length b) n)
 
-too_short_in_aligned : (n a : ℕ) (bs : List Block) → list_any (has_aligned a) bs ≡ true → list_any (has_fit n a) bs ≡ false → 1 ≤ length (filter (is_too_short n a) bs)
+too_short_in_aligned : (n a : ℕ) (bs : List Block) → list_any (has_aligned a) bs ≡ true → list_any (has_fit n a) bs ≡ false →
+    1 ≤ length (filter (is_too_short n a) bs)
 unfolding is_too_short
 too_short_in_aligned n a [] p e = absurd (cc p)
 too_short_in_aligned n a (b ∷ bs) p e =
@@ -163,7 +193,8 @@ module _ (w : Range) (n a : ℕ) (q : Block → Bool) where
 
   none_split : (l r : Shape) → list_any (has_fit_in w n a) (blocks l ++ blocks r) ≡ false
       → (list_any (has_fit_in w n a) (blocks l) ≡ false) × (list_any (has_fit_in w n a) (blocks r) ≡ false)
-  none_split l r e = or_parts (list_any (has_fit_in w n a) (blocks l)) (list_any (has_fit_in w n a) (blocks r)) (sym (list_any-append (has_fit_in w n a) (blocks l) (blocks r)) ∙ e)
+  none_split l r e = or_parts (list_any (has_fit_in w n a) (blocks l)) (list_any (has_fit_in w n a) (blocks r))
+      (sym (list_any-append (has_fit_in w n a) (blocks l) (blocks r)) ∙ e)
 
   -- ---- Blocks that lie in the window are their own parts
   same_part : (b : Block) → w.start ≤ b.key.start → b.key.end ≤ w.end → cut_to w b ≡ b
@@ -176,13 +207,15 @@ module _ (w : Range) (n a : ℕ) (q : Block → Bool) where
   ends p lo hi b [] t = omega (arith, t.3)
   ends p lo hi b (x ∷ bs) t = omega (arith, t.3.0, t.3.1, ends b.state (b.key.end + 1) hi x bs t.3)
 
-  same_fits : (p : NodeState) (lo hi : ℕ) (bs : List Block) → Tiles p lo bs hi → w.start ≤ lo → hi ≤ w.end → list_any (has_fit_in w n a) bs ≡ list_any (has_fit n a) bs
+  same_fits : (p : NodeState) (lo hi : ℕ) (bs : List Block) → Tiles p lo bs hi → w.start ≤ lo → hi ≤ w.end →
+      list_any (has_fit_in w n a) bs ≡ list_any (has_fit n a) bs
   same_fits p lo hi [] k s u = refl
   same_fits p lo hi (b ∷ bs) k s u =
       let e = ends p lo hi b bs k in
       rw (same_part b (omega (arith, k.0)) (omega arith), same_fits b.state (b.key.end + 1) hi bs k.3 (omega (arith, k.0, k.1)) u) refl
 
-  same_parts : (p : NodeState) (lo hi : ℕ) (bs : List Block) → Tiles p lo bs hi → w.start ≤ lo → hi ≤ w.end → parts_passing w q bs ≡ length (filter q bs)
+  same_parts : (p : NodeState) (lo hi : ℕ) (bs : List Block) → Tiles p lo bs hi → w.start ≤ lo → hi ≤ w.end →
+      parts_passing w q bs ≡ length (filter q bs)
   same_parts p lo hi [] k s u = refl
   same_parts p lo hi (b ∷ bs) k s u =
       let e = ends p lo hi b bs k in
@@ -190,7 +223,8 @@ module _ (w : Range) (n a : ℕ) (q : Block → Bool) where
       let rest = same_parts b.state (b.key.end + 1) hi bs k.3 (omega (arith, k.0, k.1)) u in
       by_test (on_part w q b) (q b) own rest
     where
-      by_test : (t v : Bool) → t ≡ v → parts_passing w q bs ≡ length (filter q bs) → length (cond t (b ∷ filter (on_part w q) bs) (filter (on_part w q) bs)) ≡ length (cond v (b ∷ filter q bs) (filter q bs))
+      by_test : (t v : Bool) → t ≡ v → parts_passing w q bs ≡ length (filter q bs) →
+          length (cond t (b ∷ filter (on_part w q) bs) (filter (on_part w q) bs)) ≡ length (cond v (b ∷ filter q bs) (filter q bs))
       by_test true true e h = omega (arith, h)
       by_test false false e h = h
       by_test true false e h = absurd (cc e)
@@ -217,7 +251,8 @@ module _ (w : Range) (n a : ℕ) (q : Block → Bool) where
   paths_most Last lo hi = omega (arith, below_most w.end hi)
 
   module _ (some : HasOneWithoutPlace n a q) where
-    one_at_least : (p : NodeState) (lo hi : ℕ) (bs : List Block) → Tiles p lo bs hi → may_fit_in n a bs ≡ true → list_any (has_fit_in w n a) bs ≡ false → 1 ≤ parts_passing w q bs + (lower lo + upper hi)
+    one_at_least : (p : NodeState) (lo hi : ℕ) (bs : List Block) → Tiles p lo bs hi → may_fit_in n a bs ≡ true →
+        list_any (has_fit_in w n a) bs ≡ false → 1 ≤ parts_passing w q bs + (lower lo + upper hi)
     one_at_least s lo hi bs k m e =
         ⊎_elim
         (λ (p : lo < w.start). omega (arith, below_is lo w.start p))
@@ -232,7 +267,8 @@ module _ (w : Range) (n a : ℕ) (q : Block → Bool) where
   abbrev both_cuts : ℕ → ℕ → ℕ → ℕ
   both_cuts at x y = cond (ltb w.start at) x 0 + cond (leb at w.end) y 0
 
-  by_sides : (at x y most : ℕ) → (w.start < at → at ≤ w.end → x + y ≤ most) → (w.start < at → w.end < at → x ≤ most) → (at ≤ w.start → at ≤ w.end → y ≤ most) → both_cuts at x y ≤ most
+  by_sides : (at x y most : ℕ) → (w.start < at → at ≤ w.end → x + y ≤ most) → (w.start < at → w.end < at → x ≤ most) →
+      (at ≤ w.start → at ≤ w.end → y ≤ most) → both_cuts at x y ≤ most
   by_sides at x y most both left right =
       ⊎_elim
       (λ (i : w.start < at).
@@ -285,35 +321,50 @@ module _ (w : Range) (n a : ℕ) (q : Block → Bool) where
         (λ i j. omega (arith, below_most at w.start))
 
   -- ---- The nodes of a subtree, if they are at most its height for each of so many paths
-  step : (l r : Shape) (first second x y most : ℕ) → first ≤ height_of l * (parts_passing w q (blocks l) + x) → second ≤ height_of r * (parts_passing w q (blocks r) + y) → x + y ≤ most → 1 ≤ parts_passing w q (blocks l ++ blocks r) + most
+  step : (l r : Shape) (first second x y most : ℕ) → first ≤ height_of l * (parts_passing w q (blocks l) + x) →
+      second ≤ height_of r * (parts_passing w q (blocks r) + y) → x + y ≤ most → 1 ≤ parts_passing w q (blocks l ++ blocks r) + most
       → first + second + 1 ≤ height_of (Fork l r) * (parts_passing w q (blocks l ++ blocks r) + most)
   step l r first second x y most p u c o =
       let split = parts_split l r in
-      one_more (max (height_of l) (height_of r)) (parts_passing w q (blocks l ++ blocks r) + most) (height_of l) (parts_passing w q (blocks l) + x) first (height_of r) (parts_passing w q (blocks r) + y) second (omega arith) (omega arith) p u (omega (arith, split, c)) o
+      one_more (max (height_of l) (height_of r)) (parts_passing w q (blocks l ++ blocks r) + most) (height_of l)
+      (parts_passing w q (blocks l) + x) first (height_of r) (parts_passing w q (blocks r) + y) second (omega arith) (omega arith) p u
+      (omega (arith, split, c)) o
 
-  child_sides : (p : NodeState) (lo hi : ℕ) (l r : Shape) → HasFullLeaves (Fork l r) → Tiles p lo (blocks l ++ blocks r) hi → AreSides p lo hi (blocks l) (blocks r)
+  child_sides : (p : NodeState) (lo hi : ℕ) (l r : Shape) → HasFullLeaves (Fork l r) → Tiles p lo (blocks l ++ blocks r) hi →
+      AreSides p lo hi (blocks l) (blocks r)
   child_sides p lo hi l r f k = sides p lo hi (blocks l) (blocks r) (omega (arith, full_some l f.0)) (omega (arith, full_some r f.1)) k
 
   module _ (some : HasOneWithoutPlace n a q) where
-    search_in_vain : (end : End) (p : NodeState) (lo hi : ℕ) (s : Shape) → HasFullLeaves s → Tiles p lo (blocks s) hi → list_any (has_fit_in w n a) (blocks s) ≡ false → nodes_of_search end w n a s ≤ height_of s * (parts_passing w q (blocks s) + (lower lo + upper hi))
+    search_in_vain : (end : End) (p : NodeState) (lo hi : ℕ) (s : Shape) → HasFullLeaves s → Tiles p lo (blocks s) hi →
+        list_any (has_fit_in w n a) (blocks s) ≡ false →
+        nodes_of_search end w n a s ≤ height_of s * (parts_passing w q (blocks s) + (lower lo + upper hi))
     unfolding nodes_of_search
-    search_in_vain end p lo hi (Tip bs) f k e = if_may_fit (may_fit_in n a bs) 1 (1 * (parts_passing w q bs + (lower lo + upper hi))) (λ m. omega (arith, one_at_least some p lo hi bs k m e))
+    search_in_vain end p lo hi (Tip bs) f k e = if_may_fit (may_fit_in n a bs) 1 (1 * (parts_passing w q bs + (lower lo + upper hi)))
+        (λ m. omega (arith, one_at_least some p lo hi bs k m e))
     search_in_vain end p lo hi (Fork l r) f k e =
         let i = child_sides p lo hi l r f k in
         let at = start_of (blocks r) in
         let none = none_split l r e in
-        let left = if_entered (ltb w.start at) (nodes_of_search end w n a l) (height_of l) (parts_passing w q (blocks l)) (lower lo + upper (at - 1)) (search_in_vain end p lo (at - 1) l f.0 i.left none.0) in
-        let right = if_entered (leb at w.end) (nodes_of_search end w n a r) (height_of r) (parts_passing w q (blocks r)) (lower at + upper hi) (search_in_vain end i.state at hi r f.1 i.right none.1) in
-        if_may_fit (may_fit_in n a (blocks l ++ blocks r)) _ (height_of (Fork l r) * (parts_passing w q (blocks l ++ blocks r) + (lower lo + upper hi)))
+        let left = if_entered (ltb w.start at) (nodes_of_search end w n a l) (height_of l) (parts_passing w q (blocks l))
+        (lower lo + upper (at - 1)) (search_in_vain end p lo (at - 1) l f.0 i.left none.0) in
+        let right = if_entered (leb at w.end) (nodes_of_search end w n a r) (height_of r) (parts_passing w q (blocks r))
+        (lower at + upper hi) (search_in_vain end i.state at hi r f.1 i.right none.1) in
+        if_may_fit (may_fit_in n a (blocks l ++ blocks r)) _
+        (height_of (Fork l r) * (parts_passing w q (blocks l ++ blocks r) + (lower lo + upper hi)))
         (λ m. both_more end (list_any (has_fit_in w n a) (blocks l)) (list_any (has_fit_in w n a) (blocks r)) _ _ _
-        (step l r _ _ _ _ (lower lo + upper hi) left right (cuts_in_vain lo hi at i.from i.upto) (one_at_least some p lo hi (blocks l ++ blocks r) k m e)))
+        (step l r _ _ _ _ (lower lo + upper hi) left right (cuts_in_vain lo hi at i.from i.upto)
+        (one_at_least some p lo hi (blocks l ++ blocks r) k m e)))
 
-    search_in_most : (end : End) (p : NodeState) (lo hi : ℕ) (s : Shape) → HasFullLeaves s → Tiles p lo (blocks s) hi → nodes_of_search end w n a s ≤ height_of s * (parts_passing w q (blocks s) + paths end lo hi)
+    search_in_most : (end : End) (p : NodeState) (lo hi : ℕ) (s : Shape) → HasFullLeaves s → Tiles p lo (blocks s) hi →
+        nodes_of_search end w n a s ≤ height_of s * (parts_passing w q (blocks s) + paths end lo hi)
     unfolding nodes_of_search
-    search_in_most end p lo hi (Tip bs) f k = one_or_none (may_fit_in n a bs) (1 * (parts_passing w q bs + paths end lo hi)) (omega (arith, paths_some end lo hi))
+    search_in_most end p lo hi (Tip bs) f k = one_or_none (may_fit_in n a bs) (1 * (parts_passing w q bs + paths end lo hi))
+        (omega (arith, paths_some end lo hi))
     search_in_most end p lo hi (Fork l r) f k =
-        if_may_fit (may_fit_in n a (blocks l ++ blocks r)) _ (height_of (Fork l r) * (parts_passing w q (blocks l ++ blocks r) + paths end lo hi))
-        (λ m. by_found end (list_any (has_fit_in w n a) (blocks l)) (list_any (has_fit_in w n a) (blocks r)) (search_in_most end p lo (at - 1) l f.0 i.left) (search_in_most end i.state at hi r f.1 i.right) (λ e. e) (λ e. e))
+        if_may_fit (may_fit_in n a (blocks l ++ blocks r)) _
+        (height_of (Fork l r) * (parts_passing w q (blocks l ++ blocks r) + paths end lo hi))
+        (λ m. by_found end (list_any (has_fit_in w n a) (blocks l)) (list_any (has_fit_in w n a) (blocks r))
+        (search_in_most end p lo (at - 1) l f.0 i.left) (search_in_most end i.state at hi r f.1 i.right) (λ e. e) (λ e. e))
       where
         at : ℕ
         at = start_of (blocks r)
@@ -321,27 +372,44 @@ module _ (w : Range) (n a : ℕ) (q : Block → Bool) where
         i : AreSides p lo hi (blocks l) (blocks r)
         i = child_sides p lo hi l r f k
 
-        vain_left : (end : End) → list_any (has_fit_in w n a) (blocks l) ≡ false → cond (ltb w.start at) (nodes_of_search end w n a l) 0 ≤ height_of l * (parts_passing w q (blocks l) + cond (ltb w.start at) (lower lo + upper (at - 1)) 0)
-        vain_left end e = if_entered (ltb w.start at) (nodes_of_search end w n a l) (height_of l) (parts_passing w q (blocks l)) (lower lo + upper (at - 1)) (search_in_vain end p lo (at - 1) l f.0 i.left e)
+        vain_left : (end : End) → list_any (has_fit_in w n a) (blocks l) ≡ false →
+            cond (ltb w.start at) (nodes_of_search end w n a l) 0
+            ≤ height_of l * (parts_passing w q (blocks l) + cond (ltb w.start at) (lower lo + upper (at - 1)) 0)
+        vain_left end e = if_entered (ltb w.start at) (nodes_of_search end w n a l) (height_of l) (parts_passing w q (blocks l))
+            (lower lo + upper (at - 1)) (search_in_vain end p lo (at - 1) l f.0 i.left e)
 
-        vain_right : (end : End) → list_any (has_fit_in w n a) (blocks r) ≡ false → cond (leb at w.end) (nodes_of_search end w n a r) 0 ≤ height_of r * (parts_passing w q (blocks r) + cond (leb at w.end) (lower at + upper hi) 0)
-        vain_right end e = if_entered (leb at w.end) (nodes_of_search end w n a r) (height_of r) (parts_passing w q (blocks r)) (lower at + upper hi) (search_in_vain end i.state at hi r f.1 i.right e)
+        vain_right : (end : End) → list_any (has_fit_in w n a) (blocks r) ≡ false →
+            cond (leb at w.end) (nodes_of_search end w n a r) 0
+            ≤ height_of r * (parts_passing w q (blocks r) + cond (leb at w.end) (lower at + upper hi) 0)
+        vain_right end e = if_entered (leb at w.end) (nodes_of_search end w n a r) (height_of r) (parts_passing w q (blocks r))
+            (lower at + upper hi) (search_in_vain end i.state at hi r f.1 i.right e)
 
-        by_found : (end : End) (left right : Bool) → nodes_of_search end w n a l ≤ height_of l * (parts_passing w q (blocks l) + paths end lo (at - 1)) → nodes_of_search end w n a r ≤ height_of r * (parts_passing w q (blocks r) + paths end at hi)
-            → (left ≡ false → list_any (has_fit_in w n a) (blocks l) ≡ false) → (right ≡ false → list_any (has_fit_in w n a) (blocks r) ≡ false)
-            → nodes_of_both end left right (cond (ltb w.start at) (nodes_of_search end w n a l) 0) (cond (leb at w.end) (nodes_of_search end w n a r) 0) + 1 ≤ height_of (Fork l r) * (parts_passing w q (blocks l ++ blocks r) + paths end lo hi)
+        by_found : (end : End) (left right : Bool) →
+            nodes_of_search end w n a l ≤ height_of l * (parts_passing w q (blocks l) + paths end lo (at - 1)) →
+            nodes_of_search end w n a r ≤ height_of r * (parts_passing w q (blocks r) + paths end at hi)
+            → (left ≡ false → list_any (has_fit_in w n a) (blocks l) ≡ false) →
+            (right ≡ false → list_any (has_fit_in w n a) (blocks r) ≡ false)
+            → nodes_of_both end left right (cond (ltb w.start at) (nodes_of_search end w n a l) 0)
+            (cond (leb at w.end) (nodes_of_search end w n a r) 0) + 1
+            ≤ height_of (Fork l r) * (parts_passing w q (blocks l ++ blocks r) + paths end lo hi)
         by_found First true right x y e d =
-            let first = if_entered (ltb w.start at) (nodes_of_search First w n a l) (height_of l) (parts_passing w q (blocks l)) (lower lo + 1) x in
+            let first = if_entered (ltb w.start at) (nodes_of_search First w n a l) (height_of l) (parts_passing w q (blocks l))
+            (lower lo + 1) x in
             step l r _ 0 _ 0 (lower lo + 1) first (omega arith) (omega (arith, if_at_most (ltb w.start at) (lower lo + 1))) (omega arith)
         by_found First false right x y e d =
-            let last = if_entered (leb at w.end) (nodes_of_search First w n a r) (height_of r) (parts_passing w q (blocks r)) (lower at + 1) y in
+            let last = if_entered (leb at w.end) (nodes_of_search First w n a r) (height_of r) (parts_passing w q (blocks r)) (lower at + 1)
+            y in
             step l r _ _ _ _ (lower lo + 1) (vain_left First (e refl)) last (cuts_to_right lo hi at i.from i.upto) (omega arith)
         by_found Last left true x y e d =
-            let last = if_entered (leb at w.end) (nodes_of_search Last w n a r) (height_of r) (parts_passing w q (blocks r)) (1 + upper hi) y in
-            both_more Last left true _ _ _ (step l r 0 _ 0 _ (1 + upper hi) (omega arith) last (omega (arith, if_at_most (leb at w.end) (1 + upper hi))) (omega arith))
+            let last = if_entered (leb at w.end) (nodes_of_search Last w n a r) (height_of r) (parts_passing w q (blocks r)) (1 + upper hi)
+            y in
+            both_more Last left true _ _ _
+            (step l r 0 _ 0 _ (1 + upper hi) (omega arith) last (omega (arith, if_at_most (leb at w.end) (1 + upper hi))) (omega arith))
         by_found Last left false x y e d =
-            let first = if_entered (ltb w.start at) (nodes_of_search Last w n a l) (height_of l) (parts_passing w q (blocks l)) (1 + upper (at - 1)) x in
-            both_more Last left false _ _ _ (step l r _ _ _ _ (1 + upper hi) first (vain_right Last (d refl)) (cuts_to_left lo hi at i.from i.upto) (omega arith))
+            let first = if_entered (ltb w.start at) (nodes_of_search Last w n a l) (height_of l) (parts_passing w q (blocks l))
+            (1 + upper (at - 1)) x in
+            both_more Last left false _ _ _
+            (step l r _ _ _ _ (1 + upper hi) first (vain_right Last (d refl)) (cuts_to_left lo hi at i.from i.upto) (omega arith))
 
 -- ---- No node is entered twice
 upto_all : (entered : Bool) (x y : ℕ) → x ≤ y → cond entered x 0 ≤ y
@@ -364,7 +432,8 @@ last_end p lo hi bs z t =
     let q = tiles_part p lo hi bs (length bs - 1) t (omega arith) in
     q.last (omega arith)
 
-module _ (w : Range) (n a : ℕ) (q : Block → Bool) (some : HasOneWithoutPlace n a q) (s : Shape) (f : HasFullLeaves s) (h : IsRun (blocks s)) where
+module _ (w : Range) (n a : ℕ) (q : Block → Bool) (some : HasOneWithoutPlace n a q) (s : Shape) (f : HasFullLeaves s)
+    (h : IsRun (blocks s)) where
   starts : start_of (blocks s) ≡ h.lo
   starts = (first_start Allocated h.lo h.hi (blocks s) h.some h.tiles).0
 
@@ -377,7 +446,8 @@ module _ (w : Range) (n a : ℕ) (q : Block → Bool) (some : HasOneWithoutPlace
   cut_above : IsWholeWindow w (blocks s) → below w.end h.hi ≡ 0
   cut_above c = not_below w.end h.hi (omega (arith, c.upto, stops))
 
-  exact : (c d : ℕ) (count : ℕ) → c ≡ d → count ≤ height_of s * (parts_passing w q (blocks s) + c) → count ≤ height_of s * (parts_passing w q (blocks s) + d)
+  exact : (c d : ℕ) (count : ℕ) → c ≡ d → count ≤ height_of s * (parts_passing w q (blocks s) + c) →
+      count ≤ height_of s * (parts_passing w q (blocks s) + d)
   exact c d count e p = subst (λ (v : ℕ). count ≤ height_of s * (parts_passing w q (blocks s) + v)) e p
 
   paths_whole : (end : End) → IsWholeWindow w (blocks s) → paths w n a q end h.lo h.hi ≡ 1
@@ -389,7 +459,8 @@ module _ (w : Range) (n a : ℕ) (q : Block → Bool) (some : HasOneWithoutPlace
       let most = search_in_most w n a q some end Allocated h.lo h.hi s f h.tiles in
       record {
         none = λ c e. (
-            let p = exact _ 0 _ (omega (arith, cut_below c, cut_above c)) (search_in_vain w n a q some end Allocated h.lo h.hi s f h.tiles e) in
+            let p = exact _ 0 _ (omega (arith, cut_below c, cut_above c))
+            (search_in_vain w n a q some end Allocated h.lo h.hi s f h.tiles e) in
             let z : parts_passing w q (blocks s) + 0 ≡ parts_passing w q (blocks s) = omega arith in
             rw z at p
             );
@@ -399,13 +470,16 @@ module _ (w : Range) (n a : ℕ) (q : Block → Bool) (some : HasOneWithoutPlace
       }
 
 -- The bounds for two numbers are bounds for the lesser one.
-lesser : (w : Range) (n a u v : ℕ) (s : Shape) (count : ℕ) → IsSearchCount w n a u s count → IsSearchCount w n a v s count → IsSearchCount w n a (min u v) s count
+lesser : (w : Range) (n a u v : ℕ) (s : Shape) (count : ℕ) → IsSearchCount w n a u s count → IsSearchCount w n a v s count →
+    IsSearchCount w n a (min u v) s count
 lesser w n a u v s count g h =
     ⊎_elim
     (λ (l : u < v). let e : u ≡ min u v = omega arith in subst (λ (x : ℕ). IsSearchCount w n a x s count) e g)
     (λ (l : v ≤ u). let e : v ≡ min u v = omega arith in subst (λ (x : ℕ). IsSearchCount w n a x s count) e h)
     (cases_lt u v)
 
-pub all_searches : (end : End) (w : Range) (n a : ℕ) (s : Shape) → 0 < n → HasFullLeaves s → IsRun (blocks s) → IsSearchCount w n a (gaps_without_place w n a (blocks s)) s (nodes_of_search end w n a s)
+pub all_searches : (end : End) (w : Range) (n a : ℕ) (s : Shape) → 0 < n → HasFullLeaves s → IsRun (blocks s) →
+    IsSearchCount w n a (gaps_without_place w n a (blocks s)) s (nodes_of_search end w n a s)
 all_searches end w n a s z f h =
-    lesser w n a _ _ s _ (search_count w n a (is_misaligned n a) (misaligned_in_vain n a z) s f h end) (search_count w n a (is_too_short n a) (too_short_in_vain n a) s f h end)
+    lesser w n a _ _ s _ (search_count w n a (is_misaligned n a) (misaligned_in_vain n a z) s f h end)
+    (search_count w n a (is_too_short n a) (too_short_in_vain n a) s f h end)

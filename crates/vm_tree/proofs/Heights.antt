@@ -86,7 +86,8 @@ nodes_by_height (Fork l r) =
 
 blocks_by_leaves : (s : Shape) → HasFullLeaves s → 12 * leaf_count s ≤ length (blocks s)
 blocks_by_leaves (Tip bs) h = omega (arith, h.0)
-blocks_by_leaves (Fork l r) h = let a = blocks_by_leaves l h.0 in let b = blocks_by_leaves r h.1 in omega (arith, length-append (blocks l) (blocks r))
+blocks_by_leaves (Fork l r) h = let a = blocks_by_leaves l h.0 in let b = blocks_by_leaves r h.1 in omega
+    (arith, length-append (blocks l) (blocks r))
 
 -- ---- One of two neighbours is held
 abbrev room : NodeState → ℕ
@@ -111,7 +112,8 @@ run_held bs h = blocks_by_held Allocated h.lo h.hi bs h.tiles
 
 -- ---- The height by the number k of held blocks
 -- Above height 1, 12 F(h + 1) is at most 2k + 1.
-height_by_held : (s : Shape) → IsTree s → IsRun (blocks s) → 2 ≤ height_of s → 12 * fibonacci (height_of s + 1) ≤ 2 * held_blocks (blocks s) + 1
+height_by_held : (s : Shape) → IsTree s → IsRun (blocks s) → 2 ≤ height_of s →
+    12 * fibonacci (height_of s + 1) ≤ 2 * held_blocks (blocks s) + 1
 height_by_held (Tip bs) h c k = absurd (omega arith)
 height_by_held (Fork l r) h c k =
     let a = leaves_by_height (Fork l r) h.balanced in

@@ -1,5 +1,33 @@
 -- Lists of blocks in two parts.
-use Rattle.std.proofs.Common.{◌≡◌, ℕ, zero, suc, ◌+◌, ◌-◌, ◌<◌, ◌≤◌, max, List, [], ◌∷◌, ◌++◌, length, take, drop, refl, ap, ◌∙◌, sym, subst, arith, append_assoc, length-append, length-take-le, length-drop, take-append-drop}
+use Rattle.std.proofs.Common.{
+  ◌≡◌,
+  ℕ,
+  zero,
+  suc,
+  ◌+◌,
+  ◌-◌,
+  ◌<◌,
+  ◌≤◌,
+  max,
+  List,
+  [],
+  ◌∷◌,
+  ◌++◌,
+  length,
+  take,
+  drop,
+  refl,
+  ap,
+  ◌∙◌,
+  sym,
+  subst,
+  arith,
+  append_assoc,
+  length-append,
+  length-take-le,
+  length-drop,
+  take-append-drop,
+}
 use Rattle.std.proofs.lemmas.List.{get_or_append_left, get_or-append_right, get_or-take, drop_more, drop_all}
 use Rattle.vm_ranges.specs.declared.state.NodeState.{NodeState}
 use Rattle.vm_ranges.specs.declared.state.NodeState.TheVariants.{Allocated}
@@ -64,7 +92,8 @@ cover_leaf bs h f = record { lo = h.lo; hi = h.hi; some = h.some; fits = f; tile
 -- The left part with the first blocks of the right part.
 pub leaf_more : (l r : List Block) (k : ℕ) → IsRun (l ++ r) → 0 < length l → k ≤ length r → length l + k ≤ 32 → IsLeaf (l ++ take k r)
 leaf_more l r k h a b c =
-    let e : (l ++ take k r) ++ drop k r ≡ l ++ r = append_assoc l (take k r) (drop k r) ∙ ap (λ (z : List Block). l ++ z) (take-append-drop k r) in
+    let e : (l ++ take k r) ++ drop k r ≡ l ++ r = append_assoc l (take k r) (drop k r)
+    ∙ ap (λ (z : List Block). l ++ z) (take-append-drop k r) in
     let n = length-append l (take k r) in
     let m = length-take-le k r b in
     cover_leaf (l ++ take k r) (cover_left (l ++ take k r) (drop k r) (subst IsRun (sym e) h) (omega arith)) (omega arith)
@@ -72,7 +101,8 @@ leaf_more l r k h a b c =
 -- The last blocks of the left part with the right part.
 pub leaf_upper : (l r : List Block) (k : ℕ) → IsRun (l ++ r) → 0 < k → k < length l → length l + length r ≤ 32 + k → IsLeaf (drop k l ++ r)
 leaf_upper l r k h a b c =
-    let e : take k l ++ (drop k l ++ r) ≡ l ++ r = sym (append_assoc (take k l) (drop k l) r) ∙ ap (λ (z : List Block). z ++ r) (take-append-drop k l) in
+    let e : take k l ++ (drop k l ++ r) ≡ l ++ r = sym (append_assoc (take k l) (drop k l) r)
+    ∙ ap (λ (z : List Block). z ++ r) (take-append-drop k l) in
     let n = length-append (drop k l) r in
     let m = length-take-le k l (omega arith) in
     let d = length-drop k l in
@@ -97,7 +127,8 @@ take_append (x ∷ l) r h =
 
 pub cover_drop : (bs : List Block) → IsRun bs → 1 < length bs → IsRun (drop 1 bs)
 cover_drop bs h n =
-    cover_right (take 1 bs) (drop 1 bs) (subst IsRun (sym (take-append-drop 1 bs)) h) (omega (arith, length-take-le 1 bs (omega arith))) (omega (arith, length-drop 1 bs))
+    cover_right (take 1 bs) (drop 1 bs) (subst IsRun (sym (take-append-drop 1 bs)) h) (omega (arith, length-take-le 1 bs (omega arith)))
+    (omega (arith, length-drop 1 bs))
 
 pub cover_take : (bs : List Block) → IsRun bs → 1 < length bs → IsRun (take (length bs - 1) bs)
 cover_take bs h n =
@@ -123,7 +154,8 @@ cut_at bs i h = sym (take-append-drop i bs) ∙ ap (λ (r : List Block). take i 
 pub cut_last : (bs : List Block) → 0 < length bs → bs ≡ take (length bs - 1) bs ++ nth bs (length bs - 1) ∷ []
 cut_last bs h =
     let e : length bs - 1 + 1 ≡ length bs = omega arith in
-    cut_at bs (length bs - 1) (omega arith) ∙ ap (λ (r : List Block). take (length bs - 1) bs ++ nth bs (length bs - 1) ∷ r) (drop_all (length bs - 1 + 1) bs (omega arith))
+    cut_at bs (length bs - 1) (omega arith) ∙ ap (λ (r : List Block). take (length bs - 1) bs ++ nth bs (length bs - 1) ∷ r)
+    (drop_all (length bs - 1 + 1) bs (omega arith))
 
 -- The left part of a cover ends right before the right part starts.
 pub end_left : (l r : List Block) → IsRun (l ++ r) → 0 < length l → 0 < length r → start_of r ≡ end_of l + 1
@@ -132,7 +164,8 @@ end_left l r h a b =
     let p = tiles_part Allocated h.lo h.hi (l ++ r) (length l - 1) h.tiles (omega arith) in
     let e : length l - 1 + 1 ≡ length l = omega arith in
     let next : (nth (l ++ r) (length l)).key.start ≡ (nth (l ++ r) (length l - 1)).key.end + 1 = rw e at (p.next (omega arith)) in
-    let one : nth (l ++ r) (length l) ≡ nth r 0 = get_or-append_right l r (length l) (length l) blank refl (omega arith) ∙ ap (nth r) (omega arith) in
+    let one : nth (l ++ r) (length l) ≡ nth r 0 = get_or-append_right l r (length l) (length l) blank refl (omega arith)
+    ∙ ap (nth r) (omega arith) in
     let two : nth (l ++ r) (length l - 1) ≡ nth l (length l - 1) = get_or_append_left l r blank (length l - 1) (omega arith) in
     let f = ap (λ (z : Block). z.key.start) one in
     let g = ap (λ (z : Block). z.key.end) two in

@@ -1,5 +1,35 @@
 -- The leaf at an address, and the block at it.
-use Rattle.std.proofs.Common.{◌≡◌, ℕ, zero, suc, ◌+◌, ◌-◌, ◌<◌, ◌≤◌, List, [], ◌∷◌, ◌++◌, length, true, false, leb, Some, None, refl, ap, ◌∙◌, sym, subst, arith, inl, inr, append_assoc, length-append, append-nil}
+use Rattle.std.proofs.Common.{
+  ◌≡◌,
+  ℕ,
+  zero,
+  suc,
+  ◌+◌,
+  ◌-◌,
+  ◌<◌,
+  ◌≤◌,
+  List,
+  [],
+  ◌∷◌,
+  ◌++◌,
+  length,
+  true,
+  false,
+  leb,
+  Some,
+  None,
+  refl,
+  ap,
+  ◌∙◌,
+  sym,
+  subst,
+  arith,
+  inl,
+  inr,
+  append_assoc,
+  length-append,
+  append-nil,
+}
 use Rattle.std.proofs.lemmas.Bool.{cases_lt, le-leb, lt-leb, and_right}
 use Rattle.std.proofs.lemmas.List.{get_or_append_left, get_or-append_right}
 use Rattle.vm_leaf.specs.declared.block.Block.{Block}
@@ -54,14 +84,17 @@ module _ (t l r : Shape) (x : ℕ) (leaf : List Block) (q : t ≡ Fork l r) (h :
   whole = subst IsTree q h
 
   seam : start_of (blocks r) ≡ end_of (blocks l) + 1
-  seam = end_left (blocks l) (blocks r) (subst (λ (z : Shape). IsRun (blocks z)) q c) (omega (arith, left_some l r whole)) (omega (arith, right_some l r whole))
+  seam = end_left (blocks l) (blocks r) (subst (λ (z : Shape). IsRun (blocks z)) q c) (omega (arith, left_some l r whole))
+      (omega (arith, right_some l r whole))
 
   -- The leaf is the last part of the left child, or the first part of the right one.
-  last_part : (lower upper : List Block) → blocks l ≡ lower ++ (leaf ++ upper) → 0 < length leaf → length upper ≡ 0 → end_of (blocks l) ≡ end_of leaf
+  last_part : (lower upper : List Block) → blocks l ≡ lower ++ (leaf ++ upper) → 0 < length leaf → length upper ≡ 0 →
+      end_of (blocks l) ≡ end_of leaf
   last_part lower [] e s z = ap end_of (e ∙ ap (λ (v : List Block). lower ++ v) (append-nil leaf)) ∙ end_append lower leaf s
   last_part lower (b ∷ upper) e s z = absurd (omega arith)
 
-  first_part : (lower upper : List Block) → blocks r ≡ lower ++ (leaf ++ upper) → 0 < length leaf → length lower ≡ 0 → start_of (blocks r) ≡ start_of leaf
+  first_part : (lower upper : List Block) → blocks r ≡ lower ++ (leaf ++ upper) → 0 < length leaf → length lower ≡ 0 →
+      start_of (blocks r) ≡ start_of leaf
   first_part [] upper e s z = ap start_of e ∙ start_append leaf upper s
   first_part (b ∷ lower) upper e s z = absurd (omega arith)
 
@@ -69,7 +102,8 @@ module _ (t l r : Shape) (x : ℕ) (leaf : List Block) (q : t ≡ Fork l r) (h :
   leaf_in_left u i = record {
     lower = i.lower;
     upper = i.upper ++ blocks r;
-    cut = ap blocks q ∙ ap (λ (z : List Block). z ++ blocks r) i.cut ∙ append_assoc i.lower (leaf ++ i.upper) (blocks r) ∙ ap (λ (z : List Block). i.lower ++ z) (append_assoc leaf i.upper (blocks r));
+    cut = ap blocks q ∙ ap (λ (z : List Block). z ++ blocks r) i.cut ∙ append_assoc i.lower (leaf ++ i.upper) (blocks r)
+        ∙ ap (λ (z : List Block). i.lower ++ z) (append_assoc leaf i.upper (blocks r));
     some = i.some;
     from = i.from;
     upto = λ k. elim (cases_lt 0 (length i.upper)) [
@@ -108,7 +142,8 @@ covers_not_below b x h = rw (lt-leb x b.key.end h) (and_right (leb b.key.start x
 
 none_above : (p : NodeState) (lo hi x : ℕ) (bs : List Block) → Tiles p lo bs hi → x < lo → find_superset (at_address x) bs ≡ None
 none_above p lo hi x [] t h = refl
-none_above p lo hi x (b ∷ bs) t h = rw (covers_not_above b x (omega (arith, t.0))) (none_above b.state (b.key.end + 1) hi x bs t.3 (omega (arith, t.0, t.1)))
+none_above p lo hi x (b ∷ bs) t h = rw (covers_not_above b x (omega (arith, t.0)))
+    (none_above b.state (b.key.end + 1) hi x bs t.3 (omega (arith, t.0, t.1)))
 
 none_below : (p : NodeState) (lo hi x : ℕ) (bs : List Block) → Tiles p lo bs hi → hi < x → find_superset (at_address x) bs ≡ None
 none_below p lo hi x [] t h = refl
@@ -116,7 +151,8 @@ none_below p lo hi x (b ∷ bs) t h =
     let e = tiles_order b.state (b.key.end + 1) hi bs t.3 in
     rw (covers_not_below b x (omega arith)) (none_below b.state (b.key.end + 1) hi x bs t.3 h)
 
-found : (p : NodeState) (lo hi x i : ℕ) (bs : List Block) → Tiles p lo bs hi → i < length bs → IsIn (nth bs i).key x → find_superset (at_address x) bs ≡ Some (nth bs i)
+found : (p : NodeState) (lo hi x i : ℕ) (bs : List Block) → Tiles p lo bs hi → i < length bs → IsIn (nth bs i).key x →
+    find_superset (at_address x) bs ≡ Some (nth bs i)
 found p lo hi x i [] t l h = absurd (omega arith)
 found p lo hi x zero (b ∷ bs) t l h = rw (covers_it b x h.0 h.1) refl
 found p lo hi x (suc i) (b ∷ bs) t l h =
@@ -128,7 +164,8 @@ module _ (bs leaf : List Block) (x : ℕ) (run : IsRun bs) (at : IsLeafAt x bs l
   lower_only z = at.cut ∙ ap (λ (v : List Block). v ++ (leaf ++ at.upper)) (no_blocks at.lower z)
 
   upper_only : length at.upper ≡ 0 → bs ≡ at.lower ++ leaf
-  upper_only z = at.cut ∙ ap (λ (v : List Block). at.lower ++ v) (ap (λ (v : List Block). leaf ++ v) (no_blocks at.upper z) ∙ append-nil leaf)
+  upper_only z = at.cut ∙ ap (λ (v : List Block). at.lower ++ v)
+      (ap (λ (v : List Block). leaf ++ v) (no_blocks at.upper z) ∙ append-nil leaf)
 
   pub none_before : x < start_of leaf → find_superset (at_address x) bs ≡ None
   none_before h =
@@ -152,8 +189,10 @@ module _ (bs leaf : List Block) (x : ℕ) (run : IsRun bs) (at : IsLeafAt x bs l
       let m = length-append leaf at.upper in
       let k = ap length at.cut in
       let e : nth bs (length at.lower + i) ≡ nth leaf i =
-      ap (λ (v : List Block). nth v (length at.lower + i)) at.cut ∙ get_or-append_right at.lower (leaf ++ at.upper) (length at.lower) (length at.lower + i) blank refl (omega arith)
+      ap (λ (v : List Block). nth v (length at.lower + i)) at.cut
+      ∙ get_or-append_right at.lower (leaf ++ at.upper) (length at.lower) (length at.lower + i) blank refl (omega arith)
       ∙ ap (nth (leaf ++ at.upper)) (omega arith) ∙ get_or_append_left leaf at.upper blank i l in
-      found Allocated run.lo run.hi x (length at.lower + i) bs run.tiles (omega arith) (subst (λ (b : Block). IsIn b.key x) (sym e) h) ∙ ap (λ (b : Block). Some b) e
+      found Allocated run.lo run.hi x (length at.lower + i) bs run.tiles (omega arith) (subst (λ (b : Block). IsIn b.key x) (sym e) h)
+      ∙ ap (λ (b : Block). Some b) e
 
 pub ruleset at_address_cases = (none_before, none_after, block_found)

@@ -11,7 +11,8 @@ use Rattle.vm_leaf.proofs.Tiles.{tiles_part}
 use Rattle.vm_tree.specs.Walks.{meets, meeting_blocks, IsFirstFrom, IsCountUpTo}
 
 -- ---- The order of blocks
-pub apart : (p : NodeState) (lo hi : ℕ) (bs : List Block) (i k : ℕ) → Tiles p lo bs hi → i < k → k < length bs → (nth bs i).key.end < (nth bs k).key.start
+pub apart : (p : NodeState) (lo hi : ℕ) (bs : List Block) (i k : ℕ) → Tiles p lo bs hi → i < k → k < length bs →
+    (nth bs i).key.end < (nth bs k).key.start
 apart p lo hi [] i k t l h = absurd (omega arith)
 apart p lo hi (b ∷ bs) i zero t l h = absurd (omega arith)
 apart p lo hi (b ∷ bs) zero (suc k) t l h = let q = tiles_part b.state (b.key.end + 1) hi bs k t.3 (omega arith) in omega (arith, q.from)
@@ -30,7 +31,8 @@ module _ (bs : List Block) (h : IsLeaf bs) where
 
   upto_end : (k : ℕ) → k < length bs → (nth bs k).key.end ≤ end_of bs
   upto_end k l = elim (cases_lt (k + 1) (length bs)) [
-    | inl z ↦ (let a = apart Allocated h.lo h.hi bs k (length bs - 1) h.tiles (omega arith) (omega arith) in let b = in_order (length bs - 1) (omega arith) in omega arith)
+    | inl z ↦ (let a = apart Allocated h.lo h.hi bs k (length bs - 1) h.tiles (omega arith) (omega arith) in let b = in_order
+        (length bs - 1) (omega arith) in omega arith)
     | inr z ↦ (let e : end_of bs ≡ (nth bs k).key.end = ap (λ (i : ℕ). (nth bs i).key.end) (omega arith) in omega arith)
   ]
 
@@ -78,7 +80,8 @@ none_before w (b ∷ bs) h = rw (lt-leb w.start b.key.end (h 0 (omega arith))) (
 pub none_after : (w : Range) (bs : List Block) → ((k : ℕ) → k < length bs → w.end < (nth bs k).key.start) → meeting_blocks w bs ≡ []
 none_after w [] h = refl
 none_after w (b ∷ bs) h =
-    rw (lt-leb b.key.start w.end (h 0 (omega arith)), and_right (leb w.start b.key.end) false refl) (none_after w bs (λ k l. h (suc k) (omega arith)))
+    rw (lt-leb b.key.start w.end (h 0 (omega arith)), and_right (leb w.start b.key.end) false refl)
+    (none_after w bs (λ k l. h (suc k) (omega arith)))
 
 meeting_part : (w : Range) (bs : List Block) (i j : ℕ) → i ≤ j → j ≤ length bs
     → ((k : ℕ) → k < i → (nth bs k).key.end < w.start) → ((k : ℕ) → i ≤ k → k < length bs → w.start ≤ (nth bs k).key.end)
@@ -91,10 +94,13 @@ meeting_part w (x ∷ bs) (suc i) zero o l a b c d = absurd (omega arith)
 meeting_part w (x ∷ bs) zero zero o l a b c d = sym (none_after w (x ∷ bs) (λ k m. d k (omega arith) m))
 meeting_part w (x ∷ bs) zero (suc j) o l a b c d =
     rw (le-leb w.start x.key.end (b 0 (omega arith) (omega arith)), le-leb x.key.start w.end (c 0 (omega arith)))
-    (ap (λ (v : List Block). x ∷ v) (meeting_part w bs zero j (omega arith) (omega arith) (λ k m. absurd (omega arith)) (λ k m n. b (suc k) (omega arith) (omega arith)) (λ k m. c (suc k) (omega arith)) (λ k m n. d (suc k) (omega arith) (omega arith))))
+    (ap (λ (v : List Block). x ∷ v)
+    (meeting_part w bs zero j (omega arith) (omega arith) (λ k m. absurd (omega arith)) (λ k m n. b (suc k) (omega arith) (omega arith))
+    (λ k m. c (suc k) (omega arith)) (λ k m n. d (suc k) (omega arith) (omega arith))))
 meeting_part w (x ∷ bs) (suc i) (suc j) o l a b c d =
     rw (lt-leb w.start x.key.end (a 0 (omega arith)))
-    (meeting_part w bs i j (omega arith) (omega arith) (λ k m. a (suc k) (omega arith)) (λ k m n. b (suc k) (omega arith) (omega arith)) (λ k m. c (suc k) (omega arith)) (λ k m n. d (suc k) (omega arith) (omega arith)))
+    (meeting_part w bs i j (omega arith) (omega arith) (λ k m. a (suc k) (omega arith)) (λ k m n. b (suc k) (omega arith) (omega arith))
+    (λ k m. c (suc k) (omega arith)) (λ k m n. d (suc k) (omega arith) (omega arith)))
 
 module _ (w : Range) (bs : List Block) (h : IsLeaf bs) where
   pub ends_before : end_of bs < w.start → [] ≡ meeting_blocks w bs
@@ -105,7 +111,8 @@ module _ (w : Range) (bs : List Block) (h : IsLeaf bs) where
 
   pub part_order : (i j : ℕ) → w.start ≤ w.end → IsFirstFrom w.start bs i → IsCountUpTo w.end bs j → i ≤ j
   part_order i j o f c = elim (cases_lt j i) [
-    | inl z ↦ (let a = f.below j z in let b = c.above j (omega arith) (omega (arith, f.within)) in let d = in_order bs h j (omega (arith, f.within)) in absurd (omega arith))
+    | inl z ↦ (let a = f.below j z in let b = c.above j (omega arith) (omega (arith, f.within)) in let d = in_order bs h j
+        (omega (arith, f.within)) in absurd (omega arith))
     | inr z ↦ z
   ]
 
@@ -114,13 +121,15 @@ module _ (w : Range) (bs : List Block) (h : IsLeaf bs) where
 
 pub ruleset parts = (ends_before, starts_after, part_order, part_is)
 
-pub same_meeting : (v w : Range) (bs : List Block) → ((k : ℕ) → k < length bs → meets v (nth bs k).key ≡ meets w (nth bs k).key) → meeting_blocks v bs ≡ meeting_blocks w bs
+pub same_meeting : (v w : Range) (bs : List Block) → ((k : ℕ) → k < length bs → meets v (nth bs k).key ≡ meets w (nth bs k).key) →
+    meeting_blocks v bs ≡ meeting_blocks w bs
 same_meeting v w [] h = refl
 same_meeting v w (b ∷ bs) h =
     let e : meets v b.key ≡ meets w b.key = h 0 (omega arith) in
     rw (e, same_meeting v w bs (λ k l. h (suc k) (omega arith))) refl
 
-pub meeting_one : (w : Range) (bs : List Block) (k : ℕ) → k < length bs → w.start ≤ (nth bs k).key.end → (nth bs k).key.start ≤ w.end → meeting_blocks w bs ≡ [] → ⊥
+pub meeting_one : (w : Range) (bs : List Block) (k : ℕ) → k < length bs → w.start ≤ (nth bs k).key.end → (nth bs k).key.start ≤ w.end →
+    meeting_blocks w bs ≡ [] → ⊥
 meeting_one w [] k l a b e = absurd (omega arith)
 meeting_one w (x ∷ bs) zero l a b e = none_of x (meeting_blocks w bs) (rw (le-leb w.start x.key.end a, le-leb x.key.start w.end b) at e)
   where

@@ -72,19 +72,22 @@ module _ (w : Range) (n a : ℕ) (some : 0 < n) (aligned : IsAlignment a) where
         let k = end_left (blocks l) (blocks r) tree.run (omega arith) (omega arith) in
         elim (cases_lt w.start (start_of (blocks r))) [
           | inl c ↦ c
-          | inr c ↦ absurd (none_means (blocks l) (none_below w n a Allocated h.lo h.hi (blocks l) some h.tiles (omega (arith, end_of_run (blocks l) h))) e)
+          | inr c ↦ absurd (none_means (blocks l)
+              (none_below w n a Allocated h.lo h.hi (blocks l) some h.tiles (omega (arith, end_of_run (blocks l) h))) e)
         ]
 
     behind : list_any (has_fit_in w n a) (blocks r) ≡ true → start_of (blocks r) ≤ w.end
     behind e =
         let h = (subtree_right l r tree).run in
         elim (cases_lt w.end (start_of (blocks r))) [
-          | inl c ↦ absurd (none_means (blocks r) (none_above w n a Allocated h.lo h.hi (blocks r) some h.tiles (omega (arith, start_of_run (blocks r) h))) e)
+          | inl c ↦ absurd (none_means (blocks r)
+              (none_above w n a Allocated h.lo h.hi (blocks r) some h.tiles (omega (arith, start_of_run (blocks r) h))) e)
           | inr c ↦ c
         ]
 
   -- One child at least has a place.
-  by_found : (end : End) (left right : Bool) (x y most : ℕ) → (left ≡ true → most ≤ 2 * x + 1) → (right ≡ true → most ≤ 2 * y + 1) → (left || right) ≡ true → most ≤ 2 * nodes_of_both end left right x y + 1
+  by_found : (end : End) (left right : Bool) (x y most : ℕ) → (left ≡ true → most ≤ 2 * x + 1) → (right ≡ true → most ≤ 2 * y + 1) →
+      (left || right) ≡ true → most ≤ 2 * nodes_of_both end left right x y + 1
   by_found First true right x y most p q e = omega (arith, p refl)
   by_found First false true x y most p q e = omega (arith, q refl)
   by_found First false false x y most p q e = absurd (cc e)
@@ -92,7 +95,8 @@ module _ (w : Range) (n a : ℕ) (some : 0 < n) (aligned : IsAlignment a) where
   by_found Last true false x y most p q e = omega (arith, p refl)
   by_found Last false false x y most p q e = absurd (cc e)
 
-  pub search_path : (end : End) (s : Shape) → IsSubtree s → list_any (has_fit_in w n a) (blocks s) ≡ true → height_of s ≤ 2 * nodes_of_search end w n a s
+  pub search_path : (end : End) (s : Shape) → IsSubtree s → list_any (has_fit_in w n a) (blocks s) ≡ true →
+      height_of s ≤ 2 * nodes_of_search end w n a s
   unfolding nodes_of_search
   search_path end (Tip bs) t e = rw (passed bs e) (omega arith)
   search_path end (Fork l r) t e =
@@ -102,7 +106,8 @@ module _ (w : Range) (n a : ℕ) (some : 0 < n) (aligned : IsAlignment a) where
       rw (lt-ltb w.start at (before l r t f)) (omega (arith, search_path end l (subtree_left l r t) f, t.balanced.2.1)) in
       let right : list_any (has_fit_in w n a) (blocks r) ≡ true → most ≤ 2 * cond (leb at w.end) (nodes_of_search end w n a r) 0 + 1 = λ f.
       rw (le-leb at w.end (behind l r t f)) (omega (arith, search_path end r (subtree_right l r t) f, t.balanced.2.0)) in
-      let both = by_found end (list_any (has_fit_in w n a) (blocks l)) (list_any (has_fit_in w n a) (blocks r)) _ _ most left right (sym (list_any-append (has_fit_in w n a) (blocks l) (blocks r)) ∙ e) in
+      let both = by_found end (list_any (has_fit_in w n a) (blocks l)) (list_any (has_fit_in w n a) (blocks r)) _ _ most left right
+      (sym (list_any-append (has_fit_in w n a) (blocks l) (blocks r)) ∙ e) in
       rw (passed (blocks l ++ blocks r) e) (omega (arith, both))
 
 -- ---- The nodes from the root
@@ -110,16 +115,20 @@ module _ (w : Range) (n a : ℕ) (some : 0 < n) where
   one_or_none : (v : ℕ) (bs : List Block) → IsSearchCount w n a v (Tip bs) (if list_any (has_fit_in w n a) bs then 1 else 0)
   one_or_none v bs =
       elim (cases_Bool (list_any (has_fit_in w n a) bs)) [
-        | inl e ↦ rw e (record { none = λ i z. absurd (true≢false (sym e ∙ z)); whole = λ i. omega arith; most = omega arith; all = omega arith })
+        | inl e ↦ rw e (record
+            { none = λ i z. absurd (true≢false (sym e ∙ z)); whole = λ i. omega arith; most = omega arith; all = omega arith })
         | inr e ↦ rw e (record { none = λ i z. omega arith; whole = λ i. omega arith; most = omega arith; all = omega arith })
       ]
 
-  pub fit_searches : (end : End) (s : Shape) → IsTree s → IsRun (blocks s) → IsSearchCount w n a (gaps_without_place w n a (blocks s)) s (nodes_to_fit end w n a s)
+  pub fit_searches : (end : End) (s : Shape) → IsTree s → IsRun (blocks s) →
+      IsSearchCount w n a (gaps_without_place w n a (blocks s)) s (nodes_to_fit end w n a s)
   unfolding nodes_to_fit
   fit_searches end (Tip bs) t h = one_or_none (gaps_without_place w n a bs) bs
   fit_searches end (Fork l r) t h = all_searches end w n a (Fork l r) some t.leaves h
 
-  pub fit_path : (end : End) (s : Shape) → IsAlignment a → IsTree s → IsRun (blocks s) → height_of s < 49 → list_any (has_fit_in w n a) (blocks s) ≡ true → height_of s ≤ 2 * nodes_to_fit end w n a s
+  pub fit_path : (end : End) (s : Shape) → IsAlignment a → IsTree s → IsRun (blocks s) → height_of s < 49 →
+      list_any (has_fit_in w n a) (blocks s) ≡ true → height_of s ≤ 2 * nodes_to_fit end w n a s
   unfolding nodes_to_fit
   fit_path end (Tip bs) v t h k e = rw e (omega arith)
-  fit_path end (Fork l r) v t h k e = search_path w n a some v end (Fork l r) (record { balanced = t.balanced; full = t.leaves; run = h; low = k }) e
+  fit_path end (Fork l r) v t h k e = search_path w n a some v end (Fork l r)
+      (record { balanced = t.balanced; full = t.leaves; run = h; low = k }) e

@@ -1,5 +1,30 @@
 -- The plan of the tree of a space.
-use Rattle.std.proofs.Common.{◌≡◌, ℕ, ◌+◌, ◌-◌, ◌*◌, ◌/◌, ◌%◌, ◌^◌, ◌<◌, ◌≤◌, List, [], ◌∷◌, ◌++◌, length, refl, sym, ap, ◌∙◌, arith, inl, inr, length-append, append-nil}
+use Rattle.std.proofs.Common.{
+  ◌≡◌,
+  ℕ,
+  ◌+◌,
+  ◌-◌,
+  ◌*◌,
+  ◌/◌,
+  ◌%◌,
+  ◌^◌,
+  ◌<◌,
+  ◌≤◌,
+  List,
+  [],
+  ◌∷◌,
+  ◌++◌,
+  length,
+  refl,
+  sym,
+  ap,
+  ◌∙◌,
+  arith,
+  inl,
+  inr,
+  length-append,
+  append-nil,
+}
 use Rattle.std.proofs.lemmas.Bool.{cases_lt, lt-ltb}
 use Rattle.std.proofs.Math.Nat.{mul-le-mul_left, div-add-mod}
 use Rattle.vm_ranges.specs.Range.{Range}
@@ -12,7 +37,8 @@ use Rattle.vm_tree.proofs.Built.{left_over, half_low, nodes_of_leaves}
 -- A space has a block.
 pub some_between : (lo hi : ℕ) (rs : List Range) → lo ≤ hi → 0 < length (blocks_between lo rs hi)
 some_between lo hi [] l = rw (lt-ltb lo (hi + 1) (omega arith)) (omega arith)
-some_between lo hi (r ∷ rs) l = let n = length-append (gap_before lo r.start) (held_block r ∷ blocks_between (r.end + 1) rs hi) in omega arith
+some_between lo hi (r ∷ rs) l = let n = length-append (gap_before lo r.start) (held_block r ∷ blocks_between (r.end + 1) rs hi) in omega
+    arith
 
 module _ (n l e m : ℕ) (some : 0 < n) (few : n < 2 ^ 49) (leaves : l ≡ (n - 1) / 32 + 1) (each : e ≡ n / l) (more : m ≡ n % l) where
   pub count_is : l * e + m ≡ n
@@ -37,20 +63,28 @@ module _ (n l e m : ℕ) (some : 0 < n) (few : n < 2 ^ 49) (leaves : l ≡ (n - 
         some = omega arith;
         few = omega arith;
         order = omega arith;
-        fits = elim (cases_lt 32 e) [ inl k ↦ (let f : l * 33 ≤ l * e = mul-le-mul_left l (omega arith) in absurd (omega arith)) | inr k ↦ k ];
-        fits_more = λ z. elim (cases_lt e 32) [ inl k ↦ k | inr k ↦ (let f : l * 32 ≤ l * e = mul-le-mul_left l (omega arith) in absurd (omega arith)) ];
-        full = λ z. elim (cases_lt 11 e) [ inl k ↦ omega arith | inr k ↦ (let f : l * e ≤ l * 11 = mul-le-mul_left l (omega arith) in absurd (omega arith)) ];
-        any = elim (cases_lt 0 (e + m)) [ inl k ↦ k | inr k ↦ (let f : l * e ≤ l * 0 = mul-le-mul_left l (omega arith) in absurd (omega arith)) ];
+        fits = elim (cases_lt 32 e) [
+          | inl k ↦ (let f : l * 33 ≤ l * e = mul-le-mul_left l (omega arith) in absurd (omega arith))
+          | inr k ↦ k
+        ];
+        fits_more = λ z. elim (cases_lt e 32)
+            [ inl k ↦ k | inr k ↦ (let f : l * 32 ≤ l * e = mul-le-mul_left l (omega arith) in absurd (omega arith)) ];
+        full = λ z. elim (cases_lt 11 e)
+            [ inl k ↦ omega arith | inr k ↦ (let f : l * e ≤ l * 11 = mul-le-mul_left l (omega arith) in absurd (omega arith)) ];
+        any = elim (cases_lt 0 (e + m))
+            [ inl k ↦ k | inr k ↦ (let f : l * e ≤ l * 0 = mul-le-mul_left l (omega arith) in absurd (omega arith)) ];
       }
 
-pub tree_is : (n l e m : ℕ) (bs old new : List Block) (s : Shape) → old ≡ bs → l * e + m ≡ n → n ≡ length bs → l ≤ 2 ^ 44 → 32 * l < n + 32 → IsBuilt l e m old s new → IsBuiltTree bs s
+pub tree_is : (n l e m : ℕ) (bs old new : List Block) (s : Shape) → old ≡ bs → l * e + m ≡ n → n ≡ length bs → l ≤ 2 ^ 44 →
+    32 * l < n + 32 → IsBuilt l e m old s new → IsBuiltTree bs s
 tree_is n l e m bs old new s same c d f t b =
     let g = ap length same in
     let k = left_over l e m old new s b in
     let h = b.height in
     let p = nodes_of_leaves s in
     let q = b.leaf_total in
-    let whole : blocks s ≡ bs = sym (b.cut ∙ ap (λ (v : List Block). blocks s ++ v) (nothing new (omega arith)) ∙ append-nil (blocks s)) ∙ same in
+    let whole : blocks s ≡ bs = sym (b.cut ∙ ap (λ (v : List Block). blocks s ++ v) (nothing new (omega arith)) ∙ append-nil (blocks s))
+    ∙ same in
     record {
       blocks = whole;
       tree = record { balanced = b.balanced; leaves = b.rooted };

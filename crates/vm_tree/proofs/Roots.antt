@@ -1,5 +1,30 @@
 -- The root of a tree.
-use Rattle.std.proofs.Common.{◌≡◌, ◌≢◌, ℕ, ◌*◌, ◌<◌, ◌≤◌, true, false, Ok, Err, Result, IfOk, OnErr, inl, inr, ◌⊎◌, List, length, refl, sym, ap, ◌∙◌, subst, arith}
+use Rattle.std.proofs.Common.{
+  ◌≡◌,
+  ◌≢◌,
+  ℕ,
+  ◌*◌,
+  ◌<◌,
+  ◌≤◌,
+  true,
+  false,
+  Ok,
+  Err,
+  Result,
+  IfOk,
+  OnErr,
+  inl,
+  inr,
+  ◌⊎◌,
+  List,
+  length,
+  refl,
+  sym,
+  ap,
+  ◌∙◌,
+  subst,
+  arith,
+}
 use Rattle.std.proofs.lemmas.Bool.{cases_lt, cases_Bool, le-ltb, true≢false}
 use Rattle.vm_ranges.specs.Range.{Range, IsRange, MAX}
 use Rattle.vm_leaf.specs.Blocks.{IsRun, IsLeaf, parts}
@@ -48,7 +73,8 @@ pub freed_run : (k : Range) (old new : List Block) → IsRun old → Frees k old
 freed_run k old new r f = subst IsRun (sym f.after) (cover_freed f.lower k f.upper (subst IsRun f.before r))
 
 -- The tree of a space with held ranges covers the space.
-pub built_run : (space : Range) (held : List Range) (s : Shape) → IsRange space.start space.end → AreInOrder space.start held space.end → IsBuiltTree (blocks_between space.start held space.end) s → IsRun (blocks s)
+pub built_run : (space : Range) (held : List Range) (s : Shape) → IsRange space.start space.end → AreInOrder space.start held space.end →
+    IsBuiltTree (blocks_between space.start held space.end) s → IsRun (blocks s)
 built_run space held s r o b =
     let l = r.0 in
     subst IsRun (sym b.blocks) (record {
@@ -60,7 +86,8 @@ built_run space held s r o b =
     })
 
 -- A root stays valid when a range is freed under it.
-pub freed_root : (k : Range) (change : Change) (n : ℕ) (old new : Link) (v : Shape) → side old ≡ v → IsRoot (record { root = old }) → Frees k (blocks v) (blocks (side new)) → Reduces change n v (side new) → IsSummed new
+pub freed_root : (k : Range) (change : Change) (n : ℕ) (old new : Link) (v : Shape) → side old ≡ v → IsRoot (record { root = old }) →
+    Frees k (blocks v) (blocks (side new)) → Reduces change n v (side new) → IsSummed new
     → IsRoot (record { root = new })
 freed_root k change n old new v q root f h s =
     let run = freed_run k (blocks v) (blocks (side new)) (subst (λ (t : Shape). IsRun (blocks t)) q root.run) f in
@@ -79,7 +106,8 @@ subtree_of : (s : Shape) → 2 ≤ height_of s → IsTree s → IsRun (blocks s)
 subtree_of (Tip bs) h t r k = absurd (omega arith)
 subtree_of (Fork l r) h t c k = record { balanced = t.balanced; full = t.leaves; run = c; low = k }
 
-pub child_of : (t : Link) → 2 ≤ height_of (side t) → IsTree (side t) → IsRun (blocks (side t)) → height_of (side t) < 49 → IsSummed t → IsChild t
+pub child_of : (t : Link) → 2 ≤ height_of (side t) → IsTree (side t) → IsRun (blocks (side t)) → height_of (side t) < 49 → IsSummed t →
+    IsChild t
 child_of t h tree run low summed = record { subtree = subtree_of (side t) h tree run low; summed = summed }
 
 pub path_fits : (x : ℕ) (s : Shape) → IsTree s → height_of s < 49 → nodes_to_address x s ≤ MAX
@@ -95,11 +123,14 @@ grown_tree change old new g = record { balanced = g.grows.balanced; leaves = ful
 fill_parts : (k r : Range) → r.start ≤ k.start → k.end ≤ r.end → length (parts k r) ≡ 1
 fill_parts k r a b = rw (le-ltb k.start r.start a, le-ltb r.end k.end b) refl
 
-fill_adds_none : (seek : Search) (old new : List Block) (taken : Taken) → seek.can_split ≡ false → IsAllocated seek old new taken → taken.added ≡ 0
+fill_adds_none : (seek : Search) (old new : List Block) (taken : Taken) → seek.can_split ≡ false → IsAllocated seek old new taken →
+    taken.added ≡ 0
 fill_adds_none seek old new taken c h =
     let none : (SplitsAt seek h.place → ⊥) = λ s. true≢false (sym (h.taken_at.low s) ∙ c) in
-    let before : h.place.start ≤ h.place.key.start = elim (cases_lt h.place.key.start h.place.start) [ inl l ↦ absurd (none (inl l)) | inr k ↦ k ] in
-    let after : h.place.key.end ≤ (range_at seek h.place).end = elim (cases_lt (range_at seek h.place).end h.place.key.end) [ inl l ↦ absurd (none (inr l)) | inr k ↦ k ] in
+    let before : h.place.start ≤ h.place.key.start = elim (cases_lt h.place.key.start h.place.start)
+    [ inl l ↦ absurd (none (inl l)) | inr k ↦ k ] in
+    let after : h.place.key.end ≤ (range_at seek h.place).end = elim (cases_lt (range_at seek h.place).end h.place.key.end)
+    [ inl l ↦ absurd (none (inr l)) | inr k ↦ k ] in
     omega (arith, h.taken_at.added, fill_parts h.place.key (range_at seek h.place) before after)
 
 same_height : (change : Change) (old new : Shape) → GrowsBy change old new → change ≢ Structure → height_of new ≡ height_of old
@@ -112,18 +143,27 @@ abbrev Allocated : Search → List Block → List Block → Result Taken Refusal
 Allocated seek old new answer = (taken : Taken) → answer ≡ Ok taken → IsAllocated seek old new taken
 
 module _ (seek : Search) (old new : Link) (root : IsRoot (record { root = old })) where
-  pub lone_after : (answer : Result Taken Refusal) → Allocated seek (blocks (side old)) (blocks (side new)) answer → OnErr answer (new ≡ old) → IfOk answer (λ _. IsTree (side new) × (height_of (side new) ≤ 2))
+  pub lone_after : (answer : Result Taken Refusal) → Allocated seek (blocks (side old)) (blocks (side new)) answer →
+      OnErr answer (new ≡ old) → IfOk answer (λ _. IsTree (side new) × (height_of (side new) ≤ 2))
       → (2 ≤ height_of (side new) → IsSummed new) → IsRoot (record { root = new })
-  lone_after (Ok taken) f u t s = record { tree = t.0; run = run_allocated seek (blocks (side old)) (blocks (side new)) taken root.run (f taken refl); height = omega (arith, t.1); summed = s }
+  lone_after (Ok taken) f u t s = record {
+    tree = t.0;
+    run = run_allocated seek (blocks (side old)) (blocks (side new)) taken root.run (f taken refl);
+    height = omega
+        (arith, t.1);
+    summed = s;
+  }
   lone_after (Err e) f u t s = subst (λ (l : Link). IsRoot (record { root = l })) (sym u) root
 
-  pub fork_after : (v : Shape) → side old ≡ v → (answer : Result Taken Refusal) → Allocated seek (blocks v) (blocks (side new)) answer → GrowsIfOk answer v (side new) → IsSummed new → (seek.can_split ≡ true → height_of v < 48) → IsRoot (record { root = new })
+  pub fork_after : (v : Shape) → side old ≡ v → (answer : Result Taken Refusal) → Allocated seek (blocks v) (blocks (side new)) answer →
+      GrowsIfOk answer v (side new) → IsSummed new → (seek.can_split ≡ true → height_of v < 48) → IsRoot (record { root = new })
   fork_after v q (Ok taken) f g s low = record {
     tree = grown_tree taken.change v (side new) g.0;
     run = run_allocated seek (blocks v) (blocks (side new)) taken (subst (λ (t : Shape). IsRun (blocks t)) q root.run) (f taken refl);
     height = elim (cases_Bool seek.can_split) [
       | inl e ↦ (let h = low e in omega (arith, g.0.grows.upto))
-      | inr e ↦ (let h = same_height taken.change v (side new) g.0 (g.1 (fill_adds_none seek (blocks v) (blocks (side new)) taken e (f taken refl))) in omega (arith, root.height, ap height_of q))
+      | inr e ↦ (let h = same_height taken.change v (side new) g.0
+          (g.1 (fill_adds_none seek (blocks v) (blocks (side new)) taken e (f taken refl))) in omega (arith, root.height, ap height_of q))
     ];
     summed = λ h. s;
   }
@@ -154,39 +194,55 @@ no_place (Err CannotSplit) = inr (λ e. absurd (cc))
 
 -- ---- The place that is closest to an end
 module _ (end : End) (seek : Search) (valid : IsSearch seek) where
-  fit_lone_none : (v : Shape) (new : List Block) → height_of v < 2 → AllocatesFit end seek (blocks v) new (Err NoPlace) → nodes_to_fit end (window_of seek) seek.size seek.alignment v ≡ 0
+  fit_lone_none : (v : Shape) (new : List Block) → height_of v < 2 → AllocatesFit end seek (blocks v) new (Err NoPlace) →
+      nodes_to_fit end (window_of seek) seek.size seek.alignment v ≡ 0
   unfolding nodes_to_fit
   fit_lone_none (Tip bs) new h a = rw (none_missed seek valid bs (none_closest end seek bs new a)) refl
   fit_lone_none (Fork l r) new h a = absurd (omega (arith, high l))
 
-  fit_lone_some : (v : Shape) (new : List Block) (answer : Result Taken Refusal) → height_of v < 2 → AllocatesFit end seek (blocks v) new answer → answer ≢ Err NoPlace
+  fit_lone_some : (v : Shape) (new : List Block) (answer : Result Taken Refusal) → height_of v < 2 →
+      AllocatesFit end seek (blocks v) new answer → answer ≢ Err NoPlace
       → nodes_to_fit end (window_of seek) seek.size seek.alignment v ≡ 1
   unfolding nodes_to_fit
   fit_lone_some (Tip bs) new answer h a n = rw (closest_found end seek valid bs new answer n a) refl
   fit_lone_some (Fork l r) new answer h a n = absurd (omega (arith, high l))
 
-  pub fit_lone : (v : Shape) (new : List Block) (answer : Result Taken Refusal) (count : ℕ) → height_of v < 2 → AllocatesFit end seek (blocks v) new answer
-      → (answer ≡ Err NoPlace → count ≡ 0) → (answer ≢ Err NoPlace → count ≡ 1) → count ≡ nodes_to_fit end (window_of seek) seek.size seek.alignment v
+  pub fit_lone : (v : Shape) (new : List Block) (answer : Result Taken Refusal) (count : ℕ) → height_of v < 2 →
+      AllocatesFit end seek (blocks v) new answer
+      → (answer ≡ Err NoPlace → count ≡ 0) → (answer ≢ Err NoPlace → count ≡ 1) →
+      count ≡ nodes_to_fit end (window_of seek) seek.size seek.alignment v
   fit_lone v new answer count h a none found =
       elim (no_place answer) [
         | inl e ↦ none e ∙ sym (fit_lone_none v new h (subst (AllocatesFit end seek (blocks v) new) e a))
         | inr n ↦ found n ∙ sym (fit_lone_some v new answer h a n)
       ]
 
-  pub fit_tall : (v : Shape) → 2 ≤ height_of v → nodes_to_fit end (window_of seek) seek.size seek.alignment v ≡ nodes_of_search end (window_of seek) seek.size seek.alignment v
+  pub fit_tall : (v : Shape) → 2 ≤ height_of v →
+      nodes_to_fit end (window_of seek) seek.size seek.alignment v ≡ nodes_of_search end (window_of seek) seek.size seek.alignment v
   unfolding nodes_to_fit
   fit_tall (Tip bs) h = absurd (omega arith)
   fit_tall (Fork l r) h = refl
 
-  pub fit_passed : (v : Shape) → 2 ≤ height_of v → may_fit_in seek.size seek.alignment (blocks v) ≡ false → nodes_to_fit end (window_of seek) seek.size seek.alignment v ≡ 0
+  pub fit_passed : (v : Shape) → 2 ≤ height_of v → may_fit_in seek.size seek.alignment (blocks v) ≡ false →
+      nodes_to_fit end (window_of seek) seek.size seek.alignment v ≡ 0
   fit_passed v t h = fit_tall v t ∙ nodes_passed end seek valid v h
 
   -- The bounds on the nodes that were entered.
-  module _ (v : Shape) (tree : IsTree v) (run : IsRun (blocks v)) (low : height_of v < 49) (count : ℕ) (exact : count ≡ nodes_to_fit end (window_of seek) seek.size seek.alignment v) where
-    pub fit_bounds : IsSearchCount (window_of seek) seek.size seek.alignment (gaps_without_place (window_of seek) seek.size seek.alignment (blocks v)) v count
-    fit_bounds = subst (IsSearchCount (window_of seek) seek.size seek.alignment (gaps_without_place (window_of seek) seek.size seek.alignment (blocks v)) v) (sym exact) (fit_searches (window_of seek) seek.size seek.alignment valid.some end v tree run)
+  module _ (v : Shape) (tree : IsTree v) (run : IsRun (blocks v)) (low : height_of v < 49) (count : ℕ)
+      (exact : count ≡ nodes_to_fit end (window_of seek) seek.size seek.alignment v) where
+    pub fit_bounds : IsSearchCount (window_of seek) seek.size seek.alignment
+        (gaps_without_place (window_of seek) seek.size seek.alignment (blocks v)) v count
+    fit_bounds = subst (IsSearchCount (window_of seek) seek.size seek.alignment
+        (gaps_without_place (window_of seek) seek.size seek.alignment (blocks v)) v) (sym exact)
+        (fit_searches (window_of seek) seek.size seek.alignment valid.some end v tree run)
 
-    pub fit_least : (new : List Block) (answer : Result Taken Refusal) → AllocatesFit end seek (blocks v) new answer → answer ≢ Err NoPlace → height_of v ≤ 2 * count
-    fit_least new answer a n = omega (arith, exact, fit_path (window_of seek) seek.size seek.alignment valid.some end v valid.aligned tree run low (closest_found end seek valid (blocks v) new answer n a))
+    pub fit_least : (new : List Block) (answer : Result Taken Refusal) → AllocatesFit end seek (blocks v) new answer →
+        answer ≢ Err NoPlace → height_of v ≤ 2 * count
+    fit_least new answer a n = omega (
+      arith,
+      exact,
+      fit_path (window_of seek) seek.size seek.alignment valid.some end v valid.aligned tree run low
+          (closest_found end seek valid (blocks v) new answer n a),
+    )
 
 pub ruleset allocating_fit = (child_of, search_fits, fit_tall, passed, fit_passed, fit_bounds, fit_least)

@@ -1,6 +1,36 @@
 -- The blocks that a search for a place looks at, and those that it passes over.
 use Rattle.std.specs.Prelude.{◌&&◌, ◌||◌}
-use Rattle.std.proofs.Common.{◌≡◌, ℕ, zero, suc, ◌+◌, ◌-◌, ◌^◌, ◌<◌, ◌≤◌, Bool, true, false, cond, leb, List, [], ◌∷◌, ◌++◌, length, take, drop, refl, sym, ap, ◌∙◌, subst, arith, inl, inr}
+use Rattle.std.proofs.Common.{
+  ◌≡◌,
+  ℕ,
+  zero,
+  suc,
+  ◌+◌,
+  ◌-◌,
+  ◌^◌,
+  ◌<◌,
+  ◌≤◌,
+  Bool,
+  true,
+  false,
+  cond,
+  leb,
+  List,
+  [],
+  ◌∷◌,
+  ◌++◌,
+  length,
+  take,
+  drop,
+  refl,
+  sym,
+  ap,
+  ◌∙◌,
+  subst,
+  arith,
+  inl,
+  inr,
+}
 use Rattle.std.specs.Int.{w64, trailing_zeros, bit_at}
 use Rattle.std.specs.List.{All, list_any}
 use Rattle.std.proofs.Math.Bool.{or-true}
@@ -35,7 +65,8 @@ unfolding IsAlignment
 exponent_by_trailing a h =
     let low = bit_at-trailing_zeros w64 a (alignment_pos a h) (alignment_below a h) in (
       low.0,
-      h.2 ∙ ap (λ (v : ℕ). 2 ^ v) (sym (lowest_of_power (trailing_zeros w64 a) h.0 (ap (λ (v : ℕ). bit_at v (trailing_zeros w64 a)) (sym h.2) ∙ low.1))),
+      h.2 ∙ ap (λ (v : ℕ). 2 ^ v) (sym
+          (lowest_of_power (trailing_zeros w64 a) h.0 (ap (λ (v : ℕ). bit_at v (trailing_zeros w64 a)) (sym h.2) ∙ low.1))),
     )
 
 -- ---- The number of alignments decides if a gap has a multiple
@@ -52,7 +83,8 @@ unfolding has_aligned
 own_unaligned k b w = by_state b.state
   where
     by_state : (st : NodeState) → cond (is_free st) (alignment_count b.key) 0 ≤ k → (is_free st && has_multiple (2 ^ k) b.key) ≡ false
-    by_state Free l = false_from_ne_true (has_multiple (2 ^ k) b.key) (λ e. omega (arith, (count_is_exact k b.key w).1 ((multiple_is_exact (2 ^ k) b.key (pow_pos k)).0 e)))
+    by_state Free l = false_from_ne_true (has_multiple (2 ^ k) b.key)
+        (λ e. omega (arith, (count_is_exact k b.key w).1 ((multiple_is_exact (2 ^ k) b.key (pow_pos k)).0 e)))
     by_state Allocated l = refl
 
 some_aligned : (k : ℕ) (bs : List Block) → k < 64 → k < most_alignments bs → list_any (has_aligned (2 ^ k)) bs ≡ true
@@ -68,11 +100,13 @@ none_aligned k [] w m = refl
 none_aligned k (b ∷ bs) w m = rw (own_unaligned k b w (omega arith), none_aligned k bs w (omega arith)) refl
 
 -- ---- The lists that are searched
-pub searched_if : (n a : ℕ) (bs : List Block) → IsAlignment a → n ≤ longest_gap bs → trailing_zeros w64 a < most_alignments bs → may_fit_in n a bs ≡ true
+pub searched_if : (n a : ℕ) (bs : List Block) → IsAlignment a → n ≤ longest_gap bs → trailing_zeros w64 a < most_alignments bs →
+    may_fit_in n a bs ≡ true
 unfolding may_fit_in
 searched_if n a bs u p q =
     let t = exponent_by_trailing a u in
-    let some : list_any (has_aligned a) bs ≡ true = subst (λ (v : ℕ). list_any (has_aligned v) bs ≡ true) (sym t.1) (some_aligned (trailing_zeros w64 a) bs t.0 q) in
+    let some : list_any (has_aligned a) bs ≡ true = subst (λ (v : ℕ). list_any (has_aligned v) bs ≡ true) (sym t.1)
+    (some_aligned (trailing_zeros w64 a) bs t.0 q) in
     rw (le-leb n (longest_gap bs) p) some
 
 pub not_if_short : (n a : ℕ) (bs : List Block) → longest_gap bs < n → may_fit_in n a bs ≡ false
@@ -83,7 +117,8 @@ pub not_if_unaligned : (n a : ℕ) (bs : List Block) → IsAlignment a → most_
 unfolding may_fit_in
 not_if_unaligned n a bs u q =
     let t = exponent_by_trailing a u in
-    let none : list_any (has_aligned a) bs ≡ false = subst (λ (v : ℕ). list_any (has_aligned v) bs ≡ false) (sym t.1) (none_aligned (trailing_zeros w64 a) bs t.0 q) in
+    let none : list_any (has_aligned a) bs ≡ false = subst (λ (v : ℕ). list_any (has_aligned v) bs ≡ false) (sym t.1)
+    (none_aligned (trailing_zeros w64 a) bs t.0 q) in
     false_from_ne_true _ (λ e. let parts = and_parts (leb n (longest_gap bs)) (list_any (has_aligned a) bs) e in cc)
 
 pub ruleset searched = (searched_if, not_if_short, not_if_unaligned)
@@ -131,7 +166,8 @@ module _ (w : Range) (n a : ℕ) where
 
   all_cut : (bs : List Block) → All (HasNoFit n a) bs → All (HasNoFitIn w n a) bs
   all_cut [] h = All-nil (HasNoFitIn w n a)
-  all_cut (b ∷ bs) h = All-cons (HasNoFitIn w n a) b bs (cut_none b (All-head (HasNoFit n a) b bs h)) (all_cut bs (All-tail (HasNoFit n a) b bs h))
+  all_cut (b ∷ bs) h = All-cons (HasNoFitIn w n a) b bs (cut_none b (All-head (HasNoFit n a) b bs h))
+      (all_cut bs (All-tail (HasNoFit n a) b bs h))
 
   pub none_if_passed : (bs : List Block) → 0 < n → IsAlignment a → may_fit_in n a bs ≡ false → All (HasNoFitIn w n a) bs
   none_if_passed bs z u e = all_cut bs (none_unless_searched n a bs z u e)
@@ -164,12 +200,15 @@ module _ (w : Range) (n a : ℕ) where
   all_upto [] zero h = All-nil (HasNoFitIn w n a)
   all_upto [] (suc m) h = All-nil (HasNoFitIn w n a)
   all_upto (b ∷ bs) zero h = All-nil (HasNoFitIn w n a)
-  all_upto (b ∷ bs) (suc m) h = All-cons (HasNoFitIn w n a) b (take m bs) (h zero (omega arith)) (all_upto bs m (λ k l. h (suc k) (omega arith)))
+  all_upto (b ∷ bs) (suc m) h = All-cons (HasNoFitIn w n a) b (take m bs) (h zero (omega arith))
+      (all_upto bs m (λ k l. h (suc k) (omega arith)))
 
-  all_from : (bs : List Block) (m : ℕ) → ((k : ℕ) → m ≤ k → k < length bs → HasNoFitIn w n a (nth bs k)) → All (HasNoFitIn w n a) (drop m bs)
+  all_from : (bs : List Block) (m : ℕ) → ((k : ℕ) → m ≤ k → k < length bs → HasNoFitIn w n a (nth bs k)) →
+      All (HasNoFitIn w n a) (drop m bs)
   all_from [] zero h = All-nil (HasNoFitIn w n a)
   all_from [] (suc m) h = All-nil (HasNoFitIn w n a)
-  all_from (b ∷ bs) zero h = All-cons (HasNoFitIn w n a) b bs (h zero (omega arith) (omega arith)) (all_from bs zero (λ k l u. h (suc k) (omega arith) (omega arith)))
+  all_from (b ∷ bs) zero h = All-cons (HasNoFitIn w n a) b bs (h zero (omega arith) (omega arith))
+      (all_from bs zero (λ k l u. h (suc k) (omega arith) (omega arith)))
   all_from (b ∷ bs) (suc m) h = all_from bs m (λ k l u. h (suc k) (omega arith) (omega arith))
 
   pub none_upto : (bs : List Block) (i : ℕ) → HaveNoFitIn w n a bs 0 i → All (HasNoFitIn w n a) (take i bs)
@@ -230,5 +269,6 @@ module _ (w : Range) (n a : ℕ) where
       rw (missed_in b p (All-head (HasNoFitIn w n a) b bs h), none_found bs p (All-tail (HasNoFitIn w n a) b bs h))
 
   -- With a place in a block, the test is true for that block.
-  pub one_found : (xs : List Block) (b : Block) (ys : List Block) (t : ℕ) → 0 < a → IsFit n a (cut_to w b) t → list_any (has_fit_in w n a) (xs ++ b ∷ ys) ≡ true
+  pub one_found : (xs : List Block) (b : Block) (ys : List Block) (t : ℕ) → 0 < a → IsFit n a (cut_to w b) t →
+      list_any (has_fit_in w n a) (xs ++ b ∷ ys) ≡ true
   one_found xs b ys t p f = one_found_by (has_fit_in w n a) xs b ys (fit_found n a t (cut_to w b) p f)

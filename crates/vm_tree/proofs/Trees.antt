@@ -1,5 +1,32 @@
 -- Trees that are balanced, mended and joined.
-use Rattle.std.proofs.Common.{◌≡◌, ℕ, zero, suc, ◌+◌, ◌-◌, ◌<◌, ◌≤◌, max, List, [], ◌∷◌, ◌++◌, length, take, drop, refl, ap, ◌∙◌, sym, subst, arith, append_assoc, length-append, length-drop, length-take-le}
+use Rattle.std.proofs.Common.{
+  ◌≡◌,
+  ℕ,
+  zero,
+  suc,
+  ◌+◌,
+  ◌-◌,
+  ◌<◌,
+  ◌≤◌,
+  max,
+  List,
+  [],
+  ◌∷◌,
+  ◌++◌,
+  length,
+  take,
+  drop,
+  refl,
+  ap,
+  ◌∙◌,
+  sym,
+  subst,
+  arith,
+  append_assoc,
+  length-append,
+  length-drop,
+  length-take-le,
+}
 use Rattle.vm_leaf.specs.declared.block.Block.{Block}
 use Rattle.vm_leaf.specs.Blocks.{start_of}
 use Rattle.vm_leaf.specs.Blocks.{IsRun}
@@ -46,13 +73,18 @@ joined l r h d = record {
   steady = λ a b c. refl;
 }
 
-pub rotated_right : (a b r : Shape) → CanBalance (Fork a b) r → height_of (Fork a b) ≡ height_of r + 2 → height_of b ≤ height_of a → Mends (Fork a b) r (Fork a (Fork b r))
+pub rotated_right : (a b r : Shape) → CanBalance (Fork a b) r → height_of (Fork a b) ≡ height_of r + 2 → height_of b ≤ height_of a →
+    Mends (Fork a b) r (Fork a (Fork b r))
 rotated_right a b r h e o =
     let d = h.left.2 in
     record {
       blocks = sym (append_assoc (blocks a) (blocks b) (blocks r));
       tree = record {
-        balanced = (h.left.0, (h.left.1, h.right, (omega (arith, d.0, d.1), omega (arith, d.0, d.1))), (omega (arith, d.0, d.1), omega (arith, d.0, d.1)));
+        balanced = (
+          h.left.0,
+          (h.left.1, h.right, (omega (arith, d.0, d.1), omega (arith, d.0, d.1))),
+          (omega (arith, d.0, d.1), omega (arith, d.0, d.1)),
+        );
         leaves = (h.left_full.0, (h.left_full.1, h.right_full));
       };
       upto = omega (arith, d.0, d.1);
@@ -61,13 +93,18 @@ rotated_right a b r h e o =
       steady = λ a b c. absurd (omega (arith, c.0, c.1));
     }
 
-pub rotated_left : (l a b : Shape) → CanBalance l (Fork a b) → height_of (Fork a b) ≡ height_of l + 2 → height_of a ≤ height_of b → Mends l (Fork a b) (Fork (Fork l a) b)
+pub rotated_left : (l a b : Shape) → CanBalance l (Fork a b) → height_of (Fork a b) ≡ height_of l + 2 → height_of a ≤ height_of b →
+    Mends l (Fork a b) (Fork (Fork l a) b)
 rotated_left l a b h e o =
     let d = h.right.2 in
     record {
       blocks = append_assoc (blocks l) (blocks a) (blocks b);
       tree = record {
-        balanced = ((h.left, h.right.0, (omega (arith, d.0, d.1), omega (arith, d.0, d.1))), h.right.1, (omega (arith, d.0, d.1), omega (arith, d.0, d.1)));
+        balanced = (
+          (h.left, h.right.0, (omega (arith, d.0, d.1), omega (arith, d.0, d.1))),
+          h.right.1,
+          (omega (arith, d.0, d.1), omega (arith, d.0, d.1)),
+        );
         leaves = ((h.left_full, h.right_full.0), h.right_full.1);
       };
       upto = omega (arith, d.0, d.1);
@@ -82,7 +119,8 @@ assoc4 a b c d = simp append_assoc
 assoc4_left : (a b c d : List Block) → (a ++ b) ++ (c ++ d) ≡ a ++ ((b ++ c) ++ d)
 assoc4_left a b c d = simp append_assoc
 
-pub rotated_twice_right : (a b c r : Shape) → CanBalance (Fork a (Fork b c)) r → height_of (Fork a (Fork b c)) ≡ height_of r + 2 → height_of a < height_of (Fork b c)
+pub rotated_twice_right : (a b c r : Shape) → CanBalance (Fork a (Fork b c)) r → height_of (Fork a (Fork b c)) ≡ height_of r + 2 →
+    height_of a < height_of (Fork b c)
     → Mends (Fork a (Fork b c)) r (Fork (Fork a b) (Fork c r))
 rotated_twice_right a b c r h e o =
     let d = h.left.2 in
@@ -103,7 +141,8 @@ rotated_twice_right a b c r h e o =
       steady = λ a b c. absurd (omega (arith, c.0, c.1));
     }
 
-pub rotated_twice_left : (l b c a : Shape) → CanBalance l (Fork (Fork b c) a) → height_of (Fork (Fork b c) a) ≡ height_of l + 2 → height_of a < height_of (Fork b c)
+pub rotated_twice_left : (l b c a : Shape) → CanBalance l (Fork (Fork b c) a) → height_of (Fork (Fork b c) a) ≡ height_of l + 2 →
+    height_of a < height_of (Fork b c)
     → Mends l (Fork (Fork b c) a) (Fork (Fork l b) (Fork c a))
 rotated_twice_left l b c a h e o =
     let d = h.right.2 in
@@ -124,7 +163,8 @@ rotated_twice_left l b c a h e o =
       steady = λ a b c. absurd (omega (arith, c.0, c.1));
     }
 
-pub two_leaves : (xs ys us vs : List Block) → us ++ vs ≡ xs ++ ys → (12 ≤ length us) × (length us ≤ 32) → (12 ≤ length vs) × (length vs ≤ 32)
+pub two_leaves : (xs ys us vs : List Block) → us ++ vs ≡ xs ++ ys → (12 ≤ length us) × (length us ≤ 32) →
+    (12 ≤ length vs) × (length vs ≤ 32)
     → 32 < length xs + length ys → JoinsLeaves xs ys (Fork (Tip us) (Tip vs))
 two_leaves xs ys us vs e a b m = record {
   blocks = e;
@@ -148,14 +188,16 @@ joined_rooted : (xs ys : List Block) (s : Shape) → JoinsLeaves xs ys s → 0 <
 joined_rooted xs ys s j a =
     elim (Rattle.std.proofs.lemmas.Bool.cases_lt 32 (length xs + length ys)) [
       | Rattle.std.proofs.Common.inl k ↦ full_rooted s (j.full k)
-      | Rattle.std.proofs.Common.inr k ↦ subst IsRooted (sym (j.merged k)) (omega (arith, length-append xs ys), omega (arith, length-append xs ys))
+      | Rattle.std.proofs.Common.inr k ↦ subst IsRooted (sym (j.merged k))
+          (omega (arith, length-append xs ys), omega (arith, length-append xs ys))
     ]
 
 joined_full : (xs ys : List Block) (s : Shape) → JoinsLeaves xs ys s → 12 ≤ length xs + length ys → HasFullLeaves s
 joined_full xs ys s j a =
     elim (Rattle.std.proofs.lemmas.Bool.cases_lt 32 (length xs + length ys)) [
       | Rattle.std.proofs.Common.inl k ↦ j.full k
-      | Rattle.std.proofs.Common.inr k ↦ subst HasFullLeaves (sym (j.merged k)) (omega (arith, length-append xs ys), omega (arith, length-append xs ys))
+      | Rattle.std.proofs.Common.inr k ↦ subst HasFullLeaves (sym (j.merged k))
+          (omega (arith, length-append xs ys), omega (arith, length-append xs ys))
     ]
 
 joined_low : (xs ys : List Block) (s : Shape) → JoinsLeaves xs ys s → height_of s ≤ 2
@@ -187,7 +229,8 @@ cannot_stay_right xs ys j a b =
       | Rattle.std.proofs.Common.inr k ↦ omega arith
     ]
 
-pub filled_leaves : (xs ys : List Block) (s : Shape) → CanMend (Tip xs) (Tip ys) → JoinsLeaves xs ys s → CannotStay xs ys → Mends (Tip xs) (Tip ys) s
+pub filled_leaves : (xs ys : List Block) (s : Shape) → CanMend (Tip xs) (Tip ys) → JoinsLeaves xs ys s → CannotStay xs ys →
+    Mends (Tip xs) (Tip ys) s
 filled_leaves xs ys s h j n =
     let k = joined_low xs ys s j in
     let t = high s in
@@ -203,7 +246,8 @@ filled_leaves xs ys s h j n =
       steady = λ a b c. absurd (n a b);
     }
 
-pub filled_low : (xs ys : List Block) (r s : Shape) → CanMend (Tip xs) (Fork (Tip ys) r) → JoinsNext First (Tip xs) (Fork (Tip ys) r) → JoinsLeaves xs ys s
+pub filled_low : (xs ys : List Block) (r s : Shape) → CanMend (Tip xs) (Fork (Tip ys) r) → JoinsNext First (Tip xs) (Fork (Tip ys) r) →
+    JoinsLeaves xs ys s
     → Mends (Tip xs) (Fork (Tip ys) r) (Fork s r)
 filled_low xs ys r s h n j =
     let k = joined_low xs ys s j in
@@ -211,9 +255,12 @@ filled_low xs ys r s h n j =
     let u = high r in
     let d = h.right.balanced.2 in
     let y = h.right.leaves.0.0 in
-    let low : DifferByAtMost 1 (height_of s) (height_of r) × (height_of (Fork (Tip ys) r) ≤ height_of (Fork s r)) × (height_of (Fork s r) ≤ height_of (Fork (Tip ys) r) + 1) = elim n [
-      | Rattle.std.proofs.Common.inl p ↦ (let v : height_of (Fork (Tip ys) r) ≤ 2 = h.left_short p in ((omega arith, omega arith), omega arith, omega arith))
-      | Rattle.std.proofs.Common.inr p ↦ (let v = ap height_of (j.merged p) in ((omega (arith, d.0), omega (arith, d.1)), omega arith, omega arith))
+    let low : DifferByAtMost 1 (height_of s) (height_of r) × (height_of (Fork (Tip ys) r) ≤ height_of (Fork s r))
+    × (height_of (Fork s r) ≤ height_of (Fork (Tip ys) r) + 1) = elim n [
+      | Rattle.std.proofs.Common.inl p ↦
+          (let v : height_of (Fork (Tip ys) r) ≤ 2 = h.left_short p in ((omega arith, omega arith), omega arith, omega arith))
+      | Rattle.std.proofs.Common.inr p ↦
+          (let v = ap height_of (j.merged p) in ((omega (arith, d.0), omega (arith, d.1)), omega arith, omega arith))
     ] in
     record {
       blocks = ap (λ (z : List Block). z ++ blocks r) j.blocks ∙ append_assoc xs ys (blocks r);
@@ -233,7 +280,8 @@ filled_low xs ys r s h n j =
       ];
     }
 
-pub filled_high : (l : Shape) (xs ys : List Block) (s : Shape) → CanMend (Fork l (Tip xs)) (Tip ys) → JoinsNext Last (Tip ys) (Fork l (Tip xs)) → JoinsLeaves xs ys s
+pub filled_high : (l : Shape) (xs ys : List Block) (s : Shape) → CanMend (Fork l (Tip xs)) (Tip ys) →
+    JoinsNext Last (Tip ys) (Fork l (Tip xs)) → JoinsLeaves xs ys s
     → Mends (Fork l (Tip xs)) (Tip ys) (Fork l s)
 filled_high l xs ys s h n j =
     let k = joined_low xs ys s j in
@@ -241,9 +289,12 @@ filled_high l xs ys s h n j =
     let u = high l in
     let d = h.left.balanced.2 in
     let y = h.left.leaves.1.0 in
-    let low : DifferByAtMost 1 (height_of l) (height_of s) × (height_of (Fork l (Tip xs)) ≤ height_of (Fork l s)) × (height_of (Fork l s) ≤ height_of (Fork l (Tip xs)) + 1) = elim n [
-      | Rattle.std.proofs.Common.inl p ↦ (let v : height_of (Fork l (Tip xs)) ≤ 2 = h.right_short p in ((omega arith, omega arith), omega arith, omega arith))
-      | Rattle.std.proofs.Common.inr p ↦ (let v = ap height_of (j.merged (omega arith)) in ((omega (arith, d.0), omega (arith, d.1)), omega arith, omega arith))
+    let low : DifferByAtMost 1 (height_of l) (height_of s) × (height_of (Fork l (Tip xs)) ≤ height_of (Fork l s))
+    × (height_of (Fork l s) ≤ height_of (Fork l (Tip xs)) + 1) = elim n [
+      | Rattle.std.proofs.Common.inl p ↦
+          (let v : height_of (Fork l (Tip xs)) ≤ 2 = h.right_short p in ((omega arith, omega arith), omega arith, omega arith))
+      | Rattle.std.proofs.Common.inr p ↦
+          (let v = ap height_of (j.merged (omega arith)) in ((omega (arith, d.0), omega (arith, d.1)), omega arith, omega arith))
     ] in
     record {
       blocks = ap (λ (z : List Block). blocks l ++ z) j.blocks ∙ sym (append_assoc (blocks l) xs ys);
@@ -289,7 +340,8 @@ pub full_len : (s : Shape) → IsTree s → 12 ≤ leaf_len s → HasFullLeaves 
 full_len (Tip bs) h k = (k, h.leaves.1)
 full_len (Fork l r) h k = h.leaves
 
-pub can_balance : (l r : Shape) → CanMend l r → 12 ≤ leaf_len l → 12 ≤ leaf_len r → 32 < leaf_len l + end_len First r → 32 < leaf_len r + end_len Last l → CanBalance l r
+pub can_balance : (l r : Shape) → CanMend l r → 12 ≤ leaf_len l → 12 ≤ leaf_len r → 32 < leaf_len l + end_len First r →
+    32 < leaf_len r + end_len Last l → CanBalance l r
 can_balance l r h a b c d = record {
   left = h.left.balanced;
   right = h.right.balanced;
@@ -322,12 +374,15 @@ leaf_last a (Fork b c) ys h n =
     ]
 
 pub next_first : (xs : List Block) (r m z : Shape) → r ≡ Fork m z → CanMend (Tip xs) r → JoinsNext First (Tip xs) r → height_of m < 2
-next_first xs r m z q h n = leaf_first xs m z (subst (λ (t : Shape). CanMend (Tip xs) t) q h) (subst (λ (t : Shape). JoinsNext First (Tip xs) t) q n)
+next_first xs r m z q h n = leaf_first xs m z (subst (λ (t : Shape). CanMend (Tip xs) t) q h)
+    (subst (λ (t : Shape). JoinsNext First (Tip xs) t) q n)
 
 pub next_last : (l a m : Shape) (ys : List Block) → l ≡ Fork a m → CanMend l (Tip ys) → JoinsNext Last (Tip ys) l → height_of m < 2
-next_last l a m ys q h n = leaf_last a m ys (subst (λ (t : Shape). CanMend t (Tip ys)) q h) (subst (λ (t : Shape). JoinsNext Last (Tip ys) t) q n)
+next_last l a m ys q h n = leaf_last a m ys (subst (λ (t : Shape). CanMend t (Tip ys)) q h)
+    (subst (λ (t : Shape). JoinsNext Last (Tip ys) t) q n)
 
-pub filled_low_at : (xs ys : List Block) (r m z low out : Shape) → r ≡ Fork m z → m ≡ Tip ys → CanMend (Tip xs) r → JoinsNext First (Tip xs) r → JoinsLeaves xs ys low → out ≡ Fork low z
+pub filled_low_at : (xs ys : List Block) (r m z low out : Shape) → r ≡ Fork m z → m ≡ Tip ys → CanMend (Tip xs) r →
+    JoinsNext First (Tip xs) r → JoinsLeaves xs ys low → out ≡ Fork low z
     → Mends (Tip xs) r out
 filled_low_at xs ys r m z low out e f h n j o =
     let q : r ≡ Fork (Tip ys) z = e ∙ ap (λ (t : Shape). Fork t z) f in
@@ -335,7 +390,8 @@ filled_low_at xs ys r m z low out e f h n j o =
     (subst (λ (t : Shape). Mends (Tip xs) t (Fork low z)) (sym q)
     (filled_low xs ys z low (subst (λ (t : Shape). CanMend (Tip xs) t) q h) (subst (λ (t : Shape). JoinsNext First (Tip xs) t) q n) j))
 
-pub filled_high_at : (xs ys : List Block) (l a m high out : Shape) → l ≡ Fork a m → m ≡ Tip xs → CanMend l (Tip ys) → JoinsNext Last (Tip ys) l → JoinsLeaves xs ys high → out ≡ Fork a high
+pub filled_high_at : (xs ys : List Block) (l a m high out : Shape) → l ≡ Fork a m → m ≡ Tip xs → CanMend l (Tip ys) →
+    JoinsNext Last (Tip ys) l → JoinsLeaves xs ys high → out ≡ Fork a high
     → Mends l (Tip ys) out
 filled_high_at xs ys l a m high out e f h n j o =
     let q : l ≡ Fork a (Tip xs) = e ∙ ap (λ (t : Shape). Fork a t) f in
@@ -371,11 +427,13 @@ run_of_high xs ys l a m e f h =
     cover_high (blocks a) xs ys g.cover (omega (arith, left_some a (Tip xs) g.left)) (omega (arith, right_some a (Tip xs) g.left))
 
 -- The second leaf of a node starts at the same address after it was joined with the next leaf.
-pub joined_start : (xs ys : List Block) (l a m s : Shape) → l ≡ Fork a m → m ≡ Tip xs → CanMend l (Tip ys) → JoinsLeaves xs ys s → start_of (blocks m) ≡ start_of (blocks s)
+pub joined_start : (xs ys : List Block) (l a m s : Shape) → l ≡ Fork a m → m ≡ Tip xs → CanMend l (Tip ys) → JoinsLeaves xs ys s →
+    start_of (blocks m) ≡ start_of (blocks s)
 joined_start xs ys l a m s e f h j =
     let q : l ≡ Fork a (Tip xs) = e ∙ ap (λ (t : Shape). Fork a t) f in
     let g : CanMend (Fork a (Tip xs)) (Tip ys) = subst (λ (t : Shape). CanMend t (Tip ys)) q h in
-    ap (λ (t : Shape). start_of (blocks t)) f ∙ sym (ap start_of j.blocks ∙ start_append xs ys (omega (arith, right_some a (Tip xs) g.left)))
+    ap (λ (t : Shape). start_of (blocks t)) f ∙ sym
+    (ap start_of j.blocks ∙ start_append xs ys (omega (arith, right_some a (Tip xs) g.left)))
 
 pub unchanged : (s : Shape) → IsTree s → Shrinks s s
 unchanged s h = record { tree = h; upto = omega arith; from = omega arith }
@@ -401,7 +459,11 @@ can_mend l r a b h c =
     record {
       left = h.left.tree;
       right = h.right.tree;
-      close = (omega (arith, d.0, d.1, h.left.upto, h.left.from, h.right.upto, h.right.from), omega (arith, d.0, d.1, h.left.upto, h.left.from, h.right.upto, h.right.from));
+      close = (
+        omega (arith, d.0, d.1, h.left.upto, h.left.from, h.right.upto, h.right.from),
+        omega
+            (arith, d.0, d.1, h.left.upto, h.left.from, h.right.upto, h.right.from),
+      );
       left_some = omega (arith, h.left_loss);
       right_some = omega (arith, h.right_loss);
       left_short = λ k. (let z = short_low l h.whole.leaves.0 (omega (arith, h.left_loss)) in omega (arith, d.1, h.right.upto));
@@ -424,8 +486,11 @@ not_lower l r a b s h m k =
     elim (Rattle.std.proofs.lemmas.Bool.cases_lt 20 (length (blocks a))) [
       | Rattle.std.proofs.Common.inl p ↦ elim (Rattle.std.proofs.lemmas.Bool.cases_lt 20 (length (blocks b))) [
         | Rattle.std.proofs.Common.inl q ↦ (
-            let u = m.steady (omega arith) (omega arith)
-            (omega (arith, d.0, d.1, h.left.upto, h.left.from, h.right.upto, h.right.from, m.from), omega (arith, d.0, d.1, h.left.upto, h.left.from, h.right.upto, h.right.from, m.from)) in
+            let u = m.steady (omega arith) (omega arith) (
+              omega (arith, d.0, d.1, h.left.upto, h.left.from, h.right.upto, h.right.from, m.from),
+              omega
+                  (arith, d.0, d.1, h.left.upto, h.left.from, h.right.upto, h.right.from, m.from),
+            ) in
             omega (arith, d.0, d.1, h.left.from, h.right.from, u)
             )
         | Rattle.std.proofs.Common.inr q ↦ (
@@ -455,12 +520,14 @@ shrunk l r a b s h m =
     }
 
 pub cover_of_left : (t l r : Shape) → t ≡ Fork l r → IsTree t → IsRun (blocks t) → IsRun (blocks l)
-cover_of_left t l r q h c = let g : IsTree (Fork l r) = subst IsTree q h in cover_left (blocks l) (blocks r) (subst (λ (z : Shape). IsRun (blocks z)) q c) (omega (arith, left_some l r g))
+cover_of_left t l r q h c = let g : IsTree (Fork l r) = subst IsTree q h in cover_left (blocks l) (blocks r)
+    (subst (λ (z : Shape). IsRun (blocks z)) q c) (omega (arith, left_some l r g))
 
 pub cover_of_right : (t l r : Shape) → t ≡ Fork l r → IsTree t → IsRun (blocks t) → IsRun (blocks r)
 cover_of_right t l r q h c =
     let g : IsTree (Fork l r) = subst IsTree q h in
-    cover_right (blocks l) (blocks r) (subst (λ (z : Shape). IsRun (blocks z)) q c) (omega (arith, left_some l r g)) (omega (arith, right_some l r g))
+    cover_right (blocks l) (blocks r) (subst (λ (z : Shape). IsRun (blocks z)) q c) (omega (arith, left_some l r g))
+    (omega (arith, right_some l r g))
 
 pub ruleset sizes = (full_some, tall, rooted_full, high)
 
@@ -473,7 +540,18 @@ pub ruleset balancing = (high, joined)
 
 pub ruleset joining = (one_leaf, two_leaves)
 
-pub ruleset filling = (full_some, start_full, high, filled_leaves, cannot_stay_left, cannot_stay_right, cover_low, cover_high, next_first, next_last)
+pub ruleset filling = (
+  full_some,
+  start_full,
+  high,
+  filled_leaves,
+  cannot_stay_left,
+  cannot_stay_right,
+  cover_low,
+  cover_high,
+  next_first,
+  next_last,
+)
 
 pub ruleset mending = (high, full_len, joins_leaf, can_balance)
 
@@ -485,7 +563,8 @@ mend_parts t l r q h = subst CanMendTree q h
 pub mend_whole : (t l r s : Shape) → t ≡ Fork l r → Mends l r s → MendsTree t s
 mend_whole t l r s q h = subst (λ (x : Shape). MendsTree x s) (sym q) h
 
-pub mends_itself : (l r : Shape) → CanMend l r → 12 ≤ leaf_len l → 12 ≤ leaf_len r → 32 < leaf_len l + end_len First r → 32 < leaf_len r + end_len Last l → height_of l ≤ height_of r + 1 → height_of r ≤ height_of l + 1 → MendsTree (Fork l r) (Fork l r)
+pub mends_itself : (l r : Shape) → CanMend l r → 12 ≤ leaf_len l → 12 ≤ leaf_len r → 32 < leaf_len l + end_len First r →
+    32 < leaf_len r + end_len Last l → height_of l ≤ height_of r + 1 → height_of r ≤ height_of l + 1 → MendsTree (Fork l r) (Fork l r)
 mends_itself l r h a b c d low up = joined l r (can_balance l r h a b c d) (low, up)
 
 pub mended_tree : (t : Shape) → MendsTree t t → IsTree t

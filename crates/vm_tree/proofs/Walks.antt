@@ -1,5 +1,36 @@
 -- The blocks of one leaf in a window, and those after or before them.
-use Rattle.std.proofs.Common.{◌≡◌, ℕ, zero, suc, ◌+◌, ◌-◌, ◌<◌, ◌≤◌, true, false, Bool, leb, List, [], ◌∷◌, ◌++◌, length, Some, None, refl, ap, ◌∙◌, sym, subst, arith, inl, inr, append_assoc, length-append, append-nil}
+use Rattle.std.proofs.Common.{
+  ◌≡◌,
+  ℕ,
+  zero,
+  suc,
+  ◌+◌,
+  ◌-◌,
+  ◌<◌,
+  ◌≤◌,
+  true,
+  false,
+  Bool,
+  leb,
+  List,
+  [],
+  ◌∷◌,
+  ◌++◌,
+  length,
+  Some,
+  None,
+  refl,
+  ap,
+  ◌∙◌,
+  sym,
+  subst,
+  arith,
+  inl,
+  inr,
+  append_assoc,
+  length-append,
+  append-nil,
+}
 use Rattle.std.proofs.lemmas.Bool.{cases_lt, le-leb}
 use Rattle.std.proofs.lemmas.List.{get_or_append_left, get_or-append_right}
 use Rattle.std.proofs.lemmas.List.Elements.{filter-append}
@@ -23,7 +54,8 @@ module _ (bs lower leaf upper : List Block) (run : IsRun bs) (cut : bs ≡ lower
   in_leaf : (k : ℕ) → k < length leaf → nth bs (length lower + k) ≡ nth leaf k
   in_leaf k l =
       let e : length lower + k - length lower ≡ k = omega arith in
-      ap (λ (v : List Block). nth v (length lower + k)) cut ∙ get_or-append_right lower (leaf ++ upper) (length lower) (length lower + k) blank refl (omega arith)
+      ap (λ (v : List Block). nth v (length lower + k)) cut
+      ∙ get_or-append_right lower (leaf ++ upper) (length lower) (length lower + k) blank refl (omega arith)
       ∙ ap (nth (leaf ++ upper)) e ∙ get_or_append_left leaf upper blank k l
 
   in_upper : (k : ℕ) → k < length upper → nth bs (length lower + (length leaf + k)) ≡ nth upper k
@@ -32,7 +64,8 @@ module _ (bs lower leaf upper : List Block) (run : IsRun bs) (cut : bs ≡ lower
       let f : length leaf + k - length leaf ≡ k = omega arith in
       ap (λ (v : List Block). nth v (length lower + (length leaf + k))) cut
       ∙ get_or-append_right lower (leaf ++ upper) (length lower) (length lower + (length leaf + k)) blank refl (omega arith)
-      ∙ ap (nth (leaf ++ upper)) e ∙ get_or-append_right leaf upper (length leaf) (length leaf + k) blank refl (omega arith) ∙ ap (nth upper) f
+      ∙ ap (nth (leaf ++ upper)) e ∙ get_or-append_right leaf upper (length leaf) (length leaf + k) blank refl (omega arith)
+      ∙ ap (nth upper) f
 
   pub lower_ends : (k : ℕ) → k < length lower → (nth lower k).key.end < start_of leaf
   lower_ends k l =
@@ -45,7 +78,8 @@ module _ (bs lower leaf upper : List Block) (run : IsRun bs) (cut : bs ≡ lower
   pub upper_starts : (k : ℕ) → k < length upper → end_of leaf < (nth upper k).key.start
   upper_starts k l =
       let n = long in
-      let a = apart Allocated run.lo run.hi bs (length lower + (length leaf - 1)) (length lower + (length leaf + k)) run.tiles (omega arith) (omega arith) in
+      let a = apart Allocated run.lo run.hi bs (length lower + (length leaf - 1)) (length lower + (length leaf + k)) run.tiles (omega arith)
+      (omega arith) in
       let e = ap (λ (b : Block). b.key.end) (in_leaf (length leaf - 1) (omega arith)) in
       let f = ap (λ (b : Block). b.key.start) (in_upper k l) in
       omega arith
@@ -85,11 +119,13 @@ module _ (bs lower leaf upper : List Block) (run : IsRun bs) (cut : bs ≡ lower
       let f = ap (λ (b : Block). b.key.end) (in_leaf 0 some) in
       let g = ap (λ (b : Block). b.key.start) (in_leaf (length leaf - 1) (omega arith)) in (
         elim (cases_lt 0 k) [
-          | inl m ↦ (let a = apart Allocated run.lo run.hi bs (length lower + 0) (length lower + k) run.tiles (omega arith) (omega arith) in omega arith)
+          | inl m ↦ (let a = apart Allocated run.lo run.hi bs (length lower + 0) (length lower + k) run.tiles (omega arith) (omega arith) in
+              omega arith)
           | inr m ↦ (let h : start_of leaf ≡ (nth leaf k).key.start = ap (λ (i : ℕ). (nth leaf i).key.start) (omega arith) in omega arith)
         ],
         elim (cases_lt k (length leaf - 1)) [
-          | inl m ↦ (let a = apart Allocated run.lo run.hi bs (length lower + k) (length lower + (length leaf - 1)) run.tiles (omega arith) (omega arith) in omega arith)
+          | inl m ↦ (let a = apart Allocated run.lo run.hi bs (length lower + k) (length lower + (length leaf - 1)) run.tiles (omega arith)
+              (omega arith) in omega arith)
           | inr m ↦ (let h : end_of leaf ≡ (nth leaf k).key.end = ap (λ (i : ℕ). (nth leaf i).key.end) (omega arith) in omega arith)
         ],
       )
@@ -111,7 +147,8 @@ module _ (span : Span) (bs leaf : List Block) (run : IsRun bs) (at : IsLeafAt sp
       let b = at.from (omega arith) in
       omega arith)
 
-  pub first_of_all : (part : List Block) → part ≡ meeting_blocks (addresses_of span) leaf → span.end ≤ end_of leaf → TakesFirst span bs part None
+  pub first_of_all : (part : List Block) → part ≡ meeting_blocks (addresses_of span) leaf → span.end ≤ end_of leaf →
+      TakesFirst span bs part None
   first_of_all part e h =
       let above : meeting_blocks (addresses_of span) at.upper ≡ [] = none_after (addresses_of span) at.upper (λ k l.
       let a = upper_starts bs at.lower leaf at.upper run at.cut at.some k l in
@@ -174,13 +211,15 @@ module _ (span : Span) (bs leaf : List Block) (run : IsRun bs) (at : IsLeafAt sp
       let b = at.upto (omega arith) in
       omega arith)
 
-  pub last_of_all : (part : List Block) → part ≡ meeting_blocks (addresses_of span) leaf → start_of leaf ≤ span.start → TakesLast span bs part None
+  pub last_of_all : (part : List Block) → part ≡ meeting_blocks (addresses_of span) leaf → start_of leaf ≤ span.start →
+      TakesLast span bs part None
   last_of_all part e h =
       let below : meeting_blocks (addresses_of span) at.lower ≡ [] = none_before (addresses_of span) at.lower (λ k l.
       let a = lower_ends bs at.lower leaf at.upper run at.cut at.some k l in
       omega arith) in
       record {
-        cut = in_parts bs at.lower leaf at.upper run at.cut at.some (addresses_of span) ∙ rw (none_in_upper, below, e) (append-nil (meeting_blocks (addresses_of span) leaf));
+        cut = in_parts bs at.lower leaf at.upper run at.cut at.some (addresses_of span)
+            ∙ rw (none_in_upper, below, e) (append-nil (meeting_blocks (addresses_of span) leaf));
         none = λ z. refl;
         order = tt;
       }
@@ -206,7 +245,8 @@ module _ (span : Span) (bs leaf : List Block) (run : IsRun bs) (at : IsLeafAt sp
         let a = lower_ends bs at.lower leaf at.upper run at.cut at.some k l in
         let b = lower_order bs at.lower leaf at.upper run at.cut at.some k l in
         let c = at.from (omega arith) in
-        rw (le-leb (nth at.lower k).key.start (start_of leaf - 1) (omega arith), le-leb (nth at.lower k).key.start span.end (omega arith)) refl)
+        rw (le-leb (nth at.lower k).key.start (start_of leaf - 1) (omega arith), le-leb (nth at.lower k).key.start span.end (omega arith))
+        refl)
 
     before_is : meeting_blocks (addresses_of before) bs ≡ meeting_blocks (addresses_of span) at.lower
     before_is =
@@ -228,19 +268,23 @@ module _ (span : Span) (bs leaf : List Block) (run : IsRun bs) (at : IsLeafAt sp
     last_of_more part e = record {
       cut =
           in_parts bs at.lower leaf at.upper run at.cut at.some (addresses_of span)
-          ∙ rw (none_in_upper, e, before_is) (ap (λ (v : List Block). meeting_blocks (addresses_of span) at.lower ++ v) (append-nil (meeting_blocks (addresses_of span) leaf)));
+          ∙ rw (none_in_upper, e, before_is)
+          (ap (λ (v : List Block). meeting_blocks (addresses_of span) at.lower ++ v)
+          (append-nil (meeting_blocks (addresses_of span) leaf)));
       none = λ z. none_left_before (sym e ∙ z);
       order = omega arith;
     }
 
 -- ---- All blocks
-all_meet : (w : Range) (bs : List Block) → ((k : ℕ) → k < length bs → (w.start ≤ (nth bs k).key.end) × ((nth bs k).key.start ≤ w.end)) → meeting_blocks w bs ≡ bs
+all_meet : (w : Range) (bs : List Block) → ((k : ℕ) → k < length bs → (w.start ≤ (nth bs k).key.end) × ((nth bs k).key.start ≤ w.end)) →
+    meeting_blocks w bs ≡ bs
 all_meet w [] h = refl
 all_meet w (b ∷ bs) h =
     rw (le-leb w.start b.key.end (h 0 (omega arith)).0, le-leb b.key.start w.end (h 0 (omega arith)).1)
     (ap (λ (v : List Block). b ∷ v) (all_meet w bs (λ k l. h (suc k) (omega arith))))
 
 pub whole_run : (bs : List Block) (w : Range) → IsRun bs → w.start ≡ 0 → MAX ≤ w.end → meeting_blocks w bs ≡ bs
-whole_run bs w run a b = all_meet w bs (λ k l. (let q = tiles_part Allocated run.lo run.hi bs k run.tiles l in (omega arith, omega (arith, q.some, q.upto, run.range.1))))
+whole_run bs w run a b = all_meet w bs
+    (λ k l. (let q = tiles_part Allocated run.lo run.hi bs k run.tiles l in (omega arith, omega (arith, q.some, q.upto, run.range.1))))
 
 pub ruleset wholes = (whole_run, append-nil)

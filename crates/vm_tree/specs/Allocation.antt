@@ -90,7 +90,8 @@ SettlesAt search place new (Err CannotSplit) = IsSplitAt search place × (search
 -- The place of the search that is closest to the end is allocated, or its error is returned. NoPlace if there is no place.
 abbrev pub AllocatesFit : End → Search → List Block → List Block → Result Taken Refusal → Type 0
 AllocatesFit end search old new answer =
-    (HasNoPlace search old × (answer ≡ Err NoPlace)) ⊎ ((place : ListPlace) × IsClosestPlace end search old place × SettlesAt search place new answer)
+    (HasNoPlace search old × (answer ≡ Err NoPlace))
+    ⊎ ((place : ListPlace) × IsClosestPlace end search old place × SettlesAt search place new answer)
 
 -- The block of a list that contains the address t, with the blocks before and after it.
 pub record IsBlockAt (t : ℕ) (bs lower : List Block) (b : Block) (upper : List Block) : Type 0 where

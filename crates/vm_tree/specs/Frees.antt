@@ -82,7 +82,8 @@ pub record JoinsGap (gap : Gap) (old new : List Block) : Type 0 where
 -- stay.
 abbrev pub FreesUnder : Range → Shape → Shape → Shape → Shape → Option Freed → Type 0
 FreesUnder k l r a b found =
-    MatchOption found ((a ≡ l) × (b ≡ r) × ¬ Holds k (blocks l ++ blocks r)) (λ freed. Frees k (blocks l ++ blocks r) (blocks a ++ blocks b) × Loosens freed.change freed.joined l r a b)
+    MatchOption found ((a ≡ l) × (b ≡ r) × ¬ Holds k (blocks l ++ blocks r))
+    (λ freed. Frees k (blocks l ++ blocks r) (blocks a ++ blocks b) × Loosens freed.change freed.joined l r a b)
 
 -- The node whose child at this end is `near`, and whose other child is `far`.
 abbrev pub fork_at : End → Shape → Shape → Shape

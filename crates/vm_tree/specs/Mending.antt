@@ -52,7 +52,8 @@ pub record Mends (l r s : Shape) : Type 0 where
   pub upto : height_of s ≤ max (height_of l) (height_of r) + 1
   pub from : max (height_of l) (height_of r) ≤ height_of s
   pub merged : FitInOne l r → leaf_count s < leaf_count l + leaf_count r
-  pub steady : 20 < length (blocks l) → 20 < length (blocks r) → DifferByAtMost 1 (height_of l) (height_of r) → height_of s ≡ max (height_of l) (height_of r) + 1
+  pub steady : 20 < length (blocks l) → 20 < length (blocks r) → DifferByAtMost 1 (height_of l) (height_of r) →
+      height_of s ≡ max (height_of l) (height_of r) + 1
   pub blocks : blocks s ≡ blocks l ++ blocks r
 
 -- The tree s has the blocks of two leaves: it is one leaf if they fit into one, else two full leaves.

@@ -29,7 +29,8 @@ top [] = Tip []
 top (s ∷ stack) = s
 
 -- Reading two lists one after the other is reading their concatenation.
-read_marks-append : (xs ys : List (Option (List Block))) (stack : List Shape) → read_marks (xs ++ ys) stack ≡ read_marks ys (read_marks xs stack)
+read_marks-append : (xs ys : List (Option (List Block))) (stack : List Shape) →
+    read_marks (xs ++ ys) stack ≡ read_marks ys (read_marks xs stack)
 read_marks-append [] ys stack = refl
 read_marks-append (x ∷ xs) ys stack = read_marks-append xs ys (push_mark x stack)
 

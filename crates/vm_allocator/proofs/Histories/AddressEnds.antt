@@ -23,10 +23,12 @@ clone_is_reached old clone c =
     )
 
 pub read_is_reached : ReadIsReached EncodesAddresses
-read_is_reached value state s = record { first = state; begins = inr (inr (inl (record { value = value; encoded = inl s }))); history = refl }
+read_is_reached value state s = record
+    { first = state; begins = inr (inr (inl (record { value = value; encoded = inl s }))); history = refl }
 
 pub repaired_is_reached : ReadIsReached EncodesRepaired
-repaired_is_reached value state s = record { first = state; begins = inr (inr (inl (record { value = value; encoded = inr s }))); history = refl }
+repaired_is_reached value state s = record
+    { first = state; begins = inr (inr (inl (record { value = value; encoded = inr s }))); history = refl }
 
 pub nodes_are_reached : NodesAreReached HasTreeOf
 nodes_are_reached space t state r h =

@@ -7,7 +7,21 @@ use Rattle.vm_ranges.specs.Request.{Request}
 use Rattle.vm_engine.specs.Answer.{Allocates, Frees}
 use Rattle.vm_allocator.specs.Several.{AllocatesEach, AllocatesAll}
 use Rattle.vm_allocator.specs.Moves.{MovesRange}
-use Rattle.vm_allocator.specs.Histories.AddressHistories.{Allocate, AllocateAll, Free, MoveTo, Clone, Call, IsCallFrom, IsHistoryFrom, Begins, Reached, Gives, WasAllocated, WasHeldFirst}
+use Rattle.vm_allocator.specs.Histories.AddressHistories.{
+  Allocate,
+  AllocateAll,
+  Free,
+  MoveTo,
+  Clone,
+  Call,
+  IsCallFrom,
+  IsHistoryFrom,
+  Begins,
+  Reached,
+  Gives,
+  WasAllocated,
+  WasHeldFirst,
+}
 use Rattle.vm_allocator.specs.Laws.HistoryLaws.{HeldAreValid, HaveSameState, StateDecides, FreeUndoes}
 use Rattle.vm_ranges.specs.declared.error.Error.{Error}
 use Rattle.vm_engine.proofs.Blocks.PlainWords.{IsHeld, contains_held, held_contains}
@@ -27,7 +41,8 @@ use Rattle.vm_engine.proofs.Blocks.HeldChanges.{held_with, held_without}
 use Rattle.vm_engine.proofs.Results.AddressResults.{IsAllocation, outcome, allocated_state, freed_state, made_is, made_state, lie_apart, freeing_undoes}
 
 -- ---- Every reached state is valid
-each_valid : (qs : List Request) (rs : List Range) (old new : AddressState) → IsAddressState old → AllocatesEach old qs rs new → IsAddressState new
+each_valid : (qs : List Request) (rs : List Range) (old new : AddressState) → IsAddressState old → AllocatesEach old qs rs new →
+    IsAddressState new
 each_valid [] [] old new i e = subst IsAddressState (sym e) i
 each_valid [] (r ∷ rs) old new i e = absurd e
 each_valid (q ∷ qs) [] old new i e = absurd e
@@ -41,13 +56,15 @@ call_state (Free r, answer) old new i h = freed_state old new r answer i h
 call_state (MoveTo r request, answer) old new i h = move_state old new r request answer i h
 call_state (Clone, answer) old new i h = subst IsAddressState (sym (cloning_keeps old new answer h.0 h.1)) i
 
-pub history_state : (calls : List Call) (first last : AddressState) → IsAddressState first → IsHistoryFrom first calls last → IsAddressState last
+pub history_state : (calls : List Call) (first last : AddressState) → IsAddressState first → IsHistoryFrom first calls last →
+    IsAddressState last
 history_state = history_keeps IsCallFrom IsAddressState call_state
 
 first_state : (first : AddressState) → Begins first → IsAddressState first
 first_state first (inl m) = made_state m.base m.size first m.word m.made
 first_state first (inr (inl m)) = held_state m.base m.size m.held first m.word m.ranges m.made
-first_state first (inr (inr (inr n))) = ⊎_elim (tree_read_state n.space n.tree first n.range) (keys_read_state n.space n.tree first n.range) n.nodes
+first_state first (inr (inr (inr n))) = ⊎_elim (tree_read_state n.space n.tree first n.range) (keys_read_state n.space n.tree first n.range)
+    n.nodes
 first_state first (inr (inr (inl r))) = ⊎_elim (encoded_state r.value first) (repaired_state r.value first) r.encoded
 
 pub reached_state : (old : Reached) → IsAddressState old.state
@@ -59,10 +76,20 @@ reached_state old =
 given_later : (call : Call) (calls : List Call) (r : Range) → WasAllocated calls r → WasAllocated (call ∷ calls) r
 given_later call calls r g =
     let m = g.made in
-    record { request = g.request; call = g.call; made = (suc m.0, omega (arith, m.1), m.2); given = g.given; aligned = g.aligned; long = g.long; inside = g.inside }
+    record {
+      request = g.request;
+      call = g.call;
+      made = (suc m.0, omega (arith, m.1), m.2);
+      given = g.given;
+      aligned = g.aligned;
+      long =
+          g.long;
+      inside = g.inside;
+    }
 
 -- A call that gives the range for a request allocated it.
-given_here : (old new : AddressState) (request : Request) (r : Range) (call : Call) (calls : List Call) → Gives call request r → Allocates old request (Ok r) new → WasAllocated (call ∷ calls) r
+given_here : (old new : AddressState) (request : Request) (r : Range) (call : Call) (calls : List Call) → Gives call request r →
+    Allocates old request (Ok r) new → WasAllocated (call ∷ calls) r
 unfolding IsPlace
 given_here old new request r call calls gives s =
     let g = given old new request r s in
@@ -90,7 +117,8 @@ later_one q qs x rs r one =
     record { old = one.old; new = one.new; request = one.request; pair = (suc p.0, omega (arith, p.1), p.2); allocated = one.allocated }
 
 -- A range that is held after several requests was held before them, or is that of one of them.
-each_gives : (qs : List Request) (rs : List Range) (old new : AddressState) (r : Range) → AllocatesEach old qs rs new → IsHeld new.held r → IsHeld old.held r ⊎ IsOneOf qs rs r
+each_gives : (qs : List Request) (rs : List Range) (old new : AddressState) (r : Range) → AllocatesEach old qs rs new → IsHeld new.held r →
+    IsHeld old.held r ⊎ IsOneOf qs rs r
 each_gives [] [] old new r e h = inl (subst (λ (v : AddressState). IsHeld v.held r) e h)
 each_gives [] (x ∷ rs) old new r e h = absurd e
 each_gives (q ∷ qs) [] old new r e h = absurd e
@@ -111,7 +139,8 @@ each_gives (q ∷ qs) (x ∷ rs) old new r e h =
     (each_gives qs rs e.0 new r e.2 h)
 
 -- A range that is held after a call was held before it, or the call allocated it.
-call_gives : (old new : AddressState) (call : Call) (calls : List Call) (r : Range) → IsCallFrom old call new → IsHeld new.held r → IsHeld old.held r ⊎ WasAllocated (call ∷ calls) r
+call_gives : (old new : AddressState) (call : Call) (calls : List Call) (r : Range) → IsCallFrom old call new → IsHeld new.held r →
+    IsHeld old.held r ⊎ WasAllocated (call ∷ calls) r
 unfolding Frees
 call_gives old new (Allocate request, answer) calls r s h =
     let P : AddressState → Type 0 = λ v. IsHeld v.held r in
@@ -121,14 +150,16 @@ call_gives old new (Allocate request, answer) calls r s h =
     ⊎_elim
     (λ (e : span g.from request.size ≡ r).
     let ok : answer ≡ Ok r = g.given ∙ ap (λ (v : Range). Ok v) e in
-    inr (given_here old new request r (Allocate request, answer) calls (refl, ok) (subst (λ (v : Result Range Error). Allocates old request v new) ok s)))
+    inr (given_here old new request r (Allocate request, answer) calls (refl, ok)
+    (subst (λ (v : Result Range Error). Allocates old request v new) ok s)))
     (λ (k : IsHeld old.held r). inl k)
     (held_with (span g.from request.size) r old.held (subst P g.left h)))
     (outcome request old new answer s)
 call_gives old new (AllocateAll requests, Ok rs) calls r s h =
     ⊎_elim
     (λ (k : IsHeld old.held r). inl k)
-    (λ (one : IsOneOf requests rs r). inr (given_here one.old one.new one.request r (AllocateAll requests, Ok rs) calls one.pair one.allocated))
+    (λ (one : IsOneOf requests rs r). inr
+    (given_here one.old one.new one.request r (AllocateAll requests, Ok rs) calls one.pair one.allocated))
     (each_gives requests rs old new r s h)
 call_gives old new (AllocateAll requests, Err e) calls r s h = inl (subst (λ (v : AddressState). IsHeld v.held r) s.0 h)
 call_gives old new (Free q, answer) calls r s h =
@@ -137,13 +168,15 @@ call_gives old new (Free q, answer) calls r s h =
 call_gives old new (MoveTo q request, answer) calls r s h =
     ⊎_elim
     (λ (k : IsHeld old.held r). inl k)
-    (λ (p : IsNewPlace old q request answer r). inr (given_here old p.mid request r (MoveTo q request, answer) calls (refl, p.given) p.allocated))
+    (λ (p : IsNewPlace old q request answer r). inr
+    (given_here old p.mid request r (MoveTo q request, answer) calls (refl, p.given) p.allocated))
     (move_gives old new q request answer r s h)
 call_gives old new (Clone, answer) calls r s h =
     let P : AddressState → Type 0 = λ v. IsHeld v.held r in
     inl (subst P (cloning_keeps old new answer s.0 s.1) h)
 
-history_gives : (calls : List Call) (first last : AddressState) (r : Range) → IsHistoryFrom first calls last → IsHeld last.held r → IsHeld first.held r ⊎ WasAllocated calls r
+history_gives : (calls : List Call) (first last : AddressState) (r : Range) → IsHistoryFrom first calls last → IsHeld last.held r →
+    IsHeld first.held r ⊎ WasAllocated calls r
 history_gives [] first last r s h = inl (subst (λ (v : AddressState). IsHeld v.held r) s h)
 history_gives (call ∷ calls) first last r s h =
     ⊎_elim
@@ -169,9 +202,14 @@ held_good = record { state = reached_state; apart = λ old. lie_apart old.state 
 
 -- ---- The result depends only on the space and the held ranges
 pub same_members : (xs ys : List Range) → ((r : Range) → Contains xs r ↔ Contains ys r) → (r : Range) → IsHeld xs r ↔ IsHeld ys r
-same_members xs ys h r = (λ k. held_contains ys r ((h r).0 (contains_held xs r k)), λ k. held_contains xs r ((h r).1 (contains_held ys r k)))
+same_members xs ys h r = (
+  λ k. held_contains ys r ((h r).0 (contains_held xs r k)),
+  λ k. held_contains xs r
+      ((h r).1 (contains_held ys r k)),
+)
 
-pub same_state : (x y : AddressState) → IsAddressState x → IsAddressState y → x.space ≡ y.space → ((r : Range) → IsHeld x.held r ↔ IsHeld y.held r) → x ≡ y
+pub same_state : (x y : AddressState) → IsAddressState x → IsAddressState y → x.space ≡ y.space →
+    ((r : Range) → IsHeld x.held r ↔ IsHeld y.held r) → x ≡ y
 same_state x y i j e h =
     let f : Range → List Range → AddressState = λ s hs. record { space = s; held = hs } in
     let same = same_ranges_held x.space.start y.space.start x.space.end y.space.end x.held y.held i.in_order j.in_order h in
@@ -179,7 +217,8 @@ same_state x y i j e h =
     g ∙ ap (λ hs. f y.space hs) same
 
 pub alike_state : (first second : Reached) → HaveSameState first.state second.state → first.state ≡ second.state
-alike_state first second h = same_state first.state second.state (reached_state first) (reached_state second) h.space (same_members first.state.held second.state.held h.held)
+alike_state first second h = same_state first.state second.state (reached_state first) (reached_state second) h.space
+    (same_members first.state.held second.state.held h.held)
 
 pub decided : StateDecides
 decided = record {
@@ -188,7 +227,8 @@ decided = record {
       allocates_once first.state new later request answer other s (subst (λ (v : AddressState). Allocates v request other later) (sym e) t);
   move = λ first second new later r request answer other h s t.
       let e = alike_state first second h in
-      moves_once first.state new later r request answer other s (subst (λ (v : AddressState). MovesRange v r request other later) (sym e) t);
+      moves_once first.state new later r request answer other s
+      (subst (λ (v : AddressState). MovesRange v r request other later) (sym e) t);
   several = λ first second new later requests answer other h s t.
       let e = alike_state first second h in
       all_once requests first.state new later answer other s (subst (λ (v : AddressState). AllocatesAll v requests other later) (sym e) t);

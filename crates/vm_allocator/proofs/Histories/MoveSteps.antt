@@ -24,7 +24,8 @@ pub record IsMoved (old : AddressState) (r : Range) (request : Request) (q : Ran
   pub left : new ≡ releasing r mid
 
 -- A successful move changes nothing, or allocates another range.
-pub moved_parts : (old new : AddressState) (r q : Range) (request : Request) → MovesRange old r request (Ok q) new → (Contains old.held r × IsFor r request × (q ≡ r) × (new ≡ old)) ⊎ IsMoved old r request q new
+pub moved_parts : (old new : AddressState) (r q : Range) (request : Request) → MovesRange old r request (Ok q) new →
+    (Contains old.held r × IsFor r request × (q ≡ r) × (new ≡ old)) ⊎ IsMoved old r request q new
 unfolding MovesRange
 moved_parts old new r q request m =
     ⊎_elim
@@ -37,24 +38,29 @@ moved_parts old new r q request m =
     m
 
 -- Between both steps the range is held at both places.
-pub both_held : (old new : AddressState) (r q : Range) (request : Request) (m : IsMoved old r request q new) → IsHeld m.mid.held r × IsHeld m.mid.held q
+pub both_held : (old new : AddressState) (r q : Range) (request : Request) (m : IsMoved old r request q new) →
+    IsHeld m.mid.held r × IsHeld m.mid.held q
 both_held old new r q request m =
     let g = given old m.mid request q m.allocated in
-    let both : IsHeld (with_range q old.held) r × IsHeld (with_range q old.held) q = (still_held_with q r old.held (held_contains old.held r m.held), held_now q old.held) in
+    let both : IsHeld (with_range q old.held) r
+    × IsHeld (with_range q old.held) q = (still_held_with q r old.held (held_contains old.held r m.held), held_now q old.held) in
     subst (λ (v : AddressState). IsHeld v.held r × IsHeld v.held q) (sym g.left) both
 
 -- A failed move changes nothing.
-pub move_error_keeps : (old new : AddressState) (r : Range) (request : Request) (e : Error) → MovesRange old r request (Err e) new → new ≡ old
+pub move_error_keeps : (old new : AddressState) (r : Range) (request : Request) (e : Error) → MovesRange old r request (Err e) new →
+    new ≡ old
 unfolding MovesRange
 move_error_keeps old new r request e m =
     ⊎_elim (λ k. k.1.1) (λ k. ⊎_elim (λ s. absurd (cc (s.1.0))) (λ s. s.1.2) k.1) m
 
 -- A move changes nothing, or moves the range.
-pub move_outcome : (old new : AddressState) (r : Range) (request : Request) (answer : Result Range Error) → MovesRange old r request answer new → (new ≡ old) ⊎ ((q : Range) × (answer ≡ Ok q) × IsMoved old r request q new)
+pub move_outcome : (old new : AddressState) (r : Range) (request : Request) (answer : Result Range Error) →
+    MovesRange old r request answer new → (new ≡ old) ⊎ ((q : Range) × (answer ≡ Ok q) × IsMoved old r request q new)
 move_outcome old new r request (Err e) m = inl (move_error_keeps old new r request e m)
 move_outcome old new r request (Ok q) m = ⊎_elim (λ s. inl s.3) (λ s. inr (q, refl, s)) (moved_parts old new r q request m)
 
-pub move_state : (old new : AddressState) (r : Range) (request : Request) (answer : Result Range Error) → IsAddressState old → MovesRange old r request answer new → IsAddressState new
+pub move_state : (old new : AddressState) (r : Range) (request : Request) (answer : Result Range Error) → IsAddressState old →
+    MovesRange old r request answer new → IsAddressState new
 move_state old new r request answer i m =
     ⊎_elim
     (λ e. subst IsAddressState (sym e) i)
@@ -72,7 +78,8 @@ pub record IsNewPlace (old : AddressState) (r : Range) (request : Request) (answ
   pub allocated : Allocates old request (Ok p) mid
 
 -- A range that is held after a move was held before it, or is the new place.
-pub move_gives : (old new : AddressState) (r : Range) (request : Request) (answer : Result Range Error) (p : Range) → MovesRange old r request answer new → IsHeld new.held p → IsHeld old.held p ⊎ IsNewPlace old r request answer p
+pub move_gives : (old new : AddressState) (r : Range) (request : Request) (answer : Result Range Error) (p : Range) →
+    MovesRange old r request answer new → IsHeld new.held p → IsHeld old.held p ⊎ IsNewPlace old r request answer p
 move_gives old new r request answer p m h =
     ⊎_elim
     (λ e. inl (subst (λ (v : AddressState). IsHeld v.held p) e h))
@@ -91,19 +98,23 @@ move_gives old new r request answer p m h =
     (move_outcome old new r request answer m)
 
 -- The same allocation leads to the same state after the range is freed.
-left_once : (old mid after new later : AddressState) (r : Range) (answer : Result Range Error) → mid ≡ after → MatchResult answer (λ _. new ≡ releasing r mid) (λ _. new ≡ old) → MatchResult answer (λ _. later ≡ releasing r after) (λ _. later ≡ old) → new ≡ later
+left_once : (old mid after new later : AddressState) (r : Range) (answer : Result Range Error) → mid ≡ after →
+    MatchResult answer (λ _. new ≡ releasing r mid) (λ _. new ≡ old) →
+    MatchResult answer (λ _. later ≡ releasing r after) (λ _. later ≡ old) → new ≡ later
 left_once old mid after new later r (Ok q) e a b = a ∙ (ap (λ (v : AddressState). releasing r v) e ∙ sym b)
 left_once old mid after new later r (Err x) e a b = a ∙ sym b
 
 -- A move has one result and one next state, unless memory runs out.
-pub moves_once : (old new later : AddressState) (r : Range) (request : Request) (answer other : Result Range Error) → MovesRange old r request answer new → MovesRange old r request other later → AgreeUnlessMemory answer new other later
+pub moves_once : (old new later : AddressState) (r : Range) (request : Request) (answer other : Result Range Error) →
+    MovesRange old r request answer new → MovesRange old r request other later → AgreeUnlessMemory answer new other later
 unfolding MovesRange
 moves_once old new later r request answer other m n =
     unless_same _ _ _ _ _ m n (λ a b. inl (a.0 ∙ sym b.0, a.1 ∙ sym b.1)) (λ m n.
     if_same _ _ _ _ _ m n (λ a b. inl (a.0 ∙ sym b.0, a.1 ∙ sym b.1)) (λ a b.
     ⊎_elim
     (λ (same : (answer ≡ other) × (a.0 ≡ b.0)).
-    let second : MatchResult answer (λ _. later ≡ releasing r b.0) (λ _. later ≡ old) = subst (λ (v : Result Range Error). MatchResult v (λ _. later ≡ releasing r b.0) (λ _. later ≡ old)) (sym same.0) b.2 in
+    let second : MatchResult answer (λ _. later ≡ releasing r b.0) (λ _. later ≡ old) = subst
+    (λ (v : Result Range Error). MatchResult v (λ _. later ≡ releasing r b.0) (λ _. later ≡ old)) (sym same.0) b.2 in
     inl (same.0, left_once old a.0 b.0 new later r answer same.1 a.2 second))
     (λ memory. inr memory)
     (allocates_once old a.0 b.0 request answer other a.1 b.1)))

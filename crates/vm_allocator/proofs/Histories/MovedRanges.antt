@@ -25,10 +25,12 @@ moved_held old new r q request valid m =
     (λ (s : IsMoved old.state r request q new).
     let state = allocated_state old.state s.mid request (Ok q) (reached_state old) s.allocated in
     let both = both_held old.state new r q request s in
-    let apart : ¬ (r ≡ q) = λ e. new_start old.state s.mid r q request (reached_state old) s.held s.allocated (ap (λ (v : Range). v.start) e) in
+    let apart : ¬ (r ≡ q) = λ e. new_start old.state s.mid r q request (reached_state old) s.held s.allocated
+    (ap (λ (v : Range). v.start) e) in
     let held = others_held s.mid.space.start s.mid.space.end r q s.mid.held state.in_order both.0 both.1 apart in
     let fits = request_fits old.state s.mid request (Ok q) s.allocated in
-    let asked : IsAsRequested request q = record { long = fits.0; aligned = fits.1; inside = request_inside old.state s.mid request (Ok q) s.allocated } in
+    let asked : IsAsRequested request q = record
+    { long = fits.0; aligned = fits.1; inside = request_inside old.state s.mid request (Ok q) s.allocated } in
     (subst (λ (v : AddressState). Contains v.held q) (sym s.left) (contains_held (without_range r s.mid.held) q held), asked))
     (moved_parts old.state new r q request m)
 
@@ -38,7 +40,8 @@ moved_clear old new r q request m n =
     (λ s. absurd (n s.1))
     (λ (s : IsMoved old.state r request q new).
     let valid = allocated_state old.state s.mid request (Ok q) (reached_state old) s.allocated in
-    subst (λ (v : AddressState). AreClear (address_count r) v r.start) (sym s.left) (released_clear s.mid r valid (both_held old.state new r q request s).0))
+    subst (λ (v : AddressState). AreClear (address_count r) v r.start) (sym s.left)
+    (released_clear s.mid r valid (both_held old.state new r q request s).0))
     (moved_parts old.state new r q request m)
 
 pub move_is_two_calls : MoveIsTwoCalls
@@ -48,7 +51,8 @@ move_is_two_calls old new r q request n = (
       ⊎_elim
       (λ s. absurd (n s.1))
       (λ (s : IsMoved old r request q new).
-      let free : Frees s.mid r (Ok tt) new = subst (Frees s.mid r (Ok tt)) (sym s.left) (releases_held s.mid r (both_held old new r q request s).0) in
+      let free : Frees s.mid r (Ok tt) new = subst (Frees s.mid r (Ok tt)) (sym s.left)
+      (releases_held s.mid r (both_held old new r q request s).0) in
       (s.held, (s.mid, s.allocated, (new, free, refl))))
       (moved_parts old new r q request m),
   λ h.

@@ -16,7 +16,8 @@ use Rattle.vm_engine.proofs.Results.AddressResults.{freed_held, freed_state, rel
 use Rattle.vm_allocator.proofs.Histories.AlongHistories.{history_state, reached_state, same_members, same_state}
 
 -- The ranges that are held after some ranges are freed: those held before, without the freed ones.
-left_held : (rs : List Range) (old new : AddressState) (q : Range) → IsAddressState old → IsHistoryFrom old (releases rs) new → IsHeld new.held q ↔ (IsHeld old.held q × ¬ IsHeld rs q)
+left_held : (rs : List Range) (old new : AddressState) (q : Range) → IsAddressState old → IsHistoryFrom old (releases rs) new →
+    IsHeld new.held q ↔ (IsHeld old.held q × ¬ IsHeld rs q)
 left_held [] old new q i s =
     let P : AddressState → Type 0 = λ v. IsHeld v.held q in
     (λ k. (subst P s k, λ n. n), λ k. subst P (sym s) k.0)
@@ -38,9 +39,11 @@ left_space : (rs : List Range) (old new : AddressState) → IsHistoryFrom old (r
 left_space [] old new s = ap (λ (v : AddressState). v.space) s
 left_space (r ∷ rs) old new s = left_space rs s.0 new s.2 ∙ ap (λ (v : AddressState). v.space) (freed_held old s.0 r s.1).1
 
-same_left : (old first second : AddressState) (rs qs : List Range) → IsAddressState old → ((r : Range) → Contains rs r ↔ Contains qs r) → IsHistoryFrom old (releases rs) first → IsHistoryFrom old (releases qs) second → first ≡ second
+same_left : (old first second : AddressState) (rs qs : List Range) → IsAddressState old → ((r : Range) → Contains rs r ↔ Contains qs r) →
+    IsHistoryFrom old (releases rs) first → IsHistoryFrom old (releases qs) second → first ≡ second
 same_left old first second rs qs i e s t =
-    same_state first second (history_state (releases rs) old first i s) (history_state (releases qs) old second i t) (left_space rs old first s ∙ sym (left_space qs old second t))
+    same_state first second (history_state (releases rs) old first i s) (history_state (releases qs) old second i t)
+    (left_space rs old first s ∙ sym (left_space qs old second t))
     (λ r.
     let m = same_members rs qs e r in
     let l = left_held rs old first r i s in
@@ -81,37 +84,45 @@ all_held (r ∷ rs) old new q s h =
 all_held [] old new q s h = absurd h
 
 -- No range is freed twice.
-all_distinct : (rs : List Range) (old new : AddressState) → IsAddressState old → IsHistoryFrom old (releases rs) new → IsDistinct same_start rs
+all_distinct : (rs : List Range) (old new : AddressState) → IsAddressState old → IsHistoryFrom old (releases rs) new →
+    IsDistinct same_start rs
 unfolding IsDistinct
 all_distinct [] old new i s = tt
 all_distinct (r ∷ rs) old new i s =
     let f = freed_held old s.0 r s.1 in (
       all_of (λ q. same_start r q ≡ false) rs (λ q k.
-          let left : IsHeld (without_range r old.held) q = subst (λ (v : AddressState). IsHeld v.held q) f.1 (all_held rs s.0 new q s.2 k) in
-          ne_eqb r.start q.start (λ e. not_held_without old.space.start old.space.end r q old.held i.in_order left (one_start old.space.start old.space.end r q old.held i.in_order f.0 (held_without r q old.held left) e))),
+          let left : IsHeld (without_range r old.held) q = subst (λ (v : AddressState). IsHeld v.held q) f.1
+          (all_held rs s.0 new q s.2 k) in
+          ne_eqb r.start q.start (λ e. not_held_without old.space.start old.space.end r q old.held i.in_order left
+          (one_start old.space.start old.space.end r q old.held i.in_order f.0 (held_without r q old.held left) e))),
       all_distinct rs s.0 new (freed_state old s.0 r (Ok tt) i s.1) s.2,
     )
 
 -- Different held ranges can be freed one after the other.
-give_back : (rs : List Range) (old : AddressState) → IsAddressState old → ((r : Range) → IsHeld rs r → IsHeld old.held r) → IsDistinct same_start rs → (new : AddressState) × IsHistoryFrom old (releases rs) new
+give_back : (rs : List Range) (old : AddressState) → IsAddressState old → ((r : Range) → IsHeld rs r → IsHeld old.held r) →
+    IsDistinct same_start rs → (new : AddressState) × IsHistoryFrom old (releases rs) new
 unfolding IsDistinct
 give_back [] old i h d = (old, refl)
 give_back (r ∷ rs) old i h d =
     let freed = releases_held old r (h r (inl refl)) in
     let mid = releasing r old in
-    let rest = give_back rs mid (freed_state old mid r (Ok tt) i freed) (λ q k. others_held old.space.start old.space.end r q old.held i.in_order (h r (inl refl)) (h q (inr k)) (λ e.
+    let rest = give_back rs mid (freed_state old mid r (Ok tt) i freed)
+    (λ q k. others_held old.space.start old.space.end r q old.held i.in_order (h r (inl refl)) (h q (inr k)) (λ e.
     let apart : same_start r q ≡ false = each_of (λ p. same_start r p ≡ false) rs q d.0 k in
     let same : same_start r q ≡ true = eq-eqb r.start q.start (ap (λ (v : Range). v.start) e) in
     cc)) d.1 in
     (rest.0, (mid, freed, rest.1))
 
-in_other_order : (old : Reached) (new : AddressState) (rs qs : List Range) → IsPermutation rs qs → IsHistoryFrom old.state (releases rs) new → IsHistoryFrom old.state (releases qs) new
+in_other_order : (old : Reached) (new : AddressState) (rs qs : List Range) → IsPermutation rs qs →
+    IsHistoryFrom old.state (releases rs) new → IsHistoryFrom old.state (releases qs) new
 in_other_order old new rs qs p s =
     let i = reached_state old in
     let back : IsPermutation qs rs = IsPermutation-sym rs qs p in
     let members : (r : Range) → Contains rs r ↔ Contains qs r = λ r. (Contains-permutation rs qs r p, Contains-permutation qs rs r back) in
-    let held : (r : Range) → IsHeld qs r → IsHeld old.state.held r = λ r k. all_held rs old.state new r s (held_contains rs r ((members r).1 (contains_held qs r k))) in
-    let other = give_back qs old.state i held (IsDistinct-IsPermutation same_start same_start-comm rs qs p (all_distinct rs old.state new i s)) in
+    let held : (r : Range) → IsHeld qs r →
+    IsHeld old.state.held r = λ r k. all_held rs old.state new r s (held_contains rs r ((members r).1 (contains_held qs r k))) in
+    let other = give_back qs old.state i held
+    (IsDistinct-IsPermutation same_start same_start-comm rs qs p (all_distinct rs old.state new i s)) in
     subst (IsHistoryFrom old.state (releases qs)) (sym (same_left old.state new other.0 rs qs i members s other.1)) other.1
 
 pub order_is_free : FreesInAnyOrder

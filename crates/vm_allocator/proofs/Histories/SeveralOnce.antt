@@ -11,14 +11,16 @@ use Rattle.vm_engine.proofs.Results.Once.{allocates_once}
 use Rattle.vm_allocator.specs.Several.{AllocatesEach, RefusesOne, AllocatesAll}
 
 -- ---- One request
-given_once : (old mid after : AddressState) (q : Request) (r p : Range) → Allocates old q (Ok r) mid → Allocates old q (Ok p) after → (r ≡ p) × (mid ≡ after)
+given_once : (old mid after : AddressState) (q : Request) (r p : Range) → Allocates old q (Ok r) mid → Allocates old q (Ok p) after →
+    (r ≡ p) × (mid ≡ after)
 given_once old mid after q r p a b =
     ⊎_elim
     (λ same. let e = same.0 in (cc, same.1))
     (λ m. absurd (⊎_elim (λ e. cc e) (λ e. cc e) m))
     (allocates_once old mid after q (Ok r) (Ok p) a b)
 
-given_or_refused : (old mid after : AddressState) (q : Request) (r : Range) (e : Error) → Allocates old q (Ok r) mid → Allocates old q (Err e) after → e ≡ OutOfMemory
+given_or_refused : (old mid after : AddressState) (q : Request) (r : Range) (e : Error) → Allocates old q (Ok r) mid →
+    Allocates old q (Err e) after → e ≡ OutOfMemory
 given_or_refused old mid after q r e a b =
     ⊎_elim
     (λ same. absurd (cc (same.0)))
@@ -26,7 +28,8 @@ given_or_refused old mid after q r e a b =
     (allocates_once old mid after q (Ok r) (Err e) a b)
 
 -- ---- A list of requests
-each_once : (qs : List Request) (rs ps : List Range) (old new later : AddressState) → AllocatesEach old qs rs new → AllocatesEach old qs ps later → (rs ≡ ps) × (new ≡ later)
+each_once : (qs : List Request) (rs ps : List Range) (old new later : AddressState) → AllocatesEach old qs rs new →
+    AllocatesEach old qs ps later → (rs ≡ ps) × (new ≡ later)
 each_once [] [] [] old new later a b = (refl, a ∙ sym b)
 each_once [] [] (p ∷ ps) old new later a b = absurd b
 each_once [] (r ∷ rs) ps old new later a b = absurd a
@@ -37,7 +40,8 @@ each_once (q ∷ qs) (r ∷ rs) (p ∷ ps) old new later a b =
     let rest = each_once qs rs ps a.0 new later a.2 (subst (λ (v : AddressState). AllocatesEach v qs ps later) (sym same.1) b.2) in
     (ap (λ (v : Range). v ∷ rs) same.0 ∙ ap (λ (v : List Range). p ∷ v) rest.0, rest.1)
 
-each_or_refused : (qs : List Request) (rs : List Range) (old new : AddressState) (e : Error) → AllocatesEach old qs rs new → RefusesOne old qs e → e ≡ OutOfMemory
+each_or_refused : (qs : List Request) (rs : List Range) (old new : AddressState) (e : Error) → AllocatesEach old qs rs new →
+    RefusesOne old qs e → e ≡ OutOfMemory
 each_or_refused [] rs old new e a b = absurd b
 each_or_refused (q ∷ qs) [] old new e a b = absurd a
 each_or_refused (q ∷ qs) (r ∷ rs) old new e a (inl b) = given_or_refused old a.0 old q r e a.1 b
@@ -45,7 +49,8 @@ each_or_refused (q ∷ qs) (r ∷ rs) old new e a (inr k) =
     let same = given_once old a.0 k.1 q r k.0 a.1 k.2 in
     each_or_refused qs rs a.0 new e a.2 (subst (λ (v : AddressState). RefusesOne v qs e) (sym same.1) k.3)
 
-refused_once : (qs : List Request) (old : AddressState) (e f : Error) → RefusesOne old qs e → RefusesOne old qs f → (e ≡ f) ⊎ ((e ≡ OutOfMemory) ⊎ (f ≡ OutOfMemory))
+refused_once : (qs : List Request) (old : AddressState) (e f : Error) → RefusesOne old qs e → RefusesOne old qs f →
+    (e ≡ f) ⊎ ((e ≡ OutOfMemory) ⊎ (f ≡ OutOfMemory))
 refused_once [] old e f a b = absurd a
 refused_once (q ∷ qs) old e f (inl a) (inl b) =
     ⊎_elim
@@ -59,8 +64,10 @@ refused_once (q ∷ qs) old e f (inr k) (inr l) =
     refused_once qs k.1 e f k.3 (subst (λ (v : AddressState). RefusesOne v qs f) (sym same.1) l.3)
 
 -- ---- The call
-pub all_once : (qs : List Request) (old new later : AddressState) (answer other : Result (List Range) Error) → AllocatesAll old qs answer new → AllocatesAll old qs other later → AgreeUnlessMemory answer new other later
-all_once qs old new later (Ok rs) (Ok ps) a b = let same = each_once qs rs ps old new later a b in inl (ap (λ (v : List Range). Ok v) same.0, same.1)
+pub all_once : (qs : List Request) (old new later : AddressState) (answer other : Result (List Range) Error) →
+    AllocatesAll old qs answer new → AllocatesAll old qs other later → AgreeUnlessMemory answer new other later
+all_once qs old new later (Ok rs) (Ok ps) a b = let same = each_once qs rs ps old new later a b in inl
+    (ap (λ (v : List Range). Ok v) same.0, same.1)
 all_once qs old new later (Ok rs) (Err f) a (e, inl m) = inr (inr (ap (λ (v : Error). Err v) m))
 all_once qs old new later (Ok rs) (Err f) a (e, inr b) = inr (inr (ap (λ (v : Error). Err v) (each_or_refused qs rs old new f a b)))
 all_once qs old new later (Err f) (Ok ps) (e, inl m) b = inr (inl (ap (λ (v : Error). Err v) m))

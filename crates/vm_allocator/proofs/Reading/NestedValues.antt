@@ -27,7 +27,8 @@ use Rattle.vm_allocator.proofs.Reading.ReadAgain.{range_again, state_again, allo
 
 -- ---- How deep the values nest
 root_nests : (d : Data) (Root : Data → Type 0) (n : ℕ) → ((v : Data) → Root v → depth v ≤ n) → EncodesTree d Root → depth d ≤ n + 1
-root_nests d Root n f p = let e = object_within n (codes "root" ∷ []) d (tt, tt) p.one_field (field_map (codes "root") d _ _ f p.root, tt) in omega (arith, e)
+root_nests d Root n f p = let e = object_within n (codes "root" ∷ []) d (tt, tt) p.one_field (field_map (codes "root") d _ _ f p.root, tt)
+    in omega (arith, e)
 
 pub addresses_nest : (d : Data) (state : AddressState) → EncodesAddresses d state → depth d ≤ 52
 addresses_nest d state p =
@@ -50,20 +51,26 @@ ids_nest d state p =
         field_map (codes "next_id") d _ _ (λ v k. next_nests v p.fields.next_id k) f.next_id,
         (
           number_within 1 _ (codes "range_end") d f.range_end,
-          (field_map (codes "freed_ids") d _ _ (λ v k. list_within EncodesNumber 0 (λ w n e. let z = whole_flat w n e in omega (arith, z)) v p.fields.freed_ids k) f.freed_ids, tt),
+          (
+            field_map (codes "freed_ids") d _ _
+                (λ v k. list_within EncodesNumber 0 (λ w n e. let z = whole_flat w n e in omega (arith, z)) v p.fields.freed_ids k) f.freed_ids,
+            tt,
+          ),
         ),
       ),
     )
 
 -- ---- Texts
 -- The allocator that is read from the text of a written value is the allocator that was written.
-pub text_gives_again : (text : List ℕ) (d e : Data) (old new : AddressState) → EncodesAddresses d old → IsTextOf text d → read text ≡ Some e → EncodesAddresses e new → new ≡ old
+pub text_gives_again : (text : List ℕ) (d e : Data) (old new : AddressState) → EncodesAddresses d old → IsTextOf text d →
+    read text ≡ Some e → EncodesAddresses e new → new ≡ old
 text_gives_again text d e old new s t p q =
     let same : e ≡ d = same_Some e d (sym p ∙ t (let n = addresses_nest d old s in omega (arith, n))) in
     one_addresses d new old (subst (λ (v : Data). EncodesAddresses v new) same q) s
 
 -- The same, if the text is parsed to the value that was written.
-pub allocator_through_text : (d e : Data) (old new : AddressState) → EncodesAddresses d old → (depth d ≤ max_depth → e ≡ d) → EncodesAddresses e new → new ≡ old
+pub allocator_through_text : (d e : Data) (old new : AddressState) → EncodesAddresses d old → (depth d ≤ max_depth → e ≡ d) →
+    EncodesAddresses e new → new ≡ old
 allocator_through_text d e old new s t q =
     let same = t (let n = addresses_nest d old s in omega (arith, n)) in
     one_addresses d new old (subst (λ (v : Data). EncodesAddresses v new) same q) s
@@ -77,11 +84,13 @@ ids_through_text d e old new s t q =
 pub text_has_value : (text : List ℕ) (d : Data) (old : AddressState) → EncodesAddresses d old → IsTextOf text d → read text ≡ None → ⊥
 text_has_value text d old s t p = let f = t (let n = addresses_nest d old s in omega (arith, n)) in cc
 
-text_again : {X : Type 0} (States : Data → X → Type 0) → ((d : Data) (x : X) → States d x → depth d ≤ max_depth) → ReadsWritten States → ReadsText States
+text_again : {X : Type 0} (States : Data → X → Type 0) → ((d : Data) (x : X) → States d x → depth d ≤ max_depth) → ReadsWritten States →
+    ReadsText States
 text_again {X} States nests again old value text parsed w t p =
     at parsed (parsed_again text (view value) parsed (nests (view value) old w) t p) where
       at : (r : Result Value json.Error) → MatchResult r (λ v. view v ≡ view value) IsMemory →
-          MatchResult r (λ v. (answer : Result X ValueError) → Reads (States (view v)) answer → (answer ≡ Ok old) ⊎ (answer ≡ Err OutOfMemory)) IsMemory
+          MatchResult r (λ v. (answer : Result X ValueError) → Reads (States (view v)) answer → (answer ≡ Ok old) ⊎
+          (answer ≡ Err OutOfMemory)) IsMemory
       at (Ok v) e = λ answer k. again old v answer (subst (λ (d : Data). States d old) (sym e) w) k
       at (Err e) m = m
 

@@ -20,7 +20,9 @@ fields_of : (d : Data) (state : AddressState) → EncodesAddresses d state → H
 fields_of d state p = record { two_fields = p.two_fields; address_space = p.address_space; interval_tree = p.interval_tree }
 
 -- The root in an allocator's value.
-root_of : (d : Data) (state : AddressState) → EncodesAddresses d state → (root : Data) × (decoded_parts d ≡ Some (state.space, root)) × EncodesSpaceTree root state.space state × IsRange state.space.start state.space.end
+root_of : (d : Data) (state : AddressState) → EncodesAddresses d state →
+    (root : Data) × (decoded_parts d ≡ Some (state.space, root)) × EncodesSpaceTree root state.space state
+    × IsRange state.space.start state.space.end
 root_of d state p = parts_are d state.space (RootIs state) (fields_of d state p)
 
 -- A value encodes at most one state.
@@ -35,19 +37,22 @@ encoded_state d state p = let r = root_of d state p in tree_state_valid r.0 stat
 
 -- The facts that the contracts of the code need.
 
-pub encoded_by : (d : Data) (space : Range) (root : Data) (state : AddressState) → decoded_parts d ≡ Some (space, root) → EncodesSpaceTree root space state → EncodesAddresses d state
+pub encoded_by : (d : Data) (space : Range) (root : Data) (state : AddressState) → decoded_parts d ≡ Some (space, root) →
+    EncodesSpaceTree root space state → EncodesAddresses d state
 encoded_by d space root state e k =
     let own : EncodesSpaceTree root state.space state = subst (λ (s : Range). EncodesSpaceTree root s state) (sym k.is_space) k in
     let all = parts_encoded d state.space root (RootIs state) (e ∙ ap (λ (s : Range). Some (s, root)) (sym k.is_space)) own in
     record { two_fields = all.two_fields; address_space = all.address_space; interval_tree = all.interval_tree }
 
-no_tree : (d : Data) (space : Range) (root : Data) → decoded_parts d ≡ Some (space, root) → (((state : AddressState) × EncodesSpaceTree root space state) → ⊥) → ((state : AddressState) × EncodesAddresses d state) → ⊥
+no_tree : (d : Data) (space : Range) (root : Data) → decoded_parts d ≡ Some (space, root) →
+    (((state : AddressState) × EncodesSpaceTree root space state) → ⊥) → ((state : AddressState) × EncodesAddresses d state) → ⊥
 no_tree d space root e none p =
     let r = root_of d p.0 p.1 in
     let same : (p.0.space, r.0) ≡ (space, root) = same_Some (p.0.space, r.0) (space, root) (sym r.1 ∙ e) in
     none (p.0, subst (λ (x : Range × Data). EncodesSpaceTree x.1 x.0 p.0) same r.2)
 
 -- The error of reading the tree is the error of reading the allocator.
-pub not_read : (d : Data) (space : Range) (root : Data) (error : ValueError) → decoded_parts d ≡ Some (space, root) → Reads (EncodesSpaceTree root space) (Err error) → Reads (EncodesAddresses d) (Err error)
+pub not_read : (d : Data) (space : Range) (root : Data) (error : ValueError) → decoded_parts d ≡ Some (space, root) →
+    Reads (EncodesSpaceTree root space) (Err error) → Reads (EncodesAddresses d) (Err error)
 not_read d space root NotAState e r = no_tree d space root e r
 not_read d space root OutOfMemory e r = (r.0, encoded_by d space root r.0 e r.1)

@@ -7,14 +7,17 @@ use Rattle.vm_engine.proofs.Blocks.BlockStates.{keys_in_order, is_state}
 use Rattle.vm_engine.proofs.SavedNodes.Roots.{state_with}
 
 -- The state with the held keys is the one that was read.
-same_read : (space : Range) (held : List Range) (state : AddressState) → held ≡ state.held → state.space ≡ space → state_with space held ≡ state
+same_read : (space : Range) (held : List Range) (state : AddressState) → held ≡ state.held → state.space ≡ space →
+    state_with space held ≡ state
 same_read space held state e f = ap (λ (s : Range). state_with s held) (sym f) ∙ ap (λ (h : List Range). state_with state.space h) e
 
-pub tree_read_state : (space : Range) (t : Saved) (state : AddressState) → IsRange space.start space.end → HasTreeOf space t state → IsAddressState state
+pub tree_read_state : (space : Range) (t : Saved) (state : AddressState) → IsRange space.start space.end → HasTreeOf space t state →
+    IsAddressState state
 tree_read_state space t state r h =
     subst IsAddressState (same_read space (held_keys t) state h.held h.is_space) (is_state space (saved_blocks t) h.tree.blocks r)
 
-pub keys_read_state : (space : Range) (t : Saved) (state : AddressState) → IsRange space.start space.end → HasHeldKeys space t state → IsAddressState state
+pub keys_read_state : (space : Range) (t : Saved) (state : AddressState) → IsRange space.start space.end → HasHeldKeys space t state →
+    IsAddressState state
 keys_read_state space t state r h =
     let in_order = keys_in_order space.start space.end (saved_blocks t) h.keys h.below in
     subst IsAddressState (same_read space (held_keys t) state h.held h.is_space) (record { space = r; in_order = in_order })

@@ -23,7 +23,9 @@ RootIs state v = EncodesKeys v state.space state
 fields_of : (d : Data) (state : AddressState) → EncodesRepaired d state → HasParts d state.space (RootIs state)
 fields_of d state p = record { two_fields = p.two_fields; address_space = p.address_space; interval_tree = p.interval_tree }
 
-root_of : (d : Data) (state : AddressState) → EncodesRepaired d state → (root : Data) × (decoded_parts d ≡ Some (state.space, root)) × EncodesKeys root state.space state × IsRange state.space.start state.space.end
+root_of : (d : Data) (state : AddressState) → EncodesRepaired d state →
+    (root : Data) × (decoded_parts d ≡ Some (state.space, root)) × EncodesKeys root state.space state
+    × IsRange state.space.start state.space.end
 root_of d state p = parts_are d state.space (RootIs state) (fields_of d state p)
 
 -- A value encodes at most one state.
@@ -37,17 +39,21 @@ pub repaired_state : (d : Data) (state : AddressState) → EncodesRepaired d sta
 repaired_state d state p = let r = root_of d state p in keys_state r.0 state r.3 r.2
 
 -- A value that is read without repairs is read with repairs to the same state, if few enough ranges are held.
-strict_tree : (d : Data) (state : AddressState) → length state.held ≤ SPLIT_LIMIT_MIN_HELD → EncodesTree d (λ v. EncodesSpaceTree v state.space state) → EncodesTree d (λ v. EncodesKeys v state.space state)
+strict_tree : (d : Data) (state : AddressState) → length state.held ≤ SPLIT_LIMIT_MIN_HELD →
+    EncodesTree d (λ v. EncodesSpaceTree v state.space state) → EncodesTree d (λ v. EncodesKeys v state.space state)
 strict_tree d state few t = record {
   one_field = t.one_field;
-  root = field_map (codes "root") d (λ v. EncodesSpaceTree v state.space state) (λ v. EncodesKeys v state.space state) (λ v p. strict_keys v state.space state p few) t.root;
+  root = field_map (codes "root") d (λ v. EncodesSpaceTree v state.space state) (λ v. EncodesKeys v state.space state)
+      (λ v p. strict_keys v state.space state p few) t.root;
 }
 
-pub strict_repaired : (d : Data) (state : AddressState) → EncodesAddresses d state → length state.held ≤ SPLIT_LIMIT_MIN_HELD → EncodesRepaired d state
+pub strict_repaired : (d : Data) (state : AddressState) → EncodesAddresses d state → length state.held ≤ SPLIT_LIMIT_MIN_HELD →
+    EncodesRepaired d state
 strict_repaired d state p few = record {
   two_fields = p.two_fields;
   address_space = p.address_space;
-  interval_tree = field_map (codes "interval_tree") d (λ v. EncodesTree v (λ r. EncodesSpaceTree r state.space state)) (λ v. EncodesTree v (λ r. EncodesKeys r state.space state)) (λ v. strict_tree v state few) p.interval_tree;
+  interval_tree = field_map (codes "interval_tree") d (λ v. EncodesTree v (λ r. EncodesSpaceTree r state.space state))
+      (λ v. EncodesTree v (λ r. EncodesKeys r state.space state)) (λ v. strict_tree v state few) p.interval_tree;
 }
 
 -- The facts that the contracts of the code need.
@@ -55,19 +61,22 @@ strict_repaired d state p few = record {
 pub none_repaired : (d : Data) → decoded_parts d ≡ None → ((state : AddressState) × EncodesRepaired d state) → ⊥
 none_repaired d e p = let r = root_of d p.0 p.1 in absurd (let f = r.1 in cc)
 
-pub repaired_by : (d : Data) (space : Range) (root : Data) (state : AddressState) → decoded_parts d ≡ Some (space, root) → EncodesKeys root space state → EncodesRepaired d state
+pub repaired_by : (d : Data) (space : Range) (root : Data) (state : AddressState) → decoded_parts d ≡ Some (space, root) →
+    EncodesKeys root space state → EncodesRepaired d state
 repaired_by d space root state e k =
     let own : EncodesKeys root state.space state = subst (λ (s : Range). EncodesKeys root s state) (sym k.is_space) k in
     let all = parts_encoded d state.space root (RootIs state) (e ∙ ap (λ (s : Range). Some (s, root)) (sym k.is_space)) own in
     record { two_fields = all.two_fields; address_space = all.address_space; interval_tree = all.interval_tree }
 
-no_keys_read : (d : Data) (space : Range) (root : Data) → decoded_parts d ≡ Some (space, root) → (((state : AddressState) × EncodesKeys root space state) → ⊥) → ((state : AddressState) × EncodesRepaired d state) → ⊥
+no_keys_read : (d : Data) (space : Range) (root : Data) → decoded_parts d ≡ Some (space, root) →
+    (((state : AddressState) × EncodesKeys root space state) → ⊥) → ((state : AddressState) × EncodesRepaired d state) → ⊥
 no_keys_read d space root e none p =
     let r = root_of d p.0 p.1 in
     let same : (p.0.space, r.0) ≡ (space, root) = same_Some (p.0.space, r.0) (space, root) (sym r.1 ∙ e) in
     none (p.0, subst (λ (x : Range × Data). EncodesKeys x.1 x.0 p.0) same r.2)
 
 -- The error of reading the tree is the error of reading the allocator.
-pub not_repaired : (d : Data) (space : Range) (root : Data) (error : ValueError) → decoded_parts d ≡ Some (space, root) → Reads (EncodesKeys root space) (Err error) → Reads (EncodesRepaired d) (Err error)
+pub not_repaired : (d : Data) (space : Range) (root : Data) (error : ValueError) → decoded_parts d ≡ Some (space, root) →
+    Reads (EncodesKeys root space) (Err error) → Reads (EncodesRepaired d) (Err error)
 not_repaired d space root NotAState e r = no_keys_read d space root e r
 not_repaired d space root OutOfMemory e r = (r.0, repaired_by d space root r.0 e r.1)

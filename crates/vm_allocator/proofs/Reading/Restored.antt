@@ -16,7 +16,8 @@ use Rattle.vm_allocator.specs.Laws.RestoredLaws.{RestoredIsSaved, RestoredNodesH
 use Rattle.vm_ids.proofs.Ids.ReadIdStates.{one_encoded}
 use Rattle.vm_allocator.proofs.Reading.ReadAllocators.{one_addresses}
 
-restored : {X C : Type 0} (States : Data → X → Type 0) (History : X → List C → X → Type 0) → EncodesAtMostOne States → RestoredIsSaved States History
+restored : {X C : Type 0} (States : Data → X → Type 0) (History : X → List C → X → Type 0) → EncodesAtMostOne States →
+    RestoredIsSaved States History
 restored States History one old back last value calls w r =
     let same = one (view value) back old r w in
     (same, (λ h. subst (λ v. History v calls last) same h, λ h. subst (λ v. History v calls last) (sym same) h))
@@ -30,5 +31,12 @@ ids_restored = restored EncodesIds IsIdHistoryFrom one_encoded
 pub nodes_restored : RestoredNodesHaveState
 nodes_restored old t back last calls i w h =
     let own = written_is_read old t i w in
-    let same = ap (λ s. state_with s back.held) (h.is_space ∙ sym own.is_space) ∙ ap (state_with (space_of (blocks old))) (sym h.held ∙ own.held) in
-    (same, (λ k. subst (λ (v : AddressState). IsHistoryFrom v calls last) same k, λ k. subst (λ (v : AddressState). IsHistoryFrom v calls last) (sym same) k))
+    let same = ap (λ s. state_with s back.held) (h.is_space ∙ sym own.is_space)
+    ∙ ap (state_with (space_of (blocks old))) (sym h.held ∙ own.held) in (
+      same,
+      (
+        λ k. subst (λ (v : AddressState). IsHistoryFrom v calls last) same k,
+        λ k. subst
+            (λ (v : AddressState). IsHistoryFrom v calls last) (sym same) k,
+      ),
+    )

@@ -23,7 +23,8 @@ none_listed [] e = refl
 none_listed (r ∷ rs) e = absurd (cc e)
 
 -- ---- A request of ExactMatch
-module _ (state : AddressState) (n a s : ℕ) (some : 0 < n) (aligned : s % a ≡ 0) (valid : IsAddressState state) (answer : Option Conflict) where
+module _ (state : AddressState) (n a s : ℕ) (some : 0 < n) (aligned : s % a ≡ 0) (valid : IsAddressState state)
+    (answer : Option Conflict) where
   in_space : (window : Option Range) → IsPlace n a (within window state) s → Covers state.space (span s n)
   unfolding IsPlace Covers
   in_space window p x i = ((place_anywhere window n a s state p).1 x i.0 (omega (arith, i.1))).0
@@ -36,10 +37,12 @@ module _ (state : AddressState) (n a s : ℕ) (some : 0 < n) (aligned : s % a �
   long = omega (arith, some)
 
   clear_or_not : Covers state.space (span s n) → AreClear n state s ↔ (meeting (span s n) state.held ≡ [])
-  clear_or_not c = subst (λ (v : ℕ). AreClear v state s ↔ (meeting (span s n) state.held ≡ [])) long (clear_if_none_meets state (span s n) valid (omega (arith, some)) c).clear
+  clear_or_not c = subst (λ (v : ℕ). AreClear v state s ↔ (meeting (span s n) state.held ≡ [])) long
+      (clear_if_none_meets state (span s n) valid (omega (arith, some)) c).clear
 
   -- A range of the space has no conflict if and only if it is clear.
-  free_decides : Unless (Covers state.space (span s n)) (answer ≡ Some (OutsideSpace state.space)) (answer ≡ with_first (meeting (span s n) state.held)) → (answer ≡ None) ↔ IsPlace n a state s
+  free_decides : Unless (Covers state.space (span s n)) (answer ≡ Some (OutsideSpace state.space))
+      (answer ≡ with_first (meeting (span s n) state.held)) → (answer ≡ None) ↔ IsPlace n a state s
   unfolding IsPlace
   free_decides (inl o) = (λ e. absurd (cc (e, o.1)), λ p. absurd (o.0 (in_space None p)))
   free_decides (inr i) =
@@ -49,7 +52,8 @@ module _ (state : AddressState) (n a s : ℕ) (some : 0 < n) (aligned : s % a �
       )
 
   -- A range of the window has no conflict if and only if it is clear.
-  window_decides : (window : Option Range) → IsConflictOf state window (span s n) answer → (answer ≡ None) ↔ IsPlace n a (within window state) s
+  window_decides : (window : Option Range) → IsConflictOf state window (span s n) answer →
+      (answer ≡ None) ↔ IsPlace n a (within window state) s
   unfolding IsConflictOf
   window_decides None h = free_decides h
   window_decides (Some w) (inl o) = (λ e. absurd (cc (e, o.1)), λ p. absurd (o.0 (in_space (Some w) p)))
@@ -61,25 +65,31 @@ module _ (state : AddressState) (n a s : ℕ) (some : 0 < n) (aligned : s % a �
         λ p. free.1 (place_anywhere (Some w) n a s state p),
       )
 
-by_policy : (state : AddressState) (size align : ℕ) (policy : AllocPolicy) (window : Option Range) (answer : Option Conflict) → IsAddressState state
-    → IsRequest (record { size = size; align = align; policy = policy; window = window }) → IsConflict state (record { size = size; align = align; policy = policy; window = window }) answer
+by_policy : (state : AddressState) (size align : ℕ) (policy : AllocPolicy) (window : Option Range) (answer : Option Conflict) →
+    IsAddressState state
+    → IsRequest (record { size = size; align = align; policy = policy; window = window }) →
+    IsConflict state (record { size = size; align = align; policy = policy; window = window }) answer
     → ConflictDecides state (record { size = size; align = align; policy = policy; window = window }) answer
 unfolding IsConflict ConflictDecides IsStartAligned
 by_policy state size align FirstMatch window answer valid r h = tt
 by_policy state size align LastMatch window answer valid r h = tt
 by_policy state size align (ExactMatch s) window answer valid r h = window_decides state size align s r.some r.start valid answer window h
 
-pub conflict_decides : (state : AddressState) (request : Request) (answer : Option Conflict) → IsAddressState state → IsRequest request → IsConflict state request answer → ConflictDecides state request answer
+pub conflict_decides : (state : AddressState) (request : Request) (answer : Option Conflict) → IsAddressState state → IsRequest request →
+    IsConflict state request answer → ConflictDecides state request answer
 conflict_decides state request answer valid r h = by_policy state request.size request.align request.policy request.window answer valid r h
 
 -- ---- A window that contains the space
-same_conflict : (state : AddressState) (size : ℕ) (policy : AllocPolicy) (w : Range) (answer : Option Conflict) → w.start ≤ state.space.start → state.space.end ≤ w.end →
-    ByPolicy policy (answer ≡ None) (answer ≡ None) (λ s. IsConflictOf state (Some w) (span s size) answer) ↔ ByPolicy policy (answer ≡ None) (answer ≡ None) (λ s. IsConflictOf state None (span s size) answer)
+same_conflict : (state : AddressState) (size : ℕ) (policy : AllocPolicy) (w : Range) (answer : Option Conflict) →
+    w.start ≤ state.space.start → state.space.end ≤ w.end →
+    ByPolicy policy (answer ≡ None) (answer ≡ None) (λ s. IsConflictOf state (Some w) (span s size) answer)
+    ↔ ByPolicy policy (answer ≡ None) (answer ≡ None) (λ s. IsConflictOf state None (span s size) answer)
 unfolding IsConflictOf Covers
 same_conflict state size FirstMatch w answer low high = (λ h. h, λ h. h)
 same_conflict state size LastMatch w answer low high = (λ h. h, λ h. h)
 same_conflict state size (ExactMatch s) w answer low high = (
-  λ h. ⊎_elim (λ o. inl o) (λ i. ⊎_elim (λ o. absurd (o.0 (λ x k. let j = i.0 x k in (omega (arith, low, j.0), omega (arith, high, j.1))))) (λ k. inr (i.0, k.1)) i.1) h,
+  λ h. ⊎_elim (λ o. inl o) (λ i. ⊎_elim (λ o. absurd (o.0 (λ x k. let j = i.0 x k in (omega (arith, low, j.0), omega (arith, high, j.1)))))
+      (λ k. inr (i.0, k.1)) i.1) h,
   λ h. ⊎_elim (λ o. inl o) (λ i. inr (i.0, inr (λ x k. let j = i.0 x k in (omega (arith, low, j.0), omega (arith, high, j.1)), i.1))) h,
 )
 

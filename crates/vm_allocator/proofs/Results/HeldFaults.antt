@@ -1,5 +1,31 @@
 -- If a range cannot be held after others, `ExactMatch` has the same error for it.
-use Rattle.std.proofs.Common.{◌≡◌, ℕ, ◌+◌, ◌≤◌, ◌<◌, List, [], ◌∷◌, ◌++◌, true, false, cond, eqb, ltb, eq-eqb, Some, None, Result, Err, refl, ap, ◌∙◌, arith, subst, ⊎_elim}
+use Rattle.std.proofs.Common.{
+  ◌≡◌,
+  ℕ,
+  ◌+◌,
+  ◌≤◌,
+  ◌<◌,
+  List,
+  [],
+  ◌∷◌,
+  ◌++◌,
+  true,
+  false,
+  cond,
+  eqb,
+  ltb,
+  eq-eqb,
+  Some,
+  None,
+  Result,
+  Err,
+  refl,
+  ap,
+  ◌∙◌,
+  arith,
+  subst,
+  ⊎_elim,
+}
 use Rattle.std.specs.List.{All, Contains}
 use Rattle.std.proofs.lemmas.Bool.{ltb-true, ltb-false, lt-ltb, eqb-true, cases_lt}
 use Rattle.std.proofs.lemmas.List.Elements.{All-head, All-tail}
@@ -18,14 +44,18 @@ use Rattle.vm_engine.proofs.Blocks.PlainWords.{IsHeldAddress, held_contains, hel
 use Rattle.vm_engine.proofs.Results.Filling.{request_grants}
 use Rattle.vm_allocator.proofs.Results.HeldOnes.{held_if_no_fault}
 
-module _ (space : Range) (before : List Range) (lo : ℕ) (r : Range) (some : r.start ≤ r.end) (top : r.end ≤ MAX) (from : space.start ≤ lo) (behind : lo ≤ r.start) (above : (x : ℕ) → lo ≤ x → ¬ IsHeldAddress before x) where
+module _ (space : Range) (before : List Range) (lo : ℕ) (r : Range) (some : r.start ≤ r.end) (top : r.end ≤ MAX) (from : space.start ≤ lo)
+    (behind : lo ≤ r.start) (above : (x : ℕ) → lo ≤ x → ¬ IsHeldAddress before x) where
   abbrev state : AddressState
   state = record { space = space; held = before }
 
   not_held : ¬ Contains before (span r.start (address_count r))
-  not_held c = above r.start behind (held_address before (span r.start (address_count r)) r.start (held_contains before (span r.start (address_count r)) c) (omega arith, omega arith))
+  not_held c = above r.start behind
+      (held_address before (span r.start (address_count r)) r.start (held_contains before (span r.start (address_count r)) c)
+      (omega arith, omega arith))
 
-  past : (e : Error) (P : Error → Type 0) (Q : Type 0) → ¬ (r.start ≡ MAX) → space.end < r.end → ByStart r.start (address_count r) state P Q → P ResourceNotAvailable
+  past : (e : Error) (P : Error → Type 0) (Q : Type 0) → ¬ (r.start ≡ MAX) → space.end < r.end →
+      ByStart r.start (address_count r) state P Q → P ResourceNotAvailable
   unfolding ByStart
   past e P Q n l h =
       ⊎_elim
@@ -39,7 +69,8 @@ module _ (space : Range) (before : List Range) (lo : ℕ) (r : Range) (some : r.
       (λ d. ⊎_elim (λ f. f.1) (λ f. let last = f.0 r.end (omega arith) (omega arith) in absurd (omega (arith, last.0.1))) d.1)
       c.1) b.1) a.1) h
 
-  at_max : (P : Error → Type 0) (Q : Type 0) → ¬ (r.start ≡ MAX) → r.end ≤ space.end → r.end ≡ MAX → ByStart r.start (address_count r) state P Q → P Overflow
+  at_max : (P : Error → Type 0) (Q : Type 0) → ¬ (r.start ≡ MAX) → r.end ≤ space.end → r.end ≡ MAX →
+      ByStart r.start (address_count r) state P Q → P Overflow
   unfolding ByStart
   at_max P Q n l m h =
       ⊎_elim
@@ -59,22 +90,30 @@ module _ (space : Range) (before : List Range) (lo : ℕ) (r : Range) (some : r.
   unfolding ByStart
   starts_at_max P Q m h = ⊎_elim (λ a. a.1) (λ a. absurd (a.0 m)) h
 
-  same_fault : (e : Error) (P : Error → Type 0) (Q : Type 0) → range_fault lo space.end r ≡ Some e → ByStart r.start (address_count r) state P Q → P e
+  same_fault : (e : Error) (P : Error → Type 0) (Q : Type 0) → range_fault lo space.end r ≡ Some e →
+      ByStart r.start (address_count r) state P Q → P e
   same_fault e P Q f h =
-      elim (ltb r.start lo) as (λ v. ltb r.start lo ≡ v → cond v (Some ResourceNotAvailable) (cond (eqb r.start MAX) (Some Overflow) (cond (ltb space.end r.end) (Some ResourceNotAvailable) (cond (eqb r.end MAX) (Some Overflow) None))) ≡ Some e → P e) [
+      elim (ltb r.start lo) as (λ v. ltb r.start lo ≡ v → cond v (Some ResourceNotAvailable)
+      (cond (eqb r.start MAX) (Some Overflow)
+      (cond (ltb space.end r.end) (Some ResourceNotAvailable) (cond (eqb r.end MAX) (Some Overflow) None))) ≡ Some e → P e) [
         | true ↦ λ a _. absurd (omega (arith, ltb-true r.start lo a))
-        | false ↦ λ a g. elim (eqb r.start MAX) as (λ v. eqb r.start MAX ≡ v → cond v (Some Overflow) (cond (ltb space.end r.end) (Some ResourceNotAvailable) (cond (eqb r.end MAX) (Some Overflow) None)) ≡ Some e → P e) [
-          | true ↦ λ b k. let same : Overflow ≡ e = cc k in subst P same (starts_at_max P Q (eqb-true r.start MAX b) h)
-          | false ↦ λ b k.
-              let n : ¬ (r.start ≡ MAX) = λ m. let t = eq-eqb r.start MAX m in cc in
-              elim (ltb space.end r.end) as (λ v. ltb space.end r.end ≡ v → cond v (Some ResourceNotAvailable) (cond (eqb r.end MAX) (Some Overflow) None) ≡ Some e → P e) [
-                | true ↦ λ d m. let same : ResourceNotAvailable ≡ e = cc m in subst P same (past e P Q n (ltb-true space.end r.end d) h)
-                | false ↦ λ d m. elim (eqb r.end MAX) as (λ v. eqb r.end MAX ≡ v → cond v (Some Overflow) None ≡ Some e → P e) [
-                  | true ↦ λ o p. let same : Overflow ≡ e = cc p in subst P same (at_max P Q n (ltb-false space.end r.end d) (eqb-true r.end MAX o) h)
-                  | false ↦ λ o p. absurd (cc p)
-                ] refl m
-              ] refl k
-        ] refl g
+        | false ↦ λ a g. elim (eqb r.start MAX) as
+            (λ v. eqb r.start MAX ≡ v →
+            cond v (Some Overflow) (cond (ltb space.end r.end) (Some ResourceNotAvailable) (cond (eqb r.end MAX) (Some Overflow) None))
+            ≡ Some e → P e) [
+              | true ↦ λ b k. let same : Overflow ≡ e = cc k in subst P same (starts_at_max P Q (eqb-true r.start MAX b) h)
+              | false ↦ λ b k.
+                  let n : ¬ (r.start ≡ MAX) = λ m. let t = eq-eqb r.start MAX m in cc in
+                  elim (ltb space.end r.end) as (λ v. ltb space.end r.end ≡ v → cond v (Some ResourceNotAvailable)
+                  (cond (eqb r.end MAX) (Some Overflow) None) ≡ Some e → P e) [
+                    | true ↦ λ d m. let same : ResourceNotAvailable ≡ e = cc m in subst P same (past e P Q n (ltb-true space.end r.end d) h)
+                    | false ↦ λ d m. elim (eqb r.end MAX) as (λ v. eqb r.end MAX ≡ v → cond v (Some Overflow) None ≡ Some e → P e) [
+                      | true ↦ λ o p. let same : Overflow
+                          ≡ e = cc p in subst P same (at_max P Q n (ltb-false space.end r.end d) (eqb-true r.end MAX o) h)
+                      | false ↦ λ o p. absurd (cc p)
+                    ] refl m
+                  ] refl k
+            ] refl g
       ] refl f
 
 -- ---- The ranges before it
@@ -107,15 +146,18 @@ record FirstFault (lo hi : ℕ) (held : List Range) (e : Error) : Type 0 where
   behind : next_after lo before ≤ range.start
   fault : range_fault (next_after lo before) hi range ≡ Some e
 
-first_one : (lo hi : ℕ) (held : List Range) (e : Error) → hi ≤ MAX → All (λ r. IsRange r.start r.end) held → AreAscending lo held → first_fault lo hi held ≡ Some e → FirstFault lo hi held e
+first_one : (lo hi : ℕ) (held : List Range) (e : Error) → hi ≤ MAX → All (λ r. IsRange r.start r.end) held → AreAscending lo held →
+    first_fault lo hi held ≡ Some e → FirstFault lo hi held e
 first_one lo hi [] e top a i f = absurd (cc f)
 first_one lo hi (r ∷ rs) e top a i f =
     let range = All-head (λ r. IsRange r.start r.end) r rs a in
-    elim (range_fault lo hi r) as (λ v. range_fault lo hi r ≡ v → or_else v (first_fault (r.end + 1) hi rs) ≡ Some e → FirstFault lo hi (r ∷ rs) e) [
+    elim (range_fault lo hi r) as (λ v. range_fault lo hi r ≡ v → or_else v (first_fault (r.end + 1) hi rs) ≡ Some e → FirstFault lo hi
+    (r ∷ rs) e) [
       | None ↦ λ none g.
           let k = first_one (r.end + 1) hi rs e top (All-tail (λ r. IsRange r.start r.end) r rs a) i.1 g in
           let here = held_if_no_fault lo hi r none range.0 in
-          let below : r.end < MAX = ⊎_elim (λ (l : r.end < MAX). l) (λ (l : MAX ≤ r.end). absurd (here.2 (omega (arith, here.1)))) (cases_lt r.end MAX) in
+          let below : r.end < MAX = ⊎_elim (λ (l : r.end < MAX). l) (λ (l : MAX ≤ r.end). absurd (here.2 (omega (arith, here.1))))
+          (cases_lt r.end MAX) in
           record {
             before = r ∷ k.before;
             range = k.range;
@@ -131,7 +173,8 @@ first_one lo hi (r ∷ rs) e top a i f =
     ] refl f
 
 -- ---- The result of the request
-exact_grants : (old : AddressState) (r : Range) (answer : Result Range Error) (new : AddressState) → Allocates old (request_for (address_count r) 1 (ExactMatch r.start)) answer new
+exact_grants : (old : AddressState) (r : Range) (answer : Result Range Error) (new : AddressState) →
+    Allocates old (request_for (address_count r) 1 (ExactMatch r.start)) answer new
     → (Rest : Type 0) × ByStart r.start (address_count r) old (λ e. (answer ≡ Err e) × (new ≡ old)) Rest
 unfolding IsAlignment IsStartAligned Grants ByExactPolicy
 exact_grants old r answer new h =
@@ -141,7 +184,8 @@ exact_grants old r answer new h =
 
 -- ---- The first range that cannot be held
 -- The list starts in the space.
-later_fault : (space : Range) (held : List Range) (e : Error) → IsRange space.start space.end → All (λ r. IsRange r.start r.end) held → AreAscending space.start held → first_fault space.start space.end held ≡ Some e → FailsAt space held e
+later_fault : (space : Range) (held : List Range) (e : Error) → IsRange space.start space.end → All (λ r. IsRange r.start r.end) held →
+    AreAscending space.start held → first_fault space.start space.end held ≡ Some e → FailsAt space held e
 later_fault space held e range each ascending fault =
     let lo = space.start in
     let hi = space.end in
@@ -161,11 +205,14 @@ later_fault space held e range each ascending fault =
     }
 
 -- The first range starts below the space.
-below_space : (space : Range) (r : Range) (P : Error → Type 0) (Q : Type 0) → r.start < space.start → space.start ≤ MAX → ByStart r.start (address_count r) (record { space = space; held = [] }) P Q → P ResourceNotAvailable
+below_space : (space : Range) (r : Range) (P : Error → Type 0) (Q : Type 0) → r.start < space.start → space.start ≤ MAX →
+    ByStart r.start (address_count r) (record { space = space; held = [] }) P Q → P ResourceNotAvailable
 unfolding ByStart
-below_space space r P Q l m h = ⊎_elim (λ a. absurd (omega (arith, a.0))) (λ a. ⊎_elim (λ b. b.1) (λ b. absurd (omega (arith, b.0.0))) a.1) h
+below_space space r P Q l m h = ⊎_elim (λ a. absurd (omega (arith, a.0))) (λ a. ⊎_elim (λ b. b.1) (λ b. absurd (omega (arith, b.0.0))) a.1)
+    h
 
-first_fault_below : (space : Range) (r : Range) (rs : List Range) (e : Error) → IsRange space.start space.end → r.start < space.start → first_fault space.start space.end (r ∷ rs) ≡ Some e → FailsAt space (r ∷ rs) e
+first_fault_below : (space : Range) (r : Range) (rs : List Range) (e : Error) → IsRange space.start space.end → r.start < space.start →
+    first_fault space.start space.end (r ∷ rs) ≡ Some e → FailsAt space (r ∷ rs) e
 first_fault_below space r rs e range l fault =
     let old : AddressState = record { space = space; held = [] } in
     let same : ResourceNotAvailable ≡ e = cc (rw (lt-ltb r.start space.start l) at fault) in
@@ -177,7 +224,8 @@ first_fault_below space r rs e range l fault =
       state = record { space = range; in_order = tt };
       error = λ answer new h.
           let g = exact_grants old r answer new h in
-          (subst (λ (x : Error). (answer ≡ Err x) × (new ≡ old)) same (below_space space r (λ x. (answer ≡ Err x) × (new ≡ old)) g.0 l (omega (arith, range.0, range.1)) g.1)).0;
+          (subst (λ (x : Error). (answer ≡ Err x) × (new ≡ old)) same
+          (below_space space r (λ x. (answer ≡ Err x) × (new ≡ old)) g.0 l (omega (arith, range.0, range.1)) g.1)).0;
     }
 
 pub fault_is_that_of_exact_match : FaultIsThatOfExactMatch

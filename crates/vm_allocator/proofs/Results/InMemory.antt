@@ -11,7 +11,8 @@ use Rattle.vm_ranges.proofs.TwoFacts.{if_same}
 use Rattle.vm_engine.proofs.Results.Once.{allocates_once}
 
 -- Results that agree unless memory runs out are equal if it does not.
-pub same_in_memory : {A : Type 0} (x y : Result A Error) (new later : AddressState) → x ≢ Err OutOfMemory → y ≢ Err OutOfMemory → AgreeUnlessMemory x new y later → (x ≡ y) × (new ≡ later)
+pub same_in_memory : {A : Type 0} (x y : Result A Error) (new later : AddressState) → x ≢ Err OutOfMemory → y ≢ Err OutOfMemory →
+    AgreeUnlessMemory x new y later → (x ≡ y) × (new ≡ later)
 same_in_memory x y new later p q (inl same) = same
 same_in_memory x y new later p q (inr (inl e)) = absurd (p e)
 same_in_memory x y new later p q (inr (inr e)) = absurd (q e)

@@ -21,7 +21,8 @@ longest_decides old new request answer state sense one policy h =
           (λ (l : longest < request.size). l)
           (λ (l : request.size ≤ longest).
           let place = fits.1 l in
-          absurd (by_places.only_there policy place.0 (subst (λ (a : ℕ). IsPlace request.size a (within request.window old) place.0) (sym one) place.1) e))
+          absurd (by_places.only_there policy place.0
+          (subst (λ (a : ℕ). IsPlace request.size a (within request.window old) place.0) (sym one) place.1) e))
           (cases_lt longest request.size),
       λ l.
           by_places.no_place policy (λ s place.
@@ -30,6 +31,7 @@ longest_decides old new request answer state sense one policy h =
 
 pub long_gap_suffices : LongGapSuffices
 long_gap_suffices old new request answer state sense policy long h e =
-    let place = long_gap_fits old request.window request.size request.align state sense.some (alignment_pos request.align sense.aligned) long in
+    let place = long_gap_fits old request.window request.size request.align state sense.some (alignment_pos request.align sense.aligned)
+    long in
     let by_places = (answered request old new answer state h).valid sense in
     by_places.only_there policy place.0 place.1 e

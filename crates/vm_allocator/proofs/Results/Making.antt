@@ -25,7 +25,8 @@ pub space_past : (base size : ℕ) → 0 < size → MAX < base + (size - 1) → 
 unfolding BySpace
 space_past base size z o = inr (λ e. omega arith, inl (omega arith, refl))
 
-pub space_made : (base size : ℕ) (sp : Range) → 0 < size → base + (size - 1) ≤ MAX → sp ≡ record { start = base; end = base + (size - 1) } → MakesSpace base size (Ok sp)
+pub space_made : (base size : ℕ) (sp : Range) → 0 < size → base + (size - 1) ≤ MAX → sp ≡ record { start = base; end = base + (size - 1) } →
+    MakesSpace base size (Ok sp)
 unfolding BySpace
 space_made base size sp z o e =
     let last : base + (size - 1) ≡ base + size - 1 = omega arith in
@@ -48,20 +49,23 @@ new_memory base size sp s =
     (λ r. ⊎_elim (λ l. absurd (cc (l.1))) (λ k. inr (r.0, inr (k.0, inr refl))) r.1)
     s
 
-pub new_made : (base size : ℕ) (sp : Range) → MakesSpace base size (Ok sp) → Makes base size (Ok (blocks_state sp (record { key = sp; state = Free } ∷ [])))
+pub new_made : (base size : ℕ) (sp : Range) → MakesSpace base size (Ok sp) →
+    Makes base size (Ok (blocks_state sp (record { key = sp; state = Free } ∷ [])))
 unfolding BySpace Makes
 new_made base size sp s =
     ⊎_elim
     (λ l. absurd (cc (l.1)))
     (λ r. ⊎_elim
     (λ l. absurd (cc (l.1)))
-    (λ k. let e : sp ≡ span base size = cc (k.1) in inr (r.0, inr (k.0, inl (ap (λ (v : Range). Ok (blocks_state v (record { key = v; state = Free } ∷ []))) e))))
+    (λ k. let e : sp ≡ span base size = cc (k.1) in inr
+    (r.0, inr (k.0, inl (ap (λ (v : Range). Ok (blocks_state v (record { key = v; state = Free } ∷ []))) e))))
     r.1)
     s
 
 -- ---- An allocator of the space with some ranges held
 -- A fact about the space, or about the error if there is none.
-by_space : (base size : ℕ) (sp : Range) (refused : Error → Type 0) (makes : Range → Type 0) → MakesSpace base size (Ok sp) → makes sp → BySpace base size refused makes
+by_space : (base size : ℕ) (sp : Range) (refused : Error → Type 0) (makes : Range → Type 0) → MakesSpace base size (Ok sp) → makes sp →
+    BySpace base size refused makes
 unfolding BySpace
 by_space base size sp refused makes s h =
     ⊎_elim
@@ -69,7 +73,8 @@ by_space base size sp refused makes s h =
     (λ r. ⊎_elim (λ l. absurd (cc (l.1))) (λ k. let e : sp ≡ span base size = cc (k.1) in inr (r.0, inr (k.0, subst makes e h))) r.1)
     s
 
-by_error : (base size : ℕ) (e : Error) (refused : Error → Type 0) (makes : Range → Type 0) → MakesSpace base size (Err e) → refused e → BySpace base size refused makes
+by_error : (base size : ℕ) (e : Error) (refused : Error → Type 0) (makes : Range → Type 0) → MakesSpace base size (Err e) → refused e →
+    BySpace base size refused makes
 unfolding BySpace
 by_error base size e refused makes s h =
     ⊎_elim
@@ -77,16 +82,19 @@ by_error base size e refused makes s h =
     (λ r. ⊎_elim (λ l. let same : e ≡ Overflow = cc (l.1) in inr (r.0, inl (l.0, subst refused same h))) (λ k. absurd (cc (k.1))) r.1)
     s
 
-pub over_space : (base size : ℕ) (sp : Range) (held : List Range) (answer : Result AddressState Error) → MakesSpace base size (Ok sp) → MakesHeld sp held answer → MakesWithHeld base size held answer
+pub over_space : (base size : ℕ) (sp : Range) (held : List Range) (answer : Result AddressState Error) → MakesSpace base size (Ok sp) →
+    MakesHeld sp held answer → MakesWithHeld base size held answer
 over_space base size sp held answer s h = by_space base size sp (λ e. answer ≡ Err e) (λ v. MakesHeld v held answer) s h
 
 pub without_space : (base size : ℕ) (held : List Range) (e : Error) → MakesSpace base size (Err e) → MakesWithHeld base size held (Err e)
 without_space base size held e s = by_error base size e (λ f. Err e ≡ Err f) (λ v. MakesHeld v held (Err e)) s refl
 
-pub index_over_space : (base size : ℕ) (sp : Range) (held : List Range) (index : Option ℕ) → MakesSpace base size (Ok sp) → index ≡ fault_index 0 sp.start sp.end held → HasFaultIndex base size held index
+pub index_over_space : (base size : ℕ) (sp : Range) (held : List Range) (index : Option ℕ) → MakesSpace base size (Ok sp) →
+    index ≡ fault_index 0 sp.start sp.end held → HasFaultIndex base size held index
 index_over_space base size sp held index s h = by_space base size sp (λ _. index ≡ None) (λ v. index ≡ fault_index 0 v.start v.end held) s h
 
-pub no_index : (base size : ℕ) (held : List Range) (index : Option ℕ) (e : Error) → MakesSpace base size (Err e) → index ≡ None → HasFaultIndex base size held index
+pub no_index : (base size : ℕ) (held : List Range) (index : Option ℕ) (e : Error) → MakesSpace base size (Err e) → index ≡ None →
+    HasFaultIndex base size held index
 no_index base size held index e s none = by_error base size e (λ _. index ≡ None) (λ v. index ≡ fault_index 0 v.start v.end held) s none
 
 -- The space of a tree is the one that it was made for.

@@ -17,25 +17,29 @@ use Rattle.vm_allocator.specs.Moves.{IsFor, request_to, replacing, MovesRange}
 use Rattle.vm_allocator.proofs.Callers.{given}
 
 -- A range that is not held cannot be moved.
-pub move_refused : (old : AddressState) (r : Range) (request : Request) → ¬ Contains old.held r → MovesRange old r request (Err ResourceNotAvailable) old
+pub move_refused : (old : AddressState) (r : Range) (request : Request) → ¬ Contains old.held r →
+    MovesRange old r request (Err ResourceNotAvailable) old
 unfolding MovesRange
 move_refused old r request n = inl (n, (refl, refl))
 
 -- A request for exactly the range changes nothing.
-pub move_stays : (old : AddressState) (r : Range) (request : Request) → Contains old.held r → IsFor r request → MovesRange old r request (Ok r) old
+pub move_stays : (old : AddressState) (r : Range) (request : Request) → Contains old.held r → IsFor r request →
+    MovesRange old r request (Ok r) old
 unfolding MovesRange
 move_stays old r request c f = inr (c, inl (f, (refl, refl)))
 
 pub move_back : (old : AddressState) (r : Range) → IsAddressState old → Contains old.held r → old ≡ replacing r r old
 unfolding replacing
-move_back old r i c = ap (λ (v : List Range). record old { held = v }) (sym (with_without old.space.start old.space.end r old.held i.in_order (held_contains old.held r c)))
+move_back old r i c = ap (λ (v : List Range). record old { held = v })
+    (sym (with_without old.space.start old.space.end r old.held i.in_order (held_contains old.held r c)))
 
 -- The range that a request is for is as requested.
 start_aligned : (align t : ℕ) (policy : AllocPolicy) → policy ≡ ExactMatch t → IsStartAligned align policy → t % align ≡ 0
 unfolding IsStartAligned
 start_aligned align t policy e a = subst (λ (v : AllocPolicy). ByPolicy v (Unit {0}) (Unit {0}) (λ start. start % align ≡ 0)) e a
 
-pub own_range_fits : (r : Range) (request : Request) → IsRequest request → IsFor r request → (address_count r ≡ request.size) × (r.start % request.align ≡ 0)
+pub own_range_fits : (r : Range) (request : Request) → IsRequest request → IsFor r request →
+    (address_count r ≡ request.size) × (r.start % request.align ≡ 0)
 unfolding IsFor
 own_range_fits r request v f = (sym f.1, start_aligned request.align r.start request.policy f.0 v.start)
 
@@ -44,24 +48,29 @@ unfolding IsFor
 own_range_inside r request f = f.2
 
 -- A move fails like the allocation.
-pub move_fails : (old : AddressState) (r : Range) (request : Request) (e : Error) → Contains old.held r → ¬ IsFor r request → Allocates old request (Err e) old → MovesRange old r request (Err e) old
+pub move_fails : (old : AddressState) (r : Range) (request : Request) (e : Error) → Contains old.held r → ¬ IsFor r request →
+    Allocates old request (Err e) old → MovesRange old r request (Err e) old
 unfolding MovesRange
 move_fails old r request e c n a = inr (c, inr (n, (old, a, refl)))
 
 -- The range is still held after the allocation, so it is freed.
-freed_after : (old mid new : AddressState) (r q : Range) (request : Request) (answer : Result (Unit {0}) Error) → Contains old.held r → Allocates old request (Ok q) mid → Frees mid r answer new → new ≡ releasing r mid
+freed_after : (old mid new : AddressState) (r q : Range) (request : Request) (answer : Result (Unit {0}) Error) → Contains old.held r →
+    Allocates old request (Ok q) mid → Frees mid r answer new → new ≡ releasing r mid
 unfolding Frees
 freed_after old mid new r q request answer c a f =
     let g = given old mid request q a in
-    let held : Contains mid.held r = subst (λ (v : AddressState). Contains v.held r) (sym g.left) (contains_held (with_range q old.held) r (still_held_with q r old.held (held_contains old.held r c))) in
+    let held : Contains mid.held r = subst (λ (v : AddressState). Contains v.held r) (sym g.left)
+    (contains_held (with_range q old.held) r (still_held_with q r old.held (held_contains old.held r c))) in
     ⊎_elim (λ l. l.1.1) (λ l. absurd (l.0 held)) f
 
-pub move_moves : (old mid new : AddressState) (r q : Range) (request : Request) (answer : Result (Unit {0}) Error) → Contains old.held r → ¬ IsFor r request → Allocates old request (Ok q) mid → Frees mid r answer new → MovesRange old r request (Ok q) new
+pub move_moves : (old mid new : AddressState) (r q : Range) (request : Request) (answer : Result (Unit {0}) Error) → Contains old.held r →
+    ¬ IsFor r request → Allocates old request (Ok q) mid → Frees mid r answer new → MovesRange old r request (Ok q) new
 unfolding MovesRange
 move_moves old mid new r q request answer c n a h = inr (c, inr (n, (mid, a, freed_after old mid new r q request answer c a h)))
 
 -- An allocated range starts at an address that was clear, and so not where a held range starts.
-pub new_start : (old mid : AddressState) (r q : Range) (request : Request) → IsAddressState old → Contains old.held r → Allocates old request (Ok q) mid → r.start ≢ q.start
+pub new_start : (old mid : AddressState) (r q : Range) (request : Request) → IsAddressState old → Contains old.held r →
+    Allocates old request (Ok q) mid → r.start ≢ q.start
 unfolding IsPlace
 new_start old mid r q request i c a e =
     let g = given old mid request q a in
@@ -71,12 +80,14 @@ new_start old mid r q request i c a e =
     none_holds old.held q.start clear.1 (held_address old.held r q.start held (omega (arith, e), omega (arith, e, l.1)))
 
 -- The moved range is held, and the one before is not.
-pub move_held : (old mid new : AddressState) (r q : Range) (request : Request) (answer : Result (Unit {0}) Error) → IsAddressState old → Contains old.held r → Allocates old request (Ok q) mid → Frees mid r answer new → new ≡ replacing r q old
+pub move_held : (old mid new : AddressState) (r q : Range) (request : Request) (answer : Result (Unit {0}) Error) → IsAddressState old →
+    Contains old.held r → Allocates old request (Ok q) mid → Frees mid r answer new → new ≡ replacing r q old
 unfolding replacing
 move_held old mid new r q request answer i c a h =
     let g = given old mid request q a in
     let other = without_other old.space.start old.space.end r q old.held i.in_order (new_start old mid r q request i c a) in
-    freed_after old mid new r q request answer c a h ∙ (ap (λ (v : AddressState). releasing r v) g.left ∙ ap (λ (v : List Range). record old { held = v }) other)
+    freed_after old mid new r q request answer c a h
+    ∙ (ap (λ (v : AddressState). releasing r v) g.left ∙ ap (λ (v : List Range). record old { held = v }) other)
 
 pub ruleset moves = (move_refused, move_stays, move_back, own_range_fits, own_range_inside, move_fails, move_moves, move_held)
 
@@ -101,7 +112,8 @@ unfolding IsFor
 own_start r t e = (ap (λ (v : ℕ). ExactMatch v) e, refl, tt)
 
 -- The moved range starts at the start, and is as long as before.
-pub moved_to : (old new : AddressState) (r q : Range) (t : ℕ) → MovesRange old r (request_to r t) (Ok q) new → (q.start ≡ t) × (address_count q ≡ address_count r)
+pub moved_to : (old new : AddressState) (r q : Range) (t : ℕ) → MovesRange old r (request_to r t) (Ok q) new →
+    (q.start ≡ t) × (address_count q ≡ address_count r)
 unfolding MovesRange IsFor IsChosen
 moved_to old new r q t m =
     ⊎_elim
@@ -119,12 +131,14 @@ moved_to old new r q t m =
     k.1)
     m
 
-pub move_to_fits : (old new : AddressState) (r : Range) (t : ℕ) (answer : Result Range Error) → MovesRange old r (request_to r t) answer new → IfOk answer (λ q. (q.start ≡ t) × (address_count q ≡ address_count r))
+pub move_to_fits : (old new : AddressState) (r : Range) (t : ℕ) (answer : Result Range Error) →
+    MovesRange old r (request_to r t) answer new → IfOk answer (λ q. (q.start ≡ t) × (address_count q ≡ address_count r))
 move_to_fits old new r t (Ok q) m = moved_to old new r q t m
 move_to_fits old new r t (Err e) m = tt
 
 -- The request that is made is the one to the start.
-pub made_to : (r : Range) (t n : ℕ) (q : Request) → n ≡ address_count r → MakesConstraint (request_for n 1 (ExactMatch t)) (Ok q) → q ≡ request_to r t
+pub made_to : (r : Range) (t n : ℕ) (q : Request) → n ≡ address_count r → MakesConstraint (request_for n 1 (ExactMatch t)) (Ok q) →
+    q ≡ request_to r t
 unfolding MakesConstraint ByConstraint
 made_to r t n q e m =
     ⊎_elim
@@ -132,6 +146,7 @@ made_to r t n q e m =
     (λ z.
     ⊎_elim
     (λ a. absurd (cc (a.1)))
-    (λ a. ⊎_elim (λ s. absurd (cc (s.1))) (λ s. let same : q ≡ request_for n 1 (ExactMatch t) = cc (s.1) in same ∙ ap (λ (v : ℕ). request_for v 1 (ExactMatch t)) e) a.1)
+    (λ a. ⊎_elim (λ s. absurd (cc (s.1)))
+    (λ s. let same : q ≡ request_for n 1 (ExactMatch t) = cc (s.1) in same ∙ ap (λ (v : ℕ). request_for v 1 (ExactMatch t)) e) a.1)
     z.1)
     m

@@ -11,7 +11,8 @@ use Rattle.vm_ranges.specs.declared.error.Error.{Error}
 use Rattle.vm_ranges.specs.declared.error.Error.TheVariants.{OutOfMemory}
 
 -- ---- One request
-one_failed : (old new : AddressState) (q : Request) (e : Error) → FailsAll old (q ∷ []) e new → (e ≡ OutOfMemory) ⊎ Allocates old q (Err e) new
+one_failed : (old new : AddressState) (q : Request) (e : Error) → FailsAll old (q ∷ []) e new →
+    (e ≡ OutOfMemory) ⊎ Allocates old q (Err e) new
 one_failed old new q e (same, inl memory) = inl memory
 one_failed old new q e (same, inr (inl a)) = inr (subst (λ (v : AddressState). Allocates old q (Err e) v) (sym same) a)
 one_failed old new q e (same, inr (inr k)) = absurd k.3
@@ -30,14 +31,16 @@ one_is_allocated = record {
 abbrev BothAre : AddressState → List Request → List Request → List Range → List Range → AddressState → Type 0
 BothAre old first second rs qs new = (mid : AddressState) × AllocatesEach old first rs mid × AllocatesEach mid second qs new
 
-split : (first second : List Request) (rs qs : List Range) (old new : AddressState) → length rs ≡ length first → AllocatesEach old (first ++ second) (rs ++ qs) new → BothAre old first second rs qs new
+split : (first second : List Request) (rs qs : List Range) (old new : AddressState) → length rs ≡ length first →
+    AllocatesEach old (first ++ second) (rs ++ qs) new → BothAre old first second rs qs new
 split [] second [] qs old new l h = (old, refl, h)
 split [] second (r ∷ rs) qs old new l h = absurd (omega arith)
 split (x ∷ first) second [] qs old new l h = absurd (omega arith)
 split (x ∷ first) second (r ∷ rs) qs old new l h =
     let i = split first second rs qs h.0 new (omega arith) h.2 in (i.0, (h.0, h.1, i.1), i.2)
 
-joined : (first second : List Request) (rs qs : List Range) (old mid new : AddressState) → AllocatesEach old first rs mid → AllocatesEach mid second qs new → AllocatesEach old (first ++ second) (rs ++ qs) new
+joined : (first second : List Request) (rs qs : List Range) (old mid new : AddressState) → AllocatesEach old first rs mid →
+    AllocatesEach mid second qs new → AllocatesEach old (first ++ second) (rs ++ qs) new
 joined [] second [] qs old mid new a b = subst (λ (v : AddressState). AllocatesEach v second qs new) a b
 joined [] second (r ∷ rs) qs old mid new a b = absurd a
 joined (x ∷ first) second [] qs old mid new a b = absurd a
@@ -49,7 +52,8 @@ OneIs old first second e =
     RefusesOne old first e
     ⊎ ((rs : List Range) × (mid : AddressState) × AllocatesEach old first rs mid × RefusesOne mid second e)
 
-split_refused : (first second : List Request) (old : AddressState) (e : Error) → RefusesOne old (first ++ second) e → OneIs old first second e
+split_refused : (first second : List Request) (old : AddressState) (e : Error) → RefusesOne old (first ++ second) e →
+    OneIs old first second e
 split_refused [] second old e h = inr ([], old, refl, h)
 split_refused (x ∷ first) second old e (inl a) = inl (inl a)
 split_refused (x ∷ first) second old e (inr k) =
@@ -63,7 +67,8 @@ refused_first [] second old e h = absurd h
 refused_first (x ∷ first) second old e (inl a) = inl a
 refused_first (x ∷ first) second old e (inr k) = inr (k.0, k.1, k.2, refused_first first second k.1 e k.3)
 
-refused_second : (first second : List Request) (rs : List Range) (old mid : AddressState) (e : Error) → AllocatesEach old first rs mid → RefusesOne mid second e → RefusesOne old (first ++ second) e
+refused_second : (first second : List Request) (rs : List Range) (old mid : AddressState) (e : Error) → AllocatesEach old first rs mid →
+    RefusesOne mid second e → RefusesOne old (first ++ second) e
 refused_second [] second [] old mid e a h = subst (λ (v : AddressState). RefusesOne v second e) a h
 refused_second [] second (r ∷ rs) old mid e a h = absurd a
 refused_second (x ∷ first) second [] old mid e a h = absurd a

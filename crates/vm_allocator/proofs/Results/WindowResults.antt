@@ -36,17 +36,21 @@ module _ (old new : AddressState) (answer : Result Range Error) (n a : ℕ) wher
       (((s : ℕ) → ¬ IsPlace n a view s) × ((answer ≡ Err ResourceNotAvailable) × (new ≡ old)))
       ⊎ ((s : ℕ) × chosen view s × IfElse (s + n - 1 ≡ MAX) ((answer ≡ Err Overflow) × (new ≡ old)) (AllocatesAt old (span s n) answer new))
 
-  same_view : (policy : AllocPolicy) (u v : Option Range) → within u old ≡ within v old → Grants old (request_in u n a policy) answer new → Grants old (request_in v n a policy) answer new
+  same_view : (policy : AllocPolicy) (u v : Option Range) → within u old ≡ within v old → Grants old (request_in u n a policy) answer new →
+      Grants old (request_in v n a policy) answer new
   unfolding Grants ByExactPolicy ByPlace IsChosen
   same_view FirstMatch u v e h = subst (AsChosen (λ view s. IsLowestPlace n a view s)) e h
   same_view LastMatch u v e h = subst (AsChosen (λ view s. IsHighestPlace n a view s)) e h
   same_view (ExactMatch t) u v e h =
-      subst (λ (view : AddressState). ByStart t n view (λ x. (answer ≡ Err x) × (new ≡ old)) (AsChosen (λ view s. (s ≡ t) × IsPlace n a view s) view)) e h
+      subst (λ (view : AddressState). ByStart t n view (λ x. (answer ≡ Err x) × (new ≡ old))
+      (AsChosen (λ view s. (s ≡ t) × IsPlace n a view s) view)) e h
 
 -- A request with another window, by its results if it is valid.
 other_window : (old new : AddressState) (answer : Result Range Error) (request : Request) (u v : Option Range)
-    → (Grants old (request_in u request.size request.align request.policy) answer new → Grants old (request_in v request.size request.align request.policy) answer new)
-    → Allocates old (request_in u request.size request.align request.policy) answer new → Allocates old (request_in v request.size request.align request.policy) answer new
+    → (Grants old (request_in u request.size request.align request.policy) answer new →
+    Grants old (request_in v request.size request.align request.policy) answer new)
+    → Allocates old (request_in u request.size request.align request.policy) answer new →
+    Allocates old (request_in v request.size request.align request.policy) answer new
 unfolding Allocates ByConstraint
 other_window old new answer request u v f h =
     let refused : Error → Type 0 = λ e. (answer ≡ Err e) × (new ≡ old) in
@@ -55,8 +59,10 @@ other_window old new answer request u v f h =
 pub whole_window : WholeWindowIsNone
 whole_window old new request w answer p q =
     let e = same_space w old p q in (
-      other_window old new answer request (Some w) None (same_view old new answer request.size request.align request.policy (Some w) None e),
-      other_window old new answer request None (Some w) (same_view old new answer request.size request.align request.policy None (Some w) (sym e)),
+      other_window old new answer request (Some w) None
+          (same_view old new answer request.size request.align request.policy (Some w) None e),
+      other_window old new answer request None (Some w)
+          (same_view old new answer request.size request.align request.policy None (Some w) (sym e)),
     )
 
 -- ---- A range that lies in the window
@@ -71,8 +77,10 @@ module _ (w : Range) (n a : ℕ) (old new : AddressState) (r : Range) (z : 0 < n
   lies : (s : ℕ) → r ≡ span s n → LiesIn w n s
   lies s e = covered w n s z (subst (Covers w) e c)
 
-  kept_place : (policy : AllocPolicy) → ((s : ℕ) → LiesIn w n s → IsChosen (request_in None n a policy) old s → IsChosen (request_in (Some w) n a policy) old s)
-      → ByPlace (request_in None n a policy) old (λ e. (Ok r ≡ Err e) × (new ≡ old)) (λ p. AllocatesAt old p (Ok r) new) → ByPlace (request_in (Some w) n a policy) old (λ e. (Ok r ≡ Err e) × (new ≡ old)) (λ p. AllocatesAt old p (Ok r) new)
+  kept_place : (policy : AllocPolicy) →
+      ((s : ℕ) → LiesIn w n s → IsChosen (request_in None n a policy) old s → IsChosen (request_in (Some w) n a policy) old s)
+      → ByPlace (request_in None n a policy) old (λ e. (Ok r ≡ Err e) × (new ≡ old)) (λ p. AllocatesAt old p (Ok r) new) →
+      ByPlace (request_in (Some w) n a policy) old (λ e. (Ok r ≡ Err e) × (new ≡ old)) (λ p. AllocatesAt old p (Ok r) new)
   unfolding ByPlace
   kept_place policy f h =
       ⊎_elim
@@ -84,17 +92,22 @@ module _ (w : Range) (n a : ℕ) (old new : AddressState) (r : Range) (z : 0 < n
       k.2)
       h
 
-  kept : (policy : AllocPolicy) → IsChosen (request_in None n a policy) old r.start → r ≡ span r.start n → Grants old (request_in None n a policy) (Ok r) new → Grants old (request_in (Some w) n a policy) (Ok r) new
+  kept : (policy : AllocPolicy) → IsChosen (request_in None n a policy) old r.start → r ≡ span r.start n →
+      Grants old (request_in None n a policy) (Ok r) new → Grants old (request_in (Some w) n a policy) (Ok r) new
   unfolding Grants ByExactPolicy IsChosen IsLowestPlace IsHighestPlace
-  kept FirstMatch chosen long h = kept_place FirstMatch (λ s i l. (place_lying w n a old z s i l.0, λ t p. l.1 t (place_anywhere (Some w) n a t old p))) h
-  kept LastMatch chosen long h = kept_place LastMatch (λ s i l. (place_lying w n a old z s i l.0, λ t p. l.1 t (place_anywhere (Some w) n a t old p))) h
+  kept FirstMatch chosen long h = kept_place FirstMatch
+      (λ s i l. (place_lying w n a old z s i l.0, λ t p. l.1 t (place_anywhere (Some w) n a t old p))) h
+  kept LastMatch chosen long h = kept_place LastMatch
+      (λ s i l. (place_lying w n a old z s i l.0, λ t p. l.1 t (place_anywhere (Some w) n a t old p))) h
   kept (ExactMatch t) chosen long h =
       let i = lies r.start long in
-      narrow_grants w n a t old z (omega (arith, i.0, chosen.0), omega (arith, i.1, chosen.0)) (λ clear. omega (arith, i.1, chosen.0)) new (Ok r) h
+      narrow_grants w n a t old z (omega (arith, i.0, chosen.0), omega (arith, i.1, chosen.0)) (λ clear. omega (arith, i.1, chosen.0)) new
+      (Ok r) h
 
 pub kept_in_window : KeptInWindow
 kept_in_window old new request w r h c =
     let g = given old new (anywhere request) r h in
-    other_window old new (Ok r) request None (Some w) (λ k. kept w request.size request.align old new r g.some c request.policy g.chosen g.long k) h
+    other_window old new (Ok r) request None (Some w)
+    (λ k. kept w request.size request.align old new r g.some c request.policy g.chosen g.long k) h
 
 pub ruleset windows = (inside, whole_window, kept_in_window)

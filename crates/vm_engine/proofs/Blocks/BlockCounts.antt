@@ -27,7 +27,8 @@ one_gap : (lo next : ℕ) → lo < next → length (gap_before lo next) ≡ 1
 one_gap lo next h = rw (lt-ltb lo next h) refl
 
 count_cons : (lo hi : ℕ) (r : Range) (rs : List Range) → count lo (r ∷ rs) hi ≡ length (gap_before lo r.start) + 1 + count (r.end + 1) rs hi
-count_cons lo hi r rs = let e = length-append (gap_before lo r.start) (record { key = r; state = Allocated } ∷ blocks_between (r.end + 1) rs hi) in omega (arith, e)
+count_cons lo hi r rs = let e = length-append (gap_before lo r.start)
+    (record { key = r; state = Allocated } ∷ blocks_between (r.end + 1) rs hi) in omega (arith, e)
 
 -- ---- Clear addresses beside a range
 abbrev IsClearIn : ℕ → ℕ → List Range → ℕ → Type 0
@@ -51,7 +52,8 @@ one_if P Q n f g h = ⊎_elim (λ l. inl (f l.0, l.1)) (λ k. inr (λ q. k.0 (g 
 none_below : (lo hi x : ℕ) (hs : List Range) → AreInOrder lo hs hi → x < lo → ¬ IsHeldAddress hs x
 none_below lo hi x [] s l h = h
 none_below lo hi x (y ∷ ys) s l h =
-    ⊎_elim (λ (i : IsIn y x). omega (arith, i.0, s.0)) (λ (k : IsHeldAddress ys x). none_below (y.end + 1) hi x ys s.4 (omega (arith, s.0, s.1)) k) h
+    ⊎_elim (λ (i : IsIn y x). omega (arith, i.0, s.0))
+    (λ (k : IsHeldAddress ys x). none_below (y.end + 1) hi x ys s.4 (omega (arith, s.0, s.1)) k) h
 
 -- The range r before all ranges of the list.
 module _ (lo hi : ℕ) (r : Range) where
@@ -60,7 +62,8 @@ module _ (lo hi : ℕ) (r : Range) where
   first_below xs a b c s =
       ⊎_elim
       (λ (l : lo < r.start).
-      let clear : IsClearBefore lo hi xs r = (r.start - 1, (omega arith, omega arith, none_below (r.end + 1) hi (r.start - 1) xs s (omega arith)), omega arith) in
+      let clear : IsClearBefore lo hi xs r =
+      (r.start - 1, (omega arith, omega arith, none_below (r.end + 1) hi (r.start - 1) xs s (omega arith)), omega arith) in
       (1, inl (clear, refl), one_gap lo r.start l))
       (λ (l : r.start ≤ lo). (0, inr (λ p. omega (arith, p.1.0, p.2), refl), no_gap lo r.start l))
       (cases_lt lo r.start)
@@ -79,7 +82,8 @@ module _ (lo hi : ℕ) (r : Range) where
       let new = count_cons (r.end + 1) hi y ys in
       ⊎_elim
       (λ (l : r.end + 1 < y.start).
-      let none : ¬ IsHeldAddress (y ∷ ys) (r.end + 1) = none_below (r.end + 2) hi (r.end + 1) (y ∷ ys) (omega arith, s.1, s.2, s.3, s.4) (omega arith) in
+      let none : ¬ IsHeldAddress (y ∷ ys) (r.end + 1) = none_below (r.end + 2) hi (r.end + 1) (y ∷ ys) (omega arith, s.1, s.2, s.3, s.4)
+      (omega arith) in
       (1, inl ((omega arith, omega (arith, s.1, s.2), none), refl), omega (arith, all, old, new, one_gap (r.end + 1) y.start l)))
       (λ (l : y.start ≤ r.end + 1).
       (0, inr (λ p. p.2 (inl (omega arith, omega (arith, s.0, s.1))), refl), omega (arith, all, old, new, no_gap (r.end + 1) y.start l)))
@@ -92,17 +96,20 @@ module _ (lo hi : ℕ) (r : Range) where
       record { below = p.0; above = q.0; before = p.1; after = q.1; more = omega (arith, count_cons lo hi r xs, p.2, q.2) }
 
 -- A range before r is in both lists.
-clear_later : (lo hi x : ℕ) (h : Range) (hs : List Range) → lo ≤ h.start → h.start ≤ h.end → h.end ≤ x → IsClearIn (h.end + 1) hi hs x → IsClearIn lo hi (h ∷ hs) x
+clear_later : (lo hi x : ℕ) (h : Range) (hs : List Range) → lo ≤ h.start → h.start ≤ h.end → h.end ≤ x → IsClearIn (h.end + 1) hi hs x →
+    IsClearIn lo hi (h ∷ hs) x
 clear_later lo hi x h hs a b c p = (omega arith, p.1, λ k. ⊎_elim (λ (i : IsIn h x). omega (arith, i.1, p.0)) p.2 k)
 
-clear_rest : (lo hi x : ℕ) (h : Range) (hs : List Range) → h.start ≤ h.end → h.end ≤ x → IsClearIn lo hi (h ∷ hs) x → IsClearIn (h.end + 1) hi hs x
+clear_rest : (lo hi x : ℕ) (h : Range) (hs : List Range) → h.start ≤ h.end → h.end ≤ x → IsClearIn lo hi (h ∷ hs) x →
+    IsClearIn (h.end + 1) hi hs x
 clear_rest lo hi x h hs b c p =
     ⊎_elim
     (λ (l : h.end < x). (omega arith, p.1, λ k. p.2 (inr k)))
     (λ (l : x ≤ h.end). absurd (p.2 (inl (omega arith, l))))
     (cases_lt h.end x)
 
-adds_later : (lo hi : ℕ) (r h : Range) (hs ks : List Range) → lo ≤ h.start → h.start ≤ h.end → h.end < r.start → r.start ≤ r.end → Adds (h.end + 1) hi hs ks r → Adds lo hi (h ∷ hs) (h ∷ ks) r
+adds_later : (lo hi : ℕ) (r h : Range) (hs ks : List Range) → lo ≤ h.start → h.start ≤ h.end → h.end < r.start → r.start ≤ r.end →
+    Adds (h.end + 1) hi hs ks r → Adds lo hi (h ∷ hs) (h ∷ ks) r
 adds_later lo hi r h hs ks a b c d p = record {
   below = p.below;
   above = p.above;
@@ -110,12 +117,14 @@ adds_later lo hi r h hs ks a b c d p = record {
       (λ k. (k.0, clear_later lo hi k.0 h hs a b (omega (arith, k.2)) k.1, k.2))
       (λ k. (k.0, clear_rest lo hi k.0 h hs b (omega (arith, k.2)) k.1, k.2))
       p.before;
-  after = one_if _ _ p.above (clear_later lo hi (r.end + 1) h hs a b (omega arith)) (clear_rest lo hi (r.end + 1) h hs b (omega arith)) p.after;
+  after = one_if _ _ p.above (clear_later lo hi (r.end + 1) h hs a b (omega arith)) (clear_rest lo hi (r.end + 1) h hs b (omega arith))
+      p.after;
   more = omega (arith, count_cons lo hi h hs, count_cons lo hi h ks, p.more);
 }
 
 -- ---- A range added to an ordered list
-adds : (lo hi : ℕ) (r : Range) (hs : List Range) → AreInOrder lo hs hi → lo ≤ r.start → r.start ≤ r.end → r.end ≤ hi → Misses hs r → Adds lo hi hs (with_range r hs) r
+adds : (lo hi : ℕ) (r : Range) (hs : List Range) → AreInOrder lo hs hi → lo ≤ r.start → r.start ≤ r.end → r.end ≤ hi → Misses hs r →
+    Adds lo hi hs (with_range r hs) r
 adds lo hi r [] s a b c m = adds_first lo hi r [] a b c tt
 adds lo hi r (x ∷ xs) s a b c m =
     ⊎_elim
@@ -146,7 +155,8 @@ misses_without lo hi r (x ∷ xs) s h =
     (cases_eq r.start x.start)
 
 state_adds : (state : AddressState) (ks : List Range) (r : Range) → Adds state.space.start state.space.end state.held ks r →
-    (n : ℕ) × AreClearBeside state r n × (count state.space.start ks state.space.end ≡ count state.space.start state.held state.space.end + n)
+    (n : ℕ) × AreClearBeside state r n ×
+    (count state.space.start ks state.space.end ≡ count state.space.start state.held state.space.end + n)
 state_adds state ks r p =
     let lo = state.space.start in
     let hi = state.space.end in
@@ -187,7 +197,8 @@ held_address_after r x (y ∷ ys) h =
     (cases_lt r.start y.start)
 
 -- The addresses beside a range are clear before it is added if and only if they are clear after.
-beside_after : (state : AddressState) (r : Range) (n : ℕ) → r.start ≤ r.end → AreClearBeside state r n → AreClearBeside (holding r state) r n
+beside_after : (state : AddressState) (r : Range) (n : ℕ) → r.start ≤ r.end → AreClearBeside state r n →
+    AreClearBeside (holding r state) r n
 beside_after state r n l p =
     let later : (x : ℕ) → ¬ IsIn r x → IsClear state x → IsClear (holding r state) x =
     λ x out k. (k.0, all_miss (with_range r state.held) x (λ h. none_holds state.held x k.1 (held_address_before r x state.held out h))) in
@@ -196,7 +207,8 @@ beside_after state r n l p =
     record {
       below = p.below;
       above = p.above;
-      before = one_if _ _ p.below (λ k. (k.0, later k.0 (λ i. omega (arith, k.2, i.0)) k.1, k.2)) (λ k. (k.0, sooner k.0 k.1, k.2)) p.before;
+      before = one_if _ _ p.below (λ k. (k.0, later k.0 (λ i. omega (arith, k.2, i.0)) k.1, k.2)) (λ k. (k.0, sooner k.0 k.1, k.2))
+          p.before;
       after = one_if _ _ p.above (later (r.end + 1) (λ i. omega (arith, i.1))) (sooner (r.end + 1)) p.after;
       both = p.both;
     }
@@ -229,8 +241,10 @@ freeing_removes old new r i h =
     let more : Adds lo hi rest old.held r = subst (λ (ks : List Range). Adds lo hi rest ks r) (with_without lo hi r old.held i.in_order f.0)
     (adds lo hi r rest order l.0 l.1 l.2 (misses_without lo hi r old.held i.in_order f.0)) in
     let given = state_adds (releasing r old) old.held r more in
-    let back : holding r (releasing r old) ≡ old = ap (λ (ks : List Range). record old { held = ks }) (with_without lo hi r old.held i.in_order f.0) in
-    let beside : AreClearBeside old r given.0 = subst (λ (v : AddressState). AreClearBeside v r given.0) back (beside_after (releasing r old) r given.0 l.1 given.1) in
+    let back : holding r (releasing r old) ≡ old = ap (λ (ks : List Range). record old { held = ks })
+    (with_without lo hi r old.held i.in_order f.0) in
+    let beside : AreClearBeside old r given.0 = subst (λ (v : AddressState). AreClearBeside v r given.0) back
+    (beside_after (releasing r old) r given.0 l.1 given.1) in
     (given.0, beside, given.2 ∙ ap (λ (v : AddressState). block_count v + given.0) (sym f.1))
 
 pub blocks_are_few : BlocksAreFew

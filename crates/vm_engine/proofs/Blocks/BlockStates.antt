@@ -12,7 +12,8 @@ use Rattle.vm_engine.proofs.Blocks.Gaps.{tiles_end}
 
 pub below_without : (r : Range) (hs : List Range) → AreBelowMax hs → AreBelowMax (without_range r hs)
 below_without r [] h = tt
-below_without r (x ∷ xs) h = elim (eqb r.start x.start) as (λ v. AreBelowMax (cond v xs (x ∷ without_range r xs))) [ true ↦ h.1 | false ↦ (h.0, below_without r xs h.1) ]
+below_without r (x ∷ xs) h = elim (eqb r.start x.start) as (λ v. AreBelowMax (cond v xs (x ∷ without_range r xs)))
+    [ true ↦ h.1 | false ↦ (h.0, below_without r xs h.1) ]
 
 pub in_order_from : (lo m hi : ℕ) (rs : List Range) → lo ≤ m → AreInOrder m rs hi → AreInOrder lo rs hi
 in_order_from lo m hi [] l s = tt
@@ -26,7 +27,8 @@ tiles_keys p lo hi (b ∷ bs) t =
     (omega (arith, t.0), omega (arith, t.0, t.1), omega arith, tiles_keys b.state (b.key.end + 1) hi bs t.3)
 
 -- The held ranges of keys in order are disjoint.
-with_held : (s : NodeState) (k : Range) (rs : List Range) (lo hi : ℕ) → lo ≤ k.start → k.start ≤ k.end → k.end ≤ hi → AreBelowMax (range_if_held s k ++ rs) → (AreBelowMax rs → AreInOrder (k.end + 1) rs hi) → AreInOrder lo (range_if_held s k ++ rs) hi
+with_held : (s : NodeState) (k : Range) (rs : List Range) (lo hi : ℕ) → lo ≤ k.start → k.start ≤ k.end → k.end ≤ hi →
+    AreBelowMax (range_if_held s k ++ rs) → (AreBelowMax rs → AreInOrder (k.end + 1) rs hi) → AreInOrder lo (range_if_held s k ++ rs) hi
 with_held Free k rs lo hi l o e h f = in_order_from lo (k.end + 1) hi rs (omega arith) (f h)
 with_held Allocated k rs lo hi l o e h f = (l, o, e, h.0, f h.1)
 
@@ -37,4 +39,8 @@ keys_in_order lo hi (b ∷ bs) k h = with_held b.state b.key (held_of bs) lo hi 
 -- The state of an allocator's blocks is valid.
 pub is_state : (sp : Range) (bs : List Block) → IsTiling sp bs → IsRange sp.start sp.end → IsAddressState (blocks_state sp bs)
 unfolding TilesSpace
-is_state sp bs t l = record { space = l; in_order = keys_in_order sp.start sp.end bs (tiles_keys Allocated sp.start sp.end bs t.tiles) t.below }
+is_state sp bs t l = record {
+  space = l;
+  in_order = keys_in_order sp.start sp.end bs (tiles_keys Allocated sp.start sp.end bs t.tiles)
+      t.below;
+}

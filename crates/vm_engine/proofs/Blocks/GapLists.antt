@@ -46,20 +46,24 @@ module _ (b : Block) (bs : List Block) where
   held_first x e i = subst (λ (v : List Range). IsHeldAddress v x) (sym (held_of-held b bs e)) (inl i)
 
 -- ---- A free block of a tiling
-pub free_lies : (p : NodeState) (lo hi : ℕ) (bs : List Block) (g : Range) → Tiles p lo bs hi → IsHeld (free_of bs) g → (lo ≤ g.start) × (g.start ≤ g.end) × (g.end ≤ hi)
+pub free_lies : (p : NodeState) (lo hi : ℕ) (bs : List Block) (g : Range) → Tiles p lo bs hi → IsHeld (free_of bs) g →
+    (lo ≤ g.start) × (g.start ≤ g.end) × (g.end ≤ hi)
 free_lies p lo hi [] g t h = absurd h
 free_lies p lo hi (b ∷ bs) g t h =
     let end = tiles_end b.state (b.key.end + 1) hi bs t.3 in
     ⊎_elim
-    (λ (k : (b.state ≡ Free) × (b.key ≡ g)). subst (λ (v : Range). (lo ≤ v.start) × (v.start ≤ v.end) × (v.end ≤ hi)) k.1 (omega (arith, t.0), omega (arith, t.0, t.1), omega arith))
+    (λ (k : (b.state ≡ Free) × (b.key ≡ g)). subst (λ (v : Range). (lo ≤ v.start) × (v.start ≤ v.end) × (v.end ≤ hi)) k.1
+    (omega (arith, t.0), omega (arith, t.0, t.1), omega arith))
     (λ (k : IsHeld (free_of bs) g). let i = free_lies b.state (b.key.end + 1) hi bs g t.3 k in (omega (arith, t.1, i.0), i.1, i.2))
     (free_cases b bs g h)
 
 -- Two free blocks with a common address are equal.
-pub one_free : (p : NodeState) (lo hi x : ℕ) (bs : List Block) (g q : Range) → Tiles p lo bs hi → IsHeld (free_of bs) g → IsHeld (free_of bs) q → IsIn g x → IsIn q x → g ≡ q
+pub one_free : (p : NodeState) (lo hi x : ℕ) (bs : List Block) (g q : Range) → Tiles p lo bs hi → IsHeld (free_of bs) g →
+    IsHeld (free_of bs) q → IsIn g x → IsIn q x → g ≡ q
 one_free p lo hi x [] g q t h k i j = absurd h
 one_free p lo hi x (b ∷ bs) g q t h k i j =
-    let above : (r : Range) → IsHeld (free_of bs) r → b.key.end < r.start = λ r m. let l = free_lies b.state (b.key.end + 1) hi bs r t.3 m in omega (arith, l.0) in
+    let above : (r : Range) → IsHeld (free_of bs) r →
+    b.key.end < r.start = λ r m. let l = free_lies b.state (b.key.end + 1) hi bs r t.3 m in omega (arith, l.0) in
     ⊎_elim
     (λ (e : (b.state ≡ Free) × (b.key ≡ g)).
     ⊎_elim
@@ -77,7 +81,8 @@ pub in_free : (bs : List Block) (g : Range) → IsHeld (free_of bs) g → InFree
 in_free [] g h = absurd h
 in_free (b ∷ bs) g h =
     ⊎_elim
-    (λ (k : (b.state ≡ Free) × (b.key ≡ g)). inl (k.0, omega (arith, ap (λ (v : Range). v.start) k.1), omega (arith, ap (λ (v : Range). v.end) k.1)))
+    (λ (k : (b.state ≡ Free) × (b.key ≡ g)). inl
+    (k.0, omega (arith, ap (λ (v : Range). v.start) k.1), omega (arith, ap (λ (v : Range). v.end) k.1)))
     (λ (k : IsHeld (free_of bs) g). inr (in_free bs g k))
     (free_cases b bs g h)
 
@@ -94,13 +99,15 @@ free_over (b ∷ bs) s e h =
     h
 
 -- The address after a free block is held, if it is in the space.
-pub held_after : (p : NodeState) (lo hi : ℕ) (bs : List Block) (g : Range) → Tiles p lo bs hi → IsHeld (free_of bs) g → g.end + 1 ≤ hi → IsHeldAddress (held_of bs) (g.end + 1)
+pub held_after : (p : NodeState) (lo hi : ℕ) (bs : List Block) (g : Range) → Tiles p lo bs hi → IsHeld (free_of bs) g → g.end + 1 ≤ hi →
+    IsHeldAddress (held_of bs) (g.end + 1)
 held_after p lo hi [] g t h l = absurd h
 held_after p lo hi (b ∷ bs) g t h l =
     ⊎_elim
     (λ (k : (b.state ≡ Free) × (b.key ≡ g)).
     let e : b.key.end + 1 ≡ g.end + 1 = ap (λ (v : Range). v.end + 1) k.1 in
-    subst (λ (v : ℕ). IsHeldAddress (held_of (b ∷ bs)) v) e (held_later b bs (b.key.end + 1) (next_held b.state (b.key.end + 1) hi bs k.0 t.3 (omega (arith, e)))))
+    subst (λ (v : ℕ). IsHeldAddress (held_of (b ∷ bs)) v) e
+    (held_later b bs (b.key.end + 1) (next_held b.state (b.key.end + 1) hi bs k.0 t.3 (omega (arith, e)))))
     (λ (k : IsHeld (free_of bs) g). held_later b bs (g.end + 1) (held_after b.state (b.key.end + 1) hi bs g t.3 k l))
     (free_cases b bs g h)
 
@@ -114,7 +121,8 @@ apart p lo hi (b ∷ bs) g f t h =
     (free_cases b bs g h)
 
 -- The address before a free block is held, if it is in the space.
-pub held_before : (p : NodeState) (lo hi x : ℕ) (bs : List Block) (g : Range) → Tiles p lo bs hi → IsHeld (free_of bs) g → x + 1 ≡ g.start → lo ≤ x → IsHeldAddress (held_of bs) x
+pub held_before : (p : NodeState) (lo hi x : ℕ) (bs : List Block) (g : Range) → Tiles p lo bs hi → IsHeld (free_of bs) g → x + 1 ≡ g.start →
+    lo ≤ x → IsHeldAddress (held_of bs) x
 held_before p lo hi x [] g t h e l = absurd h
 held_before p lo hi x (b ∷ bs) g t h e l =
     ⊎_elim
@@ -132,7 +140,8 @@ held_before p lo hi x (b ∷ bs) g t h e l =
     (free_cases b bs g h)
 
 -- Each address of the space is held or in a free block.
-pub held_or_free : (p : NodeState) (lo hi x : ℕ) (bs : List Block) → Tiles p lo bs hi → lo ≤ x → x ≤ hi → IsHeldAddress (held_of bs) x ⊎ FreeOver bs x x
+pub held_or_free : (p : NodeState) (lo hi x : ℕ) (bs : List Block) → Tiles p lo bs hi → lo ≤ x → x ≤ hi →
+    IsHeldAddress (held_of bs) x ⊎ FreeOver bs x x
 held_or_free p lo hi x [] t l m = absurd (omega arith)
 held_or_free p lo hi x (b ∷ bs) t l m =
     ⊎_elim
@@ -174,7 +183,8 @@ longest_part_over w (q ∷ rs) r h =
     (λ (e : IsHeld rs r). omega (arith, longest_part_over w rs r e))
     h
 
-pub one_has_longest_part : (w : Range) (rs : List Range) (n : ℕ) → 0 < n → n ≤ longest_part w rs → (r : Range) × IsHeld rs r × (n ≤ common_count w r)
+pub one_has_longest_part : (w : Range) (rs : List Range) (n : ℕ) → 0 < n → n ≤ longest_part w rs →
+    (r : Range) × IsHeld rs r × (n ≤ common_count w r)
 one_has_longest_part w [] n p l = absurd (omega arith)
 one_has_longest_part w (q ∷ rs) n p l =
     ⊎_elim
@@ -183,7 +193,8 @@ one_has_longest_part w (q ∷ rs) n p l =
     (cases_lt (common_count w q) n)
 
 -- The held and the free addresses are all addresses of the space.
-pub all_counted : (p : NodeState) (lo hi : ℕ) (bs : List Block) → Tiles p lo bs hi → count_of (free_of bs) + count_of (held_of bs) + lo ≡ hi + 1
+pub all_counted : (p : NodeState) (lo hi : ℕ) (bs : List Block) → Tiles p lo bs hi →
+    count_of (free_of bs) + count_of (held_of bs) + lo ≡ hi + 1
 all_counted p lo hi [] t = omega arith
 all_counted p lo hi (b ∷ bs) t =
     let rest = all_counted b.state (b.key.end + 1) hi bs t.3 in

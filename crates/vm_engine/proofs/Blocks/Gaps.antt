@@ -19,7 +19,8 @@ not_both Free Allocated e f h = cc
 not_both Allocated q e f h = cc
 
 -- ---- Held addresses, block by block
-held_cases : (st : NodeState) (k : Range) (hs : List Range) (x : ℕ) → IsHeldAddress (range_if_held st k ++ hs) x → ((st ≡ Allocated) × IsIn k x) ⊎ IsHeldAddress hs x
+held_cases : (st : NodeState) (k : Range) (hs : List Range) (x : ℕ) → IsHeldAddress (range_if_held st k ++ hs) x →
+    ((st ≡ Allocated) × IsIn k x) ⊎ IsHeldAddress hs x
 held_cases Free k hs x h = inr h
 held_cases Allocated k hs x h = ⊎_elim (λ l. inl (refl, l)) (λ r. inr r) h
 
@@ -39,7 +40,8 @@ pub held_within : (p : NodeState) (lo hi x : ℕ) (bs : List Block) → Tiles p 
 held_within p lo hi x [] t h = absurd h
 held_within p lo hi x (b ∷ bs) t h =
     ⊎_elim
-    (λ (l : (b.state ≡ Allocated) × IsIn b.key x). (omega (arith, l.1, t.0), omega (arith, l.1, tiles_end b.state (b.key.end + 1) hi bs t.3)))
+    (λ (l : (b.state ≡ Allocated) × IsIn b.key x).
+    (omega (arith, l.1, t.0), omega (arith, l.1, tiles_end b.state (b.key.end + 1) hi bs t.3)))
     (λ (r : IsHeldAddress (held_of bs) x). let i = held_within b.state (b.key.end + 1) hi x bs t.3 r in (omega (arith, i.0, t.1), i.1))
     (held_cases b.state b.key (held_of bs) x h)
 
@@ -58,11 +60,13 @@ next_held p y hi (b ∷ bs) f t l =
     (state_cases b.state)
 
 -- A run of clear addresses lies in one free block.
-pub in_free_block : (p : NodeState) (lo hi s e : ℕ) (bs : List Block) → Tiles p lo bs hi → lo ≤ s → s ≤ e → ((x : ℕ) → s ≤ x → x ≤ e → (x ≤ hi) × ¬ IsHeldAddress (held_of bs) x) → InFreeBlock bs s e
+pub in_free_block : (p : NodeState) (lo hi s e : ℕ) (bs : List Block) → Tiles p lo bs hi → lo ≤ s → s ≤ e →
+    ((x : ℕ) → s ≤ x → x ≤ e → (x ≤ hi) × ¬ IsHeldAddress (held_of bs) x) → InFreeBlock bs s e
 in_free_block p lo hi s e [] t l o f = let g : s ≤ hi = (f s (omega arith) o).0 in absurd (omega arith)
 in_free_block p lo hi s e (b ∷ bs) t l o f =
     ⊎_elim
-    (λ (h : b.key.end < s). inr (in_free_block b.state (b.key.end + 1) hi s e bs t.3 (omega arith) o (λ x i j. let g = f x i j in (g.0, λ k. g.1 (held_later b.state b.key (held_of bs) x k)))))
+    (λ (h : b.key.end < s). inr (in_free_block b.state (b.key.end + 1) hi s e bs t.3 (omega arith) o
+    (λ x i j. let g = f x i j in (g.0, λ k. g.1 (held_later b.state b.key (held_of bs) x k)))))
     (λ (h : s ≤ b.key.end).
     ⊎_elim
     (λ (q : b.state ≡ Free).
@@ -79,7 +83,8 @@ in_free_block p lo hi s e (b ∷ bs) t l o f =
     (cases_lt b.key.end s)
 
 -- The addresses of a free block are clear.
-pub free_is_clear : (p : NodeState) (lo hi s e x : ℕ) (bs : List Block) → Tiles p lo bs hi → InFreeBlock bs s e → s ≤ x → x ≤ e → (lo ≤ x) × (x ≤ hi) × ¬ IsHeldAddress (held_of bs) x
+pub free_is_clear : (p : NodeState) (lo hi s e x : ℕ) (bs : List Block) → Tiles p lo bs hi → InFreeBlock bs s e → s ≤ x → x ≤ e →
+    (lo ≤ x) × (x ≤ hi) × ¬ IsHeldAddress (held_of bs) x
 free_is_clear p lo hi s e x [] t h l o = absurd h
 free_is_clear p lo hi s e x (b ∷ bs) t h l o =
     ⊎_elim

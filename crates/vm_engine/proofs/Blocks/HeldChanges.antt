@@ -32,7 +32,8 @@ beside x r xs o l m =
 pub misses_later : (x r : Range) (xs : List Range) → Misses (x ∷ xs) r → Misses xs r
 misses_later x r xs m a i h = m a i (inr h)
 
-pub in_order_with : (lo hi : ℕ) (r : Range) (hs : List Range) → AreInOrder lo hs hi → lo ≤ r.start → r.start ≤ r.end → r.end ≤ hi → r.end < MAX → Misses hs r → AreInOrder lo (with_range r hs) hi
+pub in_order_with : (lo hi : ℕ) (r : Range) (hs : List Range) → AreInOrder lo hs hi → lo ≤ r.start → r.start ≤ r.end → r.end ≤ hi →
+    r.end < MAX → Misses hs r → AreInOrder lo (with_range r hs) hi
 in_order_with lo hi r [] s b l u w m = (b, l, u, w, tt)
 in_order_with lo hi r (x ∷ xs) s b l u w m =
     ⊎_elim
@@ -63,7 +64,8 @@ still_held_with r q [] h = absurd h
 still_held_with r q (x ∷ xs) h =
     ⊎_elim
     (λ (d : r.start < x.start). let e = lt-ltb r.start x.start d in rw e (inr h))
-    (λ (d : x.start ≤ r.start). let e = le-ltb r.start x.start d in rw e (⊎_elim (λ (f : x ≡ q). inl f) (λ (f : IsHeld xs q). inr (still_held_with r q xs f)) h))
+    (λ (d : x.start ≤ r.start). let e = le-ltb r.start x.start d in rw e
+    (⊎_elim (λ (f : x ≡ q). inl f) (λ (f : IsHeld xs q). inr (still_held_with r q xs f)) h))
     (cases_lt r.start x.start)
 
 -- The new range is held.
@@ -85,7 +87,8 @@ in_order_without lo hi r (x ∷ xs) s =
     (cases_eq r.start x.start)
 
 -- Removing a range right after its addition restores the list.
-pub without_with : (lo hi : ℕ) (r : Range) (hs : List Range) → AreInOrder lo hs hi → r.start ≤ r.end → Misses hs r → without_range r (with_range r hs) ≡ hs
+pub without_with : (lo hi : ℕ) (r : Range) (hs : List Range) → AreInOrder lo hs hi → r.start ≤ r.end → Misses hs r →
+    without_range r (with_range r hs) ≡ hs
 without_with lo hi r [] s l m = let e = eq-eqb r.start r.start refl in rw e refl
 without_with lo hi r (x ∷ xs) s l m =
     ⊎_elim
@@ -121,7 +124,8 @@ with_without lo hi r (x ∷ xs) s h =
     (cases_eq r.start x.start)
 
 -- A range can be removed before another one is added, or after it.
-pub without_other : (lo hi : ℕ) (r q : Range) (hs : List Range) → AreInOrder lo hs hi → r.start ≢ q.start → without_range r (with_range q hs) ≡ with_range q (without_range r hs)
+pub without_other : (lo hi : ℕ) (r q : Range) (hs : List Range) → AreInOrder lo hs hi → r.start ≢ q.start →
+    without_range r (with_range q hs) ≡ with_range q (without_range r hs)
 without_other lo hi r q [] s d = let e = ne_eqb r.start q.start d in rw e refl
 without_other lo hi r q (x ∷ xs) s d =
     let other = ne_eqb r.start q.start d in
@@ -129,7 +133,8 @@ without_other lo hi r q (x ∷ xs) s d =
     (λ (b : q.start < x.start).
     let e = lt-ltb q.start x.start b in
     ⊎_elim
-    (λ (c : r.start ≡ x.start). let f = eq-eqb r.start x.start c in rw (e, other, f) (sym (with_first (x.end + 1) hi q xs s.4 (omega (arith, s.1)))))
+    (λ (c : r.start ≡ x.start). let f = eq-eqb r.start x.start c in rw (e, other, f)
+    (sym (with_first (x.end + 1) hi q xs s.4 (omega (arith, s.1)))))
     (λ (c : r.start ≡ x.start → ⊥). let f = ne_eqb r.start x.start c in rw (e, other, f, e) refl)
     (cases_eq r.start x.start))
     (λ (b : x.start ≤ q.start).
@@ -187,5 +192,6 @@ still_held r q (x ∷ xs) h n =
     (cases_eq r.start x.start)
 
 -- Each other range is held as before, if the removed range was held.
-pub others_held : (lo hi : ℕ) (r q : Range) (hs : List Range) → AreInOrder lo hs hi → IsHeld hs r → IsHeld hs q → ¬ (r ≡ q) → IsHeld (without_range r hs) q
+pub others_held : (lo hi : ℕ) (r q : Range) (hs : List Range) → AreInOrder lo hs hi → IsHeld hs r → IsHeld hs q → ¬ (r ≡ q) →
+    IsHeld (without_range r hs) q
 others_held lo hi r q hs s h k n = still_held r q hs k (λ (e : r.start ≡ q.start). n (one_start lo hi r q hs s h k e))

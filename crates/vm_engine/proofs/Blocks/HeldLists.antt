@@ -46,7 +46,8 @@ ranges_listed state list i d a =
     let held = state.held in (
       λ e r. each_listed tells (Contains held) (length held) (no_more held) list r d a e,
       λ each.
-          let back = no_more list held (held_differ state.space.start state.space.end held i.in_order) (λ k b l. each _ (Contains-get_or held k b l)) in
+          let back = no_more list held (held_differ state.space.start state.space.end held i.in_order)
+          (λ k b l. each _ (Contains-get_or held k b l)) in
           omega (arith, no_more held list d a, back),
     )
 

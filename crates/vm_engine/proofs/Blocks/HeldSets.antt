@@ -5,7 +5,8 @@ use Rattle.vm_tree.specs.Building.{AreInOrder}
 use Rattle.vm_engine.proofs.Blocks.PlainWords.{IsHeld}
 
 -- ---- The position of a held range
-pub held_lies : (lo hi : ℕ) (hs : List Range) (r : Range) → AreInOrder lo hs hi → IsHeld hs r → (lo ≤ r.start) × (r.start ≤ r.end) × (r.end ≤ hi) × (r.end < MAX)
+pub held_lies : (lo hi : ℕ) (hs : List Range) (r : Range) → AreInOrder lo hs hi → IsHeld hs r →
+    (lo ≤ r.start) × (r.start ≤ r.end) × (r.end ≤ hi) × (r.end < MAX)
 held_lies lo hi [] r s h = absurd h
 held_lies lo hi (x ∷ xs) r s h =
     ⊎_elim
@@ -43,7 +44,8 @@ one_start lo hi r q hs s h k e =
 
 -- ---- Two lists of the same ranges
 -- Two ordered lists with the same ranges have the same first range.
-same_first : (lo ly hi hy : ℕ) (x y : Range) (xs ys : List Range) → AreInOrder lo (x ∷ xs) hi → AreInOrder ly (y ∷ ys) hy → IsHeld (y ∷ ys) x → IsHeld (x ∷ xs) y → x ≡ y
+same_first : (lo ly hi hy : ℕ) (x y : Range) (xs ys : List Range) → AreInOrder lo (x ∷ xs) hi → AreInOrder ly (y ∷ ys) hy →
+    IsHeld (y ∷ ys) x → IsHeld (x ∷ xs) y → x ≡ y
 same_first lo ly hi hy x y xs ys s t h k =
     ⊎_elim
     (λ (e : y ≡ x). sym e)
@@ -55,7 +57,8 @@ same_first lo ly hi hy x y xs ys s t h k =
     h
 
 -- A range that follows in the list is not the first range.
-in_rest : (lo hi : ℕ) (x y : Range) (xs ys : List Range) (r : Range) → AreInOrder lo (x ∷ xs) hi → x ≡ y → IsHeld xs r → IsHeld (y ∷ ys) r → IsHeld ys r
+in_rest : (lo hi : ℕ) (x y : Range) (xs ys : List Range) (r : Range) → AreInOrder lo (x ∷ xs) hi → x ≡ y → IsHeld xs r → IsHeld (y ∷ ys) r →
+    IsHeld ys r
 in_rest lo hi x y xs ys r s e h k =
     ⊎_elim
     (λ (f : y ≡ r). absurd (omega (arith, later_above lo hi x xs r s h, s.1, ap (λ (v : Range). v.start) (e ∙ f))))
@@ -63,7 +66,8 @@ in_rest lo hi x y xs ys r s e h k =
     k
 
 -- Two ordered lists with the same ranges are equal.
-pub same_ranges_held : (lo ly hi hy : ℕ) (xs ys : List Range) → AreInOrder lo xs hi → AreInOrder ly ys hy → ((r : Range) → IsHeld xs r ↔ IsHeld ys r) → xs ≡ ys
+pub same_ranges_held : (lo ly hi hy : ℕ) (xs ys : List Range) → AreInOrder lo xs hi → AreInOrder ly ys hy →
+    ((r : Range) → IsHeld xs r ↔ IsHeld ys r) → xs ≡ ys
 same_ranges_held lo ly hi hy [] [] s t h = refl
 same_ranges_held lo ly hi hy [] (y ∷ ys) s t h = absurd ((h y).1 (inl refl))
 same_ranges_held lo ly hi hy (x ∷ xs) [] s t h = absurd ((h x).0 (inl refl))

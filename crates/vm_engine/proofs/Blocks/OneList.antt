@@ -21,7 +21,8 @@ same_block x y p q =
     let g : f x.key x.state ≡ f y.key x.state = ap (λ v. f v x.state) p in
     g ∙ ap (λ v. f y.key v) q
 
-few : (p : NodeState) (lo hi : ℕ) (bs : List Block) → Tiles p lo bs hi → (length bs ≤ 2 * length (held_of bs) + 1) × (p ≡ Free → length bs ≤ 2 * length (held_of bs))
+few : (p : NodeState) (lo hi : ℕ) (bs : List Block) → Tiles p lo bs hi →
+    (length bs ≤ 2 * length (held_of bs) + 1) × (p ≡ Free → length bs ≤ 2 * length (held_of bs))
 few p lo hi [] t = (omega arith, λ e. omega arith)
 few p lo hi (b ∷ bs) t =
     let i = few b.state (b.key.end + 1) hi bs t.3 in

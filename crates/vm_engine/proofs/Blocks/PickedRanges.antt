@@ -81,7 +81,8 @@ module _ (kept : NodeState) (ranges : List Block → List Range) (picks : Picks 
   no_block : (x : ℕ) (bs : List Block) → find_superset (at_address x) bs ≡ None → ¬ IsHeldAddress (ranges bs) x
   no_block x [] e h = none_listed x h
   no_block x (y ∷ bs) e h =
-      elim (covers y.key (at_address x)) as (λ v. covers y.key (at_address x) ≡ v → cond v (Some y) (find_superset (at_address x) bs) ≡ None → ⊥) [
+      elim (covers y.key (at_address x)) as
+      (λ v. covers y.key (at_address x) ≡ v → cond v (Some y) (find_superset (at_address x) bs) ≡ None → ⊥) [
         | true ↦ λ s f. absurd (cc)
         | false ↦ λ s f.
             ⊎_elim
@@ -91,10 +92,12 @@ module _ (kept : NodeState) (ranges : List Block → List Range) (picks : Picks 
       ] refl e
 
   -- If an address is in a range, its block has the state `kept`.
-  block_kept : (lo x : ℕ) (bs : List Block) (b : Block) → IsOrderedFrom lo bs → find_superset (at_address x) bs ≡ Some b → IsHeldAddress (ranges bs) x → b.state ≡ kept
+  block_kept : (lo x : ℕ) (bs : List Block) (b : Block) → IsOrderedFrom lo bs → find_superset (at_address x) bs ≡ Some b →
+      IsHeldAddress (ranges bs) x → b.state ≡ kept
   block_kept lo x [] b o e h = absurd (cc)
   block_kept lo x (y ∷ bs) b o e h =
-      elim (covers y.key (at_address x)) as (λ v. covers y.key (at_address x) ≡ v → cond v (Some y) (find_superset (at_address x) bs) ≡ Some b → b.state ≡ kept) [
+      elim (covers y.key (at_address x)) as
+      (λ v. covers y.key (at_address x) ≡ v → cond v (Some y) (find_superset (at_address x) bs) ≡ Some b → b.state ≡ kept) [
         | true ↦ λ s f.
             let same : y ≡ b = some_same y b f in
             ⊎_elim
@@ -108,21 +111,27 @@ module _ (kept : NodeState) (ranges : List Block → List Range) (picks : Picks 
             (address_cases y bs x h)
       ] refl e
 
-  block_listed : (x : ℕ) (bs : List Block) (b : Block) → find_superset (at_address x) bs ≡ Some b → b.state ≡ kept → IsHeld (ranges bs) b.key × IsIn b.key x
+  block_listed : (x : ℕ) (bs : List Block) (b : Block) → find_superset (at_address x) bs ≡ Some b → b.state ≡ kept →
+      IsHeld (ranges bs) b.key × IsIn b.key x
   block_listed x [] b e k = absurd (cc)
   block_listed x (y ∷ bs) b e k =
-      elim (covers y.key (at_address x)) as (λ v. covers y.key (at_address x) ≡ v → cond v (Some y) (find_superset (at_address x) bs) ≡ Some b → IsHeld (ranges (y ∷ bs)) b.key × IsIn b.key x) [
+      elim (covers y.key (at_address x)) as
+      (λ v. covers y.key (at_address x) ≡ v → cond v (Some y) (find_superset (at_address x) bs) ≡ Some b →
+      IsHeld (ranges (y ∷ bs)) b.key × IsIn b.key x) [
         | true ↦ λ s f.
             let same : y ≡ b = some_same y b f in
-            subst (λ (v : Block). IsHeld (ranges (y ∷ bs)) v.key × IsIn v.key x) same (first_listed y bs (ap (λ (v : Block). v.state) same ∙ k), covers_in y.key x s)
+            subst (λ (v : Block). IsHeld (ranges (y ∷ bs)) v.key × IsIn v.key x) same
+            (first_listed y bs (ap (λ (v : Block). v.state) same ∙ k), covers_in y.key x s)
         | false ↦ λ s f. let i = block_listed x bs b f k in (later_listed y bs b.key i.0, i.1)
       ] refl e
 
   -- ---- The range at an address
-  pub range_at : (x : ℕ) (bs : List Block) (b : Block) → find_superset (at_address x) bs ≡ Some b → b.state ≡ kept → IsRangeAt (ranges bs) x (Some b.key)
+  pub range_at : (x : ℕ) (bs : List Block) (b : Block) → find_superset (at_address x) bs ≡ Some b → b.state ≡ kept →
+      IsRangeAt (ranges bs) x (Some b.key)
   range_at x bs b e k = let i = block_listed x bs b e k in (contains_held (ranges bs) b.key i.0, i.1)
 
-  pub other_at : (lo x : ℕ) (bs : List Block) (b : Block) → IsOrderedFrom lo bs → find_superset (at_address x) bs ≡ Some b → ¬ (b.state ≡ kept) → IsRangeAt (ranges bs) x None
+  pub other_at : (lo x : ℕ) (bs : List Block) (b : Block) → IsOrderedFrom lo bs → find_superset (at_address x) bs ≡ Some b →
+      ¬ (b.state ≡ kept) → IsRangeAt (ranges bs) x None
   other_at lo x bs b o e n = all_miss (ranges bs) x (λ h. n (block_kept lo x bs b o e h))
 
   pub none_at : (x : ℕ) (bs : List Block) → find_superset (at_address x) bs ≡ None → IsRangeAt (ranges bs) x None
@@ -135,9 +144,11 @@ module _ (kept : NodeState) (ranges : List Block → List Range) (picks : Picks 
       let rest = picked_meeting w bs in
       ⊎_elim
       (λ (e : b.state ≡ kept).
-      elim (meets w b.key) as (λ v. meets w b.key ≡ v → ranges (cond v (b ∷ meeting_blocks w bs) (meeting_blocks w bs)) ≡ meeting w (ranges (b ∷ bs))) [
+      elim (meets w b.key) as (λ v. meets w b.key ≡ v → ranges (cond v (b ∷ meeting_blocks w bs) (meeting_blocks w bs)) ≡ meeting w
+      (ranges (b ∷ bs))) [
         | true ↦ λ m.
-            picks.first b (meeting_blocks w bs) e ∙ ap (λ (v : List Range). b.key ∷ v) rest ∙ sym (ap (meeting w) (picks.first b bs e) ∙ rw m refl)
+            picks.first b (meeting_blocks w bs) e ∙ ap (λ (v : List Range). b.key ∷ v) rest
+            ∙ sym (ap (meeting w) (picks.first b bs e) ∙ rw m refl)
         | false ↦ λ m. rest ∙ sym (ap (meeting w) (picks.first b bs e) ∙ rw m refl)
       ] refl)
       (λ (n : ¬ (b.state ≡ kept)).

@@ -17,7 +17,8 @@ IsHeld (h ∷ hs) r = (h ≡ r) ⊎ IsHeld hs r
 
 pub contains_held : (hs : List Range) (r : Range) → IsHeld hs r → Contains hs r
 contains_held [] r h = absurd h
-contains_held (x ∷ xs) r h = ⊎_elim (λ (e : x ≡ r). (0, omega arith, e)) (λ (e : IsHeld xs r). let c = contains_held xs r e in (suc c.0, omega (arith, c.1), c.2)) h
+contains_held (x ∷ xs) r h = ⊎_elim (λ (e : x ≡ r). (0, omega arith, e))
+    (λ (e : IsHeld xs r). let c = contains_held xs r e in (suc c.0, omega (arith, c.1), c.2)) h
 
 held_contains_at : (hs : List Range) (r : Range) (k : ℕ) → k < length hs → slice_index_or hs k r ≡ r → IsHeld hs r
 held_contains_at [] r k l e = absurd (omega arith)

@@ -24,7 +24,9 @@ module _ (w : Range) (n a t : ℕ) (old : AddressState) (z : 0 < n) (i : IsIn w 
   unfolding IsPlace
   place_in p = (p.0, clear_in p.1)
 
-  narrow_place : (new : AddressState) (answer : Result Range Error) → ByPlace (named n a t) old (λ e. (answer ≡ Err e) × (new ≡ old)) (λ r. AllocatesAt old r answer new) → ByPlace (named_in w n a t) old (λ e. (answer ≡ Err e) × (new ≡ old)) (λ r. AllocatesAt old r answer new)
+  narrow_place : (new : AddressState) (answer : Result Range Error) →
+      ByPlace (named n a t) old (λ e. (answer ≡ Err e) × (new ≡ old)) (λ r. AllocatesAt old r answer new) →
+      ByPlace (named_in w n a t) old (λ e. (answer ≡ Err e) × (new ≡ old)) (λ r. AllocatesAt old r answer new)
   unfolding ByPlace IsChosen
   narrow_place new answer h =
       ⊎_elim
@@ -32,7 +34,8 @@ module _ (w : Range) (n a t : ℕ) (old : AddressState) (z : 0 < n) (i : IsIn w 
       (λ u. inr (u.0, (u.1.0, subst (IsPlace n a (within (Some w) old)) (sym u.1.0) (place_in (subst (IsPlace n a old) u.1.0 u.1.1))), u.2))
       h
 
-  pub narrow_grants : (new : AddressState) (answer : Result Range Error) → Grants old (named n a t) answer new → Grants old (named_in w n a t) answer new
+  pub narrow_grants : (new : AddressState) (answer : Result Range Error) → Grants old (named n a t) answer new →
+      Grants old (named_in w n a t) answer new
   unfolding Grants ByExactPolicy ByStart
   narrow_grants new answer h =
       ⊎_elim (λ l. inl l) (λ r. inr (

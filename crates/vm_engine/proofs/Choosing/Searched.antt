@@ -16,7 +16,9 @@ abbrev pub IsNotExact : AllocPolicy → Type 0
 IsNotExact policy = (policy ≡ FirstMatch) ⊎ (policy ≡ LastMatch)
 
 -- Their result depends only on the places.
-grants_by : (policy : AllocPolicy) (w : Option Range) (n a : ℕ) (old new : AddressState) (answer : Result Range Error) → IsNotExact policy → ByPlace (request_in w n a policy) old (λ e. (answer ≡ Err e) × (new ≡ old)) (λ r. AllocatesAt old r answer new) → Grants old (request_in w n a policy) answer new
+grants_by : (policy : AllocPolicy) (w : Option Range) (n a : ℕ) (old new : AddressState) (answer : Result Range Error) → IsNotExact policy →
+    ByPlace (request_in w n a policy) old (λ e. (answer ≡ Err e) × (new ≡ old)) (λ r. AllocatesAt old r answer new) →
+    Grants old (request_in w n a policy) answer new
 unfolding Grants ByExactPolicy
 grants_by FirstMatch w n a old new answer p h = h
 grants_by LastMatch w n a old new answer p h = h
@@ -24,14 +26,17 @@ grants_by (ExactMatch t) w n a old new answer p h = absurd (⊎_elim (λ e. cc e
 
 -- A request with a known policy.
 module _ (request : Request) (old : AddressState) (searched : IsNotExact request.policy) where
-  places_grant : (new : AddressState) (answer : Result Range Error) → ByPlace request old (λ e. (answer ≡ Err e) × (new ≡ old)) (λ r. AllocatesAt old r answer new) → Grants old request answer new
+  places_grant : (new : AddressState) (answer : Result Range Error) →
+      ByPlace request old (λ e. (answer ≡ Err e) × (new ≡ old)) (λ r. AllocatesAt old r answer new) → Grants old request answer new
   places_grant new answer = grants_by request.policy request.window request.size request.align old new answer searched
 
-  pub none_grants : ((s : ℕ) → ¬ IsPlace request.size request.align (within request.window old) s) → Grants old request (Err ResourceNotAvailable) old
+  pub none_grants : ((s : ℕ) → ¬ IsPlace request.size request.align (within request.window old) s) →
+      Grants old request (Err ResourceNotAvailable) old
   unfolding ByPlace
   none_grants none = places_grant old (Err ResourceNotAvailable) (inl (none, (refl, refl)))
 
-  pub chosen_grants : (t : ℕ) (new : AddressState) (answer : Result Range Error) → IsChosen request old t → t + request.size - 1 < MAX → AllocatesAt old (span t request.size) answer new → Grants old request answer new
+  pub chosen_grants : (t : ℕ) (new : AddressState) (answer : Result Range Error) → IsChosen request old t → t + request.size - 1 < MAX →
+      AllocatesAt old (span t request.size) answer new → Grants old request answer new
   unfolding ByPlace
   chosen_grants t new answer c l h = places_grant new answer (inr (t, c, inr (λ e. omega arith, h)))
 
@@ -40,10 +45,12 @@ module _ (request : Request) (old : AddressState) (searched : IsNotExact request
   over_grants t c e = places_grant old (Err Overflow) (inr (t, c, inl (e, (refl, refl))))
 
 -- ---- The chosen place
-pub lowest_chosen : (request : Request) (t : ℕ) (state : AddressState) → request.policy ≡ FirstMatch → IsLowestPlace request.size request.align (within request.window state) t → IsChosen request state t
+pub lowest_chosen : (request : Request) (t : ℕ) (state : AddressState) → request.policy ≡ FirstMatch →
+    IsLowestPlace request.size request.align (within request.window state) t → IsChosen request state t
 unfolding IsChosen
 lowest_chosen request t state e l = subst (λ (v : Request). IsChosen v state t) (with_policy request FirstMatch e) l
 
-pub highest_chosen : (request : Request) (t : ℕ) (state : AddressState) → request.policy ≡ LastMatch → IsHighestPlace request.size request.align (within request.window state) t → IsChosen request state t
+pub highest_chosen : (request : Request) (t : ℕ) (state : AddressState) → request.policy ≡ LastMatch →
+    IsHighestPlace request.size request.align (within request.window state) t → IsChosen request state t
 unfolding IsChosen
 highest_chosen request t state e l = subst (λ (v : Request). IsChosen v state t) (with_policy request LastMatch e) l

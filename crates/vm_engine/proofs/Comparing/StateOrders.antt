@@ -54,11 +54,14 @@ same_state : (s t : Shape) → blocks s ≡ blocks t → AreEqual (tree_state s)
 same_state s t e = equal_states (tree_state s) (tree_state t) (ap (λ (bs : List Block). blocks_state (space_of bs) bs) e)
 
 -- The order of the blocks of two trees is the order of their states.
-pub blocks_ordered : (s t : Shape) → IsSpaceTree s → IsSpaceTree t → blocks_cmp (blocks s) (blocks t) ≡ layout_cmp (tree_state s) (tree_state t)
-blocks_ordered s t p q = ap (λ (bs : List Block). blocks_cmp bs (blocks t)) (sym (tree_blocks s p)) ∙ ap (blocks_cmp (blocks_of (tree_state s))) (sym (tree_blocks t q))
+pub blocks_ordered : (s t : Shape) → IsSpaceTree s → IsSpaceTree t →
+    blocks_cmp (blocks s) (blocks t) ≡ layout_cmp (tree_state s) (tree_state t)
+blocks_ordered s t p q = ap (λ (bs : List Block). blocks_cmp bs (blocks t)) (sym (tree_blocks s p))
+    ∙ ap (blocks_cmp (blocks_of (tree_state s))) (sym (tree_blocks t q))
 
 -- It returns Equal if and only if the states are equal.
-pub trees_Equal : (s t : Shape) → IsSpaceTree s → IsSpaceTree t → (layout_cmp (tree_state s) (tree_state t) ≡ Equal) ↔ AreEqual (tree_state s) (tree_state t)
+pub trees_Equal : (s t : Shape) → IsSpaceTree s → IsSpaceTree t →
+    (layout_cmp (tree_state s) (tree_state t) ≡ Equal) ↔ AreEqual (tree_state s) (tree_state t)
 trees_Equal s t p q = (
   λ h. same_state s t (sym (tree_blocks s p) ∙ blocks_cmp-exact (blocks_of (tree_state s)) (blocks_of (tree_state t)) h ∙ tree_blocks t q),
   λ e. ap (layout_cmp (tree_state s)) (sym (one_state (tree_state s) (tree_state t) e)) ∙ tied_itself layout_cmp-total (tree_state s),
@@ -69,14 +72,16 @@ pub tested_blocks : (bs cs : List Block) (r : Bool) → IsTrue r ↔ (blocks_cmp
 tested_blocks bs cs r h = (λ t. blocks_cmp-exact bs cs (h.0 t), λ e. h.1 (ap (blocks_cmp bs) (sym e) ∙ tied_itself blocks_cmp-total bs))
 
 -- A test if two trees have the same blocks is a test if their states are equal.
-pub tested_state : (s t : Shape) (r : Bool) → IsSpaceTree s → IsSpaceTree t → IsTrue r ↔ (blocks s ≡ blocks t) → IsTrue r ↔ AreEqual (tree_state s) (tree_state t)
+pub tested_state : (s t : Shape) (r : Bool) → IsSpaceTree s → IsSpaceTree t → IsTrue r ↔ (blocks s ≡ blocks t) →
+    IsTrue r ↔ AreEqual (tree_state s) (tree_state t)
 tested_state s t r p q h = (λ x. same_state s t (h.0 x), λ e. h.1 (one_list s t p q e))
 
 -- The test agrees with the order.
 tested_as_ordered : (o : Ordering) (r : Bool) (P : Type 0) → IsTrue r ↔ P → (o ≡ Equal) ↔ P → r ≡ is_eq o
 tested_as_ordered o r P h k = same_from_decides r (is_eq o) h (λ t. k.0 ((Equal-is o).0 t), λ p. (Equal-is o).1 (k.1 p))
 
-pub tested_by_layout : (s t : Shape) (r : Bool) → IsSpaceTree s → IsSpaceTree t → IsTrue r ↔ (blocks s ≡ blocks t) → r ≡ is_eq (layout_cmp (tree_state s) (tree_state t))
+pub tested_by_layout : (s t : Shape) (r : Bool) → IsSpaceTree s → IsSpaceTree t → IsTrue r ↔ (blocks s ≡ blocks t) →
+    r ≡ is_eq (layout_cmp (tree_state s) (tree_state t))
 tested_by_layout s t r p q h = tested_as_ordered _ r _ (tested_state s t r p q h) (trees_Equal s t p q)
 
 pub ruleset trees_compared = (blocks_ordered, trees_Equal, tested_state, tested_by_layout)

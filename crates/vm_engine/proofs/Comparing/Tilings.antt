@@ -27,11 +27,13 @@ gap lo next h = rw (lt-ltb lo next h) refl
 gap_is_free : (s : ℕ) (b : Block) → b.state ≡ Free → b.key.start ≡ s → s ≤ b.key.end → gap_before s (b.key.end + 1) ≡ b ∷ []
 gap_is_free s b free start some =
     let key : record { start = s; end = b.key.end + 1 - 1 } ≡ b.key = same_range _ b.key (sym start) (omega arith) in
-    gap s (b.key.end + 1) (omega arith) ∙ ap (λ (x : Block). x ∷ []) (same_block (free_block (record { start = s; end = b.key.end + 1 - 1 })) b key (sym free))
+    gap s (b.key.end + 1) (omega arith) ∙ ap (λ (x : Block). x ∷ [])
+    (same_block (free_block (record { start = s; end = b.key.end + 1 - 1 })) b key (sym free))
 
 -- The blocks from s to hi, for a tiling that starts at lo: the gap from s to lo, and then the tiling. If s < lo, a free
 -- block is before the tiling.
-tiled : (p : NodeState) (s lo hi : ℕ) (bs : List Block) → Tiles p lo bs hi → s ≤ lo → (p ≡ Allocated → s ≡ lo) → blocks_between s (held_of bs) hi ≡ gap_before s lo ++ bs
+tiled : (p : NodeState) (s lo hi : ℕ) (bs : List Block) → Tiles p lo bs hi → s ≤ lo → (p ≡ Allocated → s ≡ lo) →
+    blocks_between s (held_of bs) hi ≡ gap_before s lo ++ bs
 tiled p s lo hi [] t l e = rw (append-nil (gap_before s lo)) (ap (gap_before s) (sym t))
 tiled p s lo hi (b ∷ bs) t l e =
     ⊎_elim
@@ -47,7 +49,8 @@ tiled p s lo hi (b ∷ bs) t l e =
     let same : record { key = b.key; state = Allocated } ≡ b = same_block _ b refl (sym held) in
     ap (λ (v : List _). blocks_between s v hi) (held_of-held b bs held)
     ∙ ap (λ (v : ℕ). gap_before s v ++ record { key = b.key; state = Allocated } ∷ blocks_between (b.key.end + 1) (held_of bs) hi) t.0
-    ∙ ap (λ (v : List Block). gap_before s lo ++ record { key = b.key; state = Allocated } ∷ v) (rest ∙ ap (λ (v : List Block). v ++ bs) (no_gap (b.key.end + 1) (b.key.end + 1) refl))
+    ∙ ap (λ (v : List Block). gap_before s lo ++ record { key = b.key; state = Allocated } ∷ v)
+    (rest ∙ ap (λ (v : List Block). v ++ bs) (no_gap (b.key.end + 1) (b.key.end + 1) refl))
     ∙ ap (λ (v : Block). gap_before s lo ++ v ∷ bs) same)
     (state_cases b.state)
 
@@ -64,10 +67,12 @@ tree_blocks s h = tiling_blocks (space_of (blocks s)) (blocks s) h.tiling.tiles
 
 -- A gap has no held range.
 held_of-gap : (lo next : ℕ) (bs : List Block) → held_of (gap_before lo next ++ bs) ≡ held_of bs
-held_of-gap lo next bs = elim (ltb lo next) as (λ v. held_of (cond v (free_block (record { start = lo; end = next - 1 }) ∷ []) [] ++ bs) ≡ held_of bs) [ true ↦ refl | false ↦ refl ]
+held_of-gap lo next bs = elim (ltb lo next) as
+    (λ v. held_of (cond v (free_block (record { start = lo; end = next - 1 }) ∷ []) [] ++ bs) ≡ held_of bs) [ true ↦ refl | false ↦ refl ]
 
 held_of-blocks_between : (lo hi : ℕ) (rs : List Range) → held_of (blocks_between lo rs hi) ≡ rs
-held_of-blocks_between lo hi [] = elim (ltb lo (hi + 1)) as (λ v. held_of (cond v (free_block (record { start = lo; end = hi + 1 - 1 }) ∷ []) []) ≡ []) [ true ↦ refl | false ↦ refl ]
+held_of-blocks_between lo hi [] = elim (ltb lo (hi + 1)) as
+    (λ v. held_of (cond v (free_block (record { start = lo; end = hi + 1 - 1 }) ∷ []) []) ≡ []) [ true ↦ refl | false ↦ refl ]
 held_of-blocks_between lo hi (r ∷ rs) =
     held_of-gap lo r.start (record { key = r; state = Allocated } ∷ blocks_between (r.end + 1) rs hi)
     ∙ ap (λ (v : List Range). r ∷ v) (held_of-blocks_between (r.end + 1) hi rs)

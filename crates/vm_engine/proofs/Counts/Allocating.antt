@@ -13,9 +13,11 @@ use Rattle.vm_engine.proofs.Results.Filling.{no_constraint_fault}
 
 -- ---- Requests that can be invalid
 pub invalid_count : (h : ℕ) (old : AddressState) (request : Request) (e : Error) → IsAllocationCount h old request (Err e) 0
-invalid_count h old request e = record { granting = record { most = omega arith; success = λ k. absurd (cc k); path = λ k. absurd (cc k) }; invalid = λ x m. refl }
+invalid_count h old request e = record
+    { granting = record { most = omega arith; success = λ k. absurd (cc k); path = λ k. absurd (cc k) }; invalid = λ x m. refl }
 
-pub grant_count : (h : ℕ) (old : AddressState) (request k : Request) (answer : Result Range Error) (c : ℕ) → MakesConstraint request (Ok k) → IsGrantCount h old k answer c → IsAllocationCount h old request answer c
+pub grant_count : (h : ℕ) (old : AddressState) (request k : Request) (answer : Result Range Error) (c : ℕ) →
+    MakesConstraint request (Ok k) → IsGrantCount h old k answer c → IsAllocationCount h old request answer c
 grant_count h old request k answer c m s =
     let made = constraint_made request k m in
     record {
@@ -26,7 +28,8 @@ grant_count h old request k answer c m s =
 pub invalid_entered : (s : Shape) (request : Request) (e : Error) → MakesConstraint request (Err e) → EntersToAllocate s request 0
 invalid_entered s request e m = record { invalid = λ x f. refl; valid = λ r. absurd (no_constraint_fault request e m r) }
 
-pub valid_entered : (s : Shape) (request k : Request) (c : ℕ) → MakesConstraint request (Ok k) → c ≡ nodes_of_request k (space_of (blocks s)) s → EntersToAllocate s request c
+pub valid_entered : (s : Shape) (request k : Request) (c : ℕ) → MakesConstraint request (Ok k) →
+    c ≡ nodes_of_request k (space_of (blocks s)) s → EntersToAllocate s request c
 valid_entered s request k c m n =
     let made = constraint_made request k m in
     record {
@@ -35,10 +38,12 @@ valid_entered s request k c m n =
     }
 
 -- ---- Requests that are valid
-pub valid_count : (h : ℕ) (old : AddressState) (request : Request) (answer : Result Range Error) (c : ℕ) → IsRequest request → IsGrantCount h old request answer c → IsAllocationCount h old request answer c
+pub valid_count : (h : ℕ) (old : AddressState) (request : Request) (answer : Result Range Error) (c : ℕ) → IsRequest request →
+    IsGrantCount h old request answer c → IsAllocationCount h old request answer c
 valid_count h old request answer c r s = record { granting = s; invalid = λ x f. absurd (no_constraint_fault request x f r) }
 
-pub entered_if_valid : (s : Shape) (request : Request) (c : ℕ) → IsRequest request → c ≡ nodes_of_request request (space_of (blocks s)) s → EntersToAllocate s request c
+pub entered_if_valid : (s : Shape) (request : Request) (c : ℕ) → IsRequest request → c ≡ nodes_of_request request (space_of (blocks s)) s →
+    EntersToAllocate s request c
 entered_if_valid s request c r n = record { invalid = λ x f. absurd (no_constraint_fault request x f r); valid = λ k. n }
 
 pub ruleset valid_allocations = (valid_count, entered_if_valid)

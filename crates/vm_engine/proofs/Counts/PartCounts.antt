@@ -85,11 +85,19 @@ few_entered k old new [] p l = (0, omega (arith, one_at_two), All-nil (EntersAtM
 few_entered k old new (part ∷ parts) p l =
     let rest = few_entered k p.0 new parts p.2 (omega (arith, l, held_after old p.0 part p.1)) in
     ⊎_elim
-    (λ (c : height_of old < rest.0).
-    (rest.0, rest.1, All-cons (EntersAtMost rest.0 k) part parts (enters_at_most old p.0 part rest.0 k p.1 (omega (arith, c)) (omega (arith, l))) rest.2))
+    (λ (c : height_of old < rest.0). (
+      rest.0,
+      rest.1,
+      All-cons (EntersAtMost rest.0 k) part parts
+          (enters_at_most old p.0 part rest.0 k p.1 (omega (arith, c)) (omega (arith, l))) rest.2,
+    ))
     (λ (c : rest.0 ≤ height_of old).
-    let raised : All (EntersAtMost (height_of old) k) parts = λ i d e. in_higher rest.0 (height_of old) k _ c (rest.2 i d e) in
-    (height_of old, omega (arith, l, (balanced_before old p.0 part p.1).low), All-cons (EntersAtMost (height_of old) k) part parts (enters_at_most old p.0 part (height_of old) k p.1 (omega arith) (omega (arith, l))) raised))
+    let raised : All (EntersAtMost (height_of old) k) parts = λ i d e. in_higher rest.0 (height_of old) k _ c (rest.2 i d e) in (
+      height_of old,
+      omega (arith, l, (balanced_before old p.0 part p.1).low),
+      All-cons (EntersAtMost (height_of old) k) part parts
+          (enters_at_most old p.0 part (height_of old) k p.1 (omega arith) (omega (arith, l))) raised,
+    ))
     (cases_lt (height_of old) rest.0)
 
 pub parts_enter_few : PartsEnterFew
@@ -113,7 +121,8 @@ allocation_part old new request answer count v b g same enters most =
     let parts : HasParts old (Allocating request answer count ∷ []) new = (new, part, refl) in
     (count, parts)
 
-pub free_part : (old new : Shape) (r : Range) (answer : Result (Unit {0}) Error) (count : ℕ) → OnOk answer (IsBalancedTreeOf (tree_state old) old) →
+pub free_part : (old new : Shape) (r : Range) (answer : Result (Unit {0}) Error) (count : ℕ) →
+    OnOk answer (IsBalancedTreeOf (tree_state old) old) →
     Frees (tree_state old) r answer (tree_state new) → IsFreeCount old r answer count →
     OnOk answer ((n : ℕ) × HasParts old (Freeing r n ∷ []) new)
 free_part old new r (Ok tt) count b f most =

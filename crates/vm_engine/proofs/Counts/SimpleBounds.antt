@@ -27,7 +27,8 @@ counts_are_decided s request n m a b =
     (made_or_not request)
 
 pub free_enters_path : FreeEntersPath
-free_enters_path s key h c = free_path key s (can_change s h.tree h.run h.height) (found_at key (blocks s) (held_contains (held_of (blocks s)) key c))
+free_enters_path s key h c = free_path key s (can_change s h.tree h.run h.height)
+    (found_at key (blocks s) (held_contains (held_of (blocks s)) key c))
 
 pub ruleset simple_bounds = (enters_few)
 

@@ -25,7 +25,8 @@ one_more n old mid new requests part taken h for_requests = record {
 pub no_parts : (n : ℕ) (s : Shape) (requests : List Request) → TakesParts n s requests s
 no_parts n s requests = record { parts = []; from = refl; for_requests = All-nil (IsPartFor requests); few = omega arith }
 
-pub more_allowed : (n m : ℕ) (old new : Shape) (requests : List Request) → TakesParts n old requests new → n ≤ m → TakesParts m old requests new
+pub more_allowed : (n m : ℕ) (old new : Shape) (requests : List Request) → TakesParts n old requests new → n ≤ m →
+    TakesParts m old requests new
 more_allowed n m old new requests taken l = record {
   parts = taken.parts;
   from = taken.from;

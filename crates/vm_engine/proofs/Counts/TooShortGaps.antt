@@ -1,7 +1,38 @@
 -- Gaps that are too short have a multiple but no place. There are at most as many of them as multiples in the space.
 use Rattle.std.specs.Prelude.{not, nat_eq}
 use Rattle.std.specs.List.{filter}
-use Rattle.std.proofs.Common.{◌≡◌, ℕ, ◌+◌, ◌-◌, ◌%◌, ◌<◌, ◌≤◌, max, min, zero, suc, Bool, true, false, cond, leb, List, [], ◌∷◌, length, Option, Some, None, refl, sym, ap, ◌∙◌, arith, ⊎_elim, eq-eqb}
+use Rattle.std.proofs.Common.{
+  ◌≡◌,
+  ℕ,
+  ◌+◌,
+  ◌-◌,
+  ◌%◌,
+  ◌<◌,
+  ◌≤◌,
+  max,
+  min,
+  zero,
+  suc,
+  Bool,
+  true,
+  false,
+  cond,
+  leb,
+  List,
+  [],
+  ◌∷◌,
+  length,
+  Option,
+  Some,
+  None,
+  refl,
+  sym,
+  ap,
+  ◌∙◌,
+  arith,
+  ⊎_elim,
+  eq-eqb,
+}
 use Rattle.std.proofs.lemmas.Bool.{and_parts, and_right, leb-true, lt-ltb, le-ltb, cases_lt, not-true}
 use Rattle.vm_ranges.specs.Range.{Range}
 use Rattle.vm_engine.specs.Address.{AddressState, IsAddressState}
@@ -30,8 +61,12 @@ unfolding is_too_short has_aligned HasNoFit
 too_short_is_exact n a b p = (
   λ e.
       let parts = and_parts (has_aligned a b) (not (has_fit n a b)) e in
-      let own = and_parts (is_free b.state) (has_multiple a b.key) parts.0 in
-      (free_if_true b.state own.0, (multiple_is_exact a b.key p).0 own.1, λ t f. let both : true ≡ false = sym (fit_found n a t b p f) ∙ not-true _ parts.1 in cc),
+      let own = and_parts (is_free b.state) (has_multiple a b.key) parts.0 in (
+        free_if_true b.state own.0,
+        (multiple_is_exact a b.key p).0 own.1,
+        λ t f. let both : true ≡ false = sym (fit_found n a t b p f)
+            ∙ not-true _ parts.1 in cc,
+      ),
   λ k.
       let free : is_free b.state ≡ true = ap is_free k.0 in
       rw (free, (multiple_is_exact a b.key p).1 k.1, no_fit_missed n a b p k.2) refl,
@@ -44,7 +79,8 @@ with_next a x = let next : x + 1 ≡ suc x = omega arith in rw next refl
 
 below_increases : (a x d : ℕ) → multiples_below a x ≤ multiples_below a (x + d)
 below_increases a x zero = let same : x + zero ≡ x = omega arith in rw same (omega arith)
-below_increases a x (suc d) = let next : x + suc d ≡ x + d + 1 = omega arith in rw next (omega (arith, below_increases a x d, with_next a (x + d)))
+below_increases a x (suc d) = let next : x + suc d
+    ≡ x + d + 1 = omega arith in rw next (omega (arith, below_increases a x d, with_next a (x + d)))
 
 increases : (a x y : ℕ) → x ≤ y → multiples_below a x ≤ multiples_below a y
 increases a x y l =
@@ -69,7 +105,8 @@ module _ (test : Block → Bool) (number : ℕ → ℕ) (counts : Counts test nu
 
   gap_has_own : (k : Range) → k.start ≤ k.end → among (free_block k ∷ []) + number k.start ≤ number (k.end + 1)
   gap_has_own k l =
-      elim (test (free_block k)) as (λ v. test (free_block k) ≡ v → length (cond v (free_block k ∷ []) []) + number k.start ≤ number (k.end + 1)) [
+      elim (test (free_block k)) as (λ v. test (free_block k) ≡ v → length (cond v (free_block k ∷ []) []) + number k.start ≤ number
+      (k.end + 1)) [
         | true ↦ λ e. omega (arith, counts.free k l e)
         | false ↦ λ e. omega (arith, counts.rises k.start (k.end + 1) (omega arith))
       ] refl
@@ -87,7 +124,8 @@ module _ (test : Block → Bool) (number : ℕ → ℕ) (counts : Counts test nu
   held_has_none : (r : Range) → among (held_block r ∷ []) ≡ 0
   held_has_none r = rw (counts.held r) refl
 
-  few_between : (lo hi : ℕ) (rs : List Range) → lo ≤ hi + 1 → AreInOrder lo rs hi → among (blocks_between lo rs hi) + number lo ≤ number (hi + 1)
+  few_between : (lo hi : ℕ) (rs : List Range) → lo ≤ hi + 1 → AreInOrder lo rs hi →
+      among (blocks_between lo rs hi) + number lo ≤ number (hi + 1)
   few_between lo hi [] l h = gap_before_few lo (hi + 1) l
   few_between lo hi (r ∷ rs) l h =
       let rest = blocks_between (r.end + 1) rs hi in
@@ -129,18 +167,26 @@ counts_parts w n a z = record {
       let parts = and_parts (leb (common w k).start (common w k).end) (is_too_short n a (free_block (common w k))) e in
       let m = ((too_short_is_exact n a (free_block (common w k)) z).0 parts.1).1 in
       let some = leb-true _ _ parts.0 in
-      increases_past a (moved_in w k.start) m.0 (moved_in w (k.end + 1)) (omega (arith, m.2.0, m.2.1, some)) (omega (arith, m.2.0, m.2.1, some)) m.1;
-  held = λ r. and_right (leb (common w r).start (common w r).end) (is_too_short n a (held_block (common w r))) (held_never n a (common w r));
+      increases_past a (moved_in w k.start) m.0 (moved_in w (k.end + 1)) (omega (arith, m.2.0, m.2.1, some))
+      (omega (arith, m.2.0, m.2.1, some)) m.1;
+  held = λ r. and_right (leb (common w r).start (common w r).end) (is_too_short n a (held_block (common w r)))
+      (held_never n a (common w r));
 }
 
-few_pass : (window : Option Range) (n a : ℕ) (state : AddressState) → IsAddressState state → 0 < a → passing window (is_too_short n a) (blocks_of state) ≤ multiples_in a (within window state).space
+few_pass : (window : Option Range) (n a : ℕ) (state : AddressState) → IsAddressState state → 0 < a →
+    passing window (is_too_short n a) (blocks_of state) ≤ multiples_in a (within window state).space
 unfolding blocks_of multiples_in
 few_pass None n a state h z =
-    omega (arith, few_between (is_too_short n a) (multiples_below a) (counts_gaps n a z) state.space.start state.space.end state.held (omega (arith, h.space.0)) h.in_order)
+    omega (
+      arith,
+      few_between (is_too_short n a) (multiples_below a) (counts_gaps n a z) state.space.start state.space.end state.held
+          (omega (arith, h.space.0)) h.in_order,
+    )
 few_pass (Some w) n a state h z =
     let lo = state.space.start in
     let hi = state.space.end in
-    let few = few_between (on_part w (is_too_short n a)) (λ x. multiples_below a (moved_in w x)) (counts_parts w n a z) lo hi state.held (omega (arith, h.space.0)) h.in_order in
+    let few = few_between (on_part w (is_too_short n a)) (λ x. multiples_below a (moved_in w x)) (counts_parts w n a z) lo hi state.held
+    (omega (arith, h.space.0)) h.in_order in
     ⊎_elim
     (λ (k : (common w state.space).end < (common w state.space).start).
     let none : moved_in w lo ≡ moved_in w (hi + 1) = omega (arith, k, h.space.0) in

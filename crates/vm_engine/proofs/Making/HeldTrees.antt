@@ -1,5 +1,40 @@
 -- The tree of the blocks of a space with some ranges held.
-use Rattle.std.proofs.Common.{◌≡◌, ◌≢◌, ltb, eqb, cond, true, false, ℕ, ◌+◌, ◌-◌, ◌^◌, ◌≤◌, ◌<◌, List, [], ◌∷◌, length, Some, None, Option, MatchOption, ◌⊎◌, Result, Ok, Err, refl, sym, ap, ◌∙◌, arith, subst, ⊎_elim, inl, inr}
+use Rattle.std.proofs.Common.{
+  ◌≡◌,
+  ◌≢◌,
+  ltb,
+  eqb,
+  cond,
+  true,
+  false,
+  ℕ,
+  ◌+◌,
+  ◌-◌,
+  ◌^◌,
+  ◌≤◌,
+  ◌<◌,
+  List,
+  [],
+  ◌∷◌,
+  length,
+  Some,
+  None,
+  Option,
+  MatchOption,
+  ◌⊎◌,
+  Result,
+  Ok,
+  Err,
+  refl,
+  sym,
+  ap,
+  ◌∙◌,
+  arith,
+  subst,
+  ⊎_elim,
+  inl,
+  inr,
+}
 use Rattle.vm_ranges.specs.Range.{Range, MAX, IsRange, address_count}
 use Rattle.vm_engine.specs.Address.{AddressState, IsAddressState}
 use Rattle.vm_tree.specs.Building.{AreInOrder}
@@ -27,7 +62,9 @@ below_max : (lo hi : ℕ) (rs : List Range) → AreInOrder lo rs hi → AreBelow
 below_max lo hi [] s = tt
 below_max lo hi (r ∷ rs) s = (s.3, below_max (r.end + 1) hi rs s.4)
 
-module _ (space : Range) (held : List Range) (range : IsRange space.start space.end) (order : AreInOrder space.start held space.end) (n : ℕ) (count : n ≡ length (blocks_between space.start held space.end)) (few : n < 2 ^ 49) (s : Shape) (built : IsBuiltTree (blocks_between space.start held space.end) s) where
+module _ (space : Range) (held : List Range) (range : IsRange space.start space.end) (order : AreInOrder space.start held space.end) (n : ℕ)
+    (count : n ≡ length (blocks_between space.start held space.end)) (few : n < 2 ^ 49) (s : Shape)
+    (built : IsBuiltTree (blocks_between space.start held space.end) s) where
   abbrev state : AddressState
   state = record { space = space; held = held }
 
@@ -51,7 +88,8 @@ module _ (space : Range) (held : List Range) (range : IsRange space.start space.
   pub held_counted : length held ≤ n
   held_counted = omega (arith, count, all_blocks (blocks s), ap length held_are, ap length built.blocks)
 
-  pub built_counted : (clear : ℕ) → clear + count_of held ≡ address_count space → IsCountedTree s space (length held) (n - length held) clear
+  pub built_counted : (clear : ℕ) → clear + count_of held ≡ address_count space →
+      IsCountedTree s space (length held) (n - length held) clear
   unfolding TilesSpace
   built_counted clear f =
       let all = all_counted Allocated space.start space.end (blocks s) tiling.tiles in
@@ -66,7 +104,8 @@ module _ (space : Range) (held : List Range) (range : IsRange space.start space.
   pub built_state : tree_state s ≡ state
   built_state =
       let e = space_tiled space (blocks s) tiling.tiles range.0 in
-      ap (λ (v : Range). record { space = v; held = held_of (blocks s) }) e ∙ ap (λ (v : List Range). record { space = space; held = v }) held_are
+      ap (λ (v : Range). record { space = v; held = held_of (blocks s) }) e
+      ∙ ap (λ (v : List Range). record { space = space; held = v }) held_are
 
   pub built_is_state : IsAddressState (tree_state s)
   built_is_state = subst IsAddressState (sym built_state) (record { space = range; in_order = order })
@@ -74,18 +113,23 @@ module _ (space : Range) (held : List Range) (range : IsRange space.start space.
 -- The error of ranges that cannot be held is never OutOfMemory.
 range_fault_known : (lo hi : ℕ) (r : Range) → range_fault lo hi r ≢ Some OutOfMemory
 range_fault_known lo hi r =
-    elim (ltb r.start lo) as (λ v. cond v (Some ResourceNotAvailable) (cond (eqb r.start MAX) (Some Overflow) (cond (ltb hi r.end) (Some ResourceNotAvailable) (cond (eqb r.end MAX) (Some Overflow) None))) ≢ Some OutOfMemory) [
+    elim (ltb r.start lo) as (λ v. cond v (Some ResourceNotAvailable)
+    (cond (eqb r.start MAX) (Some Overflow) (cond (ltb hi r.end) (Some ResourceNotAvailable) (cond (eqb r.end MAX) (Some Overflow) None))) ≢
+    Some OutOfMemory) [
       | true ↦ λ k. cc k
-      | false ↦ elim (eqb r.start MAX) as (λ v. cond v (Some Overflow) (cond (ltb hi r.end) (Some ResourceNotAvailable) (cond (eqb r.end MAX) (Some Overflow) None)) ≢ Some OutOfMemory) [
-        | true ↦ λ k. cc k
-        | false ↦ elim (ltb hi r.end) as (λ v. cond v (Some ResourceNotAvailable) (cond (eqb r.end MAX) (Some Overflow) None) ≢ Some OutOfMemory) [
-          | true ↦ λ k. cc k
-          | false ↦ elim (eqb r.end MAX) as (λ v. cond v (Some Overflow) None ≢ Some OutOfMemory) [
+      | false ↦ elim (eqb r.start MAX) as
+          (λ v. cond v (Some Overflow) (cond (ltb hi r.end) (Some ResourceNotAvailable) (cond (eqb r.end MAX) (Some Overflow) None)) ≢ Some
+          OutOfMemory) [
             | true ↦ λ k. cc k
-            | false ↦ λ k. cc k
+            | false ↦ elim (ltb hi r.end) as
+                (λ v. cond v (Some ResourceNotAvailable) (cond (eqb r.end MAX) (Some Overflow) None) ≢ Some OutOfMemory) [
+                  | true ↦ λ k. cc k
+                  | false ↦ elim (eqb r.end MAX) as (λ v. cond v (Some Overflow) None ≢ Some OutOfMemory) [
+                    | true ↦ λ k. cc k
+                    | false ↦ λ k. cc k
+                  ]
+                ]
           ]
-        ]
-      ]
     ]
 
 pub first_fault_known : (lo hi : ℕ) (rs : List Range) → first_fault lo hi rs ≢ Some OutOfMemory
@@ -96,36 +140,44 @@ first_fault_known lo hi (r ∷ rs) =
       | Some e ↦ λ n. n
     ] (range_fault_known lo hi r)
 
-pub makes_fault : (space : Range) (held : List Range) (e : Error) → first_fault space.start space.end held ≡ Some e → MakesHeld space held (Err e)
+pub makes_fault : (space : Range) (held : List Range) (e : Error) → first_fault space.start space.end held ≡ Some e →
+    MakesHeld space held (Err e)
 unfolding MakesHeld
 makes_fault space held e f = rw f refl
 
-pub makes_high : (space : Range) (held : List Range) (n : ℕ) → first_fault space.start space.end held ≡ None → n ≡ length (blocks_between space.start held space.end) → 2 ^ 49 ≤ n → MakesHeld space held (Err Overflow)
+pub makes_high : (space : Range) (held : List Range) (n : ℕ) → first_fault space.start space.end held ≡ None →
+    n ≡ length (blocks_between space.start held space.end) → 2 ^ 49 ≤ n → MakesHeld space held (Err Overflow)
 unfolding MakesHeld blocks_of
 makes_high space held n f c l = rw f (inl (omega arith, refl))
 
-pub makes_memory : (space : Range) (held : List Range) (n : ℕ) → first_fault space.start space.end held ≡ None → n ≡ length (blocks_between space.start held space.end) → n < 2 ^ 49 → MakesHeld space held (Err OutOfMemory)
+pub makes_memory : (space : Range) (held : List Range) (n : ℕ) → first_fault space.start space.end held ≡ None →
+    n ≡ length (blocks_between space.start held space.end) → n < 2 ^ 49 → MakesHeld space held (Err OutOfMemory)
 unfolding MakesHeld blocks_of
 makes_memory space held n f c l = rw f (inr (λ h. omega (arith, h), inr refl))
 
 -- The state that is made is the one that was asked for.
-made_is : (o : Option Error) (many : Type 0) (answer : Result AddressState Error) (state made : AddressState) → MatchOption o (IfElse many (answer ≡ Err Overflow) ((answer ≡ Ok state) ⊎ (answer ≡ Err OutOfMemory))) (λ fault. answer ≡ Err fault) → answer ≡ Ok made → made ≡ state
+made_is : (o : Option Error) (many : Type 0) (answer : Result AddressState Error) (state made : AddressState) →
+    MatchOption o (IfElse many (answer ≡ Err Overflow) ((answer ≡ Ok state) ⊎ (answer ≡ Err OutOfMemory))) (λ fault. answer ≡ Err fault) →
+    answer ≡ Ok made → made ≡ state
 made_is None many answer state made h e = ⊎_elim (λ l. absurd (cc (l.1, e))) (λ r. ⊎_elim (λ k. cc (k, e)) (λ k. absurd (cc (k, e))) r.1) h
 made_is (Some f) many answer state made h e = absurd (cc (h, e))
 
-pub held_made : (space : Range) (held : List Range) (made : AddressState) → MakesHeld space held (Ok made) → made ≡ record { space = space; held = held }
+pub held_made : (space : Range) (held : List Range) (made : AddressState) → MakesHeld space held (Ok made) →
+    made ≡ record { space = space; held = held }
 unfolding MakesHeld
 held_made space held made m =
     let state : AddressState = record { space = space; held = held } in
     made_is (first_fault space.start space.end held) (TOO_MANY_BLOCKS ≤ length (blocks_of state)) (Ok made) state made m refl
 
-pub makes_tree : (space : Range) (held : List Range) (n : ℕ) (made : AddressState) → first_fault space.start space.end held ≡ None → n ≡ length (blocks_between space.start held space.end) → n < 2 ^ 49 →
+pub makes_tree : (space : Range) (held : List Range) (n : ℕ) (made : AddressState) → first_fault space.start space.end held ≡ None →
+    n ≡ length (blocks_between space.start held space.end) → n < 2 ^ 49 →
     made ≡ record { space = space; held = held } → MakesHeld space held (Ok made)
 unfolding MakesHeld blocks_of
 makes_tree space held n made f c l e = rw f (inr (λ h. omega (arith, h), inl (ap (λ (v : AddressState). Ok v) e)))
 
 -- Ranges that can be held are counted, and their blocks are few.
-pub held_are_few : (space : Range) (held : List Range) (n : ℕ) → CanBeHeld space held → n ≡ length (blocks_between space.start held space.end) → n < 2 ^ 49
+pub held_are_few : (space : Range) (held : List Range) (n : ℕ) → CanBeHeld space held →
+    n ≡ length (blocks_between space.start held space.end) → n < 2 ^ 49
 unfolding blocks_of
 held_are_few space held n can c = let few = can.few in omega (arith, few)
 

@@ -1,5 +1,35 @@
 -- The counts of a tree after the allocation for a request.
-use Rattle.std.proofs.Common.{◌≡◌, ℕ, ◌+◌, ◌-◌, ◌^◌, ◌<◌, ◌≤◌, ◌⊎◌, true, false, Bool, List, ◌∷◌, ◌++◌, length, refl, sym, ap, ◌∙◌, subst, arith, inl, inr, ⊎_elim, Result, Ok, Err, length-append, ltb}
+use Rattle.std.proofs.Common.{
+  ◌≡◌,
+  ℕ,
+  ◌+◌,
+  ◌-◌,
+  ◌^◌,
+  ◌<◌,
+  ◌≤◌,
+  ◌⊎◌,
+  true,
+  false,
+  Bool,
+  List,
+  ◌∷◌,
+  ◌++◌,
+  length,
+  refl,
+  sym,
+  ap,
+  ◌∙◌,
+  subst,
+  arith,
+  inl,
+  inr,
+  ⊎_elim,
+  Result,
+  Ok,
+  Err,
+  length-append,
+  ltb,
+}
 use Rattle.std.proofs.lemmas.Bool.{cases_lt, lt-ltb, le-ltb}
 use Rattle.vm_ranges.specs.Cases.{IsTestOf}
 use Rattle.vm_ranges.specs.Range.{Range, MAX, address_count}
@@ -36,7 +66,9 @@ not_split k r n =
     (⊎_elim (λ (l : r.end < k.end). absurd (n (inr l))) (λ (l : k.end ≤ r.end). l) (cases_lt r.end k.end))
 
 -- ---- A range that was taken
-module _ (s m : Shape) (can_split : Bool) (n : ℕ) (taken : Taken) (h : IsSpaceTree s) (few : IsTestOf can_split (length (held_of (blocks s)) < SPLIT_LIMIT_MIN_HELD)) (z : 0 < n) (t : Takes can_split n (blocks s) (blocks m) taken) where
+module _ (s m : Shape) (can_split : Bool) (n : ℕ) (taken : Taken) (h : IsSpaceTree s)
+    (few : IsTestOf can_split (length (held_of (blocks s)) < SPLIT_LIMIT_MIN_HELD)) (z : 0 < n)
+    (t : Takes can_split n (blocks s) (blocks m) taken) where
   abbrev range : Range
   range = range_at t.search t.range.place
 
@@ -48,7 +80,8 @@ module _ (s m : Shape) (can_split : Bool) (n : ℕ) (taken : Taken) (h : IsSpace
   holds_range =
       let sp = space_of (blocks s) in
       let from = taken_from sp (blocks s) h.tiling.tiles t.search (omega (arith, t.size, z)) t.range.place t.range.cut t.range.in_gap in
-      let k = blocks_split (tree_state s) (blocks s) t.range.place.lower t.range.place.upper (free_block t.range.place.key) range (as_blocks sp (blocks s) h.tiling.tiles) t.range.cut refl from in
+      let k = blocks_split (tree_state s) (blocks s) t.range.place.lower t.range.place.upper (free_block t.range.place.key) range
+      (as_blocks sp (blocks s) h.tiling.tiles) t.range.cut refl from in
       subst (IsBlocksOf (holding range (tree_state s))) (sym t.range.at.blocks) k
 
   longer : length (blocks m) ≡ length (blocks s) + taken.added
@@ -68,7 +101,8 @@ module _ (s m : Shape) (can_split : Bool) (n : ℕ) (taken : Taken) (h : IsSpace
       let l = length_with range (held_of (blocks s)) in
       omega arith
   few_split false e =
-      let none : length (parts t.range.place.key range) ≡ 1 = not_split t.range.place.key range (λ k. absurd (cc (t.range.at.low k, t.split, e))) in
+      let none : length (parts t.range.place.key range)
+      ≡ 1 = not_split t.range.place.key range (λ k. absurd (cc (t.range.at.low k, t.split, e))) in
       omega (arith, longer, none, t.range.at.added, h.few)
 
   pub takes_one : TakesOne s m taken.range taken.added
@@ -80,20 +114,23 @@ module _ (s m : Shape) (can_split : Bool) (n : ℕ) (taken : Taken) (h : IsSpace
   }
 
 -- ---- The result of the call
-limit_tested : (held : ℕ) (bs : List Block) → held ≡ length (held_of bs) → IsTestOf (ltb held SPLIT_LIMIT_MIN_HELD) (length (held_of bs) < SPLIT_LIMIT_MIN_HELD)
+limit_tested : (held : ℕ) (bs : List Block) → held ≡ length (held_of bs) →
+    IsTestOf (ltb held SPLIT_LIMIT_MIN_HELD) (length (held_of bs) < SPLIT_LIMIT_MIN_HELD)
 limit_tested held bs e =
     ⊎_elim
     (λ (l : held < SPLIT_LIMIT_MIN_HELD). rw (lt-ltb held SPLIT_LIMIT_MIN_HELD l) (omega arith))
     (λ (l : SPLIT_LIMIT_MIN_HELD ≤ held). rw (le-ltb held SPLIT_LIMIT_MIN_HELD l) (λ k. omega arith))
     (cases_lt held SPLIT_LIMIT_MIN_HELD)
 
-module _ (s m : Shape) (space : Range) (held gaps clear : ℕ) (request : Request) (count : ℕ) (h : IsCountedTree s space held gaps clear) where
+module _ (s m : Shape) (space : Range) (held gaps clear : ℕ) (request : Request) (count : ℕ)
+    (h : IsCountedTree s space held gaps clear) where
   state_is : blocks_state space (blocks s) ≡ tree_state s
   state_is = ap (λ (v : Range). blocks_state v (blocks s)) h.is_space
 
   -- What is true for the state of the space is true for that of the tree.
   module _ (answer : Result Taken Error) (a : IsAllocation request space (ltb held SPLIT_LIMIT_MIN_HELD) s m answer count) where
-    pub search_tree : SearchesGaps (height_of s) (tree_state s) request (taken_range answer) count × SearchesAligned (height_of s) (tree_state s) request (taken_range answer) count
+    pub search_tree : SearchesGaps (height_of s) (tree_state s) request (taken_range answer) count
+        × SearchesAligned (height_of s) (tree_state s) request (taken_range answer) count
     search_tree =
         let g = subst (λ (v : AddressState). SearchesAligned (height_of s) v request (taken_range answer) count) state_is a.search in
         (aligned_searches (height_of s) (tree_state s) request (taken_range answer) count g, g)
@@ -109,14 +146,16 @@ module _ (s m : Shape) (space : Range) (held gaps clear : ℕ) (request : Reques
     refused_state = rw a.unchanged (state_of_tree s h.tree)
 
   -- ---- A range
-  module _ (taken : Taken) (z : 0 < request.size) (a : IsAllocation request space (ltb held SPLIT_LIMIT_MIN_HELD) s m (Ok taken) count) where
+  module _ (taken : Taken) (z : 0 < request.size)
+      (a : IsAllocation request space (ltb held SPLIT_LIMIT_MIN_HELD) s m (Ok taken) count) where
     one : TakesOne s m taken.range taken.added
     one = takes_one s m (ltb held SPLIT_LIMIT_MIN_HELD) request.size taken h.tree (limit_tested held (blocks s) h.held_count) z a.taken
 
     length_is : request.size ≡ address_count taken.range
     length_is = let e = a.taken.range.at.range in rw e (omega (arith, z, a.taken.size))
 
-    pub taken_new : (gap clears : ℕ) → gap ≡ taken.added → clears ≡ request.size → IsCountedTree m space (held + 1) (gaps + gap - 1) (clear - clears)
+    pub taken_new : (gap clears : ℕ) → gap ≡ taken.added → clears ≡ request.size →
+        IsCountedTree m space (held + 1) (gaps + gap - 1) (clear - clears)
     taken_new gap clears e f = rw e (taken_counted s m space taken.range held gaps clear taken.added h one clears (f ∙ length_is))
 
     pub taken_gaps : (gap : ℕ) → gap ≡ taken.added → (1 ≤ gaps + gap) × (gaps + gap < 2 ^ 50)
@@ -132,4 +171,5 @@ module _ (s m : Shape) (space : Range) (held gaps clear : ℕ) (request : Reques
     granted_state = state_of_tree m (taken_new taken.added request.size refl refl).tree
 
     pub granted_tree : Grants (tree_state s) request (Ok taken.range) (tree_state m)
-    granted_tree = grants_if (Ok taken) a (ap (λ (v : Range). blocks_state v (blocks m)) (sym (taken_new taken.added request.size refl refl).is_space))
+    granted_tree = grants_if (Ok taken) a
+        (ap (λ (v : Range). blocks_state v (blocks m)) (sym (taken_new taken.added request.size refl refl).is_space))

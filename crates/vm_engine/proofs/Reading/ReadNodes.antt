@@ -30,7 +30,8 @@ node_encoded d n e =
     let encoded : EncodesNode d b (λ v. v ≡ left.0) (λ v. v ≡ right.0) height.0 = record {
       five_fields = count-true 5 (field_count d) five.0;
       key = field_is (codes "key") d key_at.0 (λ v. EncodesRange v key.0) key_at.1 (ranges.found-states key_at.0 key.0 key_at.2);
-      node_state = field_is (codes "node_state") d state_at.0 (λ v. EncodesState v state.0) state_at.1 (states.found-states state_at.0 state.0 state_at.2);
+      node_state = field_is (codes "node_state") d state_at.0 (λ v. EncodesState v state.0) state_at.1
+          (states.found-states state_at.0 state.0 state_at.2);
       left = field_is (codes "left") d left.0 (λ v. v ≡ left.0) left.1 refl;
       right = field_is (codes "right") d right.0 (λ v. v ≡ right.0) right.1 refl;
       height = height.1;
@@ -38,7 +39,8 @@ node_encoded d n e =
     subst (λ (m : NodeData). EncodesNode d m.block (λ v. v ≡ m.left) (λ v. v ≡ m.right) m.height) right.2 encoded
 
 -- The facts about the values of the children can be replaced.
-pub sides_map : (d : Data) (b : Block) (L R P Q : Data → Type 0) (h : ℕ) → ((v : Data) → L v → P v) → ((v : Data) → R v → Q v) → EncodesNode d b L R h → EncodesNode d b P Q h
+pub sides_map : (d : Data) (b : Block) (L R P Q : Data → Type 0) (h : ℕ) → ((v : Data) → L v → P v) → ((v : Data) → R v → Q v) →
+    EncodesNode d b L R h → EncodesNode d b P Q h
 sides_map d b L R P Q h f g n = record {
   five_fields = n.five_fields;
   key = n.key;
@@ -49,22 +51,35 @@ sides_map d b L R P Q h f g n = record {
 }
 
 -- A value with these fields is a node over the values of its children.
-pub over_sides : (d : Data) (n : NodeData) (L R : Data → Type 0) (h : ℕ) → decoded_node d ≡ Some n → n.height ≡ h → L n.left → R n.right → EncodesNode d n.block L R h
+pub over_sides : (d : Data) (n : NodeData) (L R : Data → Type 0) (h : ℕ) → decoded_node d ≡ Some n → n.height ≡ h → L n.left → R n.right →
+    EncodesNode d n.block L R h
 over_sides d n L R h e is l r =
-    let at : EncodesNode d n.block (λ v. v ≡ n.left) (λ v. v ≡ n.right) h = subst (EncodesNode d n.block (λ v. v ≡ n.left) (λ v. v ≡ n.right)) is (node_encoded d n e) in
+    let at : EncodesNode d n.block (λ v. v ≡ n.left) (λ v. v ≡ n.right) h = subst
+    (EncodesNode d n.block (λ v. v ≡ n.left) (λ v. v ≡ n.right)) is (node_encoded d n e) in
     sides_map d n.block (λ v. v ≡ n.left) (λ v. v ≡ n.right) L R h (λ v s. subst L (sym s) l) (λ v s. subst R (sym s) r) at
 
 abbrev pub data_of : Block → ℕ → Data → Data → NodeData
 data_of b h l r = record { block = b; height = h; left = l; right = r }
 
 -- The fields of a node's value are decoded.
-pub node_is : (d : Data) (b : Block) (L R : Data → Type 0) (h : ℕ) → EncodesNode d b L R h → (l : Data) × (r : Data) × (decoded_node d ≡ Some (data_of b h l r)) × L l × R r
+pub node_is : (d : Data) (b : Block) (L R : Data → Type 0) (h : ℕ) → EncodesNode d b L R h →
+    (l : Data) × (r : Data) × (decoded_node d ≡ Some (data_of b h l r)) × L l × R r
 node_is d b L R h n =
     let key_at = in_field (codes "key") d (λ v. EncodesRange v b.key) n.key in
     let state_at = in_field (codes "node_state") d (λ v. EncodesState v b.state) n.node_state in
     let left_at = in_field (codes "left") d L n.left in
     let right_at = in_field (codes "right") d R n.right in
-    let is : decoded_node d ≡ Some (data_of b h left_at.0 right_at.0) = rw (true-count 5 (field_count d) n.five_fields, key_at.1, ranges.states-found key_at.0 b.key key_at.2, state_at.1, states.states-found state_at.0 b.state state_at.2, n.height, left_at.1, right_at.1) refl in
+    let is : decoded_node d ≡ Some (data_of b h left_at.0 right_at.0) = rw (
+      true-count 5 (field_count d) n.five_fields,
+      key_at.1,
+      ranges.states-found key_at.0 b.key key_at.2,
+      state_at.1,
+      states.states-found
+          state_at.0 b.state state_at.2,
+      n.height,
+      left_at.1,
+      right_at.1,
+    ) refl in
     (left_at.0, right_at.0, is, left_at.2, right_at.2)
 
 -- The nodes of a value.
@@ -74,14 +89,16 @@ pub shape_nodes : (s : NodeTree) (d : Data) → EncodesShape d s → HasNodes d 
 shape_nodes Tip d p = p
 shape_nodes (Fork l b r) d p = (
   max (height_of l) (height_of r) + 1,
-  sides_map d b (λ v. EncodesShape v l) (λ v. EncodesShape v r) (λ v. HasNodes v l) (λ v. HasNodes v r) (max (height_of l) (height_of r) + 1) (λ v. shape_nodes l v) (λ v. shape_nodes r v) p,
+  sides_map d b (λ v. EncodesShape v l) (λ v. EncodesShape v r) (λ v. HasNodes v l) (λ v. HasNodes v r)
+      (max (height_of l) (height_of r) + 1) (λ v. shape_nodes l v) (λ v. shape_nodes r v) p,
 )
 
 pub no_data : (d : Data) (n : NodeData) → d ≡ null → decoded_node d ≡ Some n → ⊥
 no_data d n z e = let f : decoded_node null ≡ Some n = subst (λ (v : Data). decoded_node v ≡ Some n) z e in cc
 
 -- The fields of a node of a value.
-pub fork_is : (d : Data) (l r : NodeTree) (b : Block) → HasNodes d (Fork l b r) → (n : NodeData) × (decoded_node d ≡ Some n) × (n.block ≡ b) × HasNodes n.left l × HasNodes n.right r
+pub fork_is : (d : Data) (l r : NodeTree) (b : Block) → HasNodes d (Fork l b r) →
+    (n : NodeData) × (decoded_node d ≡ Some n) × (n.block ≡ b) × HasNodes n.left l × HasNodes n.right r
 fork_is d l r b p =
     let n = node_is d b (λ v. HasNodes v l) (λ v. HasNodes v r) p.0 p.1 in
     (data_of b p.0 n.0 n.1, n.2, refl, n.3, n.4)

@@ -20,13 +20,15 @@ use Rattle.vm_engine.proofs.SavedNodes.ValueLaws.{strict_nodes}
 use Rattle.vm_engine.proofs.SavedNodes.ValueTrees.{ranges_saved, one_saved}
 
 -- A value that encodes a tree of the space is read.
-saved_in : (d : Data) (space : Range) (state : AddressState) → IsRange space.start space.end → EncodesSpaceTree d space state → (span : Option Span) × (t : Saved) × IsSavedIn 0 d span t
+saved_in : (d : Data) (space : Range) (state : AddressState) → IsRange space.start space.end → EncodesSpaceTree d space state →
+    (span : Option Span) × (t : Saved) × IsSavedIn 0 d span t
 unfolding TilesSpace
 saved_in d space state range p =
     let t = strict_nodes d space state p in
     let whole = t.2.tree in
     let nested = whole.nested in
-    let keys = keys_within space.start 0 space.end MAX (saved_blocks t.0) (omega arith) range.1 (tiles_keys Allocated space.start space.end (saved_blocks t.0) whole.blocks.tiles) in
+    let keys = keys_within space.start 0 space.end MAX (saved_blocks t.0) (omega arith) range.1
+    (tiles_keys Allocated space.start space.end (saved_blocks t.0) whole.blocks.tiles) in
     let readable : IsReadable t.0 = record { nested = omega arith; keys = keys; below = whole.blocks.below } in
     let ranges = ranges_saved t.0 d t.1 in
     let o = complete t.0 ranges readable in
@@ -40,16 +42,19 @@ one_encoded d space a b p q =
     ap (λ (v : Range). state_with v a.held) (p.is_space ∙ sym q.is_space) ∙ ap (state_with b.space) held
 
 -- The state that a value encodes is valid.
-pub tree_state_valid : (d : Data) (state : AddressState) → IsRange state.space.start state.space.end → EncodesSpaceTree d state.space state → IsAddressState state
+pub tree_state_valid : (d : Data) (state : AddressState) → IsRange state.space.start state.space.end →
+    EncodesSpaceTree d state.space state → IsAddressState state
 tree_state_valid d state range p =
     let i = is_state state.space (blocks p.tree) p.blocks range in
     subst (λ (hs : List Range). IsAddressState (state_with state.space hs)) p.held i
 
 -- ---- The clauses of the code
-pub tree_unread : (d : Data) (space : Range) → IsRange space.start space.end → ¬ ((span : Option Span) × (t : Saved) × IsSavedIn 0 d span t) → ((state : AddressState) × EncodesSpaceTree d space state) → ⊥
+pub tree_unread : (d : Data) (space : Range) → IsRange space.start space.end →
+    ¬ ((span : Option Span) × (t : Saved) × IsSavedIn 0 d span t) → ((state : AddressState) × EncodesSpaceTree d space state) → ⊥
 tree_unread d space range none p = none (saved_in d space p.0 range p.1)
 
-pub not_tree : (d : Data) (space : Range) (o : Option Span) (t : Saved) → EncodesSaved d t → StandsFor o t → is_tree_of space o ≡ false → ((state : AddressState) × EncodesSpaceTree d space state) → ⊥
+pub not_tree : (d : Data) (space : Range) (o : Option Span) (t : Saved) → EncodesSaved d t → StandsFor o t → is_tree_of space o ≡ false →
+    ((state : AddressState) × EncodesSpaceTree d space state) → ⊥
 not_tree d space o t nodes stands i p =
     let u = strict_nodes d space p.0 p.1 in
     strict_none space o t stands i (p.0, subst (λ (v : Saved). HasTreeOf space v p.0) (one_saved u.0 t d u.1 nodes) u.2)

@@ -13,7 +13,8 @@ use Rattle.vm_engine.specs.Values.TreeValues.{EncodesNode}
 use Rattle.vm_engine.proofs.Reading.ReadNodes.{sides_map}
 
 -- If the values encode the block and the children, the object encodes the node.
-pub encodes_parts : (d key state left right : Data) (h : ℕ) (k : Range) (s : NodeState) → NodeParts d key state left right h → EncodesRange key k → EncodesState state s →
+pub encodes_parts : (d key state left right : Data) (h : ℕ) (k : Range) (s : NodeState) → NodeParts d key state left right h →
+    EncodesRange key k → EncodesState state s →
     EncodesNode d (record { key = k; state = s }) (λ v. v ≡ left) (λ v. v ≡ right) h
 encodes_parts d key state left right h k s p key_encoded state_encoded = record {
   five_fields = p.five_fields;
@@ -27,6 +28,8 @@ encodes_parts d key state left right h k s p key_encoded state_encoded = record 
 pub ruleset parts = (encodes_parts)
 
 -- If the values encode the trees of the children, the object encodes the tree.
-pub encodes_fork : (d left right : Data) (h : ℕ) (b : Block) (l r : Saved) → EncodesNode d b (λ v. v ≡ left) (λ v. v ≡ right) h → EncodesSaved left l → EncodesSaved right r → EncodesSaved d (Node l b r h)
+pub encodes_fork : (d left right : Data) (h : ℕ) (b : Block) (l r : Saved) → EncodesNode d b (λ v. v ≡ left) (λ v. v ≡ right) h →
+    EncodesSaved left l → EncodesSaved right r → EncodesSaved d (Node l b r h)
 encodes_fork d left right h b l r p left_encoded right_encoded =
-    sides_map d b (λ v. v ≡ left) (λ v. v ≡ right) (λ v. EncodesSaved v l) (λ v. EncodesSaved v r) h (λ v e. rw e left_encoded) (λ v e. rw e right_encoded) p
+    sides_map d b (λ v. v ≡ left) (λ v. v ≡ right) (λ v. EncodesSaved v l) (λ v. EncodesSaved v r) h (λ v e. rw e left_encoded)
+    (λ v e. rw e right_encoded) p

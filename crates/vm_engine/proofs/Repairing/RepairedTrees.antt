@@ -23,7 +23,8 @@ use Rattle.vm_engine.proofs.SavedNodes.ValueLaws.{values_have_held_keys}
 use Rattle.vm_engine.proofs.SavedNodes.ValueTrees.{nodes_saved, ranges_saved, one_saved}
 
 -- A value that encodes the keys of the space is read.
-saved_in : (d : Data) (space : Range) (state : AddressState) → space.end ≤ MAX → EncodesKeys d space state → (span : Option Span) × (t : Saved) × IsSavedIn 0 d span t
+saved_in : (d : Data) (space : Range) (state : AddressState) → space.end ≤ MAX → EncodesKeys d space state →
+    (span : Option Span) × (t : Saved) × IsSavedIn 0 d span t
 saved_in d space state v p =
     let t = nodes_saved p.tree d p.nodes in
     let keys = keys_within space.start 0 space.end MAX (blocks p.tree) (omega arith) v p.keys in
@@ -34,7 +35,8 @@ saved_in d space state v p =
     (o.0, t.0, record { nodes = t.1; stands = record { is_span = o.1; ranges = ranges }; nested = omega (arith, nested) })
 
 -- The saved tree of the value holds its keys.
-held_in : (d : Data) (space : Range) (state : AddressState) (t : Saved) → EncodesSaved d t → EncodesKeys d space state → HasHeldKeys space t state
+held_in : (d : Data) (space : Range) (state : AddressState) (t : Saved) → EncodesSaved d t → EncodesKeys d space state →
+    HasHeldKeys space t state
 held_in d space state t nodes p =
     let u = values_have_held_keys.nodes d space state p in
     subst (λ (v : Saved). HasHeldKeys space v state) (one_saved u.0 t d u.1 nodes) u.2
@@ -47,13 +49,15 @@ one_keys d space a b p q =
     ap (λ (v : Range). state_with v a.held) (p.is_space ∙ sym q.is_space) ∙ ap (state_with b.space) held
 
 -- The state that a value encodes is valid.
-pub keys_state : (d : Data) (state : AddressState) → IsRange state.space.start state.space.end → EncodesKeys d state.space state → IsAddressState state
+pub keys_state : (d : Data) (state : AddressState) → IsRange state.space.start state.space.end → EncodesKeys d state.space state →
+    IsAddressState state
 keys_state d state range p =
     let in_order = keys_in_order state.space.start state.space.end (blocks p.tree) p.keys p.below in
     record { space = range; in_order = subst (λ (hs : List Range). AreInOrder state.space.start hs state.space.end) p.held in_order }
 
 -- A value that is read without repairs is read with repairs to the same state, if not too many ranges are held.
-pub strict_keys : (d : Data) (space : Range) (state : AddressState) → EncodesSpaceTree d space state → length state.held ≤ SPLIT_LIMIT_MIN_HELD → EncodesKeys d space state
+pub strict_keys : (d : Data) (space : Range) (state : AddressState) → EncodesSpaceTree d space state →
+    length state.held ≤ SPLIT_LIMIT_MIN_HELD → EncodesKeys d space state
 unfolding TilesSpace
 strict_keys d space state p few =
     let nested = p.nested in
@@ -70,11 +74,14 @@ strict_keys d space state p few =
 
 -- The clauses of the code.
 
-pub keys_unread : (d : Data) (space : Range) → space.end ≤ MAX → ¬ ((span : Option Span) × (t : Saved) × IsSavedIn 0 d span t) → ((state : AddressState) × EncodesKeys d space state) → ⊥
+pub keys_unread : (d : Data) (space : Range) → space.end ≤ MAX → ¬ ((span : Option Span) × (t : Saved) × IsSavedIn 0 d span t) →
+    ((state : AddressState) × EncodesKeys d space state) → ⊥
 keys_unread d space v none p = none (saved_in d space p.0 v p.1)
 
-pub not_inside : (d : Data) (space : Range) (o : Option Span) (t : Saved) → EncodesSaved d t → StandsFor o t → is_inside space o ≡ false → ((state : AddressState) × EncodesKeys d space state) → ⊥
+pub not_inside : (d : Data) (space : Range) (o : Option Span) (t : Saved) → EncodesSaved d t → StandsFor o t → is_inside space o ≡ false →
+    ((state : AddressState) × EncodesKeys d space state) → ⊥
 not_inside d space o t nodes stands i p = repaired_none space o t stands i (p.0, held_in d space p.0 t nodes p.1)
 
-pub keys_read : (d : Data) (space : Range) (t : Saved) (made : AddressState) → EncodesSaved d t → HasHeldKeys space t made → EncodesKeys d space made
+pub keys_read : (d : Data) (space : Range) (t : Saved) (made : AddressState) → EncodesSaved d t → HasHeldKeys space t made →
+    EncodesKeys d space made
 keys_read d space t made nodes h = values_have_held_keys.keys d space made t nodes h

@@ -24,19 +24,22 @@ long_gap_fits state window n a valid some aligned long =
 
 -- ---- The number of clear addresses
 -- A gap, or none, and a held range in front of a list.
-gap_and_rest : (t : Bool) (gap r : Range) (bs : List Block) (n : ℕ) → length (free_of bs) ≤ n → length (free_of (cond t (record { key = gap; state = Free } ∷ []) [] ++ record { key = r; state = Allocated } ∷ bs)) ≤ n + 1
+gap_and_rest : (t : Bool) (gap r : Range) (bs : List Block) (n : ℕ) → length (free_of bs) ≤ n →
+    length (free_of (cond t (record { key = gap; state = Free } ∷ []) [] ++ record { key = r; state = Allocated } ∷ bs)) ≤ n + 1
 gap_and_rest true gap r bs n l = omega (arith, l)
 gap_and_rest false gap r bs n l = omega (arith, l)
 
 few_gaps : (lo hi : ℕ) (rs : List Range) → length (free_of (blocks_between lo rs hi)) ≤ length rs + 1
 few_gaps lo hi [] =
-    elim (ltb lo (hi + 1)) as (λ v. length (free_of (cond v (record { key = record { start = lo; end = hi + 1 - 1 }; state = Free } ∷ []) [])) ≤ 1) [
+    elim (ltb lo (hi + 1)) as (λ v. length
+    (free_of (cond v (record { key = record { start = lo; end = hi + 1 - 1 }; state = Free } ∷ []) [])) ≤ 1) [
       | true ↦ omega arith
       | false ↦ omega arith
     ]
 few_gaps lo hi (r ∷ rs) =
     let rest = blocks_between (r.end + 1) rs hi in
-    let more = gap_and_rest (ltb lo r.start) (record { start = lo; end = r.start - 1 }) r rest (length rs + 1) (few_gaps (r.end + 1) hi rs) in
+    let more = gap_and_rest (ltb lo r.start) (record { start = lo; end = r.start - 1 }) r rest (length rs + 1)
+    (few_gaps (r.end + 1) hi rs) in
     omega (arith, more)
 
 each_at_most : (rs : List Range) → count_of rs ≤ length rs * longest_of rs
@@ -49,5 +52,6 @@ pub clear_are_few : ClearAreFew
 unfolding blocks_of
 clear_are_few state =
     let longest = longest_of (gaps_of state) in
-    let more : length (gaps_of state) * longest ≤ (length state.held + 1) * longest = mul-le-mul (few_gaps state.space.start state.space.end state.held) (omega arith) in
+    let more : length (gaps_of state) * longest
+    ≤ (length state.held + 1) * longest = mul-le-mul (few_gaps state.space.start state.space.end state.held) (omega arith) in
     omega (arith, more, each_at_most (gaps_of state))

@@ -49,7 +49,9 @@ TakesBelowMax old n s answer new = IfElse (s + n - 1 ≡ MAX) ((answer ≡ Err O
 
 -- The result of a request whose chosen place is s.
 module _ (s : ℕ) (old new : AddressState) (answer : Result Range Error) where
-  by_place : (request : Request) → IsChosen request old s → ByPlace request old (λ e. (answer ≡ Err e) × (new ≡ old)) (λ r. AllocatesAt old r answer new) → TakesBelowMax old request.size s answer new
+  by_place : (request : Request) → IsChosen request old s →
+      ByPlace request old (λ e. (answer ≡ Err e) × (new ≡ old)) (λ r. AllocatesAt old r answer new) →
+      TakesBelowMax old request.size s answer new
   unfolding ByPlace
   by_place request c h =
       ⊎_elim
@@ -58,7 +60,8 @@ module _ (s : ℕ) (old new : AddressState) (answer : Result Range Error) where
       h
 
   -- A clear start passes every test except possibly the last.
-  start_chosen : (t n : ℕ) (view : AddressState) (P : Type 0) → 0 < n → t + n - 1 ≤ MAX → s ≡ t → AreClear n view t → (P → TakesBelowMax old n s answer new) → ByStart t n view (λ e. (answer ≡ Err e) × (new ≡ old)) P → TakesBelowMax old n s answer new
+  start_chosen : (t n : ℕ) (view : AddressState) (P : Type 0) → 0 < n → t + n - 1 ≤ MAX → s ≡ t → AreClear n view t →
+      (P → TakesBelowMax old n s answer new) → ByStart t n view (λ e. (answer ≡ Err e) × (new ≡ old)) P → TakesBelowMax old n s answer new
   unfolding ByStart
   start_chosen t n view P z m e clear rest h =
       let inside : IsIn view.space t = (clear t (omega arith) (omega arith)).0 in
@@ -70,24 +73,30 @@ module _ (s : ℕ) (old new : AddressState) (answer : Result Range Error) where
       (given _ _ _ clear (otherwise _ _ _ (clear_not_held n t view z clear) (otherwise _ _ _ (λ o. omega arith) (given _ _ _ inside k.1)))))
       h
 
-  chosen_by : (policy : AllocPolicy) (w : Option Range) (n a : ℕ) → 0 < n → s + n - 1 ≤ MAX → IsChosen (request_in w n a policy) old s → Grants old (request_in w n a policy) answer new → TakesBelowMax old n s answer new
+  chosen_by : (policy : AllocPolicy) (w : Option Range) (n a : ℕ) → 0 < n → s + n - 1 ≤ MAX → IsChosen (request_in w n a policy) old s →
+      Grants old (request_in w n a policy) answer new → TakesBelowMax old n s answer new
   unfolding Grants ByExactPolicy
   chosen_by FirstMatch w n a z m c h = by_place (request_in w n a FirstMatch) c h
   chosen_by LastMatch w n a z m c h = by_place (request_in w n a LastMatch) c h
   chosen_by (ExactMatch t) w n a z m c h =
       let request = request_in w n a (ExactMatch t) in
       let e : s ≡ t = exact_start w n a s t old c in
-      let clear : AreClear n (within w old) t = subst (AreClear n (within w old)) e (place_clear n a s (within w old) (place_in_window request s old c)) in
+      let clear : AreClear n (within w old) t = subst (AreClear n (within w old)) e
+      (place_clear n a s (within w old) (place_in_window request s old c)) in
       start_chosen t n (within w old) _ z (omega arith) e clear (by_place request c) h
 
 -- The result of a valid request is that of `Grants`.
-pub request_grants : (request : Request) (old new : AddressState) (answer : Result Range Error) → IsRequest request → Allocates old request answer new → Grants old request answer new
+pub request_grants : (request : Request) (old new : AddressState) (answer : Result Range Error) → IsRequest request →
+    Allocates old request answer new → Grants old request answer new
 unfolding Allocates ByConstraint
-request_grants request old new answer r h = given _ _ _ r.start (given _ _ _ r.aligned (otherwise _ _ _ (λ k. let z = r.some in omega arith) h))
+request_grants request old new answer r h = given _ _ _ r.start
+    (given _ _ _ r.aligned (otherwise _ _ _ (λ k. let z = r.some in omega arith) h))
 
 -- The chosen place of a valid request is allocated, or Overflow if its range ends at MAX.
-pub allocates_chosen : (request : Request) (s : ℕ) (old new : AddressState) (answer : Result Range Error) → IsRequest request → s + request.size - 1 ≤ MAX → IsChosen request old s → Allocates old request answer new → TakesBelowMax old request.size s answer new
-allocates_chosen request s old new answer r m c h = chosen_by s old new answer request.policy request.window request.size request.align r.some m c (request_grants request old new answer r h)
+pub allocates_chosen : (request : Request) (s : ℕ) (old new : AddressState) (answer : Result Range Error) → IsRequest request →
+    s + request.size - 1 ≤ MAX → IsChosen request old s → Allocates old request answer new → TakesBelowMax old request.size s answer new
+allocates_chosen request s old new answer r m c h = chosen_by s old new answer request.policy request.window request.size request.align
+    r.some m c (request_grants request old new answer r h)
 
 -- A valid request makes a constraint.
 pub no_constraint_fault : (request : Request) (e : Error) → MakesConstraint request (Err e) → IsRequest request → ⊥
@@ -95,14 +104,16 @@ unfolding MakesConstraint ByConstraint
 no_constraint_fault request e h r =
     let bad = given _ _ _ r.start (given _ _ _ r.aligned (otherwise _ _ _ (λ k. let z = r.some in omega arith) h)) in cc
 
-pub allocates_filling : (old new : AddressState) (request : Request) (s : ℕ) (answer : Result Range Error) → Allocates old request answer new → FillsGap old request s → IsOk answer
+pub allocates_filling : (old new : AddressState) (request : Request) (s : ℕ) (answer : Result Range Error) →
+    Allocates old request answer new → FillsGap old request s → IsOk answer
 unfolding AllocatesAt
 allocates_filling old new request s answer h f =
     let m : s + request.size - 1 < MAX = f.below in
     ⊎_elim (λ k. rw k.1.0 refl) (λ k. absurd (f.fills k.0))
     (otherwise _ _ _ (λ k. omega arith) (allocates_chosen request s old new answer f.valid (omega arith) f.chosen h))
 
-pub frees_held : (old new : AddressState) (r : Range) (answer : Result (Unit {0}) Error) → Frees old r answer new → Contains old.held r → IsOk answer
+pub frees_held : (old new : AddressState) (r : Range) (answer : Result (Unit {0}) Error) → Frees old r answer new → Contains old.held r →
+    IsOk answer
 unfolding Frees
 frees_held old new r answer h c =
     ⊎_elim (λ l. rw l.1.0 refl) (λ l. absurd (l.0 c)) h

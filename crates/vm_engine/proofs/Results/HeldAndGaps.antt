@@ -8,12 +8,40 @@ use Rattle.vm_leaf.specs.Blocks.{Tiles}
 use Rattle.vm_engine.specs.Tree.Blocks.{held_of, blocks_of}
 use Rattle.vm_engine.specs.Windows.{within}
 use Rattle.vm_engine.specs.Queries.{gaps_of, longest_of, longest_part, longest_in, count_of, IsRangeAt}
-use Rattle.vm_engine.specs.Laws.QueryLaws.{IsInOne, IsInNone, EachAddressIsInOne, AgreesWithLists, HeldAtAgrees, AgreesWithGaps, GapAtAgrees, IsGap, GapsAreLongest, HeldAndGapsAreBlocks, LongestIsZero, LongestFits, CountsAddUp}
+use Rattle.vm_engine.specs.Laws.QueryLaws.{
+  IsInOne,
+  IsInNone,
+  EachAddressIsInOne,
+  AgreesWithLists,
+  HeldAtAgrees,
+  AgreesWithGaps,
+  GapAtAgrees,
+  IsGap,
+  GapsAreLongest,
+  HeldAndGapsAreBlocks,
+  LongestIsZero,
+  LongestFits,
+  CountsAddUp,
+}
 use Rattle.vm_ranges.specs.declared.state.NodeState.TheVariants.{Allocated}
 use Rattle.vm_engine.proofs.Blocks.PlainWords.{IsHeldAddress, IsHeld, contains_held, held_contains, all_miss, none_holds, held_address}
 use Rattle.vm_engine.proofs.Blocks.Gaps.{in_free_block, free_is_clear}
 use Rattle.vm_engine.proofs.Blocks.HeldSets.{held_lies, one_held}
-use Rattle.vm_engine.proofs.Blocks.GapLists.{FreeOver, free_lies, one_free, in_free, free_over, held_after, held_before, held_or_free, longest_over, one_is_longest, longest_part_over, one_has_longest_part, all_counted}
+use Rattle.vm_engine.proofs.Blocks.GapLists.{
+  FreeOver,
+  free_lies,
+  one_free,
+  in_free,
+  free_over,
+  held_after,
+  held_before,
+  held_or_free,
+  longest_over,
+  one_is_longest,
+  longest_part_over,
+  one_has_longest_part,
+  all_counted,
+}
 use Rattle.vm_engine.proofs.Comparing.Tilings.{held_of-blocks_of}
 use Rattle.vm_tree.proofs.BlockCursors.{between_tiles}
 
@@ -84,7 +112,8 @@ module _ (state : AddressState) (valid : IsAddressState state) where
       let l = free_lies Allocated lo hi (blocks_of state) r tiles over.1 in
       let start : r.start ≡ g.start =
       ⊎_elim
-      (λ (k : r.start < g.start). absurd (is.before (g.start - 1) (omega arith) (gap_clear r (g.start - 1) over.1 (omega arith, omega (arith, over.3, is.some)))))
+      (λ (k : r.start < g.start). absurd
+      (is.before (g.start - 1) (omega arith) (gap_clear r (g.start - 1) over.1 (omega arith, omega (arith, over.3, is.some)))))
       (λ (k : g.start ≤ r.start). omega (arith, over.2))
       (cases_lt r.start g.start) in
       let end : r.end ≡ g.end =
@@ -116,7 +145,8 @@ module _ (state : AddressState) (valid : IsAddressState state) where
   in_no_gap : (x : ℕ) → IsHeldAddress state.held x → IsInNone (gaps_of state) x
   in_no_gap x h = all_miss (gaps_of state) x (λ k. let f = held_range (gaps_of state) x k in free_not_held f.0 x f.1 f.2 h)
 
-  in_one : (x : ℕ) → IsIn state.space x → (IsInOne state.held x × IsInNone (gaps_of state) x) ⊎ (IsInOne (gaps_of state) x × IsInNone state.held x)
+  in_one : (x : ℕ) → IsIn state.space x →
+      (IsInOne state.held x × IsInNone (gaps_of state) x) ⊎ (IsInOne (gaps_of state) x × IsInNone state.held x)
   in_one x i =
       ⊎_elim
       (λ (h : IsHeldAddress (held_of (blocks_of state)) x). inl (in_one_held x (state_held x h), in_no_gap x (state_held x h)))
@@ -171,7 +201,8 @@ module _ (state : AddressState) (valid : IsAddressState state) where
   place_fits_part : (w : Range) (n s : ℕ) → 0 < n → IsPlace n 1 (within (Some w) state) s → n ≤ longest_part w (gaps_of state)
   unfolding IsPlace
   place_fits_part w n s p h =
-      let over = in_gap s (s + n - 1) (omega arith) (λ x i j. let c = h.1 x i (omega arith) in ((omega (arith, c.0.0), omega (arith, c.0.1)), c.1)) in
+      let over = in_gap s (s + n - 1) (omega arith)
+      (λ x i j. let c = h.1 x i (omega arith) in ((omega (arith, c.0.0), omega (arith, c.0.1)), c.1)) in
       let first = (h.1 s (omega arith) (omega arith)).0 in
       let last = (h.1 (s + n - 1) (omega arith) (omega arith)).0 in
       omega (arith, longest_part_over w (gaps_of state) over.0 over.1, over.2, over.3, first.0, last.1)
@@ -189,7 +220,8 @@ module _ (state : AddressState) (valid : IsAddressState state) where
         ),
       )
 
-  fits_in : (window : Option Range) (n : ℕ) → 0 < n → ((s : ℕ) × IsPlace n 1 (within window state) s) ↔ (n ≤ longest_in window (gaps_of state))
+  fits_in : (window : Option Range) (n : ℕ) → 0 < n →
+      ((s : ℕ) × IsPlace n 1 (within window state) s) ↔ (n ≤ longest_in window (gaps_of state))
   fits_in None n p = (λ h. place_fits n h.0 p h.1, λ l. fits_place n p l)
   fits_in (Some w) n p = (λ h. place_fits_part w n h.0 p h.1, λ l. part_fits_place w n p l)
 

@@ -38,7 +38,8 @@ module _ (w : Range) where
   is_listed : (rs : List Range) (r : Range) → IsHeld (meeting w rs) r → IsHeld rs r × (meets w r ≡ true)
   is_listed [] r h = absurd h
   is_listed (q ∷ rs) r h =
-      elim (meets w q) as (λ v. meets w q ≡ v → IsHeld (cond v (q ∷ meeting w rs) (meeting w rs)) r → IsHeld (q ∷ rs) r × (meets w r ≡ true)) [
+      elim (meets w q) as (λ v. meets w q ≡ v → IsHeld (cond v (q ∷ meeting w rs) (meeting w rs)) r → IsHeld (q ∷ rs) r ×
+      (meets w r ≡ true)) [
         | true ↦ λ m k.
             ⊎_elim
             (λ (s : q ≡ r). (inl s, ap (meets w) (sym s) ∙ m))
@@ -52,7 +53,8 @@ module _ (w : Range) where
   none_meets (q ∷ rs) n = rw (false_from_ne_true (meets w q) (n q (inl refl))) (none_meets rs (λ r h. n r (inr h)))
 
   -- The ranges of a list that overlap the window are listed.
-  lists : (rs : List Range) → w.start ≤ w.end → ((r : Range) → IsHeld rs r → r.start ≤ r.end) → (r : Range) → Contains (meeting w rs) r ↔ (Contains rs r × Overlaps w r)
+  lists : (rs : List Range) → w.start ≤ w.end → ((r : Range) → IsHeld rs r → r.start ≤ r.end) → (r : Range) →
+      Contains (meeting w rs) r ↔ (Contains rs r × Overlaps w r)
   unfolding Overlaps
   lists rs p some r = (
     λ c. let i = is_listed rs r (held_contains (meeting w rs) r c) in (contains_held rs r i.0, overlaps_if w r p (some r i.0) i.1),
@@ -65,7 +67,8 @@ module _ (w : Range) where
       let f = held_range rs x h in
       subst (λ (v : List Range). IsHeld v f.0) e (listed rs f.0 f.1 (meets_if w f.0 x i f.2))
 
-  if_missed : (rs : List Range) → w.start ≤ w.end → ((r : Range) → IsHeld rs r → r.start ≤ r.end) → ((x : ℕ) → IsIn w x → ¬ IsHeldAddress rs x) → meeting w rs ≡ []
+  if_missed : (rs : List Range) → w.start ≤ w.end → ((r : Range) → IsHeld rs r → r.start ≤ r.end) →
+      ((x : ℕ) → IsIn w x → ¬ IsHeldAddress rs x) → meeting w rs ≡ []
   unfolding Overlaps
   if_missed rs p some n =
       none_meets rs (λ r h m. let o = overlaps_if w r p (some r h) m in n o.0 o.1 (held_address rs r o.0 h o.2))
@@ -91,7 +94,8 @@ module _ (state : AddressState) (w : Range) (valid : IsAddressState state) (p : 
           (in_space x i, all_miss state.held x (missed_if w state.held e x i)),
     );
     held = (
-      λ n. if_missed w (gaps_of state) p gap_some (λ x i h. let f = held_range (gaps_of state) x h in n x i (gap_clear state valid f.0 x f.1 f.2)),
+      λ n. if_missed w (gaps_of state) p gap_some
+          (λ x i h. let f = held_range (gaps_of state) x h in n x i (gap_clear state valid f.0 x f.1 f.2)),
       λ e x i c. missed_if w (gaps_of state) e x i (clear_gap state valid x c),
     );
   }

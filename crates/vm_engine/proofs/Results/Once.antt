@@ -15,7 +15,8 @@ use Rattle.vm_ranges.specs.declared.constraint.AllocPolicy.TheVariants.{FirstMat
 use Rattle.vm_ranges.proofs.TwoFacts.{if_same, unless_same}
 
 -- A request has at most one chosen place.
-chosen_by : (policy : AllocPolicy) (w : Option Range) (n a s t : ℕ) (state : AddressState) → IsChosen (request_in w n a policy) state s → IsChosen (request_in w n a policy) state t → s ≡ t
+chosen_by : (policy : AllocPolicy) (w : Option Range) (n a s t : ℕ) (state : AddressState) → IsChosen (request_in w n a policy) state s →
+    IsChosen (request_in w n a policy) state t → s ≡ t
 unfolding IsChosen IsLowestPlace IsHighestPlace
 chosen_by FirstMatch w n a s t state p q = omega (arith, p.1 t q.0, q.1 s p.0)
 chosen_by LastMatch w n a s t state p q = omega (arith, p.1 t q.0, q.1 s p.0)
@@ -25,13 +26,15 @@ pub chosen_once : (request : Request) (s t : ℕ) (state : AddressState) → IsC
 chosen_once request s t state = chosen_by request.policy request.window request.size request.align s t state
 
 -- The chosen place is a place in the window.
-place_by : (policy : AllocPolicy) (w : Option Range) (n a s : ℕ) (state : AddressState) → IsChosen (request_in w n a policy) state s → IsPlace n a (within w state) s
+place_by : (policy : AllocPolicy) (w : Option Range) (n a s : ℕ) (state : AddressState) → IsChosen (request_in w n a policy) state s →
+    IsPlace n a (within w state) s
 unfolding IsChosen IsLowestPlace IsHighestPlace
 place_by FirstMatch w n a s state p = p.0
 place_by LastMatch w n a s state p = p.0
 place_by (ExactMatch u) w n a s state p = p.1
 
-pub place_in_window : (request : Request) (s : ℕ) (state : AddressState) → IsChosen request state s → IsPlace request.size request.align (within request.window state) s
+pub place_in_window : (request : Request) (s : ℕ) (state : AddressState) → IsChosen request state s →
+    IsPlace request.size request.align (within request.window state) s
 place_in_window request s state = place_by request.policy request.window request.size request.align s state
 
 -- An address that is clear in the window is clear, and a place in the window is a place.
@@ -43,7 +46,8 @@ pub place_anywhere : (w : Option Range) (n a s : ℕ) (state : AddressState) →
 unfolding IsPlace
 place_anywhere w n a s state p = (p.0, λ x l m. clear_anywhere w state x (p.1 x l m))
 
-pub chosen_place : (request : Request) (s : ℕ) (state : AddressState) → IsChosen request state s → IsPlace request.size request.align state s
+pub chosen_place : (request : Request) (s : ℕ) (state : AddressState) → IsChosen request state s →
+    IsPlace request.size request.align state s
 chosen_place request s state c = place_anywhere request.window request.size request.align s state (place_in_window request s state c)
 
 -- Combines two facts that depend on the same condition.
@@ -74,7 +78,8 @@ module _ (old new later : AddressState) (answer other : Result Range Error) wher
       (both _ _ _ _ _ Agree (refused_once Overflow)
       (λ a b. ⊎_elim (λ g. ⊎_elim (given_once r g) (λ m. inr (inr m.0)) b) (λ m. inr (inl m.0)) a)) p q
 
-  place_once : (request : Request) → ByPlace request old (Refused old answer new) (λ r. AllocatesAt old r answer new) → ByPlace request old (Refused old other later) (λ r. AllocatesAt old r other later) → Agree
+  place_once : (request : Request) → ByPlace request old (Refused old answer new) (λ r. AllocatesAt old r answer new) →
+      ByPlace request old (Refused old other later) (λ r. AllocatesAt old r other later) → Agree
   unfolding ByPlace
   place_once request p q =
       let n = request.size in
@@ -83,13 +88,16 @@ module _ (old new later : AddressState) (answer other : Result Range Error) wher
       (λ u. ⊎_elim (λ v. absurd (v.0 u.0 (place_in_window request u.0 old u.1)))
       (λ v.
       let e : v.0 ≡ u.0 = chosen_once request v.0 u.0 old v.1 u.1 in
-      let w : IfElse (u.0 + n - 1 ≡ MAX) (Refused old other later Overflow) (AllocatesAt old (span u.0 n) other later) = subst (λ (s : ℕ). IfElse (s + n - 1 ≡ MAX) (Refused old other later Overflow) (AllocatesAt old (span s n) other later)) e v.2 in
-      both (u.0 + n - 1 ≡ MAX) (Refused old answer new Overflow) (AllocatesAt old (span u.0 n) answer new) (Refused old other later Overflow) (AllocatesAt old (span u.0 n) other later) Agree
+      let w : IfElse (u.0 + n - 1 ≡ MAX) (Refused old other later Overflow) (AllocatesAt old (span u.0 n) other later) = subst
+      (λ (s : ℕ). IfElse (s + n - 1 ≡ MAX) (Refused old other later Overflow) (AllocatesAt old (span s n) other later)) e v.2 in
+      both (u.0 + n - 1 ≡ MAX) (Refused old answer new Overflow) (AllocatesAt old (span u.0 n) answer new)
+      (Refused old other later Overflow) (AllocatesAt old (span u.0 n) other later) Agree
       (refused_once Overflow) (takes_once (span u.0 n)) u.2 w)
       q)
       p
 
-  start_once : (t n : ℕ) (view : AddressState) (P Q : Type 0) → (P → Q → Agree) → ByStart t n view (Refused old answer new) P → ByStart t n view (Refused old other later) Q → Agree
+  start_once : (t n : ℕ) (view : AddressState) (P Q : Type 0) → (P → Q → Agree) → ByStart t n view (Refused old answer new) P →
+      ByStart t n view (Refused old other later) Q → Agree
   unfolding ByStart
   start_once t n view P Q rest =
       both _ _ _ _ _ Agree (refused_once _)
@@ -99,7 +107,8 @@ module _ (old new later : AddressState) (answer other : Result Range Error) wher
       (both_unless _ _ _ _ _ Agree (refused_once _)
       (both _ _ _ _ _ Agree (refused_once _) rest)))))
 
-  grants_by : (policy : AllocPolicy) (w : Option Range) (n a : ℕ) → Grants old (request_in w n a policy) answer new → Grants old (request_in w n a policy) other later → Agree
+  grants_by : (policy : AllocPolicy) (w : Option Range) (n a : ℕ) → Grants old (request_in w n a policy) answer new →
+      Grants old (request_in w n a policy) other later → Agree
   unfolding Grants ByExactPolicy
   grants_by FirstMatch w n a p q = place_once (request_in w n a FirstMatch) p q
   grants_by LastMatch w n a p q = place_once (request_in w n a LastMatch) p q

@@ -19,7 +19,8 @@ IsRefused old answer new = (e : Error) × (answer ≡ Err e) × (new ≡ old)
 abbrev pub IsGiven : AddressState → Range → Result Range Error → AddressState → Type 0
 IsGiven old r answer new = (answer ≡ Ok r) × (new ≡ holding r old)
 
-pub given_or_refused : (old : AddressState) (r : Range) (answer : Result Range Error) (new : AddressState) → AllocatesAt old r answer new → IsGiven old r answer new ⊎ IsRefused old answer new
+pub given_or_refused : (old : AddressState) (r : Range) (answer : Result Range Error) (new : AddressState) → AllocatesAt old r answer new →
+    IsGiven old r answer new ⊎ IsRefused old answer new
 unfolding AllocatesAt
 given_or_refused old r answer new (inl fills) = inl fills.1
 given_or_refused old r answer new (inr (splits, inl many)) = inr (Overflow, many.1.0, many.1.1)
@@ -37,10 +38,12 @@ IsTaken request old answer new =
 -- A result, with the state after it.
 module _ (old new : AddressState) (answer : Result Range Error) where
   -- A test before the rest: an error, or the outcome of the rest.
-  or_rest : (C D Q G : Type 0) (e : Error) → (D → Q → IsRefused old answer new ⊎ G) → (C × ((answer ≡ Err e) × (new ≡ old))) ⊎ (D × Q) → IsRefused old answer new ⊎ G
+  or_rest : (C D Q G : Type 0) (e : Error) → (D → Q → IsRefused old answer new ⊎ G) → (C × ((answer ≡ Err e) × (new ≡ old))) ⊎ (D × Q) →
+      IsRefused old answer new ⊎ G
   or_rest C D Q G e f h = ⊎_elim (λ l. inl (e, l.1.0, l.1.1)) (λ r. f r.0 r.1) h
 
-  place_outcome : (request : Request) → ByPlace request old (λ e. (answer ≡ Err e) × (new ≡ old)) (λ r. AllocatesAt old r answer new) → IsRefused old answer new ⊎ IsTaken request old answer new
+  place_outcome : (request : Request) → ByPlace request old (λ e. (answer ≡ Err e) × (new ≡ old)) (λ r. AllocatesAt old r answer new) →
+      IsRefused old answer new ⊎ IsTaken request old answer new
   unfolding ByPlace
   place_outcome request h =
       ⊎_elim
@@ -48,7 +51,8 @@ module _ (old new : AddressState) (answer : Result Range Error) where
       (λ r. or_rest _ _ _ (IsTaken request old answer new) Overflow (λ d t. inr (r.0, r.1, d, t)) r.2)
       h
 
-  start_outcome : (t n : ℕ) (view : AddressState) (P G : Type 0) → (P → IsRefused old answer new ⊎ G) → ByStart t n view (λ e. (answer ≡ Err e) × (new ≡ old)) P → IsRefused old answer new ⊎ G
+  start_outcome : (t n : ℕ) (view : AddressState) (P G : Type 0) → (P → IsRefused old answer new ⊎ G) →
+      ByStart t n view (λ e. (answer ≡ Err e) × (new ≡ old)) P → IsRefused old answer new ⊎ G
   unfolding ByStart
   start_outcome t n view P G rest h =
       or_rest _ _ _ G _
@@ -59,17 +63,20 @@ module _ (old new : AddressState) (answer : Result Range Error) where
       (λ d. or_rest _ _ _ G _
       (λ d. rest)))))) h
 
-  outcome_by : (policy : AllocPolicy) (w : Option Range) (n a : ℕ) → Grants old (request_in w n a policy) answer new → IsRefused old answer new ⊎ IsTaken (request_in w n a policy) old answer new
+  outcome_by : (policy : AllocPolicy) (w : Option Range) (n a : ℕ) → Grants old (request_in w n a policy) answer new →
+      IsRefused old answer new ⊎ IsTaken (request_in w n a policy) old answer new
   unfolding Grants ByExactPolicy
   outcome_by FirstMatch w n a h = place_outcome (request_in w n a FirstMatch) h
   outcome_by LastMatch w n a h = place_outcome (request_in w n a LastMatch) h
   outcome_by (ExactMatch t) w n a h =
-      let request = request_in w n a (ExactMatch t) in start_outcome t n (within w old) _ (IsTaken request old answer new) (place_outcome request) h
+      let request = request_in w n a (ExactMatch t) in start_outcome t n (within w old) _ (IsTaken request old answer new)
+      (place_outcome request) h
 
   pub grants_outcome : (request : Request) → Grants old request answer new → IsRefused old answer new ⊎ IsTaken request old answer new
   grants_outcome request = outcome_by request.policy request.window request.size request.align
 
-  pub allocates_outcome : (request : Request) → Allocates old request answer new → IsRefused old answer new ⊎ (IsRequest request × IsTaken request old answer new)
+  pub allocates_outcome : (request : Request) → Allocates old request answer new →
+      IsRefused old answer new ⊎ (IsRequest request × IsTaken request old answer new)
   unfolding Allocates ByConstraint
   allocates_outcome request h =
       let G : Type 0 = IsRequest request × IsTaken request old answer new in

@@ -34,7 +34,8 @@ few_in_tree s h = omega (arith, node_count-blocks s, most_nodes s, power_grows (
 pub not_above : (a b g h : ℕ) → a ≤ b → IsLowestHeight a g → IsLowestHeight b h → g ≤ h
 not_above a b g h l p q =
     ⊎_elim
-    (λ (c : h < g). let e = pow-suc 2 h in let f = power_grows (suc h) g (omega arith) in let x = p.1 in let y = q.0 in absurd (omega arith))
+    (λ (c : h < g). let e = pow-suc 2 h in let f = power_grows (suc h) g (omega arith) in let x = p.1 in let y = q.0 in absurd
+    (omega arith))
     (λ (c : g ≤ h). c)
     (cases_lt h g)
 
@@ -51,4 +52,5 @@ at_most_one a b g h l p q =
 -- A node over them is one higher.
 pub height_above : (n a g : ℕ) → a + a ≤ n → n ≤ a + a + 1 → 0 < n → IsLowestHeight a g → IsLowestHeight n (suc g)
 height_above n a zero l m z p = let x = p.1 in let e = pow-suc 2 0 in (omega arith, omega arith)
-height_above n a (suc g) l m z p = let e = pow-suc 2 g in let f = pow-suc 2 (suc g) in let x = p.0 in let y = p.1 in (omega arith, omega arith)
+height_above n a (suc g) l m z p = let e = pow-suc 2 g in let f = pow-suc 2 (suc g) in let x = p.0 in let y = p.1 in
+    (omega arith, omega arith)

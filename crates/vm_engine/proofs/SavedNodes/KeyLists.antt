@@ -18,7 +18,8 @@ keys_within lo lo2 hi hi2 (b ∷ bs) l h k =
 pub keys_from : (lo lo2 hi : ℕ) (b : Block) (bs : List Block) → lo2 ≤ b.key.start → AreKeysIn lo (b ∷ bs) hi → AreKeysIn lo2 (b ∷ bs) hi
 keys_from lo lo2 hi b bs l k = (l, k.1, k.2, k.3)
 
-pub keys_join : (lo hi : ℕ) (xs : List Block) (x : Block) (ys : List Block) → AreKeysIn lo (xs ++ x ∷ []) hi → AreKeysIn (x.key.end + 1) ys hi → AreKeysIn lo (xs ++ x ∷ ys) hi
+pub keys_join : (lo hi : ℕ) (xs : List Block) (x : Block) (ys : List Block) → AreKeysIn lo (xs ++ x ∷ []) hi →
+    AreKeysIn (x.key.end + 1) ys hi → AreKeysIn lo (xs ++ x ∷ ys) hi
 keys_join lo hi [] x ys k r = (k.0, k.1, k.2, r)
 keys_join lo hi (y ∷ xs) x ys k r = (k.0, k.1, k.2, keys_join (y.key.end + 1) hi xs x ys k.3 r)
 
@@ -37,11 +38,13 @@ keys_next lo hi [] x y ys k = omega (arith, k.3.0)
 keys_next lo hi (z ∷ xs) x y ys k = keys_next (z.key.end + 1) hi xs x y ys k.3
 
 -- The last block ends the keys.
-pub last_above : (lo hi : ℕ) (xs : List Block) (x : Block) → AreKeysIn lo (xs ++ x ∷ []) hi → (lo ≤ x.key.start) × (x.key.start ≤ x.key.end) × (x.key.end ≤ hi)
+pub last_above : (lo hi : ℕ) (xs : List Block) (x : Block) → AreKeysIn lo (xs ++ x ∷ []) hi →
+    (lo ≤ x.key.start) × (x.key.start ≤ x.key.end) × (x.key.end ≤ hi)
 last_above lo hi [] x k = (k.0, k.1, k.2)
 last_above lo hi (y ∷ xs) x k = let i = last_above (y.key.end + 1) hi xs x k.3 in (omega (arith, i.0, k.0, k.1), i.1, i.2)
 
-pub keys_to : (lo hi hi2 : ℕ) (xs : List Block) (x : Block) → x.key.end ≤ hi2 → AreKeysIn lo (xs ++ x ∷ []) hi → AreKeysIn lo (xs ++ x ∷ []) hi2
+pub keys_to : (lo hi hi2 : ℕ) (xs : List Block) (x : Block) → x.key.end ≤ hi2 → AreKeysIn lo (xs ++ x ∷ []) hi →
+    AreKeysIn lo (xs ++ x ∷ []) hi2
 keys_to lo hi hi2 [] x l k = (k.0, k.1, l, tt)
 keys_to lo hi hi2 (y ∷ xs) x l k =
     let i = last_above (y.key.end + 1) hi xs x k.3 in
@@ -49,17 +52,20 @@ keys_to lo hi hi2 (y ∷ xs) x l k =
 
 -- ---- Tilings
 
-pub tiles_join : (p : NodeState) (lo hi : ℕ) (xs : List Block) (x : Block) (ys : List Block) (end : ℕ) → Tiles p lo (xs ++ x ∷ []) end → Tiles x.state (x.key.end + 1) ys hi → Tiles p lo (xs ++ x ∷ ys) hi
+pub tiles_join : (p : NodeState) (lo hi : ℕ) (xs : List Block) (x : Block) (ys : List Block) (end : ℕ) → Tiles p lo (xs ++ x ∷ []) end →
+    Tiles x.state (x.key.end + 1) ys hi → Tiles p lo (xs ++ x ∷ ys) hi
 tiles_join p lo hi [] x ys end t r = (t.0, t.1, t.2, r)
 tiles_join p lo hi (y ∷ xs) x ys end t r = (t.0, t.1, t.2, tiles_join y.state (y.key.end + 1) hi xs x ys end t.3 r)
 
-pub tiles_cut : (p : NodeState) (lo hi : ℕ) (xs : List Block) (x : Block) (ys : List Block) → Tiles p lo (xs ++ x ∷ ys) hi → Tiles p lo (xs ++ x ∷ []) x.key.end × Tiles x.state (x.key.end + 1) ys hi
+pub tiles_cut : (p : NodeState) (lo hi : ℕ) (xs : List Block) (x : Block) (ys : List Block) → Tiles p lo (xs ++ x ∷ ys) hi →
+    Tiles p lo (xs ++ x ∷ []) x.key.end × Tiles x.state (x.key.end + 1) ys hi
 tiles_cut p lo hi [] x ys t = ((t.0, t.1, t.2, refl), t.3)
 tiles_cut p lo hi (y ∷ xs) x ys t = let i = tiles_cut y.state (y.key.end + 1) hi xs x ys t.3 in ((t.0, t.1, t.2, i.0), i.1)
 
 -- ---- Held keys
 
-pub held_node : (xs : List Block) (b : Block) (ys : List Block) → held_of (xs ++ b ∷ ys) ≡ held_of xs ++ (range_if_held b.state b.key ++ held_of ys)
+pub held_node : (xs : List Block) (b : Block) (ys : List Block) →
+    held_of (xs ++ b ∷ ys) ≡ held_of xs ++ (range_if_held b.state b.key ++ held_of ys)
 held_node [] b ys = refl
 held_node (x ∷ xs) b ys =
     ap (λ (v : List Range). range_if_held x.state x.key ++ v) (held_node xs b ys)

@@ -21,7 +21,8 @@ state_with space held = record { space = space; held = held }
 
 -- ---- With repairs
 
-root_inside : (space : Range) (o : Option Span) (t : Saved) → space.end ≤ MAX → MeansAll o t → is_inside space o ≡ true → HasHeldKeys space t (state_with space (held_keys t))
+root_inside : (space : Range) (o : Option Span) (t : Saved) → space.end ≤ MAX → MeansAll o t → is_inside space o ≡ true →
+    HasHeldKeys space t (state_with space (held_keys t))
 root_inside space None t v m e =
     rw m (record { nested = omega arith; keys = tt; below = tt; few = omega arith; held = refl; is_space = refl })
 root_inside space (Some s) t v m e =
@@ -34,8 +35,10 @@ root_inside space (Some s) t v m e =
     let a = m.first_start in
     let b = m.last_end in
     let c = m.held in
-    let from = keys_from 0 space.start MAX z.first z.rest (omega arith) (subst (λ (x : List Block). AreKeysIn 0 x MAX) z.first_is m.readable.keys) in
-    let to = keys_to space.start MAX space.end z.before z.last (omega arith) (subst (λ (x : List Block). AreKeysIn space.start x MAX) (sym z.first_is ∙ z.last_is) from) in
+    let from = keys_from 0 space.start MAX z.first z.rest (omega arith)
+    (subst (λ (x : List Block). AreKeysIn 0 x MAX) z.first_is m.readable.keys) in
+    let to = keys_to space.start MAX space.end z.before z.last (omega arith)
+    (subst (λ (x : List Block). AreKeysIn space.start x MAX) (sym z.first_is ∙ z.last_is) from) in
     record {
       nested = m.readable.nested;
       keys = subst (λ (x : List Block). AreKeysIn space.start x space.end) (sym z.last_is) to;
@@ -45,7 +48,8 @@ root_inside space (Some s) t v m e =
       is_space = refl;
     }
 
-inside_root : (space : Range) (o : Option Span) (t : Saved) (x : AddressState) → MeansAll o t → HasHeldKeys space t x → is_inside space o ≡ true
+inside_root : (space : Range) (o : Option Span) (t : Saved) (x : AddressState) → MeansAll o t → HasHeldKeys space t x →
+    is_inside space o ≡ true
 inside_root space None t x m h = refl
 inside_root space (Some s) t x m h =
     let z = m.ends in
@@ -54,16 +58,21 @@ inside_root space (Some s) t x m h =
     let c = m.held in
     let few = h.few in
     let first = (subst (λ (v : List Block). AreKeysIn space.start v space.end) z.first_is h.keys).0 in
-    let last = (last_above space.start space.end z.before z.last (subst (λ (v : List Block). AreKeysIn space.start v space.end) z.last_is h.keys)).2 in
-    and_from _ _ (le-leb space.start s.first (omega arith)) (and_from _ _ (le-leb s.last space.end (omega arith)) (le-leb s.held SPLIT_LIMIT_MIN_HELD (omega arith)))
+    let last = (last_above space.start space.end z.before z.last
+    (subst (λ (v : List Block). AreKeysIn space.start v space.end) z.last_is h.keys)).2 in
+    and_from _ _ (le-leb space.start s.first (omega arith))
+    (and_from _ _ (le-leb s.last space.end (omega arith)) (le-leb s.held SPLIT_LIMIT_MIN_HELD (omega arith)))
 
-pub repaired_state : (space : Range) (o : Option Span) (t : Saved) → space.end ≤ MAX → StandsFor o t → is_inside space o ≡ true → (x : AddressState) × HasHeldKeys space t x
+pub repaired_state : (space : Range) (o : Option Span) (t : Saved) → space.end ≤ MAX → StandsFor o t → is_inside space o ≡ true →
+    (x : AddressState) × HasHeldKeys space t x
 repaired_state space o t v st e = (state_with space (held_keys t), root_inside space o t v (sound t o st.ranges st.is_span) e)
 
-pub repaired_none : (space : Range) (o : Option Span) (t : Saved) → StandsFor o t → is_inside space o ≡ false → (x : AddressState) × HasHeldKeys space t x → ⊥
+pub repaired_none : (space : Range) (o : Option Span) (t : Saved) → StandsFor o t → is_inside space o ≡ false →
+    (x : AddressState) × HasHeldKeys space t x → ⊥
 repaired_none space o t st e h = true≢false (sym (inside_root space o t h.0 (sound t o st.ranges st.is_span) h.1) ∙ e)
 
-pub repaired_made : (space : Range) (o : Option Span) (t : Saved) (held : List Range) (made : AddressState) → space.end ≤ MAX → StandsFor o t → is_inside space o ≡ true → held ≡ held_keys t → made ≡ state_with space held → HasHeldKeys space t made
+pub repaired_made : (space : Range) (o : Option Span) (t : Saved) (held : List Range) (made : AddressState) → space.end ≤ MAX →
+    StandsFor o t → is_inside space o ≡ true → held ≡ held_keys t → made ≡ state_with space held → HasHeldKeys space t made
 repaired_made space o t held made v st e h m =
     subst (HasHeldKeys space t) (sym (m ∙ ap (state_with space) h)) (root_inside space o t v (sound t o st.ranges st.is_span) e)
 
@@ -83,11 +92,16 @@ root_tree space (Some s) t m e =
     let first = eqb-true s.first space.start w.0 in
     let last = eqb-true s.last space.end w.1 in
     record {
-      some_node = λ (f : t ≡ Absent). absurd (let g : [] ≡ z.first ∷ z.rest = subst (λ (y : Saved). saved_blocks y ≡ z.first ∷ z.rest) f z.first_is in cc);
+      some_node = λ (f : t ≡ Absent). absurd
+          (let g : [] ≡ z.first ∷ z.rest = subst (λ (y : Saved). saved_blocks y ≡ z.first ∷ z.rest) f z.first_is in cc);
       heights = x.heights;
       nested = omega arith;
       balanced = x.balanced;
-      blocks = record { tiles = subst (λ (y : ℕ). Tiles Allocated y (saved_blocks t) space.end) first (subst (λ (y : ℕ). Tiles Allocated s.first (saved_blocks t) y) last x.tiles); below = m.readable.below };
+      blocks = record {
+        tiles = subst (λ (y : ℕ). Tiles Allocated y (saved_blocks t) space.end) first
+            (subst (λ (y : ℕ). Tiles Allocated s.first (saved_blocks t) y) last x.tiles);
+        below = m.readable.below;
+      };
     }
 
 tree_root : (space : Range) (o : Option Span) (t : Saved) → MeansAll o t → IsSavedTree space t → is_tree_of space o ≡ true
@@ -99,24 +113,31 @@ tree_root space (Some s) t m h =
     let b = m.last_end in
     let c = m.nesting in
     let n = h.nested in
-    let first : z.first.key.start ≡ space.start = (subst (λ (v : List Block). Tiles Allocated space.start v space.end) z.first_is h.blocks.tiles).0 in
-    let cut = tiles_cut Allocated space.start space.end z.before z.last [] (subst (λ (v : List Block). Tiles Allocated space.start v space.end) z.last_is h.blocks.tiles) in
+    let first : z.first.key.start ≡ space.start =
+    (subst (λ (v : List Block). Tiles Allocated space.start v space.end) z.first_is h.blocks.tiles).0 in
+    let cut = tiles_cut Allocated space.start space.end z.before z.last []
+    (subst (λ (v : List Block). Tiles Allocated space.start v space.end) z.last_is h.blocks.tiles) in
     let end : z.last.key.end + 1 ≡ space.end + 1 = cut.1 in
     let is_first : s.first ≡ space.start = omega arith in
     let is_last : s.last ≡ space.end = omega arith in
     let tiles : Tiles Allocated s.first (saved_blocks t) s.last = rw (is_first, is_last) h.blocks.tiles in
     let exact = m.all_exact (record { heights = h.heights; balanced = h.balanced; tiles = tiles }) in
-    and_from _ _ (and_from _ _ exact (le-leb s.nesting MAX_HEIGHT (omega arith))) (and_from _ _ (eq-eqb s.first space.start is_first) (eq-eqb s.last space.end is_last))
+    and_from _ _ (and_from _ _ exact (le-leb s.nesting MAX_HEIGHT (omega arith)))
+    (and_from _ _ (eq-eqb s.first space.start is_first) (eq-eqb s.last space.end is_last))
 
-strict_with : (space : Range) (o : Option Span) (t : Saved) → StandsFor o t → is_tree_of space o ≡ true → HasTreeOf space t (state_with space (held_keys t))
+strict_with : (space : Range) (o : Option Span) (t : Saved) → StandsFor o t → is_tree_of space o ≡ true →
+    HasTreeOf space t (state_with space (held_keys t))
 strict_with space o t st e = record { tree = root_tree space o t (sound t o st.ranges st.is_span) e; held = refl; is_space = refl }
 
-pub strict_state : (space : Range) (o : Option Span) (t : Saved) → StandsFor o t → is_tree_of space o ≡ true → (x : AddressState) × HasTreeOf space t x
+pub strict_state : (space : Range) (o : Option Span) (t : Saved) → StandsFor o t → is_tree_of space o ≡ true →
+    (x : AddressState) × HasTreeOf space t x
 strict_state space o t st e = (state_with space (held_keys t), strict_with space o t st e)
 
-pub strict_none : (space : Range) (o : Option Span) (t : Saved) → StandsFor o t → is_tree_of space o ≡ false → (x : AddressState) × HasTreeOf space t x → ⊥
+pub strict_none : (space : Range) (o : Option Span) (t : Saved) → StandsFor o t → is_tree_of space o ≡ false →
+    (x : AddressState) × HasTreeOf space t x → ⊥
 strict_none space o t st e h = true≢false (sym (tree_root space o t (sound t o st.ranges st.is_span) h.1.tree) ∙ e)
 
-pub strict_made : (space : Range) (o : Option Span) (t : Saved) (held : List Range) (made : AddressState) → StandsFor o t → is_tree_of space o ≡ true → held ≡ held_keys t → made ≡ state_with space held → HasTreeOf space t made
+pub strict_made : (space : Range) (o : Option Span) (t : Saved) (held : List Range) (made : AddressState) → StandsFor o t →
+    is_tree_of space o ≡ true → held ≡ held_keys t → made ≡ state_with space held → HasTreeOf space t made
 strict_made space o t held made st e h m =
     subst (HasTreeOf space t) (sym (m ∙ ap (state_with space) h)) (strict_with space o t st e)

@@ -40,7 +40,8 @@ some_block sp (b ∷ bs) t l = λ e. cc e
 
 pub written_is_read : WrittenIsRead
 written_is_read = λ s t tree w. record {
-  tree = written_tree (space_of (blocks s)) (blocks s) t tree.tiling (some_block (space_of (blocks s)) (blocks s) tree.tiling.tiles tree.space.0) tree.few w;
+  tree = written_tree (space_of (blocks s)) (blocks s) t tree.tiling
+      (some_block (space_of (blocks s)) (blocks s) tree.tiling.tiles tree.space.0) tree.few w;
   held = ap held_of (written_blocks (blocks s) t w);
   is_space = refl;
 }

@@ -1,5 +1,37 @@
 -- The span of a node from those of its children.
-use Rattle.std.proofs.Common.{◌≡◌, ℕ, ◌+◌, ◌-◌, ◌^◌, ◌≤◌, ◌<◌, max, min, true, not, cond, ◌&&◌, ◌||◌, leb, ltb, eqb, List, [], ◌∷◌, ◌++◌, length, Option, Some, None, refl, sym, ap, ◌∙◌, subst, arith}
+use Rattle.std.proofs.Common.{
+  ◌≡◌,
+  ℕ,
+  ◌+◌,
+  ◌-◌,
+  ◌^◌,
+  ◌≤◌,
+  ◌<◌,
+  max,
+  min,
+  true,
+  not,
+  cond,
+  ◌&&◌,
+  ◌||◌,
+  leb,
+  ltb,
+  eqb,
+  List,
+  [],
+  ◌∷◌,
+  ◌++◌,
+  length,
+  Option,
+  Some,
+  None,
+  refl,
+  sym,
+  ap,
+  ◌∙◌,
+  subst,
+  arith,
+}
 use Rattle.std.proofs.lemmas.Bool.{and_parts, and_from, leb-true, le-leb, ltb-true, lt-ltb, eqb-true, eq-eqb}
 use Rattle.std.proofs.lemmas.List.{append_assoc, length-append}
 use Rattle.std.proofs.lemmas.Option.{same_Some}
@@ -13,12 +45,41 @@ use Rattle.vm_engine.specs.Values.NodeTree.{height_of, IsBalanced}
 use Rattle.vm_engine.specs.Values.KeyValues.{MAX_NESTING_REPAIRED}
 use Rattle.vm_engine.specs.Values.SavedTrees.{Saved, Absent, Node, shape_of, saved_blocks, held_keys, HasHeights, HasRanges, IsReadable}
 use Rattle.vm_engine.specs.Checks.NodeChecks.{is_correct_height}
-use Rattle.vm_engine.specs.Checks.Spans.{nesting_of, held_in, ends_below, starts_above, can_join, joins_left, joins_right, is_exact_over, held_over, first_of, last_of, joined, span_over, span_of}
+use Rattle.vm_engine.specs.Checks.Spans.{
+  nesting_of,
+  held_in,
+  ends_below,
+  starts_above,
+  can_join,
+  joins_left,
+  joins_right,
+  is_exact_over,
+  held_over,
+  first_of,
+  last_of,
+  joined,
+  span_over,
+  span_of,
+}
 use Rattle.vm_engine.specs.declared.saved.span.Span.{Span}
 use Rattle.vm_ranges.specs.declared.state.NodeState.{NodeState}
 use Rattle.vm_ranges.specs.declared.state.NodeState.TheVariants.{Free, Allocated}
 use Rattle.vm_engine.proofs.SavedNodes.Heights.{power_grows, most_nodes, node_count-blocks}
-use Rattle.vm_engine.proofs.SavedNodes.KeyLists.{keys_within, keys_from, keys_join, keys_left, keys_right, keys_next, tiles_join, tiles_cut, held_node, below_both, below_left, below_right, held_few}
+use Rattle.vm_engine.proofs.SavedNodes.KeyLists.{
+  keys_within,
+  keys_from,
+  keys_join,
+  keys_left,
+  keys_right,
+  keys_next,
+  tiles_join,
+  tiles_cut,
+  held_node,
+  below_both,
+  below_left,
+  below_right,
+  held_few,
+}
 use Rattle.vm_engine.proofs.SavedNodes.Meanings.{HasEnds, IsExact, Means, MeansAll}
 
 -- ---- The span of a child that can be absent
@@ -47,7 +108,8 @@ apart-true Allocated s h = refl
 
 -- ---- The blocks of the left child, and those from the node's own on
 
-left_keys : (o : Option Span) (l : Saved) (b : Block) (ys : List Block) → MeansAll o l → ends_below o b.key.start ≡ true → AreKeysIn 0 (b ∷ ys) MAX → AreKeysIn 0 (saved_blocks l ++ b ∷ ys) MAX
+left_keys : (o : Option Span) (l : Saved) (b : Block) (ys : List Block) → MeansAll o l → ends_below o b.key.start ≡ true →
+    AreKeysIn 0 (b ∷ ys) MAX → AreKeysIn 0 (saved_blocks l ++ b ∷ ys) MAX
 left_keys None l b ys m e k = rw m k
 left_keys (Some s) l b ys m e k =
     let z = m.ends in
@@ -55,19 +117,23 @@ left_keys (Some s) l b ys m e k =
     let w = m.last_end in
     let keys = subst (λ (v : List Block). AreKeysIn 0 v MAX) z.last_is m.readable.keys in
     let all = keys_join 0 MAX z.before z.last (b ∷ ys) keys (keys_from 0 (z.last.key.end + 1) MAX b ys (omega arith) k) in
-    let cut : saved_blocks l ++ b ∷ ys ≡ z.before ++ z.last ∷ b ∷ ys = ap (λ (v : List Block). v ++ b ∷ ys) z.last_is ∙ append_assoc z.before (z.last ∷ []) (b ∷ ys) in
+    let cut : saved_blocks l ++ b ∷ ys ≡ z.before ++ z.last ∷ b ∷ ys = ap (λ (v : List Block). v ++ b ∷ ys) z.last_is
+    ∙ append_assoc z.before (z.last ∷ []) (b ∷ ys) in
     subst (λ (v : List Block). AreKeysIn 0 v MAX) (sym cut) all
 
-left_apart : (o : Option Span) (l : Saved) (b : Block) (ys : List Block) → MeansAll o l → AreKeysIn 0 (saved_blocks l ++ b ∷ ys) MAX → ends_below o b.key.start ≡ true
+left_apart : (o : Option Span) (l : Saved) (b : Block) (ys : List Block) → MeansAll o l → AreKeysIn 0 (saved_blocks l ++ b ∷ ys) MAX →
+    ends_below o b.key.start ≡ true
 left_apart None l b ys m k = refl
 left_apart (Some s) l b ys m k =
     let z = m.ends in
     let w = m.last_end in
-    let cut : saved_blocks l ++ b ∷ ys ≡ z.before ++ z.last ∷ b ∷ ys = ap (λ (v : List Block). v ++ b ∷ ys) z.last_is ∙ append_assoc z.before (z.last ∷ []) (b ∷ ys) in
+    let cut : saved_blocks l ++ b ∷ ys ≡ z.before ++ z.last ∷ b ∷ ys = ap (λ (v : List Block). v ++ b ∷ ys) z.last_is
+    ∙ append_assoc z.before (z.last ∷ []) (b ∷ ys) in
     let n = keys_next 0 MAX z.before z.last b ys (subst (λ (v : List Block). AreKeysIn 0 v MAX) cut k) in
     lt-ltb s.last b.key.start (omega arith)
 
-left_tiles : (o : Option Span) (l : Saved) (b : Block) (ys : List Block) (hi : ℕ) → MeansAll o l → joins_left o b ≡ true → b.key.start ≤ b.key.end → Tiles b.state (b.key.end + 1) ys hi → Tiles Allocated (first_of o b).0 (saved_blocks l ++ b ∷ ys) hi
+left_tiles : (o : Option Span) (l : Saved) (b : Block) (ys : List Block) (hi : ℕ) → MeansAll o l → joins_left o b ≡ true →
+    b.key.start ≤ b.key.end → Tiles b.state (b.key.end + 1) ys hi → Tiles Allocated (first_of o b).0 (saved_blocks l ++ b ∷ ys) hi
 left_tiles None l b ys hi m e v t = rw m (refl, v, tt, t)
 left_tiles (Some s) l b ys hi m e v t =
     let z = m.ends in
@@ -75,20 +141,26 @@ left_tiles (Some s) l b ys hi m e v t =
     let p = and_parts s.is_exact _ e in
     let q = and_parts (eqb (s.last + 1) b.key.start) _ p.1 in
     let n = eqb-true (s.last + 1) b.key.start q.0 in
-    let free : NotBothFree z.last.state b.state = subst (λ (x : NodeState). NotBothFree x b.state) (sym m.last_state) (apart s.last_state b.state q.1) in
-    let own : Tiles Allocated s.first (z.before ++ z.last ∷ []) s.last = subst (λ (x : List Block). Tiles Allocated s.first x s.last) z.last_is (m.exact p.0).tiles in
+    let free : NotBothFree z.last.state b.state = subst (λ (x : NodeState). NotBothFree x b.state) (sym m.last_state)
+    (apart s.last_state b.state q.1) in
+    let own : Tiles Allocated s.first (z.before ++ z.last ∷ []) s.last = subst (λ (x : List Block). Tiles Allocated s.first x s.last)
+    z.last_is (m.exact p.0).tiles in
     let all = tiles_join Allocated s.first hi z.before z.last (b ∷ ys) s.last own (omega arith, omega arith, free, t) in
-    let cut : saved_blocks l ++ b ∷ ys ≡ z.before ++ z.last ∷ b ∷ ys = ap (λ (x : List Block). x ++ b ∷ ys) z.last_is ∙ append_assoc z.before (z.last ∷ []) (b ∷ ys) in
+    let cut : saved_blocks l ++ b ∷ ys ≡ z.before ++ z.last ∷ b ∷ ys = ap (λ (x : List Block). x ++ b ∷ ys) z.last_is
+    ∙ append_assoc z.before (z.last ∷ []) (b ∷ ys) in
     subst (λ (x : List Block). Tiles Allocated s.first x hi) (sym cut) all
 
-left_tiled : (o : Option Span) (l : Saved) (b : Block) (ys : List Block) (hi : ℕ) → MeansAll o l → HasHeights l → IsBalanced (shape_of l) → Tiles Allocated (first_of o b).0 (saved_blocks l ++ b ∷ ys) hi → (joins_left o b ≡ true) × Tiles b.state (b.key.end + 1) ys hi
+left_tiled : (o : Option Span) (l : Saved) (b : Block) (ys : List Block) (hi : ℕ) → MeansAll o l → HasHeights l → IsBalanced (shape_of l) →
+    Tiles Allocated (first_of o b).0 (saved_blocks l ++ b ∷ ys) hi → (joins_left o b ≡ true) × Tiles b.state (b.key.end + 1) ys hi
 left_tiled None l b ys hi m h g t = (refl, (subst (λ (x : Saved). Tiles Allocated b.key.start (saved_blocks x ++ b ∷ ys) hi) m t).3)
 left_tiled (Some s) l b ys hi m h g t =
     let z = m.ends in
     let w = m.last_end in
-    let cut : saved_blocks l ++ b ∷ ys ≡ z.before ++ z.last ∷ b ∷ ys = ap (λ (x : List Block). x ++ b ∷ ys) z.last_is ∙ append_assoc z.before (z.last ∷ []) (b ∷ ys) in
+    let cut : saved_blocks l ++ b ∷ ys ≡ z.before ++ z.last ∷ b ∷ ys = ap (λ (x : List Block). x ++ b ∷ ys) z.last_is
+    ∙ append_assoc z.before (z.last ∷ []) (b ∷ ys) in
     let two = tiles_cut Allocated s.first hi z.before z.last (b ∷ ys) (subst (λ (x : List Block). Tiles Allocated s.first x hi) cut t) in
-    let own : Tiles Allocated s.first (saved_blocks l) s.last = subst (λ (x : List Block). Tiles Allocated s.first x s.last) (sym z.last_is) (subst (λ (x : ℕ). Tiles Allocated s.first (z.before ++ z.last ∷ []) x) w two.0) in
+    let own : Tiles Allocated s.first (saved_blocks l) s.last = subst (λ (x : List Block). Tiles Allocated s.first x s.last) (sym z.last_is)
+    (subst (λ (x : ℕ). Tiles Allocated s.first (z.before ++ z.last ∷ []) x) w two.0) in
     let exact = m.all_exact (record { heights = h; balanced = g; tiles = own }) in
     let free : NotBothFree s.last_state b.state = subst (λ (x : NodeState). NotBothFree x b.state) m.last_state two.1.2 in
     let next = two.1.0 in (
@@ -115,7 +187,8 @@ right_apart (Some s) r end m k =
     let n = (subst (λ (v : List Block). AreKeysIn (end + 1) v MAX) z.first_is k).0 in
     lt-ltb end s.first (omega arith)
 
-right_tiles : (o : Option Span) (r : Saved) (b : Block) → MeansAll o r → joins_right o b ≡ true → Tiles b.state (b.key.end + 1) (saved_blocks r) (last_of o b).0
+right_tiles : (o : Option Span) (r : Saved) (b : Block) → MeansAll o r → joins_right o b ≡ true →
+    Tiles b.state (b.key.end + 1) (saved_blocks r) (last_of o b).0
 right_tiles None r b m e = rw m refl
 right_tiles (Some s) r b m e =
     let z = m.ends in
@@ -123,17 +196,23 @@ right_tiles (Some s) r b m e =
     let p = and_parts s.is_exact _ e in
     let q = and_parts (eqb (b.key.end + 1) s.first) _ p.1 in
     let n = eqb-true (b.key.end + 1) s.first q.0 in
-    let free : NotBothFree b.state z.first.state = subst (λ (x : NodeState). NotBothFree b.state x) (sym m.first_state) (apart b.state s.first_state q.1) in
-    let own : Tiles Allocated s.first (z.first ∷ z.rest) s.last = subst (λ (x : List Block). Tiles Allocated s.first x s.last) z.first_is (m.exact p.0).tiles in
-    subst (λ (x : List Block). Tiles b.state (b.key.end + 1) x s.last) (sym z.first_is) (omega arith, omega (arith, own.0, own.1), free, own.3)
+    let free : NotBothFree b.state z.first.state = subst (λ (x : NodeState). NotBothFree b.state x) (sym m.first_state)
+    (apart b.state s.first_state q.1) in
+    let own : Tiles Allocated s.first (z.first ∷ z.rest) s.last = subst (λ (x : List Block). Tiles Allocated s.first x s.last) z.first_is
+    (m.exact p.0).tiles in
+    subst (λ (x : List Block). Tiles b.state (b.key.end + 1) x s.last) (sym z.first_is)
+    (omega arith, omega (arith, own.0, own.1), free, own.3)
 
-right_tiled : (o : Option Span) (r : Saved) (b : Block) → MeansAll o r → HasHeights r → IsBalanced (shape_of r) → Tiles b.state (b.key.end + 1) (saved_blocks r) (last_of o b).0 → joins_right o b ≡ true
+right_tiled : (o : Option Span) (r : Saved) (b : Block) → MeansAll o r → HasHeights r → IsBalanced (shape_of r) →
+    Tiles b.state (b.key.end + 1) (saved_blocks r) (last_of o b).0 → joins_right o b ≡ true
 right_tiled None r b m h g t = refl
 right_tiled (Some s) r b m h g t =
     let z = m.ends in
     let w = m.first_start in
-    let cut : Tiles b.state (b.key.end + 1) (z.first ∷ z.rest) s.last = subst (λ (x : List Block). Tiles b.state (b.key.end + 1) x s.last) z.first_is t in
-    let own : Tiles Allocated s.first (saved_blocks r) s.last = subst (λ (x : List Block). Tiles Allocated s.first x s.last) (sym z.first_is) (w, omega (arith, cut.0, cut.1), tt, cut.3) in
+    let cut : Tiles b.state (b.key.end + 1) (z.first ∷ z.rest) s.last = subst (λ (x : List Block). Tiles b.state (b.key.end + 1) x s.last)
+    z.first_is t in
+    let own : Tiles Allocated s.first (saved_blocks r) s.last = subst (λ (x : List Block). Tiles Allocated s.first x s.last)
+    (sym z.first_is) (w, omega (arith, cut.0, cut.1), tt, cut.3) in
     let exact = m.all_exact (record { heights = h; balanced = g; tiles = own }) in
     let free : NotBothFree b.state s.first_state = subst (λ (x : NodeState). NotBothFree b.state x) m.first_state cut.2 in
     let next = cut.0 in
@@ -142,12 +221,22 @@ right_tiled (Some s) r b m h g t =
 -- ---- The ends of a node's blocks
 
 ends_node : (lo ro : Option Span) (l r : Saved) (b : Block) → MeansAll lo l → MeansAll ro r →
-    (e : HasEnds (saved_blocks l ++ b ∷ saved_blocks r)) × (e.first.key.start ≡ (first_of lo b).0) × (e.first.state ≡ (first_of lo b).1) × (e.last.key.end ≡ (last_of ro b).0) × (e.last.state ≡ (last_of ro b).1)
-ends_node None None l r b m n = rw (m, n) (record { first = b; rest = []; first_is = refl; before = []; last = b; last_is = refl }, refl, refl, refl, refl)
+    (e : HasEnds (saved_blocks l ++ b ∷ saved_blocks r)) × (e.first.key.start ≡ (first_of lo b).0) × (e.first.state ≡ (first_of lo b).1)
+    × (e.last.key.end ≡ (last_of ro b).0) × (e.last.state ≡ (last_of ro b).1)
+ends_node None None l r b m n = rw (m, n)
+    (record { first = b; rest = []; first_is = refl; before = []; last = b; last_is = refl }, refl, refl, refl, refl)
 ends_node None (Some s) l r b m n =
     let z = n.ends in
     rw m (
-      record { first = b; rest = saved_blocks r; first_is = refl; before = b ∷ z.before; last = z.last; last_is = ap (λ (v : List Block). b ∷ v) z.last_is },
+      record {
+        first = b;
+        rest = saved_blocks r;
+        first_is = refl;
+        before = b ∷ z.before;
+        last = z.last;
+        last_is = ap
+            (λ (v : List Block). b ∷ v) z.last_is;
+      },
       refl,
       refl,
       n.last_end,
@@ -156,7 +245,15 @@ ends_node None (Some s) l r b m n =
 ends_node (Some s) None l r b m n =
     let z = m.ends in
     rw n (
-      record { first = z.first; rest = z.rest ++ b ∷ []; first_is = ap (λ (v : List Block). v ++ b ∷ []) z.first_is; before = saved_blocks l; last = b; last_is = refl },
+      record {
+        first = z.first;
+        rest = z.rest ++ b ∷ [];
+        first_is = ap (λ (v : List Block). v ++ b ∷ []) z.first_is;
+        before = saved_blocks
+            l;
+        last = b;
+        last_is = refl;
+      },
       m.first_start,
       m.first_state,
       refl,
@@ -171,7 +268,8 @@ ends_node (Some s) (Some s2) l r b m n =
         first_is = ap (λ (v : List Block). v ++ b ∷ saved_blocks r) z.first_is;
         before = saved_blocks l ++ b ∷ y.before;
         last = y.last;
-        last_is = ap (λ (v : List Block). saved_blocks l ++ b ∷ v) y.last_is ∙ sym (append_assoc (saved_blocks l) (b ∷ y.before) (y.last ∷ []));
+        last_is = ap (λ (v : List Block). saved_blocks l ++ b ∷ v) y.last_is
+            ∙ sym (append_assoc (saved_blocks l) (b ∷ y.before) (y.last ∷ []));
       },
       m.first_start,
       m.first_state,
@@ -194,7 +292,8 @@ held_fit t n =
     let d = power_grows (height_of (shape_of t)) 50 n in
     omega arith
 
-held_sum : (l r : Saved) (b : Block) (h : ℕ) → length (held_keys (Node l b r h)) ≡ length (held_keys l) + length (held_keys r) + cond (is_free b.state) 0 1
+held_sum : (l r : Saved) (b : Block) (h : ℕ) →
+    length (held_keys (Node l b r h)) ≡ length (held_keys l) + length (held_keys r) + cond (is_free b.state) 0 1
 held_sum l r b h =
     let e = ap length (held_node (saved_blocks l) b (saved_blocks r)) in
     let f = length-append (held_keys l) (range_if_held b.state b.key ++ held_keys r) in
@@ -202,14 +301,16 @@ held_sum l r b h =
     let o = own_held b.state b.key in
     omega arith
 
-held_node_is : (lo ro : Option Span) (l r : Saved) (b : Block) (h : ℕ) → MeansAll lo l → MeansAll ro r → height_of (shape_of (Node l b r h)) ≤ MAX_NESTING_REPAIRED → length (held_keys (Node l b r h)) ≡ held_over lo b.state ro
+held_node_is : (lo ro : Option Span) (l r : Saved) (b : Block) (h : ℕ) → MeansAll lo l → MeansAll ro r →
+    height_of (shape_of (Node l b r h)) ≤ MAX_NESTING_REPAIRED → length (held_keys (Node l b r h)) ≡ held_over lo b.state ro
 held_node_is lo ro l r b h m n deep =
     let fit = held_fit (Node l b r h) deep in
     let sum = held_sum l r b h in
     let x = held_is lo l m in
     let y = held_is ro r n in
     let inner : min (held_in lo + held_in ro) (2 ^ 64 - 1) ≡ held_in lo + held_in ro = omega arith in
-    let outer : held_over lo b.state ro ≡ min (held_in lo + held_in ro + cond (is_free b.state) 0 1) (2 ^ 64 - 1) = ap (λ (v : ℕ). min (v + cond (is_free b.state) 0 1) (2 ^ 64 - 1)) inner in
+    let outer : held_over lo b.state ro ≡ min (held_in lo + held_in ro + cond (is_free b.state) 0 1) (2 ^ 64 - 1) = ap
+    (λ (v : ℕ). min (v + cond (is_free b.state) 0 1) (2 ^ 64 - 1)) inner in
     omega arith
 
 -- ---- A node
@@ -235,11 +336,13 @@ heights_of : (o : Option Span) (t : Saved) → MeansAll o t → (b : Block) → 
 heights_of None t m b e = rw m (tt, tt)
 heights_of (Some s) t m b e = let x = m.exact (and_parts s.is_exact _ e).0 in (x.heights, x.balanced)
 
-heights_of_right : (o : Option Span) (t : Saved) → MeansAll o t → (b : Block) → joins_right o b ≡ true → HasHeights t × IsBalanced (shape_of t)
+heights_of_right : (o : Option Span) (t : Saved) → MeansAll o t → (b : Block) → joins_right o b ≡ true →
+    HasHeights t × IsBalanced (shape_of t)
 heights_of_right None t m b e = rw m (tt, tt)
 heights_of_right (Some s) t m b e = let x = m.exact (and_parts s.is_exact _ e).0 in (x.heights, x.balanced)
 
-module _ (lo ro : Option Span) (l r : Saved) (b : Block) (h : ℕ) (m : MeansAll lo l) (n : MeansAll ro r) (range : IsRange b.key.start b.key.end) where
+module _ (lo ro : Option Span) (l r : Saved) (b : Block) (h : ℕ) (m : MeansAll lo l) (n : MeansAll ro r)
+    (range : IsRange b.key.start b.key.end) where
   abbrev tree : Saved
   tree = Node l b r h
 
@@ -289,7 +392,8 @@ module _ (lo ro : Option Span) (l r : Saved) (b : Block) (h : ℕ) (m : MeansAll
       let v = range.0 in
       let v2 = range.1 in
       let keys = left_keys lo l b (saved_blocks r) m w.0 (omega arith, v, v2, right_keys ro r b.key.end n w.1) in
-      let below = below_both (held_keys l) (range_if_held b.state b.key ++ held_keys r) (below_of lo l m) (below_both (range_if_held b.state b.key) (held_keys r) (below_max b.state b.key p.0) (below_of ro r n)) in
+      let below = below_both (held_keys l) (range_if_held b.state b.key ++ held_keys r) (below_of lo l m)
+      (below_both (range_if_held b.state b.key) (held_keys r) (below_max b.state b.key p.0) (below_of ro r n)) in
       record {
         ends = z.0;
         first_start = z.1;
@@ -298,7 +402,12 @@ module _ (lo ro : Option Span) (l r : Saved) (b : Block) (h : ℕ) (m : MeansAll
         last_state = z.4;
         nesting = omega arith;
         held = held_node_is lo ro l r b h m n nested;
-        readable = record { nested = nested; keys = keys; below = subst AreBelowMax (sym (held_node (saved_blocks l) b (saved_blocks r))) below };
+        readable = record {
+          nested = nested;
+          keys = keys;
+          below = subst AreBelowMax (sym (held_node (saved_blocks l) b (saved_blocks r)))
+              below;
+        };
         exact = node_exact;
         all_exact = exact_node;
       }
@@ -310,9 +419,12 @@ module _ (lo ro : Option Span) (l r : Saved) (b : Block) (h : ℕ) (m : MeansAll
       let hr = height_is ro r n in
       let deep = x.nested in
       let below = subst AreBelowMax (held_node (saved_blocks l) b (saved_blocks r)) x.below in
-      let own = below_left (range_if_held b.state b.key) (held_keys r) (below_right (held_keys l) (range_if_held b.state b.key ++ held_keys r) below) in
+      let own = below_left (range_if_held b.state b.key) (held_keys r)
+      (below_right (held_keys l) (range_if_held b.state b.key ++ held_keys r) below) in
       let from = keys_right 0 MAX (saved_blocks l) (b ∷ saved_blocks r) x.keys in
-      and_from _ _ (max_below b.state b.key own) (and_from _ _ (lt-ltb (max (nesting_of lo) (nesting_of ro)) MAX_NESTING_REPAIRED (omega arith)) (and_from _ _ (left_apart lo l b (saved_blocks r) m x.keys) (right_apart ro r b.key.end n from.3)))
+      and_from _ _ (max_below b.state b.key own)
+      (and_from _ _ (lt-ltb (max (nesting_of lo) (nesting_of ro)) MAX_NESTING_REPAIRED (omega arith))
+      (and_from _ _ (left_apart lo l b (saved_blocks r) m x.keys) (right_apart ro r b.key.end n from.3)))
 
 -- ---- All nodes
 
@@ -322,7 +434,8 @@ left_readable l r b h x =
     record {
       nested = omega arith;
       keys = keys_left 0 MAX (saved_blocks l) (b ∷ saved_blocks r) x.keys;
-      below = below_left (held_keys l) (range_if_held b.state b.key ++ held_keys r) (subst AreBelowMax (held_node (saved_blocks l) b (saved_blocks r)) x.below);
+      below = below_left (held_keys l) (range_if_held b.state b.key ++ held_keys r)
+          (subst AreBelowMax (held_node (saved_blocks l) b (saved_blocks r)) x.below);
     }
 
 right_readable : (l r : Saved) (b : Block) (h : ℕ) → IsReadable (Node l b r h) → IsReadable r
@@ -333,7 +446,9 @@ right_readable l r b h x =
     record {
       nested = omega arith;
       keys = keys_within (b.key.end + 1) 0 MAX MAX (saved_blocks r) (omega arith) (omega arith) from.3;
-      below = below_right (range_if_held b.state b.key) (held_keys r) (below_right (held_keys l) (range_if_held b.state b.key ++ held_keys r) (subst AreBelowMax (held_node (saved_blocks l) b (saved_blocks r)) x.below));
+      below = below_right (range_if_held b.state b.key) (held_keys r)
+          (below_right (held_keys l) (range_if_held b.state b.key ++ held_keys r)
+          (subst AreBelowMax (held_node (saved_blocks l) b (saved_blocks r)) x.below));
     }
 
 -- The span of a subtree is true for it.

@@ -21,7 +21,8 @@ use Rattle.vm_engine.proofs.SavedNodes.SavedTreeLaws.{nodes_are_written, written
 use Rattle.vm_engine.proofs.Reading.Writing.{encodes_fork}
 use Rattle.vm_engine.proofs.SavedNodes.ValueTrees.{saved_nodes, nodes_saved, saved_shape, saved_of, shape_of-saved_of, saved_of-heights, shape_saved}
 
-pub strict_nodes : (d : Data) (space : Range) (state : AddressState) → EncodesSpaceTree d space state → (t : Saved) × EncodesSaved d t × HasTreeOf space t state
+pub strict_nodes : (d : Data) (space : Range) (state : AddressState) → EncodesSpaceTree d space state →
+    (t : Saved) × EncodesSaved d t × HasTreeOf space t state
 strict_nodes d space state p =
     let is = shape_of-saved_of p.tree in (
       saved_of p.tree,
@@ -43,7 +44,8 @@ not_absent : (t : Saved) → t ≢ Absent → shape_of t ≢ Tip
 not_absent Absent n = absurd (n refl)
 not_absent (Node l b r h) n = λ e. cc e
 
-pub strict_value : (d : Data) (space : Range) (state : AddressState) (t : Saved) → EncodesSaved d t → HasTreeOf space t state → EncodesSpaceTree d space state
+pub strict_value : (d : Data) (space : Range) (state : AddressState) (t : Saved) → EncodesSaved d t → HasTreeOf space t state →
+    EncodesSpaceTree d space state
 strict_value d space state t nodes p = record {
   tree = shape_of t;
   encoded = saved_shape t d p.tree.heights nodes;
@@ -61,8 +63,18 @@ values_are_saved_trees = record { nodes = strict_nodes; tree = strict_value }
 pub values_have_held_keys : ValuesHaveHeldKeys
 values_have_held_keys = record {
   nodes = λ d space state p.
-      let t = nodes_saved p.tree d p.nodes in
-      (t.0, t.1, record { nested = rw t.2 p.nested; keys = rw t.2 p.keys; below = rw t.2 p.below; few = rw t.2 p.few; held = rw t.2 p.held; is_space = p.is_space });
+      let t = nodes_saved p.tree d p.nodes in (
+        t.0,
+        t.1,
+        record {
+          nested = rw t.2 p.nested;
+          keys = rw t.2 p.keys;
+          below = rw t.2 p.below;
+          few = rw t.2 p.few;
+          held = rw t.2 p.held;
+          is_space = p.is_space;
+        },
+      );
   keys = λ d space state t nodes p. record {
     tree = shape_of t;
     nodes = saved_nodes t d nodes;
@@ -78,13 +90,16 @@ values_have_held_keys = record {
 pub ruleset values = (values_are_saved_trees, values_have_held_keys)
 
 -- ---- The value that is written
-pub value_written : (s : Shape) (answer : Result Value Error) → IsSpaceTree s → Saves (WritesTree (blocks s)) answer → Saves (λ d. EncodesSpaceTree d (tree_state s).space (tree_state s)) answer
+pub value_written : (s : Shape) (answer : Result Value Error) → IsSpaceTree s → Saves (WritesTree (blocks s)) answer →
+    Saves (λ d. EncodesSpaceTree d (tree_state s).space (tree_state s)) answer
 value_written s (Ok v) h w = strict_value (view v) (tree_state s).space (tree_state s) w.0 w.2 (written_is_read s w.0 h w.1)
 value_written s (Err e) h w = w
 
 -- The value of a node, by the values of its children.
-pub node_written : (bs : List Block) (n : WrittenNode) (left right : Data) (answer : Result Value Error) → WritesNode bs (Some n) → WritesTree n.left.blocks.now left → WritesTree n.right.blocks.now right
-    → Saves (λ d. EncodesNode d (record { key = n.key; state = n.state }) (λ v. v ≡ left) (λ v. v ≡ right) n.height) answer → Saves (WritesTree bs) answer
+pub node_written : (bs : List Block) (n : WrittenNode) (left right : Data) (answer : Result Value Error) → WritesNode bs (Some n) →
+    WritesTree n.left.blocks.now left → WritesTree n.right.blocks.now right
+    → Saves (λ d. EncodesNode d (record { key = n.key; state = n.state }) (λ v. v ≡ left) (λ v. v ≡ right) n.height) answer →
+    Saves (WritesTree bs) answer
 node_written bs n left right (Ok v) w l r e =
     let b : Block = record { key = n.key; state = n.state } in
     (Node l.0 b r.0 n.height, nodes_are_written bs n l.0 r.0 w l.1 r.1, encodes_fork (view v) left right n.height b l.0 r.0 e l.2 r.2)

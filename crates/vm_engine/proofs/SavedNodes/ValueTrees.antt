@@ -15,13 +15,17 @@ use Rattle.vm_engine.proofs.Reading.ReadNodes.{data_of, no_data, over_sides, nod
 
 pub saved_nodes : (t : Saved) (d : Data) → EncodesSaved d t → HasNodes d (shape_of t)
 saved_nodes Absent d p = p
-saved_nodes (Node l b r h) d p =
-    (h, sides_map d b (λ v. EncodesSaved v l) (λ v. EncodesSaved v r) (λ v. HasNodes v (shape_of l)) (λ v. HasNodes v (shape_of r)) h (λ v. saved_nodes l v) (λ v. saved_nodes r v) p)
+saved_nodes (Node l b r h) d p = (
+  h,
+  sides_map d b (λ v. EncodesSaved v l) (λ v. EncodesSaved v r) (λ v. HasNodes v (shape_of l)) (λ v. HasNodes v (shape_of r)) h
+      (λ v. saved_nodes l v) (λ v. saved_nodes r v) p,
+)
 
 pub saved_shape : (t : Saved) (d : Data) → HasHeights t → EncodesSaved d t → EncodesShape d (shape_of t)
 saved_shape Absent d g p = p
 saved_shape (Node l b r h) d g p =
-    let mapped = sides_map d b (λ v. EncodesSaved v l) (λ v. EncodesSaved v r) (λ v. EncodesShape v (shape_of l)) (λ v. EncodesShape v (shape_of r)) h (λ v. saved_shape l v g.0) (λ v. saved_shape r v g.1) p in
+    let mapped = sides_map d b (λ v. EncodesSaved v l) (λ v. EncodesSaved v r) (λ v. EncodesShape v (shape_of l))
+    (λ v. EncodesShape v (shape_of r)) h (λ v. saved_shape l v g.0) (λ v. saved_shape r v g.1) p in
     subst (EncodesNode d b (λ v. EncodesShape v (shape_of l)) (λ v. EncodesShape v (shape_of r))) g.2 mapped
 
 -- The saved tree of a shape, with its heights.
@@ -41,7 +45,8 @@ saved_of-heights (Fork l b r) =
 pub shape_saved : (s : NodeTree) (d : Data) → EncodesShape d s → EncodesSaved d (saved_of s)
 shape_saved Tip d p = p
 shape_saved (Fork l b r) d p =
-    sides_map d b (λ v. EncodesShape v l) (λ v. EncodesShape v r) (λ v. EncodesSaved v (saved_of l)) (λ v. EncodesSaved v (saved_of r)) (max (height_of l) (height_of r) + 1) (λ v. shape_saved l v) (λ v. shape_saved r v) p
+    sides_map d b (λ v. EncodesShape v l) (λ v. EncodesShape v r) (λ v. EncodesSaved v (saved_of l)) (λ v. EncodesSaved v (saved_of r))
+    (max (height_of l) (height_of r) + 1) (λ v. shape_saved l v) (λ v. shape_saved r v) p
 
 pub ranges_saved : (t : Saved) (d : Data) → EncodesSaved d t → HasRanges t
 ranges_saved Absent d p = tt
@@ -58,7 +63,8 @@ nodes_saved (Fork l b r) d p =
     let left = nodes_saved l n.0 n.3 in
     let right = nodes_saved r n.1 n.4 in (
       Node left.0 b right.0 p.0,
-      over_sides d (record { block = b; height = p.0; left = n.0; right = n.1 }) (λ v. EncodesSaved v left.0) (λ v. EncodesSaved v right.0) p.0 n.2 refl left.1 right.1,
+      over_sides d (record { block = b; height = p.0; left = n.0; right = n.1 }) (λ v. EncodesSaved v left.0) (λ v. EncodesSaved v right.0)
+          p.0 n.2 refl left.1 right.1,
       rw (left.2, right.2) refl,
     )
 

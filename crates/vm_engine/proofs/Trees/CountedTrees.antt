@@ -48,7 +48,8 @@ count_dropped [] (suc i) = omega arith
 count_dropped (r ∷ rs) (suc i) = omega (arith, count_dropped rs i)
 
 -- The addresses of the ranges that are left in a list.
-pub count_rest : (rs : List Range) (i : ℕ) (d r : Range) → i < length rs → r ≡ get_or rs i d → count_of (drop i rs) ≡ address_count r + count_of (drop (i + 1) rs)
+pub count_rest : (rs : List Range) (i : ℕ) (d r : Range) → i < length rs → r ≡ get_or rs i d →
+    count_of (drop i rs) ≡ address_count r + count_of (drop (i + 1) rs)
 count_rest rs i d r l e = ap count_of (drop_more rs i d l) ∙ ap (λ (v : Range). address_count v + count_of (drop (i + 1) rs)) (sym e)
 
 -- Ranges with an address are some ranges.
@@ -57,7 +58,8 @@ some_counted [] h = absurd (omega arith)
 some_counted (r ∷ rs) h = omega arith
 
 -- ---- The numbers of blocks and of addresses
-all_of_space : (s : Shape) → IsSpaceTree s → count_of (free_of (blocks s)) + count_of (held_of (blocks s)) ≡ address_count (space_of (blocks s))
+all_of_space : (s : Shape) → IsSpaceTree s →
+    count_of (free_of (blocks s)) + count_of (held_of (blocks s)) ≡ address_count (space_of (blocks s))
 unfolding TilesSpace
 all_of_space s h =
     let sp = space_of (blocks s) in
@@ -80,21 +82,24 @@ record OneMore (s n : Shape) (r : Range) : Type 0 where
 one_more : (s n : Shape) (r : Range) → IsSpaceTree s → IsSpaceTree n → tree_state n ≡ holding r (tree_state s) → OneMore s n r
 one_more s n r h t e =
     let held : held_of (blocks n) ≡ with_range r (held_of (blocks s)) = ap (λ (v : AddressState). v.held) e in
-    let space : address_count (space_of (blocks n)) ≡ address_count (space_of (blocks s)) = ap (λ (v : AddressState). address_count v.space) e in
+    let space : address_count (space_of (blocks n))
+    ≡ address_count (space_of (blocks s)) = ap (λ (v : AddressState). address_count v.space) e in
     let counts = ap count_of held ∙ count_with r (held_of (blocks s)) in
     record {
       held = ap length held ∙ length_with r (held_of (blocks s));
       clear = omega (arith, all_of_space s h, all_of_space n t, space, counts);
     }
 
-held_again : (s n : Shape) (r : Range) → IsSpaceTree s → Contains (held_of (blocks s)) r → tree_state n ≡ releasing r (tree_state s) → tree_state s ≡ holding r (tree_state n)
+held_again : (s n : Shape) (r : Range) → IsSpaceTree s → Contains (held_of (blocks s)) r → tree_state n ≡ releasing r (tree_state s) →
+    tree_state s ≡ holding r (tree_state n)
 held_again s n r h c e =
     let sp = space_of (blocks s) in
     let back = with_without sp.start sp.end r (held_of (blocks s)) (state_of_tree s h).in_order (held_contains (held_of (blocks s)) r c) in
     ap (λ (v : List Range). record { space = sp; held = v }) (sym back) ∙ ap (holding r) (sym e)
 
 -- ---- The tree after a change of its state
-module _ (s n : Shape) (state : AddressState) (h : IsSpaceTree s) (space : state.space ≡ space_of (blocks s)) (is : IsBlocksOf state (blocks n)) (below : AreBelowMax state.held) (few : length (blocks n) < 2 ^ 49) where
+module _ (s n : Shape) (state : AddressState) (h : IsSpaceTree s) (space : state.space ≡ space_of (blocks s))
+    (is : IsBlocksOf state (blocks n)) (below : AreBelowMax state.held) (few : length (blocks n) < 2 ^ 49) where
   same_space : space_of (blocks n) ≡ space_of (blocks s)
   unfolding TilesSpace
   same_space =
@@ -108,7 +113,8 @@ module _ (s n : Shape) (state : AddressState) (h : IsSpaceTree s) (space : state
       space_tree (space_of (blocks s)) n (record { tiles = tiles; below = subst AreBelowMax (sym is.held) below }) h.space few
 
   changed_state : tree_state n ≡ state
-  changed_state = ap (λ (v : Range). record { space = v; held = held_of (blocks n) }) (same_space ∙ sym space) ∙ ap (λ (v : List Range). record { space = state.space; held = v }) is.held
+  changed_state = ap (λ (v : Range). record { space = v; held = held_of (blocks n) }) (same_space ∙ sym space)
+      ∙ ap (λ (v : List Range). record { space = state.space; held = v }) is.held
 
 -- ---- A range that was allocated
 -- The blocks n are those of s with the range r held. There are `added` blocks more.
@@ -118,12 +124,15 @@ pub record TakesOne (s n : Shape) (r : Range) (added : ℕ) : Type 0 where
   pub more : length (blocks n) ≡ length (blocks s) + added
   pub few : length (blocks n) < 2 ^ 49
 
-module _ (s n : Shape) (space r : Range) (held gaps clear added : ℕ) (h : IsCountedTree s space held gaps clear) (k : TakesOne s n r added) where
+module _ (s n : Shape) (space r : Range) (held gaps clear added : ℕ) (h : IsCountedTree s space held gaps clear)
+    (k : TakesOne s n r added) where
   taken_tree : IsSpaceTree n
-  taken_tree = changed_tree s n (holding r (tree_state s)) h.tree refl k.is (below_with r (held_of (blocks s)) k.below h.tree.tiling.below) k.few
+  taken_tree = changed_tree s n (holding r (tree_state s)) h.tree refl k.is (below_with r (held_of (blocks s)) k.below h.tree.tiling.below)
+      k.few
 
   pub taken_state : tree_state n ≡ holding r (tree_state s)
-  taken_state = changed_state s n (holding r (tree_state s)) h.tree refl k.is (below_with r (held_of (blocks s)) k.below h.tree.tiling.below) k.few
+  taken_state = changed_state s n (holding r (tree_state s)) h.tree refl k.is
+      (below_with r (held_of (blocks s)) k.below h.tree.tiling.below) k.few
 
   taken_more : OneMore s n r
   taken_more = one_more s n r h.tree taken_tree taken_state
@@ -161,7 +170,8 @@ pub record FreesOne (s n : Shape) (r : Range) (joined : ℕ) : Type 0 where
   pub below : AreBelowMax (releasing r (tree_state s)).held
   pub less : length (blocks s) ≡ length (blocks n) + joined
 
-module _ (s n : Shape) (space r : Range) (held gaps clear joined : ℕ) (h : IsCountedTree s space held gaps clear) (k : FreesOne s n r joined) where
+module _ (s n : Shape) (space r : Range) (held gaps clear joined : ℕ) (h : IsCountedTree s space held gaps clear)
+    (k : FreesOne s n r joined) where
   few_left : length (blocks n) < 2 ^ 49
   few_left = omega (arith, k.less, h.tree.few)
 

@@ -1,5 +1,36 @@
 -- From the blocks that a free leaves to the result of the call.
-use Rattle.std.proofs.Common.{◌≡◌, ℕ, zero, suc, ◌+◌, ◌-◌, ◌<◌, ◌≤◌, List, [], ◌∷◌, ◌++◌, length, refl, sym, ap, ◌∙◌, arith, inl, inr, ◌⊎◌, ⊎_elim, subst, Ok, Err, length-append, cond, eqb, true, false}
+use Rattle.std.proofs.Common.{
+  ◌≡◌,
+  ℕ,
+  zero,
+  suc,
+  ◌+◌,
+  ◌-◌,
+  ◌<◌,
+  ◌≤◌,
+  List,
+  [],
+  ◌∷◌,
+  ◌++◌,
+  length,
+  refl,
+  sym,
+  ap,
+  ◌∙◌,
+  arith,
+  inl,
+  inr,
+  ◌⊎◌,
+  ⊎_elim,
+  subst,
+  Ok,
+  Err,
+  length-append,
+  cond,
+  eqb,
+  true,
+  false,
+}
 use Rattle.std.specs.List.{Contains}
 use Rattle.vm_ranges.specs.Range.{Range}
 use Rattle.vm_ranges.specs.declared.error.Error.TheVariants.{ResourceNotAvailable}
@@ -37,31 +68,37 @@ module _ (sp : Range) (old : List Block) (tiles : TilesSpace sp old) (k : Range)
   freed_first : (us : List Block) → old ≡ held_block k ∷ us → IsBlocksOf (releasing k (blocks_state sp old)) (with_free k us)
   freed_first us e = blocks_freed (blocks_state sp old) old [] us (held_block k) (as_blocks sp old tiles) e refl tt
 
-  freed_later : (xs : List Block) (x : Block) (us : List Block) → old ≡ (xs ++ x ∷ []) ++ held_block k ∷ us → IsBlocksOf (releasing k (blocks_state sp old)) (freed_between (xs ++ x ∷ []) k us)
+  freed_later : (xs : List Block) (x : Block) (us : List Block) → old ≡ (xs ++ x ∷ []) ++ held_block k ∷ us →
+      IsBlocksOf (releasing k (blocks_state sp old)) (freed_between (xs ++ x ∷ []) k us)
   freed_later xs x us e =
       ⊎_elim
       (λ (f : x.state ≡ Free).
       subst (λ (v : List Block). IsBlocksOf (releasing k (blocks_state sp old)) v) (freed_gap_before xs x us k f)
-      (blocks_freed_before (blocks_state sp old) old xs us x (held_block k) (as_blocks sp old tiles) (e ∙ append_one xs x (held_block k ∷ us)) f refl))
+      (blocks_freed_before (blocks_state sp old) old xs us x (held_block k) (as_blocks sp old tiles)
+      (e ∙ append_one xs x (held_block k ∷ us)) f refl))
       (λ (f : x.state ≡ Allocated).
       subst (λ (v : List Block). IsBlocksOf (releasing k (blocks_state sp old)) v) (freed_held_before xs x us k f)
-      (blocks_freed (blocks_state sp old) old (xs ++ x ∷ []) us (held_block k) (as_blocks sp old tiles) e refl (ends_held Allocated xs x f)))
+      (blocks_freed (blocks_state sp old) old (xs ++ x ∷ []) us (held_block k) (as_blocks sp old tiles) e refl
+      (ends_held Allocated xs x f)))
       (state_cases x.state)
     where
       append_one : (xs : List Block) (x : Block) (ys : List Block) → (xs ++ x ∷ []) ++ ys ≡ xs ++ x ∷ ys
       append_one [] x ys = refl
       append_one (y ∷ xs) x ys = ap (λ (v : List Block). y ∷ v) (append_one xs x ys)
 
-  freed_cut : (lower us : List Block) → old ≡ lower ++ held_block k ∷ us → IsBlocksOf (releasing k (blocks_state sp old)) (freed_between lower k us)
+  freed_cut : (lower us : List Block) → old ≡ lower ++ held_block k ∷ us →
+      IsBlocksOf (releasing k (blocks_state sp old)) (freed_between lower k us)
   freed_cut [] us e = freed_first us e
   freed_cut (y ∷ ys) us e =
       let c = cut_last (y ∷ ys) (omega arith) in
       let xs = Rattle.std.proofs.Common.take (length (y ∷ ys) - 1) (y ∷ ys) in
       let x = nth (y ∷ ys) (length (y ∷ ys) - 1) in
-      subst (λ (v : List Block). IsBlocksOf (releasing k (blocks_state sp old)) (freed_between v k us)) (sym c) (freed_later xs x us (e ∙ ap (λ (v : List Block). v ++ held_block k ∷ us) c))
+      subst (λ (v : List Block). IsBlocksOf (releasing k (blocks_state sp old)) (freed_between v k us)) (sym c)
+      (freed_later xs x us (e ∙ ap (λ (v : List Block). v ++ held_block k ∷ us) c))
 
   pub freed_blocks : (new : List Block) → tree.Frees k old new → IsBlocksOf (releasing k (blocks_state sp old)) new
-  freed_blocks new h = subst (λ (v : List Block). IsBlocksOf (releasing k (blocks_state sp old)) v) (sym h.after) (freed_cut h.lower h.upper h.before)
+  freed_blocks new h = subst (λ (v : List Block). IsBlocksOf (releasing k (blocks_state sp old)) v) (sym h.after)
+      (freed_cut h.lower h.upper h.before)
 
   was_held : (new : List Block) → tree.Frees k old new → IsHeld (held_of old) k
   unfolding IsHeldBlock
@@ -69,7 +106,10 @@ module _ (sp : Range) (old : List Block) (tiles : TilesSpace sp old) (k : Range)
 
   pub frees : (new : List Block) → tree.Frees k old new → Frees (blocks_state sp old) k (Ok tt) (blocks_state sp new)
   unfolding Frees
-  frees new h = inl (contains_held (held_of old) k (was_held new h), (refl, ap (λ (v : List Range). record { space = sp; held = v }) (freed_blocks new h).held))
+  frees new h = inl (
+    contains_held (held_of old) k (was_held new h),
+    (refl, ap (λ (v : List Range). record { space = sp; held = v }) (freed_blocks new h).held),
+  )
 
 -- ---- A range that no block holds
 pub found_at : (r : Range) (bs : List Block) → IsHeld (held_of bs) r → tree.Holds r bs
@@ -78,22 +118,26 @@ found_at r [] h = absurd h
 found_at r (b ∷ bs) h =
     ⊎_elim
     (λ (i : IsHeldBlock r b). record { index = 0; within = omega arith; found = held_is b i.0 i.1 })
-    (λ (i : IsHeld (held_of bs) r). let f = found_at r bs i in record { index = suc f.index; within = omega (arith, f.within); found = f.found })
+    (λ (i : IsHeld (held_of bs) r). let f = found_at r bs i in record
+    { index = suc f.index; within = omega (arith, f.within); found = f.found })
     (held_or_later r b bs h)
   where
     held_is : (b : Block) → b.key ≡ r → b.state ≡ Allocated → b ≡ held_block r
     held_is b p q = ap (λ (v : Range). record { key = v; state = b.state }) p ∙ ap (λ (s : NodeState). record { key = r; state = s }) q
 
-pub not_freed : (sp : Range) (bs : List Block) (r : Range) → (tree.Holds r bs → ⊥) → Frees (blocks_state sp bs) r (Err ResourceNotAvailable) (blocks_state sp bs)
+pub not_freed : (sp : Range) (bs : List Block) (r : Range) → (tree.Holds r bs → ⊥) →
+    Frees (blocks_state sp bs) r (Err ResourceNotAvailable) (blocks_state sp bs)
 unfolding Frees
 not_freed sp bs r n = inr (λ c. n (found_at r bs (held_contains (held_of bs) r c)), (refl, refl))
 
 -- ---- The call
 below_without : (r : Range) (hs : List Range) → AreBelowMax hs → AreBelowMax (without_range r hs)
 below_without r [] h = tt
-below_without r (x ∷ xs) h = elim (eqb r.start x.start) as (λ v. AreBelowMax (cond v xs (x ∷ without_range r xs))) [ true ↦ h.1 | false ↦ (h.0, below_without r xs h.1) ]
+below_without r (x ∷ xs) h = elim (eqb r.start x.start) as (λ v. AreBelowMax (cond v xs (x ∷ without_range r xs)))
+    [ true ↦ h.1 | false ↦ (h.0, below_without r xs h.1) ]
 
-module _ (s n : Shape) (k : Range) (joined : ℕ) (h : IsSpaceTree s) (f : tree.Frees k (blocks s) (blocks n)) (l : length (blocks s) ≡ length (blocks n) + joined) where
+module _ (s n : Shape) (k : Range) (joined : ℕ) (h : IsSpaceTree s) (f : tree.Frees k (blocks s) (blocks n))
+    (l : length (blocks s) ≡ length (blocks n) + joined) where
   pub frees_one : FreesOne s n k joined
   frees_one = record {
     held = contains_held (held_of (blocks s)) k (was_held (space_of (blocks s)) (blocks s) h.tiling.tiles k (blocks n) f);
@@ -103,13 +147,19 @@ module _ (s n : Shape) (k : Range) (joined : ℕ) (h : IsSpaceTree s) (f : tree.
   }
 
 -- A range that starts outside the space is not held.
-pub not_outside : (s : Shape) (k : Range) → IsSpaceTree s → (IsIn (space_of (blocks s)) k.start → ⊥) → Frees (tree_state s) k (Err ResourceNotAvailable) (tree_state s)
+pub not_outside : (s : Shape) (k : Range) → IsSpaceTree s → (IsIn (space_of (blocks s)) k.start → ⊥) →
+    Frees (tree_state s) k (Err ResourceNotAvailable) (tree_state s)
 unfolding Frees
 not_outside s k h out =
     let sp = space_of (blocks s) in
-    inr (λ c. let l = held_lies sp.start sp.end (held_of (blocks s)) k (state_of_tree s h).in_order (held_contains (held_of (blocks s)) k c) in out (omega (arith, l.0), omega (arith, l.1, l.2)), (refl, refl))
+    inr (
+      λ c. let l = held_lies sp.start sp.end (held_of (blocks s)) k (state_of_tree s h).in_order (held_contains (held_of (blocks s)) k c)
+          in out (omega (arith, l.0), omega (arith, l.1, l.2)),
+      (refl, refl),
+    )
 
-pub frees_held : (s n : Shape) (k : Range) → Contains (held_of (blocks s)) k → tree_state n ≡ releasing k (tree_state s) → Frees (tree_state s) k (Ok tt) (tree_state n)
+pub frees_held : (s n : Shape) (k : Range) → Contains (held_of (blocks s)) k → tree_state n ≡ releasing k (tree_state s) →
+    Frees (tree_state s) k (Ok tt) (tree_state n)
 unfolding Frees
 frees_held s n k c e = inl (c, (refl, e))
 

@@ -62,9 +62,11 @@ abbrev HasSpaceOf : AddressState → AddressState → Type 0
 HasSpaceOf old new = new.space ≡ old.space
 
 takes_space : (old new : AddressState) (r : Range) (answer : Result Range Error) → AllocatesAt old r answer new → HasSpaceOf old new
-takes_space old new r answer h = ⊎_elim (λ l. ap (λ (v : AddressState). v.space) l.1) (λ l. ap (λ (v : AddressState). v.space) l.2) (given_or_refused old r answer new h)
+takes_space old new r answer h = ⊎_elim (λ l. ap (λ (v : AddressState). v.space) l.1) (λ l. ap (λ (v : AddressState). v.space) l.2)
+    (given_or_refused old r answer new h)
 
-grants_space : (request : Request) (old new : AddressState) (answer : Result Range Error) → Grants old request answer new → HasSpaceOf old new
+grants_space : (request : Request) (old new : AddressState) (answer : Result Range Error) → Grants old request answer new →
+    HasSpaceOf old new
 grants_space request old new answer h =
     ⊎_elim
     (λ (l : IsRefused old answer new). ap (λ (v : AddressState). v.space) l.2)
@@ -76,10 +78,12 @@ unfolding Frees
 frees_space old new r answer h = ⊎_elim (λ l. ap (λ (v : AddressState). v.space) l.1.1) (λ l. ap (λ (v : AddressState). v.space) l.1.1) h
 
 -- The space of the tree stays that of the allocator.
-pub grants_keeps : (space : Range) (s t : Shape) (request : Request) (answer : Result Range Error) → space_of (blocks s) ≡ space → Grants (tree_state s) request answer (tree_state t) → space_of (blocks t) ≡ space
+pub grants_keeps : (space : Range) (s t : Shape) (request : Request) (answer : Result Range Error) → space_of (blocks s) ≡ space →
+    Grants (tree_state s) request answer (tree_state t) → space_of (blocks t) ≡ space
 grants_keeps space s t request answer e h = grants_space request (tree_state s) (tree_state t) answer h ∙ e
 
-pub frees_keeps : (space : Range) (s t : Shape) (r : Range) (answer : Result (Unit {0}) Error) → space_of (blocks s) ≡ space → Frees (tree_state s) r answer (tree_state t) → space_of (blocks t) ≡ space
+pub frees_keeps : (space : Range) (s t : Shape) (r : Range) (answer : Result (Unit {0}) Error) → space_of (blocks s) ≡ space →
+    Frees (tree_state s) r answer (tree_state t) → space_of (blocks t) ≡ space
 frees_keeps space s t r answer e h = frees_space (tree_state s) (tree_state t) r answer h ∙ e
 
 pub space_made : (space : Range) (s : Shape) → tree_state s ≡ record { space = space; held = [] } → space_of (blocks s) ≡ space

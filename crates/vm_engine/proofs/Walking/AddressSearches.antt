@@ -31,7 +31,8 @@ module _ (s : Shape) (x : ℕ) (h : IsSpaceTree s) where
   pub held_free : (b : Block) → find_superset (at_address x) (blocks s) ≡ Some b → b.state ≡ Free → IsHeldAt (tree_state s) x None
   held_free b e f = other_at Allocated held_of held_picked (space_of (blocks s)).start x (blocks s) b (order s h) e (λ a. cc)
 
-  pub held_found : (b : Block) → find_superset (at_address x) (blocks s) ≡ Some b → b.state ≡ Allocated → IsHeldAt (tree_state s) x (Some b.key)
+  pub held_found : (b : Block) → find_superset (at_address x) (blocks s) ≡ Some b → b.state ≡ Allocated →
+      IsHeldAt (tree_state s) x (Some b.key)
   held_found b e a = range_at Allocated held_of held_picked x (blocks s) b e a
 
   -- ---- The gap at an address
@@ -39,10 +40,12 @@ module _ (s : Shape) (x : ℕ) (h : IsSpaceTree s) where
   gap_none e = subst (λ (v : List Range). IsRangeAt v x None) (gaps_in_tree s h) (none_at Free free_of free_picked x (blocks s) e)
 
   pub gap_held : (b : Block) → find_superset (at_address x) (blocks s) ≡ Some b → b.state ≡ Allocated → IsGapAt (tree_state s) x None
-  gap_held b e a = subst (λ (v : List Range). IsRangeAt v x None) (gaps_in_tree s h) (other_at Free free_of free_picked (space_of (blocks s)).start x (blocks s) b (order s h) e (λ f. cc))
+  gap_held b e a = subst (λ (v : List Range). IsRangeAt v x None) (gaps_in_tree s h)
+      (other_at Free free_of free_picked (space_of (blocks s)).start x (blocks s) b (order s h) e (λ f. cc))
 
   pub gap_found : (b : Block) → find_superset (at_address x) (blocks s) ≡ Some b → b.state ≡ Free → IsGapAt (tree_state s) x (Some b.key)
-  gap_found b e f = subst (λ (v : List Range). IsRangeAt v x (Some b.key)) (gaps_in_tree s h) (range_at Free free_of free_picked x (blocks s) b e f)
+  gap_found b e f = subst (λ (v : List Range). IsRangeAt v x (Some b.key)) (gaps_in_tree s h)
+      (range_at Free free_of free_picked x (blocks s) b e f)
 
 pub ruleset held_at_address = (held_none, held_free, held_found)
 
@@ -52,7 +55,8 @@ pub ruleset gap_at_address = (gap_none, gap_held, gap_found)
 module _ (s : Shape) (k : Range) (h : IsSpaceTree s) where
   only_at : (found : Option Range) → IsHeldAt (tree_state s) k.start found → Contains (tree_state s).held k → found ≡ Some k
   only_at found at c =
-      let order = (held_lies (space_of (blocks s)).start (space_of (blocks s)).end (held_of (blocks s)) k (state_of_tree s h).in_order (held_contains (held_of (blocks s)) k c)).1 in
+      let order = (held_lies (space_of (blocks s)).start (space_of (blocks s)).end (held_of (blocks s)) k (state_of_tree s h).in_order
+      (held_contains (held_of (blocks s)) k c)).1 in
       (held_at_agrees (tree_state s) k.start found (state_of_tree s h) at).held k c (omega arith, order)
 
   pub key_none : find_superset (at_address k.start) (blocks s) ≡ None → ¬ Contains (tree_state s).held k
@@ -61,10 +65,12 @@ module _ (s : Shape) (k : Range) (h : IsSpaceTree s) where
   pub key_free : (b : Block) → find_superset (at_address k.start) (blocks s) ≡ Some b → b.state ≡ Free → ¬ Contains (tree_state s).held k
   key_free b e f c = let g = only_at None (held_free s k.start h b e f) c in cc g
 
-  pub key_other : (b : Block) → find_superset (at_address k.start) (blocks s) ≡ Some b → b.state ≡ Allocated → (b.key ≡ k → ⊥) → ¬ Contains (tree_state s).held k
+  pub key_other : (b : Block) → find_superset (at_address k.start) (blocks s) ≡ Some b → b.state ≡ Allocated → (b.key ≡ k → ⊥) →
+      ¬ Contains (tree_state s).held k
   key_other b e f n c = let g = only_at (Some b.key) (held_found s k.start h b e f) c in n (cc g)
 
-  pub key_same : (b : Block) → find_superset (at_address k.start) (blocks s) ≡ Some b → b.state ≡ Allocated → b.key ≡ k → Contains (tree_state s).held k
+  pub key_same : (b : Block) → find_superset (at_address k.start) (blocks s) ≡ Some b → b.state ≡ Allocated → b.key ≡ k →
+      Contains (tree_state s).held k
   key_same b e f g = subst (λ (v : Range). Contains (tree_state s).held v) g (held_found s k.start h b e f).0
 
 pub ruleset held_by_key = (key_none, key_free, key_other, key_same)

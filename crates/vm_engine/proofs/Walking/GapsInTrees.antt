@@ -29,7 +29,8 @@ free_of-append (b ∷ bs) ys =
     ∙ sym (append_assoc (range_if_free b.state b.key) (free_of bs) (free_of ys))
 
 pub free_of-last_held : (bs : List Block) (b : Block) → b.state ≡ Allocated → free_of (bs ++ b ∷ []) ≡ free_of bs
-free_of-last_held bs b e = free_of-append bs (b ∷ []) ∙ ap (λ (v : List Range). free_of bs ++ v) (free_of-held b [] e) ∙ append-nil (free_of bs)
+free_of-last_held bs b e = free_of-append bs (b ∷ []) ∙ ap (λ (v : List Range). free_of bs ++ v) (free_of-held b [] e)
+    ∙ append-nil (free_of bs)
 
 pub free_of-last_free : (bs : List Block) (b : Block) → b.state ≡ Free → free_of (bs ++ b ∷ []) ≡ free_of bs ++ b.key ∷ []
 free_of-last_free bs b e = free_of-append bs (b ∷ []) ∙ ap (λ (v : List Range). free_of bs ++ v) (free_of-free b [] e)
@@ -45,7 +46,8 @@ count_of-append : (xs ys : List Range) → count_of (xs ++ ys) ≡ count_of xs +
 count_of-append [] ys = omega arith
 count_of-append (r ∷ rs) ys = omega (arith, count_of-append rs ys)
 
-own_count : (s : NodeState) (k : Range) (rs : List Range) → count_of (range_if_free s k ++ rs) ≡ free_length (record { key = k; state = s }) + count_of rs
+own_count : (s : NodeState) (k : Range) (rs : List Range) →
+    count_of (range_if_free s k ++ rs) ≡ free_length (record { key = k; state = s }) + count_of rs
 own_count Free k rs = refl
 own_count Allocated k rs = omega arith
 
@@ -70,7 +72,8 @@ longest_of-append : (xs ys : List Range) → longest_of (xs ++ ys) ≡ max (long
 longest_of-append [] ys = omega arith
 longest_of-append (r ∷ rs) ys = omega (arith, longest_of-append rs ys)
 
-own_longest : (s : NodeState) (k : Range) (rs : List Range) → longest_of (range_if_free s k ++ rs) ≡ max (free_length (record { key = k; state = s })) (longest_of rs)
+own_longest : (s : NodeState) (k : Range) (rs : List Range) →
+    longest_of (range_if_free s k ++ rs) ≡ max (free_length (record { key = k; state = s })) (longest_of rs)
 own_longest Free k rs = refl
 own_longest Allocated k rs = omega arith
 

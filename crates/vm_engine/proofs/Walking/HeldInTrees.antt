@@ -19,7 +19,8 @@ held_of-append (b ∷ bs) ys =
 
 -- The last block comes last.
 pub held_of-last_free : (bs : List Block) (b : Block) → b.state ≡ Free → held_of (bs ++ b ∷ []) ≡ held_of bs
-held_of-last_free bs b e = held_of-append bs (b ∷ []) ∙ ap (λ (v : List Range). held_of bs ++ v) (held_of-free b [] e) ∙ append-nil (held_of bs)
+held_of-last_free bs b e = held_of-append bs (b ∷ []) ∙ ap (λ (v : List Range). held_of bs ++ v) (held_of-free b [] e)
+    ∙ append-nil (held_of bs)
 
 pub held_of-last_held : (bs : List Block) (b : Block) → b.state ≡ Allocated → held_of (bs ++ b ∷ []) ≡ held_of bs ++ b.key ∷ []
 held_of-last_held bs b e = held_of-append bs (b ∷ []) ∙ ap (λ (v : List Range). held_of bs ++ v) (held_of-held b [] e)

@@ -17,7 +17,8 @@ other_than_allocated : (s : NodeState) → s ≢ Allocated → s ≡ Free
 other_than_allocated Free n = refl
 other_than_allocated Allocated n = absurd (n refl)
 
-pub first_with : (state : NodeState) (b : Block) (bs : List Block) → b.state ≡ state → ranges_with state (b ∷ bs) ≡ b.key ∷ ranges_with state bs
+pub first_with : (state : NodeState) (b : Block) (bs : List Block) → b.state ≡ state →
+    ranges_with state (b ∷ bs) ≡ b.key ∷ ranges_with state bs
 first_with Free b bs e = free_of-free b bs e
 first_with Allocated b bs e = held_of-held b bs e
 
@@ -25,11 +26,13 @@ pub first_without : (state : NodeState) (b : Block) (bs : List Block) → b.stat
 first_without Free b bs n = free_of-held b bs (other_than_free b.state n)
 first_without Allocated b bs n = held_of-free b bs (other_than_allocated b.state n)
 
-pub last_with : (state : NodeState) (bs : List Block) (b : Block) → b.state ≡ state → ranges_with state (bs ++ b ∷ []) ≡ ranges_with state bs ++ b.key ∷ []
+pub last_with : (state : NodeState) (bs : List Block) (b : Block) → b.state ≡ state →
+    ranges_with state (bs ++ b ∷ []) ≡ ranges_with state bs ++ b.key ∷ []
 last_with Free bs b e = free_of-last_free bs b e
 last_with Allocated bs b e = held_of-last_held bs b e
 
-pub last_without : (state : NodeState) (bs : List Block) (b : Block) → b.state ≢ state → ranges_with state (bs ++ b ∷ []) ≡ ranges_with state bs
+pub last_without : (state : NodeState) (bs : List Block) (b : Block) → b.state ≢ state →
+    ranges_with state (bs ++ b ∷ []) ≡ ranges_with state bs
 last_without Free bs b n = free_of-last_held bs b (other_than_free b.state n)
 last_without Allocated bs b n = held_of-last_free bs b (other_than_allocated b.state n)
 

@@ -1,6 +1,28 @@
 -- The span of a subtree that was read. Only this and the held keys are kept of it. The lemmas of proofs/SavedNodes show which
 -- subtrees have a span.
-use Rattle.std.specs.Prelude.{◌≡◌, ℕ, ◌+◌, min, max, Bool, true, false, not, ◌&&◌, ◌||◌, ◌==◌, nat_lt, nat_le, ◌^◌, ◌-◌, if◌then◌else◌, Option, Some, None, option_and_then}
+use Rattle.std.specs.Prelude.{
+  ◌≡◌,
+  ℕ,
+  ◌+◌,
+  min,
+  max,
+  Bool,
+  true,
+  false,
+  not,
+  ◌&&◌,
+  ◌||◌,
+  ◌==◌,
+  nat_lt,
+  nat_le,
+  ◌^◌,
+  ◌-◌,
+  if◌then◌else◌,
+  Option,
+  Some,
+  None,
+  option_and_then,
+}
 use Rattle.vm_ranges.specs.Range.{Range, MAX}
 use Rattle.vm_leaf.specs.declared.block.Block.{Block}
 use Rattle.vm_leaf.specs.Block.{is_free}

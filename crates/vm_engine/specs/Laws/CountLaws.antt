@@ -17,7 +17,8 @@ use Rattle.vm_engine.specs.Tree.SpaceTree.{tree_state}
 -- The most nodes that a call enters in a tree of height h with k held ranges and v gaps without a place: 3h for a free, h for
 -- ExactMatch, 2k + 1 for other policies, and for these h(v + 1) too, or h(v + 2) within a window.
 pub record EntersFew : Type 0 where
-  pub free : (s : Shape) (key : Range) (answer : Result (Unit {0}) Error) (count : ℕ) → IsFreeCount s key answer count → count ≤ 3 * height_of s
+  pub free : (s : Shape) (key : Range) (answer : Result (Unit {0}) Error) (count : ℕ) → IsFreeCount s key answer count →
+      count ≤ 3 * height_of s
   pub exact : (h k t : ℕ) → max_entered (ExactMatch t) h k ≤ h
   pub first : (h k : ℕ) → max_entered FirstMatch h k ≤ 2 * k + 1
   pub last : (h k : ℕ) → max_entered LastMatch h k ≤ 2 * k + 1

@@ -14,7 +14,8 @@ pub record IsMiddle (bs left : List Block) (b : Block) (right : List Block) (h :
 -- The saved tree is the one that is written for the blocks: its root is the block in the middle, and so on.
 abbrev pub IsWritten : List Block → Saved → Type 0
 IsWritten bs Absent = bs ≡ []
-IsWritten bs (Node l b r h) = IsMiddle bs (saved_blocks l) b (saved_blocks r) h × IsWritten (saved_blocks l) l × IsWritten (saved_blocks r) r
+IsWritten bs (Node l b r h) = IsMiddle bs (saved_blocks l) b (saved_blocks r) h × IsWritten (saved_blocks l) l
+    × IsWritten (saved_blocks r) r
 
 -- The node that is written for the blocks, or None if there are none.
 abbrev pub WritesNode : List Block → Option WrittenNode → Type 0

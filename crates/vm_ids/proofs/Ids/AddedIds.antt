@@ -18,11 +18,13 @@ unfolding IsStrictlySortedBy
 above_first first [] s = omega arith
 above_first first (id ∷ ids) s = let l = less_is first id s.0.0 in let r = above_first id ids s.1 in omega (arith, l, r)
 
-all_more : (first id : ℕ) (ids : List ℕ) → AllByRecursion (λ i. nat_cmp first i ≡ Less) ids → first < id → AllByRecursion (λ i. nat_cmp first i ≡ Less) (ids ++ id ∷ [])
+all_more : (first id : ℕ) (ids : List ℕ) → AllByRecursion (λ i. nat_cmp first i ≡ Less) ids → first < id →
+    AllByRecursion (λ i. nat_cmp first i ≡ Less) (ids ++ id ∷ [])
 all_more first id [] a h = (less first id h, tt)
 all_more first id (i ∷ ids) a h = (a.0, all_more first id ids a.1 h)
 
-pub sorted_more : (first id : ℕ) (ids : List ℕ) → IsStrictlySortedBy nat_cmp (first ∷ ids) → last_of first ids < id → IsStrictlySortedBy nat_cmp (first ∷ ids ++ id ∷ [])
+pub sorted_more : (first id : ℕ) (ids : List ℕ) → IsStrictlySortedBy nat_cmp (first ∷ ids) → last_of first ids < id →
+    IsStrictlySortedBy nat_cmp (first ∷ ids ++ id ∷ [])
 unfolding IsStrictlySortedBy
 sorted_more first id [] s h = ((less first id h, tt), (tt, tt))
 sorted_more first id (i ∷ ids) s h =
@@ -39,7 +41,8 @@ pub last_is : (first id : ℕ) (ids : List ℕ) → last_of first (ids ++ id ∷
 last_is first id [] = refl
 last_is first id (i ∷ ids) = last_is i id ids
 
-insert_last : (first id : ℕ) (ids : List ℕ) → IsStrictlySortedBy nat_cmp (first ∷ ids) → last_of first ids < id → insert_key nat_cmp (first ∷ ids) id ≡ first ∷ ids ++ id ∷ []
+insert_last : (first id : ℕ) (ids : List ℕ) → IsStrictlySortedBy nat_cmp (first ∷ ids) → last_of first ids < id →
+    insert_key nat_cmp (first ∷ ids) id ≡ first ∷ ids ++ id ∷ []
 unfolding IsStrictlySortedBy
 insert_last first id [] s h =
     let g : nat_cmp id first ≡ Greater = sym (nat_cmp_is id first Greater (omega arith)) in
@@ -67,27 +70,32 @@ last_end ends first ids a = ap (λ (e : Ends). e.last) (same_Some ends (record {
 pub first_of_ends : (ends : Ends) (first : ℕ) (ids : List ℕ) → AreEndsOf (Some ends) (first ∷ ids) → ends.first ≡ first
 first_of_ends ends first ids a = ap (λ (e : Ends). e.first) (same_Some ends (record { first = first; last = last_of first ids }) a.1)
 
-pub next_end : (id : ℕ) (ends : Ends) (ids : List ℕ) → AreEndsOf (Some ends) ids → ends.last < id → AreEndsOf (Some (record { first = ends.first; last = id })) (ids ++ id ∷ [])
+pub next_end : (id : ℕ) (ends : Ends) (ids : List ℕ) → AreEndsOf (Some ends) ids → ends.last < id →
+    AreEndsOf (Some (record { first = ends.first; last = id })) (ids ++ id ∷ [])
 next_end id ends [] a h = absurd (cc (a.1))
 next_end id ends (i ∷ ids) a h = (
   sorted_more i id ids a.0 (subst (λ (n : ℕ). n < id) (last_end ends i ids a) h),
-  ap (λ (n : ℕ). Some (record { first = n; last = id })) (first_of_ends ends i ids a) ∙ ap (λ (n : ℕ). Some (record { first = i; last = n })) (sym (last_is i id ids)),
+  ap (λ (n : ℕ). Some (record { first = n; last = id })) (first_of_ends ends i ids a)
+      ∙ ap (λ (n : ℕ). Some (record { first = i; last = n })) (sym (last_is i id ids)),
 )
 
-pub not_next : (id : ℕ) (ends : Ends) (ids : List ℕ) → AreEndsOf (Some ends) ids → id ≤ ends.last → IsStrictlySortedBy nat_cmp (ids ++ id ∷ []) → ⊥
+pub not_next : (id : ℕ) (ends : Ends) (ids : List ℕ) → AreEndsOf (Some ends) ids → id ≤ ends.last →
+    IsStrictlySortedBy nat_cmp (ids ++ id ∷ []) → ⊥
 not_next id ends [] a h s = absurd (cc (a.1))
 not_next id ends (i ∷ ids) a h s = let l = last_end ends i ids a in let r = above_last i id ids s in omega (arith, l, r)
 
 pub ruleset ends = (first_end, next_end, not_next)
 
 -- The set after an id is inserted.
-pub put_last : (id : ℕ) (ids : List ℕ) → IsStrictlySortedBy nat_cmp ids → IsStrictlySortedBy nat_cmp (ids ++ id ∷ []) → insert_key nat_cmp ids id ≡ ids ++ id ∷ []
+pub put_last : (id : ℕ) (ids : List ℕ) → IsStrictlySortedBy nat_cmp ids → IsStrictlySortedBy nat_cmp (ids ++ id ∷ []) →
+    insert_key nat_cmp ids id ≡ ids ++ id ∷ []
 put_last id [] s t = refl
 put_last id (i ∷ ids) s t = insert_last i id ids s (above_last i id ids t)
 
 pub ruleset pushes = (put_last)
 
 -- Adding an id in order fails only for lack of memory.
-pub only_memory : (id : ℕ) (old new : List ℕ) (e : SavedError) → IsStrictlySortedBy nat_cmp (old ++ id ∷ []) → PushesId old id (Err e) new → e ≡ OutOfMemory
+pub only_memory : (id : ℕ) (old new : List ℕ) (e : SavedError) → IsStrictlySortedBy nat_cmp (old ++ id ∷ []) → PushesId old id (Err e) new →
+    e ≡ OutOfMemory
 only_memory id old new (Violated c) s h = absurd (h.2 s)
 only_memory id old new OutOfMemory s h = refl

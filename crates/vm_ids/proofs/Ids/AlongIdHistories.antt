@@ -1,5 +1,35 @@
 -- Facts of every history of an id allocator.
-use Rattle.std.proofs.Common.{◌≡◌, ◌≢◌, ◌⊎◌, ◌||◌, ℕ, zero, suc, Bool, true, false, cond, nat_eq, refl, sym, ap, ◌∙◌, subst, arith, inl, inr, ⊎_elim, List, [], ◌∷◌, ◌++◌, take, Result, Ok, Err}
+use Rattle.std.proofs.Common.{
+  ◌≡◌,
+  ◌≢◌,
+  ◌⊎◌,
+  ◌||◌,
+  ℕ,
+  zero,
+  suc,
+  Bool,
+  true,
+  false,
+  cond,
+  nat_eq,
+  refl,
+  sym,
+  ap,
+  ◌∙◌,
+  subst,
+  arith,
+  inl,
+  inr,
+  ⊎_elim,
+  List,
+  [],
+  ◌∷◌,
+  ◌++◌,
+  take,
+  Result,
+  Ok,
+  Err,
+}
 use Rattle.std.proofs.lemmas.Bool.{cases_eq, cases_Bool, both_ways, or_cases, or_left, or_right, cond-true, cond-false, eq-eqb, ne_eqb, false_from_ne_true}
 use Rattle.std.proofs.lemmas.List.Elements.{Contains-append_right}
 use Rattle.std.proofs.lemmas.Map.Made.{is_member-Decides}
@@ -17,8 +47,38 @@ use Rattle.vm_ids.proofs.Ids.IdsInTurn.{held_after_all, requests_preserve}
 use Rattle.std.specs.BTreeSet.{BTreeSet}
 use Rattle.vm_ids.proofs.Ids.IdFields.{is_state}
 use Rattle.vm_ids.proofs.Ids.FreedParts.{parts_are_ids}
-use Rattle.vm_ids.specs.Ids.{IdState, IsHeld, IsLowestNotHeld, IsIdState, ids_of, new_ids, holding_id, releasing_id, MakesIds, ByLowestNotHeld, AllocatesId, FreesId}
-use Rattle.vm_ids.specs.Histories.IdHistories.{Allocate, AllocateExact, AllocateIn, AllocateSeveral, Free, Clone, IdCall, IsIdCallFrom, IsIdHistoryFrom, AreIdsMade, AreIdsMadeOfFreed, AreIdsMadeOfHeld, AreIdsRead, AllocatedTheId, is_held_after, is_allocated_after}
+use Rattle.vm_ids.specs.Ids.{
+  IdState,
+  IsHeld,
+  IsLowestNotHeld,
+  IsIdState,
+  ids_of,
+  new_ids,
+  holding_id,
+  releasing_id,
+  MakesIds,
+  ByLowestNotHeld,
+  AllocatesId,
+  FreesId,
+}
+use Rattle.vm_ids.specs.Histories.IdHistories.{
+  Allocate,
+  AllocateExact,
+  AllocateIn,
+  AllocateSeveral,
+  Free,
+  Clone,
+  IdCall,
+  IsIdCallFrom,
+  IsIdHistoryFrom,
+  AreIdsMade,
+  AreIdsMadeOfFreed,
+  AreIdsMadeOfHeld,
+  AreIdsRead,
+  AllocatedTheId,
+  is_held_after,
+  is_allocated_after,
+}
 use Rattle.vm_ids.specs.Laws.IdHistoryLaws.{EachIsLowestNotHeld, NoIdIsHeldTwice, HeldIsAllocated, StatesAreOfIds}
 use Rattle.vm_ranges.specs.declared.error.Error.{Error}
 use Rattle.vm_ranges.proofs.Clones.{cloning_keeps}
@@ -63,7 +123,8 @@ refused_several_keep old new count e (inr (_, inl a)) = absurd (cc (a.0))
 refused_several_keep old new count e (inr (_, inr a)) = a.1.1
 
 -- Several ids are the first free ids, and exactly they are allocated.
-several_state : (old new : IdState) (count : ℕ) (ids : List ℕ) → AllocatesIds old count (Ok ids) new → (ids ≡ take count (free_ids old)) × (new ≡ holding_ids ids old)
+several_state : (old new : IdState) (count : ℕ) (ids : List ℕ) → AllocatesIds old count (Ok ids) new →
+    (ids ≡ take count (free_ids old)) × (new ≡ holding_ids ids old)
 unfolding AllocatesIds
 several_state old new count ids (inl (_, inl a)) = absurd (cc (a.1.0))
 several_state old new count ids (inl (_, inr a)) = absurd (cc (a.1.0))
@@ -113,11 +174,14 @@ call_state (Clone, answer) old new s h = subst IsIdState (sym (cloning_keeps old
 history_state : (calls : List IdCall) (first last : IdState) → IsIdState first → IsIdHistoryFrom first calls last → IsIdState last
 history_state = history_keeps IsIdCallFrom IsIdState call_state
 
-first_state : (first : IdState) → AreIdsMade first ⊎ (AreIdsMadeOfFreed first ⊎ (AreIdsMadeOfHeld first ⊎ AreIdsRead first)) → IsIdState first
+first_state : (first : IdState) → AreIdsMade first ⊎ (AreIdsMadeOfFreed first ⊎ (AreIdsMadeOfHeld first ⊎ AreIdsRead first)) →
+    IsIdState first
 first_state first (inl m) = id_states_are_preserved.made m.lo m.hi first m.word m.made
 first_state first (inr (inl m)) =
     let freed : BTreeSet ℕ = record { keys = m.freed } in
-    subst IsIdState (sym m.made.1) (is_state (ids_of m.lo m.hi m.next freed) m.lo m.hi m.next freed refl (parts_are_ids m.lo m.hi m.next m.freed freed m.word m.made.0 refl))
+    subst IsIdState (sym m.made.1)
+    (is_state (ids_of m.lo m.hi m.next freed) m.lo m.hi m.next freed refl
+    (parts_are_ids m.lo m.hi m.next m.freed freed m.word m.made.0 refl))
 first_state first (inr (inr (inl m))) = requests_preserve.made m.lo m.hi m.held first m.word m.made
 first_state first (inr (inr (inr r))) = encoded_state r.value first r.encoded
 
@@ -132,16 +196,19 @@ held_with old i id =
     ⊎_elim
     (λ (e : i ≡ id). subst (λ (x : ℕ). IsHeld (holding_id i old) x) e (inserted_here old.held i) ∙ sym (cond-true _ _ _ (eq-eqb i id e)))
     (λ (ne : i ≢ id).
-    same_test _ _ (λ n. ⊎_elim (λ (e : id ≡ i). absurd (ne (sym e))) (λ (m : IsHeld old id). m) (from_inserted old.held i id n)) (λ m. inserted_other old.held i id m)
+    same_test _ _ (λ n. ⊎_elim (λ (e : id ≡ i). absurd (ne (sym e))) (λ (m : IsHeld old id). m) (from_inserted old.held i id n))
+    (λ m. inserted_other old.held i id m)
     ∙ sym (cond-false _ _ _ (ne_eqb i id ne)))
     (cases_eq i id)
 
-held_with_all : (old : IdState) (ids : List ℕ) (id : ℕ) → set.contains (holding_ids ids old).held id ≡ (set.contains old.held id || set.contains (set.from_list {R = nat_cmp} ids) id)
+held_with_all : (old : IdState) (ids : List ℕ) (id : ℕ) →
+    set.contains (holding_ids ids old).held id ≡ (set.contains old.held id || set.contains (set.from_list {R = nat_cmp} ids) id)
 held_with_all old ids id =
     let listed = set.contains-from_list nat_cmp_total ids id in
     same_test _ _
     (λ n. ⊎_elim (λ (m : IsHeld old id). or_left _ _ m) (λ t. or_right _ _ (listed ∙ t)) ((held_after_all ids old id).0 n))
-    (λ n. ⊎_elim (λ (m : IsHeld old id). (held_after_all ids old id).1 (inl m)) (λ t. (held_after_all ids old id).1 (inr (sym listed ∙ t))) (or_cases _ _ n))
+    (λ n. ⊎_elim (λ (m : IsHeld old id). (held_after_all ids old id).1 (inl m)) (λ t. (held_after_all ids old id).1 (inr (sym listed ∙ t)))
+    (or_cases _ _ n))
 
 held_without : (old : IdState) (i id : ℕ) → set.contains (releasing_id i old).held id ≡ cond (nat_eq i id) false (set.contains old.held id)
 held_without old i id =
@@ -152,7 +219,8 @@ held_without old i id =
     ∙ sym (cond-false _ _ _ (ne_eqb i id ne)))
     (cases_eq i id)
 
-held_after : (call : IdCall) (old : IdState) (id : ℕ) → set.contains (after call old).held id ≡ is_held_after id (set.contains old.held id) call
+held_after : (call : IdCall) (old : IdState) (id : ℕ) →
+    set.contains (after call old).held id ≡ is_held_after id (set.contains old.held id) call
 held_after (asked, Err e) old id = refl
 held_after (Allocate, Ok i) old id = held_with old i id
 held_after (AllocateExact asked, Ok i) old id = held_with old i id
@@ -161,10 +229,12 @@ held_after (AllocateSeveral count, Ok ids) old id = held_with_all old ids id
 held_after (Free i, Ok back) old id = held_without old i id
 held_after (Clone, Ok state) old id = refl
 
-held_after_call : (call : IdCall) (old new : IdState) (id : ℕ) → IsIdCallFrom old call new → set.contains new.held id ≡ is_held_after id (set.contains old.held id) call
+held_after_call : (call : IdCall) (old new : IdState) (id : ℕ) → IsIdCallFrom old call new →
+    set.contains new.held id ≡ is_held_after id (set.contains old.held id) call
 held_after_call call old new id h = same_held (after call old) new id (call_after call old new h) ∙ held_after call old id
 
-held_after_history : (calls : List IdCall) (first last : IdState) (id : ℕ) → IsIdHistoryFrom first calls last → set.contains last.held id ≡ is_allocated_after id (set.contains first.held id) calls
+held_after_history : (calls : List IdCall) (first last : IdState) (id : ℕ) → IsIdHistoryFrom first calls last →
+    set.contains last.held id ≡ is_allocated_after id (set.contains first.held id) calls
 held_after_history [] first last id e = same_held first last id e
 held_after_history (call ∷ calls) first last id history =
     held_after_history calls history.0 last id history.2
@@ -183,7 +253,8 @@ held_is_out = record {
       let e = held_after_history calls r.first state id r.history in
       (λ h. sym e ∙ h, λ h. e ∙ h);
   made = λ calls first state id m history.
-      let e = held_after_history calls first state id history ∙ ap (λ (b : Bool). is_allocated_after id b calls) (none_held_at_first m.lo m.hi first id m.made) in
+      let e = held_after_history calls first state id history
+      ∙ ap (λ (b : Bool). is_allocated_after id b calls) (none_held_at_first m.lo m.hi first id m.made) in
       (λ h. sym e ∙ h, λ h. e ∙ h);
 }
 
@@ -200,7 +271,8 @@ both_true : (b : Bool) → cond b true true ≡ true
 both_true true = refl
 both_true false = refl
 
-stays_or_freed : (call : IdCall) (old new : IdState) (id : ℕ) → IsIdCallFrom old call new → (is_held_after id true call ≡ true) ⊎ (call ≡ (Free id, Ok id))
+stays_or_freed : (call : IdCall) (old new : IdState) (id : ℕ) → IsIdCallFrom old call new →
+    (is_held_after id true call ≡ true) ⊎ (call ≡ (Free id, Ok id))
 stays_or_freed (asked, Err e) old new id h = inl refl
 stays_or_freed (Allocate, Ok i) old new id h = inl (both_true (nat_eq i id))
 stays_or_freed (AllocateExact asked, Ok i) old new id h = inl (both_true (nat_eq i id))
@@ -214,13 +286,15 @@ stays_or_freed (Free i, Ok back) old new id h =
     (cases_eq i id)
 stays_or_freed (Clone, Ok state) old new id h = inl refl
 
-call_frees : (call : IdCall) (old new : IdState) (id : ℕ) → IsIdCallFrom old call new → IsHeld old id → ¬ IsHeld new id → call ≡ (Free id, Ok id)
+call_frees : (call : IdCall) (old new : IdState) (id : ℕ) → IsIdCallFrom old call new → IsHeld old id → ¬ IsHeld new id →
+    call ≡ (Free id, Ok id)
 call_frees call old new id h held gone =
     let now = held_after_call call old new id h ∙ ap (λ (b : Bool). is_held_after id b call) held in
     ⊎_elim (λ e. absurd (gone (now ∙ e))) (λ e. e) (stays_or_freed call old new id h)
 
 -- An id that is held at first and not at last was freed by one of the calls.
-history_frees : (calls : List IdCall) (first last : IdState) (id : ℕ) → IsIdHistoryFrom first calls last → IsHeld first id → ¬ IsHeld last id → Contains calls (Free id, Ok id)
+history_frees : (calls : List IdCall) (first last : IdState) (id : ℕ) → IsIdHistoryFrom first calls last → IsHeld first id →
+    ¬ IsHeld last id → Contains calls (Free id, Ok id)
 history_frees [] first last id e held gone = absurd (gone (same_held first last id e ∙ held))
 history_frees (call ∷ calls) first last id history held gone =
     ⊎_elim
@@ -235,7 +309,8 @@ any_of_first : (p : ℕ → Bool) (n : ℕ) (xs : List ℕ) → list_any p (take
 any_of_first p zero xs t = absurd (both_ways false refl t)
 any_of_first p (suc n) [] t = t
 any_of_first p (suc n) (x ∷ xs) t =
-    ⊎_elim (λ (h : p x ≡ true). or_left _ _ h) (λ (h : list_any p (take n xs) ≡ true). or_right _ _ (any_of_first p n xs h)) (or_cases _ _ t)
+    ⊎_elim (λ (h : p x ≡ true). or_left _ _ h) (λ (h : list_any p (take n xs) ≡ true). or_right _ _ (any_of_first p n xs h))
+    (or_cases _ _ t)
 
 pub record IsAllocated (old new : IdState) (id : ℕ) : Type 0 where
   pub before : ¬ IsHeld old id
@@ -245,16 +320,20 @@ holding_allocates : (old new : IdState) (id : ℕ) → ¬ IsHeld old id → new 
 holding_allocates old new id n h =
     record { before = n; after = same_held (holding_id id old) new id h ∙ inserted_here old.held id }
 
-several_allocate : (old new : IdState) (count id : ℕ) (ids : List ℕ) → IsIdState old → Contains ids id → AllocatesIds old count (Ok ids) new → IsAllocated old new id
+several_allocate : (old new : IdState) (count id : ℕ) (ids : List ℕ) → IsIdState old → Contains ids id →
+    AllocatesIds old count (Ok ids) new → IsAllocated old new id
 several_allocate old new count id ids s c h =
     let a = several_state old new count ids h in
     let t : list_any (eq_by_cmp nat_cmp id) ids ≡ true = (is_member-Decides tells_apart ids id).1 c in
     record {
-      before = (in_free old id s.range (any_of_first (eq_by_cmp nat_cmp id) count (free_ids old) (subst (λ (xs : List ℕ). list_any (eq_by_cmp nat_cmp id) xs ≡ true) a.0 t))).1;
+      before = (in_free old id s.range
+          (any_of_first (eq_by_cmp nat_cmp id) count (free_ids old)
+          (subst (λ (xs : List ℕ). list_any (eq_by_cmp nat_cmp id) xs ≡ true) a.0 t))).1;
       after = same_held (holding_ids ids old) new id a.1 ∙ (held_after_all ids old id).1 (inr t);
     }
 
-call_allocates : (call : IdCall) (old new : IdState) (id : ℕ) → IsIdState old → AllocatedTheId id call → IsIdCallFrom old call new → IsAllocated old new id
+call_allocates : (call : IdCall) (old new : IdState) (id : ℕ) → IsIdState old → AllocatedTheId id call → IsIdCallFrom old call new →
+    IsAllocated old new id
 call_allocates (Allocate, answer) old new id s is h =
     let k : AllocatesId old (Ok id) new = subst (λ (r : Result ℕ Error). AllocatesId old r new) is h in
     record { before = lowest_is_not_held old id (id_is_lowest old new (Ok id) k); after = id_is_held old new (Ok id) k }
@@ -264,14 +343,16 @@ call_allocates (AllocateExact asked, answer) old new id s is h =
     holding_allocates old new id (exact_was_free old new asked (Ok id) k).1 (a.1 ∙ ap (λ (v : ℕ). holding_id v old) (sym a.0))
 call_allocates (AllocateIn first last, answer) old new id s is h =
     let k : AllocatesIdIn old first last (Ok id) new = subst (λ (r : Result ℕ Error). AllocatesIdIn old first last r new) is h in
-    holding_allocates old new id (window_not_held old first last id (in_lowest old new first last (Ok id) k)) (in_state old new first last (Ok id) k)
+    holding_allocates old new id (window_not_held old first last id (in_lowest old new first last (Ok id) k))
+    (in_state old new first last (Ok id) k)
 call_allocates (AllocateSeveral count, Ok ids) old new id s c h = several_allocate old new count id ids s c h
 call_allocates (AllocateSeveral count, Err e) old new id s c h = absurd c
 call_allocates (Free i, answer) old new id s c h = absurd c
 call_allocates (Clone, answer) old new id s c h = absurd c
 
 -- An id that is allocated first and last was freed in between.
-given_twice : (between : List IdCall) (first second : IdCall) (old state : IdState) (id : ℕ) → IsIdState old → AllocatedTheId id first → AllocatedTheId id second → IsIdHistoryFrom old (first ∷ (between ++ second ∷ [])) state → Contains between (Free id, Ok id)
+given_twice : (between : List IdCall) (first second : IdCall) (old state : IdState) (id : ℕ) → IsIdState old → AllocatedTheId id first →
+    AllocatedTheId id second → IsIdHistoryFrom old (first ∷ (between ++ second ∷ [])) state → Contains between (Free id, Ok id)
 given_twice between first second old state id s a b history =
     let cut = state_between IsIdCallFrom between (second ∷ []) history.0 state history.2 in
     let mid = call_state first old history.0 s history.1 in

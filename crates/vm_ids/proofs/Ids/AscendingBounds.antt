@@ -13,7 +13,8 @@ use Rattle.vm_ids.specs.Values.IdValues.{EncodesNumber}
 use Rattle.vm_ids.specs.Checks.IdChecks.{ascending}
 use Rattle.vm_ids.specs.Checks.IdQueries.{AscendWithin}
 
-pub ascending-states : (lowest bound : ℕ) (ds : Items) (ns : List ℕ) → ascending lowest bound ds ≡ Some ns → EncodesItems EncodesNumber ds ns × AscendWithin lowest bound ns
+pub ascending-states : (lowest bound : ℕ) (ds : Items) (ns : List ℕ) → ascending lowest bound ds ≡ Some ns →
+    EncodesItems EncodesNumber ds ns × AscendWithin lowest bound ns
 ascending-states lowest bound no_items [] e = (tt, tt)
 ascending-states lowest bound no_items (n ∷ ns) e = absurd (cc)
 ascending-states lowest bound (item d ds) ns e =
@@ -22,16 +23,20 @@ ascending-states lowest bound (item d ds) ns e =
     let c = and_parts (leb lowest a.0) (ltb a.0 bound) b.0 in
     let m = mapped a.0 (ascending (a.0 + 1) bound ds) ns b.1 in
     let r = ascending-states (a.0 + 1) bound ds m.0 m.1 in
-    subst (λ (x : List ℕ). EncodesItems EncodesNumber (item d ds) x × AscendWithin lowest bound x) m.2 ((a.1, r.0), (leb-true lowest a.0 c.0, ltb-true a.0 bound c.1, r.1)) where
-      mapped : (n : ℕ) (o : Option (List ℕ)) (ns : List ℕ) → option_map (λ (x : List ℕ). n ∷ x) o ≡ Some ns → (ms : List ℕ) × (o ≡ Some ms) × (n ∷ ms ≡ ns)
+    subst (λ (x : List ℕ). EncodesItems EncodesNumber (item d ds) x × AscendWithin lowest bound x) m.2
+    ((a.1, r.0), (leb-true lowest a.0 c.0, ltb-true a.0 bound c.1, r.1)) where
+      mapped : (n : ℕ) (o : Option (List ℕ)) (ns : List ℕ) → option_map (λ (x : List ℕ). n ∷ x) o ≡ Some ns →
+          (ms : List ℕ) × (o ≡ Some ms) × (n ∷ ms ≡ ns)
       mapped n None ns e = absurd (cc)
       mapped n (Some ms) ns e = (ms, refl, cc)
 
-pub states-ascending : (ns : List ℕ) (lowest bound : ℕ) (ds : Items) → EncodesItems EncodesNumber ds ns → AscendWithin lowest bound ns → ascending lowest bound ds ≡ Some ns
+pub states-ascending : (ns : List ℕ) (lowest bound : ℕ) (ds : Items) → EncodesItems EncodesNumber ds ns → AscendWithin lowest bound ns →
+    ascending lowest bound ds ≡ Some ns
 states-ascending [] lowest bound no_items s r = refl
 states-ascending [] lowest bound (item d ds) s r = absurd s
 states-ascending (n ∷ ns) lowest bound no_items s r = absurd s
-states-ascending (n ∷ ns) lowest bound (item d ds) s r = rw (s.0, le-leb lowest n r.0, lt-ltb n bound r.1, states-ascending ns (n + 1) bound ds s.1 r.2) refl
+states-ascending (n ∷ ns) lowest bound (item d ds) s r = rw
+    (s.0, le-leb lowest n r.0, lt-ltb n bound r.1, states-ascending ns (n + 1) bound ds s.1 r.2) refl
 
 -- The numbers are between wider bounds too.
 pub wider : (a b c d : ℕ) (is : List ℕ) → a ≤ b → c ≤ d → AscendWithin b c is → AscendWithin a d is
@@ -59,7 +64,8 @@ within_row lo lowest bound (n ∷ ns) p r = let l = r.0 in ((omega arith, r.1), 
 pub within : (lo bound : ℕ) (ns : List ℕ) → AscendWithin lo bound ns → All (λ n. (lo ≤ n) × (n < bound)) ns
 within lo bound ns r = All-from_recursion (IsWithin lo bound) ns (within_row lo lo bound ns (omega arith) r)
 
-from_above : (n lo bound : ℕ) (ns : List ℕ) → AllByRecursion (λ m. nat_cmp n m ≡ Less) ns → AllByRecursion (IsWithin lo bound) ns → AllByRecursion (IsWithin (n + 1) bound) ns
+from_above : (n lo bound : ℕ) (ns : List ℕ) → AllByRecursion (λ m. nat_cmp n m ≡ Less) ns → AllByRecursion (IsWithin lo bound) ns →
+    AllByRecursion (IsWithin (n + 1) bound) ns
 from_above n lo bound [] a b = tt
 from_above n lo bound (m ∷ ms) a b = let l = less_is n m a.0 in ((omega arith, b.0.1), from_above n lo bound ms a.1 b.1)
 

@@ -1,5 +1,36 @@
 -- Lists of numbers in strictly ascending order.
-use Rattle.std.proofs.Common.{◌≡◌, ℕ, ◌+◌, ◌<◌, ◌≤◌, ◌&&◌, leb, ltb, List, [], ◌∷◌, ◌++◌, length, get_or, drop, Option, Some, None, is_some, option_map, refl, sym, ap, ◌∙◌, ⊎_elim, subst, arith, append_assoc, nat_cmp, IsSome}
+use Rattle.std.proofs.Common.{
+  ◌≡◌,
+  ℕ,
+  ◌+◌,
+  ◌<◌,
+  ◌≤◌,
+  ◌&&◌,
+  leb,
+  ltb,
+  List,
+  [],
+  ◌∷◌,
+  ◌++◌,
+  length,
+  get_or,
+  drop,
+  Option,
+  Some,
+  None,
+  is_some,
+  option_map,
+  refl,
+  sym,
+  ap,
+  ◌∙◌,
+  ⊎_elim,
+  subst,
+  arith,
+  append_assoc,
+  nat_cmp,
+  IsSome,
+}
 use Rattle.std.proofs.lemmas.Bool.{cases_lt, le-leb, lt-ltb, leb-true, ltb-true, lt-leb, and_parts}
 use Rattle.std.specs.List.Sorted.{IsStrictlySortedBy}
 use Rattle.serde_json.specs.Data.{Items, no_items, item}
@@ -17,10 +48,12 @@ use Rattle.vm_ids.proofs.Ids.AddedIds.{last_is, above_last, sorted_more}
 
 -- The items one by one.
 
-too_low : (lowest bound i n : ℕ) (vs : List Value) (v : Value) → i < length vs → v ≡ get_or vs i v → whole_number (view v) ≡ Some n → n < lowest → ascending lowest bound (items_view (drop i vs)) ≡ None
+too_low : (lowest bound i n : ℕ) (vs : List Value) (v : Value) → i < length vs → v ≡ get_or vs i v → whole_number (view v) ≡ Some n →
+    n < lowest → ascending lowest bound (items_view (drop i vs)) ≡ None
 too_low lowest bound i n vs v h e w p = rw (items_from vs i v h e, w, lt-leb lowest n p) refl
 
-next_ascends : (lowest bound i n : ℕ) (vs : List Value) (v : Value) → i < length vs → v ≡ get_or vs i v → whole_number (view v) ≡ Some n → lowest ≤ n → n < bound →
+next_ascends : (lowest bound i n : ℕ) (vs : List Value) (v : Value) → i < length vs → v ≡ get_or vs i v → whole_number (view v) ≡ Some n →
+    lowest ≤ n → n < bound →
     ascending lowest bound (items_view (drop i vs)) ≡ option_map (λ ns. n ∷ ns) (ascending (n + 1) bound (items_view (drop (i + 1) vs)))
 next_ascends lowest bound i n vs v h e w p q = rw (items_from vs i v h e, w, le-leb lowest n p, lt-ltb n bound q) refl
 
@@ -33,9 +66,11 @@ some_of None h = absurd (cc)
 some_of (Some a) h = (a, refl)
 
 -- If the rest of the items is in order, the next item is a number between the bounds.
-next_number : (lowest bound i : ℕ) (vs : List Value) (v : Value) → i < length vs → v ≡ get_or vs i v → IsSome (ascending lowest bound (items_view (drop i vs))) → (n : ℕ) × (whole_number (view v) ≡ Some n) × (lowest ≤ n) × (n < bound)
+next_number : (lowest bound i : ℕ) (vs : List Value) (v : Value) → i < length vs → v ≡ get_or vs i v →
+    IsSome (ascending lowest bound (items_view (drop i vs))) → (n : ℕ) × (whole_number (view v) ≡ Some n) × (lowest ≤ n) × (n < bound)
 next_number lowest bound i vs v h e s =
-    let t : IsSome (ascending lowest bound (item (view v) (items_view (drop (i + 1) vs)))) = subst (λ (x : Items). IsSome (ascending lowest bound x)) (items_from vs i v h e) s in
+    let t : IsSome (ascending lowest bound (item (view v) (items_view (drop (i + 1) vs)))) = subst
+    (λ (x : Items). IsSome (ascending lowest bound x)) (items_from vs i v h e) s in
     let o = some_of _ t in
     let a = and_then_some _ (whole_number (view v)) o.0 o.1 in
     let b = if_some (leb lowest a.0 && ltb a.0 bound) _ o.0 a.2 in
@@ -68,21 +103,26 @@ follows : (id : ℕ) (ids : List ℕ) → IsStrictlySortedBy nat_cmp (ids ++ id 
 follows id [] s = omega arith
 follows id (i ∷ ids) s = let h = above_last i id ids s in omega (arith, h)
 
-pub with_higher : (id : ℕ) (ids : List ℕ) → IsStrictlySortedBy nat_cmp ids → next_after ids ≤ id → IsStrictlySortedBy nat_cmp (ids ++ id ∷ [])
+pub with_higher : (id : ℕ) (ids : List ℕ) → IsStrictlySortedBy nat_cmp ids → next_after ids ≤ id →
+    IsStrictlySortedBy nat_cmp (ids ++ id ∷ [])
 unfolding IsStrictlySortedBy
 with_higher id [] s h = (tt, tt)
 with_higher id (i ∷ ids) s h = sorted_more i id ids s (omega (arith, h))
 
-front_and_rest : (ks : List ℕ) (n : ℕ) (o : Option (List ℕ)) → option_map (λ ns. ks ++ ns) (option_map (λ ns. n ∷ ns) o) ≡ option_map (λ ns. (ks ++ n ∷ []) ++ ns) o
+front_and_rest : (ks : List ℕ) (n : ℕ) (o : Option (List ℕ)) →
+    option_map (λ ns. ks ++ ns) (option_map (λ ns. n ∷ ns) o) ≡ option_map (λ ns. (ks ++ n ∷ []) ++ ns) o
 front_and_rest ks n None = refl
 front_and_rest ks n (Some ns) = ap Some (sym (append_assoc ks (n ∷ []) ns))
 
-pub one_gathered : (i n : ℕ) (vs : List Value) (v : Value) (ids : List ℕ) → i < length vs → v ≡ get_or vs i v → whole_number (view v) ≡ Some n → n ≤ MAX_ID →
+pub one_gathered : (i n : ℕ) (vs : List Value) (v : Value) (ids : List ℕ) → i < length vs → v ≡ get_or vs i v →
+    whole_number (view v) ≡ Some n → n ≤ MAX_ID →
     IsStrictlySortedBy nat_cmp (ids ++ n ∷ []) → Gathers i vs ids → Gathers (i + 1) vs (ids ++ n ∷ [])
 one_gathered i n vs v ids h e w m s g =
-    g ∙ ap (option_map (λ (ns : List ℕ). ids ++ ns)) (next_ascends (next_after ids) (MAX_ID + 1) i n vs v h e w (follows n ids s) (omega (arith, m)))
+    g ∙ ap (option_map (λ (ns : List ℕ). ids ++ ns))
+    (next_ascends (next_after ids) (MAX_ID + 1) i n vs v h e w (follows n ids s) (omega (arith, m)))
     ∙ front_and_rest ids n _
-    ∙ ap (λ (l : ℕ). option_map (λ (ns : List ℕ). (ids ++ n ∷ []) ++ ns) (ascending l (MAX_ID + 1) (items_view (drop (i + 1) vs)))) (sym (after_last n ids))
+    ∙ ap (λ (l : ℕ). option_map (λ (ns : List ℕ). (ids ++ n ∷ []) ++ ns) (ascending l (MAX_ID + 1) (items_view (drop (i + 1) vs))))
+    (sym (after_last n ids))
 
 pub low_id : (i n : ℕ) (vs : List Value) (v : Value) (ids : List ℕ) → i < length vs → v ≡ get_or vs i v → whole_number (view v) ≡ Some n →
     IsStrictlySortedBy nat_cmp ids → ¬ IsStrictlySortedBy nat_cmp (ids ++ n ∷ []) → Gathers i vs ids → ids_in (items_view vs) ≡ None
@@ -93,10 +133,12 @@ low_id i n vs v ids h e w s not_sorted g =
     (cases_lt n (next_after ids))
 
 -- If all items are ids in order, the next one follows those before it.
-pub next_follows : (i : ℕ) (vs : List Value) (v : Value) (ids : List ℕ) → i < length vs → v ≡ get_or vs i v → IsSome (ids_in (items_view vs)) → IsStrictlySortedBy nat_cmp ids → Gathers i vs ids →
+pub next_follows : (i : ℕ) (vs : List Value) (v : Value) (ids : List ℕ) → i < length vs → v ≡ get_or vs i v →
+    IsSome (ids_in (items_view vs)) → IsStrictlySortedBy nat_cmp ids → Gathers i vs ids →
     (n : ℕ) × (whole_number (view v) ≡ Some n) × (n ≤ MAX_ID) × IsStrictlySortedBy nat_cmp (ids ++ n ∷ [])
 next_follows i vs v ids h e some s g =
-    let rest : IsSome (ascending (next_after ids) (MAX_ID + 1) (items_view (drop i vs))) = sym (ap is_some g ∙ is_some-map (λ (ns : List ℕ). ids ++ ns) _) ∙ some in
+    let rest : IsSome (ascending (next_after ids) (MAX_ID + 1) (items_view (drop i vs))) = sym
+    (ap is_some g ∙ is_some-map (λ (ns : List ℕ). ids ++ ns) _) ∙ some in
     let a = next_number (next_after ids) (MAX_ID + 1) i vs v h e rest in
     (a.0, a.1, omega (arith, a.3), with_higher a.0 ids s a.2)
 

@@ -39,7 +39,8 @@ id_state_cmp-Equal a b s t = (
       let q = both_equal _ _ p.1 in
       let r = both_equal _ _ q.1 in
       let n = set.nat_cmp-IsAntisymmetric in
-      same_state a b (n a.lo b.lo p.0) (n a.hi b.hi q.0) (n a.bound b.bound r.0) (same_held a b s t (slice_cmp-IsAntisymmetric n (held_ids a) (held_ids b) r.1)),
+      same_state a b (n a.lo b.lo p.0) (n a.hi b.hi q.0) (n a.bound b.bound r.0)
+      (same_held a b s t (slice_cmp-IsAntisymmetric n (held_ids a) (held_ids b) r.1)),
   λ e. ap (id_state_cmp a) (sym e) ∙ tied_itself id_state_cmp-total a,
 )
 
@@ -47,7 +48,8 @@ id_state_cmp-Equal a b s t = (
 tested_by_order : (a b : IdState) (r : Bool) → IsIdState a → IsIdState b → IsTrue r ↔ (a ≡ b) → r ≡ eq_by_cmp id_state_cmp a b
 tested_by_order a b r s t h =
     let k = id_state_cmp-Equal a b s t in
-    same_from_decides r (is_eq (id_state_cmp a b)) h (λ v. k.0 ((Equal-is (id_state_cmp a b)).0 v), λ e. (Equal-is (id_state_cmp a b)).1 (k.1 e))
+    same_from_decides r (is_eq (id_state_cmp a b)) h
+    (λ v. k.0 ((Equal-is (id_state_cmp a b)).0 v), λ e. (Equal-is (id_state_cmp a b)).1 (k.1 e))
 
 -- ---- Fields
 -- The next id follows from the bound.
@@ -59,13 +61,15 @@ same_next lo hi (Some n) (Some m) f g e = ap Some e
 
 -- The freed ids follow from the held ids.
 same_freed : (lo bound : ℕ) (freed other : BTreeSet ℕ) → IsOrdered nat_cmp freed → IsOrdered nat_cmp other →
-    ((i : ℕ) → IsTrue (contains nat_cmp freed i) → (lo ≤ i) × (i < bound)) → ((i : ℕ) → IsTrue (contains nat_cmp other i) → (lo ≤ i) × (i < bound)) →
+    ((i : ℕ) → IsTrue (contains nat_cmp freed i) → (lo ≤ i) × (i < bound)) →
+    ((i : ℕ) → IsTrue (contains nat_cmp other i) → (lo ≤ i) × (i < bound)) →
     held_of lo bound freed ≡ held_of lo bound other → freed.keys ≡ other.keys
 same_freed lo bound freed other o p f g e =
     same_rising freed.keys other.keys o p (λ q.
     same_test _ _ (λ t. freed_in freed other q (f q t) t e) (λ t. freed_in other freed q (g q t) t (sym e)))
   where
-    freed_in : (a b : BTreeSet ℕ) (q : ℕ) → (lo ≤ q) × (q < bound) → contains nat_cmp a q ≡ true → held_of lo bound a ≡ held_of lo bound b → contains nat_cmp b q ≡ true
+    freed_in : (a b : BTreeSet ℕ) (q : ℕ) → (lo ≤ q) × (q < bound) → contains nat_cmp a q ≡ true → held_of lo bound a ≡ held_of lo bound b →
+        contains nat_cmp b q ≡ true
     freed_in a b q l t same =
         ⊎_elim (λ h. h)
         (λ (n : contains nat_cmp b q ≡ false).
@@ -90,24 +94,31 @@ state_of_fields : {lo hi : ℕ} {next : Option ℕ} {freed : BTreeSet ℕ} {s : 
 state_of_fields {lo} {hi} {next} {freed} {s} p = is_state s lo hi next freed p.is p.valid
 
 -- With the same bounds, the freed ids decide.
-same_if_freed : {lo hi lo' hi' : ℕ} {next next' : Option ℕ} {freed freed' : BTreeSet ℕ} {s t : IdState} → Represent lo hi next freed s → Represent lo' hi' next' freed' t →
+same_if_freed : {lo hi lo' hi' : ℕ} {next next' : Option ℕ} {freed freed' : BTreeSet ℕ} {s t : IdState} → Represent lo hi next freed s →
+    Represent lo' hi' next' freed' t →
     HaveSameBounds s t → IsOrdered nat_cmp freed → IsOrdered nat_cmp freed' → (freed.keys ≡ freed'.keys) ↔ (s ≡ t)
 unfolding ids_of
 same_if_freed {lo} {hi} {lo'} {hi'} {next} {next'} {freed} {freed'} {s} {t} p q h o k =
     let l : lo ≡ lo' = ap (λ (v : IdState). v.lo) p.is ∙ h.lo ∙ sym (ap (λ (v : IdState). v.lo) q.is) in
-    let n : bound_of next hi ≡ bound_of next' hi' = ap (λ (v : IdState). v.bound) p.is ∙ h.bound ∙ sym (ap (λ (v : IdState). v.bound) q.is) in
+    let n : bound_of next hi ≡ bound_of next' hi' = ap (λ (v : IdState). v.bound) p.is ∙ h.bound
+    ∙ sym (ap (λ (v : IdState). v.bound) q.is) in
     let held : s.held ≡ held_of lo (bound_of next hi) freed = sym (ap (λ (v : IdState). v.held) p.is) in
-    let other : t.held ≡ held_of lo (bound_of next hi) freed' = sym (ap (λ (v : IdState). v.held) q.is) ∙ (λ i. held_of (sym l i) (sym n i) freed') in (
-      λ e. same_state s t h.lo h.hi h.bound (held ∙ ap (λ (ks : List ℕ). held_of lo (bound_of next hi) (record { keys = ks })) e ∙ sym other),
+    let other : t.held ≡ held_of lo (bound_of next hi) freed' = sym (ap (λ (v : IdState). v.held) q.is)
+    ∙ (λ i. held_of (sym l i) (sym n i) freed') in (
+      λ e. same_state s t h.lo h.hi h.bound
+          (held ∙ ap (λ (ks : List ℕ). held_of lo (bound_of next hi) (record { keys = ks })) e ∙ sym other),
       λ e. same_freed lo (bound_of next hi) freed freed' o k p.valid.freed_ids
-          (subst (λ (b : ℕ). (i : ℕ) → IsTrue (contains nat_cmp freed' i) → (lo ≤ i) × (i < b)) (sym n) (subst (λ (b : ℕ). (i : ℕ) → IsTrue (contains nat_cmp freed' i) → (b ≤ i) × (i < bound_of next' hi')) (sym l) q.valid.freed_ids))
+          (subst (λ (b : ℕ). (i : ℕ) → IsTrue (contains nat_cmp freed' i) → (lo ≤ i) × (i < b)) (sym n)
+          (subst (λ (b : ℕ). (i : ℕ) → IsTrue (contains nat_cmp freed' i) → (b ≤ i) × (i < bound_of next' hi')) (sym l) q.valid.freed_ids))
           (sym held ∙ ap (λ (v : IdState). v.held) e ∙ other),
     )
 
-pub tested : {lo hi lo' hi' : ℕ} {next next' : Option ℕ} {freed freed' : BTreeSet ℕ} {s t : IdState} (r : Bool) → Represent lo hi next freed s → Represent lo' hi' next' freed' t →
+pub tested : {lo hi lo' hi' : ℕ} {next next' : Option ℕ} {freed freed' : BTreeSet ℕ} {s t : IdState} (r : Bool) →
+    Represent lo hi next freed s → Represent lo' hi' next' freed' t →
     HaveSameBounds s t → IsOrdered nat_cmp freed × IsOrdered nat_cmp freed' → IsTrue r ↔ (freed.keys ≡ freed'.keys) → IsTrue r ↔ (s ≡ t)
 tested r p q h o k = let same = same_if_freed p q h o.0 o.1 in (λ v. same.0 (k.0 v), λ e. k.1 (same.1 e))
 
-pub ordered : {lo hi lo' hi' : ℕ} {next next' : Option ℕ} {freed freed' : BTreeSet ℕ} {s t : IdState} (r : Bool) → Represent lo hi next freed s → Represent lo' hi' next' freed' t →
+pub ordered : {lo hi lo' hi' : ℕ} {next next' : Option ℕ} {freed freed' : BTreeSet ℕ} {s t : IdState} (r : Bool) →
+    Represent lo hi next freed s → Represent lo' hi' next' freed' t →
     IsTrue r ↔ (s ≡ t) → r ≡ eq_by_cmp id_state_cmp s t
 ordered {s = s} {t = t} r p q h = tested_by_order s t r (state_of_fields p) (state_of_fields q) h

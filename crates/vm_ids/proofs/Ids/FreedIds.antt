@@ -14,7 +14,8 @@ use Rattle.vm_ids.proofs.Ids.AllocatedIds.{takes_same, same_ids}
 
 -- Freeing.
 
-held_before_free : (lo bound k : ℕ) (freed more : BTreeSet ℕ) → Updates nat_cmp freed more k true → held_of lo bound more ≡ set.remove (held_of lo bound freed) k
+held_before_free : (lo bound k : ℕ) (freed more : BTreeSet ℕ) → Updates nat_cmp freed more k true →
+    held_of lo bound more ≡ set.remove (held_of lo bound freed) k
 held_before_free lo bound k freed more u =
     same_members _ _
     (λ q h. let p = from_held lo bound q more h in
@@ -24,10 +25,12 @@ held_before_free lo bound k freed more u =
     let p = from_held lo bound q freed r.1 in
     held_from lo bound q more p.0 p.1 (changed_other freed more k q true u (λ e. r.0 (sym e)) ∙ p.2))
 
-frees_one : (lo hi k : ℕ) (next : Option ℕ) (freed more : BTreeSet ℕ) → Updates nat_cmp freed more k true → ids_of lo hi next more ≡ releasing_id k (ids_of lo hi next freed)
+frees_one : (lo hi k : ℕ) (next : Option ℕ) (freed more : BTreeSet ℕ) → Updates nat_cmp freed more k true →
+    ids_of lo hi next more ≡ releasing_id k (ids_of lo hi next freed)
 unfolding ids_of
 frees_one lo hi k next freed more u =
-    ap (λ (s : set.FinSet nat_cmp). record { lo = lo; hi = hi; bound = bound_of next hi; held = s }) (held_before_free lo (bound_of next hi) k freed more u)
+    ap (λ (s : set.FinSet nat_cmp). record { lo = lo; hi = hi; bound = bound_of next hi; held = s })
+    (held_before_free lo (bound_of next hi) k freed more u)
 
 pub frees_outside : (old : IdState) (k : ℕ) → (IsOfRange old k → ⊥) → FreesId old k (Err (OutOfRange k)) old
 unfolding FreesId
@@ -37,35 +40,45 @@ pub frees_never : (old : IdState) (k : ℕ) → IsOfRange old k → (WasEverAllo
 unfolding FreesId
 frees_never old k r n = inr (r, inl (n, (refl, refl)))
 
-pub frees_again : (old : IdState) (lo hi k : ℕ) (next : Option ℕ) (freed more : BTreeSet ℕ) → ids_of lo hi next freed ≡ old → IsOfRange old k → WasEverAllocated old k → IsTrue (contains nat_cmp freed k) → IsUnchanged freed more → FreesId old k (Err (AlreadyReleased k)) (ids_of lo hi next more)
+pub frees_again : (old : IdState) (lo hi k : ℕ) (next : Option ℕ) (freed more : BTreeSet ℕ) → ids_of lo hi next freed ≡ old →
+    IsOfRange old k → WasEverAllocated old k → IsTrue (contains nat_cmp freed k) → IsUnchanged freed more →
+    FreesId old k (Err (AlreadyReleased k)) (ids_of lo hi next more)
 unfolding FreesId
 frees_again old lo hi k next freed more e r h t same =
     inr (r, inr (h, inl (holds_not old lo hi k next freed e t, (refl, takes_same lo hi next freed more same ∙ e))))
 
-pub frees_held : (old : IdState) (lo hi k : ℕ) (next : Option ℕ) (freed more : BTreeSet ℕ) → ids_of lo hi next freed ≡ old → IsOfRange old k → WasEverAllocated old k → contains nat_cmp freed k ≡ false → Updates nat_cmp freed more k true → FreesId old k (Ok k) (ids_of lo hi next more)
+pub frees_held : (old : IdState) (lo hi k : ℕ) (next : Option ℕ) (freed more : BTreeSet ℕ) → ids_of lo hi next freed ≡ old →
+    IsOfRange old k → WasEverAllocated old k → contains nat_cmp freed k ≡ false → Updates nat_cmp freed more k true →
+    FreesId old k (Ok k) (ids_of lo hi next more)
 unfolding FreesId
 frees_held old lo hi k next freed more e r h t u =
     inr (r, inr (h, inr (holds old lo hi k next freed e h t, inl (refl, frees_one lo hi k next freed more u ∙ ap (releasing_id k) e))))
 
-pub frees_no_memory : (old : IdState) (lo hi k : ℕ) (next : Option ℕ) (freed more : BTreeSet ℕ) → ids_of lo hi next freed ≡ old → IsOfRange old k → WasEverAllocated old k → contains nat_cmp freed k ≡ false → IsUnchanged freed more → FreesId old k (Err OutOfMemory) (ids_of lo hi next more)
+pub frees_no_memory : (old : IdState) (lo hi k : ℕ) (next : Option ℕ) (freed more : BTreeSet ℕ) → ids_of lo hi next freed ≡ old →
+    IsOfRange old k → WasEverAllocated old k → contains nat_cmp freed k ≡ false → IsUnchanged freed more →
+    FreesId old k (Err OutOfMemory) (ids_of lo hi next more)
 unfolding FreesId
 frees_no_memory old lo hi k next freed more e r h t same =
     inr (r, inr (h, inr (holds old lo hi k next freed e h t, inr (refl, takes_same lo hi next freed more same ∙ e))))
 
-allocated_below : (old : IdState) (lo hi k : ℕ) (next : Option ℕ) (freed : BTreeSet ℕ) → ids_of lo hi next freed ≡ old → WasEverAllocated old k → (lo ≤ k) × (k < bound_of next hi)
+allocated_below : (old : IdState) (lo hi k : ℕ) (next : Option ℕ) (freed : BTreeSet ℕ) → ids_of lo hi next freed ≡ old →
+    WasEverAllocated old k → (lo ≤ k) × (k < bound_of next hi)
 unfolding ids_of
 allocated_below old lo hi k next freed e h = subst (λ (s : IdState). WasEverAllocated s k) (sym e) h
 
-pub keeps_more : (old : IdState) (lo hi k : ℕ) (next : Option ℕ) (freed more : BTreeSet ℕ) → ids_of lo hi next freed ≡ old → AreIds lo hi next freed → WasEverAllocated old k → Updates nat_cmp freed more k true → AreIds lo hi next more
+pub keeps_more : (old : IdState) (lo hi k : ℕ) (next : Option ℕ) (freed more : BTreeSet ℕ) → ids_of lo hi next freed ≡ old →
+    AreIds lo hi next freed → WasEverAllocated old k → Updates nat_cmp freed more k true → AreIds lo hi next more
 keeps_more old lo hi k next freed more e a h u = record {
   range = a.range;
   ids = a.ids;
   next_id = a.next_id;
   freed_ids = λ q t.
-      ⊎_elim (λ (same : k ≡ q). subst (λ (x : ℕ). (lo ≤ x) × (x < bound_of next hi)) same (allocated_below old lo hi k next freed e h)) (λ (ne : k ≡ q → ⊥). a.freed_ids q (sym (changed_other freed more k q true u ne) ∙ t)) (cases_eq k q);
+      ⊎_elim (λ (same : k ≡ q). subst (λ (x : ℕ). (lo ≤ x) × (x < bound_of next hi)) same (allocated_below old lo hi k next freed e h))
+      (λ (ne : k ≡ q → ⊥). a.freed_ids q (sym (changed_other freed more k q true u ne) ∙ t)) (cases_eq k q);
 }
 
-pub keeps_same : (lo hi : ℕ) (next : Option ℕ) (freed more : BTreeSet ℕ) → AreIds lo hi next freed → IsUnchanged freed more → AreIds lo hi next more
+pub keeps_same : (lo hi : ℕ) (next : Option ℕ) (freed more : BTreeSet ℕ) → AreIds lo hi next freed → IsUnchanged freed more →
+    AreIds lo hi next more
 keeps_same lo hi next freed more a same = record {
   range = a.range;
   ids = a.ids;

@@ -21,7 +21,8 @@ use Rattle.vm_ids.proofs.Ids.AddedIds.{above_first, last_end, first_of_ends}
 abbrev pub IsWithin : ℕ → ℕ → ℕ → Type 0
 IsWithin lowest bound i = (lowest ≤ i) × (i < bound)
 
-row_within : (lowest bound first : ℕ) (ids : List ℕ) → IsStrictlySortedBy nat_cmp (first ∷ ids) → lowest ≤ first → last_of first ids < bound → AllByRecursion (IsWithin lowest bound) (first ∷ ids)
+row_within : (lowest bound first : ℕ) (ids : List ℕ) → IsStrictlySortedBy nat_cmp (first ∷ ids) → lowest ≤ first →
+    last_of first ids < bound → AllByRecursion (IsWithin lowest bound) (first ∷ ids)
 unfolding IsStrictlySortedBy
 row_within lowest bound first [] s l h = ((l, h), tt)
 row_within lowest bound first (i ∷ ids) s l h =
@@ -44,7 +45,8 @@ pub none_within : (lowest bound i : ℕ) (ids : List ℕ) → AreEndsOf None ids
 none_within lowest bound i [] a c = absurd (omega (arith, c.1))
 none_within lowest bound i (id ∷ ids) a c = absurd (cc (a.1))
 
-pub ends_within : (lowest bound : ℕ) (ends : Ends) (ids : List ℕ) → AreEndsOf (Some ends) ids → lowest ≤ ends.first → ends.last < bound → AreWithin lowest bound ids
+pub ends_within : (lowest bound : ℕ) (ends : Ends) (ids : List ℕ) → AreEndsOf (Some ends) ids → lowest ≤ ends.first → ends.last < bound →
+    AreWithin lowest bound ids
 ends_within lowest bound ends [] a l h = absurd (cc (a.1))
 ends_within lowest bound ends (first ∷ ids) a l h =
     let f = first_of_ends ends first ids a in
@@ -52,7 +54,8 @@ ends_within lowest bound ends (first ∷ ids) a l h =
     let row = row_within lowest bound first ids a.0 (omega (arith, f)) (omega (arith, e)) in
     λ i c. All-contains (IsWithin lowest bound) (first ∷ ids) i (All-from_recursion (IsWithin lowest bound) (first ∷ ids) row) c
 
-pub within_ends : (lowest bound : ℕ) (ends : Ends) (ids : List ℕ) → AreEndsOf (Some ends) ids → AreWithin lowest bound ids → (lowest ≤ ends.first) × (ends.last < bound)
+pub within_ends : (lowest bound : ℕ) (ends : Ends) (ids : List ℕ) → AreEndsOf (Some ends) ids → AreWithin lowest bound ids →
+    (lowest ≤ ends.first) × (ends.last < bound)
 within_ends lowest bound ends [] a w = absurd (cc (a.1))
 within_ends lowest bound ends (first ∷ ids) a w =
     let f = first_of_ends ends first ids a in
@@ -66,24 +69,30 @@ pub ruleset bounds = (none_within, ends_within, within_ends)
 
 -- The parts of an allocator.
 
-pub range_violated : (lo hi : ℕ) (next : Option ℕ) (freed : List ℕ) → hi < lo → (IdRange ≡ violated_by lo hi next) × ¬ AreFreedOf lo hi next freed
+pub range_violated : (lo hi : ℕ) (next : Option ℕ) (freed : List ℕ) → hi < lo →
+    (IdRange ≡ violated_by lo hi next) × ¬ AreFreedOf lo hi next freed
 range_violated lo hi next freed h = (rw (lt-ltb hi lo h) refl, λ p. let r = p.range in omega (arith, r))
 
-pub next_violated : (lo hi : ℕ) (next : Option ℕ) (freed : List ℕ) → lo ≤ hi → is_next next lo hi ≡ false → ¬ IsNext lo hi next → (NextId ≡ violated_by lo hi next) × ¬ AreFreedOf lo hi next freed
+pub next_violated : (lo hi : ℕ) (next : Option ℕ) (freed : List ℕ) → lo ≤ hi → is_next next lo hi ≡ false → ¬ IsNext lo hi next →
+    (NextId ≡ violated_by lo hi next) × ¬ AreFreedOf lo hi next freed
 next_violated lo hi next freed h e n = (rw (le-ltb hi lo h, e) refl, λ p. n p.next_id)
 
-pub freed_violated : (lo hi : ℕ) (next : Option ℕ) (freed : List ℕ) → lo ≤ hi → is_next next lo hi ≡ true → ¬ AreWithin lo (bound_of next hi) freed → (FreedIds ≡ violated_by lo hi next) × ¬ AreFreedOf lo hi next freed
+pub freed_violated : (lo hi : ℕ) (next : Option ℕ) (freed : List ℕ) → lo ≤ hi → is_next next lo hi ≡ true →
+    ¬ AreWithin lo (bound_of next hi) freed → (FreedIds ≡ violated_by lo hi next) × ¬ AreFreedOf lo hi next freed
 freed_violated lo hi next freed h e n = (rw (le-ltb hi lo h, e) refl, λ p. n p.freed_ids)
 
-pub parts_from : (lo hi : ℕ) (next : Option ℕ) (freed : List ℕ) → lo ≤ hi → IsNext lo hi next → IsStrictlySortedBy nat_cmp freed → AreWithin lo (bound_of next hi) freed → AreFreedOf lo hi next freed
+pub parts_from : (lo hi : ℕ) (next : Option ℕ) (freed : List ℕ) → lo ≤ hi → IsNext lo hi next → IsStrictlySortedBy nat_cmp freed →
+    AreWithin lo (bound_of next hi) freed → AreFreedOf lo hi next freed
 parts_from lo hi next freed l n s w = record { range = l; next_id = n; ascending = s; freed_ids = w }
 
 pub ruleset parts = (range_violated, next_violated, freed_violated, parts_from)
 
-pub parts_are_ids : (lo hi : ℕ) (next : Option ℕ) (freed : List ℕ) (set : BTreeSet ℕ) → hi ≤ MAX_ID → AreFreedOf lo hi next freed → set.keys ≡ freed → AreIds lo hi next set
+pub parts_are_ids : (lo hi : ℕ) (next : Option ℕ) (freed : List ℕ) (set : BTreeSet ℕ) → hi ≤ MAX_ID → AreFreedOf lo hi next freed →
+    set.keys ≡ freed → AreIds lo hi next set
 parts_are_ids lo hi next freed set m p e = record {
   range = p.range;
   ids = m;
   next_id = p.next_id;
-  freed_ids = λ i h. p.freed_ids i (Contains-from_any tied_is i freed (subst (λ (ks : List ℕ). list_any (eq_by_cmp nat_cmp i) ks ≡ true) e h));
+  freed_ids = λ i h. p.freed_ids i
+      (Contains-from_any tied_is i freed (subst (λ (ks : List ℕ). list_any (eq_by_cmp nat_cmp i) ks ≡ true) e h));
 }

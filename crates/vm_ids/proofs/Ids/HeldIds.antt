@@ -1,5 +1,45 @@
 -- The walk over the ids that were allocated at some time visits exactly the held ids, from both ends.
-use Rattle.std.proofs.Common.{◌≡◌, ◌≢◌, ◌↔◌, ℕ, suc, ◌+◌, ◌-◌, ◌^◌, ◌<◌, ◌≤◌, ◌⊎◌, Bool, true, false, cond, not, ◌&&◌, ◌||◌, eqb, List, [], ◌∷◌, ◌++◌, length, get_or, refl, sym, ap, ◌∙◌, arith, inl, inr, ⊎_elim, subst, Option, Some, None, IsTrue, Bor}
+use Rattle.std.proofs.Common.{
+  ◌≡◌,
+  ◌≢◌,
+  ◌↔◌,
+  ℕ,
+  suc,
+  ◌+◌,
+  ◌-◌,
+  ◌^◌,
+  ◌<◌,
+  ◌≤◌,
+  ◌⊎◌,
+  Bool,
+  true,
+  false,
+  cond,
+  not,
+  ◌&&◌,
+  ◌||◌,
+  eqb,
+  List,
+  [],
+  ◌∷◌,
+  ◌++◌,
+  length,
+  get_or,
+  refl,
+  sym,
+  ap,
+  ◌∙◌,
+  arith,
+  inl,
+  inr,
+  ⊎_elim,
+  subst,
+  Option,
+  Some,
+  None,
+  IsTrue,
+  Bor,
+}
 use Rattle.std.proofs.Math.Bool.{or-false}
 use Rattle.std.proofs.lemmas.Bool.{both_ways, and_parts, and_from, or_left, or_right, not-true, not-false, eq-eqb, eqb-true}
 use Rattle.std.proofs.lemmas.List.{append-nil, length_push}
@@ -58,11 +98,13 @@ without_last a b i (j ∷ is) r =
     let s = without_last (j + 1) b i is r.2 in ((r.0, omega (arith, s.1), s.0), omega (arith, r.0, s.1))
 
 -- ---- The freed ids at hand
-pub first_taken : (keys rest : List ℕ) (taken : Option (Bor ℕ)) → YieldsFirstRef (λ (is : List ℕ). is) keys taken rest → freed_from (option_copied taken) rest ≡ keys
+pub first_taken : (keys rest : List ℕ) (taken : Option (Bor ℕ)) → YieldsFirstRef (λ (is : List ℕ). is) keys taken rest →
+    freed_from (option_copied taken) rest ≡ keys
 first_taken keys rest None s = sym s.0
 first_taken keys rest (Some id) s = sym s
 
-pub last_taken : (keys rest : List ℕ) (taken : Option (Bor ℕ)) → YieldsLastRef (λ (is : List ℕ). is) keys taken rest → freed_to rest (option_copied taken) ≡ keys
+pub last_taken : (keys rest : List ℕ) (taken : Option (Bor ℕ)) → YieldsLastRef (λ (is : List ℕ). is) keys taken rest →
+    freed_to rest (option_copied taken) ≡ keys
 last_taken keys rest None s = sym s.0
 last_taken keys rest (Some id) s = sym s
 
@@ -74,23 +116,27 @@ that_id : (i : ℕ) (freed : Option ℕ) → false ≡ not (option_eq eqb freed 
 that_id i None t = absurd (both_ways _ refl t)
 that_id i (Some f) t = ap Some (eqb-true f i (not-false _ (sym t)))
 
-pub next_freed_passed : (next : ℕ) (freed copied : Option ℕ) (above rest : List ℕ) (taken : Option (Bor ℕ)) → false ≡ not (option_eq eqb freed (Some next)) → copied ≡ option_copied taken →
+pub next_freed_passed : (next : ℕ) (freed copied : Option ℕ) (above rest : List ℕ) (taken : Option (Bor ℕ)) →
+    false ≡ not (option_eq eqb freed (Some next)) → copied ≡ option_copied taken →
     YieldsFirstRef (λ (is : List ℕ). is) above taken rest → freed_from freed above ≡ next ∷ freed_from copied rest
 next_freed_passed next freed copied above rest taken t c s =
     ap (λ (o : Option ℕ). freed_from o above) (that_id next freed t)
     ∙ ap (λ (is : List ℕ). next ∷ is) (sym (ap (λ (o : Option ℕ). freed_from o rest) c ∙ first_taken above rest taken s))
 
-pub last_freed_passed : (last : ℕ) (freed copied : Option ℕ) (below rest : List ℕ) (taken : Option (Bor ℕ)) → false ≡ not (option_eq eqb freed (Some last)) → copied ≡ option_copied taken →
+pub last_freed_passed : (last : ℕ) (freed copied : Option ℕ) (below rest : List ℕ) (taken : Option (Bor ℕ)) →
+    false ≡ not (option_eq eqb freed (Some last)) → copied ≡ option_copied taken →
     YieldsLastRef (λ (is : List ℕ). is) below taken rest → freed_to below freed ≡ freed_to rest copied ++ last ∷ []
 last_freed_passed last freed copied below rest taken t c s =
     ap (freed_to below) (that_id last freed t)
     ∙ ap (λ (is : List ℕ). is ++ last ∷ []) (sym (ap (freed_to rest) c ∙ last_taken below rest taken s))
 
-pub next_freed_above : (next b : ℕ) (freed : Option ℕ) (above : List ℕ) → true ≡ not (option_eq eqb freed (Some next)) → AscendWithin next b (freed_from freed above) → AscendWithin (next + 1) b (freed_from freed above)
+pub next_freed_above : (next b : ℕ) (freed : Option ℕ) (above : List ℕ) → true ≡ not (option_eq eqb freed (Some next)) →
+    AscendWithin next b (freed_from freed above) → AscendWithin (next + 1) b (freed_from freed above)
 next_freed_above next b None above t r = tt
 next_freed_above next b (Some i) above t r = first_above next b i above (λ e. other_id next (Some i) t (ap Some e)) r
 
-pub last_freed_below : (a bound : ℕ) (freed : Option ℕ) (below : List ℕ) → true ≡ not (option_eq eqb freed (Some (bound - 1))) → AscendWithin a bound (freed_to below freed) → AscendWithin a (bound - 1) (freed_to below freed)
+pub last_freed_below : (a bound : ℕ) (freed : Option ℕ) (below : List ℕ) → true ≡ not (option_eq eqb freed (Some (bound - 1))) →
+    AscendWithin a bound (freed_to below freed) → AscendWithin a (bound - 1) (freed_to below freed)
 last_freed_below a bound None below t r = tt
 last_freed_below a bound (Some i) below t r = last_below a bound i below (λ e. other_id (bound - 1) (Some i) t (ap Some e)) r
 
@@ -101,14 +147,16 @@ none_left next bound freed l =
     let none : bound - next ≡ 0 = omega arith in ap (λ (n : ℕ). filter (kept freed) (range_with_len next n)) none
 
 module _ (next bound : ℕ) (l : next < bound) where
-  from_front : (freed : List ℕ) (t : Bool) → kept freed next ≡ t → ids_left next bound freed ≡ cond t (next ∷ ids_left (next + 1) bound freed) (ids_left (next + 1) bound freed)
+  from_front : (freed : List ℕ) (t : Bool) → kept freed next ≡ t →
+      ids_left next bound freed ≡ cond t (next ∷ ids_left (next + 1) bound freed) (ids_left (next + 1) bound freed)
   unfolding ids_left
   from_front freed t e =
       let one_more : bound - next ≡ suc (bound - (next + 1)) = omega arith in
       ap (λ (n : ℕ). filter (kept freed) (range_with_len next n)) one_more
       ∙ ap (λ (s : Bool). cond s (next ∷ ids_left (next + 1) bound freed) (ids_left (next + 1) bound freed)) e
 
-  from_back : (freed : List ℕ) (t : Bool) → kept freed (bound - 1) ≡ t → ids_left next bound freed ≡ ids_left next (bound - 1) freed ++ cond t ((bound - 1) ∷ []) []
+  from_back : (freed : List ℕ) (t : Bool) → kept freed (bound - 1) ≡ t →
+      ids_left next bound freed ≡ ids_left next (bound - 1) freed ++ cond t ((bound - 1) ∷ []) []
   unfolding ids_left
   from_back freed t e =
       let n : ℕ = bound - 1 - next in
@@ -128,7 +176,8 @@ module _ (next bound : ℕ) (l : next < bound) where
       (λ i a b. ap (λ (t : Bool). not (t || list_any (same i) rest)) (apart_not_tied i next (λ e. omega arith)))
 
   -- The walk from below passes a freed id, or visits a held one.
-  pub passes_first : (above rest below : List ℕ) (left : ℕ) → above ≡ next ∷ rest → AreIdsLeft next bound above below left → AreIdsLeft (next + 1) bound rest below left × (ids_left next bound above ≡ ids_left (next + 1) bound rest)
+  pub passes_first : (above rest below : List ℕ) (left : ℕ) → above ≡ next ∷ rest → AreIdsLeft next bound above below left →
+      AreIdsLeft (next + 1) bound rest below left × (ids_left next bound above ≡ ids_left (next + 1) bound rest)
   passes_first above rest below left e v =
       let r = subst (AscendWithin next (2 ^ 32)) e v.from_next in
       let same_left = ap (ids_left next bound) e ∙ front_freed rest in (
@@ -136,13 +185,15 @@ module _ (next bound : ℕ) (l : next < bound) where
           ids = v.ids;
           from_next = r.2;
           to_bound = v.to_bound;
-          same = λ i a b. sym (ap (λ (t : Bool). t || list_any (same i) rest) (apart_not_tied i next (λ k. omega arith))) ∙ ap (list_any (same i)) (sym e) ∙ v.same i (omega arith) b;
+          same = λ i a b. sym (ap (λ (t : Bool). t || list_any (same i) rest) (apart_not_tied i next (λ k. omega arith)))
+              ∙ ap (list_any (same i)) (sym e) ∙ v.same i (omega arith) b;
           counted = v.counted ∙ ap length same_left;
         },
         same_left,
       )
 
-  pub visits_first : (above below : List ℕ) (left : ℕ) → AscendWithin (next + 1) (2 ^ 32) above → AreIdsLeft next bound above below left → AreIdsLeft (next + 1) bound above below (left - 1) × (1 ≤ left) × (ids_left next bound above ≡ next ∷ ids_left (next + 1) bound above)
+  pub visits_first : (above below : List ℕ) (left : ℕ) → AscendWithin (next + 1) (2 ^ 32) above → AreIdsLeft next bound above below left →
+      AreIdsLeft (next + 1) bound above below (left - 1) × (1 ≤ left) × (ids_left next bound above ≡ next ∷ ids_left (next + 1) bound above)
   visits_first above below left r v =
       let held : kept above next ≡ true = ap not (none_outside next (next + 1) (2 ^ 32) above (inl (omega arith)) r) in
       let visited = from_front above true held in
@@ -159,27 +210,36 @@ module _ (next bound : ℕ) (l : next < bound) where
       )
 
   -- The walk from above does the same. The lists of freed ids agree on the ids that were not visited.
-  pub passes_last : (above below rest : List ℕ) (left : ℕ) → below ≡ rest ++ (bound - 1) ∷ [] → AreIdsLeft next bound above below left → AreIdsLeft next (bound - 1) above rest left × (ids_left next bound above ≡ ids_left next (bound - 1) above)
+  pub passes_last : (above below rest : List ℕ) (left : ℕ) → below ≡ rest ++ (bound - 1) ∷ [] → AreIdsLeft next bound above below left →
+      AreIdsLeft next (bound - 1) above rest left × (ids_left next bound above ≡ ids_left next (bound - 1) above)
   passes_last above below rest left e v =
       let r = without_last 0 bound (bound - 1) rest (subst (AscendWithin 0 bound) e v.to_bound) in
-      let any_below : (i : ℕ) → list_any (same i) below ≡ (list_any (same i) rest || (same i (bound - 1) || false)) = λ i. ap (list_any (same i)) e ∙ list_any-append (same i) rest ((bound - 1) ∷ []) in
-      let freed : kept above (bound - 1) ≡ false = ap not (v.same (bound - 1) (omega arith) (omega arith) ∙ any_below (bound - 1) ∙ or_right _ _ (or_left _ _ (tied_here (bound - 1)))) in
+      let any_below : (i : ℕ) →
+      list_any (same i) below ≡ (list_any (same i) rest || (same i (bound - 1) || false)) = λ i. ap (list_any (same i)) e
+      ∙ list_any-append (same i) rest ((bound - 1) ∷ []) in
+      let freed : kept above (bound - 1) ≡ false = ap not
+      (v.same (bound - 1) (omega arith) (omega arith) ∙ any_below (bound - 1) ∙ or_right _ _ (or_left _ _ (tied_here (bound - 1)))) in
       let same_left = from_back above false freed ∙ append-nil _ in (
         record {
           ids = omega (arith, v.ids);
           from_next = v.from_next;
           to_bound = r.0;
-          same = λ i a b. v.same i a (omega arith) ∙ any_below i ∙ ap (λ (t : Bool). list_any (same i) rest || (t || false)) (apart_not_tied i (bound - 1) (λ k. omega arith)) ∙ or-false _;
+          same = λ i a b. v.same i a (omega arith) ∙ any_below i
+              ∙ ap (λ (t : Bool). list_any (same i) rest || (t || false)) (apart_not_tied i (bound - 1) (λ k. omega arith)) ∙ or-false _;
           counted = v.counted ∙ ap length same_left;
         },
         same_left,
       )
 
-  pub visits_last : (above below : List ℕ) (left : ℕ) → AscendWithin 0 (bound - 1) below → AreIdsLeft next bound above below left → AreIdsLeft next (bound - 1) above below (left - 1) × (1 ≤ left) × (ids_left next bound above ≡ ids_left next (bound - 1) above ++ (bound - 1) ∷ [])
+  pub visits_last : (above below : List ℕ) (left : ℕ) → AscendWithin 0 (bound - 1) below → AreIdsLeft next bound above below left →
+      AreIdsLeft next (bound - 1) above below (left - 1) × (1 ≤ left)
+      × (ids_left next bound above ≡ ids_left next (bound - 1) above ++ (bound - 1) ∷ [])
   visits_last above below left r v =
-      let held : kept above (bound - 1) ≡ true = ap not (v.same (bound - 1) (omega arith) (omega arith) ∙ none_outside (bound - 1) 0 (bound - 1) below (inr (omega arith)) r) in
+      let held : kept above (bound - 1) ≡ true = ap not
+      (v.same (bound - 1) (omega arith) (omega arith) ∙ none_outside (bound - 1) 0 (bound - 1) below (inr (omega arith)) r) in
       let visited = from_back above true held in
-      let n : left ≡ length (ids_left next (bound - 1) above) + 1 = v.counted ∙ ap length visited ∙ length_push (ids_left next (bound - 1) above) (bound - 1) in (
+      let n : left ≡ length (ids_left next (bound - 1) above) + 1 = v.counted ∙ ap length visited
+      ∙ length_push (ids_left next (bound - 1) above) (bound - 1) in (
         record {
           ids = omega (arith, v.ids);
           from_next = v.from_next;
@@ -194,17 +254,20 @@ module _ (next bound : ℕ) (l : next < bound) where
 pub ruleset walks = (none_left)
 
 -- An id that was allocated at some time is held if and only if it was not freed since.
-pub held_not_freed : (lo bound i : ℕ) (freed : BTreeSet ℕ) → lo ≤ i → i < bound → set.contains (held_of lo bound freed) i ≡ not (contains nat_cmp freed i)
+pub held_not_freed : (lo bound i : ℕ) (freed : BTreeSet ℕ) → lo ≤ i → i < bound →
+    set.contains (held_of lo bound freed) i ≡ not (contains nat_cmp freed i)
 held_not_freed lo bound i freed l h =
     same_test _ _ (λ t. ap not (from_held lo bound i freed t).2) (λ t. held_from lo bound i freed l h (not-true _ t))
 
-walk_from : (lo bound : ℕ) (freed : BTreeSet ℕ) → lo ≤ bound → ids_left lo bound freed.keys ≡ filter (λ i. set.contains (held_of lo bound freed) i) (range_with_len lo (bound - lo))
+walk_from : (lo bound : ℕ) (freed : BTreeSet ℕ) → lo ≤ bound →
+    ids_left lo bound freed.keys ≡ filter (λ i. set.contains (held_of lo bound freed) i) (range_with_len lo (bound - lo))
 unfolding ids_left
 walk_from lo bound freed l =
     same_kept _ _ lo (bound - lo) (λ i a b. sym (held_not_freed lo bound i freed a (omega arith)))
 
 -- The walk from the lowest id visits the held ids.
-pub walk_lists : (state : IdState) (lo hi : ℕ) (next : Option ℕ) (freed : BTreeSet ℕ) → ids_of lo hi next freed ≡ state → AreIds lo hi next freed → ids_left lo (bound_of next hi) freed.keys ≡ held_ids state
+pub walk_lists : (state : IdState) (lo hi : ℕ) (next : Option ℕ) (freed : BTreeSet ℕ) → ids_of lo hi next freed ≡ state →
+    AreIds lo hi next freed → ids_left lo (bound_of next hi) freed.keys ≡ held_ids state
 unfolding ids_of
 walk_lists state lo hi next freed e a =
     walk_from lo (bound_of next hi) freed (bound_above lo hi next a.range a.next_id) ∙ ap (λ (s : IdState). held_ids s) e
@@ -215,7 +278,8 @@ pub in_held_ids : (state : IdState) → IsIdState state → (q : ℕ) → list_a
 in_held_ids state s q =
     let row = range_with_len state.lo (state.bound - state.lo) in
     let both : list_any (same q) (held_ids state) ≡ (set.contains state.held q && list_any (same q) row) =
-    any-filter_same (same q) (λ i. set.contains state.held i) (set.contains state.held q) (λ k t. ap (λ (v : ℕ). set.contains state.held v) (sym (tied_is q k t))) row in
+    any-filter_same (same q) (λ i. set.contains state.held i) (set.contains state.held q)
+    (λ k t. ap (λ (v : ℕ). set.contains state.held v) (sym (tied_is q k t))) row in
     both
     ∙ same_test _ _
     (λ t. (and_parts _ _ t).0)
@@ -232,8 +296,10 @@ held_id_listed state id s = (
 
 held_ids_counted : (state : IdState) → IsIdState state → length (held_ids state) ≡ held_count state
 held_ids_counted state s =
-    let apart : AllPairs (λ i j. i ≢ j) (held_ids state) = λ i j d l m e. omega (arith, below_from_sorted (held_ids state) i j d (held_ids_rise state) l m, e) in
-    let held : All (IsHeld state) (held_ids state) = λ k d l. (held_id_listed state (get_or (held_ids state) k d) s).0 (Contains-get_or (held_ids state) k d l) in
+    let apart : AllPairs (λ i j. i ≢ j) (held_ids state) = λ i j d l m e. omega
+    (arith, below_from_sorted (held_ids state) i j d (held_ids_rise state) l m, e) in
+    let held : All (IsHeld state) (held_ids state) = λ k d l. (held_id_listed state (get_or (held_ids state) k d) s).0
+    (Contains-get_or (held_ids state) k d l) in
     (ids_listed state (held_ids state) apart held).1 (λ i h. (held_id_listed state i s).1 h)
 
 pub listed_held : HeldIdsAreListed
@@ -242,18 +308,23 @@ listed_held = record { listed = held_id_listed; ascending = held_ids_rise; count
 pub ruleset listings = (listed_held)
 
 -- ---- The first state of the walk
-pub walk_starts : (state : IdState) (lo hi : ℕ) (next : Option ℕ) (freed : BTreeSet ℕ) (above below : List ℕ) → ids_of lo hi next freed ≡ state → AreIds lo hi next freed → IsOrdered nat_cmp freed →
-    All (λ i. IsTrue (contains nat_cmp freed i)) freed.keys → IsIdState state → above ≡ freed.keys → below ≡ freed.keys → AreIdsLeft lo (bound_of next hi) above below (held_count state)
+pub walk_starts : (state : IdState) (lo hi : ℕ) (next : Option ℕ) (freed : BTreeSet ℕ) (above below : List ℕ) →
+    ids_of lo hi next freed ≡ state → AreIds lo hi next freed → IsOrdered nat_cmp freed →
+    All (λ i. IsTrue (contains nat_cmp freed i)) freed.keys → IsIdState state → above ≡ freed.keys → below ≡ freed.keys →
+    AreIdsLeft lo (bound_of next hi) above below (held_count state)
 walk_starts state lo hi next freed above below b a o all s e f =
     let r : AscendWithin lo (bound_of next hi) freed.keys =
     rise lo (bound_of next hi) freed.keys o (All-weaker _ _ (λ i h. a.freed_ids i h) freed.keys all) in
     let fits = bound_fits lo hi next a.next_id in
     record {
       ids = omega (arith, fits, a.ids);
-      from_next = subst (AscendWithin lo (2 ^ 32)) (sym e) (wider lo lo (bound_of next hi) (2 ^ 32) freed.keys (omega arith) (omega (arith, fits, a.ids)) r);
-      to_bound = subst (AscendWithin 0 (bound_of next hi)) (sym f) (wider 0 lo (bound_of next hi) (bound_of next hi) freed.keys (omega arith) (omega arith) r);
+      from_next = subst (AscendWithin lo (2 ^ 32)) (sym e)
+          (wider lo lo (bound_of next hi) (2 ^ 32) freed.keys (omega arith) (omega (arith, fits, a.ids)) r);
+      to_bound = subst (AscendWithin 0 (bound_of next hi)) (sym f)
+          (wider 0 lo (bound_of next hi) (bound_of next hi) freed.keys (omega arith) (omega arith) r);
       same = λ i l u. ap (list_any (same i)) (e ∙ sym f);
-      counted = sym (ap (λ (is : List ℕ). length (ids_left lo (bound_of next hi) is)) e ∙ ap length (walk_lists state lo hi next freed b a) ∙ held_ids_counted state s);
+      counted = sym (ap (λ (is : List ℕ). length (ids_left lo (bound_of next hi) is)) e ∙ ap length (walk_lists state lo hi next freed b a)
+          ∙ held_ids_counted state s);
     }
 
 pub ruleset lists = (walk_lists, first_taken, last_taken, walk_starts)

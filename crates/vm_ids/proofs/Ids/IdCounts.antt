@@ -1,6 +1,36 @@
 -- The number of held ids: the ids that were allocated at some time, without the freed ids. A list of different held ids
 -- contains all of them if and only if it has this length.
-use Rattle.std.proofs.Common.{◌≡◌, ℕ, zero, suc, ◌+◌, ◌-◌, ◌<◌, ◌≤◌, Bool, true, false, cond, not, ◌&&◌, ◌||◌, List, [], ◌∷◌, length, get_or, refl, sym, ap, ◌∙◌, subst, arith, ⊎_elim, Option, IsTrue}
+use Rattle.std.proofs.Common.{
+  ◌≡◌,
+  ℕ,
+  zero,
+  suc,
+  ◌+◌,
+  ◌-◌,
+  ◌<◌,
+  ◌≤◌,
+  Bool,
+  true,
+  false,
+  cond,
+  not,
+  ◌&&◌,
+  ◌||◌,
+  List,
+  [],
+  ◌∷◌,
+  length,
+  get_or,
+  refl,
+  sym,
+  ap,
+  ◌∙◌,
+  subst,
+  arith,
+  ⊎_elim,
+  Option,
+  IsTrue,
+}
 use Rattle.std.proofs.lemmas.Bool.{cases_eq, both_ways, and_from, or_left, or_right}
 use Rattle.std.proofs.lemmas.List.Elements.{All-head, All-tail, All-from_recursion}
 use Rattle.std.proofs.lemmas.List.FromFn.{length-range_with_len}
@@ -50,7 +80,8 @@ some_in : (s : set.FinSet nat_cmp) (i : ℕ) → IsTrue (set.contains s i) → 0
 some_in s i h =
     ⊎_elim
     (λ (e : set.len s ≡ 0).
-    let none : set.contains s i ≡ false = ap (λ (t : set.FinSet nat_cmp). set.contains t i) (set.empty_of_len s e) ∙ set.contains-empty nat_cmp i in
+    let none : set.contains s i ≡ false = ap (λ (t : set.FinSet nat_cmp). set.contains t i) (set.empty_of_len s e)
+    ∙ set.contains-empty nat_cmp i in
     absurd (both_ways _ none h))
     (λ (n : set.len s ≡ 0 → ⊥). omega arith)
     (cases_eq (set.len s) 0)
@@ -90,7 +121,8 @@ but_for_more s i is =
     turned false true c = refl
     turned false false c = refl
 
-len-but_for : (s : set.FinSet nat_cmp) (is : List ℕ) → IsDistinct same is → ((i : ℕ) → list_any (same i) is ≡ true → IsTrue (set.contains s i)) → set.len (but_for s is) + length is ≡ set.len s
+len-but_for : (s : set.FinSet nat_cmp) (is : List ℕ) → IsDistinct same is →
+    ((i : ℕ) → list_any (same i) is ≡ true → IsTrue (set.contains s i)) → set.len (but_for s is) + length is ≡ set.len s
 unfolding IsDistinct
 len-but_for s [] d h = let e = ap set.len (but_for_none s) in omega (arith, e)
 len-but_for s (i ∷ is) d h =
@@ -103,7 +135,8 @@ len-but_for s (i ∷ is) d h =
 pub allocated_above : (lo hi : ℕ) (next : Option ℕ) (freed : BTreeSet ℕ) → AreIds lo hi next freed → lo ≤ bound_of next hi
 allocated_above lo hi next freed a = bound_above lo hi next a.range a.next_id
 
-held_and_freed : (lo hi : ℕ) (next : Option ℕ) (freed : BTreeSet ℕ) → AreIds lo hi next freed → IsOrdered nat_cmp freed → held_count (ids_of lo hi next freed) + btree_set_len freed ≡ bound_of next hi - lo
+held_and_freed : (lo hi : ℕ) (next : Option ℕ) (freed : BTreeSet ℕ) → AreIds lo hi next freed → IsOrdered nat_cmp freed →
+    held_count (ids_of lo hi next freed) + btree_set_len freed ≡ bound_of next hi - lo
 unfolding ids_of held_of
 held_and_freed lo hi next freed a o =
     let n = bound_of next hi - lo in
@@ -115,10 +148,12 @@ held_and_freed lo hi next freed a o =
     set.contains-from_list nat_cmp_total (range_with_len lo n) i ∙ in_row lo n i was.0 (omega (arith, was.1))) in
     parts ∙ whole
 
-pub freed_fit : (lo hi : ℕ) (next : Option ℕ) (freed : BTreeSet ℕ) → AreIds lo hi next freed → IsOrdered nat_cmp freed → btree_set_len freed ≤ bound_of next hi - lo
+pub freed_fit : (lo hi : ℕ) (next : Option ℕ) (freed : BTreeSet ℕ) → AreIds lo hi next freed → IsOrdered nat_cmp freed →
+    btree_set_len freed ≤ bound_of next hi - lo
 freed_fit lo hi next freed a o = omega (arith, held_and_freed lo hi next freed a o)
 
-pub counted : (state : IdState) (lo hi : ℕ) (next : Option ℕ) (freed : BTreeSet ℕ) → ids_of lo hi next freed ≡ state → AreIds lo hi next freed → IsOrdered nat_cmp freed → held_count state + btree_set_len freed ≡ bound_of next hi - lo
+pub counted : (state : IdState) (lo hi : ℕ) (next : Option ℕ) (freed : BTreeSet ℕ) → ids_of lo hi next freed ≡ state →
+    AreIds lo hi next freed → IsOrdered nat_cmp freed → held_count state + btree_set_len freed ≡ bound_of next hi - lo
 counted state lo hi next freed e a o =
     subst (λ (s : IdState). held_count s + btree_set_len freed ≡ bound_of next hi - lo) e (held_and_freed lo hi next freed a o)
 
@@ -139,7 +174,8 @@ few_in (i ∷ is) s d a =
     (All-tail (λ j. IsTrue (set.contains s j)) i is a k e l)) in
     omega (arith, rest, one_less s i (All-head (λ j. IsTrue (set.contains s j)) i is a))
 
-as_many : (s : set.FinSet nat_cmp) (is : List ℕ) → Differ is → All (λ j. IsTrue (set.contains s j)) is → ((i : ℕ) → IsTrue (set.contains s i) → Contains is i) → length is ≡ set.len s
+as_many : (s : set.FinSet nat_cmp) (is : List ℕ) → Differ is → All (λ j. IsTrue (set.contains s j)) is →
+    ((i : ℕ) → IsTrue (set.contains s i) → Contains is i) → length is ≡ set.len s
 as_many s is d a each =
     let is_set : set.from_list is ≡ s =
     same_members (set.from_list is) s
@@ -149,7 +185,8 @@ as_many s is d a each =
 
 pub ids_listed : IdCountFindsAll
 ids_listed state list d a = (
-  λ e i. each_listed tells_apart (IsHeld state) (held_count state) (λ is f h. few_in is state.held (IsDistinct-from_AllPairs tells_apart is f) h) list i d a e,
+  λ e i. each_listed tells_apart (IsHeld state) (held_count state)
+      (λ is f h. few_in is state.held (IsDistinct-from_AllPairs tells_apart is f) h) list i d a e,
   as_many state.held list d a,
 )
 

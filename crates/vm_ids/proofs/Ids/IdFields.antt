@@ -16,7 +16,9 @@ use Rattle.vm_ids.proofs.Ids.IdSets.{from_held, from_holds, holds_of, bound_fits
 pub fresh : (lo hi : ℕ) (freed : BTreeSet ℕ) → IsEmpty freed → ids_of lo hi (Some lo) freed ≡ new_ids lo hi
 unfolding ids_of
 fresh lo hi freed e =
-    let none : held_of lo lo freed ≡ set.empty = same_members _ _ (λ q h. let p = from_held lo lo q freed h in absurd (omega (arith, p.0, p.1))) (λ q h. absurd (both_ways _ (set.contains-empty nat_cmp q) h)) in
+    let none : held_of lo lo freed ≡ set.empty = same_members _ _
+    (λ q h. let p = from_held lo lo q freed h in absurd (omega (arith, p.0, p.1)))
+    (λ q h. absurd (both_ways _ (set.contains-empty nat_cmp q) h)) in
     ap (λ s. record { lo = lo; hi = hi; bound = lo; held = s }) none
 
 pub makes_fresh : (lo hi : ℕ) (freed : BTreeSet ℕ) → lo ≤ hi → IsEmpty freed → MakesIds lo hi (Ok (ids_of lo hi (Some lo) freed))
@@ -40,7 +42,8 @@ is_state_of lo hi next freed h = record {
   held = λ i k. let p = from_held lo (bound_of next hi) i freed k in (p.0, p.1);
 }
 
-pub is_state : (state : IdState) (lo hi : ℕ) (next : Option ℕ) (freed : BTreeSet ℕ) → ids_of lo hi next freed ≡ state → AreIds lo hi next freed → IsIdState state
+pub is_state : (state : IdState) (lo hi : ℕ) (next : Option ℕ) (freed : BTreeSet ℕ) → ids_of lo hi next freed ≡ state →
+    AreIds lo hi next freed → IsIdState state
 is_state state lo hi next freed e h = subst IsIdState e (is_state_of lo hi next freed h)
 
 pub ruleset states = (is_state)
@@ -50,16 +53,19 @@ unfolding ids_of
 next_of lo hi None freed n = rw (lt-leb (hi + 1) MAX_ID (omega arith)) refl
 next_of lo hi (Some i) freed n = rw (le-leb i MAX_ID n.2) refl
 
-pub next_is : (state : IdState) (lo hi : ℕ) (next : Option ℕ) (freed : BTreeSet ℕ) → ids_of lo hi next freed ≡ state → AreIds lo hi next freed → next ≡ next_id_of state
+pub next_is : (state : IdState) (lo hi : ℕ) (next : Option ℕ) (freed : BTreeSet ℕ) → ids_of lo hi next freed ≡ state →
+    AreIds lo hi next freed → next ≡ next_id_of state
 next_is state lo hi next freed e h = next_of lo hi next freed h.next_id ∙ ap (λ (s : IdState). next_id_of s) e
 
 pub ruleset nexts = (next_is)
 
-pub holds : (state : IdState) (lo hi i : ℕ) (next : Option ℕ) (freed : BTreeSet ℕ) → ids_of lo hi next freed ≡ state → WasEverAllocated state i → contains nat_cmp freed i ≡ false → IsHeld state i
+pub holds : (state : IdState) (lo hi i : ℕ) (next : Option ℕ) (freed : BTreeSet ℕ) → ids_of lo hi next freed ≡ state →
+    WasEverAllocated state i → contains nat_cmp freed i ≡ false → IsHeld state i
 holds state lo hi i next freed e =
     subst (λ (s : IdState). WasEverAllocated s i → contains nat_cmp freed i ≡ false → IsHeld s i) e (holds_of lo hi i next freed)
 
-pub holds_not : (state : IdState) (lo hi i : ℕ) (next : Option ℕ) (freed : BTreeSet ℕ) → ids_of lo hi next freed ≡ state → IsTrue (contains nat_cmp freed i) → IsHeld state i → ⊥
+pub holds_not : (state : IdState) (lo hi i : ℕ) (next : Option ℕ) (freed : BTreeSet ℕ) → ids_of lo hi next freed ≡ state →
+    IsTrue (contains nat_cmp freed i) → IsHeld state i → ⊥
 holds_not state lo hi i next freed e t h =
     both_ways _ (from_holds lo hi i next freed (subst (λ (s : IdState). IsHeld s i) (sym e) h)).2 t
 

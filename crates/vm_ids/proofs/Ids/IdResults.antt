@@ -4,8 +4,34 @@ use Rattle.std.proofs.lemmas.Bool.{cases_lt, cases_eq, both_ways}
 use Rattle.std.specs.Ordering.{nat_cmp}
 use Rattle.std.specs.FinSet as set
 use Rattle.vm_ranges.proofs.NumberSets.{inserted_here, inserted_other, from_inserted, removed_other, from_removed}
-use Rattle.vm_ids.specs.Ids.{MAX_ID, IdState, WasEverAllocated, IsHeld, IsLowestNotHeld, AreAllHeld, IsIdState, new_ids, holding_id, releasing_id, MakesIds, ByLowestNotHeld, AllocatesId, PeeksId, FreesId}
-use Rattle.vm_ids.specs.Laws.IdLaws.{MakingIsDetermined, AllocatingIsDetermined, PeekingPredicts, FreeingIsDetermined, IdStateIsPreserved, AddsId, RemovesId, AllocatingAdds, FreeingRemoves}
+use Rattle.vm_ids.specs.Ids.{
+  MAX_ID,
+  IdState,
+  WasEverAllocated,
+  IsHeld,
+  IsLowestNotHeld,
+  AreAllHeld,
+  IsIdState,
+  new_ids,
+  holding_id,
+  releasing_id,
+  MakesIds,
+  ByLowestNotHeld,
+  AllocatesId,
+  PeeksId,
+  FreesId,
+}
+use Rattle.vm_ids.specs.Laws.IdLaws.{
+  MakingIsDetermined,
+  AllocatingIsDetermined,
+  PeekingPredicts,
+  FreeingIsDetermined,
+  IdStateIsPreserved,
+  AddsId,
+  RemovesId,
+  AllocatingAdds,
+  FreeingRemoves,
+}
 use Rattle.vm_ranges.specs.declared.error.Error.{Error}
 use Rattle.vm_ranges.specs.declared.error.Error.TheVariants.{Overflow, ResourceNotAvailable, OutOfMemory}
 use Rattle.vm_ranges.proofs.TwoFacts.{if_same, unless_same}
@@ -16,14 +42,17 @@ pub one_lowest : (state : IdState) (i j : ℕ) → IsLowestNotHeld state i → I
 unfolding IsLowestNotHeld
 one_lowest state i j a b = let up = a.1 j b.0 in let down = b.1 i a.0 in omega (arith, up, down)
 
-pub by_same_lowest : (state : IdState) (takes takes' : ℕ → Type 0) (refused refused' : Error → Type 0) (G : Type 0) → ByLowestNotHeld state takes refused → ByLowestNotHeld state takes' refused' → ((i : ℕ) → takes i → takes' i → G) → ((e : Error) → refused e → refused' e → G) → G
+pub by_same_lowest : (state : IdState) (takes takes' : ℕ → Type 0) (refused refused' : Error → Type 0) (G : Type 0) →
+    ByLowestNotHeld state takes refused → ByLowestNotHeld state takes' refused' → ((i : ℕ) → takes i → takes' i → G) →
+    ((e : Error) → refused e → refused' e → G) → G
 unfolding ByLowestNotHeld AreAllHeld IsLowestNotHeld
 by_same_lowest state takes takes' refused refused' G (inl a) (inl b) f g =
     f b.0 (subst takes (one_lowest state a.0 b.0 a.1 b.1) a.2) b.2
 by_same_lowest state takes takes' refused refused' G (inl a) (inr b) f g = absurd (a.1.0.1 (b.0 a.0 a.1.0.0))
 by_same_lowest state takes takes' refused refused' G (inr a) (inl b) f g = absurd (b.1.0.1 (a.0 b.0 b.1.0.0))
 by_same_lowest state takes takes' refused refused' G (inr a) (inr b) f g =
-    if_same (state.hi ≡ MAX_ID) (refused Overflow) (refused ResourceNotAvailable) (refused' Overflow) (refused' ResourceNotAvailable) a.1 b.1 (g Overflow) (g ResourceNotAvailable)
+    if_same (state.hi ≡ MAX_ID) (refused Overflow) (refused ResourceNotAvailable) (refused' Overflow) (refused' ResourceNotAvailable) a.1
+    b.1 (g Overflow) (g ResourceNotAvailable)
 
 pub making_is_determined : MakingIsDetermined
 unfolding MakesIds
@@ -32,7 +61,8 @@ making_is_determined lo hi r s a b = if_same _ _ _ _ _ a b (λ x y. x ∙ sym y)
 pub allocating_is_determined : AllocatingIsDetermined
 unfolding AllocatesId
 allocating_is_determined old new other r s a b =
-    by_same_lowest old _ _ _ _ ((r ≡ s) × (new ≡ other)) a b (λ i x y. (x.0 ∙ sym y.0, x.1 ∙ sym y.1)) (λ e x y. (x.0 ∙ sym y.0, x.1 ∙ sym y.1))
+    by_same_lowest old _ _ _ _ ((r ≡ s) × (new ≡ other)) a b (λ i x y. (x.0 ∙ sym y.0, x.1 ∙ sym y.1))
+    (λ e x y. (x.0 ∙ sym y.0, x.1 ∙ sym y.1))
 
 peeked_is_given : (old new : IdState) (peeked answer : Result ℕ Error) → PeeksId old peeked → AllocatesId old answer new → peeked ≡ answer
 unfolding PeeksId AllocatesId
@@ -53,7 +83,9 @@ peeking_predicts = record {
       (sym same, given_id_is_held old new id (subst (λ (v : Result ℕ Error). AllocatesId old v new) (sym same) b));
 }
 
-one_gives_back : (old : IdState) (id : ℕ) (r s : Result ℕ Error) (new other : IdState) → r ≢ Err OutOfMemory → s ≢ Err OutOfMemory → ((r ≡ Ok id) × (new ≡ releasing_id id old)) ⊎ ((r ≡ Err OutOfMemory) × (new ≡ old)) → ((s ≡ Ok id) × (other ≡ releasing_id id old)) ⊎ ((s ≡ Err OutOfMemory) × (other ≡ old)) → (r ≡ s) × (new ≡ other)
+one_gives_back : (old : IdState) (id : ℕ) (r s : Result ℕ Error) (new other : IdState) → r ≢ Err OutOfMemory → s ≢ Err OutOfMemory →
+    ((r ≡ Ok id) × (new ≡ releasing_id id old)) ⊎ ((r ≡ Err OutOfMemory) × (new ≡ old)) →
+    ((s ≡ Ok id) × (other ≡ releasing_id id old)) ⊎ ((s ≡ Err OutOfMemory) × (other ≡ old)) → (r ≡ s) × (new ≡ other)
 one_gives_back old id r s new other m n (inl x) (inl y) = (x.0 ∙ sym y.0, x.1 ∙ sym y.1)
 one_gives_back old id r s new other m n (inl x) (inr y) = absurd (n y.0)
 one_gives_back old id r s new other m n (inr x) y = absurd (m x.0)
@@ -84,7 +116,9 @@ unfolding IsLowestNotHeld
 lowest_to_bound old id s a = (
   a.0.0.0,
   a.0.0.1,
-  ⊎_elim (λ (past : old.hi < old.bound). omega (arith, a.0.0.1)) (λ (fits : old.bound ≤ old.hi). a.1 old.bound ((s.bound.0, fits), λ h. let out = s.held old.bound h in omega (arith, out.1))) (cases_lt old.hi old.bound),
+  ⊎_elim (λ (past : old.hi < old.bound). omega (arith, a.0.0.1))
+      (λ (fits : old.bound ≤ old.hi). a.1 old.bound ((s.bound.0, fits), λ h. let out = s.held old.bound h in omega (arith, out.1)))
+      (cases_lt old.hi old.bound),
 )
 
 holding_state : (old : IdState) (id : ℕ) → IsIdState old → IsLowestNotHeld old id → IsIdState (holding_id id old)
@@ -94,7 +128,8 @@ holding_state old id s a =
       ids = s.ids;
       bound = (omega (arith, s.bound.0), omega (arith, s.bound.1, at.1));
       held = λ i h.
-          ⊎_elim (λ (e : i ≡ id). (omega (arith, e, at.0), omega (arith, e))) (λ (m : IsHeld old i). let out = s.held i m in (out.0, omega (arith, out.1))) (from_inserted old.held id i h);
+          ⊎_elim (λ (e : i ≡ id). (omega (arith, e, at.0), omega (arith, e)))
+          (λ (m : IsHeld old i). let out = s.held i m in (out.0, omega (arith, out.1))) (from_inserted old.held id i h);
     }
 
 releasing_state : (old : IdState) (id : ℕ) → IsIdState old → IsIdState (releasing_id id old)
@@ -134,18 +169,21 @@ pub ruleset kept = (id_states_are_preserved)
 
 -- The effect of one call.
 
-more_allocated : (old : IdState) (id q : ℕ) → IsIdState old → IsLowestNotHeld old id → WasEverAllocated (holding_id id old) q ↔ (WasEverAllocated old q ⊎ (q ≡ id))
+more_allocated : (old : IdState) (id q : ℕ) → IsIdState old → IsLowestNotHeld old id →
+    WasEverAllocated (holding_id id old) q ↔ (WasEverAllocated old q ⊎ (q ≡ id))
 more_allocated old id q s a =
     let at = lowest_to_bound old id s a in (
       λ h. ⊎_elim (λ (e : q ≡ id). inr e) (λ (ne : q ≡ id → ⊥). inl (h.0, omega (arith, h.1, at.2, ne))) (cases_eq q id),
-      λ h. ⊎_elim (λ (m : WasEverAllocated old q). (m.0, omega (arith, m.1))) (λ (e : q ≡ id). (omega (arith, e, at.0), omega (arith, e))) h,
+      λ h. ⊎_elim (λ (m : WasEverAllocated old q). (m.0, omega (arith, m.1))) (λ (e : q ≡ id). (omega (arith, e, at.0), omega (arith, e)))
+          h,
     )
 
 more_held : (old : IdState) (id q : ℕ) → IsHeld (holding_id id old) q ↔ (IsHeld old q ⊎ (q ≡ id))
 more_held old id q = (
   λ h. ⊎_elim (λ (e : q ≡ id). inr e) (λ (m : IsHeld old q). inl m) (from_inserted old.held id q h),
   λ h.
-      ⊎_elim (λ (m : IsHeld old q). inserted_other old.held id q m) (λ (e : q ≡ id). subst (λ (x : ℕ). IsHeld (holding_id id old) x) (sym e) (inserted_here old.held id)) h,
+      ⊎_elim (λ (m : IsHeld old q). inserted_other old.held id q m)
+      (λ (e : q ≡ id). subst (λ (x : ℕ). IsHeld (holding_id id old) x) (sym e) (inserted_here old.held id)) h,
 )
 
 adds : (old new : IdState) (id : ℕ) → IsIdState old → IsLowestNotHeld old id → new ≡ holding_id id old → AddsId old new id

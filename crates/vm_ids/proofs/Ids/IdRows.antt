@@ -8,7 +8,8 @@ use Rattle.vm_ids.specs.Checks.IdQueries.{AscendWithin}
 use Rattle.vm_ids.proofs.Ids.AscendingBounds.{sorted}
 
 -- Two tests that agree on a row keep the same ids of it.
-pub same_kept : (p q : ℕ → Bool) (a n : ℕ) → ((i : ℕ) → a ≤ i → i < a + n → p i ≡ q i) → filter p (range_with_len a n) ≡ filter q (range_with_len a n)
+pub same_kept : (p q : ℕ → Bool) (a n : ℕ) → ((i : ℕ) → a ≤ i → i < a + n → p i ≡ q i) →
+    filter p (range_with_len a n) ≡ filter q (range_with_len a n)
 same_kept p q a zero h = refl
 same_kept p q a (suc n) h =
     rw (h a (omega arith) (omega arith), same_kept p q (a + 1) n (λ i l u. h i (omega arith) (omega arith))) refl

@@ -1,5 +1,36 @@
 -- The state that a value encodes, and the fields of an allocator with this state.
-use Rattle.std.proofs.Common.{◌≡◌, ℕ, zero, suc, ◌≤◌, ◌<◌, true, false, List, [], ◌∷◌, length, Option, Some, None, is_some, IsSome, Result, Ok, Err, MatchResult, codes, IsTrue, refl, sym, ap, ◌∙◌, subst, arith, true≢false}
+use Rattle.std.proofs.Common.{
+  ◌≡◌,
+  ℕ,
+  zero,
+  suc,
+  ◌≤◌,
+  ◌<◌,
+  true,
+  false,
+  List,
+  [],
+  ◌∷◌,
+  length,
+  Option,
+  Some,
+  None,
+  is_some,
+  IsSome,
+  Result,
+  Ok,
+  Err,
+  MatchResult,
+  codes,
+  IsTrue,
+  refl,
+  sym,
+  ap,
+  ◌∙◌,
+  subst,
+  arith,
+  true≢false,
+}
 use Rattle.std.proofs.lemmas.Option.{same_Some}
 use Rattle.std.proofs.lemmas.List.Elements.{All-contains}
 use Rattle.std.proofs.lemmas.Map.Views.{Contains-from_any, list_any-from_Contains}
@@ -60,7 +91,8 @@ are_ids lo hi next freed s = record {
   all_of : (ns : List ℕ) (i : ℕ) → All (λ n. (lo ≤ n) × (n < bound_of next hi)) ns → Contains ns i → (lo ≤ i) × (i < bound_of next hi)
   all_of ns i a c = subst (λ (x : ℕ). (lo ≤ x) × (x < bound_of next hi)) c.2 (a c.0 i c.1)
 
-valid : (lo hi : ℕ) (next : Option ℕ) (freed : BTreeSet ℕ) → AreIds lo hi next freed → IsStrictlySortedBy nat_cmp freed.keys → AreIdFields (fields_of lo next hi freed.keys)
+valid : (lo hi : ℕ) (next : Option ℕ) (freed : BTreeSet ℕ) → AreIds lo hi next freed → IsStrictlySortedBy nat_cmp freed.keys →
+    AreIdFields (fields_of lo next hi freed.keys)
 valid lo hi next freed i s = record {
   range = i.range;
   ids = i.ids;
@@ -80,16 +112,22 @@ one_state f a b p q =
     let hi : a.hi ≡ b.hi = p.hi ∙ sym q.hi in
     let bound : a.bound ≡ b.bound = p.bound ∙ sym q.bound in
     let held : a.held ≡ b.held = same_members a.held b.held (moved a b p q lo bound) (moved b a q p (sym lo) (sym bound)) in
-    ap (λ (x : ℕ). record { lo = x; hi = a.hi; bound = a.bound; held = a.held }) lo ∙ ap (λ (x : ℕ). record { lo = b.lo; hi = x; bound = a.bound; held = a.held }) hi ∙ ap (λ (x : ℕ). record { lo = b.lo; hi = b.hi; bound = x; held = a.held }) bound ∙ ap (λ (x : set.FinSet nat_cmp). record { lo = b.lo; hi = b.hi; bound = b.bound; held = x }) held where
-      moved : (a b : IdState) → AreIdsOf f a → AreIdsOf f b → a.lo ≡ b.lo → a.bound ≡ b.bound → (i : ℕ) → IsTrue (set.contains a.held i) → IsTrue (set.contains b.held i)
-      moved a b p q lo bound i h = let x = (p.held i).0 h in (q.held i).1 ((subst (λ (l : ℕ). l ≤ i) lo x.0.0, subst (λ (n : ℕ). i < n) bound x.0.1), x.1)
+    ap (λ (x : ℕ). record { lo = x; hi = a.hi; bound = a.bound; held = a.held }) lo
+    ∙ ap (λ (x : ℕ). record { lo = b.lo; hi = x; bound = a.bound; held = a.held }) hi
+    ∙ ap (λ (x : ℕ). record { lo = b.lo; hi = b.hi; bound = x; held = a.held }) bound
+    ∙ ap (λ (x : set.FinSet nat_cmp). record { lo = b.lo; hi = b.hi; bound = b.bound; held = x }) held where
+      moved : (a b : IdState) → AreIdsOf f a → AreIdsOf f b → a.lo ≡ b.lo → a.bound ≡ b.bound → (i : ℕ) → IsTrue (set.contains a.held i) →
+          IsTrue (set.contains b.held i)
+      moved a b p q lo bound i h = let x = (p.held i).0 h in (q.held i).1
+          ((subst (λ (l : ℕ). l ≤ i) lo x.0.0, subst (λ (n : ℕ). i < n) bound x.0.1), x.1)
 
 -- The facts that the contracts of the code need.
 
 pub none_encoded : (d : Data) → decoded_ids d ≡ None → ((state : IdState) × EncodesIds d state) → ⊥
 none_encoded d e p = true≢false (sym (passes d p.1.fields p.1.written p.1.valid) ∙ ap is_some e)
 
-built_states : (d : Data) (p : Found) (freed : BTreeSet ℕ) → decoded_ids d ≡ Some p → ascending p.0 (bound_of p.1 p.2) p.3 ≡ Some freed.keys → EncodesIds d (ids_of p.0 p.2 p.1 freed)
+built_states : (d : Data) (p : Found) (freed : BTreeSet ℕ) → decoded_ids d ≡ Some p →
+    ascending p.0 (bound_of p.1 p.2) p.3 ≡ Some freed.keys → EncodesIds d (ids_of p.0 p.2 p.1 freed)
 built_states d p freed e r =
     let c = checks d p e in
     let same : c.freed ≡ freed.keys = same_Some c.freed freed.keys (sym c.ascends ∙ r) in record {
@@ -107,13 +145,15 @@ some_encoded d p e =
 
 -- The freed ids of a value that is decoded are ids in order.
 in_order : (d : Data) (p : Found) (e : decoded_ids d ≡ Some p) → ids_in p.3 ≡ Some (checks d p e).freed
-in_order d p e = let c = checks d p e in widened p.0 (bound_of p.1 p.2) p.3 c.freed (bound_fits_ids p.0 p.2 p.1 c.valid.ids c.valid.next_id) c.ascends
+in_order d p e = let c = checks d p e in widened p.0 (bound_of p.1 p.2) p.3 c.freed (bound_fits_ids p.0 p.2 p.1 c.valid.ids c.valid.next_id)
+    c.ascends
 
 pub ids_listed_in : (d : Data) (p : Found) → decoded_ids d ≡ Some p → IsSome (ids_in p.3)
 ids_listed_in d p e = ap is_some (in_order d p e)
 
 -- The parts of a value that is decoded make a state, and it is the state that the value encodes.
-pub state_read : (d : Data) (p : Found) (freed : List ℕ) (answer : Result IdState SavedError) → decoded_ids d ≡ Some p → ids_in p.3 ≡ Some freed → MakesOfIds p.0 p.2 p.1 freed answer → MatchResult answer (EncodesIds d) (λ _. ⊥)
+pub state_read : (d : Data) (p : Found) (freed : List ℕ) (answer : Result IdState SavedError) → decoded_ids d ≡ Some p →
+    ids_in p.3 ≡ Some freed → MakesOfIds p.0 p.2 p.1 freed answer → MatchResult answer (EncodesIds d) (λ _. ⊥)
 state_read d p freed (Ok state) e i m =
     let c = checks d p e in
     let same : c.freed ≡ freed = same_Some c.freed freed (sym (in_order d p e) ∙ i) in
@@ -135,9 +175,12 @@ encoded_state d state s =
     let f = s.fields in
     let freed : BTreeSet ℕ = record { keys = f.freed_ids } in
     let i = are_ids f.range_base f.range_end f.next_id freed s.valid in
-    is_state state f.range_base f.range_end f.next_id freed (one_state f (ids_of f.range_base f.range_end f.next_id freed) state (state_of_fields f.range_base f.range_end f.next_id freed) s.is) i
+    is_state state f.range_base f.range_end f.next_id freed
+    (one_state f (ids_of f.range_base f.range_end f.next_id freed) state (state_of_fields f.range_base f.range_end f.next_id freed) s.is) i
 
-pub encodes_ids : (d v w : Data) (state : IdState) (lo hi : ℕ) (next : Option ℕ) (freed : BTreeSet ℕ) → ids_of lo hi next freed ≡ state → IdParts d lo v hi w → EncodesNext v next → EncodesList w freed.keys → AreIds lo hi next freed → IsStrictlySortedBy nat_cmp freed.keys → EncodesIds d state
+pub encodes_ids : (d v w : Data) (state : IdState) (lo hi : ℕ) (next : Option ℕ) (freed : BTreeSet ℕ) → ids_of lo hi next freed ≡ state →
+    IdParts d lo v hi w → EncodesNext v next → EncodesList w freed.keys → AreIds lo hi next freed → IsStrictlySortedBy nat_cmp freed.keys →
+    EncodesIds d state
 encodes_ids d v w state lo hi next freed e p next_encoded freed_encoded i s = subst (EncodesIds d) e (record {
   fields = fields_of lo next hi freed.keys;
   written = record {

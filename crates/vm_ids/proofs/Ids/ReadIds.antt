@@ -1,5 +1,35 @@
 -- The check of a value finds exactly the id allocators that values encode.
-use Rattle.std.proofs.Common.{◌≡◌, ℕ, ◌+◌, ◌<◌, ◌≤◌, Bool, true, false, cond, ◌&&◌, leb, List, Option, Some, None, is_some, option_map, option_and_then, Result, Ok, Err, MatchOption, codes, refl, sym, ap, ◌∙◌, subst, arith}
+use Rattle.std.proofs.Common.{
+  ◌≡◌,
+  ℕ,
+  ◌+◌,
+  ◌<◌,
+  ◌≤◌,
+  Bool,
+  true,
+  false,
+  cond,
+  ◌&&◌,
+  leb,
+  List,
+  Option,
+  Some,
+  None,
+  is_some,
+  option_map,
+  option_and_then,
+  Result,
+  Ok,
+  Err,
+  MatchOption,
+  codes,
+  refl,
+  sym,
+  ap,
+  ◌∙◌,
+  subst,
+  arith,
+}
 use Rattle.std.proofs.lemmas.Bool.{le-leb, leb-true, eq-eqb, eqb-true, and_parts}
 use Rattle.std.proofs.lemmas.Option.{same_Some}
 use Rattle.std.proofs.lemmas.List.Elements.{All-contains, All-contains_itself}
@@ -33,7 +63,8 @@ IsIdIf : Option ℕ → Type 0
 IsIdIf None = Unit {0}
 IsIdIf (Some n) = n ≤ MAX_ID
 
-some_next : (d : Data) (n : Option ℕ) (o : Option ℕ) → option_map (λ (x : ℕ). Some x) o ≡ Some n → o ≡ option_and_then u32_from (whole_number d) → EncodesNext d n × IsIdIf n
+some_next : (d : Data) (n : Option ℕ) (o : Option ℕ) → option_map (λ (x : ℕ). Some x) o ≡ Some n →
+    o ≡ option_and_then u32_from (whole_number d) → EncodesNext d n × IsIdIf n
 unfolding IsIdIf
 some_next d n None q r = absurd (cc)
 some_next d n (Some x) q r =
@@ -44,7 +75,8 @@ some_next d n (Some x) q r =
 next-some : (d : Data) (n : Option ℕ) → decoded_next d ≡ Some n → EncodesNext d n × IsIdIf n
 unfolding IsIdIf
 next-some d n e =
-    elim (is_some (as_null d)) as (λ v. is_some (as_null d) ≡ v → cond v (Some None) (option_map (λ (x : ℕ). Some x) (option_and_then u32_from (whole_number d))) ≡ Some n → EncodesNext d n × IsIdIf n) [
+    elim (is_some (as_null d)) as (λ v. is_some (as_null d) ≡ v → cond v (Some None)
+    (option_map (λ (x : ℕ). Some x) (option_and_then u32_from (whole_number d))) ≡ Some n → EncodesNext d n × IsIdIf n) [
       | true ↦ λ z q. subst (λ (x : Option ℕ). EncodesNext d x × IsIdIf x) (same_Some None n q) (null_of d z, tt)
       | false ↦ λ z q. some_next d n (option_and_then u32_from (whole_number d)) q refl
     ] refl e
@@ -117,9 +149,17 @@ checks d p h =
         range_base = b.0;
         next_id = field_is (codes "next_id") d next_at.0 (λ v. EncodesNext v next.0) next_at.1 n.0;
         range_end = e.0;
-        freed_ids = field_is (codes "freed_ids") d list_at.0 (λ v. EncodesList v ns.0) list_at.1 (list_encoded EncodesNumber list_at.0 list.0 ns.0 list_at.2 r.0);
+        freed_ids = field_is (codes "freed_ids") d list_at.0 (λ v. EncodesList v ns.0) list_at.1
+            (list_encoded EncodesNumber list_at.0 list.0 ns.0 list_at.2 r.0);
       };
-      valid = record { range = leb-true lo.0 hi.0 t.0; ids = e.1; next_id = next_fits next.0 lo.0 hi.0 u.0 n.1; ascending = sorted lo.0 (bound_of next.0 hi.0) ns.0 r.1; ever_allocated = within lo.0 (bound_of next.0 hi.0) ns.0 r.1 };
+      valid = record {
+        range = leb-true lo.0 hi.0 t.0;
+        ids = e.1;
+        next_id = next_fits next.0 lo.0 hi.0 u.0 n.1;
+        ascending = sorted lo.0
+            (bound_of next.0 hi.0) ns.0 r.1;
+        ever_allocated = within lo.0 (bound_of next.0 hi.0) ns.0 r.1;
+      };
     } in
     subst (IsChecked d) (same_Some q p test.1) found
 
@@ -142,7 +182,8 @@ passes d f w s =
       list.1,
       le-leb f.range_base f.range_end range,
       next_fits-true f.next_id f.range_base f.range_end s.next_id,
-      states-ascending f.freed_ids f.range_base (bound_of f.next_id f.range_end) list.0 list.2 (rise f.range_base (bound_of f.next_id f.range_end) f.freed_ids s.ascending s.ever_allocated),
+      states-ascending f.freed_ids f.range_base (bound_of f.next_id f.range_end) list.0 list.2
+          (rise f.range_base (bound_of f.next_id f.range_end) f.freed_ids s.ascending s.ever_allocated),
     ) refl
 
 -- The fields are found, one by one.
@@ -207,7 +248,8 @@ none_in_order d p h e =
     let w = widened p.0 (bound_of p.1 p.2) p.3 is.freed (bound_is_id d p h) is.ascends in
     cc)
 
-parts_found : (d : Data) (p : Found) (freed : List ℕ) → HasParts d p → ids_in p.3 ≡ Some freed → AreFreedOf p.0 p.2 p.1 freed → decoded_ids d ≡ Some p
+parts_found : (d : Data) (p : Found) (freed : List ℕ) → HasParts d p → ids_in p.3 ≡ Some freed → AreFreedOf p.0 p.2 p.1 freed →
+    decoded_ids d ≡ Some p
 parts_found d p freed h e a =
     let s = ascending-states 0 (MAX_ID + 1) p.3 freed e in
     let w : All (λ i. (p.0 ≤ i) × (i < bound_of p.1 p.2)) freed = λ k x l. a.freed_ids _ (All-contains_itself freed k x l) in
@@ -217,7 +259,8 @@ parts_found d p freed h e a =
       states-ascending freed p.0 (bound_of p.1 p.2) p.3 s.0 (rise p.0 (bound_of p.1 p.2) freed a.ascending w),
     ) refl
 
-no_parts : (d : Data) (p : Found) (freed : List ℕ) → HasParts d p → ids_in p.3 ≡ Some freed → ¬ AreFreedOf p.0 p.2 p.1 freed → decoded_ids d ≡ None
+no_parts : (d : Data) (p : Found) (freed : List ℕ) → HasParts d p → ids_in p.3 ≡ Some freed → ¬ AreFreedOf p.0 p.2 p.1 freed →
+    decoded_ids d ≡ None
 no_parts d p freed h e n =
     decided d p h ∙ refused (are_parts p) p (λ t.
     let is = tested p t in
@@ -254,22 +297,26 @@ kept ends ds e = some (ids_in ds) refl e where
     are_ends = (sorted 0 (MAX_ID + 1) ids (ascending-states 0 (MAX_ID + 1) ds ids i).1, sym (same_Some (ends_of ids) ends e));
   }
 
-pub parts_refused : (d : Data) (p : Found) (ends : Option Ends) (answer : Result (Unit {0}) SavedError) → HasParts d p → option_map ends_of (ids_in p.3) ≡ Some ends →
+pub parts_refused : (d : Data) (p : Found) (ends : Option Ends) (answer : Result (Unit {0}) SavedError) → HasParts d p →
+    option_map ends_of (ids_in p.3) ≡ Some ends →
     ((ids : List ℕ) → AreEndsOf ends ids → ChecksParts p.0 p.2 p.1 ids answer) → None ≡ result_ok answer → decoded_ids d ≡ None
 parts_refused d p ends answer h e checks is =
     let k = kept ends p.3 e in
     no_parts d p k.ids h k.listed (not_parts answer (checks k.ids k.are_ends) is) where
-      not_parts : {ids : List ℕ} (answer : Result (Unit {0}) SavedError) → ChecksParts p.0 p.2 p.1 ids answer → None ≡ result_ok answer → ¬ AreFreedOf p.0 p.2 p.1 ids
+      not_parts : {ids : List ℕ} (answer : Result (Unit {0}) SavedError) → ChecksParts p.0 p.2 p.1 ids answer → None ≡ result_ok answer →
+          ¬ AreFreedOf p.0 p.2 p.1 ids
       not_parts (Ok u) r is = absurd (cc)
       not_parts (Err (Violated c)) r is = r.1
       not_parts (Err OutOfMemory) r is = absurd r
 
-pub parts_accepted : (d : Data) (p : Found) (ends : Option Ends) (answer : Result (Unit {0}) SavedError) (u : Unit {0}) → HasParts d p → option_map ends_of (ids_in p.3) ≡ Some ends →
+pub parts_accepted : (d : Data) (p : Found) (ends : Option Ends) (answer : Result (Unit {0}) SavedError) (u : Unit {0}) → HasParts d p →
+    option_map ends_of (ids_in p.3) ≡ Some ends →
     ((ids : List ℕ) → AreEndsOf ends ids → ChecksParts p.0 p.2 p.1 ids answer) → Some u ≡ result_ok answer → Some p ≡ decoded_ids d
 parts_accepted d p ends answer u h e checks is =
     let k = kept ends p.3 e in
     sym (parts_found d p k.ids h k.listed (are answer (checks k.ids k.are_ends) is)) where
-      are : {ids : List ℕ} (answer : Result (Unit {0}) SavedError) → ChecksParts p.0 p.2 p.1 ids answer → Some u ≡ result_ok answer → AreFreedOf p.0 p.2 p.1 ids
+      are : {ids : List ℕ} (answer : Result (Unit {0}) SavedError) → ChecksParts p.0 p.2 p.1 ids answer → Some u ≡ result_ok answer →
+          AreFreedOf p.0 p.2 p.1 ids
       are (Ok v) r is = r
       are (Err e) r is = absurd (cc)
 
@@ -281,7 +328,8 @@ one_next d (Some n) (Some m) p q = sym p ∙ q
 
 one_freed : (d : Data) (a b : List ℕ) → EncodesList d a → EncodesList d b → a ≡ b
 one_freed d a b p q = both (as_array d) p q where
-  both : (o : Option Items) → MatchOption o ⊥ (λ ds. EncodesItems EncodesNumber ds a) → MatchOption o ⊥ (λ ds. EncodesItems EncodesNumber ds b) → a ≡ b
+  both : (o : Option Items) → MatchOption o ⊥ (λ ds. EncodesItems EncodesNumber ds a) →
+      MatchOption o ⊥ (λ ds. EncodesItems EncodesNumber ds b) → a ≡ b
   both None p q = absurd p
   both (Some ds) p q = one_list ds a b p q
 
@@ -294,4 +342,7 @@ one_fields d a b p q =
     let hi : a.range_end ≡ b.range_end = same_Some a.range_end b.range_end (sym p.range_end ∙ q.range_end) in
     let next : a.next_id ≡ b.next_id = one_next n.0 a.next_id b.next_id n.1 n.2 in
     let freed : a.freed_ids ≡ b.freed_ids = one_freed f.0 a.freed_ids b.freed_ids f.1 f.2 in
-    ap (λ (x : ℕ). fields_of x a.next_id a.range_end a.freed_ids) lo ∙ ap (λ (x : Option ℕ). fields_of b.range_base x a.range_end a.freed_ids) next ∙ ap (λ (x : ℕ). fields_of b.range_base b.next_id x a.freed_ids) hi ∙ ap (λ (x : List ℕ). fields_of b.range_base b.next_id b.range_end x) freed
+    ap (λ (x : ℕ). fields_of x a.next_id a.range_end a.freed_ids) lo
+    ∙ ap (λ (x : Option ℕ). fields_of b.range_base x a.range_end a.freed_ids) next
+    ∙ ap (λ (x : ℕ). fields_of b.range_base b.next_id x a.freed_ids) hi
+    ∙ ap (λ (x : List ℕ). fields_of b.range_base b.next_id b.range_end x) freed

@@ -48,12 +48,15 @@ module _ {X : Type 0} where
   keys_rise m = sorted_keys (map.entries m) (map.entries_sorted m)
 
   -- The entries of a map are the list in this order with the same values.
-  pub entries_are : (m : map.FinMap nat_cmp X) (es : List (ℕ × X)) → IsStrictlySortedBy nat_cmp (keys_of es) → ((q : ℕ) → find nat_cmp q es ≡ map.get m q) → map.entries m ≡ es
+  pub entries_are : (m : map.FinMap nat_cmp X) (es : List (ℕ × X)) → IsStrictlySortedBy nat_cmp (keys_of es) →
+      ((q : ℕ) → find nat_cmp q es ≡ map.get m q) → map.entries m ≡ es
   entries_are m es s h =
-      sym (same_entries nat_cmp nat_cmp_total map.nat_cmp-IsAntisymmetric es (map.entries m) (sorted_entries es s) (map.entries_sorted m) (λ q. h q ∙ map.get-entries m q))
+      sym (same_entries nat_cmp nat_cmp_total map.nat_cmp-IsAntisymmetric es (map.entries m) (sorted_entries es s) (map.entries_sorted m)
+      (λ q. h q ∙ map.get-entries m q))
 
   -- A map of entries in order has these entries.
-  pub entries_of_sorted : (es : List (ℕ × X)) → IsStrictlySortedBy nat_cmp (keys_of es) → map.entries (map.from_entries {R = nat_cmp} es) ≡ es
+  pub entries_of_sorted : (es : List (ℕ × X)) → IsStrictlySortedBy nat_cmp (keys_of es) →
+      map.entries (map.from_entries {R = nat_cmp} es) ≡ es
   entries_of_sorted es s = entries_are (map.from_entries es) es s (λ q. sym (map.get-from_entries nat_cmp_total es q))
 
 -- ---- Lists of numbers
@@ -70,13 +73,16 @@ found_mark : (q : ℕ) (ks : List ℕ) → find nat_cmp q (marked ks) ≡ cond (
 unfolding marked
 found_mark q [] = refl
 found_mark q (k ∷ ks) =
-    elim (eq_by_cmp nat_cmp q k) as (λ t. cond t (Some tt) (find nat_cmp q (marked ks)) ≡ cond (t || list_any (eq_by_cmp nat_cmp q) ks) (Some tt) None) [ true ↦ refl | false ↦ found_mark q ks ]
+    elim (eq_by_cmp nat_cmp q k) as
+    (λ t. cond t (Some tt) (find nat_cmp q (marked ks)) ≡ cond (t || list_any (eq_by_cmp nat_cmp q) ks) (Some tt) None)
+    [ true ↦ refl | false ↦ found_mark q ks ]
 
 sorted_marks : (ks : List ℕ) → IsStrictlySortedBy nat_cmp ks → T (is_sorted nat_cmp (marked ks))
 sorted_marks ks s = sorted_entries (marked ks) (subst (IsStrictlySortedBy nat_cmp) (sym (unmarked ks)) s)
 
 -- Two lists in strictly ascending order with the same members are equal.
-pub same_rising : (xs ys : List ℕ) → IsStrictlySortedBy nat_cmp xs → IsStrictlySortedBy nat_cmp ys → ((q : ℕ) → list_any (eq_by_cmp nat_cmp q) xs ≡ list_any (eq_by_cmp nat_cmp q) ys) → xs ≡ ys
+pub same_rising : (xs ys : List ℕ) → IsStrictlySortedBy nat_cmp xs → IsStrictlySortedBy nat_cmp ys →
+    ((q : ℕ) → list_any (eq_by_cmp nat_cmp q) xs ≡ list_any (eq_by_cmp nat_cmp q) ys) → xs ≡ ys
 same_rising xs ys s t h =
     let alike : marked xs ≡ marked ys =
     same_entries nat_cmp nat_cmp_total map.nat_cmp-IsAntisymmetric (marked xs) (marked ys) (sorted_marks xs s) (sorted_marks ys t)

@@ -1,5 +1,41 @@
 -- Creating an id allocator of its range and the list of its held ids.
-use Rattle.std.proofs.Common.{◌≡◌, ℕ, ◌+◌, ◌<◌, ◌≤◌, ◌⊎◌, ◌||◌, true, ltb, zero, suc, List, [], ◌∷◌, ◌++◌, length, take, drop, get_or, refl, sym, ap, ◌∙◌, subst, arith, inl, inr, ⊎_elim, max, Option, Some, None, Result, Ok, Err}
+use Rattle.std.proofs.Common.{
+  ◌≡◌,
+  ℕ,
+  ◌+◌,
+  ◌<◌,
+  ◌≤◌,
+  ◌⊎◌,
+  ◌||◌,
+  true,
+  ltb,
+  zero,
+  suc,
+  List,
+  [],
+  ◌∷◌,
+  ◌++◌,
+  length,
+  take,
+  drop,
+  get_or,
+  refl,
+  sym,
+  ap,
+  ◌∙◌,
+  subst,
+  arith,
+  inl,
+  inr,
+  ⊎_elim,
+  max,
+  Option,
+  Some,
+  None,
+  Result,
+  Ok,
+  Err,
+}
 use Rattle.std.proofs.lemmas.Bool.{cases_lt, lt-ltb, le-ltb, or_left, or_right}
 use Rattle.std.proofs.lemmas.List.{drop_more, drop_all, take_more, take-append-drop}
 use Rattle.std.proofs.lemmas.List.Elements.{Contains-get_or, Contains-append_cases}
@@ -15,13 +51,16 @@ use Rattle.vm_ids.proofs.Ids.FreeIds.{holding_more}
 -- ---- The first id of a list
 pub wrong_range : (lo hi next n : ℕ) (rest : List ℕ) → (n < lo) ⊎ (hi < n) → fault_of_held lo hi next (n ∷ rest) ≡ Some (OutOfRange n)
 wrong_range lo hi next n rest out =
-    let t : (ltb n lo || ltb hi n) ≡ true = ⊎_elim (λ (l : n < lo). or_left _ _ (lt-ltb n lo l)) (λ (l : hi < n). or_right _ _ (lt-ltb hi n l)) out in
+    let t : (ltb n lo || ltb hi n) ≡ true = ⊎_elim (λ (l : n < lo). or_left _ _ (lt-ltb n lo l))
+    (λ (l : hi < n). or_right _ _ (lt-ltb hi n l)) out in
     rw t refl
 
-pub wrong_order : (lo hi next n : ℕ) (rest : List ℕ) → lo ≤ n → n ≤ hi → n < next → fault_of_held lo hi next (n ∷ rest) ≡ Some ResourceNotAvailable
+pub wrong_order : (lo hi next n : ℕ) (rest : List ℕ) → lo ≤ n → n ≤ hi → n < next →
+    fault_of_held lo hi next (n ∷ rest) ≡ Some ResourceNotAvailable
 wrong_order lo hi next n rest l h b = rw (le-ltb n lo l, le-ltb hi n h, lt-ltb n next b) refl
 
-pub right_id : (lo hi next n : ℕ) (rest : List ℕ) → lo ≤ n → n ≤ hi → next ≤ n → fault_of_held lo hi next (n ∷ rest) ≡ fault_of_held lo hi (n + 1) rest
+pub right_id : (lo hi next n : ℕ) (rest : List ℕ) → lo ≤ n → n ≤ hi → next ≤ n →
+    fault_of_held lo hi next (n ∷ rest) ≡ fault_of_held lo hi (n + 1) rest
 right_id lo hi next n rest l h b = rw (le-ltb n lo l, le-ltb hi n h, le-ltb n next b) refl
 
 -- An id in a list without a wrong id.
@@ -49,19 +88,23 @@ LeftDecides lo hi next i ids = fault_of_held lo hi lo ids ≡ fault_of_held lo h
 abbrev pub ChecksHeld : ℕ → ℕ → List ℕ → Result (Unit {0}) Error → Type 0
 ChecksHeld lo hi ids r = MatchOption (fault_of_held lo hi lo ids) (r ≡ Ok tt) (λ e. r ≡ Err e)
 
-left_first : (lo hi next i n : ℕ) (ids : List ℕ) → i < length ids → n ≡ get_or ids i 0 → LeftDecides lo hi next i ids → fault_of_held lo hi lo ids ≡ fault_of_held lo hi next (n ∷ drop (i + 1) ids)
+left_first : (lo hi next i n : ℕ) (ids : List ℕ) → i < length ids → n ≡ get_or ids i 0 → LeftDecides lo hi next i ids →
+    fault_of_held lo hi lo ids ≡ fault_of_held lo hi next (n ∷ drop (i + 1) ids)
 left_first lo hi next i n ids l e d =
     d ∙ ap (fault_of_held lo hi next) (drop_more ids i 0 l ∙ ap (λ (x : ℕ). x ∷ drop (i + 1) ids) (sym e))
 
-pub range_refused : (lo hi next i n : ℕ) (ids : List ℕ) → i < length ids → n ≡ get_or ids i 0 → LeftDecides lo hi next i ids → (n < lo) ⊎ (hi < n) → ChecksHeld lo hi ids (Err (OutOfRange n))
+pub range_refused : (lo hi next i n : ℕ) (ids : List ℕ) → i < length ids → n ≡ get_or ids i 0 → LeftDecides lo hi next i ids →
+    (n < lo) ⊎ (hi < n) → ChecksHeld lo hi ids (Err (OutOfRange n))
 range_refused lo hi next i n ids l e d out =
     rw (left_first lo hi next i n ids l e d ∙ wrong_range lo hi next n (drop (i + 1) ids) out) refl
 
-pub order_refused : (lo hi next i n : ℕ) (ids : List ℕ) → i < length ids → n ≡ get_or ids i 0 → LeftDecides lo hi next i ids → lo ≤ n → n ≤ hi → n < next → ChecksHeld lo hi ids (Err ResourceNotAvailable)
+pub order_refused : (lo hi next i n : ℕ) (ids : List ℕ) → i < length ids → n ≡ get_or ids i 0 → LeftDecides lo hi next i ids → lo ≤ n →
+    n ≤ hi → n < next → ChecksHeld lo hi ids (Err ResourceNotAvailable)
 order_refused lo hi next i n ids l e d a h b =
     rw (left_first lo hi next i n ids l e d ∙ wrong_order lo hi next n (drop (i + 1) ids) a h b) refl
 
-pub one_right : (lo hi next i n : ℕ) (ids : List ℕ) → i < length ids → n ≡ get_or ids i 0 → LeftDecides lo hi next i ids → lo ≤ n → n ≤ hi → next ≤ n → LeftDecides lo hi (n + 1) (i + 1) ids
+pub one_right : (lo hi next i n : ℕ) (ids : List ℕ) → i < length ids → n ≡ get_or ids i 0 → LeftDecides lo hi next i ids → lo ≤ n → n ≤ hi →
+    next ≤ n → LeftDecides lo hi (n + 1) (i + 1) ids
 one_right lo hi next i n ids l e d a h b = left_first lo hi next i n ids l e d ∙ right_id lo hi next n (drop (i + 1) ids) a h b
 
 pub all_right : (lo hi next i : ℕ) (ids : List ℕ) → length ids ≤ i → LeftDecides lo hi next i ids → ChecksHeld lo hi ids (Ok tt)
@@ -71,7 +114,8 @@ all_right lo hi next i ids l d =
 pub ruleset checks = (range_refused, order_refused, one_right, all_right)
 
 -- ---- The allocator
-pub checked_error : (o : Option Error) (r : Result (Unit {0}) Error) (e : Error) → r ≡ Err e → MatchOption o (r ≡ Ok tt) (λ x. r ≡ Err x) → o ≡ Some e
+pub checked_error : (o : Option Error) (r : Result (Unit {0}) Error) (e : Error) → r ≡ Err e → MatchOption o (r ≡ Ok tt) (λ x. r ≡ Err x) →
+    o ≡ Some e
 checked_error None r e is h = absurd (cc (is, h))
 checked_error (Some x) r e is h = cc (is, h)
 
@@ -90,15 +134,18 @@ unfolding MakesIds MakesWithHeld
 made_error lo hi held e (inl a) = inl (a.0, cc (a.1))
 made_error lo hi held e (inr a) = absurd (cc (a.1))
 
-pub held_refused : (lo hi : ℕ) (held : List ℕ) (e : Error) → lo ≤ hi → fault_of_held lo hi lo held ≡ Some e → MakesWithHeld lo hi held (Err e)
+pub held_refused : (lo hi : ℕ) (held : List ℕ) (e : Error) → lo ≤ hi → fault_of_held lo hi lo held ≡ Some e →
+    MakesWithHeld lo hi held (Err e)
 unfolding MakesWithHeld
 held_refused lo hi held e l f = inr (λ h. omega arith, rw f refl)
 
-pub held_no_memory : (lo hi : ℕ) (held : List ℕ) → lo ≤ hi → fault_of_held lo hi lo held ≡ None → SkipsId lo held → MakesWithHeld lo hi held (Err OutOfMemory)
+pub held_no_memory : (lo hi : ℕ) (held : List ℕ) → lo ≤ hi → fault_of_held lo hi lo held ≡ None → SkipsId lo held →
+    MakesWithHeld lo hi held (Err OutOfMemory)
 unfolding MakesWithHeld
 held_no_memory lo hi held l f s = inr (λ h. omega arith, rw f (inr (s, refl)))
 
-pub held_made : (lo hi : ℕ) (held : List ℕ) (state : IdState) → lo ≤ hi → fault_of_held lo hi lo held ≡ None → state ≡ holding_ids held (new_ids lo hi) → MakesWithHeld lo hi held (Ok state)
+pub held_made : (lo hi : ℕ) (held : List ℕ) (state : IdState) → lo ≤ hi → fault_of_held lo hi lo held ≡ None →
+    state ≡ holding_ids held (new_ids lo hi) → MakesWithHeld lo hi held (Ok state)
 unfolding MakesWithHeld
 held_made lo hi held state l f e = inr (λ h. omega arith, rw f (inl (ap Ok e)))
 
@@ -109,7 +156,8 @@ pub record HoldsUpTo (lo hi i : ℕ) (held : List ℕ) (state : IdState) : Type 
   pub left : fault_of_held lo hi state.bound (drop i held) ≡ None
   pub valid : IsIdState state
 
-pub none_yet : (lo hi : ℕ) (held : List ℕ) (state : IdState) → state ≡ new_ids lo hi → IsIdState state → fault_of_held lo hi lo held ≡ None → HoldsUpTo lo hi 0 held state
+pub none_yet : (lo hi : ℕ) (held : List ℕ) (state : IdState) → state ≡ new_ids lo hi → IsIdState state →
+    fault_of_held lo hi lo held ≡ None → HoldsUpTo lo hi 0 held state
 none_yet lo hi held state e s f = record {
   range = (ap (λ (v : IdState). v.lo) e, ap (λ (v : IdState). v.hi) e);
   so_far = e;
@@ -117,12 +165,14 @@ none_yet lo hi held state e s f = record {
   valid = s;
 }
 
-pub next_right : (lo hi i n : ℕ) (held : List ℕ) (state : IdState) → i < length held → n ≡ get_or held i 0 → HoldsUpTo lo hi i held state → IsRightId lo hi state.bound n (drop (i + 1) held)
+pub next_right : (lo hi i n : ℕ) (held : List ℕ) (state : IdState) → i < length held → n ≡ get_or held i 0 → HoldsUpTo lo hi i held state →
+    IsRightId lo hi state.bound n (drop (i + 1) held)
 next_right lo hi i n held state l e h =
     right_from lo hi state.bound n (drop (i + 1) held)
     (sym (ap (fault_of_held lo hi state.bound) (drop_more held i 0 l ∙ ap (λ (x : ℕ). x ∷ drop (i + 1) held) (sym e))) ∙ h.left)
 
-pub one_more_held : (lo hi i n : ℕ) (held : List ℕ) (state new : IdState) → i < length held → n ≡ get_or held i 0 → HoldsUpTo lo hi i held state → new ≡ holding_id n state → HoldsUpTo lo hi (i + 1) held new
+pub one_more_held : (lo hi i n : ℕ) (held : List ℕ) (state new : IdState) → i < length held → n ≡ get_or held i 0 →
+    HoldsUpTo lo hi i held state → new ≡ holding_id n state → HoldsUpTo lo hi (i + 1) held new
 one_more_held lo hi i n held state new l e h is =
     let r = next_right lo hi i n held state l e h in
     let bound : n + 1 ≡ max state.bound (n + 1) = omega (arith, r.order) in
@@ -157,7 +207,8 @@ allocated_below (i ∷ is) s x zero l e = let rest = bound_rises is (holding_id 
 allocated_below (i ∷ is) s x (suc k) l e = allocated_below is (holding_id i s) x k (omega arith) e
 
 -- If the next id is above the bound, the list skips the bound.
-pub skips_bound : (lo hi i n : ℕ) (held : List ℕ) (state : IdState) → i < length held → n ≡ get_or held i 0 → HoldsUpTo lo hi i held state → state.bound < n → SkipsId lo held
+pub skips_bound : (lo hi i n : ℕ) (held : List ℕ) (state : IdState) → i < length held → n ≡ get_or held i 0 → HoldsUpTo lo hi i held state →
+    state.bound < n → SkipsId lo held
 skips_bound lo hi i n held state l e h above =
     let low : lo ≤ state.bound = omega (arith, h.range.0, h.valid.bound.0) in
     record {
@@ -178,7 +229,8 @@ skips_bound lo hi i n held state l e h above =
           let right = right_id lo hi n n (drop (i + 1) held) r.range.0 r.range.1 (omega arith) ∙ r.others in
           let low = listed_from lo hi n (n ∷ drop (i + 1) held) state.bound d.0 right d.1 d.2 in
           omega (arith, low, above))
-          (Contains-append_cases (take i held) (drop i held) state.bound (subst (λ (xs : List ℕ). Contains xs state.bound) (sym (take-append-drop i held)) c));
+          (Contains-append_cases (take i held) (drop i held) state.bound
+          (subst (λ (xs : List ℕ). Contains xs state.bound) (sym (take-append-drop i held)) c));
     }
 
 pub new_held_state : (old new : IdState) (n : ℕ) (r : Result ℕ Error) (k : ℕ) → r ≡ Ok k → HoldsId old n r new → new ≡ holding_id n old
@@ -186,7 +238,8 @@ unfolding HoldsId
 new_held_state old new n r k is (inl a) = a.1
 new_held_state old new n r k is (inr a) = absurd (cc (is, a.1))
 
-pub new_held_error : (old new : IdState) (n : ℕ) (r : Result ℕ Error) (e : Error) → r ≡ Err e → HoldsId old n r new → (old.bound < n) × (e ≡ OutOfMemory)
+pub new_held_error : (old new : IdState) (n : ℕ) (r : Result ℕ Error) (e : Error) → r ≡ Err e → HoldsId old n r new →
+    (old.bound < n) × (e ≡ OutOfMemory)
 unfolding HoldsId
 new_held_error old new n r e is (inl a) = absurd (cc (is, a.0))
 new_held_error old new n r e is (inr a) = (a.0, cc (is, a.1))

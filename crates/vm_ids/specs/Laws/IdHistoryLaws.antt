@@ -8,7 +8,17 @@ use Rattle.vm_ids.specs.IdRequests.{MakesWithHeld}
 use Rattle.vm_ranges.specs.Cloning.{Clones}
 use Rattle.vm_ranges.specs.Histories.{EveryCallIsAnswered}
 use Rattle.vm_ids.specs.Values.IdValues.{EncodesIds}
-use Rattle.vm_ids.specs.Histories.IdHistories.{IdCall, Free, Clone, IsIdCallFrom, IsIdHistoryFrom, AreIdsMade, AreIdsReached, AllocatedTheId, is_allocated_after}
+use Rattle.vm_ids.specs.Histories.IdHistories.{
+  IdCall,
+  Free,
+  Clone,
+  IsIdCallFrom,
+  IsIdHistoryFrom,
+  AreIdsMade,
+  AreIdsReached,
+  AllocatedTheId,
+  is_allocated_after,
+}
 use Rattle.vm_ranges.specs.declared.error.Error.{Error}
 use Rattle.vm_ranges.specs.declared.error.Error.TheVariants.{OutOfMemory}
 

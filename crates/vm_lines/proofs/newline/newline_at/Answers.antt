@@ -27,15 +27,18 @@ loop-start-preserved c =
 
 pub returns-then-text-start-eq10 : goal.returns-then-text-start-eq10
 returns-then-text-start-eq10 c =
-    sym (first_at (λ byte. byte == newline) c.args.text.now c.loop-start-2.start c.loop-start-2-test.true c.loop-start-2.invariant.none (grind (arith, nat_tests)))
+    sym (first_at (λ byte. byte == newline) c.args.text.now c.loop-start-2.start c.loop-start-2-test.true c.loop-start-2.invariant.none
+    (grind (arith, nat_tests)))
 
 pub loop-start-2-preserved : goal.loop-start-2-preserved
 loop-start-2-preserved c =
     record {
       within = omega arith;
-      none = none_next (λ byte. byte == newline) c.args.text.now c.loop-start-2.start c.loop-start-2.invariant.none (grind (arith, nat_tests));
+      none = none_next (λ byte. byte == newline) c.args.text.now c.loop-start-2.start c.loop-start-2.invariant.none
+          (grind (arith, nat_tests));
     }
 
 pub returns : goal.returns
 returns c =
-    sym (none_at (λ byte. byte == newline) c.args.text.now c.loop-start-2.start (omega (arith, c.loop-start-2.invariant.within)) c.loop-start-2.invariant.none)
+    sym (none_at (λ byte. byte == newline) c.args.text.now c.loop-start-2.start (omega (arith, c.loop-start-2.invariant.within))
+    c.loop-start-2.invariant.none)

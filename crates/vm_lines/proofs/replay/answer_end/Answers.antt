@@ -10,6 +10,7 @@ returns-in-Ok-clause-ok g c =
       h.0,
       h.1,
       Appends-kept (contents c.args.writer.now) (contents c.flush_buffer.new.writer) (contents c.flush.new.self) (c.args.output.now ++ h.0)
-          (moves_drain (contents c.args.writer.now) (contents c.answer_last_line.new.writer) (contents c.flush_buffer.new.writer) c.args.output.now c.answer_last_line.new.output h.0 h.2 c.in_ok-flush_buffer.ensures.sent)
+          (moves_drain (contents c.args.writer.now) (contents c.answer_last_line.new.writer) (contents c.flush_buffer.new.writer)
+          c.args.output.now c.answer_last_line.new.output h.0 h.2 c.in_ok-flush_buffer.ensures.sent)
           c.in-Ok.ensures.bytes,
     )

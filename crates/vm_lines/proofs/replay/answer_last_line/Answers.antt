@@ -11,5 +11,6 @@ returns-clause-ok g c =
     let e : has_begun c.args.session.now.line ≡ true = search rules in (
       h.0,
       answers_last_some c.args.session.now c.end_line.new.self h.0 e h.1,
-      moves_text (contents c.args.writer.now) (contents c.make_room.new.writer) c.args.output.now c.make_room.new.output c.end_line.new.output [] h.0 c.in_ok-make_room.ensures.moves h.2,
+      moves_text (contents c.args.writer.now) (contents c.make_room.new.writer) c.args.output.now c.make_room.new.output
+          c.end_line.new.output [] h.0 c.in_ok-make_room.ensures.moves h.2,
     )

@@ -10,10 +10,14 @@ loop-end-preserved g c =
     let i = l.invariant in
     let contents = g.W.Write.contents in
     let f = c.end_line.ensures in
-    let room = moves_both (contents c.args.writer.now) (contents l.writer) (contents c.make_room.new.writer) c.args.output.now l.output c.make_room.new.output i.0 [] i.2 c.in_ok-make_room.ensures.moves in
-    let moved = moves_text (contents c.args.writer.now) (contents c.make_room.new.writer) c.args.output.now c.make_room.new.output c.end_line.new.output (i.0 ++ []) f.0 room f.2 in (
+    let room = moves_both (contents c.args.writer.now) (contents l.writer) (contents c.make_room.new.writer) c.args.output.now l.output
+    c.make_room.new.output i.0 [] i.2 c.in_ok-make_room.ensures.moves in
+    let moved = moves_text (contents c.args.writer.now) (contents c.make_room.new.writer) c.args.output.now c.make_room.new.output
+    c.end_line.new.output (i.0 ++ []) f.0 room f.2 in (
       i.0 ++ f.0,
-      λ more new rest. rw append_assoc (i.1 (f.0 ++ more) new (feeds_line l.rest.now c.in-Some.end f.0 more l.session c.end_line.new.self new (sym c.in-Some.ensures) f.1 rest)),
+      λ more new rest. rw append_assoc
+          (i.1 (f.0 ++ more) new (feeds_line l.rest.now c.in-Some.end f.0 more l.session c.end_line.new.self new (sym c.in-Some.ensures) f.1
+          rest)),
       rw append-nil at moved,
       search rules,
     )

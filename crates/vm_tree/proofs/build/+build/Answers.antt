@@ -11,8 +11,10 @@ first_address-at-requires-clause-some t c =
     let s = p.some in
     let two = c.if-leaves-eq1.false in
     let share = c.min-low_more.ensures in
-    let h = enough_left n c.args.each c.args.more (n / 2) c.min-low_more.result (remaining_blocks c.args.cursor.now) (remaining_blocks c.build.new.cursor) (side c.in_ok-left.left) p two refl share c.requires.enough c.in_ok-left.ensures.built in
-    some_block (n - n / 2) c.args.each (c.args.more - c.min-low_more.result) (remaining_blocks c.build.new.cursor) (omega arith) (p.full (omega arith)) h
+    let h = enough_left n c.args.each c.args.more (n / 2) c.min-low_more.result (remaining_blocks c.args.cursor.now)
+    (remaining_blocks c.build.new.cursor) (side c.in_ok-left.left) p two refl share c.requires.enough c.in_ok-left.ensures.built in
+    some_block (n - n / 2) c.args.each (c.args.more - c.min-low_more.result) (remaining_blocks c.build.new.cursor) (omega arith)
+    (p.full (omega arith)) h
 
 pub build-requires-2 : goal.build-requires-2
 build-requires-2 t c =
@@ -21,12 +23,19 @@ build-requires-2 t c =
     let s = p.some in
     let two = c.if-leaves-eq1.false in
     let share = c.min-low_more.ensures in
-    let h = enough_left n c.args.each c.args.more (n / 2) c.min-low_more.result (remaining_blocks c.args.cursor.now) (remaining_blocks c.build.new.cursor) (side c.in_ok-left.left) p two refl share c.requires.enough c.in_ok-left.ensures.built in
-    (omega (arith, c.decreases), (c.in_ok-left.ensures.cursor, (right_plan n c.args.each c.args.more (n / 2) c.min-low_more.result p two refl share, h)))
+    let h = enough_left n c.args.each c.args.more (n / 2) c.min-low_more.result (remaining_blocks c.args.cursor.now)
+    (remaining_blocks c.build.new.cursor) (side c.in_ok-left.left) p two refl share c.requires.enough c.in_ok-left.ensures.built in (
+      omega (arith, c.decreases),
+      (
+        c.in_ok-left.ensures.cursor,
+        (right_plan n c.args.each c.args.more (n / 2) c.min-low_more.result p two refl share, h),
+      ),
+    )
 
 pub fork_link-requires-clause-height_fits : goal.fork_link-requires-clause-height_fits
 fork_link-requires-clause-height_fits t c =
-    halves_low c.args.leaves c.args.each c.min-low_more.result (c.args.more - c.min-low_more.result) (remaining_blocks c.args.cursor.now) (remaining_blocks c.build.new.cursor) (remaining_blocks c.build-2.new.cursor) (side c.in_ok-left.left) (side c.in_ok-right.right)
+    halves_low c.args.leaves c.args.each c.min-low_more.result (c.args.more - c.min-low_more.result) (remaining_blocks c.args.cursor.now)
+    (remaining_blocks c.build.new.cursor) (remaining_blocks c.build-2.new.cursor) (side c.in_ok-left.left) (side c.in_ok-right.right)
     c.requires.plan.few c.in_ok-left.ensures.built c.in_ok-right.ensures.built
 
 pub returns-clause-built : goal.returns-clause-built
@@ -39,5 +48,7 @@ returns-clause-built t c =
     let low = n / 2 in
     let more = c.min-low_more.result in
     let count = halves n c.args.each c.args.more (n / 2) c.min-low_more.result p two refl share in
-    node_built n c.args.each c.args.more (n / 2) c.min-low_more.result (n - n / 2) (c.args.more - c.min-low_more.result) (remaining_blocks c.args.cursor.now) (remaining_blocks c.build.new.cursor) (remaining_blocks c.build-2.new.cursor)
-    (side c.in_ok-left.left) (side c.in_ok-right.right) (side c.fork_link.result) (p.full (omega arith)) (omega arith) (omega arith) (omega arith) (omega arith) count c.in_ok-left.ensures.built c.in_ok-right.ensures.built c.fork_link.ensures.tree
+    node_built n c.args.each c.args.more (n / 2) c.min-low_more.result (n - n / 2) (c.args.more - c.min-low_more.result)
+    (remaining_blocks c.args.cursor.now) (remaining_blocks c.build.new.cursor) (remaining_blocks c.build-2.new.cursor)
+    (side c.in_ok-left.left) (side c.in_ok-right.right) (side c.fork_link.result) (p.full (omega arith)) (omega arith) (omega arith)
+    (omega arith) (omega arith) count c.in_ok-left.ensures.built c.in_ok-right.ensures.built c.fork_link.ensures.tree

@@ -14,8 +14,14 @@ returns-clause-built c =
     let z : 0 < n = omega arith in
     let p = plan n ((n - 1) / 32 + 1) (n / ((n - 1) / 32 + 1)) (n % ((n - 1) / 32 + 1)) z c.requires.few refl refl refl in
     let k = count_is n ((n - 1) / 32 + 1) (n / ((n - 1) / 32 + 1)) (n % ((n - 1) / 32 + 1)) z c.requires.few refl refl refl in
-    let same : blocks_between c.into.result c.args.held.now c.end.result ≡ blocks_between c.args.space.now.start c.args.held.now c.args.space.now.end = rw (c.into.ensures, c.start.ensures.value, c.end.ensures.value) refl in
-    IfOk-weaker c.build.result (λ tree. IsBuilt ((n - 1) / 32 + 1) (n / ((n - 1) / 32 + 1)) (n % ((n - 1) / 32 + 1)) (blocks_between c.into.result c.args.held.now c.end.result) (side tree) (remaining_blocks c.build.new.cursor)) _ (λ tree b.
-    tree_is n ((n - 1) / 32 + 1) (n / ((n - 1) / 32 + 1)) (n % ((n - 1) / 32 + 1)) (blocks_between c.args.space.now.start c.args.held.now c.args.space.now.end) (blocks_between c.into.result c.args.held.now c.end.result) (remaining_blocks c.build.new.cursor) (side tree)
-    same k c.requires.count p.few (needed n ((n - 1) / 32 + 1) (n / ((n - 1) / 32 + 1)) (n % ((n - 1) / 32 + 1)) z c.requires.few refl refl refl) b)
+    let same : blocks_between c.into.result c.args.held.now c.end.result
+    ≡ blocks_between c.args.space.now.start c.args.held.now c.args.space.now.end = rw
+    (c.into.ensures, c.start.ensures.value, c.end.ensures.value) refl in
+    IfOk-weaker c.build.result (λ tree. IsBuilt ((n - 1) / 32 + 1) (n / ((n - 1) / 32 + 1)) (n % ((n - 1) / 32 + 1))
+    (blocks_between c.into.result c.args.held.now c.end.result) (side tree) (remaining_blocks c.build.new.cursor)) _ (λ tree b.
+    tree_is n ((n - 1) / 32 + 1) (n / ((n - 1) / 32 + 1)) (n % ((n - 1) / 32 + 1))
+    (blocks_between c.args.space.now.start c.args.held.now c.args.space.now.end) (blocks_between c.into.result c.args.held.now c.end.result)
+    (remaining_blocks c.build.new.cursor) (side tree)
+    same k c.requires.count p.few (needed n ((n - 1) / 32 + 1) (n / ((n - 1) / 32 + 1)) (n % ((n - 1) / 32 + 1)) z c.requires.few refl refl
+    refl) b)
     c.build.ensures.built

@@ -7,5 +7,6 @@ pub push-requires : goal.push-requires
 push-requires c =
     let old = c.args.cursor.now in
     let run = cursor_run old c.requires.cursor (none_of_none (remaining_blocks old) c.args.count c.requires.enough c.requires.some) in
-    leaf_one_more (remaining_blocks old) c.loop-filled.leaf (remaining_blocks c.loop-filled.cursor) (remaining_blocks c.take_first-in-loop-filled.new.self) c.take_first-in-loop-filled.result
+    leaf_one_more (remaining_blocks old) c.loop-filled.leaf (remaining_blocks c.loop-filled.cursor)
+    (remaining_blocks c.take_first-in-loop-filled.new.self) c.take_first-in-loop-filled.result
     run c.loop-filled.invariant.cut c.take_first-in-loop-filled.ensures.first (omega arith)

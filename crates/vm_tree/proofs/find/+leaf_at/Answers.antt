@@ -10,7 +10,8 @@ leaf_at-requires t c =
     let s = side c.args.tree.now in
     let l = side c.node.inside.left in
     let r = side c.node.inside.right in
-    let q : side c.args.tree.now ≡ Fork (side c.node.inside.left) (side c.node.inside.right) = sym (c.node.view_is ∙ c.deref-node.ensures ∙ sym (ap side c.in-Fork.is)) in
+    let q : side c.args.tree.now ≡ Fork (side c.node.inside.left) (side c.node.inside.right) = sym
+    (c.node.view_is ∙ c.deref-node.ensures ∙ sym (ap side c.in-Fork.is)) in
     let h = ap height_of q in
     (omega arith, (tree_of_left s l r q c.requires.tree, cover_of_left s l r q c.requires.tree c.requires.run))
 
@@ -19,7 +20,8 @@ leaf_at-requires-in-Fork t c =
     let s = side c.args.tree.now in
     let l = side c.node.inside.left in
     let r = side c.node.inside.right in
-    let q : side c.args.tree.now ≡ Fork (side c.node.inside.left) (side c.node.inside.right) = sym (c.node.view_is ∙ c.deref-node.ensures ∙ sym (ap side c.in-Fork.is)) in
+    let q : side c.args.tree.now ≡ Fork (side c.node.inside.left) (side c.node.inside.right) = sym
+    (c.node.view_is ∙ c.deref-node.ensures ∙ sym (ap side c.in-Fork.is)) in
     let h = ap height_of q in
     (omega arith, (tree_of_right s l r q c.requires.tree, cover_of_right s l r q c.requires.tree c.requires.run))
 
@@ -27,6 +29,8 @@ pub returns-else-address-node : goal.returns-else-address-node
 returns-else-address-node t c =
     let l = side c.node.inside.left in
     let r = side c.node.inside.right in
-    let q : side c.args.tree.now ≡ Fork (side c.node.inside.left) (side c.node.inside.right) = sym (c.node.view_is ∙ c.deref-node.ensures ∙ sym (ap side c.in-Fork.is)) in
+    let q : side c.args.tree.now ≡ Fork (side c.node.inside.left) (side c.node.inside.right) = sym
+    (c.node.view_is ∙ c.deref-node.ensures ∙ sym (ap side c.in-Fork.is)) in
     let k = c.if-address-node.false in
-    leaf_in_right (side c.args.tree.now) l r c.args.address c.leaf_at-in-Fork.result.now q c.requires.tree c.requires.run (omega (arith, c.node.invariant.at)) c.leaf_at-in-Fork.ensures
+    leaf_in_right (side c.args.tree.now) l r c.args.address c.leaf_at-in-Fork.result.now q c.requires.tree c.requires.run
+    (omega (arith, c.node.invariant.at)) c.leaf_at-in-Fork.ensures

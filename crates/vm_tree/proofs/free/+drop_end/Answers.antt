@@ -30,7 +30,8 @@ invariant_of-node-in-Last t c =
     let d = c.drop_end-change-in-Last.ensures in
     let e = rw c.in-Last.is at d.dropped in
     record {
-      at = c.node.invariant.at ∙ sym (start_take (blocks (side c.node.inside.right)) (many_r _ _ (subst CanChange q c.requires.can))) ∙ ap start_of (sym e);
+      at = c.node.invariant.at ∙ sym (start_take (blocks (side c.node.inside.right)) (many_r _ _ (subst CanChange q c.requires.can)))
+          ∙ ap start_of (sym e);
       summed = record { left = c.node.invariant.summed.left; right = d.summed };
     }
 
@@ -39,9 +40,14 @@ update-requires-clause-can t c =
     let m = c.match-end in
     let q = node_is c.node.inside c.in-Fork.is c.node.view_is c.deref_mut-node.ensures.value in
     let f = linked c.args.tree.now c.in-Fork.is c.requires.summed in
-    let u : DropsAbove c.args.end (stored_longest m.tree) (stored_alignments m.tree) (stored_height m.tree) (side c.args.tree.now) (side m.tree) m.change = elim m.branch [
-      | in-First w ↦ rw (w.tree-is, w.change-is) (drops_above c.args.end First w.in-First.is _ _ _ _ _ _ _ q c.requires.can f _ w.drop_end-change.ensures.dropped w.drop_end-change.ensures.reduces)
-      | in-Last w ↦ rw (w.tree-is, w.change-is) (drops_above c.args.end Last w.in-Last.is _ _ _ _ _ _ _ q c.requires.can f _ w.drop_end-change-in-Last.ensures.dropped w.drop_end-change-in-Last.ensures.reduces)
+    let u : DropsAbove c.args.end (stored_longest m.tree) (stored_alignments m.tree) (stored_height m.tree) (side c.args.tree.now)
+    (side m.tree) m.change = elim m.branch [
+      | in-First w ↦ rw (w.tree-is, w.change-is)
+          (drops_above c.args.end First w.in-First.is _ _ _ _ _ _ _ q c.requires.can f _ w.drop_end-change.ensures.dropped
+          w.drop_end-change.ensures.reduces)
+      | in-Last w ↦ rw (w.tree-is, w.change-is)
+          (drops_above c.args.end Last w.in-Last.is _ _ _ _ _ _ _ q c.requires.can f _ w.drop_end-change-in-Last.ensures.dropped
+          w.drop_end-change-in-Last.ensures.reduces)
     ] in
     can_update u.1
 
@@ -50,9 +56,14 @@ returns-after-end t c =
     let m = c.match-end in
     let q = node_is c.node.inside c.in-Fork.is c.node.view_is c.deref_mut-node.ensures.value in
     let f = linked c.args.tree.now c.in-Fork.is c.requires.summed in
-    let u : DropsAbove c.args.end (stored_longest m.tree) (stored_alignments m.tree) (stored_height m.tree) (side c.args.tree.now) (side m.tree) m.change = elim m.branch [
-      | in-First w ↦ rw (w.tree-is, w.change-is) (drops_above c.args.end First w.in-First.is _ _ _ _ _ _ _ q c.requires.can f _ w.drop_end-change.ensures.dropped w.drop_end-change.ensures.reduces)
-      | in-Last w ↦ rw (w.tree-is, w.change-is) (drops_above c.args.end Last w.in-Last.is _ _ _ _ _ _ _ q c.requires.can f _ w.drop_end-change-in-Last.ensures.dropped w.drop_end-change-in-Last.ensures.reduces)
+    let u : DropsAbove c.args.end (stored_longest m.tree) (stored_alignments m.tree) (stored_height m.tree) (side c.args.tree.now)
+    (side m.tree) m.change = elim m.branch [
+      | in-First w ↦ rw (w.tree-is, w.change-is)
+          (drops_above c.args.end First w.in-First.is _ _ _ _ _ _ _ q c.requires.can f _ w.drop_end-change.ensures.dropped
+          w.drop_end-change.ensures.reduces)
+      | in-Last w ↦ rw (w.tree-is, w.change-is)
+          (drops_above c.args.end Last w.in-Last.is _ _ _ _ _ _ _ q c.requires.can f _ w.drop_end-change-in-Last.ensures.dropped
+          w.drop_end-change-in-Last.ensures.reduces)
     ] in
     let n = c.update.ensures in
     record {

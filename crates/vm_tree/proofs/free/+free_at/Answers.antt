@@ -60,7 +60,8 @@ free_child-returns-then-start-edge-clause-freed t c =
     let s = c.start.ensures.value in
     let at = c.requires.node.at in
     let below : c.args.key.now.start < start_of (blocks (side c.args.right.now)) = omega (arith, c.if-start-edge.true) in
-    under_inside First c.args.key.now (side c.args.left.now) (side c.args.right.now) (side c.free_at.new.tree) c.requires.can (below, λ z. c.requires.inside.3 (omega arith)) c.free_at.result c.free_at.ensures.freed
+    under_inside First c.args.key.now (side c.args.left.now) (side c.args.right.now) (side c.free_at.new.tree) c.requires.can
+    (below, λ z. c.requires.inside.3 (omega arith)) c.free_at.result c.free_at.ensures.freed
 
 pub free_child-returns-clause-node : goal.free_child-returns-clause-node
 free_child-returns-clause-node t c =
@@ -81,7 +82,8 @@ free_child-returns-clause-freed t c =
     let at = c.requires.node.at in
     let off = c.requires.inside.2 in
     let above : start_of (blocks r) < c.args.key.now.start = omega (arith, c.if-start-edge.false) in
-    under_inside Last c.args.key.now r (side c.args.left.now) (side c.free_at-2.new.tree) c.requires.can above c.free_at-2.result c.free_at-2.ensures.freed
+    under_inside Last c.args.key.now r (side c.args.left.now) (side c.free_at-2.new.tree) c.requires.can above c.free_at-2.result
+    c.free_at-2.ensures.freed
 
 pub free_under-overflow_sub-edge : goal.free_under-overflow_sub-edge
 free_under-overflow_sub-edge t c =
@@ -91,7 +93,8 @@ free_under-overflow_sub-edge t c =
 
 -- The nodes that are entered.
 pub free_at-returns-in_ok-gap-in-Leaf-clause-exact : goal.free_at-returns-in_ok-gap-in-Leaf-clause-exact
-free_at-returns-in_ok-gap-in-Leaf-clause-exact t c = rw c.in-Leaf.is (omega (arith, free_leaf c.args.key.now c.in-Leaf.leaf.value, c.enter.ensures))
+free_at-returns-in_ok-gap-in-Leaf-clause-exact t c = rw c.in-Leaf.is
+    (omega (arith, free_leaf c.args.key.now c.in-Leaf.leaf.value, c.enter.ensures))
 
 pub free_child-returns-then-start-edge-clause-exact : goal.free_child-returns-then-start-edge-clause-exact
 free_child-returns-then-start-edge-clause-exact t c =
@@ -100,7 +103,8 @@ free_child-returns-then-start-edge-clause-exact t c =
     let s = c.start.ensures.value in
     let at = c.requires.node.at in
     let below : c.args.key.now.start < start_of (blocks r) = omega (arith, c.if-start-edge.true) in
-    counted_above c.free_at.result _ _ _ _ (free_left c.args.key.now l r below (λ z. c.requires.inside.3 (omega arith))) c.free_at.ensures.exact
+    counted_above c.free_at.result _ _ _ _ (free_left c.args.key.now l r below (λ z. c.requires.inside.3 (omega arith)))
+    c.free_at.ensures.exact
 
 pub free_child-returns-clause-exact : goal.free_child-returns-clause-exact
 free_child-returns-clause-exact t c =
@@ -118,7 +122,8 @@ free_under-returns-then-start-edge-clause-exact t c =
     let s = c.start.ensures.value in
     let at = c.requires.node.at in
     counted_above c.free_beside.result _ _ _ _
-    (free_after c.args.key.now (side c.args.left.now) (side c.args.right.now) (omega (arith, c.if-start-edge.true))) c.free_beside.ensures.exact
+    (free_after c.args.key.now (side c.args.left.now) (side c.args.right.now) (omega (arith, c.if-start-edge.true)))
+    c.free_beside.ensures.exact
 
 pub free_under-returns-then-end-edge-clause-exact : goal.free_under-returns-then-end-edge-clause-exact
 free_under-returns-then-end-edge-clause-exact t c =

@@ -31,7 +31,8 @@ invariant_of-node-in-Last t c =
     let d = c.free_end-in-Last in
     let many = many_r _ _ (subst CanChange q c.requires.can) in
     record {
-      at = c.node.invariant.at ∙ last_kept (between c.args.start c.args.last) (side c.node.inside.right) (side d.new.tree) many d.result (rw c.in-Last.is at d.ensures.freed);
+      at = c.node.invariant.at ∙ last_kept (between c.args.start c.args.last) (side c.node.inside.right) (side d.new.tree) many d.result
+          (rw c.in-Last.is at d.ensures.freed);
       summed = record { left = c.node.invariant.summed.left; right = d.ensures.summed };
     }
 
@@ -41,9 +42,14 @@ returns-in_err-freed-in-Fork-clause-freed t c =
     let k = between c.args.start c.args.last in
     let q = node_is c.node.inside c.in-Fork.is c.node.view_is c.deref_mut-node.ensures.value in
     let f = linked c.args.tree.now c.in-Fork.is c.requires.summed in
-    let u : FreesAbove c.args.end k (stored_longest m.tree) (stored_alignments m.tree) (stored_height m.tree) (side c.args.tree.now) (side m.tree) m.branch' = elim m.branch [
-      | in-First w ↦ rw (w.tree-is, w.branch'-is) (frees_above c.args.end First w.in-First.is _ _ _ _ _ _ (side w.free_end.new.tree) q c.requires.can f k c.requires.extends w.free_end.result w.free_end.ensures.freed)
-      | in-Last w ↦ rw (w.tree-is, w.branch'-is) (frees_above c.args.end Last w.in-Last.is _ _ _ _ _ _ (side w.free_end-in-Last.new.tree) q c.requires.can f k c.requires.extends w.free_end-in-Last.result w.free_end-in-Last.ensures.freed)
+    let u : FreesAbove c.args.end k (stored_longest m.tree) (stored_alignments m.tree) (stored_height m.tree) (side c.args.tree.now)
+    (side m.tree) m.branch' = elim m.branch [
+      | in-First w ↦ rw (w.tree-is, w.branch'-is)
+          (frees_above c.args.end First w.in-First.is _ _ _ _ _ _ (side w.free_end.new.tree) q c.requires.can f k c.requires.extends
+          w.free_end.result w.free_end.ensures.freed)
+      | in-Last w ↦ rw (w.tree-is, w.branch'-is)
+          (frees_above c.args.end Last w.in-Last.is _ _ _ _ _ _ (side w.free_end-in-Last.new.tree) q c.requires.can f k c.requires.extends
+          w.free_end-in-Last.result w.free_end-in-Last.ensures.freed)
     ] in
     let n = rw c.in_err-freed-in-Fork.was at u in
     rw c.from_residual-in_err-freed-in-Fork.ensures n
@@ -54,9 +60,14 @@ update-change-requires-clause-can t c =
     let k = between c.args.start c.args.last in
     let q = node_is c.node.inside c.in-Fork.is c.node.view_is c.deref_mut-node.ensures.value in
     let f = linked c.args.tree.now c.in-Fork.is c.requires.summed in
-    let u : FreesAbove c.args.end k (stored_longest m.tree) (stored_alignments m.tree) (stored_height m.tree) (side c.args.tree.now) (side m.tree) m.branch' = elim m.branch [
-      | in-First w ↦ rw (w.tree-is, w.branch'-is) (frees_above c.args.end First w.in-First.is _ _ _ _ _ _ (side w.free_end.new.tree) q c.requires.can f k c.requires.extends w.free_end.result w.free_end.ensures.freed)
-      | in-Last w ↦ rw (w.tree-is, w.branch'-is) (frees_above c.args.end Last w.in-Last.is _ _ _ _ _ _ (side w.free_end-in-Last.new.tree) q c.requires.can f k c.requires.extends w.free_end-in-Last.result w.free_end-in-Last.ensures.freed)
+    let u : FreesAbove c.args.end k (stored_longest m.tree) (stored_alignments m.tree) (stored_height m.tree) (side c.args.tree.now)
+    (side m.tree) m.branch' = elim m.branch [
+      | in-First w ↦ rw (w.tree-is, w.branch'-is)
+          (frees_above c.args.end First w.in-First.is _ _ _ _ _ _ (side w.free_end.new.tree) q c.requires.can f k c.requires.extends
+          w.free_end.result w.free_end.ensures.freed)
+      | in-Last w ↦ rw (w.tree-is, w.branch'-is)
+          (frees_above c.args.end Last w.in-Last.is _ _ _ _ _ _ (side w.free_end-in-Last.new.tree) q c.requires.can f k c.requires.extends
+          w.free_end-in-Last.result w.free_end-in-Last.ensures.freed)
     ] in
     let n = rw c.in_ok-freed-in-Fork.was at u in
     can_update n.1
@@ -67,9 +78,14 @@ returns-in_ok-freed-in-Fork-clause-freed t c =
     let k = between c.args.start c.args.last in
     let q = node_is c.node.inside c.in-Fork.is c.node.view_is c.deref_mut-node.ensures.value in
     let f = linked c.args.tree.now c.in-Fork.is c.requires.summed in
-    let u : FreesAbove c.args.end k (stored_longest m.tree) (stored_alignments m.tree) (stored_height m.tree) (side c.args.tree.now) (side m.tree) m.branch' = elim m.branch [
-      | in-First w ↦ rw (w.tree-is, w.branch'-is) (frees_above c.args.end First w.in-First.is _ _ _ _ _ _ (side w.free_end.new.tree) q c.requires.can f k c.requires.extends w.free_end.result w.free_end.ensures.freed)
-      | in-Last w ↦ rw (w.tree-is, w.branch'-is) (frees_above c.args.end Last w.in-Last.is _ _ _ _ _ _ (side w.free_end-in-Last.new.tree) q c.requires.can f k c.requires.extends w.free_end-in-Last.result w.free_end-in-Last.ensures.freed)
+    let u : FreesAbove c.args.end k (stored_longest m.tree) (stored_alignments m.tree) (stored_height m.tree) (side c.args.tree.now)
+    (side m.tree) m.branch' = elim m.branch [
+      | in-First w ↦ rw (w.tree-is, w.branch'-is)
+          (frees_above c.args.end First w.in-First.is _ _ _ _ _ _ (side w.free_end.new.tree) q c.requires.can f k c.requires.extends
+          w.free_end.result w.free_end.ensures.freed)
+      | in-Last w ↦ rw (w.tree-is, w.branch'-is)
+          (frees_above c.args.end Last w.in-Last.is _ _ _ _ _ _ (side w.free_end-in-Last.new.tree) q c.requires.can f k c.requires.extends
+          w.free_end-in-Last.result w.free_end-in-Last.ensures.freed)
     ] in
     let n = rw c.in_ok-freed-in-Fork.was at u in
     let o = c.update-change in

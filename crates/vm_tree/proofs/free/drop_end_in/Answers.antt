@@ -7,10 +7,12 @@ pub summary_without-new-requires-clause-longest : goal.summary_without-new-requi
 summary_without-new-requires-clause-longest c =
     let i = c.index_at in
     let e : c.match-end.leaf ≡ without_end c.args.end c.args.leaf.now = search rules in
-    longest_without c.args.end c.args.leaf.now c.match-end.leaf i.result c.key_at-block.result i.ensures.within i.ensures.value c.key_at-block.ensures e c.args.longest.now c.requires.summed.0
+    longest_without c.args.end c.args.leaf.now c.match-end.leaf i.result c.key_at-block.result i.ensures.within i.ensures.value
+    c.key_at-block.ensures e c.args.longest.now c.requires.summed.0
 
 pub summary_without-new-requires-clause-alignments : goal.summary_without-new-requires-clause-alignments
 summary_without-new-requires-clause-alignments c =
     let i = c.index_at in
     let e : c.match-end.leaf ≡ without_end c.args.end c.args.leaf.now = search rules in
-    most_without c.args.end c.args.leaf.now c.match-end.leaf i.result c.key_at-block.result i.ensures.within i.ensures.value c.key_at-block.ensures e c.args.alignments.now c.requires.summed.1
+    most_without c.args.end c.args.leaf.now c.match-end.leaf i.result c.key_at-block.result i.ensures.within i.ensures.value
+    c.key_at-block.ensures e c.args.alignments.now c.requires.summed.1

@@ -10,6 +10,8 @@ returns-after-end-2 c =
     let e : c.match-end-2.leaf ≡ extended c.args.end k old = search rules in
     let h : EndHeld c.args.end k old = search rules in
     let i = c.index_at-i in (
-      frees_end c.args.end k old c.match-end-2.leaf i.result i.ensures.within i.ensures.value h e c.join_at.new.leaf c.join_at.ensures.freed,
-      joins_end c.args.end k old c.match-end-2.leaf i.result i.ensures.within i.ensures.value h e c.join_at.result c.join_at.new.leaf c.join_at.ensures.gap,
+      frees_end c.args.end k old c.match-end-2.leaf i.result i.ensures.within i.ensures.value h e c.join_at.new.leaf
+          c.join_at.ensures.freed,
+      joins_end c.args.end k old c.match-end-2.leaf i.result i.ensures.within i.ensures.value h e c.join_at.result c.join_at.new.leaf
+          c.join_at.ensures.gap,
     )

@@ -12,10 +12,13 @@ returns-then-start c =
     let i = c.index_of-i in (
       refl,
       λ (h : Holds c.args.key.now bs). (
-          let e = held_at bs i.result c.args.key.now c.start-start.result c.len-len.ensures.leaf i.ensures.within i.ensures.found.0 i.ensures.found.1 c.start-start.ensures.value h in
+          let e = held_at bs i.result c.args.key.now c.start-start.result c.len-len.ensures.leaf i.ensures.within i.ensures.found.0
+          i.ensures.found.1 c.start-start.ensures.value h in
           elim c.then-start.branch [
-            | then-start-via-then-start w ↦ w.if-start.true (c.start.ensures.value ∙ ap (λ (x : Block). x.key.start) (c.block_at-block.ensures ∙ e) ∙ sym c.start-start.ensures.value)
-            | then-start-via-else-start+then-end w ↦ w.if-end.true (w.end.ensures.value ∙ ap (λ (x : Block). x.key.end) (c.block_at-block.ensures ∙ e) ∙ sym c.end-end.ensures.value)
+            | then-start-via-then-start w ↦ w.if-start.true
+                (c.start.ensures.value ∙ ap (λ (x : Block). x.key.start) (c.block_at-block.ensures ∙ e) ∙ sym c.start-start.ensures.value)
+            | then-start-via-else-start+then-end w ↦ w.if-end.true
+                (w.end.ensures.value ∙ ap (λ (x : Block). x.key.end) (c.block_at-block.ensures ∙ e) ∙ sym c.end-end.ensures.value)
           ]
           ),
     )
@@ -23,11 +26,19 @@ returns-then-start c =
 pub returns-in-Free : goal.returns-in-Free
 returns-in-Free c =
     let bs = c.args.leaf.now in
-    let i = c.index_of-i in
-    (refl, λ (h : Holds c.args.key.now bs). (let e = held_at bs i.result c.args.key.now c.start-start.result c.len-len.ensures.leaf i.ensures.within i.ensures.found.0 i.ensures.found.1 c.start-start.ensures.value h in not_held c.block_at-block.result c.args.key.now c.in-Free.is (c.block_at-block.ensures ∙ e)))
+    let i = c.index_of-i in (
+      refl,
+      λ (h : Holds c.args.key.now bs).
+          (let e = held_at bs i.result c.args.key.now c.start-start.result c.len-len.ensures.leaf i.ensures.within i.ensures.found.0
+          i.ensures.found.1 c.start-start.ensures.value h in not_held c.block_at-block.result c.args.key.now c.in-Free.is
+          (c.block_at-block.ensures ∙ e)),
+    )
 
 pub returns-in-Allocated : goal.returns-in-Allocated
 returns-in-Allocated c =
     let s = sym c.start.ensures.value ∙ c.if-start.false ∙ c.start-start.ensures.value in
-    let z = sym c.end.ensures.value ∙ c.if-end.false ∙ c.end-end.ensures.value in
-    (freed_here c.args.leaf.now c.join_at.new.leaf c.index_of-i.result c.index_of-i.ensures.within c.join_at.ensures.freed c.block_at-block.result c.args.key.now c.block_at-block.ensures s z c.in-Allocated.is, c.join_at.ensures.gap)
+    let z = sym c.end.ensures.value ∙ c.if-end.false ∙ c.end-end.ensures.value in (
+      freed_here c.args.leaf.now c.join_at.new.leaf c.index_of-i.result c.index_of-i.ensures.within c.join_at.ensures.freed
+          c.block_at-block.result c.args.key.now c.block_at-block.ensures s z c.in-Allocated.is,
+      c.join_at.ensures.gap,
+    )

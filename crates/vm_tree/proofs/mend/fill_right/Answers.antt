@@ -9,7 +9,8 @@ returns-clause-tree c =
     let a = side c.take_children-first.result.0 in
     let m = side c.take_children-first.result.2 in
     let e : side c.args.left ≡ Fork a m = c.into_fork-left.ensures ∙ sym c.deref_mut.ensures.value ∙ c.take_children-first.ensures.tree in
-    filled_high_at c.into_leaf-2.result.value c.args.right.value (side c.args.left) a m (side c.join_leaves-high.result) (side c.fork_link.result) e c.into_leaf-2.ensures
+    filled_high_at c.into_leaf-2.result.value c.args.right.value (side c.args.left) a m (side c.join_leaves-high.result)
+    (side c.fork_link.result) e c.into_leaf-2.ensures
     c.requires.sides c.requires.next c.join_leaves-high.ensures.tree c.fork_link.ensures.tree
 
 pub join_leaves-high-requires : goal.join_leaves-high-requires
@@ -24,4 +25,5 @@ fork_link-requires-clause-at c =
     let a = side c.take_children-first.result.0 in
     let m = side c.take_children-first.result.2 in
     let e : side c.args.left ≡ Fork a m = c.into_fork-left.ensures ∙ sym c.deref_mut.ensures.value ∙ c.take_children-first.ensures.tree in
-    c.take_children-first.ensures.at ∙ joined_start c.into_leaf-2.result.value c.args.right.value (side c.args.left) a m (side c.join_leaves-high.result) e c.into_leaf-2.ensures c.requires.sides c.join_leaves-high.ensures.tree
+    c.take_children-first.ensures.at ∙ joined_start c.into_leaf-2.result.value c.args.right.value (side c.args.left) a m
+    (side c.join_leaves-high.result) e c.into_leaf-2.ensures c.requires.sides c.join_leaves-high.ensures.tree

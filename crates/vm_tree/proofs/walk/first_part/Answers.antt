@@ -6,10 +6,12 @@ use Rattle.vm_tree.proofs.walk.first_part.Goals as goal
 
 pub returns-then-span-end : goal.returns-then-span-end
 returns-then-span-end c =
-    first_of_all c.args.span (blocks (side c.args.tree.now)) c.leaf_at-leaf.result.now c.requires.run c.leaf_at-leaf.ensures c.requires.order c.part_within-part.result c.part_within-part.ensures (omega arith)
+    first_of_all c.args.span (blocks (side c.args.tree.now)) c.leaf_at-leaf.result.now c.requires.run c.leaf_at-leaf.ensures
+    c.requires.order c.part_within-part.result c.part_within-part.ensures (omega arith)
 
 pub returns : goal.returns
 returns c =
     let k = c.if-span-end.false in
     rw c.end-end.ensures
-    (first_of_more c.args.span (blocks (side c.args.tree.now)) c.leaf_at-leaf.result.now c.requires.run c.leaf_at-leaf.ensures c.requires.order (omega arith) c.part_within-part.result c.part_within-part.ensures)
+    (first_of_more c.args.span (blocks (side c.args.tree.now)) c.leaf_at-leaf.result.now c.requires.run c.leaf_at-leaf.ensures
+    c.requires.order (omega arith) c.part_within-part.result c.part_within-part.ensures)

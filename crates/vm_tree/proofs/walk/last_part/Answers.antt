@@ -6,10 +6,12 @@ use Rattle.vm_tree.proofs.walk.last_part.Goals as goal
 
 pub returns-then-start-span : goal.returns-then-start-span
 returns-then-start-span c =
-    last_of_all c.args.span (blocks (side c.args.tree.now)) c.leaf_at-leaf.result.now c.requires.run c.leaf_at-leaf.ensures c.requires.order c.part_within-part.result c.part_within-part.ensures (omega arith)
+    last_of_all c.args.span (blocks (side c.args.tree.now)) c.leaf_at-leaf.result.now c.requires.run c.leaf_at-leaf.ensures c.requires.order
+    c.part_within-part.result c.part_within-part.ensures (omega arith)
 
 pub returns : goal.returns
 returns c =
     let k = c.if-start-span.false in
     rw c.start-start.ensures
-    (last_of_more c.args.span (blocks (side c.args.tree.now)) c.leaf_at-leaf.result.now c.requires.run c.leaf_at-leaf.ensures c.requires.order (omega arith) c.part_within-part.result c.part_within-part.ensures)
+    (last_of_more c.args.span (blocks (side c.args.tree.now)) c.leaf_at-leaf.result.now c.requires.run c.leaf_at-leaf.ensures
+    c.requires.order (omega arith) c.part_within-part.result c.part_within-part.ensures)

@@ -16,14 +16,18 @@ state_again c =
     let first = tree_state c.self.inside.interval_tree in
     let some = take l.index c.args.requests.now in
     c.free_all.ensures.state first some c.self.invariant.state
-    (subst (λ (v : AddressState). AllocatesEach first some l.ranges.items v) (sym (ap tree_state c.in-Err.ensures.unchanged)) l.invariant.each)
+    (subst (λ (v : AddressState). AllocatesEach first some l.ranges.items v) (sym (ap tree_state c.in-Err.ensures.unchanged))
+    l.invariant.each)
 
 -- The request that fails, in the state that the requests before it leave.
-failed : (c : goal.After-drop-ranges) → FailsAtIndex (tree_state c.self.inside.interval_tree) c.args.requests.now c.loop-index.index c.in-Err.error
+failed : (c : goal.After-drop-ranges) →
+    FailsAtIndex (tree_state c.self.inside.interval_tree) c.args.requests.now c.loop-index.index c.in-Err.error
 failed c =
     let l = c.loop-index in
     let e = c.in-Err.ensures in
-    failed_at c.args.requests.now l.index l.ranges.items (tree_state c.self.inside.interval_tree) (tree_state l.tree) (tree_state c.allocate.new.self) c.index-requests-index.result c.in-Err.error c.loop-index-test.true c.index-requests-index.is l.invariant.each
+    failed_at c.args.requests.now l.index l.ranges.items (tree_state c.self.inside.interval_tree) (tree_state l.tree)
+    (tree_state c.allocate.new.self) c.index-requests-index.result c.in-Err.error c.loop-index-test.true c.index-requests-index.is
+    l.invariant.each
     (request_allocates _ (tree_state l.tree) (tree_state c.allocate.new.self) _ e.valid e.answer) (ap tree_state e.unchanged)
 
 pub invariant_of-self-in-Err : goal.invariant_of-self-in-Err
@@ -47,7 +51,8 @@ returns-in-Err-clause-parts c =
     let l = c.loop-index in
     let requests = c.args.requests.now in
     let first = c.self.inside.interval_tree in
-    let failed = then_allocated l.index first l.tree c.allocate.new.self requests c.index-requests-index.result (Err c.in-Err.error) l.invariant.parts
+    let failed = then_allocated l.index first l.tree c.allocate.new.self requests c.index-requests-index.result (Err c.in-Err.error)
+    l.invariant.parts
     (l.index, c.loop-index-test.true, sym c.index-requests-index.is) c.in-Err.ensures.part in
     rw (← c.self.view_is)
     (more_allowed (l.index + 1 + length l.ranges.items) (2 * length requests) first c.free_all.new.tree requests
@@ -63,10 +68,12 @@ loop-index-preserved c =
     let mid = tree_state c.loop-index.tree in
     let new = tree_state c.allocate.new.self in
     let answer = request_allocates c.index-requests-index.result mid new _ c.in-Ok.ensures.valid c.in-Ok.ensures.answer in
-    let each = one_more c.args.requests.now i c.loop-index.ranges.items first mid new c.index-requests-index.result c.in-Ok.range c.loop-index-test.true c.index-requests-index.is c.loop-index.invariant.each answer in
+    let each = one_more c.args.requests.now i c.loop-index.ranges.items first mid new c.index-requests-index.result c.in-Ok.range
+    c.loop-index-test.true c.index-requests-index.is c.loop-index.invariant.each answer in
     record {
       each = subst (λ (v : List Range). AllocatesEach first (take (i + 1) c.args.requests.now) v new) (sym c.in-Ok-push.ensures.items) each;
-      parts = then_allocated i c.self.inside.interval_tree c.loop-index.tree c.allocate.new.self c.args.requests.now c.index-requests-index.result (Ok c.in-Ok.range) c.loop-index.invariant.parts
+      parts = then_allocated i c.self.inside.interval_tree c.loop-index.tree c.allocate.new.self c.args.requests.now
+          c.index-requests-index.result (Ok c.in-Ok.range) c.loop-index.invariant.parts
           (i, c.loop-index-test.true, sym c.index-requests-index.is) c.in-Ok.ensures.part;
       state = c.in-Ok.ensures.state;
       many = omega (arith, c.in-Ok-push.ensures.len, c.loop-index.invariant.many);
@@ -78,18 +85,21 @@ invariant_of-self-2 c =
     let before = tree_state c.self.inside.interval_tree in
     let l = c.loop-index in
     record {
-      same_space = each_space (take l.index c.args.requests.now) l.ranges.items before (tree_state l.tree) l.invariant.each ∙ c.self.invariant.same_space;
+      same_space = each_space (take l.index c.args.requests.now) l.ranges.items before (tree_state l.tree) l.invariant.each
+          ∙ c.self.invariant.same_space;
       state = l.invariant.state;
     }
 
 pub returns-clause-answer : goal.returns-clause-answer
 returns-clause-answer c =
     let l = c.loop-index in
-    rw (← c.self.view_is) (all_taken c.args.requests.now l.index l.ranges.items (tree_state c.self.inside.interval_tree) (tree_state l.tree) (omega (arith, l.auto.index-end)) l.invariant.each)
+    rw (← c.self.view_is) (all_taken c.args.requests.now l.index l.ranges.items (tree_state c.self.inside.interval_tree) (tree_state l.tree)
+    (omega (arith, l.auto.index-end)) l.invariant.each)
 
 pub returns-clause-parts : goal.returns-clause-parts
 returns-clause-parts c =
     let l = c.loop-index in
     let requests = c.args.requests.now in
     rw (← c.self.view_is)
-    (more_allowed l.index (2 * length requests) c.self.inside.interval_tree l.tree requests l.invariant.parts (omega (arith, l.auto.index-end)))
+    (more_allowed l.index (2 * length requests) c.self.inside.interval_tree l.tree requests l.invariant.parts
+    (omega (arith, l.auto.index-end)))

@@ -6,4 +6,5 @@ pub returns-in-Err-clause-filling : goal.returns-in-Err-clause-filling
 returns-in-Err-clause-filling c = λ s f. absurd (no_constraint_fault _ _ c.in-Err.ensures f.valid)
 
 pub returns-in-Ok-clause-steps : goal.returns-in-Ok-clause-steps
-returns-in-Ok-clause-steps c = rw (← c.self.view_is) (grant_count _ _ _ c.in-Ok.constraint _ _ c.in-Ok.ensures c.allocate_counted.ensures.steps)
+returns-in-Ok-clause-steps c = rw (← c.self.view_is)
+    (grant_count _ _ _ c.in-Ok.constraint _ _ c.in-Ok.ensures c.allocate_counted.ensures.steps)

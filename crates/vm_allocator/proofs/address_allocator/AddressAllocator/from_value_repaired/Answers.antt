@@ -11,7 +11,8 @@ pub returns-in_err-interval_tree-clause-answer : goal.returns-in_err-interval_tr
 returns-in_err-interval_tree-clause-answer c =
     let e = c.in_err-interval_tree.field-0.0 in
     let is : c.from_residual.result ≡ Err e = search rules in
-    rw is (not_repaired (view c.args.value.now) c.in-Some.parts.space (view c.in-Some.parts.root.now) e (sym c.in-Some.ensures) c.in_err-interval_tree.ensures.answer)
+    rw is (not_repaired (view c.args.value.now) c.in-Some.parts.space (view c.in-Some.parts.root.now) e (sym c.in-Some.ensures)
+    c.in_err-interval_tree.ensures.answer)
 
 pub invariant_of-result : goal.invariant_of-result
 invariant_of-result c = record {
@@ -21,4 +22,5 @@ invariant_of-result c = record {
 
 pub returns-clause-answer : goal.returns-clause-answer
 returns-clause-answer c =
-    repaired_by (view c.args.value.now) c.in-Some.parts.space (view c.in-Some.parts.root.now) (tree_state c.in_ok-interval_tree.interval_tree) (sym c.in-Some.ensures) c.in_ok-interval_tree.ensures.answer
+    repaired_by (view c.args.value.now) c.in-Some.parts.space (view c.in-Some.parts.root.now)
+    (tree_state c.in_ok-interval_tree.interval_tree) (sym c.in-Some.ensures) c.in_ok-interval_tree.ensures.answer

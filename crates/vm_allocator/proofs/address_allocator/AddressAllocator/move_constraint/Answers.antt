@@ -10,14 +10,17 @@ pub returns-clause-moved : goal.returns-clause-moved
 returns-clause-moved c =
     let state : IsAddressState (state_of c.args.self.now) = rw (← c.self.view_is) c.self.invariant.state in
     let held : Contains (state_of c.args.self.now).held c.args.key.now = rw (← c.self.view_is) (c.if-not-holds.ensures.0 refl) in
-    move_held _ (state_of c.allocate_constraint.new.self) _ _ _ c.args.request c.free.result state held c.in_ok-range.ensures.answer c.free.ensures.answer
+    move_held _ (state_of c.allocate_constraint.new.self) _ _ _ c.args.request c.free.result state held c.in_ok-range.ensures.answer
+    c.free.ensures.answer
 
 pub returns-clause-answer : goal.returns-clause-answer
 returns-clause-answer c =
     let held : Contains (state_of c.args.self.now).held c.args.key.now = rw (← c.self.view_is) (c.if-not-holds.ensures.0 refl) in
-    move_moves _ (state_of c.allocate_constraint.new.self) _ _ _ c.args.request c.free.result held c.if-is_for.ensures c.in_ok-range.ensures.answer c.free.ensures.answer
+    move_moves _ (state_of c.allocate_constraint.new.self) _ _ _ c.args.request c.free.result held c.if-is_for.ensures
+    c.in_ok-range.ensures.answer c.free.ensures.answer
 
 pub returns-clause-parts : goal.returns-clause-parts
 returns-clause-parts c =
-    allocated_and_freed c.args.self.now c.allocate_constraint.new.self c.free.new.self c.args.request (Ok c.in_ok-range.range) c.args.key.now c.free.result
+    allocated_and_freed c.args.self.now c.allocate_constraint.new.self c.free.new.self c.args.request (Ok c.in_ok-range.range)
+    c.args.key.now c.free.result
     c.in_ok-range.ensures.part c.free.ensures.part c.free.ensures.unchanged

@@ -16,11 +16,13 @@ unreachable-requires c =
 
 pub returns-clause-answer : goal.returns-clause-answer
 returns-clause-answer c =
-    subst (λ (v : Request). MovesRange (state_of c.args.self.now) c.args.key.now v c.move_constraint.result (state_of c.move_constraint.new.self)) (made c) c.move_constraint.ensures.answer
+    subst (λ (v : Request). MovesRange (state_of c.args.self.now) c.args.key.now v c.move_constraint.result
+    (state_of c.move_constraint.new.self)) (made c) c.move_constraint.ensures.answer
 
 pub returns-clause-fits : goal.returns-clause-fits
 returns-clause-fits c =
-    move_to_fits (state_of c.args.self.now) (state_of c.move_constraint.new.self) c.args.key.now c.args.start c.move_constraint.result (returns-clause-answer c)
+    move_to_fits (state_of c.args.self.now) (state_of c.move_constraint.new.self) c.args.key.now c.args.start c.move_constraint.result
+    (returns-clause-answer c)
 
 pub returns-clause-stays : goal.returns-clause-stays
 returns-clause-stays c = λ held e.

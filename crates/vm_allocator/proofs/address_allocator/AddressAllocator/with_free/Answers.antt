@@ -12,38 +12,53 @@ pub returns-then-count-gt-MAX_HOLES-clause-answer :
     goal.returns-then-count-gt-MAX_HOLES-clause-answer
 returns-then-count-gt-MAX_HOLES-clause-answer c =
     let list : c.args.free.now ≡ c.in-Some.first.now ∷ c.in-Some.others.now = search rules in
-    let range : MakesRange c.in-Some.first.now.start c.in_ok-last.last.end (Ok c.in_ok-address_space.address_space) = rw (← c.start.ensures.value, ← c.end.ensures.value) c.in_ok-address_space.ensures in
-    let is = list_checked c.in-Some.first.now c.in_ok-last.last c.in-Some.others.now c.in_ok-last.count c.in_ok-address_space.address_space c.start.ensures.range c.in_ok-last.ensures range in
-    rw (list, c.into-then-count-gt-MAX_HOLES.ensures) (too_many c.in-Some.first.now c.in-Some.others.now c.in_ok-last.count is.0 c.in_ok-last.ensures.2 (omega (arith, c.if-count-gt-MAX_HOLES.true)))
+    let range : MakesRange c.in-Some.first.now.start c.in_ok-last.last.end (Ok c.in_ok-address_space.address_space) = rw
+    (← c.start.ensures.value, ← c.end.ensures.value) c.in_ok-address_space.ensures in
+    let is = list_checked c.in-Some.first.now c.in_ok-last.last c.in-Some.others.now c.in_ok-last.count c.in_ok-address_space.address_space
+    c.start.ensures.range c.in_ok-last.ensures range in
+    rw (list, c.into-then-count-gt-MAX_HOLES.ensures)
+    (too_many c.in-Some.first.now c.in-Some.others.now c.in_ok-last.count is.0 c.in_ok-last.ensures.2
+    (omega (arith, c.if-count-gt-MAX_HOLES.true)))
 
 pub returns-in_err-holes-clause-answer : goal.returns-in_err-holes-clause-answer
 returns-in_err-holes-clause-answer c =
     let list : c.args.free.now ≡ c.in-Some.first.now ∷ c.in-Some.others.now = search rules in
-    let range : MakesRange c.in-Some.first.now.start c.in_ok-last.last.end (Ok c.in_ok-address_space.address_space) = rw (← c.start.ensures.value, ← c.end.ensures.value) c.in_ok-address_space.ensures in
-    let is = list_checked c.in-Some.first.now c.in_ok-last.last c.in-Some.others.now c.in_ok-last.count c.in_ok-address_space.address_space c.start.ensures.range c.in_ok-last.ensures range in
+    let range : MakesRange c.in-Some.first.now.start c.in_ok-last.last.end (Ok c.in_ok-address_space.address_space) = rw
+    (← c.start.ensures.value, ← c.end.ensures.value) c.in_ok-address_space.ensures in
+    let is = list_checked c.in-Some.first.now c.in_ok-last.last c.in-Some.others.now c.in_ok-last.count c.in_ok-address_space.address_space
+    c.start.ensures.range c.in_ok-last.ensures range in
     let error : c.from_residual-in_err-holes.result ≡ Err (record { index = None; error = OutOfMemory }) = search rules in
-    rw (list, error) (no_memory c.in-Some.first.now c.in-Some.others.now c.in_ok-last.count is.0 c.in_ok-last.ensures.2 (omega (arith, c.if-count-gt-MAX_HOLES.false)))
+    rw (list, error) (no_memory c.in-Some.first.now c.in-Some.others.now c.in_ok-last.count is.0 c.in_ok-last.ensures.2
+    (omega (arith, c.if-count-gt-MAX_HOLES.false)))
 
 pub returns-in_err-interval_tree-clause-index : goal.returns-in_err-interval_tree-clause-index
 returns-in_err-interval_tree-clause-index c =
     let list : c.args.free.now ≡ c.in-Some.first.now ∷ c.in-Some.others.now = search rules in
-    let range : MakesRange c.in-Some.first.now.start c.in_ok-last.last.end (Ok c.in_ok-address_space.address_space) = rw (← c.start.ensures.value, ← c.end.ensures.value) c.in_ok-address_space.ensures in
-    let is = list_checked c.in-Some.first.now c.in_ok-last.last c.in-Some.others.now c.in_ok-last.count c.in_ok-address_space.address_space c.start.ensures.range c.in_ok-last.ensures range in
-    let held : c.deref.result.now ≡ holes_after (c.in-Some.first.now.end + 1) c.in-Some.others.now = c.deref.ensures.value ∙ c.in_ok-holes.ensures in
+    let range : MakesRange c.in-Some.first.now.start c.in_ok-last.last.end (Ok c.in_ok-address_space.address_space) = rw
+    (← c.start.ensures.value, ← c.end.ensures.value) c.in_ok-address_space.ensures in
+    let is = list_checked c.in-Some.first.now c.in_ok-last.last c.in-Some.others.now c.in_ok-last.count c.in_ok-address_space.address_space
+    c.start.ensures.range c.in_ok-last.ensures range in
+    let held : c.deref.result.now ≡ holes_after (c.in-Some.first.now.end + 1) c.in-Some.others.now = c.deref.ensures.value
+    ∙ c.in_ok-holes.ensures in
     let failure = c.in_err-interval_tree.field-0.0 in
     let error : c.from_residual-in_err-interval_tree.result ≡ Err failure = search rules in
-    let index : failure.index ≡ fault_index 0 c.in_ok-address_space.address_space.start c.in_ok-address_space.address_space.end c.deref.result.now = c.in_err-interval_tree.ensures.index in
+    let index : failure.index ≡ fault_index 0 c.in_ok-address_space.address_space.start c.in_ok-address_space.address_space.end
+    c.deref.result.now = c.in_err-interval_tree.ensures.index in
     rw (list, error) (
     subst (λ (v : Range). failure.index ≡ fault_index 0 v.start v.end (holes_after (c.in-Some.first.now.end + 1) c.in-Some.others.now)) is.1
-    (subst (λ (v : List Range). failure.index ≡ fault_index 0 c.in_ok-address_space.address_space.start c.in_ok-address_space.address_space.end v) held index)
+    (subst (λ (v : List Range). failure.index ≡ fault_index 0 c.in_ok-address_space.address_space.start
+    c.in_ok-address_space.address_space.end v) held index)
     ∙ no_hole_index c.in-Some.first.now c.in-Some.others.now is.0)
 
 pub returns-clause-clear : goal.returns-clause-clear
 returns-clause-clear c =
     let list : c.args.free.now ≡ c.in-Some.first.now ∷ c.in-Some.others.now = search rules in
-    let range : MakesRange c.in-Some.first.now.start c.in_ok-last.last.end (Ok c.in_ok-address_space.address_space) = rw (← c.start.ensures.value, ← c.end.ensures.value) c.in_ok-address_space.ensures in
-    let is = list_checked c.in-Some.first.now c.in_ok-last.last c.in-Some.others.now c.in_ok-last.count c.in_ok-address_space.address_space c.start.ensures.range c.in_ok-last.ensures range in
-    let held : c.deref.result.now ≡ holes_after (c.in-Some.first.now.end + 1) c.in-Some.others.now = c.deref.ensures.value ∙ c.in_ok-holes.ensures in
+    let range : MakesRange c.in-Some.first.now.start c.in_ok-last.last.end (Ok c.in_ok-address_space.address_space) = rw
+    (← c.start.ensures.value, ← c.end.ensures.value) c.in_ok-address_space.ensures in
+    let is = list_checked c.in-Some.first.now c.in_ok-last.last c.in-Some.others.now c.in_ok-last.count c.in_ok-address_space.address_space
+    c.start.ensures.range c.in_ok-last.ensures range in
+    let held : c.deref.result.now ≡ holes_after (c.in-Some.first.now.end + 1) c.in-Some.others.now = c.deref.ensures.value
+    ∙ c.in_ok-holes.ensures in
     let state = tree_state c.in_ok-interval_tree.interval_tree in
     let made : MakesHeld c.in_ok-address_space.address_space c.deref.result.now (Ok state) = c.in_ok-interval_tree.ensures.answer in
     rw (list) (λ x. clear_in c.in-Some.first.now c.in-Some.others.now state x is.0 (

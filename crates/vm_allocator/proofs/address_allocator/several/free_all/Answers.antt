@@ -18,18 +18,26 @@ loop-range-preserved c = record {
   left = λ before requests i e.
       let l = c.loop-range.invariant.left before requests i e in
       let s = subst (λ (v : List Range). AllocatesEach before l.0 v (tree_state c.loop-range.tree)) c.in-Some.ensures.items l.1 in
-      last_undone c.pop.new.self.items l.0 before (tree_state c.loop-range.tree) (tree_state c.free.new.self) c.in-Some.range c.free.result i s c.free.ensures.answer;
+      last_undone c.pop.new.self.items l.0 before (tree_state c.loop-range.tree) (tree_state c.free.new.self) c.in-Some.range c.free.result
+      i s c.free.ensures.answer;
   parts = λ n before requests taken.
       let l = c.loop-range.invariant.parts n before requests taken in
-      let one = ap length c.in-Some.ensures.items ∙ length-append c.pop.new.self.items (c.in-Some.range ∷ []) in
-      (l.0 + 1, omega (arith, l.1, one), then_freed l.0 before c.loop-range.tree c.free.new.self requests c.in-Some.range c.free.result l.2 c.free.ensures.part c.free.ensures.unchanged);
+      let one = ap length c.in-Some.ensures.items ∙ length-append c.pop.new.self.items (c.in-Some.range ∷ []) in (
+        l.0 + 1,
+        omega (arith, l.1, one),
+        then_freed l.0 before c.loop-range.tree c.free.new.self requests c.in-Some.range c.free.result l.2
+            c.free.ensures.part c.free.ensures.unchanged,
+      );
 }
 
 pub returns-clause-state : goal.returns-clause-state
 returns-clause-state c = λ before requests i e.
     let l = c.loop-range.invariant.left before requests i e in
-    let none : c.loop-range.ranges.items ≡ [] = c.in_default.ensures.items ∙ ap (λ (v : List Range). v ++ []) (c.in_default.ensures.rest ∙ ap (λ (n : ℕ). take (n - 1) c.loop-range.ranges.items) c.in_default.ensures.cases.0) in
-    none_given l.0 before (tree_state c.loop-range.tree) (subst (λ (v : List Range). AllocatesEach before l.0 v (tree_state c.loop-range.tree)) none l.1)
+    let none : c.loop-range.ranges.items ≡ [] = c.in_default.ensures.items
+    ∙ ap (λ (v : List Range). v ++ [])
+    (c.in_default.ensures.rest ∙ ap (λ (n : ℕ). take (n - 1) c.loop-range.ranges.items) c.in_default.ensures.cases.0) in
+    none_given l.0 before (tree_state c.loop-range.tree)
+    (subst (λ (v : List Range). AllocatesEach before l.0 v (tree_state c.loop-range.tree)) none l.1)
 
 pub returns-clause-parts : goal.returns-clause-parts
 returns-clause-parts c = λ n before requests taken.

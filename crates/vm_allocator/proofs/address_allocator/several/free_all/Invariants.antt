@@ -10,7 +10,9 @@ use Rattle.vm_allocator.proofs.address_allocator.several.free_all.Given as goal
 -- If requests got the ranges, some of them got the ranges that are left. Each range that is freed takes one part.
 abbrev pub invariant-loop-range : goal.invariant-loop-range
 invariant-loop-range l = record {
-  left : (before : AddressState) (requests : List Request) → IsAddressState before → AllocatesEach before requests l.initial.ranges.items (tree_state l.initial.tree) → (ps : List Request) × AllocatesEach before ps l.ranges.items (tree_state l.tree);
+  left : (before : AddressState) (requests : List Request) → IsAddressState before →
+      AllocatesEach before requests l.initial.ranges.items (tree_state l.initial.tree) →
+      (ps : List Request) × AllocatesEach before ps l.ranges.items (tree_state l.tree);
   parts : (n : ℕ) (before : Shape) (requests : List Request) → TakesParts n before requests l.initial.tree →
       (m : ℕ) × (m + length l.ranges.items ≤ n + length l.initial.ranges.items) × TakesParts m before requests l.tree;
 }

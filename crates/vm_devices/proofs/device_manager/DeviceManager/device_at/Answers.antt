@@ -8,4 +8,6 @@ returns-in_err-id c =
     absurd (device_missed c.self.invariant c.in_ok-range.ensures c.id_at.result (rw (← c.start.ensures.value) c.id_at.ensures) is)
 
 pub returns : goal.returns
-returns c = rw (← c.self.view_is) (device_found c.self.invariant c.in_ok-range.ensures (Some c.in_ok-id.id) (rw (← c.start.ensures.value) c.in_ok-id.ensures) c.in_ok-id.id refl)
+returns c = rw (← c.self.view_is)
+    (device_found c.self.invariant c.in_ok-range.ensures (Some c.in_ok-id.id) (rw (← c.start.ensures.value) c.in_ok-id.ensures)
+    c.in_ok-id.id refl)

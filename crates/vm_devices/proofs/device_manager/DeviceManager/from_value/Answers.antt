@@ -24,7 +24,8 @@ pub returns-in_err-devices-clause-answer : goal.returns-in_err-devices-clause-an
 returns-in_err-devices-clause-answer c =
     let e = c.in_err-devices.field-0.0 in
     let is : c.from_residual-in_err-devices.result ≡ Err e = search rules in
-    let refused = subst (λ (list : List Value). ReadsInParts (EncodesDevices (items_view list)) (Err e)) c.deref.ensures.value c.in_err-devices.ensures in
+    let refused = subst (λ (list : List Value). ReadsInParts (EncodesDevices (items_view list)) (Err e)) c.deref.ensures.value
+    c.in_err-devices.ensures in
     rw is (fields_read _ _ (sym c.in-Some.ensures) (Err e) (slots_refused _ e refused))
 
 pub returns-in_err-from_devices-clause-answer : goal.returns-in_err-from_devices-clause-answer
@@ -33,9 +34,11 @@ returns-in_err-from_devices-clause-answer c =
     let is : c.from_residual-in_err-from_devices.result ≡ Err (value_error e) = search rules in
     rw is
     (fields_read _ _ (sym c.in-Some.ensures) (Err (value_error e))
-    (parts_refused _ _ _ _ c.in_ok-ids.ensures.answer c.in_ok-space.ensures.answer (rw (← c.deref.ensures.value) c.in_ok-devices.ensures) e c.in_err-from_devices.ensures.answer))
+    (parts_refused _ _ _ _ c.in_ok-ids.ensures.answer c.in_ok-space.ensures.answer (rw (← c.deref.ensures.value) c.in_ok-devices.ensures) e
+    c.in_err-from_devices.ensures.answer))
 
 pub returns-clause-answer : goal.returns-clause-answer
 returns-clause-answer c =
     fields_read _ _ (sym c.in-Some.ensures) (Ok (device_state c.in_ok-from_devices.field-0))
-    (parts_read _ _ _ _ c.in_ok-ids.ensures.answer c.in_ok-space.ensures.answer (rw (← c.deref.ensures.value) c.in_ok-devices.ensures) (device_state c.in_ok-from_devices.field-0) c.in_ok-from_devices.ensures.answer)
+    (parts_read _ _ _ _ c.in_ok-ids.ensures.answer c.in_ok-space.ensures.answer (rw (← c.deref.ensures.value) c.in_ok-devices.ensures)
+    (device_state c.in_ok-from_devices.field-0) c.in_ok-from_devices.ensures.answer)

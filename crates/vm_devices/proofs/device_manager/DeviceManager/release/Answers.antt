@@ -12,14 +12,17 @@ returns-in_err-free_id-clause-answer c =
     let e = c.in_err-free_id.field-0.0 in
     let is : c.from_residual.result ≡ Err e = search rules in
     let device = ap (λ (v : DevicesInTree). map.get v.devices c.args.id) c.self.view_is ∙ sym c.in-Some.ensures.value in
-    let same = ap (λ (v : IdState). devices_of v (state_of c.self.inside.mmio_allocator) c.self.inside.slots) c.in_err-free_id.ensures.unchanged in
+    let same = ap (λ (v : IdState). devices_of v (state_of c.self.inside.mmio_allocator) c.self.inside.slots)
+    c.in_err-free_id.ensures.unchanged in
     rw (← c.self.view_is, is)
-    (release_refused _ _ c.args.id c.in-Some.range e c.free_id.result c.self.invariant device c.free_id.ensures.held c.in_err-free_id.was same)
+    (release_refused _ _ c.args.id c.in-Some.range e c.free_id.result c.self.invariant device c.free_id.ensures.held c.in_err-free_id.was
+    same)
 
 pub invariant_of-self-2 : goal.invariant_of-self-2
 invariant_of-self-2 c =
     let device = ap (λ (v : DevicesInTree). map.get v.devices c.args.id) c.self.view_is ∙ sym c.in-Some.ensures.value in
-    left_state _ c.args.id c.in-Some.range _ _ _ c.free.result c.self.invariant device c.in_ok-free_id.ensures.freed.1 c.free.ensures.answer c.remove.ensures
+    left_state _ c.args.id c.in-Some.range _ _ _ c.free.result c.self.invariant device c.in_ok-free_id.ensures.freed.1 c.free.ensures.answer
+    c.remove.ensures
 
 pub returns-clause-state : goal.returns-clause-state
 returns-clause-state c = invariant_of-self-2 c
@@ -27,9 +30,15 @@ returns-clause-state c = invariant_of-self-2 c
 pub returns-clause-released : goal.returns-clause-released
 returns-clause-released c =
     let device = ap (λ (v : DevicesInTree). map.get v.devices c.args.id) c.self.view_is ∙ sym c.in-Some.ensures.value in
-    rw (← c.self.view_is) (c.in-Some.range, device, left _ c.args.id c.in-Some.range _ _ _ c.free.result c.self.invariant device c.in_ok-free_id.ensures.freed.1 c.free.ensures.answer c.remove.ensures)
+    rw (← c.self.view_is) (
+      c.in-Some.range,
+      device,
+      left _ c.args.id c.in-Some.range _ _ _ c.free.result c.self.invariant device
+          c.in_ok-free_id.ensures.freed.1 c.free.ensures.answer c.remove.ensures,
+    )
 
 pub returns-clause-answer : goal.returns-clause-answer
 returns-clause-answer c =
     let device = ap (λ (v : DevicesInTree). map.get v.devices c.args.id) c.self.view_is ∙ sym c.in-Some.ensures.value in
-    rw (← c.self.view_is) (gone _ c.args.id c.in-Some.range _ _ _ c.free.result c.self.invariant device c.in_ok-free_id.ensures.freed.1 c.free.ensures.answer c.remove.ensures)
+    rw (← c.self.view_is) (gone _ c.args.id c.in-Some.range _ _ _ c.free.result c.self.invariant device c.in_ok-free_id.ensures.freed.1
+    c.free.ensures.answer c.remove.ensures)

@@ -19,7 +19,8 @@ returns-in_err-range-clause-answer c =
     let is : c.from_residual.result ≡ Err e = search rules in
     let same = ap (λ a. devices_of c.self.inside.id_allocator (state_of a) c.self.inside.slots) c.in_err-range.ensures.unchanged in
     rw (← c.self.view_is, is)
-    (id_peeked _ _ c.args.request c.args.id (state_of c.allocate_constraint.new.self) (Err e) _ (rw (← c.self.view_is) at c.requires) c.in_err-range.ensures.answer (refl, same))
+    (id_peeked _ _ c.args.request c.args.id (state_of c.allocate_constraint.new.self) (Err e) _ (rw (← c.self.view_is) at c.requires)
+    c.in_err-range.ensures.answer (refl, same))
 
 abbrev manager_of : IdState → SpaceInTree → map.FinMap nat_cmp Range → DevicesInTree
 manager_of ids addresses devices = record { ids = ids; addresses = addresses; devices = devices }
@@ -33,37 +34,44 @@ returns-in_err-range-clause-parts c =
 
 pub insert-requires : goal.insert-requires
 insert-requires c =
-    new_device _ (state_of c.allocate_constraint.new.self) c.args.request c.args.id c.in_ok-range.range c.self.invariant (rw (← c.self.view_is) at c.requires) c.in_ok-range.ensures.answer
+    new_device _ (state_of c.allocate_constraint.new.self) c.args.request c.args.id c.in_ok-range.range c.self.invariant
+    (rw (← c.self.view_is) at c.requires) c.in_ok-range.ensures.answer
 
 pub invariant_of-self-in-Err : goal.invariant_of-self-in-Err
 invariant_of-self-in-Err c =
-    undone_state _ c.args.request c.args.id c.in_ok-range.range _ c.self.invariant (rw (← c.self.view_is) at c.requires) c.in_ok-range.ensures.answer _ _ _ c.free.result
+    undone_state _ c.args.request c.args.id c.in_ok-range.range _ c.self.invariant (rw (← c.self.view_is) at c.requires)
+    c.in_ok-range.ensures.answer _ _ _ c.free.result
     c.free.ensures.answer c.in-Err.ensures.err refl
 
 pub returns-in-Err-clause-answer : goal.returns-in-Err-clause-answer
 returns-in-Err-clause-answer c =
     let is : c.into.result ≡ OutOfMemory = search rules in
     rw (← c.self.view_is, is)
-    (undone _ c.args.request c.args.id c.in_ok-range.range _ c.self.invariant (rw (← c.self.view_is) at c.requires) c.in_ok-range.ensures.answer _ _ _ c.free.result
+    (undone _ c.args.request c.args.id c.in_ok-range.range _ c.self.invariant (rw (← c.self.view_is) at c.requires)
+    c.in_ok-range.ensures.answer _ _ _ c.free.result
     c.free.ensures.answer c.in-Err.ensures.err refl)
 
 pub returns-in-Err-clause-parts : goal.returns-in-Err-clause-parts
 returns-in-Err-clause-parts c =
     let is : c.into.result ≡ OutOfMemory = search rules in
-    let freed = freeing_undoes _ _ _ c.args.request c.in_ok-range.range c.free.result c.self.invariant.space c.in_ok-range.ensures.answer c.free.ensures.answer in
+    let freed = freeing_undoes _ _ _ c.args.request c.in_ok-range.range c.free.result c.self.invariant.space c.in_ok-range.ensures.answer
+    c.free.ensures.answer in
     rw (← c.self.view_is, is)
-    (range_returned _ _ c.allocate_constraint.new.self c.args.request c.in_ok-range.range c.free.result freed.0 c.in_ok-range.ensures.part c.free.ensures.part
+    (range_returned _ _ c.allocate_constraint.new.self c.args.request c.in_ok-range.range c.free.result freed.0 c.in_ok-range.ensures.part
+    c.free.ensures.part
     c.free.ensures.unchanged)
 
 pub invariant_of-self-2 : goal.invariant_of-self-2
 invariant_of-self-2 c =
-    entered_state _ c.args.request c.args.id c.in_ok-range.range _ c.self.invariant (rw (← c.self.view_is) at c.requires) c.in_ok-range.ensures.answer _ _ _ c.allocate_id.result
+    entered_state _ c.args.request c.args.id c.in_ok-range.range _ c.self.invariant (rw (← c.self.view_is) at c.requires)
+    c.in_ok-range.ensures.answer _ _ _ c.allocate_id.result
     c.allocate_id.ensures.answer refl c.in_default.ensures.inserted
 
 pub returns-clause-answer : goal.returns-clause-answer
 returns-clause-answer c =
     rw (← c.self.view_is)
-    (entered _ c.args.request c.args.id c.in_ok-range.range _ c.self.invariant (rw (← c.self.view_is) at c.requires) c.in_ok-range.ensures.answer _ _ _ c.allocate_id.result
+    (entered _ c.args.request c.args.id c.in_ok-range.range _ c.self.invariant (rw (← c.self.view_is) at c.requires)
+    c.in_ok-range.ensures.answer _ _ _ c.allocate_id.result
     c.allocate_id.ensures.answer refl c.in_default.ensures.inserted)
 
 pub returns-clause-parts : goal.returns-clause-parts

@@ -14,7 +14,8 @@ returns-in_default-clause-answer c = tree_unread (view c.args.value.now) c.args.
 pub returns-then-not-is_tree_of-clause-answer : goal.returns-then-not-is_tree_of-clause-answer
 returns-then-not-is_tree_of-clause-answer c =
     let read = c.in-Some.ensures in
-    not_tree (view c.args.value.now) c.args.space.now c.in-Some.root read.0 read.1.nodes read.1.stands (sym c.is_tree_of.ensures ∙ c.if-not-is_tree_of.true)
+    not_tree (view c.args.value.now) c.args.space.now c.in-Some.root read.0 read.1.nodes read.1.stands
+    (sym c.is_tree_of.ensures ∙ c.if-not-is_tree_of.true)
 
 pub returns-in_err-held-clause-answer : goal.returns-in_err-held-clause-answer
 returns-in_err-held-clause-answer c =
@@ -27,7 +28,8 @@ pub of_held-requires : goal.of_held-requires
 of_held-requires c =
     let read = c.in-Some.ensures in
     let x = strict_state c.args.space.now c.in-Some.root read.0 read.1.stands (sym c.is_tree_of.ensures ∙ c.if-not-is_tree_of.false) in
-    can_hold_strict c.args.space.now read.0 x.0 _ c.end-end.ensures.range (c.deref.ensures.value ∙ c.in_ok-held.ensures c.in-Some.root read.0 read.1) x.1
+    can_hold_strict c.args.space.now read.0 x.0 _ c.end-end.ensures.range
+    (c.deref.ensures.value ∙ c.in_ok-held.ensures c.in-Some.root read.0 read.1) x.1
 
 pub returns-in_err-of_held-clause-answer : goal.returns-in_err-of_held-clause-answer
 returns-in_err-of_held-clause-answer c =
@@ -40,4 +42,6 @@ pub returns-clause-answer : goal.returns-clause-answer
 returns-clause-answer c =
     let read = c.in-Some.ensures in
     strict_value (view c.args.value.now) c.args.space.now (tree_state c.in_ok-of_held.field-0) read.0 read.1.nodes
-    (strict_made c.args.space.now c.in-Some.root read.0 _ (tree_state c.in_ok-of_held.field-0) read.1.stands (sym c.is_tree_of.ensures ∙ c.if-not-is_tree_of.false) (c.deref.ensures.value ∙ c.in_ok-held.ensures c.in-Some.root read.0 read.1) c.in_ok-of_held.ensures.made)
+    (strict_made c.args.space.now c.in-Some.root read.0 _ (tree_state c.in_ok-of_held.field-0) read.1.stands
+    (sym c.is_tree_of.ensures ∙ c.if-not-is_tree_of.false) (c.deref.ensures.value ∙ c.in_ok-held.ensures c.in-Some.root read.0 read.1)
+    c.in_ok-of_held.ensures.made)

@@ -13,10 +13,13 @@ pub returns-clause-answer : goal.returns-clause-answer
 returns-clause-answer c =
     let s = c.search_of-search.ensures in
     let tree = c.height-height.ensures.tree in
-    let few : IsTestOf c.search_of-search.result.can_split (length (held_of (blocks c.args.tree.now)) < SPLIT_LIMIT_MIN_HELD) = rw s.split c.requires.few in
+    let few : IsTestOf c.search_of-search.result.can_split (length (held_of (blocks c.args.tree.now)) < SPLIT_LIMIT_MIN_HELD) = rw s.split
+    c.requires.few in
     let h = c.allocate_fit.ensures in
-    let policy : c.args.constraint.now.policy ≡ policy_of c.match-policy.end = elim c.match-policy.branch [ in-FirstMatch w ↦ rw w.end-is (sym w.in-FirstMatch.ensures) | in-LastMatch w ↦ rw w.end-is (sym w.in-LastMatch.ensures) ] in
+    let policy : c.args.constraint.now.policy ≡ policy_of c.match-policy.end = elim c.match-policy.branch
+    [ in-FirstMatch w ↦ rw w.end-is (sym w.in-FirstMatch.ensures) | in-LastMatch w ↦ rw w.end-is (sym w.in-LastMatch.ensures) ] in
     let range = space_range c.args.space.now (blocks c.args.tree.now) c.requires.tiling.tiles tree.run.some in
     rw (c.with_error.ensures, ← s.split)
-    (fit_allocation c.args.space.now c.args.tree.now c.allocate_fit.new.self c.requires.tiling.tiles range tree c.args.constraint.now c.search_of-search.result s.request s.search few s.valid c.args.space.now c.allocate_fit.result h.unchanged c.allocate_fit.new.count
+    (fit_allocation c.args.space.now c.args.tree.now c.allocate_fit.new.self c.requires.tiling.tiles range tree c.args.constraint.now
+    c.search_of-search.result s.request s.search few s.valid c.args.space.now c.allocate_fit.result h.unchanged c.allocate_fit.new.count
     c.match-policy.end policy h.answer h.count h.bounds h.path)

@@ -3,4 +3,10 @@ use Rattle.vm_engine.proofs.Trees.CountedTrees.{count_dropped}
 use Rattle.vm_engine.proofs.interval_tree.building.count_blocks.Goals as goal
 
 pub overflow_add-left : goal.overflow_add-left
-overflow_add-left c = omega (arith, c.loop-index.invariant.left, count_dropped c.args.held.now c.loop-index.index, c.start-then-next-start.ensures.value, c.start-then-next-start.type_inv)
+overflow_add-left c = omega (
+  arith,
+  c.loop-index.invariant.left,
+  count_dropped c.args.held.now c.loop-index.index,
+  c.start-then-next-start.ensures.value,
+  c.start-then-next-start.type_inv,
+)

@@ -4,7 +4,8 @@ use Rattle.vm_engine.proofs.Reading.ReadValues.{read_too_deep, read_undecoded, r
 use Rattle.vm_engine.proofs.saved.tree.+read_span.Goals as goal
 
 pub returns-then-depth-ge-MAX_NESTING : goal.returns-then-depth-ge-MAX_NESTING
-returns-then-depth-ge-MAX_NESTING t c = read_too_deep c.args.depth (view c.args.value.now) c.if-depth-ge-MAX_NESTING.true (sym c.if-is_null.ensures)
+returns-then-depth-ge-MAX_NESTING t c = read_too_deep c.args.depth (view c.args.value.now) c.if-depth-ge-MAX_NESTING.true
+    (sym c.if-is_null.ensures)
 
 pub returns-in_default : goal.returns-in_default
 returns-in_default t c = read_undecoded c.args.depth (view c.args.value.now) (sym c.if-is_null.ensures) (sym c.in_default.ensures)
@@ -22,8 +23,11 @@ returns-in_err-right t c =
 pub returns-in_err-span : goal.returns-in_err-span
 returns-in_err-span t c =
     let none : c.from_residual-in_err-span.result ≡ None = search rules in
-    rw none (read_no_span c.args.depth (view c.args.value.now) _ (sym c.in-Some.ensures) c.in_ok-left.left c.in_ok-right.right c.in_ok-left.ensures c.in_ok-right.ensures (sym c.in_err-span.ensures.span))
+    rw none (read_no_span c.args.depth (view c.args.value.now) _ (sym c.in-Some.ensures) c.in_ok-left.left c.in_ok-right.right
+    c.in_ok-left.ensures c.in_ok-right.ensures (sym c.in_err-span.ensures.span))
 
 pub returns : goal.returns
 returns t c =
-    read_one c.args.depth (view c.args.value.now) _ (sym c.in-Some.ensures) c.in_ok-left.left c.in_ok-right.right c.in_ok-left.ensures c.in_ok-right.ensures c.in_ok-span.span (omega (arith, c.if-depth-ge-MAX_NESTING.false)) c.in_ok-span.ensures.range (sym c.in_ok-span.ensures.span)
+    read_one c.args.depth (view c.args.value.now) _ (sym c.in-Some.ensures) c.in_ok-left.left c.in_ok-right.right c.in_ok-left.ensures
+    c.in_ok-right.ensures c.in_ok-span.span (omega (arith, c.if-depth-ge-MAX_NESTING.false)) c.in_ok-span.ensures.range
+    (sym c.in_ok-span.ensures.span)

@@ -11,7 +11,8 @@ use Rattle.vm_ids.proofs.id_allocator.IdAllocator.allocate_ids.Goals as goal
 pub returns-in_err-ids-clause-answer : goal.returns-in_err-ids-clause-answer
 returns-in_err-ids-clause-answer c =
     let is : c.from_residual.result ≡ Err OutOfMemory = search rules in
-    let enough : c.args.count ≤ length (free_ids c.args.self.now) = omega (arith, c.if-free_count-count.false, c.free_count.ensures.value) in
+    let enough : c.args.count ≤ length (free_ids c.args.self.now) = omega
+    (arith, c.if-free_count-count.false, c.free_count.ensures.value) in
     let apart : c.args.count ≡ 0 → ⊥ = λ e. not_ok _ _ c.in_err-ids.was (c.with_capacity.ensures.succeeds e) in
     rw is (ids_no_memory c.args.self.now c.args.count enough (omega (arith, apart)))
 
@@ -29,8 +30,10 @@ loop-init c =
 pub unreachable-requires : goal.unreachable-requires
 unreachable-requires c =
     let v = c.loop.invariant in
-    let few : length c.loop.ids.items < length (free_ids c.args.self.now) = omega (arith, c.loop-test.true, v.taken, c.if-free_count-count.false, c.free_count.ensures.value) in
-    not_ok _ _ c.in_default.is (more_free c.args.self.now c.loop.self c.loop.ids.items c.allocate_id.result v.range v.parts few c.allocate_id.ensures.succeeds)
+    let few : length c.loop.ids.items < length (free_ids c.args.self.now) = omega
+    (arith, c.loop-test.true, v.taken, c.if-free_count-count.false, c.free_count.ensures.value) in
+    not_ok _ _ c.in_default.is (more_free c.args.self.now c.loop.self c.loop.ids.items c.allocate_id.result v.range v.parts few
+    c.allocate_id.ensures.succeeds)
 
 pub unreachable-requires-in_default-push : goal.unreachable-requires-in_default-push
 unreachable-requires-in_default-push c =
@@ -44,7 +47,8 @@ loop-preserved c =
     let held : c.allocate_id.new.self ≡ holding_id c.in-Ok.id c.loop.self = c.in-Ok.ensures.held in
     let items : c.push.new.self.items ≡ c.loop.ids.items ++ c.in-Ok.id ∷ [] = c.in-Ok-push.ensures.items in
     record {
-      parts = taken_more c.args.self.now c.loop.self c.allocate_id.new.self c.loop.ids.items c.in-Ok.id v.range v.parts c.in-Ok.ensures.lowest held
+      parts = taken_more c.args.self.now c.loop.self c.allocate_id.new.self c.loop.ids.items c.in-Ok.id v.range v.parts
+          c.in-Ok.ensures.lowest held
           ∙ ap (λ (xs : List ℕ). xs ++ free_ids c.allocate_id.new.self) (sym items);
       state = held ∙ ap (holding_id c.in-Ok.id) v.state ∙ sym (holding_more c.loop.ids.items c.in-Ok.id c.args.self.now)
           ∙ ap (λ (xs : List ℕ). holding_ids xs c.args.self.now) (sym items);
@@ -65,5 +69,6 @@ returns-clause-held c = c.loop.invariant.state
 
 pub returns-clause-answer : goal.returns-clause-answer
 returns-clause-answer c =
-    let enough : c.args.count ≤ length (free_ids c.args.self.now) = omega (arith, c.if-free_count-count.false, c.free_count.ensures.value) in
+    let enough : c.args.count ≤ length (free_ids c.args.self.now) = omega
+    (arith, c.if-free_count-count.false, c.free_count.ensures.value) in
     ids_taken c.args.self.now c.loop.self c.args.count c.loop.ids.items enough c.loop.invariant.parts (count_taken c) c.loop.invariant.state

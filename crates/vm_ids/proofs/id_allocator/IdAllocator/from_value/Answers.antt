@@ -11,7 +11,8 @@ returns-in_default-clause-answer c = none_encoded (view c.args.value.now) (sym c
 
 pub collect_ids-requires : goal.collect_ids-requires
 collect_ids-requires c =
-    subst (λ (vs : List Value). IsSome (ids_in (items_view vs))) (sym c.deref.ensures.value) (ids_listed_in (view c.args.value.now) _ (sym c.in-Some.ensures))
+    subst (λ (vs : List Value). IsSome (ids_in (items_view vs))) (sym c.deref.ensures.value)
+    (ids_listed_in (view c.args.value.now) _ (sym c.in-Some.ensures))
 
 pub returns-in_err-freed-clause-answer : goal.returns-in_err-freed-clause-answer
 returns-in_err-freed-clause-answer c =
@@ -22,10 +23,13 @@ pub returns-in_err-from_ids-clause-answer : goal.returns-in_err-from_ids-clause-
 returns-in_err-from_ids-clause-answer c =
     let listed : ids_in (items_view c.in-Some.ids.freed.now.items) ≡ Some c.in_ok-freed.freed =
     ap (λ (vs : List Value). ids_in (items_view vs)) (sym c.deref.ensures.value) ∙ c.in_ok-freed.ensures in
-    absurd (state_read (view c.args.value.now) (c.in-Some.ids.base, c.in-Some.ids.next, c.in-Some.ids.end, items_view c.in-Some.ids.freed.now.items) c.in_ok-freed.freed (Err c.in_err-from_ids.field-0.0) (sym c.in-Some.ensures) listed c.in_err-from_ids.ensures.answer)
+    absurd (state_read (view c.args.value.now)
+    (c.in-Some.ids.base, c.in-Some.ids.next, c.in-Some.ids.end, items_view c.in-Some.ids.freed.now.items) c.in_ok-freed.freed
+    (Err c.in_err-from_ids.field-0.0) (sym c.in-Some.ensures) listed c.in_err-from_ids.ensures.answer)
 
 pub returns-clause-answer : goal.returns-clause-answer
 returns-clause-answer c =
     let listed : ids_in (items_view c.in-Some.ids.freed.now.items) ≡ Some c.in_ok-freed.freed =
     ap (λ (vs : List Value). ids_in (items_view vs)) (sym c.deref.ensures.value) ∙ c.in_ok-freed.ensures in
-    state_read (view c.args.value.now) (c.in-Some.ids.base, c.in-Some.ids.next, c.in-Some.ids.end, items_view c.in-Some.ids.freed.now.items) c.in_ok-freed.freed (Ok c.in_ok-from_ids.field-0) (sym c.in-Some.ensures) listed c.in_ok-from_ids.ensures.answer
+    state_read (view c.args.value.now) (c.in-Some.ids.base, c.in-Some.ids.next, c.in-Some.ids.end, items_view c.in-Some.ids.freed.now.items)
+    c.in_ok-freed.freed (Ok c.in_ok-from_ids.field-0) (sym c.in-Some.ensures) listed c.in_ok-from_ids.ensures.answer

@@ -3,7 +3,20 @@ use Rattle.std.proofs.lemmas.List.{take_all}
 use Rattle.vm_ids.specs.Ids.{MAX_ID, new_ids}
 use Rattle.vm_ids.specs.IdRequests.{fault_of_held, holding_ids}
 use Rattle.vm_ids.proofs.Ids.IdResults.{id_states_are_preserved}
-use Rattle.vm_ids.proofs.Ids.WithHeld.{checked_error, checked_right, made_state, made_error, held_refused, held_no_memory, held_made, none_yet, one_more_held, skips_bound, new_held_state, new_held_error}
+use Rattle.vm_ids.proofs.Ids.WithHeld.{
+  checked_error,
+  checked_right,
+  made_state,
+  made_error,
+  held_refused,
+  held_no_memory,
+  held_made,
+  none_yet,
+  one_more_held,
+  skips_bound,
+  new_held_state,
+  new_held_error,
+}
 use Rattle.vm_ids.proofs.id_allocator.IdAllocator.with_held.Goals as goal
 
 pub returns-in_err-ids-clause-answer : goal.returns-in_err-ids-clause-answer
@@ -15,7 +28,8 @@ pub returns-in_err-check_held-clause-answer : goal.returns-in_err-check_held-cla
 returns-in_err-check_held-clause-answer c =
     let made = made_state c.args.range_base c.args.range_end c.in_ok-ids.ids c.in_ok-ids.ensures.answer in
     let is : c.from_residual-in_err-check_held.result ≡ Err c.in_err-check_held.field-0.0 = search rules in
-    let fault = checked_error (fault_of_held c.args.range_base c.args.range_end c.args.range_base c.args.held.now) c.check_held.result c.in_err-check_held.field-0.0 c.in_err-check_held.was c.check_held.ensures in
+    let fault = checked_error (fault_of_held c.args.range_base c.args.range_end c.args.range_base c.args.held.now) c.check_held.result
+    c.in_err-check_held.field-0.0 c.in_err-check_held.was c.check_held.ensures in
     rw is (held_refused c.args.range_base c.args.range_end c.args.held.now c.in_err-check_held.field-0.0 made.1 fault)
 
 pub loop-id-init : goal.loop-id-init
@@ -23,33 +37,43 @@ loop-id-init c =
     let made = made_state c.args.range_base c.args.range_end c.in_ok-ids.ids c.in_ok-ids.ensures.answer in
     let word : c.args.range_end ≤ MAX_ID = omega (arith, c.ranges.range_end) in
     let valid = id_states_are_preserved.made c.args.range_base c.args.range_end c.in_ok-ids.ids word c.in_ok-ids.ensures.answer in
-    let right = checked_right (fault_of_held c.args.range_base c.args.range_end c.args.range_base c.args.held.now) c.check_held.result c.in_ok-check_held.was c.check_held.ensures in
+    let right = checked_right (fault_of_held c.args.range_base c.args.range_end c.args.range_base c.args.held.now) c.check_held.result
+    c.in_ok-check_held.was c.check_held.ensures in
     none_yet c.args.range_base c.args.range_end c.args.held.now c.in_ok-ids.ids made.0 valid right
 
 pub returns-in_err-allocate_new-clause-answer : goal.returns-in_err-allocate_new-clause-answer
 returns-in_err-allocate_new-clause-answer c =
     let made = made_state c.args.range_base c.args.range_end c.in_ok-ids.ids c.in_ok-ids.ensures.answer in
-    let right = checked_right (fault_of_held c.args.range_base c.args.range_end c.args.range_base c.args.held.now) c.check_held.result c.in_ok-check_held.was c.check_held.ensures in
+    let right = checked_right (fault_of_held c.args.range_base c.args.range_end c.args.range_base c.args.held.now) c.check_held.result
+    c.in_ok-check_held.was c.check_held.ensures in
     let is : c.from_residual-in_err-allocate_new.result ≡ Err c.in_err-allocate_new.field-0.0 = search rules in
-    let memory = new_held_error c.loop-id.ids _ _ c.allocate_new.result c.in_err-allocate_new.field-0.0 c.in_err-allocate_new.was c.allocate_new.ensures in
-    let skips = skips_bound c.args.range_base c.args.range_end c.loop-id.id-index _ c.args.held.now c.loop-id.ids c.loop-id-test.true refl c.loop-id.invariant memory.0 in
+    let memory = new_held_error c.loop-id.ids _ _ c.allocate_new.result c.in_err-allocate_new.field-0.0 c.in_err-allocate_new.was
+    c.allocate_new.ensures in
+    let skips = skips_bound c.args.range_base c.args.range_end c.loop-id.id-index _ c.args.held.now c.loop-id.ids c.loop-id-test.true refl
+    c.loop-id.invariant memory.0 in
     rw (is, memory.1) (held_no_memory c.args.range_base c.args.range_end c.args.held.now made.1 right skips)
 
 pub returns-in_err-allocate_new-clause-succeeds : goal.returns-in_err-allocate_new-clause-succeeds
 returns-in_err-allocate_new-clause-succeeds c = λ l none fits.
-    let memory = new_held_error c.loop-id.ids _ _ c.allocate_new.result c.in_err-allocate_new.field-0.0 c.in_err-allocate_new.was c.allocate_new.ensures in
-    absurd (fits (skips_bound c.args.range_base c.args.range_end c.loop-id.id-index _ c.args.held.now c.loop-id.ids c.loop-id-test.true refl c.loop-id.invariant memory.0))
+    let memory = new_held_error c.loop-id.ids _ _ c.allocate_new.result c.in_err-allocate_new.field-0.0 c.in_err-allocate_new.was
+    c.allocate_new.ensures in
+    absurd (fits (skips_bound c.args.range_base c.args.range_end c.loop-id.id-index _ c.args.held.now c.loop-id.ids c.loop-id-test.true refl
+    c.loop-id.invariant memory.0))
 
 pub loop-id-preserved : goal.loop-id-preserved
 loop-id-preserved c =
-    let new = new_held_state c.loop-id.ids c.allocate_new.new.self _ c.allocate_new.result c.in_ok-allocate_new.field-0 c.in_ok-allocate_new.was c.allocate_new.ensures in
-    one_more_held c.args.range_base c.args.range_end c.loop-id.id-index _ c.args.held.now c.loop-id.ids c.allocate_new.new.self c.loop-id-test.true refl c.loop-id.invariant new
+    let new = new_held_state c.loop-id.ids c.allocate_new.new.self _ c.allocate_new.result c.in_ok-allocate_new.field-0
+    c.in_ok-allocate_new.was c.allocate_new.ensures in
+    one_more_held c.args.range_base c.args.range_end c.loop-id.id-index _ c.args.held.now c.loop-id.ids c.allocate_new.new.self
+    c.loop-id-test.true refl c.loop-id.invariant new
 
 pub returns-clause-answer : goal.returns-clause-answer
 returns-clause-answer c =
     let made = made_state c.args.range_base c.args.range_end c.in_ok-ids.ids c.in_ok-ids.ensures.answer in
-    let right = checked_right (fault_of_held c.args.range_base c.args.range_end c.args.range_base c.args.held.now) c.check_held.result c.in_ok-check_held.was c.check_held.ensures in
-    let all : take c.loop-id.id-index c.args.held.now ≡ c.args.held.now = take_all c.loop-id.id-index c.args.held.now c.loop-id-test.false in
+    let right = checked_right (fault_of_held c.args.range_base c.args.range_end c.args.range_base c.args.held.now) c.check_held.result
+    c.in_ok-check_held.was c.check_held.ensures in
+    let all : take c.loop-id.id-index c.args.held.now
+    ≡ c.args.held.now = take_all c.loop-id.id-index c.args.held.now c.loop-id-test.false in
     held_made c.args.range_base c.args.range_end c.args.held.now c.loop-id.ids made.1 right
     (c.loop-id.invariant.so_far ∙ ap (λ (xs : List ℕ). holding_ids xs (new_ids c.args.range_base c.args.range_end)) all)
 

@@ -16,7 +16,8 @@ returns-in_err-ends c =
       next = sym c.next_in.ensures ∙ c.in_ok-next.was;
       freed = sym c.in_ok-freed.ensures;
     } in
-    let e = ap (λ (vs : List Value). option_map ends_of (ids_in (items_view vs))) (sym c.deref.ensures.value) ∙ sym c.ends_in.ensures ∙ c.in_err-ends.was in
+    let e = ap (λ (vs : List Value). option_map ends_of (ids_in (items_view vs))) (sym c.deref.ensures.value) ∙ sym c.ends_in.ensures
+    ∙ c.in_err-ends.was in
     let none : decoded_ids (view c.args.value.now) ≡ None = no_ids (view c.args.value.now) p parts e in
     rw (none, c.from_residual-in_err-ends.ensures) refl
 
@@ -30,8 +31,11 @@ returns-in_err-ok c =
       next = sym c.next_in.ensures ∙ c.in_ok-next.was;
       freed = sym c.in_ok-freed.ensures;
     } in
-    let e = ap (λ (vs : List Value). option_map ends_of (ids_in (items_view vs))) (sym c.deref.ensures.value) ∙ sym c.ends_in.ensures ∙ c.in_ok-ends.was in
-    let none : decoded_ids (view c.args.value.now) ≡ None = parts_refused (view c.args.value.now) p c.in_ok-ends.ends c.check_parts.result parts e c.check_parts.ensures c.in_err-ok.ensures.value in
+    let e = ap (λ (vs : List Value). option_map ends_of (ids_in (items_view vs))) (sym c.deref.ensures.value) ∙ sym c.ends_in.ensures
+    ∙ c.in_ok-ends.was in
+    let none : decoded_ids (view c.args.value.now)
+    ≡ None = parts_refused (view c.args.value.now) p c.in_ok-ends.ends c.check_parts.result parts e c.check_parts.ensures
+    c.in_err-ok.ensures.value in
     rw (none, c.from_residual-in_err-ok.ensures) refl
 
 pub returns : goal.returns
@@ -44,5 +48,7 @@ returns c =
       next = sym c.next_in.ensures ∙ c.in_ok-next.was;
       freed = sym c.in_ok-freed.ensures;
     } in
-    let e = ap (λ (vs : List Value). option_map ends_of (ids_in (items_view vs))) (sym c.deref.ensures.value) ∙ sym c.ends_in.ensures ∙ c.in_ok-ends.was in
-    parts_accepted (view c.args.value.now) p c.in_ok-ends.ends c.check_parts.result c.in_ok-ok.field-0 parts e c.check_parts.ensures c.in_ok-ok.ensures.value
+    let e = ap (λ (vs : List Value). option_map ends_of (ids_in (items_view vs))) (sym c.deref.ensures.value) ∙ sym c.ends_in.ensures
+    ∙ c.in_ok-ends.was in
+    parts_accepted (view c.args.value.now) p c.in_ok-ends.ends c.check_parts.result c.in_ok-ok.field-0 parts e c.check_parts.ensures
+    c.in_ok-ok.ensures.value

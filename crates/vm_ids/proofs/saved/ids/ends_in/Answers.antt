@@ -16,7 +16,8 @@ returns-in_err-ends_with c =
     let id = u32-some c.in_ok-as_u64.field-0 c.in_ok-id.id (sym c.u32_from.ensures ∙ c.in_ok-id.was) in
     let w : whole_number (view c.item-item.result) ≡ Some c.in_ok-id.id = sym c.as_u64.ensures ∙ c.in_ok-as_u64.was ∙ ap Some id.0 in
     let none : ids_in (items_view c.args.list.now) ≡ None =
-    low_id c.loop-item.item-index c.in_ok-id.id c.args.list.now c.item-item.result so_far.ids c.loop-item-test.true c.item-item.is w so_far.ends.0 (c.in_err-ends_with.ensures so_far.ids so_far.ends) so_far.so_far in
+    low_id c.loop-item.item-index c.in_ok-id.id c.args.list.now c.item-item.result so_far.ids c.loop-item-test.true c.item-item.is w
+    so_far.ends.0 (c.in_err-ends_with.ensures so_far.ids so_far.ends) so_far.so_far in
     rw none c.from_residual-in_err-ends_with.ensures
 
 pub loop-item-preserved : goal.loop-item-preserved
@@ -28,5 +29,6 @@ loop-item-preserved c =
     record {
       ids = _;
       ends = ends;
-      so_far = one_gathered c.loop-item.item-index c.in_ok-id.id c.args.list.now c.item-item.result so_far.ids c.loop-item-test.true c.item-item.is w id.1 ends.0 so_far.so_far;
+      so_far = one_gathered c.loop-item.item-index c.in_ok-id.id c.args.list.now c.item-item.result so_far.ids c.loop-item-test.true
+          c.item-item.is w id.1 ends.0 so_far.so_far;
     }

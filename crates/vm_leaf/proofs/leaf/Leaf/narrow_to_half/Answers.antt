@@ -27,6 +27,10 @@ returns-else-middle-len c =
       from = c.requires.from;
       upto = λ l.
           let s = start_is c.self.inside c.args.self.now i c.self.invariant c.self.told c.self.view_is l in
-          omega (arith, not_both_true i c.self.inside.len (get_or c.self.inside.starts i 0) c.args.address c.if-middle-len.false (omega arith));
+          omega (
+            arith,
+            not_both_true i c.self.inside.len (get_or c.self.inside.starts i 0) c.args.address c.if-middle-len.false
+                (omega arith),
+          );
       bound = omega arith;
     }

@@ -10,7 +10,11 @@ returns-then-i-len c =
     let within : c.args.i < length c.args.self.now = omega (arith, h.0) in
     record {
       bound = omega arith;
-      some = λ _. (within, omega (arith, h.1, start_is c.self.inside c.args.self.now c.args.i c.self.invariant c.self.told c.self.view_is within));
+      some = λ _. (
+        within,
+        omega
+            (arith, h.1, start_is c.self.inside c.args.self.now c.args.i c.self.invariant c.self.told c.self.view_is within),
+      );
       none = λ z. absurd (omega arith);
     }
 
@@ -23,5 +27,9 @@ returns-else-i-len c =
       some = λ z. absurd (omega arith);
       none = λ _ l.
           let s = start_is c.self.inside c.args.self.now c.args.i c.self.invariant c.self.told c.self.view_is l in
-          omega (arith, not_both_true c.args.i c.self.inside.len (get_or c.self.inside.starts c.args.i 0) c.args.address c.if-i-len.false (omega arith));
+          omega (
+            arith,
+            not_both_true c.args.i c.self.inside.len (get_or c.self.inside.starts c.args.i 0) c.args.address c.if-i-len.false
+                (omega arith),
+          );
     }

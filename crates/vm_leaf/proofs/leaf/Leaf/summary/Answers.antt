@@ -18,14 +18,17 @@ pub loop-gaps-init : goal.loop-gaps-init
 loop-gaps-init c = record { index = 0; within = omega arith; rest = c.gaps-gaps.ensures; summed = none_summed c.args.self.now }
 
 pub start_at-start-requires : goal.start_at-start-requires
-start_at-start-requires c = lowest_within c.args.self.now c.loop-gaps.invariant.index _ c.loop-gaps.gaps 0 c.loop-gaps.invariant.rest c.lowest_one-i.ensures
+start_at-start-requires c = lowest_within c.args.self.now c.loop-gaps.invariant.index _ c.loop-gaps.gaps 0 c.loop-gaps.invariant.rest
+    c.lowest_one-i.ensures
 
 pub end_at-end-requires : goal.end_at-end-requires
-end_at-end-requires c = lowest_within c.args.self.now c.loop-gaps.invariant.index _ c.loop-gaps.gaps 0 c.loop-gaps.invariant.rest c.lowest_one-i.ensures
+end_at-end-requires c = lowest_within c.args.self.now c.loop-gaps.invariant.index _ c.loop-gaps.gaps 0 c.loop-gaps.invariant.rest
+    c.lowest_one-i.ensures
 
 range_at : (c : goal.After-end_at-end) → IsRange c.start_at-start.result c.end_at-end.result
 range_at c =
-    let l = lowest_within c.args.self.now c.loop-gaps.invariant.index _ c.loop-gaps.gaps 0 c.loop-gaps.invariant.rest c.lowest_one-i.ensures in
+    let l = lowest_within c.args.self.now c.loop-gaps.invariant.index _ c.loop-gaps.gaps 0 c.loop-gaps.invariant.rest
+    c.lowest_one-i.ensures in
     rw (c.start_at-start.ensures, c.end_at-end.ensures) (leaf_range c.args.self.now c.lowest_one-i.result c.len-len.ensures.leaf l)
 
 pub overflow_sub-end : goal.overflow_sub-end
@@ -48,13 +51,17 @@ loop-gaps-preserved c =
     let n : ℕ = 1 + (c.end_at-end.result - c.start_at-start.result) in
     let m : c.max-longest.result ≡ max c.loop-gaps.longest n = grind (arith, common_steps) in
     let long : n ≡ address_count (nth bs j).key = omega (arith, c.start_at-start.ensures, c.end_at-end.ensures) in
-    let reached : IsBitLength c.reach-reached.result (alignment_count (nth bs j).key) = rw (c.start_at-start.ensures, c.end_at-end.ensures) at c.reach-reached.ensures in
-    let before = skipped bs h.index j c.loop-gaps.longest c.loop-gaps.reached f (omega (arith, l)) (held_between bs h.index j c.loop-gaps.gaps 0 h.rest low) h.summed in
-    let one = summed bs j c.loop-gaps.longest c.loop-gaps.reached c.reach-reached.result n (nth bs j).key l (h.rest.free j low.one) refl long reached before in
+    let reached : IsBitLength c.reach-reached.result (alignment_count (nth bs j).key) = rw (c.start_at-start.ensures, c.end_at-end.ensures)
+    at c.reach-reached.ensures in
+    let before = skipped bs h.index j c.loop-gaps.longest c.loop-gaps.reached f (omega (arith, l))
+    (held_between bs h.index j c.loop-gaps.gaps 0 h.rest low) h.summed in
+    let one = summed bs j c.loop-gaps.longest c.loop-gaps.reached c.reach-reached.result n (nth bs j).key l (h.rest.free j low.one) refl
+    long reached before in
     record {
       index = j + 1;
       within = omega (arith, l);
-      rest = gaps_behind bs h.index j c.loop-gaps.gaps c.without_lowest-gaps.result h.rest low c.without_lowest-gaps.ensures.less (c.without_lowest-gaps.ensures.above j low);
+      rest = gaps_behind bs h.index j c.loop-gaps.gaps c.without_lowest-gaps.result h.rest low c.without_lowest-gaps.ensures.less
+          (c.without_lowest-gaps.ensures.above j low);
       summed = rw m one;
     }
 
@@ -62,6 +69,8 @@ pub returns : goal.returns
 returns c =
     let bs = c.args.self.now in
     let h = c.loop-gaps.invariant in
-    let end = skipped bs h.index (length bs) c.loop-gaps.longest c.loop-gaps.reached h.within (omega arith) (no_gap_left bs h.index c.loop-gaps.gaps h.rest (omega arith)) h.summed in
-    let all = all_summed bs (length bs) c.loop-gaps.longest c.loop-gaps.reached c.bit_length.result (omega arith) end c.bit_length.ensures in
+    let end = skipped bs h.index (length bs) c.loop-gaps.longest c.loop-gaps.reached h.within (omega arith)
+    (no_gap_left bs h.index c.loop-gaps.gaps h.rest (omega arith)) h.summed in
+    let all = all_summed bs (length bs) c.loop-gaps.longest c.loop-gaps.reached c.bit_length.result (omega arith) end
+    c.bit_length.ensures in
     record { longest = all.0; alignments = all.1 }

@@ -7,14 +7,20 @@ overflow_sub-self c =
     let s = c.self.inside in
     let w = c.write_digits-start in
     let room : s.length ≤ length s.bytes = omega (arith, c.self.invariant, c.self.told) in
-    omega (arith, w.ensures.within, twenty_more s.bytes c.args.self.now w.new.digits s.length w.result w.ensures.within w.array_long room (c.self.view_is ∙ c.extend_from_slice.ensures))
+    omega (
+      arith,
+      w.ensures.within,
+      twenty_more s.bytes c.args.self.now w.new.digits s.length w.result w.ensures.within w.array_long room
+          (c.self.view_is ∙ c.extend_from_slice.ensures),
+    )
 
 pub returns-clause-text : goal.returns-clause-text
 returns-clause-text c =
     let s = c.self.inside in
     let w = c.write_digits-start in
     let room : s.length ≤ length s.bytes = omega (arith, c.self.invariant, c.self.told) in
-    cut_back s.bytes c.args.self.now w.new.digits s.length w.result w.ensures.within w.array_long room (c.self.view_is ∙ c.extend_from_slice.ensures)
+    cut_back s.bytes c.args.self.now w.new.digits s.length w.result w.ensures.within w.array_long room
+    (c.self.view_is ∙ c.extend_from_slice.ensures)
     ∙ ap (λ text. c.args.self.now ++ text) w.ensures.text
 
 pub returns-clause-room : goal.returns-clause-room
@@ -22,6 +28,7 @@ returns-clause-room c =
     let s = c.self.inside in
     let w = c.write_digits-start in
     let room : s.length ≤ length s.bytes = omega (arith, c.self.invariant, c.self.told) in
-    let sum = twenty_more s.bytes c.args.self.now w.new.digits s.length w.result w.ensures.within w.array_long room (c.self.view_is ∙ c.extend_from_slice.ensures) in
+    let sum = twenty_more s.bytes c.args.self.now w.new.digits s.length w.result w.ensures.within w.array_long room
+    (c.self.view_is ∙ c.extend_from_slice.ensures) in
     let count = length-take-le (s.length - w.result) s.bytes (omega arith) in
     omega (arith, count, sum)

@@ -8,7 +8,20 @@ use Rattle.vm_tree.specs.declared.end.End.TheVariants.{First, Last}
 use Rattle.vm_tree.proofs.Trees.{high}
 use Rattle.vm_tree.proofs.Allocating.{run_allocated}
 use Rattle.vm_tree.proofs.AllocatedTrees.{same_if_err, subtree_left, subtree_right, grown_height, can_update_stored, grown_by, answered_tall}
-use Rattle.vm_tree.proofs.Searched.{closest_allocated, closest_start, closest_found, none_closest, near_found, far_searched, nodes_within, nodes_found, nodes_missed, child_passed, passed_nodes, entered}
+use Rattle.vm_tree.proofs.Searched.{
+  closest_allocated,
+  closest_start,
+  closest_found,
+  none_closest,
+  near_found,
+  far_searched,
+  nodes_within,
+  nodes_found,
+  nodes_missed,
+  child_passed,
+  passed_nodes,
+  entered,
+}
 use Rattle.vm_tree.proofs.allocate.fit.+fit_at.Goals as goal
 
 -- ---- The whole subtree
@@ -20,7 +33,8 @@ fit_at-fit_below-answer-requires t c =
 
 pub fit_at-update-taken-requires-clause-node : goal.fit_at-update-taken-requires-clause-node
 fit_at-update-taken-requires-clause-node t c =
-    (grown_height c.in-Ok.taken.change c.deref_mut-node.result.now c.fit_below-answer.new.node (rw c.in-Ok.is at c.fit_below-answer.ensures.change).0).0
+    (grown_height c.in-Ok.taken.change c.deref_mut-node.result.now c.fit_below-answer.new.node
+    (rw c.in-Ok.is at c.fit_below-answer.ensures.change).0).0
 
 pub fit_at-update-taken-requires-clause-can : goal.fit_at-update-taken-requires-clause-can
 fit_at-update-taken-requires-clause-can t c =
@@ -30,7 +44,8 @@ fit_at-update-taken-requires-clause-can t c =
     let z = c.requires.search.some in
     let grew = (rw c.in-Ok.is at c.fit_below-answer.ensures.change).0 in
     let found = rw c.in-Ok.is at c.fit_below-answer.ensures.answer in
-    let run = run_allocated c.args.search.now (blocks n) (blocks c.fit_below-answer.new.node) c.in-Ok.taken tree.run (closest_allocated c.args.end c.args.search.now (blocks n) (blocks c.fit_below-answer.new.node) c.in-Ok.taken z found) in
+    let run = run_allocated c.args.search.now (blocks n) (blocks c.fit_below-answer.new.node) c.in-Ok.taken tree.run
+    (closest_allocated c.args.end c.args.search.now (blocks n) (blocks c.fit_below-answer.new.node) c.in-Ok.taken z found) in
     can_update_stored c.in-Ok.taken.change n c.fit_below-answer.new.node c.in-Fork.longest c.in-Fork.alignments c.in-Fork.height
     (rw c.deref_mut-node.ensures.value (rw c.in-Fork.is at c.requires.tree.summed)) grew tree run
 
@@ -38,14 +53,21 @@ pub fit_at-update-taken-requires-clause-height_fits : goal.fit_at-update-taken-r
 fit_at-update-taken-requires-clause-height_fits t c =
     let e : side c.args.tree.now ≡ c.deref_mut-node.result.now = ap side c.in-Fork.is ∙ sym c.deref_mut-node.ensures.value in
     let h = ap height_of e in
-    omega (arith, (grown_height c.in-Ok.taken.change c.deref_mut-node.result.now c.fit_below-answer.new.node (rw c.in-Ok.is at c.fit_below-answer.ensures.change).0).1)
+    omega (
+      arith,
+      (grown_height c.in-Ok.taken.change c.deref_mut-node.result.now c.fit_below-answer.new.node
+          (rw c.in-Ok.is at c.fit_below-answer.ensures.change).0).1,
+    )
 
 pub fit_at-returns-in-Ok-clause-change : goal.fit_at-returns-in-Ok-clause-change
 fit_at-returns-in-Ok-clause-change t c =
     let n = c.deref_mut-node.result.now in
     let e : side c.args.tree.now ≡ n = ap side c.in-Fork.is ∙ sym c.deref_mut-node.ensures.value in (
-      grown_by c.in-Ok.taken.change c.update-taken.result (side c.args.tree.now) n c.fit_below-answer.new.node (side c.update-taken.new.tree) c.in-Fork.longest c.in-Fork.alignments c.in-Fork.height e
-          (rw c.deref_mut-node.ensures.value (rw c.in-Fork.is at c.requires.tree.summed)) (rw c.in-Ok.is at c.fit_below-answer.ensures.change).0 (subst IsSubtree e c.requires.tree.subtree) c.update-taken.ensures.tree c.update-taken.ensures.reported c.update-taken.ensures.changed,
+      grown_by c.in-Ok.taken.change c.update-taken.result (side c.args.tree.now) n c.fit_below-answer.new.node
+          (side c.update-taken.new.tree) c.in-Fork.longest c.in-Fork.alignments c.in-Fork.height e
+          (rw c.deref_mut-node.ensures.value (rw c.in-Fork.is at c.requires.tree.summed))
+          (rw c.in-Ok.is at c.fit_below-answer.ensures.change).0 (subst IsSubtree e c.requires.tree.subtree) c.update-taken.ensures.tree
+          c.update-taken.ensures.reported c.update-taken.ensures.changed,
       λ z. c.update-taken.ensures.steady ((rw c.in-Ok.is at c.fit_below-answer.ensures.change).1 z),
     )
 
@@ -62,7 +84,9 @@ fit_below-fit_in_child-requires t c =
     let h = ap height_of c.node.view_is in
     let l = high (side c.node.inside.left) in
     let e : c.fit_in_child-answer.new.node ≡ c.args.node.now = rw c.if-has_no_place.ensures at c.fit_in_child-answer.ensures.change in
-    let none : HasNoPlace c.args.search.now (blocks (child_at c.args.end c.args.node.now)) = none_closest c.args.end c.args.search.now (blocks (child_at c.args.end c.args.node.now)) (blocks (child_at c.args.end c.fit_in_child-answer.new.node)) (rw c.if-has_no_place.ensures at c.fit_in_child-answer.ensures.answer) in
+    let none : HasNoPlace c.args.search.now (blocks (child_at c.args.end c.args.node.now)) = none_closest c.args.end c.args.search.now
+    (blocks (child_at c.args.end c.args.node.now)) (blocks (child_at c.args.end c.fit_in_child-answer.new.node))
+    (rw c.if-has_no_place.ensures at c.fit_in_child-answer.ensures.answer) in
     let n = nodes_missed c.args.search.now c.requires.search c.args.end c.args.node.now (omega arith) c.requires.may_fit none in
     rw (e, c.opposite.ensures) (omega arith, (c.requires.search, (c.requires.tree, omega (arith, c.fit_in_child-answer.ensures.count))))
 
@@ -71,16 +95,22 @@ fit_below-returns-then-has_no_place-clause-answer t c =
     let h = ap height_of c.node.view_is in
     let l = high (side c.node.inside.left) in
     let e : c.fit_in_child-answer.new.node ≡ c.args.node.now = rw c.if-has_no_place.ensures at c.fit_in_child-answer.ensures.change in
-    let none : HasNoPlace c.args.search.now (blocks (child_at c.args.end c.args.node.now)) = none_closest c.args.end c.args.search.now (blocks (child_at c.args.end c.args.node.now)) (blocks (child_at c.args.end c.fit_in_child-answer.new.node)) (rw c.if-has_no_place.ensures at c.fit_in_child-answer.ensures.answer) in
-    let tall = answered_tall c.fit_in_child.result c.args.node.now c.fit_in_child.new.node (omega arith) (rw e at c.fit_in_child.ensures.change) in
-    far_searched c.args.search.now c.args.end c.args.node.now c.fit_in_child.new.node c.fit_in_child.result (omega arith) tall none (rw (e, c.opposite.ensures) at c.fit_in_child.ensures.same) (rw (e, c.opposite.ensures) at c.fit_in_child.ensures.answer)
+    let none : HasNoPlace c.args.search.now (blocks (child_at c.args.end c.args.node.now)) = none_closest c.args.end c.args.search.now
+    (blocks (child_at c.args.end c.args.node.now)) (blocks (child_at c.args.end c.fit_in_child-answer.new.node))
+    (rw c.if-has_no_place.ensures at c.fit_in_child-answer.ensures.answer) in
+    let tall = answered_tall c.fit_in_child.result c.args.node.now c.fit_in_child.new.node (omega arith)
+    (rw e at c.fit_in_child.ensures.change) in
+    far_searched c.args.search.now c.args.end c.args.node.now c.fit_in_child.new.node c.fit_in_child.result (omega arith) tall none
+    (rw (e, c.opposite.ensures) at c.fit_in_child.ensures.same) (rw (e, c.opposite.ensures) at c.fit_in_child.ensures.answer)
 
 pub fit_below-returns-then-has_no_place-clause-count : goal.fit_below-returns-then-has_no_place-clause-count
 fit_below-returns-then-has_no_place-clause-count t c =
     let h = ap height_of c.node.view_is in
     let l = high (side c.node.inside.left) in
     let e : c.fit_in_child-answer.new.node ≡ c.args.node.now = rw c.if-has_no_place.ensures at c.fit_in_child-answer.ensures.change in
-    let none : HasNoPlace c.args.search.now (blocks (child_at c.args.end c.args.node.now)) = none_closest c.args.end c.args.search.now (blocks (child_at c.args.end c.args.node.now)) (blocks (child_at c.args.end c.fit_in_child-answer.new.node)) (rw c.if-has_no_place.ensures at c.fit_in_child-answer.ensures.answer) in
+    let none : HasNoPlace c.args.search.now (blocks (child_at c.args.end c.args.node.now)) = none_closest c.args.end c.args.search.now
+    (blocks (child_at c.args.end c.args.node.now)) (blocks (child_at c.args.end c.fit_in_child-answer.new.node))
+    (rw c.if-has_no_place.ensures at c.fit_in_child-answer.ensures.answer) in
     let n = nodes_missed c.args.search.now c.requires.search c.args.end c.args.node.now (omega arith) c.requires.may_fit none in
     let m = rw (e, c.opposite.ensures) at c.fit_in_child.ensures.count in
     omega (arith, c.fit_in_child-answer.ensures.count)
@@ -89,14 +119,17 @@ pub fit_below-returns-clause-answer : goal.fit_below-returns-clause-answer
 fit_below-returns-clause-answer t c =
     let h = ap height_of c.node.view_is in
     let l = high (side c.node.inside.left) in
-    let tall = answered_tall c.fit_in_child-answer.result c.args.node.now c.fit_in_child-answer.new.node (omega arith) c.fit_in_child-answer.ensures.change in
-    near_found c.args.search.now c.args.end c.args.node.now c.fit_in_child-answer.new.node c.fit_in_child-answer.result (omega arith) tall c.if-has_no_place.ensures c.fit_in_child-answer.ensures.same c.fit_in_child-answer.ensures.answer
+    let tall = answered_tall c.fit_in_child-answer.result c.args.node.now c.fit_in_child-answer.new.node (omega arith)
+    c.fit_in_child-answer.ensures.change in
+    near_found c.args.search.now c.args.end c.args.node.now c.fit_in_child-answer.new.node c.fit_in_child-answer.result (omega arith) tall
+    c.if-has_no_place.ensures c.fit_in_child-answer.ensures.same c.fit_in_child-answer.ensures.answer
 
 pub fit_below-returns-clause-count : goal.fit_below-returns-clause-count
 fit_below-returns-clause-count t c =
     let h = ap height_of c.node.view_is in
     let l = high (side c.node.inside.left) in
-    let found = closest_found c.args.end c.args.search.now c.requires.search (blocks (child_at c.args.end c.args.node.now)) _ c.fit_in_child-answer.result c.if-has_no_place.ensures c.fit_in_child-answer.ensures.answer in
+    let found = closest_found c.args.end c.args.search.now c.requires.search (blocks (child_at c.args.end c.args.node.now)) _
+    c.fit_in_child-answer.result c.if-has_no_place.ensures c.fit_in_child-answer.ensures.answer in
     let n = nodes_found c.args.search.now c.requires.search c.args.end c.args.node.now (omega arith) c.requires.may_fit found in
     omega (arith, c.fit_in_child-answer.ensures.count)
 
@@ -105,29 +138,49 @@ pub fit_in_child-returns-then-not-may_enter-clause-answer : goal.fit_in_child-re
 fit_in_child-returns-then-not-may_enter-clause-answer t c =
     let h = ap height_of c.node.view_is in
     let l = high (side c.node.inside.left) in
-    inl (child_passed c.args.search.now c.requires.search c.args.child c.args.node.now (omega arith) c.requires.tree (sym c.may_enter.ensures ∙ c.if-not-may_enter.true), refl)
+    inl (
+      child_passed c.args.search.now c.requires.search c.args.child c.args.node.now (omega arith) c.requires.tree
+          (sym c.may_enter.ensures ∙ c.if-not-may_enter.true),
+      refl,
+    )
 
 pub fit_in_child-returns-then-not-may_enter-clause-count : goal.fit_in_child-returns-then-not-may_enter-clause-count
 fit_in_child-returns-then-not-may_enter-clause-count t c =
-    omega (arith, passed_nodes c.args.search.now c.requires.search c.args.child c.args.end c.args.node.now (sym c.may_enter.ensures ∙ c.if-not-may_enter.true))
+    omega (
+      arith,
+      passed_nodes c.args.search.now c.requires.search c.args.child c.args.end c.args.node.now
+          (sym c.may_enter.ensures ∙ c.if-not-may_enter.true),
+    )
 
 pub fit_in_child-fit_at-requires : goal.fit_in_child-fit_at-requires
 fit_in_child-fit_at-requires t c =
     let q : c.args.node.now ≡ Fork (side c.node.inside.left) (side c.node.inside.right) = sym c.node.view_is in
     let tree : IsSubtree (Fork (side c.node.inside.left) (side c.node.inside.right)) = subst IsSubtree q c.requires.tree in
     let h = ap height_of q in
-    let n = entered c.args.search.now c.requires.search First c.args.end (Fork (side c.node.inside.left) (side c.node.inside.right)) (rw (c.in-First.is, q) at (sym c.may_enter.ensures ∙ c.if-not-may_enter.false)) in
-    let f = rw (c.in-First.is, q) at c.requires.count_fits in
-    (omega arith, (c.requires.search, (record { subtree = subtree_left _ _ tree; summed = c.node.invariant.summed.left }, (n.0, omega (arith, n.1)))))
+    let n = entered c.args.search.now c.requires.search First c.args.end (Fork (side c.node.inside.left) (side c.node.inside.right))
+    (rw (c.in-First.is, q) at (sym c.may_enter.ensures ∙ c.if-not-may_enter.false)) in
+    let f = rw (c.in-First.is, q) at c.requires.count_fits in (
+      omega arith,
+      (
+        c.requires.search,
+        (record { subtree = subtree_left _ _ tree; summed = c.node.invariant.summed.left }, (n.0, omega (arith, n.1))),
+      ),
+    )
 
 pub fit_in_child-fit_at-requires-in-Last : goal.fit_in_child-fit_at-requires-in-Last
 fit_in_child-fit_at-requires-in-Last t c =
     let q : c.args.node.now ≡ Fork (side c.node.inside.left) (side c.node.inside.right) = sym c.node.view_is in
     let tree : IsSubtree (Fork (side c.node.inside.left) (side c.node.inside.right)) = subst IsSubtree q c.requires.tree in
     let h = ap height_of q in
-    let n = entered c.args.search.now c.requires.search Last c.args.end (Fork (side c.node.inside.left) (side c.node.inside.right)) (rw (c.in-Last.is, q) at (sym c.may_enter.ensures ∙ c.if-not-may_enter.false)) in
-    let f = rw (c.in-Last.is, q) at c.requires.count_fits in
-    (omega arith, (c.requires.search, (record { subtree = subtree_right _ _ tree; summed = c.node.invariant.summed.right }, (n.0, omega (arith, n.1)))))
+    let n = entered c.args.search.now c.requires.search Last c.args.end (Fork (side c.node.inside.left) (side c.node.inside.right))
+    (rw (c.in-Last.is, q) at (sym c.may_enter.ensures ∙ c.if-not-may_enter.false)) in
+    let f = rw (c.in-Last.is, q) at c.requires.count_fits in (
+      omega arith,
+      (
+        c.requires.search,
+        (record { subtree = subtree_right _ _ tree; summed = c.node.invariant.summed.right }, (n.0, omega (arith, n.1))),
+      ),
+    )
 
 pub fit_in_child-invariant_of-node-in-Last : goal.fit_in_child-invariant_of-node-in-Last
 fit_in_child-invariant_of-node-in-Last t c =
@@ -136,7 +189,8 @@ fit_in_child-invariant_of-node-in-Last t c =
     let tree : IsSubtree (Fork l r) = subst IsSubtree (sym c.node.view_is) c.requires.tree in
     let new = side c.fit_at-in-Last.new.tree in
     let e = c.fit_at-in-Last.ensures in
-    let same = closest_start c.args.end c.args.search.now r new c.fit_at-in-Last.result c.requires.search.some (subtree_right l r tree).run e.answer (same_if_err c.fit_at-in-Last.result r new e.change) in
+    let same = closest_start c.args.end c.args.search.now r new c.fit_at-in-Last.result c.requires.search.some (subtree_right l r tree).run
+    e.answer (same_if_err c.fit_at-in-Last.result r new e.change) in
     record { at = c.node.invariant.at ∙ sym same; summed = record { left = c.node.invariant.summed.left; right = e.summed } }
 
 pub fit_in_child-returns-in-First-clause-answer : goal.fit_in_child-returns-in-First-clause-answer
@@ -148,7 +202,8 @@ fit_in_child-returns-in-First-clause-same t c = rw (c.in-First.is, ← c.node.vi
 pub fit_in_child-returns-in-First-clause-count : goal.fit_in_child-returns-in-First-clause-count
 fit_in_child-returns-in-First-clause-count t c =
     let q : c.args.node.now ≡ Fork (side c.node.inside.left) (side c.node.inside.right) = sym c.node.view_is in
-    let n = entered c.args.search.now c.requires.search First c.args.end (Fork (side c.node.inside.left) (side c.node.inside.right)) (rw (c.in-First.is, q) at (sym c.may_enter.ensures ∙ c.if-not-may_enter.false)) in
+    let n = entered c.args.search.now c.requires.search First c.args.end (Fork (side c.node.inside.left) (side c.node.inside.right))
+    (rw (c.in-First.is, q) at (sym c.may_enter.ensures ∙ c.if-not-may_enter.false)) in
     rw (c.in-First.is, q) (omega (arith, c.fit_at.ensures.count, n.1))
 
 pub fit_in_child-returns-in-Last-clause-answer : goal.fit_in_child-returns-in-Last-clause-answer
@@ -160,5 +215,6 @@ fit_in_child-returns-in-Last-clause-same t c = rw (c.in-Last.is, ← c.node.view
 pub fit_in_child-returns-in-Last-clause-count : goal.fit_in_child-returns-in-Last-clause-count
 fit_in_child-returns-in-Last-clause-count t c =
     let q : c.args.node.now ≡ Fork (side c.node.inside.left) (side c.node.inside.right) = sym c.node.view_is in
-    let n = entered c.args.search.now c.requires.search Last c.args.end (Fork (side c.node.inside.left) (side c.node.inside.right)) (rw (c.in-Last.is, q) at (sym c.may_enter.ensures ∙ c.if-not-may_enter.false)) in
+    let n = entered c.args.search.now c.requires.search Last c.args.end (Fork (side c.node.inside.left) (side c.node.inside.right))
+    (rw (c.in-Last.is, q) at (sym c.may_enter.ensures ∙ c.if-not-may_enter.false)) in
     rw (c.in-Last.is, q) (omega (arith, c.fit_at-in-Last.ensures.count, n.1))

@@ -9,7 +9,8 @@ invariant_of-self c =
     let e = c.exact_in_leaf.ensures in
     let old = c.self.inside.root in
     let new = c.exact_in_leaf.new.tree in
-    let a = exact_allocates c.args.search.now c.requires.search (blocks (side old)) (blocks (side new)) c.exact_in_leaf.result c.args.start e.answer in
+    let a = exact_allocates c.args.search.now c.requires.search (blocks (side old)) (blocks (side new)) c.exact_in_leaf.result c.args.start
+    e.answer in
     lone_after c.args.search.now old new c.self.invariant c.exact_in_leaf.result a e.left.0 e.left.1 e.left.2
 
 pub invariant_of-self-in-Fork : goal.invariant_of-self-in-Fork

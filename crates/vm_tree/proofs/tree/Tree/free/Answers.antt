@@ -8,7 +8,9 @@ pub invariant_of-self-in-Fork : goal.invariant_of-self-in-Fork
 invariant_of-self-in-Fork c =
     let d = c.in_ok-freed-in-Fork.freed in
     let e = c.in_ok-freed-in-Fork.ensures in
-    freed_root c.args.key.now d.change d.joined c.self.inside.root c.free_at.new.tree c.in-Fork._node.value (ap side c.in-Fork.is) c.self.invariant e.freed.0 e.freed.1 e.summed
+    freed_root c.args.key.now d.change d.joined c.self.inside.root c.free_at.new.tree c.in-Fork._node.value (ap side c.in-Fork.is)
+    c.self.invariant e.freed.0 e.freed.1 e.summed
 
 pub returns-in_ok-gap-in-Leaf-clause-exact : goal.returns-in_ok-gap-in-Leaf-clause-exact
-returns-in_ok-gap-in-Leaf-clause-exact c = rw (← c.self.view_is, c.in-Leaf.is) (omega (arith, free_leaf c.args.key.now c.in-Leaf.leaf.value, c.enter.ensures, c.requires.count))
+returns-in_ok-gap-in-Leaf-clause-exact c = rw (← c.self.view_is, c.in-Leaf.is)
+    (omega (arith, free_leaf c.args.key.now c.in-Leaf.leaf.value, c.enter.ensures, c.requires.count))

@@ -5,5 +5,6 @@ use Rattle.vm_devices.proofs.device_manager.saved.slots.encode_slots.Goals as go
 
 pub loop-device-preserved : goal.loop-device-preserved
 loop-device-preserved c =
-    encodes_more EncodesDevice entry_of c.loop-device.list.items c.push.new.self.items c.in_ok-slot.slot c.loop-device.yielded c.in-Some.device
+    encodes_more EncodesDevice entry_of c.loop-device.list.items c.push.new.self.items c.in_ok-slot.slot c.loop-device.yielded
+    c.in-Some.device
     c.in_ok-push.ensures.items c.in_ok-slot.ensures c.loop-device.invariant

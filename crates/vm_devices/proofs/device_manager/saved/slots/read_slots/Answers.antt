@@ -12,10 +12,12 @@ returns-in_err-push c =
     let e = c.in_err-push.field-0.0 in
     let is : c.from_residual.result ≡ Err (value_error e) = search rules in
     rw is
-    (push_refused c.args.list.now c.loop-item.item-index c.item-item.result c.loop-item-test.true c.item-item.is c.loop-item.devices c.in-Some.device c.loop-item.invariant (sym c.in-Some.ensures)
+    (push_refused c.args.list.now c.loop-item.item-index c.item-item.result c.loop-item-test.true c.item-item.is c.loop-item.devices
+    c.in-Some.device c.loop-item.invariant (sym c.in-Some.ensures)
     e c.push.new.self c.in_err-push.ensures)
 
 pub loop-item-preserved : goal.loop-item-preserved
 loop-item-preserved c =
-    one_read c.args.list.now c.loop-item.item-index c.item-item.result c.loop-item-test.true c.item-item.is c.loop-item.devices c.in-Some.device c.loop-item.invariant (sym c.in-Some.ensures)
+    one_read c.args.list.now c.loop-item.item-index c.item-item.result c.loop-item-test.true c.item-item.is c.loop-item.devices
+    c.in-Some.device c.loop-item.invariant (sym c.in-Some.ensures)
     c.push.new.self c.in_ok-push.ensures

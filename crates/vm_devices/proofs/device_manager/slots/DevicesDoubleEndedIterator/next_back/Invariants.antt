@@ -4,7 +4,8 @@ use Rattle.vm_devices.proofs.device_manager.slots.DevicesDoubleEndedIterator.nex
 
 abbrev pub invariant-loop-slot : goal.invariant-loop-slot
 invariant-loop-slot l = record {
-  left : slot_entries l.self-inside.next_id l.self-inside.slots.now ≡ slot_entries l.initial.self-inside.next_id l.initial.self-inside.slots.now;
+  left : slot_entries l.self-inside.next_id l.self-inside.slots.now
+      ≡ slot_entries l.initial.self-inside.next_id l.initial.self-inside.slots.now;
   count : l.self-inside.left ≡ length (slot_entries l.self-inside.next_id l.self-inside.slots.now);
   ids : l.self-inside.next_id + length l.self-inside.slots.now ≤ 2 ^ 32;
 }

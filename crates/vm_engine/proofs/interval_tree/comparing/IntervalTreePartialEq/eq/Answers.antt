@@ -6,7 +6,8 @@ use Rattle.vm_engine.proofs.interval_tree.comparing.IntervalTreePartialEq.eq.Goa
 
 -- The result of the test.
 same : (c : goal.After-eq) → IsTrue c.eq.result ↔ (blocks c.args.self.now ≡ blocks c.args.other.now)
-same c = rw (← c.blocks-2.ensures.value, ← c.blocks-3.ensures.value) (tested_blocks _ _ c.eq.result (rw (← c.compare_blocks.ensures) (search rules)))
+same c = rw (← c.blocks-2.ensures.value, ← c.blocks-3.ensures.value)
+    (tested_blocks _ _ c.eq.result (rw (← c.compare_blocks.ensures) (search rules)))
 
 pub returns-clause-blocks : goal.returns-clause-blocks
 returns-clause-blocks c = same c

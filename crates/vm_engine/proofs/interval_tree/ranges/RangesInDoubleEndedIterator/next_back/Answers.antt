@@ -8,7 +8,8 @@ returns-then-eq-clause-goes c =
     let left = ranges_with c.loop-block.self-inside.state c.next_back.new.self in
     let state : c.in-Some.block.state ≡ c.loop-block.self-inside.state = search rules in
     let last : ranges_with c.loop-block.self-inside.state c.loop-block.self-inside.blocks ≡ left ++ c.in-Some.block.key ∷ [] =
-    ap (ranges_with c.loop-block.self-inside.state) c.in-Some.ensures.steps ∙ last_with c.loop-block.self-inside.state c.next_back.new.self c.in-Some.block state in
+    ap (ranges_with c.loop-block.self-inside.state) c.in-Some.ensures.steps
+    ∙ last_with c.loop-block.self-inside.state c.next_back.new.self c.in-Some.block state in
     let all : c.args.self.now ≡ left ++ c.in-Some.block.key ∷ [] = sym c.self.view_is ∙ sym c.loop-block.invariant.ranges ∙ last in
     let fewer : length left < length c.args.self.now = rw all (omega (arith, length-append left (c.in-Some.block.key ∷ []))) in
     record { on = λ _. (tt, tt, fewer); keeps = tt; rests = λ _. tt }

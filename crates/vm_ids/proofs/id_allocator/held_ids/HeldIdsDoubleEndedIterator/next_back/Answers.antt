@@ -18,10 +18,15 @@ returns-then-ne c =
     let h = c.loop-self.invariant in
     let visit = visits_last _ _ c.loop-self-test.true _ _ _ (last_freed_below _ _ _ _ c.if-ne.ensures h.valid.to_bound) h.valid in
     let last = sym c.self.view_is ∙ sym h.same ∙ visit.2 in
-    record { steps = last; goes = record { on = λ _. (tt, tt, omega (arith, ap length last ∙ length_push _ _)); keeps = tt; rests = λ _. tt } }
+    record {
+      steps = last;
+      goes = record
+          { on = λ _. (tt, tt, omega (arith, ap length last ∙ length_push _ _)); keeps = tt; rests = λ _. tt };
+    }
 
 pub loop-self-preserved : goal.loop-self-preserved
 loop-self-preserved c =
     let h = c.loop-self.invariant in
-    let s = passes_last _ _ c.loop-self-test.true _ _ _ _ (last_freed_passed _ _ _ _ _ _ c.if-ne.ensures c.copied-self-inside.ensures c.next_back.ensures.steps) h.valid in
+    let s = passes_last _ _ c.loop-self-test.true _ _ _ _
+    (last_freed_passed _ _ _ _ _ _ c.if-ne.ensures c.copied-self-inside.ensures c.next_back.ensures.steps) h.valid in
     record { valid = s.0; same = sym s.1 ∙ h.same }

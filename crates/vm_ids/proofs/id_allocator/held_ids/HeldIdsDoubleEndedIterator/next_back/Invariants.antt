@@ -5,8 +5,11 @@ use Rattle.vm_ids.proofs.id_allocator.held_ids.HeldIdsDoubleEndedIterator.next_b
 -- The ids that are left do not change.
 abbrev pub invariant-loop-self : goal.invariant-loop-self
 invariant-loop-self l = record {
-  valid : AreIdsLeft l.self-inside.next l.self-inside.bound (freed_from l.self-inside.next_freed l.self-inside.freed_above) (freed_to l.self-inside.freed_below l.self-inside.last_freed) l.self-inside.left;
-  same : ids_left l.self-inside.next l.self-inside.bound (freed_from l.self-inside.next_freed l.self-inside.freed_above) ≡ ids_left l.initial.self-inside.next l.initial.self-inside.bound (freed_from l.initial.self-inside.next_freed l.initial.self-inside.freed_above);
+  valid : AreIdsLeft l.self-inside.next l.self-inside.bound (freed_from l.self-inside.next_freed l.self-inside.freed_above)
+      (freed_to l.self-inside.freed_below l.self-inside.last_freed) l.self-inside.left;
+  same : ids_left l.self-inside.next l.self-inside.bound (freed_from l.self-inside.next_freed l.self-inside.freed_above)
+      ≡ ids_left l.initial.self-inside.next l.initial.self-inside.bound
+      (freed_from l.initial.self-inside.next_freed l.initial.self-inside.freed_above);
 }
 
 abbrev pub decreases-loop-self : goal.decreases-loop-self

@@ -22,5 +22,6 @@ returns-then-ne c =
 pub loop-self-preserved : goal.loop-self-preserved
 loop-self-preserved c =
     let h = c.loop-self.invariant in
-    let s = passes_first _ _ c.loop-self-test.true _ _ _ _ (next_freed_passed _ _ _ _ _ _ c.if-ne.ensures c.copied-self-inside.ensures c.next.ensures.steps) h.valid in
+    let s = passes_first _ _ c.loop-self-test.true _ _ _ _
+    (next_freed_passed _ _ _ _ _ _ c.if-ne.ensures c.copied-self-inside.ensures c.next.ensures.steps) h.valid in
     record { valid = s.0; same = sym s.1 ∙ h.same }
