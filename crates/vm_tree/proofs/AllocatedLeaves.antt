@@ -1,15 +1,6 @@
 -- A leaf in which a range is allocated.
-use Rattle.std.specs.Prelude.{◌⊎◌, List, None, Ok, Err}
-use Rattle.std.proofs.Common.{◌≡◌, ◌≢◌, Bool, true, false, ◌<◌, ◌≤◌, length, subst, sym, ap, arith, inl, inr}
-use Rattle.vm_ranges.specs.Range.{Range}
-use Rattle.vm_leaf.specs.declared.block.Block.{Block}
-use Rattle.vm_leaf.specs.Rest.{IsRest, added_by}
-use Rattle.vm_leaf.specs.declared.leaf.rest.Rest.{Rest}
-use Rattle.vm_leaf.specs.declared.leaf.rest.Rest.TheVariants.{Nothing, Before, After, Both}
-use Rattle.vm_tree.specs.Allocation.{IsSplitAt}
-use Rattle.vm_tree.specs.Placing.{in_list, IsPlaceFor, RefusesPlace}
-use Rattle.vm_tree.specs.declared.allocate.place.Place.{Place}
-use Rattle.vm_tree.specs.declared.search.Search.{Search}
+use Rattle.std.specs.Prelude.{Ok, Err}
+use Rattle.std.proofs.Common.{◌≡◌, ◌≢◌, Bool, true, false, ◌<◌, ◌≤◌, length, subst, sym, ap, arith}
 use Rattle.vm_tree.specs.Shape.{blocks, height_of, IsTree}
 use Rattle.vm_tree.specs.Links.{side, IsSummed}
 use Rattle.vm_tree.specs.Growth.{Grows, GrowsBy, CanTakeFrom, IsTakenLeaf, LeavesLeaf}
@@ -29,25 +20,6 @@ module _ (lone : Bool) (change : Change) (old new : Link) where
   taken_summed e g n s = rw e (g, n, s)
 
 pub ruleset taking = (taken_lone, taken_summed)
-
--- The parts that stay free are before or after the range.
-splits_if : (rest : Rest) (k r : Range) → IsRest rest k r → 0 < added_by rest → (k.start < r.start) ⊎ (r.end < k.end)
-splits_if Nothing k r h z = absurd (omega arith)
-splits_if Before k r h z = inl h.0
-splits_if After k r h z = inr h.1
-splits_if Both k r h z = inl h.0
-
-pub no_memory : (seek : Search) (bs : List Block) (place : Place) → IsPlaceFor seek.size bs place → RefusesPlace seek place None →
-    0 < added_by place.rest → IsSplitAt seek (in_list bs place) × (seek.can_split ≡ true)
-no_memory seek bs place p h z =
-    let end = ap (λ (r : Range). r.end) p.sized in (
-      record {
-        below = omega (arith, h.0, end);
-        splits = elim (splits_if place.rest place.gap place.range p.inside.rest z)
-            [ inl l ↦ inl l | inr l ↦ inr (omega (arith, l, end)) ];
-      },
-      h.1 z,
-    )
 
 pub leaf_some : (lone : Bool) (old : Link) → CanTakeFrom lone old → 0 < length (blocks (side old))
 leaf_some true old h = rooted_some (side old) h.leaves
@@ -76,6 +48,6 @@ module _ (lone : Bool) (old new : Link) (leaf : height_of (side old) < 2) where
       by_lone true = (tt, (record { balanced = g.balanced; leaves = full_rooted (side new) g.full }, omega (arith, g.upto)), λ k. s)
       by_lone false = ((record { grows = g; higher = λ k. omega (arith, leaf, h); kept = rw e tt }, λ k. absurd (omega arith)), s)
 
-pub ruleset placing = (left_same, left_taken, left_split, no_memory)
+pub ruleset placing = (left_same, left_taken, left_split)
 
 pub ruleset choosing = (leaf_some, left_same)
