@@ -86,7 +86,7 @@ EDITS = [
     (FIELD, f"    #[cfg(any())]\n{FIELD}", "an attribute in code"),
     (FIELD, f"    pub {FIELD.strip()}", "a public field of 'RangeInclusive'"),
     ("    ghost Value = { Range };", "    fn f() {}", "a member of Model that is no ghost"),
-    ("`cmp` names it: by start, then by end.", "By start.\n#![path = \"x\"]", "an attribute ''"),
+    ("in the order of their starts, then of their ends.", "by start.\n#![path = \"x\"]", "an attribute ''"),
 ]
 EDITS_OF_TESTS = [
     item("#[test] fn f(x: u64) {}", "other parameters than 'rt'"),

@@ -505,13 +505,14 @@ static void give_null(void) {
         CHECK(dvs_ids_allocate((dvs_id_allocator *)objects[1], NULL, i) == DVS_NULL);
         CHECK(dvs_address_allocator_allocate_all((dvs_address_allocator *)objects[0], NULL, i,
                                                  results.ranges, NULL, NULL) == DVS_NULL);
-        CHECK(dvs_address_allocator_allocate_all((dvs_address_allocator *)objects[0], worst, i, NULL,
-                                                 NULL, NULL) == DVS_NULL);
-        CHECK(dvs_id_allocator_with_held(0, 9, NULL, i, (dvs_id_allocator **)&made, NULL) == DVS_NULL);
+        CHECK(dvs_address_allocator_allocate_all((dvs_address_allocator *)objects[0], worst, i,
+                                                 NULL, NULL, NULL) == DVS_NULL);
+        CHECK(dvs_id_allocator_with_held(0, 9, NULL, i, (dvs_id_allocator **)&made, NULL) ==
+              DVS_NULL);
         CHECK(dvs_address_allocator_with_held(0, 9, NULL, i, (dvs_address_allocator **)&made, NULL,
                                               NULL) == DVS_NULL);
-        CHECK(dvs_address_allocator_with_free(NULL, i, (dvs_address_allocator **)&made, NULL, NULL) ==
-                  DVS_NULL &&
+        CHECK(dvs_address_allocator_with_free(NULL, i, (dvs_address_allocator **)&made, NULL,
+                                              NULL) == DVS_NULL &&
               made == NULL);
     }
     dvs_text_destroy(NULL);

@@ -90,7 +90,8 @@ static void allocate_in_windows() {
     CHECK(!space.allocate(request::last(0x10, 1).within(low).within({0, UINT32_MAX}), range));
     CHECK(is_range(range, 0x3ff0, 0x3fff));
     CHECK(!space.allocate(request::first(0x10, 1), range) && is_range(range, 0x1000, 0x100f));
-    CHECK(!space.allocate(request::first(0x10, 1).within({0x2800, 0x2fff}).within({0x1000, 0x17ff}), range));
+    CHECK(!space.allocate(request::first(0x10, 1).within({0x2800, 0x2fff}).within({0x1000, 0x17ff}),
+                          range));
     CHECK(is_range(range, 0x1010, 0x101f));
     CHECK(!space.allocate({{0x20, 0x20, 0, DVS_LAST, &low}}, range));
     CHECK(is_range(range, 0x1fc0, 0x1fdf));
@@ -889,10 +890,12 @@ static void count_all_and_none() {
     dvs_range range;
     uint64_t held = 9, free = 9, gaps = 9;
 
-    CHECK(!ids.make(5, 6) && !ids.id_count(held) && !ids.free_count(free) && held == 0 && free == 2);
+    CHECK(!ids.make(5, 6) && !ids.id_count(held) && !ids.free_count(free) && held == 0 &&
+          free == 2);
     CHECK(!ids.allocate_all(list));
     CHECK(!ids.id_count(held) && !ids.free_count(free) && held == 2 && free == 0);
-    CHECK(!space.make(5, 2) && !space.range_count(held) && !space.gap_count(gaps) && !space.free_length(free));
+    CHECK(!space.make(5, 2) && !space.range_count(held) && !space.gap_count(gaps) &&
+          !space.free_length(free));
     CHECK(held == 0 && gaps == 1 && free == 2);
     CHECK(!space.allocate_first(2, 1, range) && !space.range_count(held) && !space.gap_count(gaps));
     CHECK(!space.free_length(free) && held == 1 && gaps == 0 && free == 0);
