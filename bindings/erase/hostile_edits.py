@@ -10,6 +10,7 @@ import os
 import pathlib
 import re
 import shutil
+import subprocess
 import sys
 import tempfile
 
@@ -18,6 +19,7 @@ import erase
 # All edits are in a file of a crate that needs no other crate.
 RANGE = "crates/vm_ranges/src/range.rt"
 CLAUSE, BODY = "ensures { result ≡ address_count self.now }", "        1 + (self.end - self.start)"
+PROGRAM = "program: vm_ranges\n"
 IMPL, IMPORT, FIELD = "impl RangeInclusive {", "use std::cmp::Ordering;", "    start: u64,\n    end"
 
 
@@ -56,11 +58,15 @@ EDITS = [
         "impl Eq for String {}", "impl From<String> for RangeInclusive {}", "fn f(x: String) { 1 }",
         "fn f() -> String { 1 }", "const Y: String = 1;", "struct X { x: String }", "struct X<T: String> {}")],
     *each(item, "Box BTreeMap Iterator Ord Ordering Value u64 u8x16", "struct WORD {}", "a definition of 'WORD'"),
-    *each(item, "cfg(any()) cfg_attr(test,inline) must_use path=\"x\" repr(u8) test", "#[WORD]", "an attribute '"),
+    *each(item, "cfg(any()) cfg(all(test,unix)) cfg_attr(test,inline) must_use path=\"x\" repr(u8) test", "#[WORD]",
+          "an attribute '"),
     *each(item, "async extern macro_rules trait union unsafe", "WORD X {}", "an item 'WORD'"),
     *each(item, "Add AsRef Deref Display From Serialize", "#[derive(WORD)] struct X {}", "a derive of 'WORD'"),
     *each(item, "AsRef Clone Default Deref Drop Hash Read", "impl WORD for X {}", "an impl of 'WORD'"),
     statement("requires { f }", "a clause outside of a signature"),
+    item("fn f(x: u64 requires { g }) { 1 }", "a clause outside of a signature"),
+    item("//! A page.", "documentation of the file behind an item"),
+    item("#[inline] ghost use X;", "'ghost' in code"),
     statement("thiserror::Error;", "'thiserror' in code"),
     statement("#[inline]", "an attribute in code"),
     statement("law();\n        1\n    }\n}\nfn law() {}\nimpl RangeInclusive {\n    fn f() {", "a function 'law'"),
@@ -68,12 +74,13 @@ EDITS = [
     *[edit for code in ("WORD;", "(WORD);", "f(x, WORD::y);") for edit in each(
         statement, "async await dyn extern f64 gen i8 i128 isize union unsafe yield", code, "'WORD' in code")],
     *each(statement, "const enum fn impl mod pub static struct type use", "WORD;", "an item 'WORD' in code"),
-    *each(statement, "assert!(1) cfg![1] dbg!{1} env!(1) include!(1) panic!{} vec![1]", "WORD;", "a macro '"),
+    *each(statement, "assert!(1) cfg![1] dbg!{1} env!(1) include!(1) json!(1) panic!{} vec![1]", "WORD;", "a macro '"),
     *each(statement, "serde_json::from_str std::cmp::Reverse std::mem::take", "WORD;", "is in no table"),
     *each(statement, "Cell Rc String Wrapping", "let x: WORD = self.end;", "a type 'WORD'"),
     *each(statement, "as_mut drain expect map pow rev swap wrapping_sub", "self.end.WORD(1);", "a method 'WORD'"),
     *each(statement, "Ordering drop max panic swap transmute", "WORD(self.end);", "a function 'WORD'"),
-    *each(statement, "Box::leak Ord::max Value::String Vec::from u64::MIN", "WORD(self.end);", "a path 'WORD'"),
+    *each(statement, "Box::leak Ord::max Ordering::reverse Value::String Vec::from u64::MIN", "WORD(self.end);",
+          "a path 'WORD'"),
     *each(statement, "RangeInclusive _", "self.end as WORD;", "'as WORD'"),
     statement("u64::from::<u64>(self.end);", "'u64' in code"),
     statement("1 + ghost x = { f };", "'ghost' in code"),
@@ -96,14 +103,17 @@ EDITS_OF_TESTS = [
 ]
 
 
+def write_crates(project, program):
+    pathlib.Path(project, "crates.txt").write_text(f"vm_ranges: serde_json thiserror\n{program}", "utf-8")
+
+
 def error_of(project, old, new, is_of_tests):
     """Returns the error of the eraser for an edit of a crate that a program needs, or that only tests need."""
     source, text = pathlib.Path(project, RANGE), pathlib.Path(project, RANGE).read_bytes().decode()
     if text.count(old) != 1:
         return f"{text.count(old)} places instead of one"
     source.write_bytes(text.replace(old, new).encode())
-    program = "" if is_of_tests else "program: vm_ranges\n"
-    pathlib.Path(project, "crates.txt").write_text(f"vm_ranges: serde_json thiserror\n{program}", "utf-8")
+    write_crates(project, "" if is_of_tests else PROGRAM)
     try:
         erase.Project(project, is_of_tests)
     except erase.Refused as refused:
@@ -111,6 +121,24 @@ def error_of(project, old, new, is_of_tests):
     finally:
         source.write_bytes(text.encode())
     return "it is accepted"
+
+
+def faults_of_program(project, out):
+    """Returns what is wrong with erase.py as a program: its status and message for an edit, and a module that no
+    source has any more."""
+    source, old = pathlib.Path(project, RANGE), pathlib.Path(out, "vm_ranges", "old.rs")
+    write_crates(project, PROGRAM)
+    text, command = source.read_text("utf-8"), [sys.executable, erase.__file__, project, out]
+    source.write_text(text.replace(IMPL, f"struct X(u64);\n{IMPL}"), "utf-8")
+    refused = subprocess.run(command, text=True, capture_output=True, check=False)
+    line = text[:text.index(IMPL)].count("\n") + 1
+    faults = [] if refused.returncode == 1 and f"{RANGE}:{line}: a type without braces" in refused.stderr else [
+        f"erase.py ends with {refused.returncode} and {refused.stderr!r}"]
+    source.write_text(text, "utf-8")
+    old.parent.mkdir(parents=True)
+    old.touch()
+    erased = subprocess.run(command, text=True, capture_output=True, check=False)
+    return faults + ["an old module remains"] * (erased.returncode != 0 or old.exists())
 
 
 def unused(project):
@@ -132,7 +160,8 @@ def main():
         shutil.copytree(os.path.join(sys.argv[1], crate), os.path.join(project, crate))
         found = [(new, error_of(project, old, new, is_of_tests), reason)
                  for edits, is_of_tests in ((EDITS, False), (EDITS_OF_TESTS, True)) for old, new, reason in edits]
-    wrong = [f"{new}: {why}, instead of: {reason}" for new, why, reason in found if reason not in why]
+        wrong = faults_of_program(project, os.path.join(project, "out"))
+    wrong += [f"{new}: {why}, instead of: {reason}" for new, why, reason in found if reason not in why]
     wrong += [f"{name} is in a table of the eraser, and no source uses it" for name in unused(sys.argv[1])]
     print(*wrong, f"{len(found)} hostile edits, {len(wrong)} faults", sep="\n")
     sys.exit(len(wrong) > 0)
