@@ -1063,7 +1063,7 @@ static void refuse_fields(void) {
     }
 }
 
-/* Puts each byte behind a backslash, in a key and in a value. Eight of them are escapes. */
+/* Puts each byte but 0 behind a backslash, in a key and in a value. Nine of them are escapes. */
 static void escape_each_byte(void) {
     static const char *const texts[] = {"{\"\\?0041\":1}", "{\"range_base\":\"\\?0041\"}"};
     int i, byte;
