@@ -220,7 +220,7 @@ impl AddressAllocator {
         // A request that fills its gap needs no memory, so it succeeds.
         ensures filling { (start : ℕ) → FillsGap (state_of self.old) request start → IsOk result }
 
-        // Each result under its exact condition. The nodes are those of the counted call.
+        // Each result under its exact condition. The tree is one that the counted call leaves.
         ensures answer { Allocates (state_of self.old) request result (state_of self.new) }
         ensures part { (count : ℕ) × HasParts self.old.tree (Allocating request result count ∷ []) self.new.tree }
     {
@@ -329,7 +329,7 @@ impl AddressAllocator {
         ensures unchanged { OnErr result (self.new ≡ self.old) }
         ensures state { IsAddressState (state_of self.new) }
 
-        // Each result under its exact condition. The nodes are those of the counted call.
+        // Each result under its exact condition. The tree is one that the counted call leaves.
         ensures answer { Frees (state_of self.old) key.now result (state_of self.new) }
         ensures part { OnOk result ((count : ℕ) × HasParts self.old.tree (Freeing key.now count ∷ []) self.new.tree) }
     {

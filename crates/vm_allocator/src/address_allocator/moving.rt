@@ -46,7 +46,7 @@ impl AddressAllocator {
         ensures stays { Contains (state_of self.old).held key.now → IsFor key.now request
             → (result ≡ Ok key.now) × (self.new ≡ self.old) }
 
-        // Each result under its exact condition. Its parts are at most an allocation and a free.
+        // Each result under its exact condition. The tree comes from at most an allocation and a free.
         ensures answer { MovesRange (state_of self.old) key.now request result (state_of self.new) }
         ensures parts { TakesParts 2 self.old.tree (request ∷ []) self.new.tree }
     {
