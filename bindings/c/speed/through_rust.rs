@@ -1,7 +1,7 @@
 // SPDX-License-Identifier: Apache-2.0 OR BSD-3-Clause
 //! The two rounds of `speed.c` as direct calls of the Rust crate.
 
-use crate::proved::vm_allocator::{AddressAllocator, AllocPolicy, RangeInclusive, Result};
+use crate::proved::vm_addresses::{AddressAllocator, AllocPolicy, RangeInclusive, Result};
 use crate::rattle::Global;
 use core::hint::black_box;
 use core::slice;

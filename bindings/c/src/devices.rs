@@ -4,7 +4,7 @@
 use crate::handle::{found, Handle};
 use crate::ids::write_range;
 use crate::objects::{calls, functions, object_calls, visits};
-use crate::proved::vm_allocator::{AllocPolicy, Constraint, Error};
+use crate::proved::vm_addresses::{AllocPolicy, Constraint, Error};
 use crate::proved::vm_devices::{DeviceManager, DeviceSlot};
 use crate::ranges::space_of;
 use crate::rattle::Global;

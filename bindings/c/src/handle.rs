@@ -1,7 +1,7 @@
 // SPDX-License-Identifier: Apache-2.0 OR BSD-3-Clause
 //! The objects that C has pointers to.
 
-use crate::proved::vm_allocator::{Conflict, Constraint, Error, Result as Answer};
+use crate::proved::vm_addresses::{Conflict, Constraint, Error, Result as Answer};
 use crate::requests::{dvs_request, in_the_way};
 use crate::{dvs_refusal, CallError, Out};
 use alloc::boxed::Box;

@@ -4,7 +4,7 @@
 use crate::handle::{non_null, with_out, Handle};
 use crate::lists::array;
 use crate::objects::{calls, functions, object_calls, visits};
-use crate::proved::vm_allocator::IdAllocator;
+use crate::proved::vm_ids::IdAllocator;
 use crate::rattle::Global;
 use crate::status::refused_id;
 use crate::texts::{read_ids, save_ids};

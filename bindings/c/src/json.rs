@@ -2,7 +2,7 @@
 //! A reader of JSON after RFC 8259. It visits a text once and does not allocate.
 
 use crate::conditions::field_and_text;
-use crate::proved::vm_allocator::SavedError;
+use crate::proved::vm_addresses::SavedError;
 use crate::status::{
     dvs_status, DVS_LIMIT_EXCEEDED, DVS_NOT_A_STATE, DVS_NOT_JSON, DVS_OUT_OF_MEMORY,
 };

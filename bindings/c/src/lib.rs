@@ -36,7 +36,7 @@ mod texts;
 #[path = "../speed/through_rust.rs"]
 mod through_rust;
 
-use crate::proved::vm_allocator::RangeInclusive;
+use crate::proved::vm_addresses::RangeInclusive;
 use core::mem::MaybeUninit;
 use status::{dvs_refusal, dvs_status, status_of, CallError};
 
@@ -61,7 +61,7 @@ impl From<RangeInclusive> for dvs_range {
 }
 
 impl TryFrom<dvs_range> for RangeInclusive {
-    type Error = proved::vm_allocator::Error;
+    type Error = proved::vm_addresses::Error;
 
     fn try_from(range: dvs_range) -> Result<Self, Self::Error> {
         RangeInclusive::new(range.start, range.end)

@@ -2,7 +2,7 @@
 //! Calls with arrays of ranges and of requests.
 
 use crate::handle::{non_null, Handle};
-use crate::proved::vm_allocator::{AddressAllocator, Error, ListError, RangeInclusive};
+use crate::proved::vm_addresses::{AddressAllocator, Error, ListError, RangeInclusive};
 use crate::ranges::dvs_address_allocator;
 use crate::rattle::Global;
 use crate::requests::{dvs_request, refused};

@@ -3,7 +3,7 @@
 
 use crate::handle::{found, Handle};
 use crate::objects::{calls, functions, object_calls, visits};
-use crate::proved::vm_allocator::{
+use crate::proved::vm_addresses::{
     AddressAllocator, AllocPolicy, Constraint, RangeInclusive, Result as Answer,
 };
 use crate::rattle::Global;

@@ -1,7 +1,7 @@
 // SPDX-License-Identifier: Apache-2.0 OR BSD-3-Clause
 //! Requests for a range.
 
-use crate::proved::vm_allocator::{
+use crate::proved::vm_addresses::{
     AddressAllocator, AllocPolicy, Conflict, Constraint, Error, RangeInclusive,
 };
 use crate::status::{

@@ -1,7 +1,7 @@
 // SPDX-License-Identifier: Apache-2.0 OR BSD-3-Clause
 //! The errors of calls, as statuses and details.
 
-use crate::proved::vm_allocator::Error;
+use crate::proved::vm_addresses::Error;
 use crate::rattle::AllocError;
 use crate::{dvs_range, Out};
 use core::ffi::c_char;

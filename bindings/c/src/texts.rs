@@ -3,11 +3,11 @@
 
 use crate::handle::{non_null, Handle};
 use crate::json::{dvs_text_limits, Read, Reader, TextFault};
-use crate::proved::vm_allocator::allocation_engine::NodeState;
-use crate::proved::vm_allocator::{
-    AddressAllocator, Error, IdAllocator, RangeInclusive, ReadIds, ReadNodes, SavedError, Side,
-    WrittenTree,
+use crate::proved::vm_ranges::NodeState;
+use crate::proved::vm_addresses::{
+    AddressAllocator, Error, RangeInclusive, ReadNodes, SavedError, Side, WrittenTree,
 };
+use crate::proved::vm_ids::{IdAllocator, ReadIds};
 use crate::proved::vm_devices::{DeviceManager, DeviceSlot, ReadDevices};
 use crate::rattle::Global;
 use crate::status::{

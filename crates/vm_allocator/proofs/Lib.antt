@@ -1,7 +1,2 @@
-pub mod Decisions
-pub mod Results
-pub mod Histories
-pub mod Reading
 pub mod Callers
-pub mod Trees
-pub mod TakenParts
+pub mod Reading

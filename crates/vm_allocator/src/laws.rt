@@ -1,9 +1,4 @@
 //! Laws: theorems about the definitions that the contracts of the calls cite.
 //!
 //! Each law is the contract of a function that does nothing.
-mod gaps;
-mod histories;
-mod moves;
 mod saved;
-mod several;
-mod windows;

@@ -1,10 +1,10 @@
 -- Facts for callers about reserved devices.
 use Rattle.std.proofs.Common.{◌≡◌, ⊎_elim, Result, Ok, Err, IfOk}
 use Rattle.vm_ranges.specs.Range.{Overlaps}
-use Rattle.vm_engine.specs.Address.{holding}
+use Rattle.vm_addresses.specs.Address.{holding}
 use Rattle.vm_ranges.specs.Request.{Request}
 use Rattle.vm_ranges.specs.declared.error.Error.{Error}
-use Rattle.vm_allocator.proofs.Callers.{allocated_apart}
+use Rattle.vm_addresses.proofs.Callers.{allocated_apart}
 use Rattle.vm_devices.specs.declared.device_slot.DeviceSlot.{DeviceSlot}
 use Rattle.vm_devices.specs.Devices.{DeviceState, IsDevice, IsDeviceState, Reserves, Releases}
 use Rattle.vm_devices.proofs.DevicesAgain.{reserved_again}

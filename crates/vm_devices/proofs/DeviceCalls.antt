@@ -6,21 +6,21 @@ use Rattle.std.specs.Ordering.{nat_cmp}
 use Rattle.std.specs.FinMap as map
 use Rattle.std.specs.FinSet as set
 use Rattle.vm_ranges.specs.Range.{Range, MAX, Covers, address_count}
-use Rattle.vm_engine.specs.Address.{AddressState, holding, releasing}
-use Rattle.vm_engine.specs.Answer.{Makes, IsChosen, Allocates, Frees}
+use Rattle.vm_addresses.specs.Address.{AddressState, holding, releasing}
+use Rattle.vm_addresses.specs.Answer.{Makes, IsChosen, Allocates, Frees}
 use Rattle.vm_ids.specs.Ids.{MAX_ID, IdState, IsHeld, MakesIds, new_ids, IsLowestNotHeld, ByLowestNotHeld, AllocatesId, holding_id, PeeksId, releasing_id}
 use Rattle.vm_ranges.specs.declared.error.Error.{Error}
-use Rattle.vm_engine.proofs.Results.AddressResults.{made_is, state_is_preserved, freeing_undoes}
+use Rattle.vm_addresses.proofs.Results.AddressResults.{made_is, state_is_preserved, freeing_undoes}
 use Rattle.vm_ids.proofs.Ids.IdResults.{id_states_are_preserved, peeking_predicts}
 use Rattle.vm_devices.specs.Devices.{DeviceState, IsDeviceState, MakesManager, IsDevice, with_device, without_device, Pairs, Reserves, Releases, devices_of}
 use Rattle.vm_ranges.specs.Request.{Request, MakesConstraint}
 use Rattle.vm_ranges.specs.declared.error.Error.TheVariants.{NeverAllocated, OutOfMemory}
-use Rattle.vm_allocator.proofs.Callers.{given, allocated_chosen, request_fits, request_inside}
+use Rattle.vm_addresses.proofs.Callers.{given, allocated_chosen, request_fits, request_inside}
 use Rattle.vm_devices.specs.declared.device_slot.DeviceSlot.{DeviceSlot}
 use Rattle.vm_devices.proofs.Pairs.{state_with, state_without, id_held}
 use Rattle.vm_ranges.proofs.Requests.{constraint_made}
-use Rattle.vm_engine.proofs.Results.Requests.{allocates_refused}
-use Rattle.vm_allocator.proofs.Results.EveryAddressCall.{every_call}
+use Rattle.vm_addresses.proofs.Results.Requests.{allocates_refused}
+use Rattle.vm_addresses.proofs.Results.EveryAddressCall.{every_call}
 
 -- ---- A reservation
 -- A reserved device has the lowest id that was not held, and a range that the request allocates: as long as asked,

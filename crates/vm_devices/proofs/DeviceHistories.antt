@@ -3,10 +3,10 @@ use Rattle.std.proofs.Common.{◌≡◌, ◌≢◌, ℕ, ◌<◌, ◌⊎◌, Lis
 use Rattle.std.specs.Ordering.{nat_cmp}
 use Rattle.std.specs.FinMap as map
 use Rattle.vm_ranges.specs.Range.{Range, MAX, Overlaps, Covers}
-use Rattle.vm_engine.specs.Address.{holding}
+use Rattle.vm_addresses.specs.Address.{holding}
 use Rattle.vm_ids.specs.Ids.{IsOfRange}
-use Rattle.vm_engine.proofs.Results.AddressResults.{lie_apart}
-use Rattle.vm_allocator.proofs.Callers.{given}
+use Rattle.vm_addresses.proofs.Results.AddressResults.{lie_apart}
+use Rattle.vm_addresses.proofs.Callers.{given}
 use Rattle.vm_devices.specs.declared.device_slot.DeviceSlot.{DeviceSlot}
 use Rattle.vm_devices.specs.Devices.{DeviceState, IsDevice, IsDeviceState}
 use Rattle.vm_ranges.proofs.Clones.{cloning_keeps}

@@ -5,50 +5,50 @@ use Rattle.vm_ranges.specs.Range.{Range}
 use Rattle.vm_ranges.specs.Request.{Request}
 use Rattle.vm_ranges.specs.declared.error.Error.{Error}
 use Rattle.vm_ranges.specs.declared.error.Error.TheVariants.{OutOfMemory}
-use Rattle.vm_engine.specs.Counts.Parts.{Allocating, Freeing, HasPart, HasParts, TakesParts}
+use Rattle.vm_addresses.specs.Counts.Parts.{Allocating, Freeing, HasPart, HasParts, TakesParts}
 use Rattle.vm_ranges.proofs.Histories.{history_append}
-use Rattle.vm_engine.proofs.Counts.TakenParts.{no_parts, allocated_only}
-use Rattle.vm_allocator.proofs.TakenParts.{allocated_and_freed}
-use Rattle.vm_allocator.specs.Allocator.{SpaceInTree}
+use Rattle.vm_addresses.proofs.Counts.TakenParts.{no_parts, allocated_only}
+use Rattle.vm_addresses.proofs.TakenParts.{allocated_and_freed}
+use Rattle.vm_addresses.specs.Allocator.{Shape}
 use Rattle.vm_devices.specs.Manager.{DevicesInTree, GivesBack, ReservesInParts}
 use Rattle.vm_devices.specs.declared.device_slot.DeviceSlot.{DeviceSlot}
 
 -- An error before the allocation.
 pub left_same : (old new : DevicesInTree) (request : Request) (e : Error) → new ≡ old → ReservesInParts old request (Err e) new
 left_same old new request e same = record {
-  parts = subst (λ (v : DevicesInTree). TakesParts 2 old.addresses.tree (request ∷ []) v.addresses.tree) (sym same)
-      (no_parts 2 old.addresses.tree (request ∷ []));
+  parts = subst (λ (v : DevicesInTree). TakesParts 2 old.addresses (request ∷ []) v.addresses) (sym same)
+      (no_parts 2 old.addresses (request ∷ []));
   same = inl same;
 }
 
 -- The error of the allocation.
 pub allocation_failed : (old new : DevicesInTree) (request : Request) (answer : Result Range Error) (e : Error) → new ≡ old →
-    (n : ℕ) × HasParts old.addresses.tree (Allocating request answer n ∷ []) new.addresses.tree → ReservesInParts old request (Err e) new
+    (n : ℕ) × HasParts old.addresses (Allocating request answer n ∷ []) new.addresses → ReservesInParts old request (Err e) new
 allocation_failed old new request answer e same part = record {
-  parts = allocated_only old.addresses.tree new.addresses.tree request answer part;
+  parts = allocated_only old.addresses new.addresses request answer part;
   same = inl same;
 }
 
 -- The range was allocated and is freed again, because memory ran out.
-pub range_returned : (old new : DevicesInTree) (mid : SpaceInTree) (request : Request) (r : Range) (freed : Result (Unit {0}) Error) →
+pub range_returned : (old new : DevicesInTree) (mid : Shape) (request : Request) (r : Range) (freed : Result (Unit {0}) Error) →
     freed ≡ Ok tt →
-    (n : ℕ) × HasParts old.addresses.tree (Allocating request (Ok r) n ∷ []) mid.tree →
-    OnOk freed ((m : ℕ) × HasParts mid.tree (Freeing r m ∷ []) new.addresses.tree) → OnErr freed (new.addresses ≡ mid) →
+    (n : ℕ) × HasParts old.addresses (Allocating request (Ok r) n ∷ []) mid →
+    OnOk freed ((m : ℕ) × HasParts mid (Freeing r m ∷ []) new.addresses) → OnErr freed (new.addresses ≡ mid) →
     ReservesInParts old request (Err OutOfMemory) new
 range_returned old new mid request r freed is first second same =
-    let free : (m : ℕ) × HasParts mid.tree (Freeing r m ∷ []) new.addresses.tree =
-    subst (λ (v : Result (Unit {0}) Error). OnOk v ((m : ℕ) × HasParts mid.tree (Freeing r m ∷ []) new.addresses.tree)) is second in
-    let both = history_append HasPart (Allocating request (Ok r) first.0 ∷ []) (Freeing r free.0 ∷ []) old.addresses.tree mid.tree
-    new.addresses.tree first.1 free.1 in
-    let back : GivesBack old.addresses.tree request new.addresses.tree = (r, first.0, free.0, both) in
+    let free : (m : ℕ) × HasParts mid (Freeing r m ∷ []) new.addresses =
+    subst (λ (v : Result (Unit {0}) Error). OnOk v ((m : ℕ) × HasParts mid (Freeing r m ∷ []) new.addresses)) is second in
+    let both = history_append HasPart (Allocating request (Ok r) first.0 ∷ []) (Freeing r free.0 ∷ []) old.addresses mid
+    new.addresses first.1 free.1 in
+    let back : GivesBack old.addresses request new.addresses = (r, first.0, free.0, both) in
     record {
       parts = allocated_and_freed old.addresses mid new.addresses request (Ok r) r freed first second same;
       same = inr (refl, back);
     }
 
 pub range_kept : (old new : DevicesInTree) (request : Request) (answer : Result Range Error) (slot : DeviceSlot) →
-    (n : ℕ) × HasParts old.addresses.tree (Allocating request answer n ∷ []) new.addresses.tree → ReservesInParts old request (Ok slot) new
+    (n : ℕ) × HasParts old.addresses (Allocating request answer n ∷ []) new.addresses → ReservesInParts old request (Ok slot) new
 range_kept old new request answer slot part = record {
-  parts = allocated_only old.addresses.tree new.addresses.tree request answer part;
+  parts = allocated_only old.addresses new.addresses request answer part;
   same = tt;
 }

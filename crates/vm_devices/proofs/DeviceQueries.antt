@@ -6,9 +6,10 @@ use Rattle.std.specs.List.{Contains}
 use Rattle.std.specs.FinMap as map
 use Rattle.vm_ranges.proofs.NumberSets.{same_test}
 use Rattle.vm_ranges.specs.Range.{Range, Overlaps}
-use Rattle.vm_engine.proofs.Results.AddressResults.{lie_apart}
+use Rattle.vm_addresses.proofs.Results.AddressResults.{lie_apart}
 use Rattle.vm_ids.specs.Ids.{held_ids}
-use Rattle.vm_allocator.proofs.Callers.{listed_held, in_held_ids, keys_rise, same_rising}
+use Rattle.vm_ids.proofs.Ids.HeldIds.{listed_held, in_held_ids}
+use Rattle.vm_ids.proofs.Ids.RisingIds.{keys_rise, same_rising}
 use Rattle.vm_devices.specs.declared.device_slot.DeviceSlot.{DeviceSlot}
 use Rattle.vm_devices.specs.Devices.{DeviceState, IsDeviceState}
 use Rattle.vm_devices.specs.Laws.{DevicesAreListed, DeviceIsAtItsAddresses}

@@ -5,15 +5,15 @@ use Rattle.std.specs.FinMap as map
 use Rattle.vm_ranges.proofs.Steps.{map_some}
 use Rattle.vm_ranges.specs.Range.{Range, Overlaps, IsIn}
 use Rattle.vm_ranges.specs.Request.{Request}
-use Rattle.vm_engine.specs.Address.{AddressState, IsAddressState}
-use Rattle.vm_engine.specs.Answer.{Allocates}
+use Rattle.vm_addresses.specs.Address.{AddressState, IsAddressState}
+use Rattle.vm_addresses.specs.Answer.{Allocates}
 use Rattle.vm_ids.specs.Ids.{IdState, IsHeld, IsLowestNotHeld, ByLowestNotHeld, PeeksId}
-use Rattle.vm_engine.proofs.Results.AddressResults.{adds_range, state_is_preserved, lie_apart}
-use Rattle.vm_allocator.proofs.Callers.{range_was_free}
+use Rattle.vm_addresses.proofs.Results.AddressResults.{adds_range, state_is_preserved, lie_apart}
+use Rattle.vm_addresses.proofs.Callers.{range_was_free}
 use Rattle.vm_devices.specs.Devices.{DeviceState, IsDevice, IsDeviceState}
 use Rattle.vm_devices.proofs.Tables.{absent}
 use Rattle.vm_devices.specs.Checks.{IsNew, StartsAt}
-use Rattle.vm_engine.specs.Queries.{IsHeldAt}
+use Rattle.vm_addresses.specs.Queries.{IsHeldAt}
 use Rattle.vm_devices.specs.Queries.{DeviceAt}
 
 -- Held ranges with the same start are the same range.

@@ -3,16 +3,16 @@ use Rattle.std.proofs.Common.{◌≡◌, ◌≢◌, ℕ, ◌≤◌, ◌⊎◌, a
 use Rattle.std.specs.FinMap as map
 use Rattle.vm_ranges.proofs.NumberSets.{inserted_other, removed_other, from_removed}
 use Rattle.vm_ranges.specs.Range.{Range, address_count}
-use Rattle.vm_engine.specs.Address.{AddressState, holding, releasing}
+use Rattle.vm_addresses.specs.Address.{AddressState, holding, releasing}
 use Rattle.vm_ranges.specs.Request.{Request, request_for}
-use Rattle.vm_engine.specs.Answer.{Allocates}
+use Rattle.vm_addresses.specs.Answer.{Allocates}
 use Rattle.vm_ids.specs.Ids.{IdState, IsHeld, IsLowestNotHeld, AreAllHeld, ByLowestNotHeld, holding_id, releasing_id}
 use Rattle.vm_ranges.specs.declared.error.Error.{Error}
 use Rattle.vm_ranges.specs.declared.error.Error.TheVariants.{OutOfMemory}
 use Rattle.vm_ranges.specs.declared.constraint.AllocPolicy.TheVariants.{ExactMatch}
-use Rattle.vm_allocator.proofs.Callers.{IsSplitError, allocated_held, allocated_again, frees_held}
-use Rattle.vm_engine.proofs.Results.Once.{allocates_once}
-use Rattle.vm_engine.proofs.Results.AddressResults.{freeing_undoes}
+use Rattle.vm_addresses.proofs.Callers.{IsSplitError, allocated_held, allocated_again, frees_held}
+use Rattle.vm_addresses.proofs.Results.Once.{allocates_once}
+use Rattle.vm_addresses.proofs.Results.AddressResults.{freeing_undoes}
 use Rattle.vm_ids.proofs.Ids.IdResults.{one_lowest}
 use Rattle.vm_devices.specs.declared.device_slot.DeviceSlot.{DeviceSlot}
 use Rattle.vm_devices.specs.Devices.{DeviceState, IsDevice, with_device, without_device, Pairs, Reserves, Releases}

@@ -2,11 +2,11 @@
 use Rattle.std.proofs.Common.{◌≡◌, ◌≢◌, ℕ, sym, ap, ◌∙◌, arith, ⊎_elim, Result, Ok, Err}
 use Rattle.vm_ranges.specs.Range.{Range}
 use Rattle.vm_ranges.specs.Request.{Request}
-use Rattle.vm_engine.specs.Address.{AddressState}
+use Rattle.vm_addresses.specs.Address.{AddressState}
 use Rattle.vm_ids.specs.Ids.{IdState}
 use Rattle.vm_ranges.specs.declared.error.Error.{Error}
 use Rattle.vm_ranges.specs.declared.error.Error.TheVariants.{OutOfMemory}
-use Rattle.vm_allocator.proofs.Results.InMemory.{placed_once, made_once}
+use Rattle.vm_addresses.proofs.Results.InMemory.{placed_once, made_once}
 use Rattle.vm_ids.proofs.Ids.IdResults.{making_is_determined, by_same_lowest}
 use Rattle.vm_devices.specs.declared.device_slot.DeviceSlot.{DeviceSlot}
 use Rattle.vm_devices.specs.Devices.{DeviceState, made_devices, MakesManager, Pairs, Reserves, Releases}

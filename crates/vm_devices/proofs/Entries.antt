@@ -38,9 +38,11 @@ use Rattle.std.specs.Map.{lookup}
 use Rattle.std.specs.Ordering.{nat_cmp, eq_by_cmp}
 use Rattle.std.specs.FinMap as map
 use Rattle.vm_ranges.specs.Range.{Range}
-use Rattle.vm_allocator.proofs.Callers.{keys_rise, entries_of_sorted, ranges_listed, ids_listed}
+use Rattle.vm_ids.proofs.Ids.RisingIds.{keys_rise, entries_of_sorted}
+use Rattle.vm_addresses.proofs.Callers.{ranges_listed}
+use Rattle.vm_ids.proofs.Ids.IdCounts.{ids_listed}
 use Rattle.vm_devices.specs.Queries.{device_of, entry_of}
-use Rattle.vm_engine.specs.Address.{AddressState, IsAddressState}
+use Rattle.vm_addresses.specs.Address.{AddressState, IsAddressState}
 use Rattle.vm_ids.specs.Ids.{IdState, IsHeld, held_count}
 use Rattle.vm_devices.specs.Devices.{DeviceState, ArePaired}
 

@@ -3,13 +3,13 @@ use Rattle.std.proofs.Common.{◌≡◌, ◌≢◌, ℕ, refl, ap, arith, inl, O
 use Rattle.std.specs.FinMap as map
 use Rattle.vm_ranges.specs.Range.{Range}
 use Rattle.vm_ranges.specs.Request.{Request}
-use Rattle.vm_engine.specs.Address.{AddressState}
-use Rattle.vm_engine.specs.Answer.{Allocates}
+use Rattle.vm_addresses.specs.Address.{AddressState}
+use Rattle.vm_addresses.specs.Answer.{Allocates}
 use Rattle.vm_ids.specs.Ids.{IdState, PeeksId}
 use Rattle.vm_ranges.specs.declared.error.Error.{Error}
 use Rattle.vm_ranges.specs.declared.error.Error.TheVariants.{NeverAllocated, OutOfMemory}
-use Rattle.vm_allocator.specs.Histories.AddressHistories.{Allocate}
-use Rattle.vm_allocator.proofs.Results.EveryAddressCall.{every_call}
+use Rattle.vm_addresses.specs.Histories.AddressHistories.{Allocate}
+use Rattle.vm_addresses.proofs.Results.EveryAddressCall.{every_call}
 use Rattle.vm_ids.proofs.Ids.EveryIdCall.{every_call as every_id_call}
 use Rattle.vm_devices.specs.declared.device_slot.DeviceSlot.{DeviceSlot}
 use Rattle.vm_devices.specs.Devices.{DeviceState, made_devices, with_device, without_device, MakesManager, Reserves, Releases}

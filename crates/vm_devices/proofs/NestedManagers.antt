@@ -11,7 +11,9 @@ use Rattle.vm_ranges.proofs.Nesting.{object_within, number_within, range_nests, 
 use Rattle.vm_ranges.specs.Range.{Range}
 use Rattle.vm_ranges.specs.declared.saved.ValueError.{ValueError}
 use Rattle.vm_ranges.specs.declared.saved.ValueError.TheVariants.{OutOfMemory}
-use Rattle.vm_allocator.proofs.Callers.{addresses_nest, ids_nest, parsed_again}
+use Rattle.vm_addresses.proofs.Reading.NestedTrees.{addresses_nest}
+use Rattle.vm_ids.proofs.Ids.NestedIds.{ids_nest}
+use Rattle.vm_ranges.proofs.ReadTexts.{parsed_again}
 use Rattle.vm_devices.specs.Devices.{DeviceState}
 use Rattle.vm_devices.specs.Laws.{ManagerIsReadFromText}
 use Rattle.vm_devices.specs.Saved.{EncodesDevice, EncodesManager, ReadsInParts}

@@ -41,9 +41,9 @@ use Rattle.std.specs.FinMap as map
 use Rattle.vm_ranges.proofs.Steps.{map_some}
 use Rattle.vm_ranges.specs.Cases.{IsTestOf}
 use Rattle.vm_ranges.specs.Range.{Range}
-use Rattle.vm_engine.specs.Address.{AddressState, IsAddressState}
+use Rattle.vm_addresses.specs.Address.{AddressState, IsAddressState}
 use Rattle.vm_ids.specs.Ids.{IdState, IsHeld, held_count}
-use Rattle.vm_allocator.proofs.Callers.{entries_of_sorted}
+use Rattle.vm_ids.proofs.Ids.RisingIds.{entries_of_sorted}
 use Rattle.vm_devices.specs.declared.device_slot.DeviceSlot.{DeviceSlot}
 use Rattle.vm_devices.specs.Checks.{StartsAt, IsNew}
 use Rattle.vm_devices.specs.Listed.{entries_of, HaveAscendingIds, listed_state, AreDevicesOf}

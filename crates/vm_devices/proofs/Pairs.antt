@@ -2,15 +2,16 @@
 use Rattle.std.proofs.Common.{◌≡◌, ℕ, refl, sym, ap, ◌∙◌, arith, inl, inr, ⊎_elim, subst, Some, IsSome, Ok}
 use Rattle.std.specs.List.{Contains}
 use Rattle.vm_ranges.specs.Range.{Range}
-use Rattle.vm_engine.specs.Address.{holding, releasing}
+use Rattle.vm_addresses.specs.Address.{holding, releasing}
 use Rattle.vm_ranges.specs.Request.{Request}
-use Rattle.vm_engine.specs.Answer.{Allocates, Frees}
-use Rattle.vm_engine.specs.Laws.AddressLaws.{AddsRange, RemovesRange}
+use Rattle.vm_addresses.specs.Answer.{Allocates, Frees}
+use Rattle.vm_addresses.specs.Laws.AddressLaws.{AddsRange, RemovesRange}
 use Rattle.vm_ids.specs.Ids.{IsHeld, AllocatesId, FreesId, holding_id, releasing_id}
 use Rattle.vm_ids.specs.Laws.IdLaws.{AddsId, RemovesId}
-use Rattle.vm_engine.proofs.Results.AddressResults.{adds_range, removes_range, state_is_preserved}
+use Rattle.vm_addresses.proofs.Results.AddressResults.{adds_range, removes_range, state_is_preserved}
 use Rattle.vm_ids.proofs.Ids.IdResults.{id_states_are_preserved, allocating_adds, freeing_removes}
-use Rattle.vm_allocator.proofs.Callers.{range_was_free, frees_held, id_was_free}
+use Rattle.vm_addresses.proofs.Callers.{range_was_free, frees_held}
+use Rattle.vm_ids.proofs.Callers.{id_was_free}
 use Rattle.vm_devices.specs.Devices.{DeviceState, IsDevice, ArePaired, IsDeviceState, with_device, without_device}
 use Rattle.vm_devices.proofs.Tables.{get_with, get_without, with_here, with_cases, without_is}
 

@@ -55,7 +55,9 @@ use Rattle.vm_ranges.specs.Saving.{value_error, Reads}
 use Rattle.vm_ranges.specs.declared.saved.SavedError.{SavedError}
 use Rattle.vm_ranges.specs.declared.saved.SavedError.TheVariants.{Violated, OutOfMemory}
 use Rattle.vm_ids.proofs.Callers.{ids_again, ids_encoded}
-use Rattle.vm_allocator.proofs.Callers.{found-states, states-found, addresses_again, addresses_encoded, keys_rise}
+use Rattle.vm_ranges.proofs.ReadRanges.{found-states, states-found}
+use Rattle.vm_addresses.proofs.Callers.{addresses_again, addresses_encoded}
+use Rattle.vm_ids.proofs.Ids.RisingIds.{keys_rise}
 use Rattle.vm_devices.specs.declared.device_slot.DeviceSlot.{DeviceSlot}
 use Rattle.vm_devices.specs.Listed.{entries_of, PushesDevice, listed_state, MakesOfDevices}
 use Rattle.vm_devices.specs.Queries.{entry_of, device_of, device_list}
@@ -67,9 +69,9 @@ use Rattle.std.specs.FinMap as map
 use Rattle.vm_ranges.specs.declared.saved.SavedError.TheVariants as saved_errors
 use Rattle.vm_ranges.specs.declared.saved.ValueError.{ValueError}
 use Rattle.vm_ranges.specs.declared.saved.ValueError.TheVariants.{NotAState, OutOfMemory}
-use Rattle.vm_engine.specs.Address.{AddressState}
+use Rattle.vm_addresses.specs.Address.{AddressState}
 use Rattle.vm_ids.specs.Ids.{IdState}
-use Rattle.vm_allocator.specs.Values.AllocatorValues.{EncodesAddresses}
+use Rattle.vm_addresses.specs.Values.AllocatorValues.{EncodesAddresses}
 use Rattle.vm_ids.specs.Values.IdValues.{EncodesIds}
 use Rattle.vm_devices.specs.Devices.{DeviceState, ArePaired, IsDeviceState, devices_of}
 use Rattle.vm_devices.specs.Laws.{ManagerIsReadAgain}

@@ -41,7 +41,7 @@ use Rattle.std.specs.Ordering.{nat_cmp}
 use Rattle.std.specs.FinMap as map
 use Rattle.vm_ranges.proofs.Items.{less}
 use Rattle.vm_ranges.specs.Range.{Range}
-use Rattle.vm_allocator.proofs.Callers.{entries_of_sorted}
+use Rattle.vm_ids.proofs.Ids.RisingIds.{entries_of_sorted}
 use Rattle.vm_devices.specs.Queries.{device_of}
 use Rattle.vm_devices.specs.Slots.{slot_entries, slot_map}
 use Rattle.vm_devices.proofs.Tables.{get_with, get_without}

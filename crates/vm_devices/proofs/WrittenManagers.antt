@@ -4,7 +4,8 @@ use Rattle.std.specs.FinMap as map
 use Rattle.vm_ranges.specs.Range.{Range}
 use Rattle.vm_ranges.specs.declared.saved.SavedError.{SavedError}
 use Rattle.vm_ranges.specs.declared.saved.SavedError.TheVariants.{Violated, OutOfMemory}
-use Rattle.vm_allocator.proofs.Callers.{keys_rise, id_state_cmp-Equal}
+use Rattle.vm_ids.proofs.Ids.RisingIds.{keys_rise}
+use Rattle.vm_ids.proofs.Ids.ComparedIds.{id_state_cmp-Equal}
 use Rattle.vm_devices.specs.declared.device_slot.DeviceSlot.{DeviceSlot}
 use Rattle.vm_devices.specs.Devices.{DeviceState, IsDeviceState, devices_of}
 use Rattle.vm_devices.specs.Laws.{WrittenManagersAreRead, EqualManagersHaveEqualParts}
@@ -19,7 +20,7 @@ use Rattle.std.specs.Ordering.{eq_by_cmp, is_eq}
 use Rattle.std.specs.Cmp.{Equal-is}
 use Rattle.std.specs.FinMap.{slice_cmp-IsAntisymmetric, nat_cmp-IsAntisymmetric}
 use Rattle.vm_ranges.proofs.RangeOrders.{both_equal, range_cmp-exact}
-use Rattle.vm_engine.proofs.Comparing.StateOrders.{one_state, equal_states, state_cmp-Equal}
+use Rattle.vm_addresses.proofs.Comparing.StateOrders.{one_state, equal_states, state_cmp-Equal}
 use Rattle.vm_devices.specs.Checks.{HaveSameAllocators}
 
 list_ascends : (state : DeviceState) → HaveAscendingIds (device_list state)

@@ -10,7 +10,7 @@ use Rattle.vm_ranges.specs.Range.{Range, MAX, IsIn, Overlaps, Covers, address_co
 use Rattle.vm_ranges.specs.Request.{Request, request_for}
 use Rattle.vm_ranges.specs.Histories.{EveryCallIsAnswered, CallsAreDetermined}
 use Rattle.vm_ranges.specs.Texts.{IsTextOf, Parses}
-use Rattle.vm_engine.specs.Answer.{SPLIT_LIMIT_MIN_HELD}
+use Rattle.vm_addresses.specs.Answer.{SPLIT_LIMIT_MIN_HELD}
 use Rattle.vm_ids.specs.Ids.{IsOfRange, held_count, held_ids}
 use Rattle.vm_ranges.specs.declared.error.Error.{Error}
 use Rattle.vm_ranges.specs.declared.error.Error.TheVariants.{Overflow, OutOfMemory}

@@ -8,23 +8,23 @@ use Rattle.vm_ranges.specs.Request.{Request}
 use Rattle.vm_ranges.specs.declared.error.Error.{Error}
 use Rattle.vm_ranges.specs.declared.error.Error.TheVariants.{OutOfMemory}
 use Rattle.vm_tree.specs.Shape.{Shape}
-use Rattle.vm_engine.specs.Counts.Parts.{Allocating, Freeing, HasParts, TakesParts}
+use Rattle.vm_addresses.specs.Counts.Parts.{Allocating, Freeing, HasParts, TakesParts}
 use Rattle.vm_ids.specs.Ids.{IdState, id_state_code}
-use Rattle.vm_allocator.specs.Allocator.{SpaceInTree, space_code, state_of}
+use Rattle.vm_addresses.specs.Allocator.{Shape, shape_code, state_of}
 use Rattle.vm_devices.specs.Devices.{DeviceState, devices_of}
 use Rattle.vm_devices.specs.declared.device_slot.DeviceSlot.{DeviceSlot}
 
 -- The ids of a manager, the view of its address allocator, and the range of each device by its id.
 pub record DevicesInTree : Type 0 where
   pub ids : IdState
-  pub addresses : SpaceInTree
+  pub addresses : Shape
   pub devices : map.FinMap nat_cmp Range
 
 -- Proof: encodes the view as the tuple of its fields.
 abbrev pub devices_code : Coded DevicesInTree
 devices_code =
-    code_by (IdState × (SpaceInTree × map.FinMap nat_cmp Range))
-    (coded× id_state_code (coded× space_code (map.code coded_ℕ range_code)))
+    code_by (IdState × (Shape × map.FinMap nat_cmp Range))
+    (coded× id_state_code (coded× shape_code (map.code coded_ℕ range_code)))
     (λ m. (m.ids, (m.addresses, m.devices)))
     (λ p. record { ids = p.0; addresses = p.1.0; devices = p.1.1 })
     (λ _. refl)
@@ -46,5 +46,5 @@ GivesBack old request new =
 -- A reservation takes an allocation and at most one free. Its errors leave the same manager, unless memory ran out after the
 -- range was allocated.
 pub record ReservesInParts (old : DevicesInTree) (request : Request) (answer : Result DeviceSlot Error) (new : DevicesInTree) : Type 0 where
-  pub parts : TakesParts 2 old.addresses.tree (request ∷ []) new.addresses.tree
-  pub same : IfErr answer (λ e. (new ≡ old) ⊎ ((e ≡ OutOfMemory) × GivesBack old.addresses.tree request new.addresses.tree))
+  pub parts : TakesParts 2 old.addresses (request ∷ []) new.addresses
+  pub same : IfErr answer (λ e. (new ≡ old) ⊎ ((e ≡ OutOfMemory) × GivesBack old.addresses request new.addresses))

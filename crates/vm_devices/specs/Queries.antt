@@ -8,7 +8,7 @@ use Rattle.std.proofs.lemmas.Cmp.{lists_total, then_total, on_total, nat_cmp_tot
 use Rattle.std.specs.FinMap as map
 use Rattle.vm_ranges.specs.Range.{Range, IsIn}
 use Rattle.vm_ranges.specs.RangeOrder.{range_cmp, range_cmp-total}
-use Rattle.vm_engine.specs.Comparison.{state_cmp, state_cmp-total}
+use Rattle.vm_addresses.specs.Comparison.{state_cmp, state_cmp-total}
 use Rattle.vm_ids.specs.IdOrder.{id_state_cmp, id_state_cmp-total}
 use Rattle.vm_devices.specs.declared.device_slot.DeviceSlot.{DeviceSlot}
 use Rattle.vm_devices.specs.Devices.{DeviceState, IsDevice}

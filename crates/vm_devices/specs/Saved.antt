@@ -11,7 +11,7 @@ use Rattle.vm_ranges.specs.Numbers.{number_in}
 use Rattle.vm_ranges.specs.Range.{Range}
 use Rattle.vm_ids.specs.Ids.{MAX_ID}
 use Rattle.vm_ranges.specs.RangeValues.{EncodesRange}
-use Rattle.vm_allocator.specs.Values.AllocatorValues.{EncodesAddresses}
+use Rattle.vm_addresses.specs.Values.AllocatorValues.{EncodesAddresses}
 use Rattle.vm_ids.specs.Values.IdValues.{EncodesIds}
 use Rattle.vm_ranges.specs.declared.saved.ValueError.{ValueError}
 use Rattle.vm_ranges.specs.declared.saved.ValueError.TheVariants.{NotAState, OutOfMemory}

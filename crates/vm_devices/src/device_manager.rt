@@ -7,9 +7,9 @@ ghost use Rattle.std.specs.FinMap as map;
 ghost use Rattle.vm_ranges.specs.Cloning.{Clones};
 ghost use Rattle.vm_ranges.specs.Range.{Range, Covers, address_count};
 ghost use Rattle.vm_ranges.specs.Request.{request_for};
-ghost use Rattle.vm_engine.specs.Answer.{IsChosen};
-ghost use Rattle.vm_engine.specs.Counts.Parts.{TakesParts};
-ghost use Rattle.vm_allocator.specs.Ids.{IsLowestNotHeld, PeeksId};
+ghost use Rattle.vm_addresses.specs.Answer.{IsChosen};
+ghost use Rattle.vm_addresses.specs.Counts.Parts.{TakesParts};
+ghost use Rattle.vm_addresses.specs.Ids.{IsLowestNotHeld, PeeksId};
 ghost use Rattle.vm_devices.specs.Devices.{
   IsDeviceState,
   IsDevice,
@@ -24,9 +24,8 @@ ghost use Rattle.vm_devices.specs.Manager.{device_state, made_manager, ReservesI
 use crate::device_slot::DeviceSlot;
 use std::alloc::Global;
 use std::marker::Model;
-use vm_allocator::{
-    AddressAllocator, AllocPolicy, Constraint, Error, IdAllocator, RangeInclusive, Result,
-};
+use vm_addresses::{AddressAllocator, AllocPolicy, Constraint, Error, RangeInclusive, Result};
+use vm_ids::IdAllocator;
 
 mod comparing;
 mod device_table;
@@ -54,7 +53,7 @@ pub struct DeviceManager {
 }
 
 impl Model for DeviceManager {
-    ghost use Rattle.vm_allocator.specs.Allocator.{state_of};
+    ghost use Rattle.vm_addresses.specs.Allocator.{state_of};
     ghost use Rattle.vm_devices.specs.Devices.{devices_of, IsDeviceState};
     ghost use Rattle.vm_devices.specs.Manager.{DevicesInTree, devices_code};
 
@@ -200,13 +199,13 @@ impl DeviceManager {
     /// An error changes nothing, and leaves the same tree. In this order:
     /// - `NeverAllocated(id)` if no device has the id.
     /// - `OutOfMemory` if an allocation of memory fails.
-    #[tactic(auto, using(crate::proofs::DeviceCalls::no_device, vm_allocator::proofs::TakenParts::parts))]
+    #[tactic(auto, using(crate::proofs::DeviceCalls::no_device, vm_addresses::proofs::TakenParts::parts))]
     pub fn release(&mut self, id: u32) -> Result<()>
         // The id and the range of the device are freed, and nothing else changes.
         ensures released { OnOk result ((range : Range) × IsDevice (device_state self.old) id range
             × (device_state self.new ≡ without_device id range (device_state self.old))) }
         ensures unchanged { OnErr result (self.new ≡ self.old) }
-        ensures parts { TakesParts 1 self.old.addresses.tree [] self.new.addresses.tree }
+        ensures parts { TakesParts 1 self.old.addresses [] self.new.addresses }
         ensures state { IsDeviceState (device_state self.new) }
 
         // Each result under its exact condition.

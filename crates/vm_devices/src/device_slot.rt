@@ -1,5 +1,5 @@
 //! The id and the range of a device.
-use vm_allocator::RangeInclusive;
+use vm_addresses::RangeInclusive;
 
 /// The id and the range of addresses of a device.
 #[derive(Clone, Copy, Debug, PartialEq, Eq)]

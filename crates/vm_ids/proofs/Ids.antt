@@ -25,3 +25,4 @@ pub mod FreeIds
 pub mod WithHeld
 pub mod IdsInTurn
 pub mod SameIdCalls
+pub mod NestedIds

@@ -1,15 +1,15 @@
 -- Lines have one output and leave one machine, if memory suffices.
 use Rattle.std.proofs.Common.{◌≡◌, ◌≢◌, ℕ, ◌↔◌, Bool, true, false, List, [], ◌∷◌, ◌++◌, refl, sym, ap, ◌∙◌, subst, Option, Some, None, Result, Err}
 use Rattle.std.specs.Prelude.{IsTrue}
-use Rattle.vm_engine.specs.Address.{AddressState}
+use Rattle.vm_addresses.specs.Address.{AddressState}
 use Rattle.vm_ranges.specs.Request.{Request, request_for}
 use Rattle.vm_ids.specs.Ids.{IdState, IsHeld}
 use Rattle.vm_ranges.specs.declared.constraint.AllocPolicy.TheVariants.{FirstMatch, LastMatch, ExactMatch}
 use Rattle.vm_ranges.specs.declared.error.Error.{Error}
 use Rattle.vm_ranges.specs.declared.error.Error.TheVariants.{OutOfMemory}
 use Rattle.vm_ranges.proofs.TwoFacts.{unless_same}
-use Rattle.vm_engine.proofs.Results.Once.{frees_once}
-use Rattle.vm_allocator.proofs.Results.InMemory.{placed_once, made_once}
+use Rattle.vm_addresses.proofs.Results.Once.{frees_once}
+use Rattle.vm_addresses.proofs.Results.InMemory.{placed_once, made_once}
 use Rattle.vm_ids.proofs.Ids.IdResults.{making_is_determined, allocating_is_determined, freeing_is_determined}
 use Rattle.vm_lines.specs.Commands.{command_of}
 use Rattle.vm_lines.specs.Lines.{newline}

@@ -2,7 +2,7 @@
 use Rattle.std.proofs.Common.{◌≡◌, ◌≢◌, ℕ, List, [], ◌∷◌, ◌++◌, refl, ap, inl, inr, ⊎_elim, Option, Some, None, Result, Ok, Err}
 use Rattle.std.specs.FinSet as set
 use Rattle.vm_ranges.specs.Range.{Range, IsRange}
-use Rattle.vm_engine.specs.Address.{AddressState}
+use Rattle.vm_addresses.specs.Address.{AddressState}
 use Rattle.vm_ids.specs.Ids.{IdState}
 use Rattle.vm_ranges.specs.Request.{Request, request_for}
 use Rattle.vm_ranges.specs.declared.constraint.AllocPolicy.TheVariants.{FirstMatch, LastMatch, ExactMatch}
@@ -15,8 +15,8 @@ use Rattle.vm_devices.specs.declared.device_slot.DeviceSlot.{DeviceSlot}
 use Rattle.vm_devices.specs.Devices.{DeviceState}
 use Rattle.vm_devices.specs.Histories.{Reserve, Release}
 use Rattle.vm_devices.proofs.EveryDeviceCall.{every_device_call}
-use Rattle.vm_allocator.specs.Histories.AddressHistories.{Allocate, Free as FreeRange}
-use Rattle.vm_allocator.proofs.Results.EveryAddressCall.{every_call}
+use Rattle.vm_addresses.specs.Histories.AddressHistories.{Allocate, Free as FreeRange}
+use Rattle.vm_addresses.proofs.Results.EveryAddressCall.{every_call}
 use Rattle.vm_ids.specs.Histories.IdHistories.{Allocate as AllocateId, Free as FreeId}
 use Rattle.vm_ids.proofs.Ids.EveryIdCall.{every_call as every_id_call}
 use Rattle.vm_lines.specs.Machines.{Machine, start, with_space, with_ids, with_devices, OnPart, OnSpace, OnIds, OnDevices, FreesRange, AllocatesRange, Does}
@@ -26,7 +26,7 @@ use Rattle.vm_lines.specs.declared.command.Command.{Command}
 use Rattle.vm_lines.specs.declared.command.Command.TheVariants.{Space, First, Last, Exact, Free, Ids, Id, Unid, Has, Manager, Device, Undevice, Malformed}
 use Rattle.vm_lines.specs.declared.reply.Reply.{Reply}
 use Rattle.vm_lines.specs.declared.reply.Reply.TheVariants.{Held, Failed, NoSpace, NoIds, NoManager, NotInLanguage}
-use Rattle.vm_allocator.proofs.Decisions.{decided_range}
+use Rattle.vm_addresses.proofs.Decisions.{decided_range}
 
 -- One line.
 

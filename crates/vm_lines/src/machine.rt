@@ -1,6 +1,6 @@
 //! The space, the ids and the devices of a session, and the effect of each command on them.
 ghost use Rattle.std.specs.Prelude.{◌≡◌};
-ghost use Rattle.vm_allocator.specs.Allocator.{state_of};
+ghost use Rattle.vm_addresses.specs.Allocator.{state_of};
 ghost use Rattle.vm_ranges.specs.Request.{request_for};
 ghost use Rattle.vm_lines.specs.Machines.{AllocatesRange, FreesRange, replaced_if_ok};
 ghost use Rattle.vm_lines.specs.Replies.{done_reply};
@@ -9,7 +9,8 @@ use crate::command::Command;
 use crate::reply::{Reply, device_reply, done_reply, id_reply, range_reply};
 use std::alloc::Global;
 use std::marker::Model;
-use vm_allocator::{AddressAllocator, AllocPolicy, IdAllocator, RangeInclusive, Result};
+use vm_addresses::{AddressAllocator, AllocPolicy, RangeInclusive, Result};
+use vm_ids::IdAllocator;
 use vm_devices::DeviceManager;
 
 /// The space, the ids and the devices that the lines so far have created.
@@ -22,7 +23,7 @@ pub(crate) struct Machine {
 
 impl Model for Machine {
     ghost use Rattle.std.specs.Option.{option_map};
-    ghost use Rattle.vm_allocator.specs.Allocator.{state_of};
+    ghost use Rattle.vm_addresses.specs.Allocator.{state_of};
     ghost use Rattle.vm_devices.specs.Manager.{device_state};
     ghost use Rattle.vm_lines.specs.Machines.{Machine, machine_code};
 

@@ -4,7 +4,7 @@ ghost use Rattle.vm_lines.specs.Replies.{text_of, error_text, pair_text, device_
 
 use crate::buffer::{Buffer, CAPACITY};
 use crate::number::MAX_DIGITS;
-use vm_allocator::{Error, RangeInclusive, Result};
+use vm_addresses::{Error, RangeInclusive, Result};
 use vm_devices::DeviceSlot;
 
 /// The maximum length of a reply in bytes, without its newline: the length of the error for an

@@ -1,7 +1,7 @@
 // SPDX-License-Identifier: Apache-2.0 OR BSD-3-Clause
 use crate::convert::{out_of_memory, unless_list_out_of_memory};
 use crate::error::{ListResult, TryListResult, TryResult};
-use crate::proved::vm_allocator as proved;
+use crate::proved::vm_addresses as proved;
 use crate::rattle::Global;
 use crate::traits::{allocator, iterate, DebugList};
 use crate::{

@@ -1,6 +1,6 @@
 // SPDX-License-Identifier: Apache-2.0 OR BSD-3-Clause
 use crate::pad::pad;
-use crate::proved::vm_allocator as proved;
+use crate::proved::vm_addresses as proved;
 use crate::{Error, RangeInclusive, Result};
 use core::fmt;
 use core::hash::{Hash, Hasher};

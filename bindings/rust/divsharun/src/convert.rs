@@ -6,7 +6,7 @@
 #![allow(clippy::from_over_into)]
 
 use crate::error::{ListResult, TryListResult};
-use crate::proved::vm_allocator as proved;
+use crate::proved::vm_addresses as proved;
 use crate::{AddressAllocator, Conflict, Error, ListError, NodeState, RangeInclusive, TryError};
 
 /// Implements the conversions between an enum of callers and the one of the proved code. They have the same
@@ -39,7 +39,7 @@ macro_rules! convert_variants {
     };
 }
 
-convert_variants! { NodeState, proved::allocation_engine::NodeState: Free, Allocated }
+convert_variants! { NodeState, crate::proved::vm_ranges::NodeState: Free, Allocated }
 // If memory ran out, the process ends, as with Rust's collections.
 convert_variants! {
     Error, proved::Error:

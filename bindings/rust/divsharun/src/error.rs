@@ -1,6 +1,6 @@
 // SPDX-License-Identifier: Apache-2.0 OR BSD-3-Clause
 use crate::pad::pad;
-use crate::proved::vm_allocator::Error as Proved;
+use crate::proved::vm_addresses::Error as Proved;
 use crate::{NodeState, RangeInclusive};
 use core::fmt;
 

@@ -1,6 +1,6 @@
 // SPDX-License-Identifier: Apache-2.0 OR BSD-3-Clause
 use crate::error::TryResult;
-use crate::proved::vm_allocator as proved;
+use crate::proved::vm_ids as proved;
 use crate::rattle::Global;
 use crate::traits::{allocator, iterate};
 use crate::{Result, Window};

@@ -1,4 +1,4 @@
--- How deep the values of allocators nest, and the allocators that are read of their texts.
+-- The allocators that are read of their texts.
 use Rattle.std.proofs.Common.{◌≡◌, ◌⊎◌, ℕ, ◌+◌, ◌≤◌, ◌∷◌, [], List, Option, Some, None, codes, refl, sym, ap, ◌∙◌, arith, subst, Result, Ok, Err, MatchResult}
 use Rattle.std.proofs.lemmas.Option.{same_Some}
 use Rattle.serde_json.specs.Data.{Data, depth}
@@ -7,58 +7,23 @@ use Rattle.serde_json.specs.Read.{read, max_depth}
 use Rattle.serde_json.specs.View.{view}
 use Rattle.serde_json.specs.declared.error.Error as json
 use Rattle.serde_json.specs.declared.value.Value.{Value}
-use Rattle.vm_ranges.proofs.FieldSteps.{field_map}
-use Rattle.vm_ranges.proofs.Nesting.{object_within, number_within, whole_flat, range_nests, state_nests, list_within}
+use Rattle.vm_ranges.proofs.Nesting.{range_nests, state_nests}
 use Rattle.vm_ranges.proofs.ReadTexts.{parsed_again}
 use Rattle.vm_ranges.specs.RangeValues.{EncodesRange, EncodesState}
 use Rattle.vm_ranges.specs.Saving.{Reads}
 use Rattle.vm_ranges.specs.Texts.{IsTextOf}
 use Rattle.vm_ranges.specs.declared.saved.ValueError.{ValueError}
 use Rattle.vm_ranges.specs.declared.saved.ValueError.TheVariants.{OutOfMemory}
-use Rattle.vm_engine.proofs.Reading.NestedTrees.{tree_nests}
-use Rattle.vm_engine.specs.Address.{AddressState}
+use Rattle.vm_addresses.proofs.Reading.NestedTrees.{addresses_nest}
+use Rattle.vm_ids.proofs.Ids.NestedIds.{ids_nest}
+use Rattle.vm_addresses.specs.Address.{AddressState}
 use Rattle.vm_ids.specs.Ids.{IdState}
-use Rattle.vm_allocator.specs.Values.AllocatorValues.{EncodesTree, EncodesAddresses}
-use Rattle.vm_ids.specs.Values.IdValues.{EncodesNext, EncodesNumber, EncodesIds}
+use Rattle.vm_addresses.specs.Values.AllocatorValues.{EncodesAddresses}
+use Rattle.vm_ids.specs.Values.IdValues.{EncodesIds}
 use Rattle.vm_allocator.specs.Laws.ValueLaws.{ReadsWritten, ReadsText}
-use Rattle.vm_allocator.proofs.Reading.ReadAllocators.{one_addresses}
+use Rattle.vm_addresses.proofs.Reading.ReadAllocators.{one_addresses}
 use Rattle.vm_ids.proofs.Ids.ReadIdStates.{one_encoded}
 use Rattle.vm_allocator.proofs.Reading.ReadAgain.{range_again, state_again, allocator_again, ids_again}
-
--- ---- How deep the values nest
-root_nests : (d : Data) (Root : Data → Type 0) (n : ℕ) → ((v : Data) → Root v → depth v ≤ n) → EncodesTree d Root → depth d ≤ n + 1
-root_nests d Root n f p = let e = object_within n (codes "root" ∷ []) d (tt, tt) p.one_field (field_map (codes "root") d _ _ f p.root, tt)
-    in omega (arith, e)
-
-pub addresses_nest : (d : Data) (state : AddressState) → EncodesAddresses d state → depth d ≤ 52
-addresses_nest d state p =
-    object_within 51 (codes "address_space" ∷ codes "interval_tree" ∷ []) d ((refl, tt), (tt, tt)) p.two_fields (
-      field_map (codes "address_space") d _ _ (λ v k. let e = range_nests v state.space k in omega (arith, e)) p.address_space,
-      (field_map (codes "interval_tree") d _ _ (λ v k. root_nests v _ 50 (λ w t. tree_nests w state.space state t) k) p.interval_tree, tt),
-    )
-
-next_nests : (d : Data) (next : Option ℕ) → EncodesNext d next → depth d ≤ 1
-next_nests d None p = let e = ap depth p in omega (arith, e)
-next_nests d (Some n) p = let e = whole_flat d n p in omega (arith, e)
-
-pub ids_nest : (d : Data) (state : IdState) → EncodesIds d state → depth d ≤ 2
-ids_nest d state p =
-    let f = p.written in
-    object_within 1 (codes "range_base" ∷ codes "next_id" ∷ codes "range_end" ∷ codes "freed_ids" ∷ []) d
-    ((refl, (refl, (refl, tt))), ((refl, (refl, tt)), ((refl, tt), (tt, tt)))) f.four_fields (
-      number_within 1 _ (codes "range_base") d f.range_base,
-      (
-        field_map (codes "next_id") d _ _ (λ v k. next_nests v p.fields.next_id k) f.next_id,
-        (
-          number_within 1 _ (codes "range_end") d f.range_end,
-          (
-            field_map (codes "freed_ids") d _ _
-                (λ v k. list_within EncodesNumber 0 (λ w n e. let z = whole_flat w n e in omega (arith, z)) v p.fields.freed_ids k) f.freed_ids,
-            tt,
-          ),
-        ),
-      ),
-    )
 
 -- ---- Texts
 -- The allocator that is read from the text of a written value is the allocator that was written.

@@ -2,19 +2,19 @@
 use Rattle.std.proofs.Common.{List, ap, sym, ◌∙◌, subst}
 use Rattle.serde_json.specs.Data.{Data}
 use Rattle.serde_json.specs.View.{view}
-use Rattle.vm_engine.specs.Address.{AddressState}
+use Rattle.vm_addresses.specs.Address.{AddressState}
 use Rattle.vm_tree.specs.Shape.{blocks}
-use Rattle.vm_engine.specs.Tree.SpaceTree.{space_of}
-use Rattle.vm_engine.proofs.SavedNodes.Roots.{state_with}
-use Rattle.vm_engine.proofs.SavedNodes.SavedTreeLaws.{written_is_read}
-use Rattle.vm_allocator.specs.Values.AllocatorValues.{EncodesAddresses}
+use Rattle.vm_addresses.specs.Allocator.{space_of}
+use Rattle.vm_addresses.proofs.SavedNodes.Roots.{state_with}
+use Rattle.vm_addresses.proofs.SavedNodes.SavedTreeLaws.{written_is_read}
+use Rattle.vm_addresses.specs.Values.AllocatorValues.{EncodesAddresses}
 use Rattle.vm_ids.specs.Values.IdValues.{EncodesIds}
-use Rattle.vm_allocator.specs.Histories.AddressHistories.{IsHistoryFrom}
+use Rattle.vm_addresses.specs.Histories.AddressHistories.{IsHistoryFrom}
 use Rattle.vm_ids.specs.Histories.IdHistories.{IsIdHistoryFrom}
 use Rattle.vm_allocator.specs.Laws.ValueLaws.{EncodesAtMostOne}
 use Rattle.vm_allocator.specs.Laws.RestoredLaws.{RestoredIsSaved, RestoredNodesHaveState}
 use Rattle.vm_ids.proofs.Ids.ReadIdStates.{one_encoded}
-use Rattle.vm_allocator.proofs.Reading.ReadAllocators.{one_addresses}
+use Rattle.vm_addresses.proofs.Reading.ReadAllocators.{one_addresses}
 
 restored : {X C : Type 0} (States : Data → X → Type 0) (History : X → List C → X → Type 0) → EncodesAtMostOne States →
     RestoredIsSaved States History

@@ -4,12 +4,12 @@ use Rattle.serde_json.specs.Data.{Data}
 use Rattle.serde_json.specs.View.{view}
 use Rattle.serde_json.specs.declared.value.Value.{Value}
 use Rattle.vm_ranges.specs.Saving.{Saves, Reads}
-use Rattle.vm_engine.specs.Address.{AddressState}
+use Rattle.vm_addresses.specs.Address.{AddressState}
 use Rattle.vm_tree.specs.Shape.{Shape, blocks}
-use Rattle.vm_engine.specs.Tree.SpaceTree.{space_of, tree_state, IsSpaceTree}
-use Rattle.vm_engine.specs.Values.SavedTrees.{Saved, HasTreeOf}
-use Rattle.vm_engine.specs.Values.WrittenTrees.{IsWritten}
-use Rattle.vm_allocator.specs.Histories.AddressHistories.{Call, IsHistoryFrom}
+use Rattle.vm_addresses.specs.Allocator.{space_of, state_of, IsSpaceTree}
+use Rattle.vm_addresses.specs.Values.SavedTrees.{Saved, HasTreeOf}
+use Rattle.vm_addresses.specs.Values.WrittenTrees.{IsWritten}
+use Rattle.vm_addresses.specs.Histories.AddressHistories.{Call, IsHistoryFrom}
 
 -- The object that is restored from the value of a saved object is the saved object. So a list of calls with its results is a
 -- history of the one if and only if it is a history of the other.
@@ -25,4 +25,4 @@ abbrev pub RestoredNodesHaveState : Type 0
 RestoredNodesHaveState =
     (saved : Shape) (t : Saved) (restored last : AddressState) (calls : List Call) →
     IsSpaceTree saved → IsWritten (blocks saved) t → HasTreeOf (space_of (blocks saved)) t restored →
-    (restored ≡ tree_state saved) × (IsHistoryFrom restored calls last ↔ IsHistoryFrom (tree_state saved) calls last)
+    (restored ≡ state_of saved) × (IsHistoryFrom restored calls last ↔ IsHistoryFrom (state_of saved) calls last)

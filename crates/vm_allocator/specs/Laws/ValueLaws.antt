@@ -5,10 +5,10 @@ use Rattle.serde_json.specs.Errors.{IsMemory}
 use Rattle.serde_json.specs.View.{view}
 use Rattle.serde_json.specs.declared.error.Error as json
 use Rattle.serde_json.specs.declared.value.Value.{Value}
-use Rattle.vm_engine.specs.Address.{AddressState}
-use Rattle.vm_engine.specs.Answer.{SPLIT_LIMIT_MIN_HELD}
-use Rattle.vm_allocator.specs.Values.AllocatorValues.{EncodesAddresses}
-use Rattle.vm_allocator.specs.Values.RepairedValues.{EncodesRepaired}
+use Rattle.vm_addresses.specs.Address.{AddressState}
+use Rattle.vm_addresses.specs.Answer.{SPLIT_LIMIT_MIN_HELD}
+use Rattle.vm_addresses.specs.Values.AllocatorValues.{EncodesAddresses}
+use Rattle.vm_addresses.specs.Values.RepairedValues.{EncodesRepaired}
 use Rattle.vm_ranges.specs.Saving.{Saves, Reads}
 use Rattle.vm_ranges.specs.Texts.{IsTextOf, Parses}
 use Rattle.vm_ranges.specs.declared.saved.ValueError.{ValueError}

@@ -8,7 +8,7 @@ use super::slots::{Devices, Slots};
 use std::alloc::{AllocError, Global};
 use std::collections::BTreeMap;
 use std::marker::Model;
-use vm_allocator::RangeInclusive;
+use vm_addresses::RangeInclusive;
 
 /// The range of each device by its id, and the id of each device by the start of its range.
 ///

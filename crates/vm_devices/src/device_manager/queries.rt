@@ -1,14 +1,15 @@
 //! Queries of the devices: an iterator, their number, the device at an address, and both
 //! allocators.
 ghost use Rattle.std.specs.Prelude.{◌≡◌};
-ghost use Rattle.vm_allocator.specs.Conflicts.{IsConflict, ConflictDecides};
+ghost use Rattle.vm_addresses.specs.Conflicts.{IsConflict, ConflictDecides};
 ghost use Rattle.vm_devices.specs.Manager.{device_state};
 ghost use Rattle.vm_devices.specs.Queries.{device_list, device_count, DeviceAt};
 
 use super::DeviceManager;
 use super::slots::Devices;
 use crate::device_slot::DeviceSlot;
-use vm_allocator::{AddressAllocator, Conflict, Constraint, IdAllocator};
+use vm_addresses::{AddressAllocator, Conflict, Constraint};
+use vm_ids::IdAllocator;
 
 impl DeviceManager {
     /// Returns an iterator over the devices, by ascending ids.

@@ -17,7 +17,8 @@ use self::slots::{encode_slots, read_slots};
 use super::DeviceManager;
 use serde_json::{Value, json};
 use std::alloc::{AllocError, Global};
-use vm_allocator::{AddressAllocator, IdAllocator, Result, ValueError};
+use vm_addresses::{AddressAllocator, Result, ValueError};
+use vm_ids::IdAllocator;
 use vm_ranges::{has_fields, list_in, number_in};
 
 impl DeviceManager {
@@ -30,7 +31,7 @@ impl DeviceManager {
     pub fn to_value(&self, alloc: Global) -> Result<Value>
         ensures answer { Saves (λ d. EncodesManager d (device_state self.now)) result }
         // The blocks decide the saved tree.
-        ensures written { Saves (WritesManager (blocks self.now.addresses.tree)) result }
+        ensures written { Saves (WritesManager (blocks self.now.addresses)) result }
     {
         let ids = self.id_allocator.to_value(alloc)?;
         let space = self.mmio_allocator.to_value(alloc)?;
@@ -57,7 +58,7 @@ impl DeviceManager {
     #[tactic(auto, using(crate::proofs::SavedManagers::no_fields))]
     pub fn from_value(alloc: Global, value: &Value) -> std::result::Result<Self, ValueError>
         ensures answer { ReadsInParts (EncodesManager (view value.now)) (made_manager result) }
-        ensures low { IfOk result (λ manager. IsLowestTree manager.addresses.tree) }
+        ensures low { IfOk result (λ manager. IsLowestTree manager.addresses) }
         ensures state { IfOk result (λ manager. IsDeviceState (device_state manager)) }
     {
         let Some(fields) = decode_fields(value) else {

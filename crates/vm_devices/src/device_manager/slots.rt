@@ -12,7 +12,7 @@ ghost use Rattle.vm_devices.specs.Slots.{slot_entries};
 use crate::device_slot::DeviceSlot;
 use std::alloc::{AllocError, Global};
 use std::marker::Model;
-use vm_allocator::RangeInclusive;
+use vm_addresses::RangeInclusive;
 
 /// The ranges of the devices by their ids.
 #[derive(Debug, Drop)]

@@ -8,9 +8,8 @@
 #![allow(clippy::question_mark, clippy::while_let_on_iterator)]
 #![allow(unused_imports)]
 
-pub mod vm_allocator;
+pub mod vm_addresses;
 pub mod vm_devices;
-pub mod vm_engine;
 pub mod vm_ids;
 mod vm_leaf;
 #[cfg(feature = "std")]

@@ -3,7 +3,7 @@
 //!
 //! The C library also has this file.
 
-use crate::proved::vm_allocator::Condition;
+use crate::proved::vm_addresses::Condition;
 use core::ffi::CStr;
 
 /// Returns the field of an object that violates a condition, and the text of the condition. There is no

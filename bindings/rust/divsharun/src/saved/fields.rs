@@ -4,9 +4,8 @@
 //! The C library also has this file. The module that includes it defines `write_fields!`, which implements
 //! the writing of each structure.
 
-use crate::proved::vm_allocator::{
-    AddressAllocator, IdAllocator, RangeInclusive, WrittenBlocks, WrittenNode,
-};
+use crate::proved::vm_addresses::{AddressAllocator, RangeInclusive, WrittenBlocks, WrittenNode};
+use crate::proved::vm_ids::IdAllocator;
 use crate::proved::vm_devices::{DeviceManager, DeviceSlot, SAVED_VERSION};
 
 write_fields! {

@@ -2,9 +2,8 @@
 //! Reads objects with serde. Fields can come in any order, and are checked as they come.
 
 use super::conditions::field_and_text;
-use crate::proved::vm_allocator::{
-    AddressAllocator, IdAllocator, RangeInclusive, ReadIds, ReadNodes, SavedError, Side,
-};
+use crate::proved::vm_addresses::{AddressAllocator, RangeInclusive, ReadNodes, SavedError, Side};
+use crate::proved::vm_ids::{IdAllocator, ReadIds};
 use crate::proved::vm_devices::{DeviceManager, ReadDevices};
 use crate::rattle::Global;
 use crate::{DeviceSlot, NodeState, TryError};

@@ -1,8 +1,8 @@
 // SPDX-License-Identifier: Apache-2.0 OR BSD-3-Clause
 //! Writes objects with serde.
 
-use crate::proved::vm_allocator::allocation_engine::NodeState;
-use crate::proved::vm_allocator::{AddressAllocator, WrittenBlocks, WrittenTree};
+use crate::proved::vm_ranges::NodeState;
+use crate::proved::vm_addresses::{AddressAllocator, WrittenBlocks, WrittenTree};
 use crate::proved::vm_devices::DeviceManager;
 use crate::rattle::Global;
 use crate::TryError;

@@ -1,7 +1,8 @@
 // SPDX-License-Identifier: Apache-2.0 OR BSD-3-Clause
 //! Tests that compare public calls with those of the proved code.
 
-use crate::proved::vm_allocator::{self as proved, allocation_engine::NodeState, Error as Proved};
+use crate::proved::vm_addresses::{self as proved, Error as Proved};
+use crate::proved::vm_ranges::NodeState;
 use crate::rattle::Global;
 use crate::{AddressAllocator, AllocPolicy, Constraint, Error, RangeInclusive, TryError};
 use alloc::format;

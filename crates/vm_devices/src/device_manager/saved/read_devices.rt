@@ -1,8 +1,8 @@
 //! Creates a manager of both allocators and its devices, which are read one by one.
 ghost use Rattle.std.specs.Prelude.{◌≡◌, [], ◌∷◌, ◌++◌, IfOk};
 ghost use Rattle.vm_ranges.specs.Cases.{IsTestOf};
-ghost use Rattle.vm_engine.specs.Address.{IsAddressState};
-ghost use Rattle.vm_allocator.specs.Allocator.{state_of};
+ghost use Rattle.vm_addresses.specs.Address.{IsAddressState};
+ghost use Rattle.vm_addresses.specs.Allocator.{state_of};
 ghost use Rattle.vm_ids.specs.Ids.{IsIdState};
 ghost use Rattle.vm_devices.specs.Devices.{IsDeviceState};
 ghost use Rattle.vm_devices.specs.Manager.{device_state, made_manager};
@@ -14,7 +14,8 @@ use crate::device_manager::device_table::DeviceTable;
 use crate::device_slot::DeviceSlot;
 use std::alloc::Global;
 use std::marker::Model;
-use vm_allocator::{AddressAllocator, IdAllocator};
+use vm_addresses::AddressAllocator;
+use vm_ids::IdAllocator;
 use vm_ranges::{Condition, SavedError};
 
 /// The version of a saved manager.

@@ -11,7 +11,7 @@ use crate::device_manager::slots::Devices;
 use crate::device_slot::DeviceSlot;
 use serde_json::{Value, json};
 use std::alloc::{AllocError, Global};
-use vm_allocator::{Result, ValueError};
+use vm_addresses::{Result, ValueError};
 use vm_ranges::{has_fields, range_in, u32_in};
 
 /// Encodes the devices as a list.

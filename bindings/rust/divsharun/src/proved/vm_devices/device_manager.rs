@@ -5,10 +5,11 @@
 //! Ids, ranges and the table of devices change together or not at all. Calls that can fail are
 //! first. The calls after them, and the call that undoes an allocation, always succeed.
 
-use crate::proved::vm_allocator::{
-    AddressAllocator, AllocPolicy, Constraint, Error, IdAllocator, RangeInclusive, Result,
+use crate::proved::vm_addresses::{
+    AddressAllocator, AllocPolicy, Constraint, Error, RangeInclusive, Result,
 };
 use crate::proved::vm_devices::device_slot::DeviceSlot;
+use crate::proved::vm_ids::IdAllocator;
 use crate::rattle::Global;
 
 mod comparing;

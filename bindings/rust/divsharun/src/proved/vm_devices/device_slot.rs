@@ -1,7 +1,7 @@
 // Written by bindings/erase from crates/vm_devices/src/device_slot.rt: do not edit.
 
 //! The id and the range of a device.
-use crate::proved::vm_allocator::RangeInclusive;
+use crate::proved::vm_addresses::RangeInclusive;
 
 /// The id and the range of addresses of a device.
 #[derive(Clone, Copy, Debug, PartialEq, Eq)]

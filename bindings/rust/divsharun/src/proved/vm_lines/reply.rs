@@ -2,7 +2,7 @@
 
 //! Replies to lines, and their text.
 
-use crate::proved::vm_allocator::{Error, RangeInclusive, Result};
+use crate::proved::vm_addresses::{Error, RangeInclusive, Result};
 use crate::proved::vm_devices::DeviceSlot;
 use crate::proved::vm_lines::buffer::Buffer;
 

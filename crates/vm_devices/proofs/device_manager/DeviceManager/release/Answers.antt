@@ -1,6 +1,6 @@
 use Rattle.std.proofs.Common.{◌≡◌, sym, ap, ◌∙◌, Err, rules}
 use Rattle.std.specs.FinMap as map
-use Rattle.vm_allocator.specs.Allocator.{state_of}
+use Rattle.vm_addresses.specs.Allocator.{state_of}
 use Rattle.vm_ids.specs.Ids.{IdState}
 use Rattle.vm_devices.specs.Devices.{devices_of}
 use Rattle.vm_devices.specs.Manager.{DevicesInTree}

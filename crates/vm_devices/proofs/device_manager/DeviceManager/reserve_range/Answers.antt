@@ -5,10 +5,10 @@ use Rattle.vm_ranges.specs.Range.{Range}
 use Rattle.vm_ids.specs.Ids.{IdState}
 use Rattle.vm_devices.specs.Manager.{DevicesInTree}
 use Rattle.vm_ranges.specs.declared.error.Error.TheVariants.{OutOfMemory}
-use Rattle.vm_allocator.specs.Allocator.{SpaceInTree, state_of}
+use Rattle.vm_addresses.specs.Allocator.{Shape, state_of}
 use Rattle.vm_devices.specs.Devices.{devices_of}
 use Rattle.vm_devices.proofs.DeviceCalls.{id_peeked, entered, entered_state, undone, undone_state}
-use Rattle.vm_engine.proofs.Results.AddressResults.{freeing_undoes}
+use Rattle.vm_addresses.proofs.Results.AddressResults.{freeing_undoes}
 use Rattle.vm_devices.proofs.DeviceParts.{allocation_failed, range_returned, range_kept}
 use Rattle.vm_devices.proofs.DeviceStarts.{new_device}
 use Rattle.vm_devices.proofs.device_manager.DeviceManager.reserve_range.Goals as goal
@@ -22,14 +22,14 @@ returns-in_err-range-clause-answer c =
     (id_peeked _ _ c.args.request c.args.id (state_of c.allocate_constraint.new.self) (Err e) _ (rw (← c.self.view_is) at c.requires)
     c.in_err-range.ensures.answer (refl, same))
 
-abbrev manager_of : IdState → SpaceInTree → map.FinMap nat_cmp Range → DevicesInTree
+abbrev manager_of : IdState → Shape → map.FinMap nat_cmp Range → DevicesInTree
 manager_of ids addresses devices = record { ids = ids; addresses = addresses; devices = devices }
 
 pub returns-in_err-range-clause-parts : goal.returns-in_err-range-clause-parts
 returns-in_err-range-clause-parts c =
     let e = c.in_err-range.field-0.0 in
     let is : c.from_residual.result ≡ Err e = search rules in
-    let same = ap (λ (a : SpaceInTree). manager_of c.self.inside.id_allocator a c.self.inside.slots) c.in_err-range.ensures.unchanged in
+    let same = ap (λ (a : Shape). manager_of c.self.inside.id_allocator a c.self.inside.slots) c.in_err-range.ensures.unchanged in
     rw (← c.self.view_is, is) (allocation_failed _ _ c.args.request (Err e) e same c.in_err-range.ensures.part)
 
 pub insert-requires : goal.insert-requires

@@ -3,7 +3,7 @@
 //! The table of the devices. It finds a range by its id, and an id by the start of its range.
 
 use super::slots::{Devices, Slots};
-use crate::proved::vm_allocator::RangeInclusive;
+use crate::proved::vm_addresses::RangeInclusive;
 use crate::rattle::BTreeMap;
 use crate::rattle::{AllocError, Global};
 

@@ -5,8 +5,9 @@
 
 use super::slots::Devices;
 use super::DeviceManager;
-use crate::proved::vm_allocator::{AddressAllocator, Conflict, Constraint, IdAllocator};
+use crate::proved::vm_addresses::{AddressAllocator, Conflict, Constraint};
 use crate::proved::vm_devices::device_slot::DeviceSlot;
+use crate::proved::vm_ids::IdAllocator;
 
 impl DeviceManager {
     /// Returns an iterator over the devices, by ascending ids.

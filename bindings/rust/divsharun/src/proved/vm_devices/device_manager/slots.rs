@@ -5,7 +5,7 @@
 //! The lowest free id is always allocated first, so the ids are close together, and a vector takes
 //! less time than a map.
 
-use crate::proved::vm_allocator::RangeInclusive;
+use crate::proved::vm_addresses::RangeInclusive;
 use crate::proved::vm_devices::device_slot::DeviceSlot;
 use crate::rattle::Vec;
 use crate::rattle::{AllocError, Global};

@@ -1,5 +1,5 @@
 use Rattle.std.proofs.Common.{sym, ◌∙◌}
-use Rattle.vm_allocator.specs.Allocator.{state_of}
+use Rattle.vm_addresses.specs.Allocator.{state_of}
 use Rattle.vm_devices.proofs.PairedDevices.{start_tested}
 use Rattle.vm_devices.proofs.device_manager.saved.read_devices.can_be_inserted.Goals.{then-is_allocated, else-is_allocated}
 use Rattle.vm_devices.proofs.device_manager.saved.read_devices.can_be_inserted.Goals as goal

@@ -1,4 +1,4 @@
-use Rattle.vm_allocator.specs.Allocator.{state_of}
+use Rattle.vm_addresses.specs.Allocator.{state_of}
 use Rattle.vm_devices.proofs.PairedDevices.{ArePairedSoFar}
 use Rattle.vm_devices.proofs.device_manager.saved.read_devices.pair_devices.Given as goal
 

@@ -2,10 +2,11 @@
 
 //! Creates a manager of both allocators and its devices, which are read one by one.
 
-use crate::proved::vm_allocator::{AddressAllocator, IdAllocator};
+use crate::proved::vm_addresses::AddressAllocator;
 use crate::proved::vm_devices::device_manager::device_table::DeviceTable;
 use crate::proved::vm_devices::device_manager::DeviceManager;
 use crate::proved::vm_devices::device_slot::DeviceSlot;
+use crate::proved::vm_ids::IdAllocator;
 use crate::proved::vm_ranges::{Condition, SavedError};
 use crate::rattle::Global;
 use crate::rattle::Vec;

@@ -1,0 +1,253 @@
+// Written by bindings/erase from crates/vm_addresses/src/saved/nodes.rt: do not edit.
+
+//! The nodes of a saved tree that were read so far.
+//!
+//! A reader calls `begin` before it reads the fields of a node, and `end` after that. It has no list
+//! of nodes: a subtree is known by its span, and only the allocated keys of all subtrees are kept.
+
+use super::span::{held_in, is_inside, is_tree_of, span_over, Span, MAX_NESTING};
+use crate::proved::vm_addresses::AddressAllocator;
+use crate::proved::vm_ranges::{Condition, NodeState, RangeInclusive, SavedError};
+use crate::rattle::Vec;
+use crate::rattle::{AllocError, Global};
+
+/// A side of a node, on which it can have a child.
+#[derive(Clone, Copy, PartialEq, Eq)]
+pub enum Side {
+    /// The side of the lower keys.
+    Left,
+    /// The side of the higher keys.
+    Right,
+}
+
+/// The spans of the children of a node that have ended.
+#[derive(Clone, Copy)]
+struct Children {
+    left: Option<Span>,
+    right: Option<Span>,
+}
+
+const CHILDLESS: Children = Children {
+    left: None,
+    right: None,
+};
+
+/// The nodes of a saved tree that were read so far, or the error of reading them.
+pub struct ReadNodes {
+    // The first error.
+    failed: Option<SavedError>,
+    // The allocated keys of all nodes that ended. Those of a node are in ascending order.
+    held: Vec<RangeInclusive>,
+    // The children of the node that began last and did not end. If there is none, the left one is the root.
+    children: Children,
+    // The children of the nodes that it is nested in, the outermost first.
+    outer: Vec<Children>,
+}
+
+impl ReadNodes {
+    /// Returns an empty list of nodes. It does not allocate.
+    pub fn new(alloc: Global) -> Self {
+        ReadNodes {
+            failed: None,
+            held: Vec::new(alloc),
+            children: CHILDLESS,
+            outer: Vec::new(alloc),
+        }
+    }
+
+    /// Begins a node. It is nested in the nodes that began and did not end.
+    ///
+    /// So a reader that begins each node descends at most 51 levels.
+    ///
+    /// # Errors
+    ///
+    /// After an error, each call returns this error.
+    /// - `Violated(Nesting)` if it is nested in 50 nodes.
+    /// - `OutOfMemory` if an allocation fails.
+    pub fn begin(&mut self) -> core::result::Result<(), SavedError> {
+        if let Some(error) = self.failed {
+            return Err(error);
+        }
+        if let Err(error) = nest(&mut self.outer, self.children) {
+            self.failed = Some(error);
+            return Err(error);
+        }
+        self.children = CHILDLESS;
+        Ok(())
+    }
+
+    /// Ends the node that began last, as the child on this side of the node that it is nested in. The root
+    /// ends as a left child.
+    ///
+    /// The children of the node are those that ended since it began, in any order.
+    ///
+    /// # Errors
+    ///
+    /// After an error, each call returns this error. In this order:
+    /// - `Violated(Tree)` if no node began, or if a child on this side has ended before.
+    /// - `Violated(Keys)` if one of these is true:
+    ///   - The keys are not in ascending order, or share an address.
+    ///   - The key is allocated and ends at `u64::MAX`.
+    ///   - Nodes are nested more than 50 deep.
+    /// - `OutOfMemory` if an allocation fails.
+    pub fn end(
+        &mut self,
+        side: Side,
+        key: RangeInclusive,
+        state: NodeState,
+        height: u64,
+    ) -> core::result::Result<(), SavedError> {
+        if let Some(error) = self.failed {
+            return Err(error);
+        }
+        let (held, children, outer) = (&mut self.held, &mut self.children, &mut self.outer);
+        if let Err(error) = end_in(held, children, outer, side, key, state, height) {
+            self.failed = Some(error);
+            return Err(error);
+        }
+        Ok(())
+    }
+}
+
+/// Adds the children of a node that is not the innermost one any more.
+fn nest(outer: &mut Vec<Children>, children: Children) -> core::result::Result<(), SavedError> {
+    if outer.len() as u64 >= MAX_NESTING {
+        return Err(SavedError::Violated(Condition::Nesting));
+    }
+    outer.push(children)?;
+    Ok(())
+}
+
+/// Ends the innermost node. Its children are replaced by those of the node that it is nested in.
+fn end_in(
+    held: &mut Vec<RangeInclusive>,
+    children: &mut Children,
+    outer: &mut Vec<Children>,
+    side: Side,
+    key: RangeInclusive,
+    state: NodeState,
+    height: u64,
+) -> core::result::Result<(), SavedError> {
+    let Some(parent) = outer.pop() else {
+        return Err(SavedError::Violated(Condition::Tree));
+    };
+    if has_child(&parent, side) {
+        return Err(SavedError::Violated(Condition::Tree));
+    }
+    let Some(span) = span_over(&children.left, &key, state, &children.right, height) else {
+        return Err(SavedError::Violated(Condition::Keys));
+    };
+    insert_key(held, held_in(&children.right), key, state)?;
+    order_keys(held, held_in(&parent.right), held_in(&Some(span)));
+    *children = with_child(parent, side, span);
+    Ok(())
+}
+
+/// Returns `true` if there is a child on this side.
+fn has_child(children: &Children, side: Side) -> bool {
+    match side {
+        Side::Left => children.left.is_some(),
+        Side::Right => children.right.is_some(),
+    }
+}
+
+/// Returns the children with this one on a side.
+fn with_child(children: Children, side: Side, span: Span) -> Children {
+    match side {
+        Side::Left => Children {
+            left: Some(span),
+            right: children.right,
+        },
+        Side::Right => Children {
+            left: children.left,
+            right: Some(span),
+        },
+    }
+}
+
+/// Inserts the key of a node, if it is allocated, before the last `after` keys.
+fn insert_key(
+    held: &mut Vec<RangeInclusive>,
+    after: u64,
+    key: RangeInclusive,
+    state: NodeState,
+) -> core::result::Result<(), AllocError> {
+    if state == NodeState::Free {
+        return Ok(());
+    }
+    let place = held.len().saturating_sub(after as usize);
+    held.insert(place, key)?;
+    Ok(())
+}
+
+/// Moves the last `count` keys before the `right` keys before them.
+fn order_keys(held: &mut Vec<RangeInclusive>, right: u64, count: u64) {
+    let moved = right.saturating_add(count) as usize;
+    if right > 0 && moved <= held.len() {
+        let first = held.len() - moved;
+        held[first..].rotate_left(right as usize);
+    }
+}
+
+/// Returns the span of the root, if there is no node that did not end.
+fn root_of(outer: &[Children], children: &Children) -> Option<Option<Span>> {
+    if outer.is_empty() && children.right.is_none() {
+        return Some(children.left);
+    }
+    None
+}
+
+impl AddressAllocator {
+    /// Returns the allocator that a saved space and a saved tree represent. Its tree has the minimum height.
+    ///
+    /// # Errors
+    ///
+    /// In this order:
+    /// - The error of reading the nodes.
+    /// - `Violated(Tree)` if the nodes are not one whole tree of the space.
+    /// - `OutOfMemory` if an allocation fails.
+    pub fn from_nodes(
+        alloc: Global,
+        space: RangeInclusive,
+        nodes: &ReadNodes,
+    ) -> core::result::Result<Self, SavedError> {
+        if let Some(error) = nodes.failed {
+            return Err(error);
+        }
+        let Some(root) = root_of(&nodes.outer, &nodes.children) else {
+            return Err(SavedError::Violated(Condition::Tree));
+        };
+        if !is_tree_of(&space, &root) {
+            return Err(SavedError::Violated(Condition::Tree));
+        }
+        Ok(Self::of_held(alloc, space, &nodes.held)?)
+    }
+
+    /// Returns the allocator of a saved space in which the allocated keys of a saved tree are
+    /// allocated. The saved tree can be empty or unbalanced, with gaps, free neighbours and wrong heights.
+    /// The tree of the allocator has the minimum height.
+    ///
+    /// # Errors
+    ///
+    /// In this order:
+    /// - The error of reading the nodes.
+    /// - `Violated(Inside)` if the nodes are not one whole tree, if a key is not in the space, or if more
+    ///   than 6,293,134,512 keys are allocated.
+    /// - `OutOfMemory` if an allocation fails.
+    pub fn from_nodes_repaired(
+        alloc: Global,
+        space: RangeInclusive,
+        nodes: &ReadNodes,
+    ) -> core::result::Result<Self, SavedError> {
+        if let Some(error) = nodes.failed {
+            return Err(error);
+        }
+        let Some(root) = root_of(&nodes.outer, &nodes.children) else {
+            return Err(SavedError::Violated(Condition::Inside));
+        };
+        if !is_inside(&space, &root) {
+            return Err(SavedError::Violated(Condition::Inside));
+        }
+        Ok(Self::of_held(alloc, space, &nodes.held)?)
+    }
+}

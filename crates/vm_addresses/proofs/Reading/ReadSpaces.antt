@@ -1,0 +1,60 @@
+-- The values that encode a tree of a space are read, and no others.
+use Rattle.std.proofs.Common.{◌≡◌, false, Option, sym, ap, ◌∙◌, subst, arith, List}
+use Rattle.serde_json.specs.Data.{Data}
+use Rattle.vm_ranges.specs.Range.{Range, MAX, IsRange}
+use Rattle.vm_ranges.specs.declared.state.NodeState.TheVariants.{Allocated}
+use Rattle.vm_addresses.specs.Address.{AddressState, IsAddressState}
+use Rattle.vm_addresses.specs.Checks.Spans.{StandsFor, is_tree_of}
+use Rattle.vm_addresses.specs.Checks.ValueNodes.{EncodesSaved, IsSavedIn}
+use Rattle.vm_addresses.specs.Tree.Blocks.{TilesSpace, held_of}
+use Rattle.vm_addresses.specs.Values.NodeTree.{NodeTree, blocks}
+use Rattle.vm_addresses.specs.Values.SavedTrees.{Saved, saved_blocks, IsReadable, HasTreeOf}
+use Rattle.vm_addresses.specs.Values.TreeValues.{EncodesSpaceTree}
+use Rattle.vm_addresses.specs.declared.saved.span.Span.{Span}
+use Rattle.vm_addresses.proofs.Blocks.BlockStates.{tiles_keys, is_state}
+use Rattle.vm_addresses.proofs.Reading.ReadNodes.{one_shape}
+use Rattle.vm_addresses.proofs.SavedNodes.KeyLists.{keys_within}
+use Rattle.vm_addresses.proofs.SavedNodes.Roots.{state_with, strict_none}
+use Rattle.vm_addresses.proofs.SavedNodes.Spans.{complete}
+use Rattle.vm_addresses.proofs.SavedNodes.ValueLaws.{strict_nodes}
+use Rattle.vm_addresses.proofs.SavedNodes.ValueTrees.{ranges_saved, one_saved}
+
+-- A value that encodes a tree of the space is read.
+saved_in : (d : Data) (space : Range) (state : AddressState) → IsRange space.start space.end → EncodesSpaceTree d space state →
+    (span : Option Span) × (t : Saved) × IsSavedIn 0 d span t
+unfolding TilesSpace
+saved_in d space state range p =
+    let t = strict_nodes d space state p in
+    let whole = t.2.tree in
+    let nested = whole.nested in
+    let keys = keys_within space.start 0 space.end MAX (saved_blocks t.0) (omega arith) range.1
+    (tiles_keys Allocated space.start space.end (saved_blocks t.0) whole.blocks.tiles) in
+    let readable : IsReadable t.0 = record { nested = omega arith; keys = keys; below = whole.blocks.below } in
+    let ranges = ranges_saved t.0 d t.1 in
+    let o = complete t.0 ranges readable in
+    (o.0, t.0, record { nodes = t.1; stands = record { is_span = o.1; ranges = ranges }; nested = omega arith })
+
+-- A value encodes at most one state of a space.
+pub one_encoded : (d : Data) (space : Range) (a b : AddressState) → EncodesSpaceTree d space a → EncodesSpaceTree d space b → a ≡ b
+one_encoded d space a b p q =
+    let tree : p.tree ≡ q.tree = one_shape p.tree q.tree d p.encoded q.encoded in
+    let held : a.held ≡ b.held = sym p.held ∙ ap (λ (s : NodeTree). held_of (blocks s)) tree ∙ q.held in
+    ap (λ (v : Range). state_with v a.held) (p.is_space ∙ sym q.is_space) ∙ ap (state_with b.space) held
+
+-- The state that a value encodes is valid.
+pub tree_state_valid : (d : Data) (state : AddressState) → IsRange state.space.start state.space.end →
+    EncodesSpaceTree d state.space state → IsAddressState state
+tree_state_valid d state range p =
+    let i = is_state state.space (blocks p.tree) p.blocks range in
+    subst (λ (hs : List Range). IsAddressState (state_with state.space hs)) p.held i
+
+-- ---- The clauses of the code
+pub tree_unread : (d : Data) (space : Range) → IsRange space.start space.end →
+    ¬ ((span : Option Span) × (t : Saved) × IsSavedIn 0 d span t) → ((state : AddressState) × EncodesSpaceTree d space state) → ⊥
+tree_unread d space range none p = none (saved_in d space p.0 range p.1)
+
+pub not_tree : (d : Data) (space : Range) (o : Option Span) (t : Saved) → EncodesSaved d t → StandsFor o t → is_tree_of space o ≡ false →
+    ((state : AddressState) × EncodesSpaceTree d space state) → ⊥
+not_tree d space o t nodes stands i p =
+    let u = strict_nodes d space p.0 p.1 in
+    strict_none space o t stands i (p.0, subst (λ (v : Saved). HasTreeOf space v p.0) (one_saved u.0 t d u.1 nodes) u.2)

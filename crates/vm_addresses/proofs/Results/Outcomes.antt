@@ -1,0 +1,90 @@
+-- A request fails, or the range at the chosen place is allocated.
+use Rattle.std.proofs.Common.{◌≡◌, ℕ, ◌+◌, ◌-◌, arith, inl, inr, ◌⊎◌, ⊎_elim, Option, Result, Ok, Err}
+use Rattle.vm_ranges.specs.Range.{Range, MAX, span}
+use Rattle.vm_addresses.specs.Address.{AddressState, holding}
+use Rattle.vm_ranges.specs.Request.{Request, IsRequest, ByConstraint}
+use Rattle.vm_addresses.specs.Windows.{within}
+use Rattle.vm_addresses.proofs.Results.Requests.{request_in}
+use Rattle.vm_addresses.specs.Answer.{IsChosen, ByStart, ByExactPolicy, ByPlace, AllocatesAt, Grants, Allocates}
+use Rattle.vm_ranges.specs.declared.error.Error.{Error}
+use Rattle.vm_ranges.specs.declared.error.Error.TheVariants.{Overflow, ResourceNotAvailable, OutOfMemory}
+use Rattle.vm_ranges.specs.declared.constraint.AllocPolicy.{AllocPolicy}
+use Rattle.vm_ranges.specs.declared.constraint.AllocPolicy.TheVariants.{FirstMatch, LastMatch, ExactMatch}
+
+-- The result is an error, and nothing changes.
+abbrev pub IsRefused : AddressState → Result Range Error → AddressState → Type 0
+IsRefused old answer new = (e : Error) × (answer ≡ Err e) × (new ≡ old)
+
+-- The range r is allocated.
+abbrev pub IsGiven : AddressState → Range → Result Range Error → AddressState → Type 0
+IsGiven old r answer new = (answer ≡ Ok r) × (new ≡ holding r old)
+
+pub given_or_refused : (old : AddressState) (r : Range) (answer : Result Range Error) (new : AddressState) → AllocatesAt old r answer new →
+    IsGiven old r answer new ⊎ IsRefused old answer new
+unfolding AllocatesAt
+given_or_refused old r answer new (inl fills) = inl fills.1
+given_or_refused old r answer new (inr (splits, inl many)) = inr (Overflow, many.1.0, many.1.1)
+given_or_refused old r answer new (inr (splits, inr (few, inl given))) = inl given
+given_or_refused old r answer new (inr (splits, inr (few, inr memory))) = inr (OutOfMemory, memory.0, memory.1)
+
+pub given_is : (old : AddressState) (r p : Range) (new : AddressState) → AllocatesAt old r (Ok p) new → p ≡ r
+given_is old r p new h = ⊎_elim (λ l. cc (l.0)) (λ k. absurd (cc (k.1))) (given_or_refused old r (Ok p) new h)
+
+-- The range at the chosen place is allocated, and does not end at MAX.
+abbrev pub IsTaken : Request → AddressState → Result Range Error → AddressState → Type 0
+IsTaken request old answer new =
+    (s : ℕ) × IsChosen request old s × ¬ (s + request.size - 1 ≡ MAX) × AllocatesAt old (span s request.size) answer new
+
+-- A result, with the state after it.
+module _ (old new : AddressState) (answer : Result Range Error) where
+  -- A test before the rest: an error, or the outcome of the rest.
+  or_rest : (C D Q G : Type 0) (e : Error) → (D → Q → IsRefused old answer new ⊎ G) → (C × ((answer ≡ Err e) × (new ≡ old))) ⊎ (D × Q) →
+      IsRefused old answer new ⊎ G
+  or_rest C D Q G e f h = ⊎_elim (λ l. inl (e, l.1.0, l.1.1)) (λ r. f r.0 r.1) h
+
+  place_outcome : (request : Request) → ByPlace request old (λ e. (answer ≡ Err e) × (new ≡ old)) (λ r. AllocatesAt old r answer new) →
+      IsRefused old answer new ⊎ IsTaken request old answer new
+  unfolding ByPlace
+  place_outcome request h =
+      ⊎_elim
+      (λ l. inl (ResourceNotAvailable, l.1.0, l.1.1))
+      (λ r. or_rest _ _ _ (IsTaken request old answer new) Overflow (λ d t. inr (r.0, r.1, d, t)) r.2)
+      h
+
+  start_outcome : (t n : ℕ) (view : AddressState) (P G : Type 0) → (P → IsRefused old answer new ⊎ G) →
+      ByStart t n view (λ e. (answer ≡ Err e) × (new ≡ old)) P → IsRefused old answer new ⊎ G
+  unfolding ByStart
+  start_outcome t n view P G rest h =
+      or_rest _ _ _ G _
+      (λ d. or_rest _ _ _ G _
+      (λ d. or_rest _ _ _ G _
+      (λ d. or_rest _ _ _ G _
+      (λ d. or_rest _ _ _ G _
+      (λ d. or_rest _ _ _ G _
+      (λ d. rest)))))) h
+
+  outcome_by : (policy : AllocPolicy) (w : Option Range) (n a : ℕ) → Grants old (request_in w n a policy) answer new →
+      IsRefused old answer new ⊎ IsTaken (request_in w n a policy) old answer new
+  unfolding Grants ByExactPolicy
+  outcome_by FirstMatch w n a h = place_outcome (request_in w n a FirstMatch) h
+  outcome_by LastMatch w n a h = place_outcome (request_in w n a LastMatch) h
+  outcome_by (ExactMatch t) w n a h =
+      let request = request_in w n a (ExactMatch t) in start_outcome t n (within w old) _ (IsTaken request old answer new)
+      (place_outcome request) h
+
+  pub grants_outcome : (request : Request) → Grants old request answer new → IsRefused old answer new ⊎ IsTaken request old answer new
+  grants_outcome request = outcome_by request.policy request.window request.size request.align
+
+  pub allocates_outcome : (request : Request) → Allocates old request answer new →
+      IsRefused old answer new ⊎ (IsRequest request × IsTaken request old answer new)
+  unfolding Allocates ByConstraint
+  allocates_outcome request h =
+      let G : Type 0 = IsRequest request × IsTaken request old answer new in
+      or_rest _ _ _ G _
+      (λ some. or_rest _ _ _ G _
+      (λ aligned. or_rest _ _ _ G _
+      (λ start q.
+      ⊎_elim
+      (λ l. inl l)
+      (λ t. inr (record { some = omega (arith, some); aligned = aligned; start = start }, t))
+      (grants_outcome request q)))) h

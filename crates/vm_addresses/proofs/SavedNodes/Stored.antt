@@ -1,0 +1,351 @@
+-- The keys and spans that a reader stores for the nodes that it has read.
+use Rattle.std.proofs.Common.{
+  ◌≡◌,
+  ℕ,
+  ◌≤◌,
+  ◌<◌,
+  ◌⊎◌,
+  inl,
+  inr,
+  false,
+  true,
+  List,
+  [],
+  ◌∷◌,
+  ◌++◌,
+  length,
+  is_some,
+  Option,
+  Some,
+  None,
+  Result,
+  Ok,
+  Err,
+  refl,
+  sym,
+  ap,
+  ◌∙◌,
+  subst,
+  arith,
+}
+use Rattle.std.proofs.lemmas.List.{append_assoc, append-nil}
+use Rattle.vm_ranges.specs.Range.{Range, IsRange}
+use Rattle.vm_ranges.specs.declared.saved.SavedError.{SavedError}
+use Rattle.vm_ranges.specs.declared.saved.SavedError.TheVariants.{Violated, OutOfMemory}
+use Rattle.vm_ranges.specs.declared.saved.Condition.TheVariants.{Nesting, Keys, Tree}
+use Rattle.vm_leaf.specs.declared.block.Block.{Block}
+use Rattle.vm_addresses.specs.Tree.Blocks.{range_if_held}
+use Rattle.vm_addresses.specs.Values.KeyValues.{MAX_NESTING_REPAIRED}
+use Rattle.vm_addresses.specs.Values.SavedTrees.{Saved, Absent, saved_blocks, held_keys, IsReadable}
+use Rattle.vm_addresses.specs.Values.NodesRead.{
+  BeginsNode,
+  EndsNode,
+  HasRead,
+  IsReader,
+  stored_unless,
+  ReadChildren,
+  NodesRead,
+  childless,
+  nothing_read,
+  begun,
+  child,
+  with_child,
+  node_of,
+  CanEnd,
+  ended,
+  StandForBoth,
+  StandForAll,
+  keys_of,
+  all_keys,
+  Stored,
+  IsStoredFor,
+  EndFails,
+  EndsStored,
+  child_span,
+  with_span,
+}
+use Rattle.vm_addresses.specs.Checks.Spans.{StandsFor, span_of, span_over, held_in}
+use Rattle.vm_addresses.specs.declared.saved.nodes.Children.{Children}
+use Rattle.vm_addresses.specs.declared.saved.nodes.Side.{Side}
+use Rattle.vm_addresses.specs.declared.saved.nodes.Side.TheVariants.{Left, Right}
+use Rattle.vm_addresses.specs.declared.saved.span.Span.{Span}
+use Rattle.vm_addresses.proofs.SavedNodes.KeyLists.{held_node}
+use Rattle.vm_addresses.proofs.SavedNodes.Spans.{sound, complete, held_is}
+
+-- ---- Lists of children
+
+-- The last of the spans stands for the last children.
+record Last (before : List Children) (last : Children) (cs : List ReadChildren) : Type 0 where
+  pub outer : List ReadChildren
+  pub parent : ReadChildren
+  pub is_last : cs ≡ outer ++ parent ∷ []
+  pub spans : StandForAll before outer
+  pub span : StandForBoth last parent
+
+last_stands : (spans : List Children) (s : Children) (cs : List ReadChildren) → StandForAll (spans ++ s ∷ []) cs → Last spans s cs
+last_stands [] s [] h = absurd h
+last_stands [] s (c ∷ []) h = record { outer = []; parent = c; is_last = refl; spans = tt; span = h.0 }
+last_stands [] s (c ∷ d ∷ cs) h = absurd h.1
+last_stands (x ∷ xs) s [] h = absurd h
+last_stands (x ∷ xs) s (c ∷ cs) h =
+    let l = last_stands xs s cs h.1 in
+    record {
+      outer = c ∷ l.outer;
+      parent = l.parent;
+      is_last = ap (λ (v : List ReadChildren). c ∷ v) l.is_last;
+      spans = (h.0, l.spans);
+      span = l.span;
+    }
+
+one_more : (spans : List Children) (s : Children) (cs : List ReadChildren) (c : ReadChildren) → StandForAll spans cs → StandForBoth s c →
+    StandForAll (spans ++ s ∷ []) (cs ++ c ∷ [])
+one_more [] s [] c h own = (own, tt)
+one_more [] s (d ∷ cs) c h own = absurd h
+one_more (x ∷ xs) s [] c h own = absurd h
+one_more (x ∷ xs) s (d ∷ cs) c h own = (h.0, one_more xs s cs c h.1 own)
+
+as_many : (spans : List Children) (cs : List ReadChildren) → StandForAll spans cs → length spans ≡ length cs
+as_many [] [] h = refl
+as_many [] (c ∷ cs) h = absurd h
+as_many (s ∷ ss) [] h = absurd h
+as_many (s ∷ ss) (c ∷ cs) h = let e = as_many ss cs h.1 in omega arith
+
+keys_join : (cs : List ReadChildren) (c : ReadChildren) → all_keys (cs ++ c ∷ []) ≡ all_keys cs ++ keys_of c
+keys_join [] c = append-nil (keys_of c)
+keys_join (d ∷ cs) c = ap (λ (v : List Range). keys_of d ++ v) (keys_join cs c) ∙ sym (append_assoc (keys_of d) (all_keys cs) (keys_of c))
+
+-- ---- A child that did not end
+
+is_absent : (o : Option Span) (t : Saved) → StandsFor o t → is_some o ≡ false → t ≡ Absent
+is_absent None t s e = sound t None s.ranges s.is_span
+is_absent (Some v) t s e = absurd (cc e)
+
+has_span : (o : Option Span) (t : Saved) → StandsFor o t → is_some o ≡ true → t ≡ Absent → ⊥
+has_span None t s e absent = absurd (cc e)
+has_span (Some v) t s e absent = let f : span_of Absent
+    ≡ Some (Some v) = subst (λ (x : Saved). span_of x ≡ Some (Some v)) absent s.is_span in absurd (cc f)
+
+child_stands : (side : Side) (s : Children) (c : ReadChildren) → StandForBoth s c → StandsFor (child_span side s) (child side c)
+child_stands Left s c h = h.left
+child_stands Right s c h = h.right
+
+stands_with : (side : Side) (s : Children) (c : ReadChildren) (span : Span) (t : Saved) → StandForBoth s c → StandsFor (Some span) t →
+    StandForBoth (with_span side span s) (with_child side t c)
+stands_with Left s c span t h own = record { left = own; right = h.right }
+stands_with Right s c span t h own = record { left = h.left; right = own }
+
+-- ---- Beginning
+
+childless_stands : StandForBoth (record { left = None; right = None }) childless
+childless_stands = record { left = record { is_span = refl; ranges = tt }; right = record { is_span = refl; ranges = tt } }
+
+pub starts : (held : List Range) (outer : List Children) → held ≡ [] → outer ≡ [] →
+    IsStoredFor (record { held = held; children = record { left = None; right = None }; outer = outer }) nothing_read
+starts held outer e f = record {
+  children = childless_stands;
+  outer = subst (λ (v : List Children). StandForAll v []) (sym f) tt;
+  keys = e;
+}
+
+pub begins : (held : List Range) (children : Children) (outer : List Children) (nodes : NodesRead) →
+    IsStoredFor (record { held = held; children = children; outer = outer }) nodes →
+    IsStoredFor (record { held = held; children = record { left = None; right = None }; outer = outer ++ children ∷ [] }) (begun nodes)
+begins held children outer nodes h = record {
+  children = childless_stands;
+  outer = one_more outer children nodes.outer nodes.children h.outer h.children;
+  keys = h.keys ∙ sym (keys_join nodes.outer nodes.children) ∙ sym (append-nil (all_keys (nodes.outer ++ nodes.children ∷ [])));
+}
+
+depth_is : (stored : Stored) (nodes : NodesRead) → IsStoredFor stored nodes → length stored.outer ≡ length nodes.outer
+depth_is stored nodes h = as_many stored.outer nodes.outer h.outer
+
+-- The value of a reader without an error.
+is_ok : (old : Result Stored SavedError) (failed : Option SavedError) (stored : Stored) → stored_unless failed stored ≡ old →
+    failed ≡ None → Ok stored ≡ old
+is_ok old failed stored e none = ap (λ (f : Option SavedError). stored_unless f stored) (sym none) ∙ e
+
+-- The error of `begin`.
+abbrev Refuses : ℕ → SavedError → Type 0
+Refuses depth e = ((e ≡ Violated Nesting) × (MAX_NESTING_REPAIRED ≤ depth)) ⊎ ((e ≡ OutOfMemory) × (depth < MAX_NESTING_REPAIRED))
+
+pub begin_fails : (old : Result Stored SavedError) (failed : Option SavedError) (held : List Range) (children : Children)
+    (outer : List Children) (e : SavedError) →
+    stored_unless failed (record { held = held; children = children; outer = outer }) ≡ old → failed ≡ None → Refuses (length outer) e →
+    BeginsNode old (Err e) (Err e)
+begin_fails old failed held children outer e is none r =
+    subst (λ (v : Result Stored SavedError). BeginsNode v (Err e) (Err e)) (is_ok old failed _ is none)
+    (λ nodes stored. (refl, subst (λ (n : ℕ). Refuses n e) (depth_is _ nodes stored) r))
+
+pub begin_ends : (old : Result Stored SavedError) (failed : Option SavedError) (held : List Range) (children : Children)
+    (outer more : List Children) →
+    stored_unless failed (record { held = held; children = children; outer = outer }) ≡ old → failed ≡ None →
+    (length outer < MAX_NESTING_REPAIRED) × (more ≡ outer ++ children ∷ []) →
+    BeginsNode old (Ok tt) (stored_unless failed (record { held = held; children = record { left = None; right = None }; outer = more }))
+begin_ends old failed held children outer more is none n =
+    let new : Stored = record { held = held; children = record { left = None; right = None }; outer = outer ++ children ∷ [] } in
+    let same : Ok new ≡ stored_unless failed (record { held = held; children = record { left = None; right = None }; outer = more }) = rw
+    (n.1, none) refl in
+    subst (λ (v : Result Stored SavedError). BeginsNode v (Ok tt)
+    (stored_unless failed (record { held = held; children = record { left = None; right = None }; outer = more })))
+    (is_ok old failed _ is none)
+    (λ nodes stored. (
+      subst (λ (k : ℕ). k < MAX_NESTING_REPAIRED) (depth_is _ nodes stored) n.0,
+      subst (λ (v : Result Stored SavedError). HasRead v (begun nodes)) same (begins held children outer nodes stored),
+    ))
+
+pub reader_begins : (failed : Option SavedError) (held : List Range) (children : Children) (outer more : List Children) →
+    IsReader (stored_unless failed (record { held = held; children = children; outer = outer })) → failed ≡ None →
+    (length outer < MAX_NESTING_REPAIRED) × (more ≡ outer ++ children ∷ []) →
+    IsReader (stored_unless failed (record { held = held; children = record { left = None; right = None }; outer = more }))
+reader_begins failed held children outer more reader none n =
+    let read = subst (λ (f : Option SavedError). IsReader (stored_unless f (record { held = held; children = children; outer = outer })))
+    none reader in
+    rw (n.1, none) (begun read.0, begins held children outer read.0 read.1)
+
+-- ---- Ending
+
+same_last : (xs ys : List ReadChildren) (x y : ReadChildren) → xs ++ x ∷ [] ≡ ys ++ y ∷ [] → x ≡ y
+same_last [] [] x y e = cc e
+same_last [] (c ∷ []) x y e = absurd (cc e)
+same_last [] (c ∷ d ∷ ys) x y e = absurd (cc e)
+same_last (c ∷ []) [] x y e = absurd (cc e)
+same_last (c ∷ d ∷ xs) [] x y e = absurd (cc e)
+same_last (c ∷ xs) (d ∷ ys) x y e = same_last xs ys x y (cc e)
+
+-- The keys of a new child are in their place.
+placed_left : (before lefts rights lasts : List Range) → lefts ≡ [] → (before ++ lefts) ++ (lasts ++ rights) ≡ before ++ (lasts ++ rights)
+placed_left before lefts rights lasts e = ap (λ (v : List Range). (before ++ v) ++ (lasts ++ rights)) e
+    ∙ ap (λ (v : List Range). v ++ (lasts ++ rights)) (append-nil before)
+
+placed_right : (before lefts rights lasts : List Range) → rights ≡ [] → (before ++ lefts) ++ (lasts ++ rights) ≡ before ++ (lefts ++ lasts)
+placed_right before lefts rights lasts e =
+    ap (λ (v : List Range). (before ++ lefts) ++ (lasts ++ v)) e ∙ ap (λ (v : List Range). (before ++ lefts) ++ v) (append-nil lasts)
+    ∙ append_assoc before lefts lasts
+
+placed : (side : Side) (before : List Range) (c : ReadChildren) (t : Saved) → child side c ≡ Absent →
+    (before ++ held_keys c.left) ++ (held_keys t ++ held_keys c.right) ≡ before ++ keys_of (with_child side t c)
+placed Left before c t e = placed_left before (held_keys c.left) (held_keys c.right) (held_keys t) (ap held_keys e)
+placed Right before c t e = placed_right before (held_keys c.left) (held_keys c.right) (held_keys t) (ap held_keys e)
+
+-- The keys after the key of a node was inserted.
+abbrev pub InsertsKey : List Range → ℕ → Block → List Range → Type 0
+InsertsKey old after b new = (lefts rights : List Range) → old ≡ lefts ++ rights → length rights ≡ after →
+    new ≡ lefts ++ (range_if_held b.state b.key ++ rights)
+
+-- The keys after the last `count` ones were moved before the `right` ones before them.
+abbrev pub OrdersKeys : List Range → ℕ → ℕ → List Range → Type 0
+OrdersKeys old right count new =
+    (before rights lasts : List Range) → old ≡ before ++ (rights ++ lasts) → length rights ≡ right → length lasts ≡ count →
+    new ≡ before ++ (lasts ++ rights)
+
+module _ (side : Side) (b : Block) (h : ℕ) (held : List Range) (children parent : Children) (outer left : List Children)
+    (is_last : outer ≡ left ++ parent ∷ []) where
+  abbrev old : Stored
+  old = record { held = held; children = children; outer = outer }
+
+  abbrev Fails : SavedError → Type 0
+  Fails e = (nodes : NodesRead) → IsStoredFor old nodes → EndFails side (node_of nodes b h) nodes e
+
+  last : (nodes : NodesRead) → IsStoredFor old nodes → Last left parent nodes.outer
+  last nodes stored = last_stands left parent nodes.outer (subst (λ (v : List Children). StandForAll v nodes.outer) is_last stored.outer)
+
+  -- There is a child on this side.
+  pub child_is_there : is_some (child_span side parent) ≡ true → Fails (Violated Tree)
+  child_is_there e = λ nodes stored.
+      let l = last nodes stored in
+      inl (
+        refl,
+        λ (other : CanEnd side nodes).
+            let same = same_last other.outer l.outer other.parent l.parent (sym other.is_last ∙ l.is_last) in
+            has_span _ _ (child_stands side parent l.parent l.span) e
+            (subst (λ (v : ReadChildren). child side v ≡ Absent) same other.is_new),
+      )
+
+  module _ (free : is_some (child_span side parent) ≡ false) (range : IsRange b.key.start b.key.end) where
+    can : (nodes : NodesRead) → IsStoredFor old nodes → CanEnd side nodes
+    can nodes stored =
+        let l = last nodes stored in
+        record {
+          parent = l.parent;
+          outer = l.outer;
+          is_last = l.is_last;
+          is_new = is_absent _ _ (child_stands side parent l.parent l.span)
+              free;
+        }
+
+    -- The subtree is not readable.
+    pub not_readable : span_over children.left b children.right h ≡ None → Fails (Violated Keys)
+    not_readable e = λ nodes stored.
+        let none : span_of (node_of nodes b h) ≡ None = rw (stored.children.left.is_span, stored.children.right.is_span, e) refl in
+        inr (
+          can nodes stored,
+          inl (
+            refl,
+            λ (r : IsReadable (node_of nodes b h)).
+                let some = complete (node_of nodes b h) (stored.children.left.ranges, stored.children.right.ranges, range) r in
+                let is = some.1 in
+                absurd (cc (none, is)),
+          ),
+        )
+
+    module _ (s : Span) (is : span_over children.left b children.right h ≡ Some s) where
+      stands : (nodes : NodesRead) → IsStoredFor old nodes → StandsFor (Some s) (node_of nodes b h)
+      stands nodes stored = record {
+        is_span = rw (stored.children.left.is_span, stored.children.right.is_span, is) refl;
+        ranges = (stored.children.left.ranges, stored.children.right.ranges, range);
+      }
+
+      -- Memory for the key ran out.
+      pub no_memory : Fails OutOfMemory
+      no_memory = λ nodes stored.
+          let st = stands nodes stored in
+          let means = sound (node_of nodes b h) (Some s) st.ranges st.is_span in
+          inr (can nodes stored, inr (refl, means.readable))
+
+      -- The node ends.
+      pub node_ends : (mid new : List Range) (joined : Children) → InsertsKey held (held_in children.right) b mid →
+          OrdersKeys mid (held_in parent.right) (held_in (Some s)) new →
+          joined ≡ with_span side s parent → EndsStored side b h old (Ok tt) (record { held = new; children = joined; outer = left })
+      unfolding can last
+      node_ends mid new joined inserted ordered e = λ nodes stored.
+          let l = last nodes stored in
+          let st = stands nodes stored in
+          let t = node_of nodes b h in
+          let lefts = held_keys nodes.children.left in
+          let rights = held_keys nodes.children.right in
+          let own = range_if_held b.state b.key in
+          let before = all_keys l.outer in
+          let all = all_keys nodes.outer in
+          let right_count = held_is children.right nodes.children.right
+          (sound _ _ stored.children.right.ranges stored.children.right.is_span) in
+          let count = held_is (Some s) t (sound t (Some s) st.ranges st.is_span) in
+          let parent_count = held_is parent.right l.parent.right (sound _ _ l.span.right.ranges l.span.right.is_span) in
+          let made : mid ≡ (all ++ lefts) ++ (own ++ rights) = inserted (all ++ lefts) rights
+          (stored.keys ∙ sym (append_assoc all lefts rights)) right_count in
+          let keys : mid ≡ all ++ held_keys t = made ∙ append_assoc all lefts (own ++ rights)
+          ∙ ap (λ (v : List Range). all ++ v) (sym (held_node (saved_blocks nodes.children.left) b (saved_blocks nodes.children.right))) in
+          let cut : all ≡ before ++ keys_of l.parent = ap all_keys l.is_last ∙ keys_join l.outer l.parent in
+          let split : mid ≡ (before ++ held_keys l.parent.left) ++ (held_keys l.parent.right ++ held_keys t) =
+          keys ∙ ap (λ (v : List Range). v ++ held_keys t)
+          (cut ∙ sym (append_assoc before (held_keys l.parent.left) (held_keys l.parent.right)))
+          ∙ append_assoc (before ++ held_keys l.parent.left) (held_keys l.parent.right) (held_keys t) in
+          let moved = ordered (before ++ held_keys l.parent.left) (held_keys l.parent.right) (held_keys t) split parent_count count in (
+            can nodes stored,
+            record {
+              children = subst (λ (v : Children). StandForBoth v (with_child side t l.parent)) (sym e)
+                  (stands_with side parent l.parent s t l.span st);
+              outer = l.spans;
+              keys = moved ∙ placed side before l.parent t (can nodes stored).is_new;
+            },
+          )
+
+-- ---- The calls of a reader
+
+pub end_ends : (side : Side) (b : Block) (h : ℕ) (old : Result Stored SavedError) (failed : Option SavedError) (stored new : Stored) →
+    stored_unless failed stored ≡ old → failed ≡ None → EndsStored side b h stored (Ok tt) new →
+    EndsNode side b h old (Ok tt) (stored_unless failed new)
+end_ends side b h old failed stored new is none ends =
+    subst (λ (v : Result Stored SavedError). EndsNode side b h v (Ok tt) (stored_unless failed new)) (is_ok old failed stored is none)
+    (λ nodes s.
+    let x = ends nodes s in
+    (x.0, subst (λ (f : Option SavedError). HasRead (stored_unless f new) (ended side (node_of nodes b h) nodes x.0)) (sym none) x.1))

@@ -1,0 +1,106 @@
+-- Values encode exactly the saved trees that readers of other formats accept.
+use Rattle.std.proofs.Common.{◌≡◌, ◌≢◌, List, Some, refl, sym, ap, ◌∙◌, Result, Ok, Err}
+use Rattle.serde_json.specs.Data.{Data}
+use Rattle.serde_json.specs.View.{view}
+use Rattle.serde_json.specs.declared.value.Value.{Value}
+use Rattle.vm_ranges.specs.Range.{Range}
+use Rattle.vm_ranges.specs.Saving.{Saves}
+use Rattle.vm_ranges.specs.declared.error.Error.{Error}
+use Rattle.vm_tree.specs.Shape.{Shape, blocks}
+use Rattle.vm_addresses.specs.Address.{AddressState}
+use Rattle.vm_addresses.specs.Checks.ValueNodes.{EncodesSaved, WritesTree}
+use Rattle.vm_addresses.specs.Laws.SavedLaws.{ValuesAreSavedTrees, ValuesHaveHeldKeys}
+use Rattle.vm_addresses.specs.Allocator.{state_of, IsSpaceTree}
+use Rattle.vm_addresses.specs.Values.NodeTree.{Tip}
+use Rattle.vm_addresses.specs.Values.SavedTrees.{Saved, Absent, Node, shape_of, HasTreeOf}
+use Rattle.vm_addresses.specs.Values.TreeValues.{EncodesNode, EncodesSpaceTree}
+use Rattle.vm_addresses.specs.Values.WrittenTrees.{WritesNode}
+use Rattle.vm_addresses.specs.declared.saved.written.WrittenNode.{WrittenNode}
+use Rattle.vm_leaf.specs.declared.block.Block.{Block}
+use Rattle.vm_addresses.proofs.SavedNodes.SavedTreeLaws.{nodes_are_written, written_is_read}
+use Rattle.vm_addresses.proofs.Reading.Writing.{encodes_fork}
+use Rattle.vm_addresses.proofs.SavedNodes.ValueTrees.{saved_nodes, nodes_saved, saved_shape, saved_of, shape_of-saved_of, saved_of-heights, shape_saved}
+
+pub strict_nodes : (d : Data) (space : Range) (state : AddressState) → EncodesSpaceTree d space state →
+    (t : Saved) × EncodesSaved d t × HasTreeOf space t state
+strict_nodes d space state p =
+    let is = shape_of-saved_of p.tree in (
+      saved_of p.tree,
+      shape_saved p.tree d p.encoded,
+      record {
+        tree = record {
+          some_node = λ e. p.some_node (sym is ∙ ap shape_of e);
+          heights = saved_of-heights p.tree;
+          nested = rw is p.nested;
+          balanced = rw is p.balanced;
+          blocks = rw is p.blocks;
+        };
+        held = rw is p.held;
+        is_space = p.is_space;
+      },
+    )
+
+not_absent : (t : Saved) → t ≢ Absent → shape_of t ≢ Tip
+not_absent Absent n = absurd (n refl)
+not_absent (Node l b r h) n = λ e. cc e
+
+pub strict_value : (d : Data) (space : Range) (state : AddressState) (t : Saved) → EncodesSaved d t → HasTreeOf space t state →
+    EncodesSpaceTree d space state
+strict_value d space state t nodes p = record {
+  tree = shape_of t;
+  encoded = saved_shape t d p.tree.heights nodes;
+  some_node = not_absent t p.tree.some_node;
+  nested = p.tree.nested;
+  balanced = p.tree.balanced;
+  blocks = p.tree.blocks;
+  held = p.held;
+  is_space = p.is_space;
+}
+
+pub values_are_saved_trees : ValuesAreSavedTrees
+values_are_saved_trees = record { nodes = strict_nodes; tree = strict_value }
+
+pub values_have_held_keys : ValuesHaveHeldKeys
+values_have_held_keys = record {
+  nodes = λ d space state p.
+      let t = nodes_saved p.tree d p.nodes in (
+        t.0,
+        t.1,
+        record {
+          nested = rw t.2 p.nested;
+          keys = rw t.2 p.keys;
+          below = rw t.2 p.below;
+          few = rw t.2 p.few;
+          held = rw t.2 p.held;
+          is_space = p.is_space;
+        },
+      );
+  keys = λ d space state t nodes p. record {
+    tree = shape_of t;
+    nodes = saved_nodes t d nodes;
+    nested = p.nested;
+    keys = p.keys;
+    below = p.below;
+    few = p.few;
+    held = p.held;
+    is_space = p.is_space;
+  };
+}
+
+pub ruleset values = (values_are_saved_trees, values_have_held_keys)
+
+-- ---- The value that is written
+pub value_written : (s : Shape) (answer : Result Value Error) → IsSpaceTree s → Saves (WritesTree (blocks s)) answer →
+    Saves (λ d. EncodesSpaceTree d (state_of s).space (state_of s)) answer
+value_written s (Ok v) h w = strict_value (view v) (state_of s).space (state_of s) w.0 w.2 (written_is_read s w.0 h w.1)
+value_written s (Err e) h w = w
+
+-- The value of a node, by the values of its children.
+pub node_written : (bs : List Block) (n : WrittenNode) (left right : Data) (answer : Result Value Error) → WritesNode bs (Some n) →
+    WritesTree n.left.blocks.now left → WritesTree n.right.blocks.now right
+    → Saves (λ d. EncodesNode d (record { key = n.key; state = n.state }) (λ v. v ≡ left) (λ v. v ≡ right) n.height) answer →
+    Saves (WritesTree bs) answer
+node_written bs n left right (Ok v) w l r e =
+    let b : Block = record { key = n.key; state = n.state } in
+    (Node l.0 b r.0 n.height, nodes_are_written bs n l.0 r.0 w l.1 r.1, encodes_fork (view v) left right n.height b l.0 r.0 e l.2 r.2)
+node_written bs n left right (Err x) w l r e = e

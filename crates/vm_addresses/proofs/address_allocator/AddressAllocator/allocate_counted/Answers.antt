@@ -1,0 +1,34 @@
+use Rattle.vm_ranges.specs.Request.{Request}
+use Rattle.vm_tree.specs.Shape.{height_of}
+use Rattle.vm_addresses.specs.Allocator.{state_of}
+use Rattle.vm_addresses.specs.Counts.GapSearch.{SearchesGaps, SearchesAligned}
+use Rattle.vm_addresses.specs.Counts.Steps.{EntersToAllocate, IsAllocationCount}
+use Rattle.vm_addresses.proofs.Results.Filling.{allocates_filling, no_constraint_fault}
+use Rattle.vm_addresses.proofs.Results.Requests.{allocates_made, for_request}
+use Rattle.vm_addresses.proofs.address_allocator.AddressAllocator.allocate_counted.Goals as goal
+
+pub returns-in-Err-clause-filling : goal.returns-in-Err-clause-filling
+returns-in-Err-clause-filling c = λ s f. absurd (no_constraint_fault _ _ c.in-Err.ensures f.valid)
+
+pub returns-in-Ok-clause-answer : goal.returns-in-Ok-clause-answer
+returns-in-Ok-clause-answer c = allocates_made _ _ _ _ _ c.in-Ok.ensures c.allocate_constraint_counted.ensures.answer
+
+pub returns-in-Ok-clause-filling : goal.returns-in-Ok-clause-filling
+returns-in-Ok-clause-filling c = λ s f. allocates_filling _ _ _ s _ (returns-in-Ok-clause-answer c) f
+
+pub returns-in-Ok-clause-count : goal.returns-in-Ok-clause-count
+returns-in-Ok-clause-count c = for_request _ _ (λ v. EntersToAllocate c.args.self.now v _) c.in-Ok.ensures
+    c.allocate_constraint_counted.ensures.count
+
+pub returns-in-Ok-clause-steps : goal.returns-in-Ok-clause-steps
+returns-in-Ok-clause-steps c = for_request _ _ (λ v. IsAllocationCount (height_of c.args.self.now) (state_of c.args.self.now) v _ _)
+    c.in-Ok.ensures c.allocate_constraint_counted.ensures.steps
+
+pub returns-in-Ok-clause-search : goal.returns-in-Ok-clause-search
+returns-in-Ok-clause-search c = for_request _ _ (λ v. SearchesGaps (height_of c.args.self.now) (state_of c.args.self.now) v _ _)
+    c.in-Ok.ensures c.allocate_constraint_counted.ensures.search
+
+pub returns-in-Ok-clause-search_aligned : goal.returns-in-Ok-clause-search_aligned
+returns-in-Ok-clause-search_aligned c =
+    for_request _ _ (λ v. SearchesAligned (height_of c.args.self.now) (state_of c.args.self.now) v _ _)
+    c.in-Ok.ensures c.allocate_constraint_counted.ensures.search_aligned

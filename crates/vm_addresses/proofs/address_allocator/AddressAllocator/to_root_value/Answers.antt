@@ -1,0 +1,14 @@
+use Rattle.std.proofs.Common.{◌≡◌, ◌∙◌}
+use Rattle.vm_tree.specs.Shape.{blocks}
+use Rattle.vm_addresses.proofs.SavedNodes.ValueLaws.{value_written}
+use Rattle.vm_addresses.proofs.address_allocator.AddressAllocator.to_root_value.Goals as goal
+
+pub returns-clause-answer : goal.returns-clause-answer
+returns-clause-answer c =
+    let listed : c.tree.result.blocks.now ≡ blocks c.args.self.now = c.tree.ensures ∙ c.in_ok-written.ensures in
+    value_written c.args.self.now c.encode.result (rw (← c.self.view_is) c.self.invariant.tree) (rw (← listed) c.encode.ensures)
+
+pub returns-clause-written : goal.returns-clause-written
+returns-clause-written c =
+    let listed : c.tree.result.blocks.now ≡ blocks c.args.self.now = c.tree.ensures ∙ c.in_ok-written.ensures in
+    rw (← listed) c.encode.ensures

@@ -1,0 +1,12 @@
+use Rattle.std.proofs.Common.{arith}
+use Rattle.vm_addresses.proofs.Trees.CountedTrees.{count_dropped}
+use Rattle.vm_addresses.proofs.address_allocator.building.count_blocks.Goals as goal
+
+pub overflow_add-left : goal.overflow_add-left
+overflow_add-left c = omega (
+  arith,
+  c.loop-index.invariant.left,
+  count_dropped c.args.held.now c.loop-index.index,
+  c.start-then-next-start.ensures.value,
+  c.start-then-next-start.type_inv,
+)

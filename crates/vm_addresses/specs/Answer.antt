@@ -1,0 +1,118 @@
+-- The result of each call of an address allocator, and the state after it.
+use Rattle.std.specs.Prelude.{◌≡◌, ℕ, ◌+◌, ◌-◌, ◌<◌, ◌≤◌, ◌⊎◌, Result, Ok, Err, [], length}
+use Rattle.std.specs.List.{Contains}
+use Rattle.vm_ranges.specs.Cases.{IfElse, Unless}
+use Rattle.vm_ranges.specs.Range.{Range, MAX, IsIn, span}
+use Rattle.vm_addresses.specs.Address.{AddressState, AreClear, IsPlace, IsLowestPlace, IsHighestPlace, SplitsGap, holding, releasing}
+use Rattle.vm_addresses.specs.Windows.{within}
+use Rattle.vm_ranges.specs.Request.{Request, ByPolicy, IsRequest, ByConstraint}
+use Rattle.vm_ranges.specs.declared.error.Error.{Error}
+use Rattle.vm_ranges.specs.declared.error.Error.TheVariants.{Overflow, ResourceNotAvailable, InvalidStateTransition, Underflow, OutOfMemory}
+use Rattle.vm_ranges.specs.declared.state.NodeState.TheVariants.{Allocated}
+
+-- s is the place that the policy of the request chooses in its window.
+unfoldable pub IsChosen : Request → AddressState → ℕ → Type 0
+IsChosen request state s =
+    ByPolicy request.policy
+    (IsLowestPlace request.size request.align (within request.window state) s)
+    (IsHighestPlace request.size request.align (within request.window state) s)
+    (λ start. (s ≡ start) × IsPlace request.size request.align (within request.window state) s)
+
+-- The errors of a request for n addresses that start at t. The first condition that is true decides:
+--
+-- | condition | result |
+-- |---|---|
+-- | t is MAX | Overflow |
+-- | t is not in the space | ResourceNotAvailable |
+-- | the range would end past MAX | Overflow |
+-- | exactly this range is held | InvalidStateTransition |
+-- | one of its addresses is not clear | ResourceNotAvailable |
+-- | it ends at MAX | Overflow |
+-- | none of these | `otherwise` is true |
+--
+-- The last two errors also follow from `ByPlace`. They are here so that the table is complete.
+unfoldable pub ByStart : ℕ → ℕ → AddressState → (Error → Type 0) → Type 0 → Type 0
+ByStart t n state refused otherwise =
+    IfElse (t ≡ MAX) (refused Overflow) (
+    Unless (IsIn state.space t) (refused ResourceNotAvailable) (
+    IfElse (MAX < t + n - 1) (refused Overflow) (
+    IfElse (Contains state.held (span t n)) (refused (InvalidStateTransition (span t n) Allocated)) (
+    Unless (AreClear n state t) (refused ResourceNotAvailable) (
+    IfElse (t + n - 1 ≡ MAX) (refused Overflow) otherwise)))))
+
+-- The errors of `ByStart` in the window of the request, if it has the policy ExactMatch. Other policies have none of these
+-- errors.
+unfoldable pub ByExactPolicy : Request → AddressState → (Error → Type 0) → Type 0 → Type 0
+ByExactPolicy request state refused otherwise =
+    ByPolicy request.policy otherwise otherwise (λ start. ByStart start request.size (within request.window state) refused otherwise)
+
+-- The result of a valid request by its place in the window. The first condition that is true decides:
+--
+-- | condition | result |
+-- |---|---|
+-- | there is no place | ResourceNotAvailable |
+-- | the range at the chosen place ends at MAX | Overflow |
+-- | none of these | `takes` is true for the range at the chosen place |
+unfoldable pub ByPlace : Request → AddressState → (Error → Type 0) → (Range → Type 0) → Type 0
+ByPlace request state refused takes =
+    (((s : ℕ) → ¬ IsPlace request.size request.align (within request.window state) s) × refused ResourceNotAvailable)
+    ⊎ ((s : ℕ) × IsChosen request state s ×
+    IfElse (s + request.size - 1 ≡ MAX) (refused Overflow) (takes (span s request.size)))
+
+-- The lowest number of held ranges with which no gap is split, so that no tree gets too high: (F(50) - 1) / 2.
+abbrev pub SPLIT_LIMIT_MIN_HELD : ℕ
+SPLIT_LIMIT_MIN_HELD = 6_293_134_512
+
+-- The result for the range r. An error changes nothing. The first condition that is true decides:
+--
+-- | condition | result |
+-- |---|---|
+-- | r fills its gap | r is allocated |
+-- | SPLIT_LIMIT_MIN_HELD or more ranges are held | Overflow |
+-- | none of these | r is allocated, or OutOfMemory |
+unfoldable pub AllocatesAt : AddressState → Range → Result Range Error → AddressState → Type 0
+AllocatesAt old r answer new =
+    let taken : Type 0 = (answer ≡ Ok r) × (new ≡ holding r old) in
+    let refused : Error → Type 0 = λ e. (answer ≡ Err e) × (new ≡ old) in
+    Unless (SplitsGap old r) taken (
+    IfElse (SPLIT_LIMIT_MIN_HELD ≤ length old.held) (refused Overflow) (taken ⊎ refused OutOfMemory))
+
+-- The result of a valid request. An error changes nothing. The first condition that is true decides:
+--
+-- | condition | result |
+-- |---|---|
+-- | the policy is ExactMatch, and `ByStart` names an error | that error |
+-- | there is no place in the window | ResourceNotAvailable |
+-- | the range at the chosen place ends at MAX | Overflow |
+-- | none of these | that of `AllocatesAt` for the range at the chosen place |
+unfoldable pub Grants : AddressState → Request → Result Range Error → AddressState → Type 0
+Grants old request answer new =
+    let refused : Error → Type 0 = λ e. (answer ≡ Err e) × (new ≡ old) in
+    ByExactPolicy request old refused (ByPlace request old refused (λ r. AllocatesAt old r answer new))
+
+-- The result of `allocate`: the error of an invalid request, or the result of `Grants`. An error changes nothing.
+unfoldable pub Allocates : AddressState → Request → Result Range Error → AddressState → Type 0
+Allocates old request answer new =
+    ByConstraint request (λ e. (answer ≡ Err e) × (new ≡ old)) (Grants old request answer new)
+
+-- The request is valid, its chosen place s ends below MAX, and its range fills its gap.
+pub record FillsGap (state : AddressState) (request : Request) (s : ℕ) : Type 0 where
+  pub valid : IsRequest request
+  pub chosen : IsChosen request state s
+  pub below : s + request.size - 1 < MAX
+  pub fills : ¬ SplitsGap state (span s request.size)
+
+-- The result of `free`: a held range is freed. Any other range is ResourceNotAvailable and changes nothing.
+unfoldable pub Frees : AddressState → Range → Result (Unit {0}) Error → AddressState → Type 0
+Frees old r answer new =
+    IfElse (Contains old.held r)
+    ((answer ≡ Ok tt) × (new ≡ releasing r old))
+    ((answer ≡ Err ResourceNotAvailable) × (new ≡ old))
+
+-- The result of `new` for size addresses that start at base: Underflow if size is 0, Overflow if they would end past
+-- MAX, otherwise a state without held ranges or OutOfMemory.
+unfoldable pub Makes : ℕ → ℕ → Result AddressState Error → Type 0
+Makes base size answer =
+    IfElse (size ≡ 0) (answer ≡ Err Underflow) (
+    IfElse (MAX < base + size - 1) (answer ≡ Err Overflow)
+    ((answer ≡ Ok (record { space = span base size; held = [] })) ⊎ (answer ≡ Err OutOfMemory)))

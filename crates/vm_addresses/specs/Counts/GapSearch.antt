@@ -1,0 +1,61 @@
+-- The number of nodes that a search enters, by the number of gaps that look suitable but have no place.
+--
+-- Gaps are counted by tests over the blocks of the state. A law in specs/Laws shows that each test is exact.
+use Rattle.std.specs.Prelude.{◌≡◌, ℕ, ◌+◌, ◌*◌, ◌≤◌, min, Bool, List, length, Option, Some, None, MatchOption, Result, Err}
+use Rattle.std.specs.List.{filter}
+use Rattle.vm_ranges.specs.Range.{Range}
+use Rattle.vm_leaf.specs.declared.block.Block.{Block}
+use Rattle.vm_addresses.specs.Address.{AddressState}
+use Rattle.vm_addresses.specs.Tree.Blocks.{blocks_of}
+use Rattle.vm_ranges.specs.Request.{Request, ByPolicy}
+use Rattle.vm_ranges.specs.declared.error.Error.{Error}
+use Rattle.vm_ranges.specs.declared.error.Error.TheVariants.{ResourceNotAvailable}
+use Rattle.vm_tree.specs.GapSearch.{is_misaligned, is_too_short, on_part}
+
+-- The number of misaligned gaps in a list of blocks.
+abbrev pub misaligned_among : ℕ → ℕ → List Block → ℕ
+misaligned_among n a bs = length (filter (is_misaligned n a) bs)
+
+-- The number of blocks that pass the test, or whose parts in the window do if there is a window.
+abbrev pub passing : Option Range → (Block → Bool) → List Block → ℕ
+passing None test bs = length (filter test bs)
+passing (Some w) test bs = length (filter (on_part w test) bs)
+
+-- The number of gaps of a state that are long enough for a request, but have no place for it. A window counts the parts of
+-- gaps.
+unfoldable pub misaligned_gaps : AddressState → Request → ℕ
+misaligned_gaps state request = passing request.window (is_misaligned request.size request.align) (blocks_of state)
+
+-- The number of gaps in a list of blocks that are too short.
+abbrev pub too_short_among : ℕ → ℕ → List Block → ℕ
+too_short_among n a bs = length (filter (is_too_short n a) bs)
+
+-- The number of gaps of a state that have a multiple of a request's alignment, but no place for it. A window counts the
+-- parts of gaps.
+unfoldable pub too_short_gaps : AddressState → Request → ℕ
+too_short_gaps state request = passing request.window (is_too_short request.size request.align) (blocks_of state)
+
+-- The bound on the nodes that a request enters in a tree of height h with v gaps without a place: at most h nodes for each of
+-- these gaps, and the path to the place that is found.
+pub record IsGapSearchCount (h v : ℕ) (answer : Result Range Error) (count : ℕ) : Type 0 where
+  pub most : count ≤ h * (v + 1)
+  pub none : answer ≡ Err ResourceNotAvailable → count ≤ h * v
+
+-- The bound for a search within a window. It can also enter the path to an end of the window.
+abbrev pub IsWindowSearchCount : ℕ → ℕ → ℕ → Type 0
+IsWindowSearchCount h v count = count ≤ h * (v + 2)
+
+-- The bound for v gaps is true if the policy is FirstMatch or LastMatch.
+abbrev pub SearchesAmongGaps : ℕ → ℕ → Request → Result Range Error → ℕ → Type 0
+SearchesAmongGaps h v request answer count =
+    let by_gaps : Type 0 = MatchOption request.window (IsGapSearchCount h v answer count) (λ window. IsWindowSearchCount h v count) in
+    ByPolicy request.policy by_gaps by_gaps (λ start. Unit {0})
+
+-- The bound is true for the number of misaligned gaps.
+unfoldable pub SearchesGaps : ℕ → AddressState → Request → Result Range Error → ℕ → Type 0
+SearchesGaps h old request answer count = SearchesAmongGaps h (misaligned_gaps old request) request answer count
+
+-- The bound is true for the lesser of two numbers: the misaligned gaps, and the gaps that are too short.
+unfoldable pub SearchesAligned : ℕ → AddressState → Request → Result Range Error → ℕ → Type 0
+SearchesAligned h old request answer count =
+    SearchesAmongGaps h (min (misaligned_gaps old request) (too_short_gaps old request)) request answer count

@@ -1,0 +1,46 @@
+-- Calls that are made of several allocations and frees, and the nodes that these parts enter.
+use Rattle.std.specs.Prelude.{◌≡◌, ℕ, ◌*◌, ◌≤◌, List, length, Result, Ok, OnErr}
+use Rattle.std.specs.List.{All, Contains}
+use Rattle.vm_ranges.specs.Histories.{IsHistory}
+use Rattle.vm_ranges.specs.Range.{Range}
+use Rattle.vm_ranges.specs.Request.{Request}
+use Rattle.vm_ranges.specs.declared.error.Error.{Error}
+use Rattle.vm_tree.specs.Shape.{Shape, height_of}
+use Rattle.vm_addresses.specs.Answer.{Allocates, Frees}
+use Rattle.vm_addresses.specs.Counts.Steps.{EntersToAllocate, IsAllocationCount, IsBalancedTreeOf, IsFreeCount, max_entered}
+use Rattle.vm_addresses.specs.Allocator.{state_of}
+
+-- A part with the number of nodes that it enters: an allocation for a request with its result, or a free that succeeds.
+pub data Part : Type 0 where
+  Allocating : Request → Result Range Error → ℕ → Part
+  Freeing : Range → ℕ → Part
+
+-- The part has its result and its count in the balanced tree old, and leaves the tree new. An error leaves the same tree.
+abbrev pub HasPart : Shape → Part → Shape → Type 0
+HasPart old (Allocating request answer count) new =
+    IsBalancedTreeOf (state_of old) old × Allocates (state_of old) request answer (state_of new)
+    × EntersToAllocate old request count × IsAllocationCount (height_of old) (state_of old) request answer count
+    × OnErr answer (new ≡ old)
+HasPart old (Freeing r count) new =
+    IsBalancedTreeOf (state_of old) old × Frees (state_of old) r (Ok tt) (state_of new) × IsFreeCount old r (Ok tt) count
+
+-- The parts lead from the tree old to the tree new: each begins with the tree that the part before it left.
+abbrev pub HasParts : Shape → List Part → Shape → Type 0
+HasParts = IsHistory HasPart
+
+-- The part is a free, or an allocation for one of the requests.
+abbrev pub IsPartFor : List Request → Part → Type 0
+IsPartFor requests (Allocating request answer count) = Contains requests request
+IsPartFor requests (Freeing r count) = Unit {0}
+
+-- The tree new comes from the tree old by at most n parts: frees, and allocations for the requests.
+pub record TakesParts (n : ℕ) (old : Shape) (requests : List Request) (new : Shape) : Type 0 where
+  pub parts : List Part
+  pub from : HasParts old parts new
+  pub for_requests : All (IsPartFor requests) parts
+  pub few : length parts ≤ n
+
+-- The part enters at most as many nodes as such a part does in a tree of height h with k held ranges.
+abbrev pub EntersAtMost : ℕ → ℕ → Part → Type 0
+EntersAtMost h k (Allocating request answer count) = count ≤ max_entered request.policy h k
+EntersAtMost h k (Freeing r count) = count ≤ 3 * h

@@ -1,0 +1,59 @@
+-- The number of nodes that a call enters in a balanced tree.
+use Rattle.std.specs.Prelude.{◌≡◌, ℕ, ◌+◌, ◌*◌, ◌^◌, ◌<◌, ◌≤◌, Result, IsOk, Err, length}
+use Rattle.vm_ranges.specs.Range.{Range}
+use Rattle.vm_ranges.specs.Request.{Request, IsRequest, MakesConstraint}
+use Rattle.vm_ranges.specs.declared.error.Error.{Error}
+use Rattle.vm_ranges.specs.declared.constraint.AllocPolicy.{AllocPolicy}
+use Rattle.vm_ranges.specs.declared.constraint.AllocPolicy.TheVariants.{FirstMatch, LastMatch, ExactMatch}
+use Rattle.vm_tree.specs.Fibonacci.{fibonacci}
+use Rattle.vm_tree.specs.NodeCounts.{nodes_to_free}
+use Rattle.vm_tree.specs.Shape.{Shape, MAX_HEIGHT, blocks, height_of, node_count, IsTree}
+use Rattle.vm_addresses.specs.Address.{AddressState}
+use Rattle.vm_addresses.specs.Counts.NodeCounts.{nodes_of_request}
+use Rattle.vm_addresses.specs.Tree.Blocks.{IsBlocksOf}
+use Rattle.vm_addresses.specs.Allocator.{space_of}
+
+-- s is a balanced tree of the blocks of the state, with 12 to 32 blocks in each leaf. A leaf that is the whole tree can have
+-- fewer. A tree of height h with k held ranges is bounded in these ways:
+-- - It has at least F(h + 2) - 1 and at most 2 ^ h - 1 nodes, and at most 2k + 1.
+-- - F(h + 2) is at most 2k + 2. Above height 1, 12 F(h + 1) is at most 2k + 1.
+-- - Its height is below MAX_HEIGHT.
+pub record IsBalancedTreeOf (state : AddressState) (s : Shape) : Type 0 where
+  pub blocks : IsBlocksOf state (blocks s)
+  pub tree : IsTree s
+  pub fewest : fibonacci (height_of s + 2) ≤ node_count s + 1
+  pub most : node_count s < 2 ^ height_of s
+  pub few : node_count s ≤ 2 * length state.held + 1
+  pub low : fibonacci (height_of s + 2) ≤ 2 * length state.held + 2
+  pub full : 2 ≤ height_of s → 12 * fibonacci (height_of s + 1) ≤ 2 * length state.held + 1
+  pub height : height_of s < MAX_HEIGHT
+
+-- The maximum number of nodes that a request enters in a tree of height h with k held ranges. FirstMatch and LastMatch can
+-- enter all nodes, and ExactMatch those of one path.
+abbrev pub max_entered : AllocPolicy → ℕ → ℕ → ℕ
+max_entered FirstMatch h k = 2 * k + 1
+max_entered LastMatch h k = 2 * k + 1
+max_entered (ExactMatch t) h k = h
+
+-- The bounds on the nodes that a request enters in a tree of height h. A success enters at least 1, and at least h / 2, because
+-- each path from the root to a leaf has at least h / 2 nodes.
+pub record IsGrantCount (h : ℕ) (old : AddressState) (request : Request) (answer : Result Range Error) (count : ℕ) : Type 0 where
+  pub most : count ≤ max_entered request.policy h (length old.held)
+  pub success : IsOk answer → 1 ≤ count
+  pub path : IsOk answer → h ≤ 2 * count
+
+-- The bounds of `IsGrantCount`, and no node is entered if the request is invalid.
+pub record IsAllocationCount (h : ℕ) (old : AddressState) (request : Request) (answer : Result Range Error) (count : ℕ) : Type 0 where
+  pub granting : IsGrantCount h old request answer count
+  pub invalid : (e : Error) → MakesConstraint request (Err e) → count ≡ 0
+
+-- The exact number of nodes that `allocate` enters: 0 if the request is invalid.
+pub record EntersToAllocate (s : Shape) (request : Request) (count : ℕ) : Type 0 where
+  pub invalid : (e : Error) → MakesConstraint request (Err e) → count ≡ 0
+  pub valid : IsRequest request → count ≡ nodes_of_request request (space_of (blocks s)) s
+
+-- The nodes that `free` enters in a tree of height h are at most 3h: those of a path, and two more for each node on it. A
+-- success enters exactly `nodes_to_free`.
+pub record IsFreeCount (s : Shape) (key : Range) (answer : Result (Unit {0}) Error) (count : ℕ) : Type 0 where
+  pub most : count ≤ 3 * height_of s
+  pub exact : IsOk answer → count ≡ nodes_to_free key s

@@ -1,0 +1,10 @@
+pub mod AddressLaws
+pub mod CountLaws
+pub mod QueryLaws
+pub mod MemoryLaws
+pub mod SavedLaws
+pub mod HistoryLaws
+pub mod SeveralLaws
+pub mod GapLaws
+pub mod WindowLaws
+pub mod MoveLaws

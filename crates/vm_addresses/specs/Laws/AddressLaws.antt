@@ -1,0 +1,115 @@
+-- Laws that follow from the definitions, for one call of an address allocator.
+use Rattle.std.specs.Prelude.{◌≡◌, ◌≢◌, ℕ, ◌<◌, ◌≤◌, ◌⊎◌, ◌↔◌, true, List, length, Result, Ok, Err}
+use Rattle.std.specs.List.{All, AllPairs, Contains}
+use Rattle.vm_ranges.specs.Range.{Range, MAX, Overlaps, Covers}
+use Rattle.vm_addresses.specs.Address.{AddressState, IsClear, IsAddressState}
+use Rattle.vm_leaf.specs.declared.block.Block.{Block}
+use Rattle.vm_leaf.specs.Block.{free_length}
+use Rattle.vm_leaf.specs.Fit.{HasNoFit}
+use Rattle.vm_ranges.specs.Alignment.{IsAlignment}
+use Rattle.vm_tree.specs.GapSearch.{is_misaligned, is_too_short}
+use Rattle.vm_addresses.specs.Counts.GapSearch.{misaligned_gaps, too_short_gaps}
+use Rattle.vm_leaf.specs.Multiples.{HasMultiple}
+use Rattle.vm_addresses.specs.Tree.Multiples.{multiples_in}
+use Rattle.vm_ranges.specs.Request.{Request}
+use Rattle.vm_addresses.specs.Windows.{within}
+use Rattle.vm_addresses.specs.Answer.{Allocates, Frees, Makes}
+use Rattle.vm_ranges.specs.declared.error.Error.{Error}
+use Rattle.vm_ranges.specs.declared.error.Error.TheVariants.{OutOfMemory}
+use Rattle.vm_ranges.specs.declared.state.NodeState.TheVariants.{Free}
+
+-- Two results and the states after them are equal, unless one of the results is OutOfMemory.
+abbrev pub AgreeUnlessMemory : {A S : Type 0} → Result A Error → S → Result A Error → S → Type 0
+AgreeUnlessMemory answer new other later =
+    ((answer ≡ other) × (new ≡ later)) ⊎ (answer ≡ Err OutOfMemory) ⊎ (other ≡ Err OutOfMemory)
+
+-- A request has one result and one next state, unless memory runs out.
+abbrev pub AllocatesOnce : Type 0
+AllocatesOnce =
+    (old new later : AddressState) (request : Request) (answer other : Result Range Error) →
+    Allocates old request answer new → Allocates old request other later →
+    AgreeUnlessMemory answer new other later
+
+-- A call of `free` has one result and one next state.
+abbrev pub FreesOnce : Type 0
+FreesOnce =
+    (old new later : AddressState) (r : Range) (answer other : Result (Unit {0}) Error) →
+    Frees old r answer new → Frees old r other later → (answer ≡ other) × (new ≡ later)
+
+-- The state of a new allocator is valid, and each call keeps it valid.
+pub record StateIsPreserved : Type 0 where
+  pub made : (base size : ℕ) (state : AddressState) →
+      size ≤ MAX → Makes base size (Ok state) → IsAddressState state
+  pub allocated : (old new : AddressState) (request : Request) (answer : Result Range Error) →
+      IsAddressState old → Allocates old request answer new → IsAddressState new
+  pub freed : (old new : AddressState) (r : Range) (answer : Result (Unit {0}) Error) →
+      IsAddressState old → Frees old r answer new → IsAddressState new
+
+-- The held ranges are disjoint, lie in the space, and do not contain MAX.
+pub record AreDisjoint (state : AddressState) : Type 0 where
+  pub apart : (r s : Range) → Contains state.held r → Contains state.held s → Overlaps r s → r ≡ s
+  pub inside : (r : Range) → Contains state.held r → (r.start ≤ r.end) × Covers state.space r
+  pub below : (r : Range) → Contains state.held r → r.end < MAX
+
+-- The held ranges of each valid state are disjoint.
+abbrev pub HeldAreDisjoint : Type 0
+HeldAreDisjoint = (state : AddressState) → IsAddressState state → AreDisjoint state
+
+-- The range r was clear and is held in the new state. Nothing else changes.
+pub record AddsRange (old new : AddressState) (r : Range) : Type 0 where
+  pub clear : (x : ℕ) → r.start ≤ x → x ≤ r.end → IsClear old x
+  pub space : new.space ≡ old.space
+  pub held : (q : Range) → Contains new.held q ↔ (Contains old.held q ⊎ (q ≡ r))
+
+-- The range r was held and is not held in the new state. Nothing else changes.
+pub record RemovesRange (old new : AddressState) (r : Range) : Type 0 where
+  pub was : Contains old.held r
+  pub space : new.space ≡ old.space
+  pub held : (q : Range) → Contains new.held q ↔ (Contains old.held q × (q ≢ r))
+
+-- A successful allocation adds exactly its range.
+abbrev pub AllocatingAddsRange : Type 0
+AllocatingAddsRange =
+    (old new : AddressState) (request : Request) (r : Range) →
+    IsAddressState old → Allocates old request (Ok r) new → AddsRange old new r
+
+-- Freeing a range removes exactly that range.
+abbrev pub FreeingRemovesRange : Type 0
+FreeingRemovesRange =
+    (old new : AddressState) (r : Range) →
+    IsAddressState old → Frees old r (Ok tt) new → RemovesRange old new r
+
+-- Freeing a range right after its allocation succeeds and restores the state.
+abbrev pub FreeingUndoes : Type 0
+FreeingUndoes =
+    (old mid new : AddressState) (request : Request) (r : Range) (answer : Result (Unit {0}) Error) →
+    IsAddressState old → Allocates old request (Ok r) mid → Frees mid r answer new → (answer ≡ Ok tt) × (new ≡ old)
+
+-- The test `is_misaligned` is exact: the gap is long enough for n addresses, but has no fit for them.
+abbrev pub MisalignedIsExact : Type 0
+MisalignedIsExact = (n a : ℕ) (b : Block) → 0 < a → (is_misaligned n a b ≡ true) ↔ ((n ≤ free_length b) × HasNoFit n a b)
+
+-- No gap is misaligned at alignment 1, and in a window no part of a gap.
+abbrev pub NoneIsMisalignedAtOne : Type 0
+NoneIsMisalignedAtOne =
+    (state : AddressState) (request : Request) → 0 < request.size → request.align ≡ 1 → misaligned_gaps state request ≡ 0
+
+-- A list of different held ranges has every held range if and only if its length is the number of held ranges.
+abbrev pub CountFindsAll : Type 0
+CountFindsAll =
+    (state : AddressState) (list : List Range) → IsAddressState state →
+    AllPairs (λ r s. r ≢ s) list → All (Contains state.held) list →
+    (length list ≡ length state.held) ↔ ((r : Range) → Contains state.held r → Contains list r)
+
+-- The test `is_too_short` is exact: the gap has a multiple of the alignment, but no fit for n addresses.
+abbrev pub TooShortIsExact : Type 0
+TooShortIsExact =
+    (n a : ℕ) (b : Block) → 0 < a →
+    (is_too_short n a b ≡ true) ↔ ((b.state ≡ Free) × HasMultiple a b.key × HasNoFit n a b)
+
+-- There are at most as many gaps that are too short as multiples of the alignment in the space. In a window, there are at
+-- most as many parts of gaps as multiples in the window and the space.
+abbrev pub TooShortAreFew : Type 0
+TooShortAreFew =
+    (state : AddressState) (request : Request) → IsAddressState state → IsAlignment request.align →
+    too_short_gaps state request ≤ multiples_in request.align (within request.window state).space

@@ -1,0 +1,17 @@
+pub mod Allocator
+pub mod Address
+pub mod Answer
+pub mod Windows
+pub mod Comparison
+pub mod Tree
+pub mod Counts
+pub mod Held
+pub mod Queries
+pub mod Laws
+pub mod Values
+pub mod Checks
+pub mod Several
+pub mod Moves
+pub mod Conflicts
+pub mod Holes
+pub mod Histories

@@ -1,0 +1,6 @@
+pub mod Multiples
+pub mod Blocks
+pub mod BlockList
+pub mod BlockEdits
+pub mod Allocation
+pub mod CountedTrees

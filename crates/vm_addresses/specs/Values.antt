@@ -1,0 +1,8 @@
+pub mod NodeTree
+pub mod TreeValues
+pub mod KeyValues
+pub mod SavedTrees
+pub mod NodesRead
+pub mod WrittenTrees
+pub mod RepairedValues
+pub mod AllocatorValues

@@ -1,0 +1,27 @@
+-- The values that encode the held ranges of a space by the keys of nodes. Bugs of the Rust crate vm-allocator 0.1.4 can
+-- lose the tree, leave free neighbours, or leave gaps between keys.
+use Rattle.std.specs.Prelude.{◌≡◌, ℕ, ◌≤◌, length}
+use Rattle.serde_json.specs.Data.{Data}
+use Rattle.vm_ranges.specs.Range.{Range}
+use Rattle.vm_addresses.specs.Address.{AddressState}
+use Rattle.vm_addresses.specs.Answer.{SPLIT_LIMIT_MIN_HELD}
+use Rattle.vm_addresses.specs.Tree.Blocks.{held_of, AreKeysIn, AreBelowMax}
+use Rattle.vm_addresses.specs.Values.NodeTree.{NodeTree, blocks, height_of}
+use Rattle.vm_addresses.specs.Values.TreeValues.{HasNodes}
+
+-- The maximum nesting of nodes: no tree that the Rust crate saves is higher.
+abbrev pub MAX_NESTING_REPAIRED : ℕ
+MAX_NESTING_REPAIRED = 50
+
+-- The value has any nodes or none, nested at most MAX_NESTING_REPAIRED deep, and their keys are in order in the space.
+-- Held keys end below MAX. At most SPLIT_LIMIT_MIN_HELD keys are held, so no split fails for their number. They are
+-- the held ranges of the state, and all other addresses of the space are clear.
+pub record EncodesKeys (d : Data) (space : Range) (state : AddressState) : Type 0 where
+  pub tree : NodeTree
+  pub nodes : HasNodes d tree
+  pub nested : height_of tree ≤ MAX_NESTING_REPAIRED
+  pub keys : AreKeysIn space.start (blocks tree) space.end
+  pub below : AreBelowMax (held_of (blocks tree))
+  pub few : length (held_of (blocks tree)) ≤ SPLIT_LIMIT_MIN_HELD
+  pub held : held_of (blocks tree) ≡ state.held
+  pub is_space : state.space ≡ space

@@ -1,0 +1,47 @@
+//! Frees an allocated range.
+ghost use Rattle.std.specs.Prelude.{◌≡◌, OnErr, OnOk, IsOk};
+ghost use Rattle.std.specs.List.{Contains};
+ghost use Rattle.vm_addresses.specs.Address.{IsAddressState};
+ghost use Rattle.vm_addresses.specs.Answer.{Frees};
+ghost use Rattle.vm_addresses.specs.Counts.Steps.{IsBalancedTreeOf, IsFreeCount};
+ghost use Rattle.vm_addresses.specs.Allocator.{state_of};
+
+use super::AddressAllocator;
+use vm_ranges::{Error, RangeInclusive, Result};
+use vm_tree::Steps;
+
+impl AddressAllocator {
+    /// Frees like [`free`](Self::free), and also returns the number of tree nodes that the call
+    /// entered.
+    ///
+    /// The count is at most 3h if h is the [`height`](Self::height) before the call, and at least 1 for a
+    /// success.
+    ///
+    /// # Errors
+    ///
+    /// Those of [`free`](Self::free).
+    #[tactic(auto, using(crate::proofs::Trees::Freeing::freeing, crate::proofs::Results::Filling::succeeding))]
+    pub fn free_counted(&mut self, key: &RangeInclusive) -> (Result<()>, u64)
+        ensures balanced { OnOk result.0 (IsBalancedTreeOf (state_of self.old) self.old) }
+        ensures answer { Frees (state_of self.old) key.now result.0 (state_of self.new) }
+        ensures unchanged { OnErr result.0 (self.new ≡ self.old) }
+
+        // Freeing an allocated range always succeeds.
+        ensures held { Contains (state_of self.old).held key.now → IsOk result.0 }
+        ensures steps { IsFreeCount self.old key.now result.0 result.1 }
+        ensures state { IsAddressState (state_of self.new) }
+    {
+        if key.start() < self.space.start() || self.space.end() < key.start() {
+            return (Err(Error::ResourceNotAvailable), 0);
+        }
+        let mut count = Steps::new();
+        let Some(joined) = self.tree.free(key, &mut count) else {
+            return (Err(Error::ResourceNotAvailable), count.entered());
+        };
+        self.held_count -= 1;
+        self.gap_count -= joined;
+        self.gap_count += 1;
+        self.free_len += key.len();
+        (Ok(()), count.entered())
+    }
+}

@@ -1,0 +1,72 @@
+//! Several allocations in one call: all or none.
+ghost use Rattle.std.specs.Prelude.{◌≡◌, ℕ, ◌+◌, ◌*◌, List, length, IfErr, MatchResult};
+ghost use Rattle.vm_ranges.specs.Request.{Request};
+ghost use Rattle.vm_addresses.specs.Address.{AddressState, IsAddressState};
+ghost use Rattle.vm_addresses.specs.Counts.Parts.{TakesParts};
+ghost use Rattle.vm_tree.specs.Shape.{Shape};
+ghost use Rattle.vm_addresses.specs.Allocator.{state_of};
+ghost use Rattle.vm_addresses.specs.Allocator.{state_of};
+ghost use Rattle.vm_addresses.specs.Several.{FailsAsNamed, AllocatesEach, FailsAll};
+
+use super::AddressAllocator;
+use std::alloc::Global;
+use vm_ranges::{Constraint, ListError, RangeInclusive};
+
+impl AddressAllocator {
+    /// Allocates a range for each request, in their order, and returns the ranges. Each range is where
+    /// [`allocate`](Self::allocate) places it after the requests before it.
+    ///
+    /// # Errors
+    ///
+    /// An error leaves the same ranges allocated, because the ranges allocated so far are freed again.
+    /// All later calls have the same results. The shape of the tree can differ, and so the height and the
+    /// counts of later calls.
+    /// - `OutOfMemory` without an index if the allocation of the list fails. This is first, and leaves the
+    ///   same tree.
+    /// - The error of the first request that fails, with its index.
+    pub fn allocate_all(
+        &mut self,
+        alloc: Global,
+        requests: &[Constraint],
+    ) -> std::result::Result<Vec<RangeInclusive>, ListError>
+        ensures answer { MatchResult result
+            (λ ranges. AllocatesEach (state_of self.old) requests.now ranges.items (state_of self.new))
+            (λ failure. FailsAll (state_of self.old) requests.now failure.error (state_of self.new)) }
+        ensures failed { IfErr result (λ failure.
+            FailsAsNamed self.old requests.now failure self.new) }
+        ensures parts { TakesParts (2 * length requests.now) self.old requests.now self.new }
+        ensures state { IsAddressState (state_of self.new) }
+    {
+        let mut ranges = Vec::with_capacity(alloc, requests.len())?;
+        for (index, request) in requests.iter().enumerate() {
+            match self.allocate_constraint(alloc, *request) {
+                Ok(range) => {
+                    let Ok(()) = ranges.push(range) else {
+                        // The list has the capacity for each range.
+                        unreachable!()
+                    };
+                }
+                Err(error) => {
+                    free_all(self, &mut ranges);
+                    let index = Some(index);
+                    return Err(ListError { index, error });
+                }
+            }
+        }
+        Ok(ranges)
+    }
+}
+
+/// Frees ranges that were allocated one after the other, the last one first. This leads back to the
+/// state before their allocation.
+fn free_all(allocator: &mut AddressAllocator, ranges: &mut Vec<RangeInclusive>)
+    ensures state { (before : AddressState) (requests : List Request) → IsAddressState before
+        → AllocatesEach before requests ranges.old.items (state_of allocator.old)
+        → state_of allocator.new ≡ before }
+    ensures parts { (n : ℕ) (before : Shape) (requests : List Request) → TakesParts n before requests allocator.old
+        → TakesParts (n + length ranges.old.items) before requests allocator.new }
+{
+    while let Some(range) = ranges.pop() {
+        let _ = allocator.free(&range);
+    }
+}

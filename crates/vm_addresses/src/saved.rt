@@ -1,0 +1,9 @@
+//! Saved values of address allocators, and of those that the Rust crate saved.
+//!
+//! A value can be untrusted input, so the whole value is checked before the first allocation.
+mod allocator;
+pub(crate) mod node;
+pub(crate) mod nodes;
+pub(crate) mod span;
+mod tree;
+pub(crate) mod written;

@@ -1,2 +1,0 @@
-pub mod AllocatorChecks
-pub mod FreeChecks

@@ -1,2 +1,0 @@
-pub mod AddressHistories
-pub use Rattle.vm_ids.specs.Histories.IdHistories

@@ -1,5 +1,0 @@
-pub mod NestedTrees
-pub mod ReadNodes
-pub mod ReadSpaces
-pub mod ReadValues
-pub mod Writing

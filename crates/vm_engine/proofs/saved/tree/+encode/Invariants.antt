@@ -1,5 +1,0 @@
-use Rattle.std.proofs.Common.{length}
-use Rattle.vm_engine.proofs.saved.tree.+encode.Given as goal
-
-abbrev pub decreases-encode : goal.decreases-encode
-decreases-encode l = length l.tree.blocks.now

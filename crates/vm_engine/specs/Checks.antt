@@ -1,4 +1,0 @@
-pub mod NodeChecks
-pub mod Spans
-pub mod ValueNodes
-pub mod HeldKeys

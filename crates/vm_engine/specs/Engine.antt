@@ -1,2 +1,0 @@
-pub mod Allocation
-pub mod CountedTrees

@@ -1,5 +1,0 @@
-pub mod Multiples
-pub mod Blocks
-pub mod SpaceTree
-pub mod BlockList
-pub mod BlockEdits

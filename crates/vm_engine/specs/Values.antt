@@ -1,6 +1,0 @@
-pub mod NodeTree
-pub mod TreeValues
-pub mod KeyValues
-pub mod SavedTrees
-pub mod NodesRead
-pub mod WrittenTrees
