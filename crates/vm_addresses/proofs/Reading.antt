@@ -3,8 +3,6 @@ pub mod ReadNodes
 pub mod ReadSpaces
 pub mod ReadValues
 pub mod Writing
-pub mod AllocatorParts
 pub mod NodeStates
 pub mod ReadAllocators
-pub mod ReadRepaired
 pub mod WrittenAllocators

@@ -4,5 +4,4 @@ pub mod KeyValues
 pub mod SavedTrees
 pub mod NodesRead
 pub mod WrittenTrees
-pub mod RepairedValues
 pub mod AllocatorValues

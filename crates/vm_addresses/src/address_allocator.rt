@@ -337,6 +337,7 @@ impl AddressAllocator {
     }
 
     /// Returns the first address of the space.
+    #[tactic(auto, using(crate::proofs::Trees::Spaces::states))]
     pub fn base(&self) -> u64
         ensures value { result ≡ (state_of self.now).space.start }
         ensures state { IsAddressState (state_of self.now) }

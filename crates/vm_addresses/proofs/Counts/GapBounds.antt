@@ -53,11 +53,9 @@ use Rattle.vm_addresses.specs.Counts.GapSearch.{misaligned_gaps, too_short_gaps,
 use Rattle.vm_addresses.specs.Tree.Blocks.{blocks_state, TilesSpace}
 use Rattle.vm_addresses.specs.Windows.{window_in}
 use Rattle.vm_addresses.proofs.Comparing.Tilings.{tiling_blocks}
-use Rattle.vm_addresses.proofs.Counts.Allocating.{allocations}
-use Rattle.vm_addresses.proofs.Results.Requests.{request_in, allocating}
-use Rattle.vm_addresses.proofs.Results.Filling.{succeeding}
+use Rattle.vm_addresses.proofs.Counts.Allocating.{invalid_count, invalid_entered}
+use Rattle.vm_addresses.proofs.Results.Requests.{request_in, allocates_refused}
 use Rattle.vm_addresses.proofs.Trees.Ends.{whole_window}
-use Rattle.vm_addresses.proofs.Trees.Spaces.{spaces}
 
 -- ---- A window with all of the space does not cut its blocks
 whole_part : (sp : Range) (test : Block → Bool) (b : Block) → sp.start ≤ b.key.start → b.key.start ≤ b.key.end → b.key.end ≤ sp.end →

@@ -1,7 +1,7 @@
 -- The states that histories reach: those of clones, those that were read, and those that are equal to others.
 use Rattle.std.proofs.Common.{[], ◌∷◌, refl, inl, inr, Ok}
 use Rattle.vm_addresses.specs.Values.AllocatorValues.{EncodesAddresses}
-use Rattle.vm_addresses.specs.Values.RepairedValues.{EncodesRepaired}
+use Rattle.vm_addresses.specs.Values.AllocatorValues.{EncodesRepaired}
 use Rattle.vm_addresses.specs.Histories.AddressHistories.{Clone, IsCallFrom, IsReadOfNodes}
 use Rattle.vm_addresses.specs.Values.SavedTrees.{HasHeldKeys, HasTreeOf}
 use Rattle.vm_addresses.specs.Laws.HistoryLaws.{CloneIsReached, ReadIsReached, NodesAreReached, EqualStatesAreEqual, FreeMakesEqual, FreesInAnyOrderMakeEqual}

@@ -27,7 +27,7 @@ use Rattle.vm_ranges.specs.declared.error.Error.{Error}
 use Rattle.vm_addresses.proofs.Blocks.PlainWords.{IsHeld, contains_held, held_contains}
 use Rattle.vm_addresses.proofs.Results.Outcomes.{IsRefused}
 use Rattle.vm_addresses.proofs.Reading.ReadAllocators.{encoded_state}
-use Rattle.vm_addresses.proofs.Reading.ReadRepaired.{repaired_state}
+use Rattle.vm_addresses.proofs.Reading.ReadAllocators.{repaired_state}
 use Rattle.vm_addresses.proofs.Reading.ReadNodes.{tree_read_state, keys_read_state}
 use Rattle.vm_ranges.proofs.Clones.{cloning_keeps}
 use Rattle.vm_ranges.proofs.Histories.{history_keeps}

@@ -122,7 +122,7 @@ module _ (s m : Shape) (can_split : Bool) (n : ℕ) (taken : Taken) (h : IsSpace
 -- ---- The result of the call
 -- What the contract says of a result.
 pub record IsAnswered (s m : Shape) (request : Request) (answer : Result Range Error) (count : ℕ) : Type 0 where
-  pub answer : Allocates (state_of s) request answer (state_of m)
+  pub allocates : Allocates (state_of s) request answer (state_of m)
   pub filling : (start : ℕ) → FillsGap (state_of s) request start → IsOk answer
   pub enters : EntersToAllocate s request count
   pub steps : IsAllocationCount (height_of s) (state_of s) request answer count
@@ -154,7 +154,7 @@ module _ (s m : Shape) (space : Range) (held gaps clear : ℕ) (request : Reques
         let all = request_allocates request (state_of s) (state_of m) (taken_range answer) v (grants_if e) in
         let near = subst (λ (v : AddressState). SearchesAligned (height_of s) v request (taken_range answer) count) state_is a.search in
         record {
-          answer = all;
+          allocates = all;
           filling = λ t f. allocates_filling (state_of s) (state_of m) request t (taken_range answer) all f;
           enters = entered_if_valid s request count v
               (subst (λ (v : Range). count ≡ nodes_of_request request v s) h.is_space a.exact);

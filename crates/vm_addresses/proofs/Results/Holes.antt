@@ -41,6 +41,10 @@ use Rattle.std.specs.List.{All, Contains}
 use Rattle.vm_ranges.specs.Cases.{Unless}
 use Rattle.vm_ranges.specs.Range.{Range, MAX, IsRange, IsIn, span}
 use Rattle.vm_addresses.specs.Address.{AddressState, IsClear}
+use Rattle.vm_addresses.specs.Allocator.{state_of, made_state}
+use Rattle.vm_ranges.specs.ListErrors.{by_error}
+use Rattle.vm_ranges.specs.declared.error.ListError.{ListError}
+use Rattle.vm_tree.specs.Shape.{Shape}
 use Rattle.vm_addresses.specs.Held.{first_fault, fault_index, BySpace, MakesHeld}
 use Rattle.vm_leaf.specs.Block.{held_block}
 use Rattle.vm_tree.specs.Building.{gap_before, blocks_between}
@@ -344,17 +348,30 @@ no_memory r rs n l e few =
     (makes_memory (record { start = r.start; end = last_end r.end rs }) (holes_after (r.end + 1) rs) (2 * n + 1) h.faults
     (omega (arith, blocks, e)) (omega (arith, few)))
 
-pub no_hole_index : (r : Range) (rs : List Range) → IsFreeList r rs →
+no_hole_index : (r : Range) (rs : List Range) → IsFreeList r rs →
     fault_index 0 r.start (last_end r.end rs) (holes_after (r.end + 1) rs) ≡ wrong_index 0 0 (r ∷ rs)
 no_hole_index r rs l = (holes_fit r rs l).index 0 ∙ sym (none_wrong r rs l)
 
-pub clear_in : (r : Range) (rs : List Range) (made : AddressState) (x : ℕ) → IsFreeList r rs →
+clear_in : (r : Range) (rs : List Range) (made : AddressState) (x : ℕ) → IsFreeList r rs →
     MakesHeld (record { start = r.start; end = last_end r.end rs }) (holes_after (r.end + 1) rs) (Ok made) →
     IsClear made x ↔ ((q : Range) × Contains (r ∷ rs) q × IsIn q x)
 clear_in r rs made x l h =
     subst (λ (v : AddressState). IsClear v x ↔ ((q : Range) × Contains (r ∷ rs) q × IsIn q x))
     (sym (held_made (record { start = r.start; end = last_end r.end rs }) (holes_after (r.end + 1) rs) made h))
     (free_clear r rs x (none_wrong r rs l) l.ranges)
+
+-- The same for the result of making the allocator.
+pub no_index_named : (r : Range) (rs : List Range) (made : Result Shape ListError) → IsFreeList r rs →
+    IfErr made (λ f. f.index ≡ fault_index 0 r.start (last_end r.end rs) (holes_after (r.end + 1) rs)) →
+    IfErr made (λ f. f.index ≡ wrong_index 0 0 (r ∷ rs))
+no_index_named r rs (Ok s) l e = tt
+no_index_named r rs (Err f) l e = e ∙ no_hole_index r rs l
+
+pub clear_if_made : (r : Range) (rs : List Range) (made : Result Shape ListError) → IsFreeList r rs →
+    MakesHeld (record { start = r.start; end = last_end r.end rs }) (holes_after (r.end + 1) rs) (made_state (by_error made)) →
+    IfOk made (λ s. (x : ℕ) → IsClear (state_of s) x ↔ ((q : Range) × Contains (r ∷ rs) q × IsIn q x))
+clear_if_made r rs (Ok s) l h = λ x. clear_in r rs (state_of s) x l h
+clear_if_made r rs (Err f) l h = tt
 
 -- ---- Made with its holes held
 holes_are_ranges : (i end : ℕ) (rs : List Range) → wrong_index i (end + 1) rs ≡ None → AreRanges rs →

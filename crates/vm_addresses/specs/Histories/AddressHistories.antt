@@ -14,7 +14,7 @@ use Rattle.vm_addresses.specs.Moves.{MovesRange}
 use Rattle.vm_ranges.specs.Cloning.{Clones}
 use Rattle.vm_ranges.specs.Histories.{CallOf, IsHistory}
 use Rattle.vm_addresses.specs.Values.AllocatorValues.{EncodesAddresses}
-use Rattle.vm_addresses.specs.Values.RepairedValues.{EncodesRepaired}
+use Rattle.vm_addresses.specs.Values.AllocatorValues.{EncodesRepaired}
 
 -- A call without its result: a request, several requests at once, the freeing of a range, the move of a range to the place
 -- of a request, or the creation of a clone.

@@ -37,7 +37,6 @@ impl AddressAllocator {
     /// # Errors
     ///
     /// Those of [`allocate_constraint`](Self::allocate_constraint), in the same order.
-    #[tactic(auto, using(crate::proofs::Callers::constraint_allocations, crate::proofs::Counts::Allocating::valid_allocations, crate::proofs::Results::Filling::succeeding))]
     pub fn allocate_constraint_counted(
         &mut self,
         alloc: Global,

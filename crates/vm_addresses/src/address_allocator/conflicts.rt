@@ -26,7 +26,7 @@ impl AddressAllocator {
     /// - `Allocated` if an allocated range has an address in common with it.
     ///
     /// It descends one path of the tree for each end of the range and does not allocate.
-    #[tactic(auto, unfolding(crate::specs::Conflicts::IsConflict, crate::specs::Conflicts::IsConflictOf), using(crate::proofs::Results::Conflicts::conflicts))]
+    #[tactic(auto, unfolding(crate::specs::Conflicts::IsConflict, crate::specs::Conflicts::IsConflictOf), using(crate::proofs::Results::Conflicts::conflicts, crate::proofs::Trees::Spaces::states))]
     pub fn conflict(&self, request: Constraint) -> Option<Conflict>
         ensures value { IsConflict (state_of self.now) request result }
         ensures decides { ConflictDecides (state_of self.now) request result }

@@ -20,7 +20,7 @@ impl AddressAllocator {
     /// # Errors
     ///
     /// Those of [`free`](Self::free).
-    #[tactic(auto, using(crate::proofs::Trees::Freeing::freeing, crate::proofs::Results::Filling::succeeding))]
+    #[tactic(auto, using(crate::proofs::Trees::Freeing::freeing))]
     pub fn free_counted(&mut self, key: &RangeInclusive) -> (Result<()>, u64)
         ensures balanced { OnOk result.0 (IsBalancedTreeOf (state_of self.old) self.old) }
         ensures answer { Frees (state_of self.old) key.now result.0 (state_of self.new) }

@@ -74,6 +74,7 @@ impl AddressAllocator {
     /// Returns the number of allocated ranges.
     ///
     /// It takes constant time and does not allocate.
+    #[tactic(auto, using(crate::proofs::Trees::Spaces::states))]
     pub fn held_count(&self) -> u64
         ensures value { result ≡ length (state_of self.now).held }
         ensures state { IsAddressState (state_of self.now) }

@@ -4,7 +4,7 @@
 //! clone.
 ghost use Rattle.vm_ranges.specs.Histories.{ErrorsChangeNothing, EveryListHasHistory, SameCallsSameResults};
 ghost use Rattle.vm_addresses.specs.Values.AllocatorValues.{EncodesAddresses};
-ghost use Rattle.vm_addresses.specs.Values.RepairedValues.{EncodesRepaired};
+ghost use Rattle.vm_addresses.specs.Values.AllocatorValues.{EncodesRepaired};
 ghost use Rattle.vm_addresses.specs.Values.SavedTrees.{HasHeldKeys, HasTreeOf};
 ghost use Rattle.vm_addresses.specs.Histories.AddressHistories.{IsCallFrom};
 ghost use Rattle.vm_addresses.specs.Laws.HistoryLaws.{

@@ -7,7 +7,7 @@ ghost use Rattle.vm_addresses.specs.Address.{IsAddressState};
 ghost use Rattle.vm_ranges.specs.Saving.{Saves, Reads};
 ghost use Rattle.vm_addresses.specs.Allocator.{state_of, made_state};
 ghost use Rattle.vm_addresses.specs.Values.AllocatorValues.{EncodesAddresses};
-ghost use Rattle.vm_addresses.specs.Values.RepairedValues.{EncodesRepaired};
+ghost use Rattle.vm_addresses.specs.Values.AllocatorValues.{EncodesRepaired};
 ghost use Rattle.vm_addresses.specs.Checks.AllocatorChecks.{AllocatorParts, WritesAllocator, decoded_parts, decoded_root};
 
 use crate::address_allocator::AddressAllocator;

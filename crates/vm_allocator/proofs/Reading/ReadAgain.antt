@@ -5,14 +5,14 @@ use Rattle.serde_json.specs.Data.{Data}
 use Rattle.vm_ranges.specs.RangeValues.{EncodesRange, EncodesState}
 use Rattle.vm_addresses.specs.Values.AllocatorValues.{EncodesAddresses}
 use Rattle.vm_ids.specs.Values.IdValues.{EncodesIds}
-use Rattle.vm_addresses.specs.Values.RepairedValues.{EncodesRepaired}
+use Rattle.vm_addresses.specs.Values.AllocatorValues.{EncodesRepaired}
 use Rattle.vm_allocator.specs.Laws.ValueLaws.{EncodesAtMostOne, ReadsWritten, ReadersAgree}
 use Rattle.vm_ranges.specs.declared.saved.ValueError.TheVariants.{NotAState, OutOfMemory}
 use Rattle.vm_ranges.proofs.ReadRanges.{one_range}
 use Rattle.vm_ranges.proofs.ReadStates.{one_state}
 use Rattle.vm_addresses.proofs.Reading.ReadAllocators.{one_addresses}
 use Rattle.vm_ids.proofs.Ids.ReadIdStates.{one_encoded}
-use Rattle.vm_addresses.proofs.Reading.ReadRepaired.{one_repaired, strict_repaired}
+use Rattle.vm_addresses.proofs.Reading.ReadAllocators.{one_repaired, strict_repaired}
 
 pub one_range_encoded : EncodesAtMostOne EncodesRange
 one_range_encoded = one_range

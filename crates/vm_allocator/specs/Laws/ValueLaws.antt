@@ -8,7 +8,7 @@ use Rattle.serde_json.specs.declared.value.Value.{Value}
 use Rattle.vm_addresses.specs.Address.{AddressState}
 use Rattle.vm_addresses.specs.Answer.{SPLIT_LIMIT_MIN_HELD}
 use Rattle.vm_addresses.specs.Values.AllocatorValues.{EncodesAddresses}
-use Rattle.vm_addresses.specs.Values.RepairedValues.{EncodesRepaired}
+use Rattle.vm_addresses.specs.Values.AllocatorValues.{EncodesRepaired}
 use Rattle.vm_ranges.specs.Saving.{Saves, Reads}
 use Rattle.vm_ranges.specs.Texts.{IsTextOf, Parses}
 use Rattle.vm_ranges.specs.declared.saved.ValueError.{ValueError}

@@ -1,7 +1,7 @@
 //! Laws of saved values.
 ghost use Rattle.vm_ranges.specs.RangeValues.{EncodesRange, EncodesState};
 ghost use Rattle.vm_addresses.specs.Values.AllocatorValues.{EncodesAddresses};
-ghost use Rattle.vm_addresses.specs.Values.RepairedValues.{EncodesRepaired};
+ghost use Rattle.vm_addresses.specs.Values.AllocatorValues.{EncodesRepaired};
 ghost use Rattle.vm_ids.specs.Values.IdValues.{EncodesIds};
 ghost use Rattle.vm_addresses.specs.Histories.AddressHistories.{IsHistoryFrom};
 ghost use Rattle.vm_ids.specs.Histories.IdHistories.{IsIdHistoryFrom};

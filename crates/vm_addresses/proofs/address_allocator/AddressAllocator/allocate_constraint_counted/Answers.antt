@@ -72,7 +72,7 @@ granted c =
     c.self.inside.free_len c.args.request c.allocate_in.new.count c.self.invariant c.in-Ok.taken valid.some c.in-Ok.ensures.answer valid)
 
 pub returns-in-Err-clause-answer : goal.returns-in-Err-clause-answer
-returns-in-Err-clause-answer c = (refused c).answer
+returns-in-Err-clause-answer c = (refused c).allocates
 
 pub returns-in-Err-clause-filling : goal.returns-in-Err-clause-filling
 returns-in-Err-clause-filling c = (refused c).filling
@@ -90,7 +90,7 @@ pub returns-in-Err-clause-search_aligned : goal.returns-in-Err-clause-search_ali
 returns-in-Err-clause-search_aligned c = (refused c).search_aligned
 
 pub returns-clause-answer : goal.returns-clause-answer
-returns-clause-answer c = (granted c).answer
+returns-clause-answer c = (granted c).allocates
 
 pub returns-clause-filling : goal.returns-clause-filling
 returns-clause-filling c = (granted c).filling

@@ -1,6 +1,6 @@
 use Rattle.std.proofs.Common.{sym}
 use Rattle.serde_json.specs.View.{view}
-use Rattle.vm_addresses.proofs.Reading.ReadRepaired.{none_repaired, repaired_read_by}
+use Rattle.vm_addresses.proofs.Reading.ReadAllocators.{none_repaired, repaired_read_by}
 use Rattle.vm_addresses.proofs.address_allocator.AddressAllocator.from_value_repaired.Goals as goal
 
 pub returns-in_default-clause-answer : goal.returns-in_default-clause-answer

@@ -1,11 +1,12 @@
-use Rattle.std.proofs.Common.{◌≡◌, ◌+◌, List, ◌∷◌, None, Ok, Err, ◌∙◌, rules, arith, subst}
+use Rattle.std.proofs.Common.{◌≡◌, ◌+◌, List, ◌∷◌, None, Ok, Err, IfErr, ◌∙◌, rules, arith, subst}
+use Rattle.vm_ranges.specs.ListErrors.{by_error}
 use Rattle.vm_ranges.specs.Range.{Range}
 use Rattle.vm_ranges.specs.Making.{MakesRange}
 use Rattle.vm_ranges.specs.declared.error.Error.TheVariants.{OutOfMemory}
 use Rattle.vm_addresses.specs.Held.{MakesHeld, fault_index}
-use Rattle.vm_addresses.specs.Allocator.{state_of}
+use Rattle.vm_addresses.specs.Allocator.{made_state}
 use Rattle.vm_addresses.specs.Holes.{holes_after}
-use Rattle.vm_addresses.proofs.Results.Holes.{list_checked, too_many, no_memory, no_hole_index, clear_in}
+use Rattle.vm_addresses.proofs.Results.Holes.{list_checked, too_many, no_memory, no_index_named, clear_if_made}
 use Rattle.vm_addresses.proofs.address_allocator.AddressAllocator.with_free.Goals as goal
 
 pub returns-then-count-gt-MAX_HOLES-clause-answer :
@@ -31,8 +32,8 @@ returns-in_err-holes-clause-answer c =
     rw (list, error) (no_memory c.in-Some.first.now c.in-Some.others.now c.in_ok-last.count is.0 c.in_ok-last.ensures.2
     (omega (arith, c.if-count-gt-MAX_HOLES.false)))
 
-pub returns-in_err-interval_tree-clause-index : goal.returns-in_err-interval_tree-clause-index
-returns-in_err-interval_tree-clause-index c =
+pub returns-clause-index : goal.returns-clause-index
+returns-clause-index c =
     let list : c.args.free.now ≡ c.in-Some.first.now ∷ c.in-Some.others.now = search rules in
     let range : MakesRange c.in-Some.first.now.start c.in_ok-last.last.end (Ok c.in_ok-space.space) = rw
     (← c.start.ensures.value, ← c.end.ensures.value) c.in_ok-space.ensures in
@@ -40,15 +41,11 @@ returns-in_err-interval_tree-clause-index c =
     c.start.ensures.range c.in_ok-last.ensures range in
     let held : c.deref.result.now ≡ holes_after (c.in-Some.first.now.end + 1) c.in-Some.others.now = c.deref.ensures.value
     ∙ c.in_ok-holes.ensures in
-    let failure = c.in_err-interval_tree.field-0.0 in
-    let error : c.from_residual-in_err-interval_tree.result ≡ Err failure = search rules in
-    let index : failure.index ≡ fault_index 0 c.in_ok-space.space.start c.in_ok-space.space.end
-    c.deref.result.now = c.in_err-interval_tree.ensures.index in
-    rw (list, error) (
-    subst (λ (v : Range). failure.index ≡ fault_index 0 v.start v.end (holes_after (c.in-Some.first.now.end + 1) c.in-Some.others.now)) is.1
-    (subst (λ (v : List Range). failure.index ≡ fault_index 0 c.in_ok-space.space.start
-    c.in_ok-space.space.end v) held index)
-    ∙ no_hole_index c.in-Some.first.now c.in-Some.others.now is.0)
+    rw (list) (no_index_named c.in-Some.first.now c.in-Some.others.now c.holding.result is.0
+    (subst (λ (v : Range). IfErr c.holding.result (λ f. f.index ≡ fault_index 0 v.start v.end
+    (holes_after (c.in-Some.first.now.end + 1) c.in-Some.others.now))) is.1
+    (subst (λ (v : List Range). IfErr c.holding.result (λ f. f.index ≡ fault_index 0 c.in_ok-space.space.start c.in_ok-space.space.end v))
+    held c.holding.ensures.index)))
 
 pub returns-clause-clear : goal.returns-clause-clear
 returns-clause-clear c =
@@ -59,8 +56,7 @@ returns-clause-clear c =
     c.start.ensures.range c.in_ok-last.ensures range in
     let held : c.deref.result.now ≡ holes_after (c.in-Some.first.now.end + 1) c.in-Some.others.now = c.deref.ensures.value
     ∙ c.in_ok-holes.ensures in
-    let state = state_of c.in_ok-interval_tree.interval_tree in
-    let made : MakesHeld c.in_ok-space.space c.deref.result.now (Ok state) = c.in_ok-interval_tree.ensures.answer in
-    rw (list) (λ x. clear_in c.in-Some.first.now c.in-Some.others.now state x is.0 (
-    subst (λ (v : Range). MakesHeld v (holes_after (c.in-Some.first.now.end + 1) c.in-Some.others.now) (Ok state)) is.1
-    (subst (λ (v : List Range). MakesHeld c.in_ok-space.space v (Ok state)) held made)))
+    rw (list) (clear_if_made c.in-Some.first.now c.in-Some.others.now c.holding.result is.0
+    (subst (λ (v : Range). MakesHeld v (holes_after (c.in-Some.first.now.end + 1) c.in-Some.others.now)
+    (made_state (by_error c.holding.result))) is.1
+    (subst (λ (v : List Range). MakesHeld c.in_ok-space.space v (made_state (by_error c.holding.result))) held c.holding.ensures.answer)))
