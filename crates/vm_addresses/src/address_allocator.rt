@@ -179,7 +179,7 @@ impl AddressAllocator {
     /// - Only if the range splits its gap:
     ///   - `Overflow` if 6,293,134,512 ranges or more are allocated.
     ///   - `OutOfMemory` if an allocation fails.
-    #[tactic(auto, using(crate::proofs::Callers::allocations, crate::proofs::Results::Requests::allocating, crate::proofs::Results::Filling::succeeding))]
+    #[tactic(auto, using(crate::proofs::Callers::allocations, crate::proofs::Results::Requests::allocating, crate::proofs::Results::Filling::succeeding, crate::proofs::Trees::Spaces::states))]
     pub fn allocate(
         &mut self,
         alloc: Global,
@@ -206,6 +206,8 @@ impl AddressAllocator {
         // Each result under its exact condition.
         ensures answer { Allocates (state_of self.old) (request_for size alignment policy) result (state_of self.new) }
     {
+        // Proof: this shows that the tree is valid.
+        let _tree = &self.tree;
         let request = Constraint::new(size, alignment, policy)?;
         self.allocate_constraint(alloc, request)
     }
@@ -241,6 +243,8 @@ impl AddressAllocator {
 
         // A request that fills its gap needs no memory, so it succeeds.
         ensures filling { (start : ℕ) → FillsGap (state_of self.old) request start → IsOk result }
+
+        ensures state { IsAddressState (state_of self.new) }
 
         // Each result under its exact condition. The tree is one that the counted call leaves.
         ensures answer { Allocates (state_of self.old) request result (state_of self.new) }

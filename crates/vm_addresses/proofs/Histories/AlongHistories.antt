@@ -28,7 +28,7 @@ use Rattle.vm_addresses.proofs.Blocks.PlainWords.{IsHeld, contains_held, held_co
 use Rattle.vm_addresses.proofs.Results.Outcomes.{IsRefused}
 use Rattle.vm_addresses.proofs.Reading.ReadAllocators.{encoded_state}
 use Rattle.vm_addresses.proofs.Reading.ReadAllocators.{repaired_state}
-use Rattle.vm_addresses.proofs.Reading.ReadNodes.{tree_read_state, keys_read_state}
+use Rattle.vm_addresses.proofs.Reading.NodeStates.{tree_read_state, keys_read_state}
 use Rattle.vm_ranges.proofs.Clones.{cloning_keeps}
 use Rattle.vm_ranges.proofs.Histories.{history_keeps}
 use Rattle.vm_addresses.proofs.Results.Once.{allocates_once, frees_once}

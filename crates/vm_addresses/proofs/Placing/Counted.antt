@@ -56,7 +56,7 @@ use Rattle.vm_addresses.proofs.Trees.Spaces.{state_of_tree}
 use Rattle.vm_addresses.proofs.Counts.GapBounds.{aligned_searches}
 use Rattle.vm_addresses.specs.Counts.GapSearch.{SearchesGaps, SearchesAligned}
 use Rattle.vm_addresses.specs.Counts.NodeCounts.{nodes_of_request}
-use Rattle.vm_addresses.specs.Counts.Steps.{EntersToAllocate, IsAllocationCount}
+use Rattle.vm_addresses.specs.Counts.Steps.{EntersToAllocate, IsAllocationCount, IsGrantCount}
 use Rattle.vm_addresses.proofs.Counts.Allocating.{entered_if_valid, valid_count}
 use Rattle.vm_addresses.proofs.Results.Filling.{allocates_filling}
 use Rattle.vm_addresses.proofs.Results.Requests.{request_allocates}
@@ -158,7 +158,8 @@ module _ (s m : Shape) (space : Range) (held gaps clear : ℕ) (request : Reques
           filling = λ t f. allocates_filling (state_of s) (state_of m) request t (taken_range answer) all f;
           enters = entered_if_valid s request count v
               (subst (λ (v : Range). count ≡ nodes_of_request request v s) h.is_space a.exact);
-          steps = valid_count (height_of s) (state_of s) request (taken_range answer) count v a.steps;
+          steps = valid_count (height_of s) (state_of s) request (taken_range answer) count v
+              (subst (λ (v : AddressState). IsGrantCount (height_of s) v request (taken_range answer) count) state_is a.steps);
           search = aligned_searches (height_of s) (state_of s) request (taken_range answer) count near;
           search_aligned = near;
         }

@@ -24,6 +24,8 @@ use Rattle.std.proofs.Common.{
   Result,
   Ok,
   Err,
+  IfOk,
+  IfErr,
   refl,
   sym,
   ap,

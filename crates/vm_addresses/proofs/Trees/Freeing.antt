@@ -23,10 +23,8 @@ use Rattle.std.proofs.Common.{
   ◌⊎◌,
   ⊎_elim,
   subst,
-  Result,
   Ok,
   Err,
-  IsOk,
   length-append,
   cond,
   eqb,
@@ -35,7 +33,6 @@ use Rattle.std.proofs.Common.{
 }
 use Rattle.std.specs.List.{Contains}
 use Rattle.vm_ranges.specs.Range.{Range}
-use Rattle.vm_ranges.specs.declared.error.Error.{Error}
 use Rattle.vm_ranges.specs.declared.error.Error.TheVariants.{ResourceNotAvailable}
 use Rattle.vm_ranges.specs.declared.state.NodeState.{NodeState}
 use Rattle.vm_ranges.specs.declared.state.NodeState.TheVariants.{Free, Allocated}
@@ -150,28 +147,20 @@ module _ (s n : Shape) (k : Range) (joined : ℕ) (h : IsSpaceTree s) (f : tree.
   }
 
 -- A range that starts outside the space is not held.
-held_inside : (s : Shape) (k : Range) → IsSpaceTree s → Contains (state_of s).held k → IsIn (space_of (blocks s)) k.start
-held_inside s k h c =
-    let sp = space_of (blocks s) in
-    let l = held_lies sp.start sp.end (held_of (blocks s)) k (state_of_tree s h).in_order (held_contains (held_of (blocks s)) k c) in
-    (omega (arith, l.0), omega (arith, l.1, l.2))
-
 pub not_outside : (s : Shape) (k : Range) → IsSpaceTree s → (IsIn (space_of (blocks s)) k.start → ⊥) →
     Frees (state_of s) k (Err ResourceNotAvailable) (state_of s)
 unfolding Frees
-not_outside s k h out = inr (λ c. out (held_inside s k h c), (refl, refl))
-
-pub held_not_outside : (s : Shape) (k : Range) (answer : Result (Unit {0}) Error) → IsSpaceTree s →
-    (IsIn (space_of (blocks s)) k.start → ⊥) → Contains (state_of s).held k → IsOk answer
-held_not_outside s k answer h out c = absurd (out (held_inside s k h c))
-
-pub held_is_found : (s : Shape) (k : Range) (answer : Result (Unit {0}) Error) → (tree.Holds k (blocks s) → ⊥) →
-    Contains (state_of s).held k → IsOk answer
-held_is_found s k answer n c = absurd (n (found_at k (blocks s) (held_contains (held_of (blocks s)) k c)))
+not_outside s k h out =
+    let sp = space_of (blocks s) in
+    inr (
+      λ c. let l = held_lies sp.start sp.end (held_of (blocks s)) k (state_of_tree s h).in_order (held_contains (held_of (blocks s)) k c)
+          in out (omega (arith, l.0), omega (arith, l.1, l.2)),
+      (refl, refl),
+    )
 
 pub frees_held : (s n : Shape) (k : Range) → Contains (held_of (blocks s)) k → state_of n ≡ releasing k (state_of s) →
     Frees (state_of s) k (Ok tt) (state_of n)
 unfolding Frees
 frees_held s n k c e = inl (c, (refl, e))
 
-pub ruleset freeing = (not_freed, not_outside, held_not_outside, held_is_found, frees_one, frees_held)
+pub ruleset freeing = (not_freed, not_outside, frees_one, frees_held)

@@ -1,6 +1,5 @@
 //! Frees an allocated range.
-ghost use Rattle.std.specs.Prelude.{◌≡◌, OnErr, OnOk, IsOk};
-ghost use Rattle.std.specs.List.{Contains};
+ghost use Rattle.std.specs.Prelude.{◌≡◌, OnErr, OnOk};
 ghost use Rattle.vm_addresses.specs.Address.{IsAddressState};
 ghost use Rattle.vm_addresses.specs.Answer.{Frees};
 ghost use Rattle.vm_addresses.specs.Counts.Steps.{IsBalancedTreeOf, IsFreeCount};
@@ -25,9 +24,6 @@ impl AddressAllocator {
         ensures balanced { OnOk result.0 (IsBalancedTreeOf (state_of self.old) self.old) }
         ensures answer { Frees (state_of self.old) key.now result.0 (state_of self.new) }
         ensures unchanged { OnErr result.0 (self.new ≡ self.old) }
-
-        // Freeing an allocated range always succeeds.
-        ensures held { Contains (state_of self.old).held key.now → IsOk result.0 }
         ensures steps { IsFreeCount self.old key.now result.0 result.1 }
         ensures state { IsAddressState (state_of self.new) }
     {

@@ -26,7 +26,7 @@ impl AddressAllocator {
     /// An error changes nothing, and leaves the same tree. In this order:
     /// - `ResourceNotAvailable` if exactly the range `key` is not allocated.
     /// - The errors of [`allocate_constraint`](Self::allocate_constraint), in the same order.
-    #[tactic(auto, using(crate::proofs::Results::Moves::moves, crate::proofs::Counts::TakenParts::taken))]
+    #[tactic(auto, using(crate::proofs::Results::Moves::moves, crate::proofs::Trees::Spaces::states, crate::proofs::Counts::TakenParts::taken))]
     pub fn move_constraint(
         &mut self,
         alloc: Global,
@@ -50,6 +50,8 @@ impl AddressAllocator {
         ensures answer { MovesRange (state_of self.old) key.now request result (state_of self.new) }
         ensures parts { TakesParts 2 self.old (request ∷ []) self.new }
     {
+        // Proof: this shows that the tree is valid.
+        let _tree = &self.tree;
         if !self.holds(key) {
             return Err(Error::ResourceNotAvailable);
         }

@@ -24,6 +24,7 @@ impl AddressAllocator {
     /// - `OutOfMemory` without an index if the allocation of the list fails. This is first, and leaves the
     ///   same tree.
     /// - The error of the first request that fails, with its index.
+    #[tactic(auto, using(crate::proofs::Trees::Spaces::states))]
     pub fn allocate_all(
         &mut self,
         alloc: Global,
@@ -37,6 +38,8 @@ impl AddressAllocator {
         ensures parts { TakesParts (2 * length requests.now) self.old requests.now self.new }
         ensures state { IsAddressState (state_of self.new) }
     {
+        // Proof: this shows that the tree is valid.
+        let _tree = &self.tree;
         let mut ranges = Vec::with_capacity(alloc, requests.len())?;
         for (index, request) in requests.iter().enumerate() {
             match self.allocate_constraint(alloc, *request) {

@@ -4,10 +4,13 @@ use Rattle.std.specs.Prelude.{List}
 use Rattle.vm_addresses.specs.Address.{AddressState, IsAddressState}
 use Rattle.vm_addresses.specs.Allocator.{state_of}
 use Rattle.vm_addresses.proofs.Counts.TakenParts.{more_allowed, then_allocated}
-use Rattle.vm_addresses.proofs.Results.Requests.{request_allocates}
+use Rattle.vm_addresses.proofs.Trees.Spaces.{state_of_tree}
 use Rattle.vm_addresses.specs.Several.{AllocatesEach, FailsAtIndex}
-use Rattle.vm_addresses.proofs.Results.Several.{each_space, refused_by, failed_at, all_taken, one_more}
+use Rattle.vm_addresses.proofs.Results.Several.{refused_by, failed_at, all_taken, one_more}
 use Rattle.vm_addresses.proofs.address_allocator.AddressAllocator.allocate_all.Goals as goal
+
+valid : (c : goal.After-drop-ranges) → IsAddressState (state_of c.args.self.now)
+valid c = rw (← c.self.view_is) (state_of_tree c.self.inside.tree c.self.invariant.tree)
 
 -- The state is that before the first request.
 state_again : (c : goal.After-drop-ranges) → state_of c.free_all.new.allocator ≡ state_of c.args.self.now
@@ -15,7 +18,7 @@ state_again c =
     let l = c.loop-index in
     let first = state_of c.args.self.now in
     let some = take l.index c.args.requests.now in
-    c.free_all.ensures.state first some c.self.invariant.state
+    c.free_all.ensures.state first some (valid c)
     (subst (λ (v : AddressState). AllocatesEach first some l.ranges.items v) (sym (ap state_of c.in-Err.ensures.unchanged))
     l.invariant.each)
 
@@ -28,17 +31,17 @@ failed c =
     failed_at c.args.requests.now l.index l.ranges.items (state_of c.args.self.now) (state_of l.self)
     (state_of c.allocate_constraint.new.self) c.index-requests-index.result c.in-Err.error c.loop-index-test.true c.index-requests-index.is
     l.invariant.each
-    (request_allocates _ (state_of l.self) (state_of c.allocate_constraint.new.self) _ e.valid e.answer) (ap state_of e.unchanged)
+    e.answer (ap state_of e.unchanged)
 
 pub returns-in-Err-clause-answer : goal.returns-in-Err-clause-answer
 returns-in-Err-clause-answer c =
-    rw (← c.self.view_is) (
+    (
       state_again c,
       inr (refused_by (state_of c.args.self.now) c.args.requests.now c.loop-index.index c.in-Err.error (failed c)),
     )
 
 pub returns-in-Err-clause-failed : goal.returns-in-Err-clause-failed
-returns-in-Err-clause-failed c = rw (← c.self.view_is) (failed c)
+returns-in-Err-clause-failed c = (failed c)
 
 pub returns-in-Err-clause-parts : goal.returns-in-Err-clause-parts
 returns-in-Err-clause-parts c =
@@ -48,12 +51,11 @@ returns-in-Err-clause-parts c =
     let failed = then_allocated l.index first l.self c.allocate_constraint.new.self requests c.index-requests-index.result (Err c.in-Err.error)
     l.invariant.parts
     (l.index, c.loop-index-test.true, sym c.index-requests-index.is) c.in-Err.ensures.part in
-    rw (← c.self.view_is)
     (more_allowed (l.index + 1 + length l.ranges.items) (2 * length requests) first c.free_all.new.allocator requests
     (c.free_all.ensures.parts (l.index + 1) first requests failed) (omega (arith, l.invariant.many, c.loop-index-test.true)))
 
 pub returns-in-Err-clause-state : goal.returns-in-Err-clause-state
-returns-in-Err-clause-state c = subst IsAddressState (sym (state_again c)) c.self.invariant.state
+returns-in-Err-clause-state c = subst IsAddressState (sym (state_again c)) (valid c)
 
 pub loop-index-preserved : goal.loop-index-preserved
 loop-index-preserved c =
@@ -61,9 +63,8 @@ loop-index-preserved c =
     let first = state_of c.args.self.now in
     let mid = state_of c.loop-index.self in
     let new = state_of c.allocate_constraint.new.self in
-    let answer = request_allocates c.index-requests-index.result mid new _ c.in-Ok.ensures.valid c.in-Ok.ensures.answer in
     let each = one_more c.args.requests.now i c.loop-index.ranges.items first mid new c.index-requests-index.result c.in-Ok.range
-    c.loop-index-test.true c.index-requests-index.is c.loop-index.invariant.each answer in
+    c.loop-index-test.true c.index-requests-index.is c.loop-index.invariant.each c.in-Ok.ensures.answer in
     record {
       each = subst (λ (v : List Range). AllocatesEach first (take (i + 1) c.args.requests.now) v new) (sym c.in-Ok-push.ensures.items) each;
       parts = then_allocated i c.args.self.now c.loop-index.self c.allocate_constraint.new.self c.args.requests.now
@@ -77,13 +78,12 @@ loop-index-preserved c =
 pub returns-clause-answer : goal.returns-clause-answer
 returns-clause-answer c =
     let l = c.loop-index in
-    rw (← c.self.view_is) (all_taken c.args.requests.now l.index l.ranges.items (state_of c.args.self.now) (state_of l.self)
+    (all_taken c.args.requests.now l.index l.ranges.items (state_of c.args.self.now) (state_of l.self)
     (omega (arith, l.auto.index-end)) l.invariant.each)
 
 pub returns-clause-parts : goal.returns-clause-parts
 returns-clause-parts c =
     let l = c.loop-index in
     let requests = c.args.requests.now in
-    rw (← c.self.view_is)
     (more_allowed l.index (2 * length requests) c.args.self.now l.self requests l.invariant.parts
     (omega (arith, l.auto.index-end)))

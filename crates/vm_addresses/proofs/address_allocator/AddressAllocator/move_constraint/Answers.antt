@@ -10,13 +10,13 @@ use Rattle.vm_addresses.proofs.address_allocator.AddressAllocator.move_constrain
 pub returns-clause-moved : goal.returns-clause-moved
 returns-clause-moved c =
     let state : IsAddressState (state_of c.args.self.now) = rw (← c.self.view_is) (state_of_tree c.self.inside.tree c.self.invariant.tree) in
-    let held : Contains (state_of c.args.self.now).held c.args.key.now = rw (← c.self.view_is) (c.if-not-holds.ensures.0 refl) in
+    let held : Contains (state_of c.args.self.now).held c.args.key.now = c.if-not-holds.ensures.0 refl in
     move_held _ (state_of c.allocate_constraint.new.self) _ _ _ c.args.request c.free.result state held c.in_ok-range.ensures.answer
     c.free.ensures.answer
 
 pub returns-clause-answer : goal.returns-clause-answer
 returns-clause-answer c =
-    let held : Contains (state_of c.args.self.now).held c.args.key.now = rw (← c.self.view_is) (c.if-not-holds.ensures.0 refl) in
+    let held : Contains (state_of c.args.self.now).held c.args.key.now = c.if-not-holds.ensures.0 refl in
     move_moves _ (state_of c.allocate_constraint.new.self) _ _ _ c.args.request c.free.result held c.if-is_for.ensures
     c.in_ok-range.ensures.answer c.free.ensures.answer
 
