@@ -9,7 +9,7 @@ use Rattle.vm_addresses.specs.Counts.Parts.{Allocating, Freeing, HasPart, HasPar
 use Rattle.vm_ranges.proofs.Histories.{history_append}
 use Rattle.vm_addresses.proofs.Counts.TakenParts.{no_parts, allocated_only}
 use Rattle.vm_addresses.proofs.TakenParts.{allocated_and_freed}
-use Rattle.vm_addresses.specs.Allocator.{Shape}
+use Rattle.vm_tree.specs.Shape.{Shape}
 use Rattle.vm_devices.specs.Manager.{DevicesInTree, GivesBack, ReservesInParts}
 use Rattle.vm_devices.specs.declared.device_slot.DeviceSlot.{DeviceSlot}
 

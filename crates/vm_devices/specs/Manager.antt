@@ -10,7 +10,9 @@ use Rattle.vm_ranges.specs.declared.error.Error.TheVariants.{OutOfMemory}
 use Rattle.vm_tree.specs.Shape.{Shape}
 use Rattle.vm_addresses.specs.Counts.Parts.{Allocating, Freeing, HasParts, TakesParts}
 use Rattle.vm_ids.specs.Ids.{IdState, id_state_code}
-use Rattle.vm_addresses.specs.Allocator.{Shape, shape_code, state_of}
+use Rattle.vm_tree.specs.Shape.{Shape}
+use Rattle.vm_tree.specs.ShapeCode.{shape_code}
+use Rattle.vm_addresses.specs.Allocator.{state_of}
 use Rattle.vm_devices.specs.Devices.{DeviceState, devices_of}
 use Rattle.vm_devices.specs.declared.device_slot.DeviceSlot.{DeviceSlot}
 

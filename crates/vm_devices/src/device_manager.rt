@@ -9,7 +9,7 @@ ghost use Rattle.vm_ranges.specs.Range.{Range, Covers, address_count};
 ghost use Rattle.vm_ranges.specs.Request.{request_for};
 ghost use Rattle.vm_addresses.specs.Answer.{IsChosen};
 ghost use Rattle.vm_addresses.specs.Counts.Parts.{TakesParts};
-ghost use Rattle.vm_addresses.specs.Ids.{IsLowestNotHeld, PeeksId};
+ghost use Rattle.vm_ids.specs.Ids.{IsLowestNotHeld, PeeksId};
 ghost use Rattle.vm_devices.specs.Devices.{
   IsDeviceState,
   IsDevice,

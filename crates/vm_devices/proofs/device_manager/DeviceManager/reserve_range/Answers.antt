@@ -5,7 +5,8 @@ use Rattle.vm_ranges.specs.Range.{Range}
 use Rattle.vm_ids.specs.Ids.{IdState}
 use Rattle.vm_devices.specs.Manager.{DevicesInTree}
 use Rattle.vm_ranges.specs.declared.error.Error.TheVariants.{OutOfMemory}
-use Rattle.vm_addresses.specs.Allocator.{Shape, state_of}
+use Rattle.vm_tree.specs.Shape.{Shape}
+use Rattle.vm_addresses.specs.Allocator.{state_of}
 use Rattle.vm_devices.specs.Devices.{devices_of}
 use Rattle.vm_devices.proofs.DeviceCalls.{id_peeked, entered, entered_state, undone, undone_state}
 use Rattle.vm_addresses.proofs.Results.AddressResults.{freeing_undoes}
