@@ -43,11 +43,13 @@ pub record DeviceFitsAgain (request : Request) (slot : DeviceSlot) (state : Devi
   pub by : (later : DeviceState) (answer : Result DeviceSlot Error) → Reserves state request answer later →
       IfOk answer (λ again. again ≡ slot)
 
+-- After a device is released, its request fits again.
 pub released_fits_again : (old mid new : DeviceState) (request : Request) (slot : DeviceSlot) → IsDeviceState old →
     Reserves old request (Ok slot) mid → Releases mid slot.id (Ok tt) new → DeviceFitsAgain request slot new
 released_fits_again old mid new request slot i s f = record
     { by = λ later answer h. device_again old mid new later request slot answer i s f h }
 
+-- A request that fits again reserves the same device.
 pub fits_again_is_reserved : (new later : DeviceState) (request : Request) (slot : DeviceSlot) (answer : Result DeviceSlot Error) →
     DeviceFitsAgain request slot new → Reserves new request answer later → IfOk answer (λ again. again ≡ slot)
 fits_again_is_reserved new later request slot answer i h = i.by later answer h

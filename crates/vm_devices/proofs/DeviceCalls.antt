@@ -44,6 +44,7 @@ IsRefusedOrReserved old request answer new =
     ((e : Error) × (answer ≡ Err e) × (new ≡ old))
     ⊎ ((slot : DeviceSlot) × (answer ≡ Ok slot) × IsReserved old request slot new)
 
+-- The results for the id and the range give the result of the reservation.
 paired_outcome : (old new : DeviceState) (space : AddressState) (request : Request) (id : ℕ) (given : Result Range Error)
     (answer : Result DeviceSlot Error) →
     IsLowestNotHeld old.ids id → Allocates old.space request given space → Pairs old id given answer new →
@@ -67,6 +68,7 @@ paired_outcome old new space request id (Ok r) answer lowest a p =
     (λ m. inl (OutOfMemory, m.0, m.1))
     p
 
+-- A reservation is an error that changes nothing, or a reserved device.
 pub reserving_outcome : (old new : DeviceState) (request : Request) (answer : Result DeviceSlot Error) → Reserves old request answer new →
     IsRefusedOrReserved old request answer new
 unfolding Reserves ByLowestNotHeld
@@ -75,6 +77,7 @@ reserving_outcome old new request answer (inl h) =
 reserving_outcome old new request answer (inr (all, inl h)) = inl (_, h.1.0, h.1.1)
 reserving_outcome old new request answer (inr (all, inr h)) = inl (_, h.1.0, h.1.1)
 
+-- A successful reservation is a reserved device.
 pub reserved_device : (old new : DeviceState) (request : Request) (slot : DeviceSlot) → Reserves old request (Ok slot) new →
     IsReserved old request slot new
 reserved_device old new request slot h =
@@ -83,6 +86,7 @@ reserved_device old new request slot h =
     (λ d. let same : d.0 ≡ slot = cc (d.1) in subst (λ (s : DeviceSlot). IsReserved old request s new) same d.2)
     (reserving_outcome old new request (Ok slot) h)
 
+-- A reservation that fails changes nothing.
 pub reserving_unchanged : (old new : DeviceState) (request : Request) (e : Error) → Reserves old request (Err e) new → new ≡ old
 reserving_unchanged old new request e h = ⊎_elim (λ r. r.2) (λ d. absurd (cc (d.1))) (reserving_outcome old new request (Err e) h)
 
@@ -93,6 +97,7 @@ IsRefusedOrReleased old id answer new =
     ((e : Error) × (answer ≡ Err e) × (new ≡ old))
     ⊎ ((r : Range) × IsDevice old id r × (answer ≡ Ok tt) × (new ≡ without_device id r old))
 
+-- The result for the entry of the id is the result of the release.
 released_outcome : (old new : DeviceState) (id : ℕ) (answer : Result (Unit {0}) Error) (at : Option Range) → map.get old.devices id ≡ at →
     MatchOption at ((answer ≡ Err (NeverAllocated id)) × (new ≡ old))
     (λ r. ((answer ≡ Ok tt) × (new ≡ without_device id r old)) ⊎ ((answer ≡ Err OutOfMemory) × (new ≡ old))) →
@@ -101,12 +106,14 @@ released_outcome old new id answer None e h = inl (NeverAllocated id, h.0, h.1)
 released_outcome old new id answer (Some r) e h =
     ⊎_elim (λ t. inr (r, e, t.0, t.1)) (λ m. inl (OutOfMemory, m.0, m.1)) h
 
+-- A release is an error that changes nothing, or a released device.
 pub releasing_outcome : (old new : DeviceState) (id : ℕ) (answer : Result (Unit {0}) Error) → Releases old id answer new →
     IsRefusedOrReleased old id answer new
 unfolding Releases
 releasing_outcome old new id answer h = released_outcome old new id answer (map.get old.devices id) refl h
 
 -- ---- Each call preserves the pairs
+-- The state after a reservation is valid.
 pub reserved_state : (old new : DeviceState) (request : Request) (answer : Result DeviceSlot Error) → IsDeviceState old →
     Reserves old request answer new → IsDeviceState new
 reserved_state old new request answer i h =
@@ -118,6 +125,7 @@ reserved_state old new request answer i h =
     subst IsDeviceState (sym made.left) (state_with old slot.id slot.range request i (gets_lowest old slot.id made.lowest) made.given))
     (reserving_outcome old new request answer h)
 
+-- The state after a release is valid.
 pub released_state : (old new : DeviceState) (id : ℕ) (answer : Result (Unit {0}) Error) → IsDeviceState old → Releases old id answer new →
     IsDeviceState new
 released_state old new id answer i h =
@@ -128,14 +136,17 @@ released_state old new id answer i h =
 
 -- ---- Creating
 module _ (lo hi base size : ℕ) where
+  -- If the ids cannot be made, their error is returned.
   pub ids_refused : (e : Error) → MakesIds lo hi (Err e) → MakesManager lo hi base size (Err e)
   unfolding MakesManager
   ids_refused e m = let space = every_call.made base size in (Err e, space.0, m, space.1, refl)
 
+  -- If the space cannot be made, its error is returned.
   pub space_refused : (ids : IdState) (e : Error) → MakesIds lo hi (Ok ids) → Makes base size (Err e) → MakesManager lo hi base size (Err e)
   unfolding MakesManager
   space_refused ids e m n = (Ok ids, Err e, m, n, refl)
 
+  -- If both can be made, the manager has them and no device.
   pub manager_made : (ids : IdState) (space : AddressState) (slots : map.FinMap nat_cmp Range) → MakesIds lo hi (Ok ids) →
       Makes base size (Ok space) → slots ≡ map.empty → MakesManager lo hi base size (Ok (devices_of ids space slots))
   unfolding MakesManager
@@ -168,6 +179,7 @@ no_devices lo hi base size ids space id word ids_made space_made =
       };
     }
 
+-- The state of a new manager is valid and has no device.
 pub made_state : (lo hi base size : ℕ) (state : DeviceState) → hi ≤ MAX_ID → size ≤ MAX → MakesManager lo hi base size (Ok state) →
     IsDeviceState state × (state.devices ≡ map.empty)
 unfolding MakesManager
@@ -178,6 +190,7 @@ made_state lo hi base size state id word (Ok ids, Ok space, m, n, h) =
     (rw same (no_devices lo hi base size ids space id word m n), ap (λ (s : DeviceState). s.devices) same)
 
 -- ---- Reserving
+-- If no id is free, the error of `peek_id` is returned.
 pub id_refused : (old new : DeviceState) (request : Request) (e : Error) → PeeksId old.ids (Err e) → new ≡ old →
     Reserves old request (Err e) new
 unfolding Reserves PeeksId ByLowestNotHeld
@@ -193,6 +206,7 @@ id_peeked old new request id space given answer (inl h) a p =
 id_peeked old new request id space given answer (inr (all, inl h)) a p = absurd (cc (h.1))
 id_peeked old new request id space given answer (inr (all, inr h)) a p = absurd (cc (h.1))
 
+-- If the request is not valid, its error is returned.
 pub request_refused : (old : DeviceState) (request : Request) (id : ℕ) (e : Error) → PeeksId old.ids (Ok id) →
     MakesConstraint request (Err e) → Reserves old request (Err e) old
 request_refused old request id e p m = id_peeked old old request id old.space (Err e) (Err e) p (allocates_refused old.space request e m)
@@ -210,21 +224,26 @@ module _ (old : DeviceState) (request : Request) (id : ℕ) (r : Range) (mid : A
         id_peeked old (devices_of ids space slots) request id mid (Ok r) _ p a
         (inl (refl, cc ((peeking_predicts.held old.ids ids id taken p t).1, (given old.space mid request r a).left, e, f)))
 
+    -- The state with the new device is valid.
     pub entered_state : IsDeviceState (devices_of ids space slots)
     entered_state = reserved_state old _ request _ i entered
 
   -- The range is freed again.
   module _ (answer : Result (Unit {0}) Error) (f : Frees mid r answer space) (e : slots ≡ old.devices) (same : ids ≡ old.ids) where
+    -- The state is the one before the call.
     left_as_it_was : devices_of ids space slots ≡ old
     left_as_it_was = rw (same, (freeing_undoes old.space mid space request r answer i.space a f).1, e) refl
 
+    -- If the entry cannot be inserted, the call returns OutOfMemory.
     pub undone : Reserves old request (Err OutOfMemory) (devices_of ids space slots)
     undone = id_peeked old (devices_of ids space slots) request id mid (Ok r) _ p a (inr (refl, left_as_it_was))
 
+    -- The state after an undone reservation is valid.
     pub undone_state : IsDeviceState (devices_of ids space slots)
     undone_state = rw left_as_it_was i
 
 -- ---- Releasing
+-- An id without a device is NeverAllocated.
 pub no_device : (old new : DeviceState) (id : ℕ) → map.get old.devices id ≡ None → new ≡ old → Releases old id (Err (NeverAllocated id)) new
 unfolding Releases
 no_device old new id e same = rw e (refl, same)
@@ -238,6 +257,7 @@ release_refused old new id r e back i d held is same =
     let memory : e ≡ OutOfMemory = ⊎_elim (λ k. absurd (cc (k, is))) (λ k. cc (k, is)) (held (id_held old id r i d)) in
     rw d (inr (ap (λ (v : Error). Err v) memory, same))
 
+-- Freeing a held range leaves the state without it.
 range_freed : (old new : AddressState) (r : Range) (answer : Result (Unit {0}) Error) → Contains old.held r → Frees old r answer new →
     new ≡ releasing r old
 unfolding Frees
@@ -251,9 +271,11 @@ module _ (old : DeviceState) (id : ℕ) (r : Range) (ids : IdState) (space : Add
   pub left : devices_of ids space slots ≡ without_device id r old
   left = cc (e, range_freed old.space space r answer (i.pairs.held id r d) f, g)
 
+  -- The state without the device is valid.
   pub left_state : IsDeviceState (devices_of ids space slots)
   left_state = rw left (state_without old id r i d)
 
+  -- The release succeeds.
   pub gone : Releases old id (Ok tt) (devices_of ids space slots)
   unfolding Releases
   gone = rw (left, d) (inl (refl, refl))

@@ -33,22 +33,26 @@ use Rattle.vm_devices.proofs.DeviceCalls.{made_state, IsReserved, reserving_outc
 use Rattle.vm_devices.proofs.SavedManagers.{encoded_state}
 
 -- ---- Every reached state is valid
+-- Each call leaves a valid state.
 call_state : (call : DeviceCall) (old new : DeviceState) → IsDeviceState old → IsDeviceCallFrom old call new → IsDeviceState new
 call_state (Reserve request, answer) old new i h = reserved_state old new request answer i h
 call_state (Release id, answer) old new i h = released_state old new id answer i h
 call_state (Clone, answer) old new i h = subst IsDeviceState (sym (cloning_keeps old new answer h.0 h.1)) i
 
+-- Each first state of a history is valid.
 first_state : (first : DeviceState) → IsManagerMade first ⊎ BeginsWithDevices first → IsDeviceState first
 first_state first (inl m) = (made_state m.lo m.hi m.base m.size first m.id m.word m.made).0
 first_state first (inr (inl m)) = subst IsDeviceState (sym m.made.2)
     (record { ids = m.valid_ids; space = m.valid_space; pairs = m.made.1.pairs })
 first_state first (inr (inr r)) = encoded_state r.value first r.encoded
 
+-- Each state that is reached is valid.
 reached_state : (calls : List DeviceCall) (old : DeviceState) → AreDevicesReached calls old → IsDeviceState old
 reached_state calls old r = history_keeps IsDeviceCallFrom IsDeviceState call_state calls r.first old (first_state r.first r.begins)
     r.history
 
 -- ---- Each device was reserved
+-- A device that was reserved by some calls was reserved by these and one more.
 reserved_later : (call : DeviceCall) (calls : List DeviceCall) (id : ℕ) (r : Range) → WasReserved calls id r →
     WasReserved (call ∷ calls) id r
 reserved_later call calls id r g =
@@ -83,6 +87,7 @@ call_reserves old new (Release q, answer) calls id r h d =
     (releasing_outcome old new q answer h))
 call_reserves old new (Clone, answer) calls id r h d = inl (rw (cloning_keeps old new answer h.0 h.1) at d)
 
+-- A device after a history was there before it, or was reserved by it.
 history_reserves : (calls : List DeviceCall) (first last : DeviceState) (id : ℕ) (r : Range) → IsDeviceHistoryFrom first calls last →
     IsDevice last id r → IsDevice first id r ⊎ WasReserved calls id r
 history_reserves [] first last id r h d = inl (rw h at d)
@@ -101,12 +106,14 @@ first_devices first id r (inl m) k =
     absurd (cc (none, empty, k))
 first_devices first id r (inr begins) k = record { begins = begins; device = k }
 
+-- A device of a state that is reached was reserved, or was there first.
 reached_reserved : (calls : List DeviceCall) (old : DeviceState) (id : ℕ) (r : Range) (h : AreDevicesReached calls old) →
     IsDevice old id r → WasReserved calls id r ⊎ WasThereFirst h.first id r
 reached_reserved calls old id r h d =
     ⊎_elim (λ k. inr (first_devices h.first id r h.begins k)) (λ g. inl g) (history_reserves calls h.first old id r h.history d)
 
 -- ---- The ids and ranges of devices
+-- The ranges of two devices do not overlap.
 devices_apart : (old : DeviceState) (i j : ℕ) (r s : Range) → IsDeviceState old → IsDevice old i r → IsDevice old j s → i ≢ j →
     ¬ Overlaps r s
 devices_apart old i j r s is d f ne o =
@@ -114,6 +121,7 @@ devices_apart old i j r s is d f ne o =
     let same : r ≡ s = (lie_apart old.space is.space).apart r s (p.held i r d) (p.held j s f) o in
     ne (p.once i j s (d ∙ ap Some same) f)
 
+-- The id and the range of a device are within those of the manager.
 device_inside : (old : DeviceState) (id : ℕ) (r : Range) → IsDeviceState old → IsDevice old id r →
     IsOfRange old.ids id × Covers old.space.space r × (r.end < MAX)
 device_inside old id r is d =
@@ -122,6 +130,7 @@ device_inside old id r is d =
     let out = is.ids.held id (id_held old id r is d) in
     ((out.0, omega (arith, out.1, is.ids.bound.1)), (l.inside r c).1, l.below r c)
 
+-- The devices of each state that is reached are valid.
 pub devices_are_valid : DevicesAreValid
 devices_are_valid = record {
   state = reached_state;

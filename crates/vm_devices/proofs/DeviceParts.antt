@@ -46,6 +46,7 @@ range_returned old new mid request r freed is first second same =
       same = inr (refl, back);
     }
 
+-- The range was allocated and is kept.
 pub range_kept : (old new : DevicesInTree) (request : Request) (answer : Result Range Error) (slot : DeviceSlot) →
     (n : ℕ) × HasParts old.addresses (Allocating request answer n ∷ []) new.addresses → ReservesInParts old request (Ok slot) new
 range_kept old new request answer slot part = record {

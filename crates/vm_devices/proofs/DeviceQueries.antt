@@ -17,6 +17,7 @@ use Rattle.vm_devices.specs.Queries.{device_of, device_list, DeviceAt}
 use Rattle.vm_devices.proofs.Entries.{all_counted, has_range, range_had}
 
 -- ---- The list
+-- The ids of the listed devices are the held ids.
 listed_ids : (state : DeviceState) → IsDeviceState state →
     map_list (λ (device : DeviceSlot). device.id) (device_list state) ≡ held_ids state.ids
 listed_ids state i =
@@ -26,6 +27,7 @@ listed_ids state i =
     (λ t. in_held_ids state.ids i.ids q ∙ (i.pairs.ids q).1 (map.contains_key-keys state.devices q ∙ t))
     (λ t. sym (map.contains_key-keys state.devices q) ∙ (i.pairs.ids q).0 (sym (in_held_ids state.ids i.ids q) ∙ t)))
 
+-- The list has the held ids in their order, and exactly the held ranges.
 pub devices_listed : DevicesAreListed
 devices_listed = record {
   ids = listed_ids;
@@ -44,6 +46,7 @@ devices_listed = record {
 }
 
 -- ---- An address
+-- A device is found at each of its addresses.
 pub at_its_addresses : DeviceIsAtItsAddresses
 unfolding DeviceAt Overlaps
 at_its_addresses state id r x None i d at none = absurd (none id r d at)

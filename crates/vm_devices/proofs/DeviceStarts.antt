@@ -26,15 +26,18 @@ one_start space i q r c d e =
     let second = (l.inside r d).0 in
     l.apart q r c d (q.start, (omega arith, omega (arith, first)), (omega (arith, e), omega (arith, e, second)))
 
+-- Devices with the same start are the same device.
 pub devices_start_apart : (state : DeviceState) (j k : ℕ) (q r : Range) → IsDeviceState state → IsDevice state j q → IsDevice state k r →
     q.start ≡ r.start → j ≡ k
 devices_start_apart state j k q r i a b e =
     i.pairs.once j k r (a ∙ ap Some (one_start state.space i.space q r (i.pairs.held j q a) (i.pairs.held k r b) e)) b
 
+-- The id that `peek_id` returns is not held.
 lowest_not_held : (ids : IdState) (id : ℕ) → PeeksId ids (Ok id) → ¬ IsHeld ids id
 unfolding PeeksId ByLowestNotHeld IsLowestNotHeld
 lowest_not_held ids id p k = grind arith
 
+-- A new device has a new id and a new start.
 pub new_device : (old : DeviceState) (mid : AddressState) (request : Request) (id : ℕ) (r : Range) → IsDeviceState old →
     PeeksId old.ids (Ok id) → Allocates old.space request (Ok r) mid → IsNew old.devices id r.start
 new_device old mid request id r i p a = record {
@@ -59,12 +62,14 @@ module _ {state : DeviceState} {x : ℕ} {r : Range} (i : IsDeviceState state) (
   owner : (id : ℕ) × IsDevice state id r
   owner = i.pairs.owned r held.0
 
+  -- The id that is found at the start is that of the device.
   pub device_found : (id : ℕ) → at ≡ Some id → DeviceAt state x (Some (record { id = id; range = r }))
   unfolding DeviceAt
   device_found id e =
       let f = map_some (λ (q : Range). q.start) (map.get state.devices id) r.start ((ids id).0 e) in
       (subst (λ (v : ℕ). IsDevice state v r) (devices_start_apart state owner.0 id r f.0 i owner.1 f.1 (sym f.2)) owner.1, held.1)
 
+  -- An id is found at the start of a held range.
   pub device_missed : ¬ (at ≡ None)
   device_missed e = let some = (ids owner.0).1 (ap (option_map (λ (q : Range). q.start)) owner.1) in absurd (cc (e, some))
 

@@ -34,6 +34,7 @@ told_in_memory : (old new : DeviceState) (id : ℕ) (given : Result Range Error)
     (answer ≡ Ok (record { id = id; range = r })) ⊎ (answer ≡ Err OutOfMemory)
 told_in_memory old new id given answer r p e = grind arith
 
+-- A reservation for which the range fits again returns this range, or one of the two errors.
 told : (old new : DeviceState) (id : ℕ) (given : Result Range Error) (answer : Result DeviceSlot Error) (r : Range) →
     Pairs old id given answer new → (given ≡ Ok r) ⊎ IsSplitError old.space given →
     (answer ≡ Ok (record { id = id; range = r })) ⊎ IsLimit old answer
@@ -66,6 +67,7 @@ same_given old new request r given a b =
     let once = allocates_once old (holding r old) new request (Ok r) given a b in
     grind (arith, once)
 
+-- The request of a released device reserves it again.
 pub reserved_again : ReservedAgain
 unfolding Reserves
 reserved_again old mid new later request slot released answer i s f plain t =
@@ -94,6 +96,7 @@ unfolding ByLowestNotHeld AreAllHeld
 for_some ids id takes refused inside (inl h) = (h.0, h.2)
 for_some ids id takes refused inside (inr h) = absurd ((from_removed ids.held id id (h.0 id inside)).0 refl)
 
+-- The range of a released device can be reserved again.
 pub range_comes_back : RangeIsReservedAgain
 unfolding Reserves
 range_comes_back old new later id r released answer i d f plain t =

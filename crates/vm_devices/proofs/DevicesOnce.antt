@@ -17,6 +17,7 @@ use Rattle.vm_devices.specs.Histories.{Reserve, Release, Clone, IsDeviceCallFrom
 use Rattle.vm_devices.specs.Laws.{DevicesDecide}
 use Rattle.vm_devices.proofs.DeviceCalls.{reserving_unchanged, releasing_outcome}
 
+-- Creating has one result if that for the space has.
 made_with : (ids : Result IdState Error) (x y : Result AddressState Error) (answer other : Result DeviceState Error) →
     answer ≢ Err OutOfMemory → other ≢ Err OutOfMemory →
     (x ≢ Err OutOfMemory → y ≢ Err OutOfMemory → x ≡ y) → answer ≡ made_devices ids x → other ≡ made_devices ids y → answer ≡ other
@@ -25,6 +26,7 @@ made_with (Ok ids) x y answer other p q same a b =
     let tell = made_devices (Ok ids) in
     a ∙ ap tell (same (λ e. p (a ∙ ap tell e)) (λ e. q (b ∙ ap tell e))) ∙ sym b
 
+-- Creating a manager has one result.
 manager_once : (lo hi base size : ℕ) (answer other : Result DeviceState Error) → answer ≢ Err OutOfMemory → other ≢ Err OutOfMemory →
     MakesManager lo hi base size answer →
     MakesManager lo hi base size other → answer ≡ other
@@ -40,12 +42,14 @@ module _ (old new later : DeviceState) (id : ℕ) (answer other : Result DeviceS
       (answer ≡ other) × (new ≡ later)
   pairs_same given a b = grind arith
 
+  -- A reservation has one result if that for the range has.
   pairs_once : (given again : Result Range Error) → (given ≢ Err OutOfMemory → again ≢ Err OutOfMemory → given ≡ again) →
       Pairs old id given answer new → Pairs old id again other later → (answer ≡ other) × (new ≡ later)
   pairs_once given again same a b =
       let one = same (λ e. p (rw e at a).0) (λ e. q (rw e at b).0) in
       pairs_same again (rw one at a) b
 
+-- A reservation has one result and one next state.
 reserved_once : (old new later : DeviceState) (request : Request) (answer other : Result DeviceSlot Error) → answer ≢ Err OutOfMemory →
     other ≢ Err OutOfMemory →
     Reserves old request answer new → Reserves old request other later → (answer ≡ other) × (new ≡ later)
@@ -56,24 +60,29 @@ reserved_once old new later request answer other p q a b =
     u.3 v.3)
     (λ e u v. (u.0 ∙ sym v.0, u.1 ∙ sym v.1))
 
+-- A release has one result and one next state.
 released_once : (old new later : DeviceState) (id : ℕ) (answer other : Result (Unit {0}) Error) → answer ≢ Err OutOfMemory →
     other ≢ Err OutOfMemory →
     Releases old id answer new → Releases old id other later → (answer ≡ other) × (new ≡ later)
 unfolding Releases
 released_once old new later id answer other p q a b = grind arith
 
+-- Each call has one result and one next state.
 call_once : CallsAreDetermined IsDeviceCallFrom
 call_once old new later (Reserve request) x y p q a b = reserved_once old new later request x y p q a b
 call_once old new later (Release id) x y p q a b = released_once old new later id x y p q a b
 call_once old new later Clone x y p q a b = clones_once old new later x y p q a b
 
+-- Each call has one result and one next state, if memory suffices.
 pub devices_decide : DevicesDecide
 devices_decide = record { made = manager_once; called = call_once }
 
+-- The same calls on the same state have the same results.
 pub same_device_results : SameCallsSameResults IsDeviceCallFrom
 same_device_results = same_results IsDeviceCallFrom call_once
 
 -- ---- An error changes nothing
+-- A call that returns an error leaves the same state.
 pub errors_change_nothing : ErrorsChangeNothing IsDeviceCallFrom
 errors_change_nothing old new (Reserve request) e h = reserving_unchanged old new request e h
 errors_change_nothing old new (Release id) e h = ⊎_elim (λ refused. refused.2) (λ left. absurd (cc (left.2)))

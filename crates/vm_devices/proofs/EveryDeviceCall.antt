@@ -20,10 +20,12 @@ use Rattle.vm_ranges.proofs.Histories.{every_list}
 use Rattle.vm_devices.proofs.DeviceCalls.{id_refused, id_peeked}
 
 -- ---- Creating
+-- Creating runs out of memory only if the ids or the space do.
 made_plainly : (ids : Result IdState Error) (space : Result AddressState Error) → ids ≢ Err OutOfMemory → space ≢ Err OutOfMemory →
     made_devices ids space ≢ Err OutOfMemory
 made_plainly ids space p q h = grind arith
 
+-- Creating a manager has a result other than OutOfMemory.
 total_makes : (lo hi base size : ℕ) → (answer : Result DeviceState Error) × MakesManager lo hi base size answer × (answer ≢ Err OutOfMemory)
 unfolding MakesManager
 total_makes lo hi base size =
@@ -37,6 +39,7 @@ abbrev IsAnswered : DeviceState → Request → Type 0
 IsAnswered old request =
     (answer : Result DeviceSlot Error) × (new : DeviceState) × Reserves old request answer new × (answer ≢ Err OutOfMemory)
 
+-- A reservation has a result if its id and its range have one.
 with_id : (old : DeviceState) (request : Request) (id : ℕ) (given : Result Range Error) (space : AddressState) → PeeksId old.ids (Ok id) →
     Allocates old.space request given space → given ≢ Err OutOfMemory → IsAnswered old request
 with_id old request id (Err e) space p a plain = (
@@ -54,22 +57,26 @@ with_id old request id (Ok r) space p a plain = (
   λ h. cc (h),
 )
 
+-- A reservation has a result, whatever `peek_id` returns.
 by_peeking : (old : DeviceState) (request : Request) (peeked : Result ℕ Error) → PeeksId old.ids peeked → peeked ≢ Err OutOfMemory →
     IsAnswered old request
 by_peeking old request (Err e) p plain =
     (Err e, old, id_refused old old request e p refl, λ h. let same : e ≡ OutOfMemory = cc (h) in plain (ap (λ (v : Error). Err v) same))
 by_peeking old request (Ok id) p plain = let a = every_call.called old.space (Allocate request) in with_id old request id a.0 a.1 p a.2 a.3
 
+-- Each reservation has a result other than OutOfMemory.
 total_reserves : (old : DeviceState) (request : Request) → IsAnswered old request
 total_reserves old request = let p = every_id_call.peeked old.ids in by_peeking old request p.0 p.1 p.2
 
 -- ---- Releasing
+-- Each release has a result, whatever entry the id has.
 total_releases_at : (old : DeviceState) (id : ℕ) (at : Option Range) → map.get old.devices id ≡ at →
     (answer : Result (Unit {0}) Error) × (new : DeviceState) × Releases old id answer new × (answer ≢ Err OutOfMemory)
 unfolding Releases
 total_releases_at old id None e = (Err (NeverAllocated id), old, rw e (refl, refl), λ h. cc (h))
 total_releases_at old id (Some r) e = (Ok tt, without_device id r old, rw e (inl (refl, refl)), λ h. cc (h))
 
+-- Each call has a result and a next state.
 total_call : EveryCallIsAnswered IsDeviceCallFrom
 total_call old (Reserve request) = total_reserves old request
 total_call old (Release id) = total_releases_at old id (map.get old.devices id) refl

@@ -19,6 +19,7 @@ use Rattle.vm_devices.specs.Laws.{ManagerIsReadFromText}
 use Rattle.vm_devices.specs.Saved.{EncodesDevice, EncodesManager, ReadsInParts}
 use Rattle.vm_devices.proofs.SavedManagers.{read_again, one_manager}
 
+-- The value of a device nests at most two deep.
 device_nests : (d : Data) (e : ℕ × Range) → EncodesDevice d e → depth d ≤ 2
 device_nests d e p =
     object_within 1 (codes "id" ∷ codes "mmio_range" ∷ []) d ((refl, tt), (tt, tt)) p.two_fields (
@@ -26,6 +27,7 @@ device_nests d e p =
       (field_map (codes "mmio_range") d _ _ (λ v k. range_nests v e.1 k) p.mmio_range, tt),
     )
 
+-- The value of a manager nests at most 53 deep.
 manager_nests : (d : Data) (state : DeviceState) → EncodesManager d state → depth d ≤ 53
 manager_nests d state p =
     object_within 52 (codes "version" ∷ codes "id_allocator" ∷ codes "mmio_allocator" ∷ codes "slots" ∷ []) d
@@ -44,6 +46,7 @@ manager_nests d state p =
       ),
     )
 
+-- The text of a manager's value is read as this manager.
 pub text_again : ManagerIsReadFromText
 text_again old value text parsed w t p =
     at parsed (parsed_again text (view value) parsed (let e = manager_nests (view value) old w in omega (arith, e)) t p) where

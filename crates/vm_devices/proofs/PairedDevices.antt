@@ -70,9 +70,11 @@ abbrev table_of : List DeviceSlot → map.FinMap nat_cmp Range
 table_of ds = map.from_entries (entries_of ds)
 
 module _ (ds : List DeviceSlot) (s : HaveAscendingIds ds) where
+  -- The table of devices in order has their entries.
   entries_are : map.entries (table_of ds) ≡ entries_of ds
   entries_are = entries_of_sorted (entries_of ds) s
 
+  -- The table has as many devices as the list.
   table_long : map.len (table_of ds) ≡ length ds
   table_long = map.len-entries (table_of ds) ∙ ap (λ (es : List (ℕ × Range)). length es) entries_are ∙ length-map ds entry_of
 
@@ -83,6 +85,7 @@ module _ (ds : List DeviceSlot) (s : HaveAscendingIds ds) where
       let c = Contains-get_or (entries_of ds) k (entry_of d) (omega (arith, l, length-map ds entry_of)) in
       got_entry (table_of ds) _ _ (rw entries_are (subst (Contains (entries_of ds)) at c))
 
+  -- A device of the table has an index in the list.
   place_of : (id : ℕ) (r : Range) → map.get (table_of ds) id ≡ Some r →
       (k : ℕ) × (k < length ds) × (get_or ds k (record { id = id; range = r }) ≡ record { id = id; range = r })
   place_of id r h =
@@ -98,6 +101,7 @@ module _ (ids : IdState) (space : AddressState) (ds : List DeviceSlot) where
     pub table_is : table ≡ table_of (take i ds)
     pub held : AreHeld ids space table
 
+  -- An empty table has no device of the list.
   pub none_so_far : (table : map.FinMap nat_cmp Range) → table ≡ map.empty → ArePairedSoFar 0 table
   none_so_far table e = record {
     table_is = e;
@@ -110,9 +114,11 @@ module _ (ids : IdState) (space : AddressState) (ds : List DeviceSlot) where
 module _ (ids : IdState) (space : AddressState) (ds : List DeviceSlot) (s : HaveAscendingIds ds) where
   -- A manager of these parts has all devices.
   module _ (v : IsAddressState space) where
+    -- If there are more or fewer held ids than devices, the devices are not all.
     pub other_ids_held : ¬ (held_count ids ≡ length ds) → ¬ AreDevicesOf ids space ds
     other_ids_held other a = other (sym (all_counted (listed_state ids space ds) v a.pairs).ids_counted ∙ table_long ds s)
 
+    -- If there are more or fewer held ranges than devices, the devices are not all.
     pub other_ranges_held : ¬ (length space.held ≡ length ds) → ¬ AreDevicesOf ids space ds
     other_ranges_held other a = other (sym (all_counted (listed_state ids space ds) v a.pairs).ranges_counted ∙ table_long ds s)
 
@@ -142,12 +148,15 @@ module _ (ids : IdState) (space : AddressState) (ds : List DeviceSlot) (s : Have
           ),
         )
 
+    -- The id of the next device is not in the table.
     id_is_new : map.get table d.id ≡ None
     id_is_new = absent (map.get table d.id) (λ r h. let b = (before d.id r h).1 in omega (arith, b))
 
+    -- The id and the start of a device that can be inserted are new.
     pub is_new : CanBeInserted ids space table d → IsNew table d.id d.range.start
     is_new can = record { id_is_new = id_is_new; start_is_new = can.start_is_new }
 
+    -- If the devices are those of the manager, each can be inserted.
     pub all_can_be_inserted : IsAddressState space → AreDevicesOf ids space ds → CanBeInserted ids space table d
     all_can_be_inserted v a =
         let all = all_held (listed_state ids space ds) v a.pairs in

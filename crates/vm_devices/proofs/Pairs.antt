@@ -17,6 +17,7 @@ use Rattle.vm_devices.proofs.Tables.{get_with, get_without, with_here, with_case
 
 module _ (old : DeviceState) (id : ℕ) (r : Range) where
   -- ---- A reserved device, whose id and range were not held
+  -- With a new device, all devices are still paired.
   pairs_with : ArePaired old → ¬ IsHeld old.ids id → AddsId old.ids (holding_id id old.ids) id → ¬ Contains old.space.held r →
       AddsRange old.space (holding r old.space) r → ArePaired (with_device id r old)
   pairs_with p free a clear s = record {
@@ -42,6 +43,7 @@ module _ (old : DeviceState) (id : ℕ) (r : Range) where
         (with_cases old.devices id r j t d);
   }
 
+  -- With a new device, the state is still valid.
   pub state_with : (request : Request) → IsDeviceState old → AllocatesId old.ids (Ok id) (holding_id id old.ids) →
       Allocates old.space request (Ok r) (holding r old.space) → IsDeviceState (with_device id r old)
   state_with request i a s = record {
@@ -53,6 +55,7 @@ module _ (old : DeviceState) (id : ℕ) (r : Range) where
   }
 
   -- ---- A released device
+  -- Without a released device, all devices are still paired.
   pairs_without : ArePaired old → IsDevice old id r → RemovesId old.ids (releasing_id id old.ids) id →
       RemovesRange old.space (releasing r old.space) r →
       ArePaired (without_device id r old)
@@ -80,15 +83,18 @@ module _ (old : DeviceState) (id : ℕ) (r : Range) where
     pub id_held : IsHeld old.ids id
     id_held = (i.pairs.ids id).1 (subst IsSome (sym d) refl)
 
+    -- Freeing the id succeeds.
     frees_id : FreesId old.ids id (Ok id) (releasing_id id old.ids)
     unfolding FreesId
     frees_id =
         let out = i.ids.held id id_held in
         inr ((out.0, omega (arith, out.1, i.ids.bound.1)), inr (out, inr (id_held, inl (refl, refl))))
 
+    -- Freeing the range succeeds.
     frees_range : Frees old.space r (Ok tt) (releasing r old.space)
     frees_range = frees_held old.space r (i.pairs.held id r d)
 
+    -- Without a released device, the state is still valid.
     pub state_without : IsDeviceState (without_device id r old)
     state_without = record {
       ids = id_states_are_preserved.freed old.ids (releasing_id id old.ids) id (Ok id) i.ids frees_id;

@@ -78,6 +78,7 @@ use Rattle.vm_devices.specs.Laws.{ManagerIsReadAgain}
 use Rattle.vm_devices.proofs.Entries.{entries_again, whole_map}
 
 -- ---- One device
+-- A device that is read from a value is encoded by it.
 device-states : (d : Data) (e : ℕ × Range) → decoded_device d ≡ Some e → EncodesDevice d e
 device-states d e h =
     let two = if_some (is_count 2 (field_count d)) _ e h in
@@ -92,11 +93,13 @@ device-states d e h =
       mmio_range = field_is (codes "mmio_range") d range.0 (λ v. EncodesRange v pair.0) range.1 (found-states range.0 pair.0 range.2);
     })
 
+-- A device that a value encodes is read from it.
 states-device : (d : Data) (e : ℕ × Range) → EncodesDevice d e → decoded_device d ≡ Some e
 states-device d e s =
     let range = in_field (codes "mmio_range") d (λ v. EncodesRange v e.1) s.mmio_range in
     rw (true-count 2 (field_count d) s.two_fields, s.id, some-u32 e.0 s.word, range.1, states-found range.0 e.1 range.2) refl
 
+-- A value encodes at most one device.
 one_device : (d : Data) (e f : ℕ × Range) → EncodesDevice d e → EncodesDevice d f → e ≡ f
 one_device d e f s t = same_Some e f (sym (states-device d e s) ∙ states-device d f t)
 
@@ -135,6 +138,7 @@ abbrev pub AreReadSoFar : List Value → ℕ → List DeviceSlot → Type 0
 AreReadSoFar vs i devices = EncodesDevices (items_view (take i vs)) devices
 
 module _ (vs : List Value) (i : ℕ) (v : Value) (l : i < length vs) (e : v ≡ get_or vs i v) where
+  -- If an item is no device, the items encode no list.
   pub no_device : decoded_device (view v) ≡ None → ¬ ((all : List DeviceSlot) × EncodesDevices (items_view vs) all)
   no_device none s =
       let some = some_device vs i v (entries_of s.0) l s.1.encoded in
@@ -149,9 +153,11 @@ module _ (vs : List Value) (i : ℕ) (v : Value) (l : i < length vs) (e : v ≡ 
         encodes_more EncodesDevice entry_of (take i vs) (take (i + 1) vs) v devices d
         (take_more vs i v l ∙ ap (λ (x : Value). take i vs ++ x ∷ []) (sym e)) (device-states (view v) (entry_of d) f) s.encoded
 
+    -- A device that is pushed is read.
     pub one_read : (new : List DeviceSlot) → PushesDevice devices d (Ok tt) new → AreReadSoFar vs (i + 1) new
     one_read new p = record { encoded = rw p.0 one_more; ascending = p.1 }
 
+    -- A device that cannot be pushed is the error of the value.
     pub push_refused : (error : SavedError) (new : List DeviceSlot) → PushesDevice devices d (Err error) new →
         ReadsInParts (EncodesDevices (items_view vs)) (Err (value_error error))
     push_refused (Violated c) new p = λ t.
@@ -172,6 +178,7 @@ pub record EncodesFields (p : ℕ × Data × Data × Items) (state : DeviceState
   pub listed : state ≡ listed_state state.ids state.space devices
   pub pairs : ArePaired state
 
+-- A value that encodes a manager has the four fields, which encode its parts.
 pub fields_of : (d : Data) (state : DeviceState) → EncodesManager d state →
     (p : ℕ × Data × Data × Items) × (decoded_manager d ≡ Some p) × EncodesFields p state
 fields_of d state s =
@@ -193,6 +200,7 @@ fields_of d state s =
       },
     )
 
+-- A value without the four fields encodes no manager.
 pub no_fields : (d : Data) → decoded_manager d ≡ None → ¬ ((state : DeviceState) × EncodesManager d state)
 no_fields d none h = let f = fields_of d h.0 h.1 in absurd (cc (none, f.1))
 
@@ -203,6 +211,7 @@ opened : {A B C D : Type 0} (t : Bool) (a : Option A) (b : Option B) (c : Option
 opened t a b c e p h = grind arith
 
 module _ (d : Data) (p : ℕ × Data × Data × Items) (found : decoded_manager d ≡ Some p) where
+  -- The fields of a value encode a manager if and only if the value does.
   to_fields : (state : DeviceState) → EncodesManager d state → EncodesFields p state
   to_fields state s = let f = fields_of d state s in subst (λ (q : ℕ × Data × Data × Items). EncodesFields q state)
       (same_Some f.0 p (sym f.1 ∙ found)) f.2
@@ -233,14 +242,17 @@ module _ (d : Data) (p : ℕ × Data × Data × Items) (found : decoded_manager 
 
 -- ---- The error of a part is the error of the whole
 module _ (p : ℕ × Data × Data × Items) where
+  -- The error of the ids is that of the value.
   pub ids_refused : (e : ValueError) → Reads {X = IdState} (EncodesIds p.1) (Err e) → ReadsInParts (EncodesFields p) (Err e)
   ids_refused NotAState none = λ h. none (h.0.ids, h.1.ids)
   ids_refused OutOfMemory r = tt
 
+  -- The error of the space is that of the value.
   pub space_refused : (e : ValueError) → Reads {X = AddressState} (EncodesAddresses p.2) (Err e) → ReadsInParts (EncodesFields p) (Err e)
   space_refused NotAState none = λ h. none (h.0.space, h.1.space)
   space_refused OutOfMemory r = tt
 
+  -- The error of the devices is that of the value.
   pub slots_refused : (e : ValueError) → ReadsInParts (EncodesDevices p.3) (Err e) → ReadsInParts (EncodesFields p) (Err e)
   slots_refused NotAState none = λ h. none (h.1.devices, h.1.slots)
   slots_refused OutOfMemory r = tt
@@ -255,10 +267,12 @@ module _ (p : ℕ × Data × Data × Items) where
         let list = one_list p.3 (entries_of f.devices) (entries_of devices) f.slots.encoded l.encoded in
         f.listed ∙ (λ k. devices_of (same_ids k) (same_space k) (map.from_entries (list k)))
 
+    -- A manager that is made of the parts is the one that the fields encode.
     pub parts_read : (state : DeviceState) → MakesOfDevices p.0 ids space devices (Ok state) → EncodesFields p state
     parts_read state made = rw made.2
         (record { version = made.0; ids = i; space = a; devices = devices; slots = l; listed = refl; pairs = made.1.pairs })
 
+    -- Parts of which no manager is made are not encoded by the fields.
     pub parts_refused : (e : SavedError) → MakesOfDevices p.0 ids space devices (Err e) →
         ReadsInParts (EncodesFields p) (Err (value_error e))
     parts_refused (Violated c) (inl refused) = λ h. refused.1.1
@@ -267,26 +281,31 @@ module _ (p : ℕ × Data × Data × Items) where
     parts_refused saved_errors.OutOfMemory made = tt
 
 -- ---- One manager
+-- A value encodes only valid states.
 pub encoded_state : (d : Data) (state : DeviceState) → EncodesManager d state → IsDeviceState state
 encoded_state d state s =
     let f = fields_of d state s in
     record { ids = ids_encoded f.0.1 state.ids f.2.ids; space = addresses_encoded f.0.2 state.space f.2.space; pairs = s.pairs }
 
+-- A value encodes at most one manager.
 pub one_manager : (d : Data) (a b : DeviceState) → EncodesManager d a → EncodesManager d b → a ≡ b
 one_manager d a b s t =
     let f = fields_of d b t in
     its_parts f.0 b.ids b.space f.2.devices f.2.ids f.2.space f.2.slots a (to_fields d f.0 f.1 a s) ∙ sym f.2.listed
 
+-- The value of a manager is read as this manager, or memory runs out.
 pub read_again : (d : Data) (old : DeviceState) (answer : Result DeviceState ValueError) → EncodesManager d old →
     ReadsInParts (EncodesManager d) answer → (answer ≡ Ok old) ⊎ (answer ≡ Err OutOfMemory)
 read_again d old (Ok new) s r = inl (ap (λ (v : DeviceState). Ok v) (one_manager d new old r s))
 read_again d old (Err NotAState) s r = absurd (r (old, s))
 read_again d old (Err OutOfMemory) s r = inr refl
 
+-- The value of each manager is read as this manager.
 pub manager_again : ManagerIsReadAgain
 manager_again = record { one = one_manager; again = read_again }
 
 -- ---- A written value encodes the manager
+-- The written fields encode the manager.
 pub manager_written : {d ids space slots : Data} {i : IdState} {a : AddressState} (table : map.FinMap nat_cmp Range) →
     ManagerParts d ids space slots →
     EncodesIds ids i → EncodesAddresses space a → EncodesList slots (entries_of (device_list (devices_of i a table))) →

@@ -23,17 +23,21 @@ use Rattle.vm_ranges.proofs.RangeOrders.{both_equal, range_cmp-exact}
 use Rattle.vm_addresses.proofs.Comparing.StateOrders.{one_state, equal_states, state_cmp-Equal}
 use Rattle.vm_devices.specs.Checks.{HaveSameAllocators}
 
+-- The ids of the listed devices are strictly ascending.
 list_ascends : (state : DeviceState) → HaveAscendingIds (device_list state)
 list_ascends state = subst Sorted (sym (entries_again (map.entries state.devices))) (keys_rise state.devices)
 
+-- A state is made of its parts.
 same_state : (state : DeviceState) → listed_state state.ids state.space (device_list state) ≡ state
 same_state state =
     ap (λ (es : List (ℕ × Range)). devices_of state.ids state.space (map.from_entries es)) (entries_again (map.entries state.devices))
     ∙ ap (devices_of state.ids state.space) (whole_map state.devices)
 
+-- The listed devices of a valid state are those of its ids and its space.
 its_devices : (state : DeviceState) → IsDeviceState state → AreDevicesOf state.ids state.space (device_list state)
 its_devices state i = record { ascending = list_ascends state; pairs = rw (same_state state) i.pairs }
 
+-- Each listed device can be pushed, unless memory runs out.
 its_pushes : (state : DeviceState) (front rest : List DeviceSlot) (device : DeviceSlot) (answer : Result (Unit {0}) SavedError)
     (new : List DeviceSlot) → IsDeviceState state →
     device_list state ≡ front ++ device ∷ rest → PushesDevice front device answer new → (answer ≡ Ok tt) ⊎ (answer ≡ Err OutOfMemory)
@@ -43,6 +47,7 @@ its_pushes state front rest device (Err (Violated c)) new i e p =
     (subst HaveAscendingIds (e ∙ sym (append_assoc front (device ∷ []) rest)) (list_ascends state))))
 its_pushes state front rest device (Err OutOfMemory) new i e p = inr refl
 
+-- The parts of a state make this state, unless memory runs out.
 its_answer : (state : DeviceState) (answer : Result DeviceState SavedError) → IsDeviceState state →
     MakesOfDevices 1 state.ids state.space (device_list state) answer →
     (answer ≡ Ok state) ⊎ (answer ≡ Err OutOfMemory)
@@ -51,6 +56,7 @@ its_answer state (Err (Violated c)) i (inl refused) = absurd (refused.1.1 (its_d
 its_answer state (Err (Violated c)) i (inr refused) = absurd (refused.0 refl)
 its_answer state (Err OutOfMemory) i made = inr refl
 
+-- The parts of a written manager are read as this manager.
 pub parts_read : WrittenManagersAreRead
 parts_read = record {
   ascending = λ state i. list_ascends state;
@@ -60,6 +66,7 @@ parts_read = record {
   read = its_answer;
 }
 
+-- Managers are equal if and only if their parts are.
 pub equal_parts : EqualManagersHaveEqualParts
 equal_parts a b = (
   λ e. (ap (λ (v : DeviceState). v.ids) e, ap (λ (v : DeviceState). v.space) e, ap device_list e),
@@ -74,6 +81,7 @@ pub ruleset written = (parts_read, equal_parts)
 pub ruleset spaces = (one_state, equal_states)
 
 -- ---- Lists of entries
+-- Entries that compare as Equal are equal.
 entry_cmp-exact : (x y : ℕ × Range) → entry_cmp x y ≡ Equal → x ≡ y
 entry_cmp-exact x y h =
     let p = both_equal _ _ h in

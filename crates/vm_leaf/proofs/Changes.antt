@@ -32,6 +32,7 @@ module _ (a : Inside) (bs : List Block) (i : ℕ) (v : IsInside a) (e : length a
   leaf : IsLeaf bs
   leaf = subst IsLeaf view v.blocks
 
+  -- The mask has the state of the block.
   held_is : states_in a.held i ≡ (nth bs i).state
   held_is = state_is a bs i v e view within
 
@@ -49,6 +50,7 @@ module _ (a : Inside) (bs : List Block) (i : ℕ) (v : IsInside a) (e : length a
         mask = bound;
       }
 
+  -- If the bit of a free block is set, the block is held.
   pub taken : (m : ℕ) → WithHeld a.held i m → (nth bs i).state ≡ Free
       → IsInside (record a { held = m }) × (blocks_of (record a { held = m }) ≡ with_parts bs i 1 (held_block (nth bs i).key ∷ []))
   taken m w free =
@@ -58,6 +60,7 @@ module _ (a : Inside) (bs : List Block) (i : ℕ) (v : IsInside a) (e : length a
       spliced a (record a { held = m }) i 1 [] bs s v e view (omega arith) (omega arith) (held_block (nth bs i).key ∷ [])
       (rw (w.same, q) refl) (leaf_held bs i leaf within free)
 
+  -- If the bit of a block between held blocks is cleared, the block is free.
   pub released : (m : ℕ) → WithFree a.held i m → (0 < i → (nth bs (i - 1)).state ≡ Allocated) →
       (i + 1 < length bs → (nth bs (i + 1)).state ≡ Allocated)
       → IsInside (record a { held = m }) × (blocks_of (record a { held = m }) ≡ with_parts bs i 1 (gap_over bs i 1))
@@ -95,10 +98,12 @@ module _ (a : Inside) (bs : List Block) (i : ℕ) (v : IsInside a) (e : length a
   kept_free r to j m t f w l free =
       w.others i l ∙ ap (λ (z : ℕ). states_in z i) f ∙ moved_below a.held (i + 1) (i + 1) to i t (omega arith) ∙ held_is ∙ free
 
+  -- The new bits other than j are those of free blocks.
   new_free : (r to j m k : ℕ) → r ≡ moved a.held (i + 1) (i + 1) to → WithHeld r j m → k ≢ j → i + 1 ≤ k → k < to → states_in m k ≡ Free
   new_free r to j m k f w l q u =
       w.others k l ∙ ap (λ (z : ℕ). states_in z k) f ∙ moved_between a.held (i + 1) (i + 1) to k (omega arith) q u
 
+  -- The upper part of a free block is held, and the lower part stays free.
   pub upper : (S : List ℕ) (r m x : ℕ) → take (a.len + 1) S ≡ take (i + 1) a.starts ++ (x ∷ drop (i + 1) (take a.len a.starts))
       → r ≡ moved a.held (i + 1) (i + 1) (i + 2) → WithHeld r (i + 1) m → (nth bs i).state ≡ Free → length bs + 1 ≤ 32
       → (nth bs i).key.start < x → x ≤ (nth bs i).key.end
@@ -112,6 +117,7 @@ module _ (a : Inside) (bs : List Block) (i : ℕ) (v : IsInside a) (e : length a
       (upper_held (nth bs i).key x)
       (rw (st, w.same, q) refl) (leaf_upper bs i leaf within free x room after upto)
 
+  -- The lower part of a free block is held, and the upper part stays free.
   pub lower : (S : List ℕ) (r m x : ℕ) → take (a.len + 1) S ≡ take (i + 1) a.starts ++ (x ∷ drop (i + 1) (take a.len a.starts))
       → r ≡ moved a.held (i + 1) (i + 1) (i + 2) → WithHeld r i m → (nth bs i).state ≡ Free → length bs + 1 ≤ 32
       → (nth bs i).key.start < x → x ≤ (nth bs i).key.end
@@ -125,6 +131,7 @@ module _ (a : Inside) (bs : List Block) (i : ℕ) (v : IsInside a) (e : length a
       (lower_held (nth bs i).key x)
       (rw (st, w.same, q) refl) (leaf_lower bs i leaf within free x room after upto)
 
+  -- The middle of a free block is held, and the parts on both sides stay free.
   pub middle : (S : List ℕ) (r m x y : ℕ) → take (a.len + 2) S ≡ take (i + 1) a.starts ++ (x ∷ (y ∷ drop (i + 1) (take a.len a.starts)))
       → r ≡ moved a.held (i + 1) (i + 1) (i + 3) → WithHeld r (i + 1) m → (nth bs i).state ≡ Free → length bs + 2 ≤ 32
       → (nth bs i).key.start < x → x < y → y ≤ (nth bs i).key.end
@@ -140,6 +147,7 @@ module _ (a : Inside) (bs : List Block) (i : ℕ) (v : IsInside a) (e : length a
       (middle_held (nth bs i).key x y)
       (rw (st, w.same, su, q) refl) (leaf_middle bs i leaf within free x y room after order upto)
 
+  -- Some blocks become one gap if the blocks beside them are held.
   pub merged : (n : ℕ) (S : List ℕ) (m : ℕ) → 0 < n → i + n ≤ length bs →
       take (a.len - (i + n) + (i + 1)) S ≡ take (i + 1) a.starts ++ drop (i + n) (take a.len a.starts)
       → m ≡ moved a.held i (i + n) (i + 1)

@@ -40,6 +40,7 @@ use Rattle.vm_leaf.proofs.Tiles.{leaf_part}
 use Rattle.vm_leaf.proofs.Tilings.{tiling-append}
 
 -- ---- Lists of blocks
+-- The first block of a leaf can start at x if x is not past its end.
 leaf_from : (x : ℕ) (bs : List Block) → IsLeaf bs → x ≤ (nth bs 0).key.end → IsRange x (end_of bs) → IsLeaf (from_start x bs)
 leaf_from x [] h l r = absurd (omega (arith, h.some))
 leaf_from x (b ∷ bs) h l r =
@@ -54,11 +55,13 @@ leaf_from x (b ∷ bs) h l r =
       range = subst (IsRange x) e r;
     }
 
+-- The last block of a cover can end at x if x is not below its start.
 tiles_upto : (p : NodeState) (lo hi x : ℕ) (l : List Block) (b : Block) → Tiles p lo (l ++ b ∷ []) hi → b.key.start ≤ x
     → Tiles p lo (l ++ record { key = record { start = b.key.start; end = x }; state = b.state } ∷ []) x
 tiles_upto p lo hi x [] b t h = (t.0, omega (arith, t.0), t.2, refl)
 tiles_upto p lo hi x (c ∷ l) b t h = (t.0, t.1, t.2, tiles_upto c.state (c.key.end + 1) hi x l b t.3 h)
 
+-- The last block of a leaf can end at x if x is not below its start.
 leaf_upto : (x : ℕ) (bs : List Block) → IsLeaf bs → (nth bs (length bs - 1)).key.start ≤ x → IsRange (start_of bs) x →
     IsLeaf (upto_end x bs)
 leaf_upto x bs h l r =
@@ -90,6 +93,7 @@ leaf_upto x bs h l r =
     first_start p lo hi [] z t = absurd (omega arith)
     first_start p lo hi (b ∷ bs) z t = t.0
 
+-- `upto_end` changes the last block of a list.
 upto_last : (l : List Block) (b : Block) (x : ℕ) →
     upto_end x (l ++ b ∷ []) ≡ l ++ record { key = record { start = b.key.start; end = x }; state = b.state } ∷ []
 upto_last l b x =
@@ -101,6 +105,7 @@ upto_last l b x =
     rw (n, f, g) refl
 
 -- ---- The fields
+-- Only the first start is written.
 first_set : (S : List ℕ) (len x : ℕ) → 0 < len → 0 < length S → take len (set S 0 x) ≡ x ∷ drop 1 (take len S)
 first_set [] len x z l = absurd (omega arith)
 first_set (s ∷ S) zero x z l = absurd (omega arith)
@@ -110,6 +115,7 @@ module _ (a : Inside) (bs : List Block) (v : IsInside a) (e : length a.starts �
   leaf : IsLeaf bs
   leaf = subst IsLeaf view v.blocks
 
+  -- If the first start is written, the first block starts there.
   pub moved_start : x ≤ (nth bs 0).key.end → IsRange x (end_of bs)
       → let b : Inside = record { starts = set a.starts 0 x; end = a.end; held = a.held; len = a.len } in IsInside b
       × (blocks_of b ≡ from_start x bs)
@@ -125,6 +131,7 @@ module _ (a : Inside) (bs : List Block) (v : IsInside a) (e : length a.starts �
         q,
       )
 
+  -- If the end is written, the last block ends there.
   pub moved_end : (nth bs (length bs - 1)).key.start ≤ x → IsRange (start_of bs) x
       → let b : Inside = record { starts = a.starts; end = x; held = a.held; len = a.len } in IsInside b × (blocks_of b ≡ upto_end x bs)
   moved_end l r =

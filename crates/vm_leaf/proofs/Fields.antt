@@ -16,6 +16,7 @@ use Rattle.vm_leaf.proofs.Tilings.{length-tiling, nth-tiling}
 pub length_blocks : (S : List ℕ) (m len hi : ℕ) → len ≤ length S → length (tiling (states_in m) 0 (take len S) hi) ≡ len
 length_blocks S m len hi h = length-tiling (states_in m) 0 (take len S) hi ∙ length-take-le len S h
 
+-- A block before the last one ends before the next start.
 pub nth_inner : (S : List ℕ) (m len hi i : ℕ) → len ≤ length S → i + 1 < len
     → nth (tiling (states_in m) 0 (take len S) hi) i
     ≡ record { key = record { start = get_or S i 0; end = get_or S (i + 1) 0 - 1 }; state = states_in m i }
@@ -27,6 +28,7 @@ nth_inner S m len hi i h l =
     let zero_plus : 0 + i ≡ i = omega arith in
     nth-tiling (states_in m) 0 i (take len S) hi (omega arith) ∙ rw (more, at_i, at_next, zero_plus) refl
 
+-- The last block ends at the end of the leaf.
 pub nth_last : (S : List ℕ) (m len hi i : ℕ) → len ≤ length S → i + 1 ≡ len
     → nth (tiling (states_in m) 0 (take len S) hi) i ≡ record { key = record { start = get_or S i 0; end = hi }; state = states_in m i }
 nth_last S m len hi i h l =
@@ -36,6 +38,7 @@ nth_last S m len hi i h l =
     let zero_plus : 0 + i ≡ i = omega arith in
     nth-tiling (states_in m) 0 i (take len S) hi (omega arith) ∙ rw (none, at_i, zero_plus) refl
 
+-- A leaf has `len` blocks.
 pub length_of : (a : Inside) → IsInside a → length a.starts ≡ 32 → length (blocks_of a) ≡ a.len
 length_of a v h = length_blocks a.starts a.held a.len a.end (omega (arith, v.fits))
 
@@ -54,6 +57,7 @@ pub record IsBlockAt (a : Inside) (i : ℕ) : Type 0 where
   pub state : (nth (blocks_of a) i).state ≡ states_in a.held i
   pub range : IsRange (nth (blocks_of a) i).key.start (nth (blocks_of a) i).key.end
 
+-- The fields of a leaf give each block.
 pub block_at : (a : Inside) (i : ℕ) → IsInside a → length a.starts ≡ 32 → i < a.len → IsBlockAt a i
 block_at a i v e l =
     let h : a.len ≤ length a.starts = omega (arith, v.fits) in
@@ -92,6 +96,7 @@ module _ (a : Inside) (bs : List Block) (i : ℕ) (v : IsInside a) (e : length a
   pub state_is : states_in a.held i ≡ (nth bs i).state
   state_is = sym (block_at a i v e within).state ∙ ap (λ (b : List Block). (nth b i).state) view
 
+  -- A block ends before the next start, and the last one at the end of the leaf.
   pub end_is : (i + 1 < a.len → get_or a.starts (i + 1) 0 - 1 ≡ (nth bs i).key.end) × (a.len ≤ i + 1 → a.end ≡ (nth bs i).key.end)
   end_is =
       let f = ap (λ (b : List Block). (nth b i).key.end) view in
@@ -100,6 +105,7 @@ module _ (a : Inside) (bs : List Block) (i : ℕ) (v : IsInside a) (e : length a
         λ q. sym (ap (λ (b : Block). b.key.end) ((block_at a i v e within).last (omega arith))) ∙ f,
       )
 
+-- A start after the first one is not 0.
 pub next_above : (a : Inside) (i : ℕ) → IsInside a → length a.starts ≡ 32 → i + 1 < a.len → 1 ≤ get_or a.starts (i + 1) 0
 next_above a i v e l = (block_at a (i + 1) v e l).above (omega arith)
 

@@ -24,6 +24,7 @@ use Rattle.vm_leaf.specs.States.{states_in, state_of}
 use Rattle.vm_leaf.proofs.Masks.{bit_of_mod}
 use Rattle.vm_leaf.proofs.GapBits.{opposite, held_if}
 
+-- The number of trailing zeros is the index of the lowest 1.
 pub lowest_of : (m : ℕ) → 0 < m → m < 2 ^ 64 → IsLowestOne m (trailing_zeros w64 m)
 lowest_of m z u = let h = bit_at-trailing_zeros w64 m z u in record { one = h.1; below = h.2 }
 
@@ -35,6 +36,7 @@ module _ (m i : ℕ) (h : IsLowestOne m i) where
   twice : 2 ^ (i + 1) ≡ 2 ^ i + 2 ^ i
   twice = rw add-one (omega (arith, pow-suc 2 i))
 
+  -- Up to the lowest 1, m has the bits of its power of two.
   same_below : (k : ℕ) → k < i + 1 → bit_at (m % 2 ^ (i + 1)) k ≡ bit_at (2 ^ i) k
   same_below k l =
       elim (cases_lt k i) [
@@ -42,24 +44,30 @@ module _ (m i : ℕ) (h : IsLowestOne m i) where
         | inr u ↦ (let e : k ≡ i = omega arith in rw e (bit_of_mod m (i + 1) i (omega arith) ∙ h.one ∙ sym (bit_at-pow_same i)))
       ]
 
+  -- Up to the lowest 1, m is its power of two.
   low : m % 2 ^ (i + 1) ≡ 2 ^ i
   low = same_from_bits_below (i + 1) (m % 2 ^ (i + 1)) (2 ^ i) (mod-lt m (pow_pos (i + 1))) (omega (arith, twice, pow_pos i)) same_below
 
+  -- The mask is its bits above the lowest 1 and the lowest 1.
   whole : m ≡ p * 2 ^ (i + 1) + 2 ^ i
   whole = sym (div-add-mod' m (2 ^ (i + 1))) ∙ ap (λ (v : ℕ). p * 2 ^ (i + 1) + v) low
 
+  -- The mask less 1 has the bits above the lowest 1, and each bit below it.
   less : m - 1 ≡ p * 2 ^ (i + 1) + (2 ^ i - 1)
   less = omega (arith, whole, pow_pos i)
 
+  -- The mask less 1 does not have the lowest 1.
   bit_of_less : bit_at (m - 1) i ≡ 0
   bit_of_less = ap (λ (v : ℕ). bit_at v i) less ∙ bit_at_cat_low p (i + 1) (2 ^ i - 1) i (omega arith) ∙ bit_at_ones_above i i (omega arith)
 
+  -- The mask less 1 has the same bits above the lowest 1.
   bits_above : (k : ℕ) → i < k → bit_at (m - 1) k ≡ bit_at m k
   bits_above k l =
       let a = bit_at_cat_high p (i + 1) (2 ^ i - 1) k (omega (arith, twice, pow_pos i)) (omega arith) in
       let b = bit_at_cat_high p (i + 1) (2 ^ i) k (omega (arith, twice, pow_pos i)) (omega arith) in
       ap (λ (v : ℕ). bit_at v k) less ∙ a ∙ sym b ∙ ap (λ (v : ℕ). bit_at v k) (sym whole)
 
+-- The and of m and m - 1 has the bits of m above its lowest 1.
 pub mask_above : (m i : ℕ) → IsLowestOne m i → IsMaskAbove i m (bit_and m (m - 1))
 mask_above m i h = record {
   below = λ k l. elim (cases_lt k i) [
@@ -69,6 +77,7 @@ mask_above m i h = record {
   above = λ k l. omega (arith, bit_at_and m (m - 1) k, bits_above m i h k l);
 }
 
+-- A mask without its lowest 1 is less.
 pub less_without : (m : ℕ) → 0 < m → bit_and m (m - 1) < m
 less_without m z = omega (arith, and_le_r m (m - 1))
 
@@ -81,12 +90,15 @@ module _ (bs : List Block) (m x : ℕ) (long : length bs ≤ 32) (fits : m < 2 ^
   inverse : (k : ℕ) → k < length bs → bit_at x k ≡ 1 - bit_at m k
   inverse k l = omega (arith, opposite m x (length bs) small long rest k l, bit_at-lt m k, bit_at-lt x k)
 
+  -- A state whose inverted bit is 1 is free.
   free_if : (v : ℕ) → v < 2 → 1 - v ≡ 1 → state_of v ≡ Free
   free_if v l e = let f : v ≡ 0 = omega arith in rw f refl
 
+  -- The inverted mask has a bit for each block.
   size : x < 2 ^ length bs
   size = omega (arith, rest, mod-lt (18446744073709551615 - m) (pow_pos (length bs)))
 
+  -- The inverted mask has the gaps of all blocks.
   pub gaps_from : AreGapsFrom 0 bs x
   gaps_from = record {
     fits = size;
@@ -100,16 +112,20 @@ module _ (bs : List Block) (m x : ℕ) (long : length bs ≤ 32) (fits : m < 2 ^
 
 -- The gaps behind the lowest one.
 module _ (bs : List Block) (i j m n : ℕ) (h : AreGapsFrom i bs m) (low : IsLowestOne m j) where
+  -- The lowest 1 is that of a block.
   pub lowest_within : j < length bs
   lowest_within =
       elim (cases_lt j (length bs)) [ inl l ↦ l | inr l ↦ absurd (omega (arith, low.one, bit_at_above m (length bs) j h.fits l)) ]
 
+  -- The lowest 1 is at i or above.
   pub lowest_from : i ≤ j
   lowest_from = elim (cases_lt j i) [ inl l ↦ absurd (omega (arith, low.one, h.below j l)) | inr l ↦ l ]
 
+  -- The blocks from i to the lowest 1 are held.
   pub held_between : (k : ℕ) → i ≤ k → k < j → (nth bs k).state ≡ Allocated
   held_between k f l = h.held k f (omega (arith, lowest_within)) (low.below k l)
 
+  -- The mask without its lowest 1 has the gaps behind it.
   pub gaps_behind : n < m → IsMaskAbove j m n → AreGapsFrom (j + 1) bs n
   gaps_behind less a = record {
     fits = omega (arith, h.fits);

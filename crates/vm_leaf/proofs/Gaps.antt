@@ -14,6 +14,7 @@ use Rattle.vm_leaf.specs.GapMasks.{AreGapsFrom}
 use Rattle.vm_leaf.proofs.Fields.{length_of, state_is}
 use Rattle.vm_leaf.proofs.GapMasks.{gaps_from}
 
+-- No state is both free and held.
 not_both : (s : NodeState) → s ≡ Free → s ≡ Allocated → ⊥
 not_both s e f = cc
 
@@ -23,12 +24,14 @@ FindsBefore st upto r =
     MatchOption r ((k : ℕ) → k < upto → st k ≡ Allocated)
     (λ i. (i < upto) × (st i ≡ Free) × ((k : ℕ) → i < k → k < upto → st k ≡ Allocated))
 
+-- The result of `gap_before` is the same for states that agree below `upto`.
 same_finds : (st su : ℕ → NodeState) (upto : ℕ) → ((k : ℕ) → k < upto → su k ≡ st k) → (r : Option ℕ) → FindsBefore st upto r →
     FindsBefore su upto r
 same_finds st su upto e None h = λ k l. e k l ∙ h k l
 same_finds st su upto e (Some i) h = (h.0, e i h.0 ∙ h.1, λ k l u. e k u ∙ h.2 k l u)
 
 module _ (a : Inside) (bs : List Block) (v : IsInside a) (e : length a.starts ≡ 32) (view : blocks_of a ≡ bs) where
+  -- A row of held bits ends at the end of the leaf or before it.
   pub gap_within : (r from : ℕ) → from ≤ length bs → ((k : ℕ) → from ≤ k → k < r → states_in a.held k ≡ Allocated) → r ≤ length bs
   gap_within r from l h =
       let n = length_of a v e in
@@ -41,16 +44,20 @@ module _ (a : Inside) (bs : List Block) (v : IsInside a) (e : length a.starts �
         | inr q ↦ q
       ]
 
+  -- A free state in the mask is that of a free block.
   pub gap_free : (r : ℕ) → states_in a.held r ≡ Free → r < length bs → (nth bs r).state ≡ Free
   gap_free r h l = sym (state_is a bs r v e view l) ∙ h
 
+  -- A held state in the mask is that of a held block.
   pub gap_skipped : (k : ℕ) → states_in a.held k ≡ Allocated → k < length bs → (nth bs k).state ≡ Allocated
   gap_skipped k h l = sym (state_is a bs k v e view l) ∙ h
 
+  -- The last gap by the mask is the last gap by the blocks.
   pub gap_last : (upto : ℕ) (r : Option ℕ) → upto ≤ length bs → FindsBefore (states_in a.held) upto r →
       FindsBefore (λ k. (nth bs k).state) upto r
   gap_last upto r l h = same_finds (states_in a.held) (λ k. (nth bs k).state) upto (λ k u. sym (state_is a bs k v e view (omega arith))) r h
 
+  -- The inverted mask has the gaps of the leaf.
   pub gap_mask : (x : ℕ) → x ≡ (18446744073709551615 - a.held) % 2 ^ a.len → AreGapsFrom 0 bs x
   gap_mask x q =
       let n : length bs ≡ a.len = ap length (sym view) ∙ length_of a v e in

@@ -36,9 +36,11 @@ use Rattle.vm_leaf.proofs.Tilings.{same_tiling, tiling-append}
 use Rattle.vm_leaf.proofs.Fields.{length_of, end_is}
 use Rattle.vm_leaf.proofs.Tiles.{leaf_part}
 
+-- A mask of i bits has a free state at i.
 pub clear_above : (m i : ℕ) → m < 2 ^ i → states_in m i ≡ Free
 clear_above m i h = ap state_of (bit_at_above m i i h (omega arith))
 
+-- A mask of i bits is one of i + 1 bits.
 pub lower_power : (m i : ℕ) → m < 2 ^ i → m < 2 ^ (i + 1)
 lower_power m i h = let p : 2 ^ i ≤ 2 ^ (i + 1) = pow_mono (omega arith) in omega arith
 
@@ -48,13 +50,16 @@ module _ (a : Inside) (xs : List Block) (v : IsInside a) (e : length a.starts �
   long : length xs ≡ a.len
   long = ap length (sym view) ∙ length_of a v e
 
+  -- The end of a leaf is that of its last block.
   pub end_is_last : a.end ≡ end_of xs
   end_is_last = let n = long in (end_is a xs (length xs - 1) v e view (omega (arith, v.some))).1 (omega (arith, v.some))
 
   module _ (b : Block) (h : IsLeaf (xs ++ b ∷ [])) where
+    -- A leaf to which a block is added has room for it.
     pub room : a.len < 32
     room = let n = long in omega (arith, h.fits, length-append xs (b ∷ []))
 
+    -- The block that is pushed starts right after the end of the leaf.
     seam : a.end ≡ b.key.start - 1
     seam =
         let n = long in
@@ -73,6 +78,7 @@ module _ (a : Inside) (xs : List Block) (v : IsInside a) (e : length a.starts �
         let w = ap (λ (z : Block). z.key.end) two in
         omega arith
 
+    -- A block is added at the end of a leaf.
     pub pushed : (s t m : ℕ) → s ≡ b.key.start → t ≡ b.key.end → states_in m a.len ≡ b.state →
         ((k : ℕ) → k < a.len → states_in m k ≡ states_in a.held k) → m < 2 ^ (a.len + 1)
         → let c : Inside = record { starts = set a.starts a.len s; end = t; held = m; len = a.len + 1 } in IsInside c

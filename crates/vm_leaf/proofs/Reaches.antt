@@ -44,9 +44,11 @@ use Rattle.vm_leaf.proofs.Longest.{longest_more}
 use Rattle.vm_leaf.proofs.Highest.{powers_up_to, xor_pos_before}
 use Rattle.vm_leaf.proofs.MultiplesBetween.{at_most, count_is_exact, count_from_zero}
 
+-- Zero has no digit.
 pub no_digits : IsBitLength 0 0
 no_digits = record { below = omega arith; above = λ z. absurd (omega arith) }
 
+-- The or of two numbers has as many digits as the longer one of them.
 pub or_length : (a b c d : ℕ) → IsBitLength a c → IsBitLength b d → IsBitLength (bit_or a b) (max c d)
 or_length a b c d h k =
     let up : 2 ^ c ≤ 2 ^ max c d = pow_mono (omega arith) in
@@ -67,14 +69,17 @@ one_length x c d h k =
       | inr l ↦ l
     ]
 
+-- A number has only one number of digits.
 pub same_length : (x c d : ℕ) → IsBitLength x c → IsBitLength x d → c ≡ d
 same_length x c d h k = omega (arith, one_length x c d h k, one_length x d c k h)
 
+-- A number whose highest bit is j has j + 1 digits.
 pub length_by_log : (x j : ℕ) → 2 ^ j ≤ x → x < 2 * 2 ^ j → IsBitLength x (j + 1)
 length_by_log x j low high =
     let e : j + 1 - 1 ≡ j = omega arith in
     record { below = rw add-one (omega (arith, pow-suc 2 j)); above = λ z. rw e low }
 
+-- At most 64 alignments have a multiple in a range.
 pub count_fits : (r : Range) → alignment_count r ≤ 64
 unfolding alignment_count
 count_fits r = at_most 64 r
@@ -97,15 +102,18 @@ xor_length r z l w =
           ((count_is_exact (alignment_count r - 1) r (omega arith)).0 (omega arith));
     }
 
+-- A range that starts at 0 has a multiple of each of the 64 alignments.
 pub zero_length : (r : Range) → r.start ≡ 0 → IsBitLength 18446744073709551615 (alignment_count r)
 zero_length r z = rw (← count_from_zero r z) (record { below = omega arith; above = λ s. omega arith })
 
 pub ruleset digits = (xor_length, zero_length, xor_pos_before, no_digits)
 
+-- The most alignments with one more block are the most of both.
 most_push : (bs : List Block) (b : Block) → most_alignments (bs ++ (b ∷ [])) ≡ max (most_alignments bs) (free_alignments b)
 most_push [] b = omega arith
 most_push (x ∷ bs) b = let h = most_push bs b in rw h (omega arith)
 
+-- The same for the first i + 1 blocks of a list.
 pub most_more : (bs : List Block) (i : ℕ) → i < length bs →
     most_alignments (take (i + 1) bs) ≡ max (most_alignments (take i bs)) (free_alignments (nth bs i))
 most_more bs i h = ap most_alignments (take_more bs i blank h) ∙ most_push (take i bs) (nth bs i)
@@ -117,6 +125,7 @@ held_length b e = rw e refl
 held_alignments : (b : Block) → b.state ≡ Allocated → free_alignments b ≡ 0
 held_alignments b e = rw e refl
 
+-- Held blocks do not change the summary of the blocks before them.
 skip_by : (bs : List Block) (i d : ℕ) → i + d ≤ length bs → ((k : ℕ) → i ≤ k → k < i + d → (nth bs k).state ≡ Allocated)
     → (longest_gap (take (i + d) bs) ≡ longest_gap (take i bs)) × (most_alignments (take (i + d) bs) ≡ most_alignments (take i bs))
 skip_by bs i zero l h = let e : i + 0 ≡ i = omega arith in rw e (refl, refl)
@@ -135,6 +144,7 @@ pub record IsSummed (bs : List Block) (i longest reached : ℕ) : Type 0 where
   pub longest_is : longest ≡ longest_gap (take i bs)
   pub reached_is : IsBitLength reached (most_alignments (take i bs))
 
+-- The same for the summary before an index.
 pub skipped : (bs : List Block) (i j x y : ℕ) → i ≤ j → j ≤ length bs → ((k : ℕ) → i ≤ k → k < j → (nth bs k).state ≡ Allocated) →
     IsSummed bs i x y → IsSummed bs j x y
 skipped bs i j x y l u h s =
@@ -144,6 +154,7 @@ skipped bs i j x y l u h s =
     let r1 : most_alignments (take j bs) ≡ most_alignments (take i bs) = rw e at r.1 in
     record { longest_is = s.longest_is ∙ sym r0; reached_is = rw r1 s.reached_is }
 
+-- The summary of no blocks is that of no gap.
 pub none_summed : (bs : List Block) → IsSummed bs 0 0 0
 none_summed bs = record { longest_is = refl; reached_is = no_digits }
 

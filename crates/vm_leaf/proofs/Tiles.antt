@@ -20,10 +20,12 @@ pub record IsPart (lo hi : ℕ) (bs : List Block) (i : ℕ) : Type 0 where
   pub last : i + 1 ≡ length bs → (nth bs i).key.end ≡ hi
   pub above : 0 < i → lo < (nth bs i).key.start
 
+-- The end of a cover is at most one below its start.
 pub tiles_order : (p : NodeState) (lo hi : ℕ) (bs : List Block) → Tiles p lo bs hi → lo ≤ hi + 1
 tiles_order p lo hi [] t = omega arith
 tiles_order p lo hi (b ∷ bs) t = let h = tiles_order b.state (b.key.end + 1) hi bs t.3 in omega arith
 
+-- Each block of a cover is a part of it.
 pub tiles_part : (p : NodeState) (lo hi : ℕ) (bs : List Block) (i : ℕ) → Tiles p lo bs hi → i < length bs → IsPart lo hi bs i
 tiles_part p lo hi [] i t h = absurd (omega arith)
 tiles_part p lo hi (b ∷ []) zero t h = record {
@@ -55,9 +57,11 @@ tiles_part p lo hi (b ∷ bs) (suc i) t h =
       above = λ l. omega arith;
     }
 
+-- Each block of a leaf is a part of it.
 pub leaf_part : (bs : List Block) (i : ℕ) (h : IsLeaf bs) → i < length bs → IsPart h.lo h.hi bs i
 leaf_part bs i h l = tiles_part Allocated h.lo h.hi bs i h.tiles l
 
+-- Each block of a leaf is a range.
 pub leaf_range : (bs : List Block) (i : ℕ) → IsLeaf bs → i < length bs → IsRange (nth bs i).key.start (nth bs i).key.end
 leaf_range bs i h l = let p = leaf_part bs i h l in (p.some, omega (arith, h.range.1), λ e. omega (arith, h.range.2))
 
@@ -92,10 +96,12 @@ pub tiles_under : (p : NodeState) (lo hi : ℕ) (l xs ys : List Block) →
 tiles_under p lo hi [] xs ys h t = h lo t
 tiles_under p lo hi (b ∷ l) xs ys h t = (t.0, t.1, t.2, tiles_under b.state (b.key.end + 1) hi l xs ys h t.3)
 
+-- A held block can follow any block.
 pub after_held : (p : NodeState) → NotBothFree p Allocated
 after_held Free = tt
 after_held Allocated = tt
 
+-- A cover after any state is also one after a held block.
 pub tiles_weaken : (p : NodeState) (lo hi : ℕ) (bs : List Block) → Tiles p lo bs hi → Tiles Allocated lo bs hi
 tiles_weaken p lo hi [] t = t
 tiles_weaken p lo hi (b ∷ bs) t = (t.0, t.1, tt, t.3)
@@ -145,11 +151,13 @@ leaf_with bs i ys h within some room step =
     (subst (λ (x : List Block). Tiles (last_state Allocated (take i bs)) m (x ++ drop (i + 1) bs) h.hi) one t))
 
 module _ (bs : List Block) (i : ℕ) (h : IsLeaf bs) (within : i < length bs) (free : (nth bs i).state ≡ Free) where
+  -- A free block of a leaf can be held.
   pub leaf_held : IsLeaf (with_parts bs i 1 (held_block (nth bs i).key ∷ []))
   leaf_held =
       leaf_with bs i (held_block (nth bs i).key ∷ []) h within (omega arith) (omega (arith, h.fits)) (λ q m us t.
       (t.0, t.1, after_held q, tiles_weaken (nth bs i).state ((nth bs i).key.end + 1) h.hi us t.3))
 
+  -- The upper part of a free block can be held.
   pub leaf_upper : (first : ℕ) → length bs + 1 ≤ 32 → (nth bs i).key.start < first → first ≤ (nth bs i).key.end
       → IsLeaf (with_parts bs i 1 (upper_held (nth bs i).key first))
   leaf_upper first room after upto =
@@ -160,6 +168,7 @@ module _ (bs : List Block) (i : ℕ) (h : IsLeaf bs) (within : i < length bs) (f
         (omega arith, omega arith, tt, tiles_weaken (nth bs i).state ((nth bs i).key.end + 1) h.hi us t.3),
       ))
 
+  -- The lower part of a free block can be held.
   pub leaf_lower : (next : ℕ) → length bs + 1 ≤ 32 → (nth bs i).key.start < next → next ≤ (nth bs i).key.end
       → IsLeaf (with_parts bs i 1 (lower_held (nth bs i).key next))
   leaf_lower next room after upto =
@@ -170,6 +179,7 @@ module _ (bs : List Block) (i : ℕ) (h : IsLeaf bs) (within : i < length bs) (f
         (omega arith, omega arith, tt, subst (λ (v : NodeState). Tiles v ((nth bs i).key.end + 1) us h.hi) free t.3),
       ))
 
+  -- The middle of a free block can be held.
   pub leaf_middle : (first next : ℕ) → length bs + 2 ≤ 32 → (nth bs i).key.start < first → first < next → next ≤ (nth bs i).key.end
       → IsLeaf (with_parts bs i 1 (middle_held (nth bs i).key first next))
   leaf_middle first next room after order upto =
@@ -196,11 +206,13 @@ peeled q m hi (b ∷ c ∷ xs) us l t =
     let e : suc (suc (length xs)) - 1 ≡ suc (suc (length xs) - 1) = omega arith in
     rw e (t.0, omega (arith, t.1, r.1), r.2)
 
+-- A cover that begins with a held block can follow a free one.
 after_free : (r : NodeState) (m hi : ℕ) (us : List Block) → (0 < length us → (nth us 0).state ≡ Allocated) → Tiles r m us hi →
     Tiles Free m us hi
 after_free r m hi [] h t = t
 after_free r m hi (b ∷ us) h t = (t.0, t.1, subst (NotBothFree Free) (sym (h (omega arith))) tt, t.3)
 
+-- The state before an index is held if the block before it is.
 last_held : (p : NodeState) (bs : List Block) (i : ℕ) → i ≤ length bs → (i ≡ 0 → p ≡ Allocated) →
     (0 < i → (nth bs (i - 1)).state ≡ Allocated) → last_state p (take i bs) ≡ Allocated
 last_held p bs zero l f h = f refl
@@ -236,6 +248,7 @@ leaf_merged bs i n h some within before after =
       subst (λ (v : ℕ). Tiles Free (v + 1) us h.hi) stop (after_free p.2.0 ((nth xs (length xs - 1)).key.end + 1) h.hi us next p.2.1),
     ))
 
+-- Two neighbours in a cover are not both free.
 tiles_apart : (p : NodeState) (lo hi : ℕ) (bs : List Block) (i : ℕ) → Tiles p lo bs hi → i + 1 < length bs →
     NotBothFree (nth bs i).state (nth bs (i + 1)).state
 tiles_apart p lo hi [] i t l = absurd (omega arith)
@@ -245,6 +258,7 @@ tiles_apart p lo hi (b ∷ c ∷ bs) (suc i) t l =
     let e : suc i + 1 ≡ suc (i + 1) = omega arith in
     rw e (tiles_apart b.state (b.key.end + 1) hi (c ∷ bs) i t.3 (omega arith))
 
+-- If one of two neighbours is free, the other one is held.
 other_held : (p q : NodeState) → NotBothFree p q → p ≡ Free → q ≡ Allocated
 other_held Free Allocated h e = refl
 other_held Free Free h e = absurd h
@@ -282,12 +296,14 @@ pub short_run : (bs : List Block) → IsRun bs → length bs ≤ 32 → IsLeaf b
 short_run bs h l = record { lo = h.lo; hi = h.hi; some = h.some; fits = l; tiles = h.tiles; range = h.range }
 
 module _ (bs : List Block) (at : ℕ) (h : IsRun bs) (some : 0 < at) (rest : at < length bs) where
+  -- The parts of a run that is cut are two covers.
   run_halves : Tiles Allocated h.lo (take at bs) (nth (take at bs) (length (take at bs) - 1)).key.end
       × ((r : NodeState) × Tiles r ((nth (take at bs) (length (take at bs) - 1)).key.end + 1) (drop at bs) h.hi)
   run_halves =
       cut_tiles Allocated h.lo h.hi (take at bs) (drop at bs) (omega (arith, length-take-le at bs (omega arith)))
       (subst (λ (x : List Block). Tiles Allocated h.lo x h.hi) (sym (take-append-drop at bs)) h.tiles)
 
+  -- Both parts of a run that is cut are runs.
   pub run_low : IsRun (take at bs)
   run_low =
       let n = length-take-le at bs (omega arith) in
@@ -324,6 +340,7 @@ as_run : (bs : List Block) → IsLeaf bs → IsRun bs
 as_run bs h = record { lo = h.lo; hi = h.hi; some = h.some; tiles = h.tiles; range = h.range }
 
 module _ (bs : List Block) (at : ℕ) (h : IsLeaf bs) (some : 0 < at) (rest : at < length bs) where
+  -- Both parts of a leaf that is cut are leaves.
   pub leaf_low : IsLeaf (take at bs)
   leaf_low = short_run (take at bs) (run_low bs at (as_run bs h) some rest) (omega (arith, h.fits, length-take-le at bs (omega arith)))
 

@@ -53,6 +53,7 @@ same_tiling st su i j (s ∷ ss) hi h =
     let rest = same_tiling st su (i + 1) (j + 1) ss hi (λ k l. grind (arith, h (k + 1))) in
     rw (first, rest) refl
 
+-- A block starts at its start, and ends before the next one.
 pub nth-tiling : (st : ℕ → NodeState) (i k : ℕ) (ss : List ℕ) (hi : ℕ) → k < length ss
     → nth (tiling st i ss hi) k ≡ record
     { key = record { start = get_or ss k 0; end = end_before (drop (k + 1) ss) hi }; state = st (i + k) }
@@ -64,9 +65,11 @@ nth-tiling st i (suc k) (s ∷ ss) hi h =
     rw (e, f) (nth-tiling st (i + 1) k ss hi (omega (arith, h)))
 
 module _ (st : ℕ → NodeState) (ss : List ℕ) (hi i : ℕ) (l : i < length ss) where
+  -- A list of starts is cut at an index.
   cut : ss ≡ take i ss ++ (get_or ss i 0 ∷ drop (i + 1) ss)
   cut = sym (take-append-drop i ss) ∙ ap (λ (r : List ℕ). take i ss ++ r) (drop_more ss i 0 l)
 
+  -- The blocks are those before an index and those starting at it.
   cut_tiling : tiling st 0 ss hi ≡ tiling st 0 (take i ss) (get_or ss i 0 - 1) ++ tiling st i (get_or ss i 0 ∷ drop (i + 1) ss) hi
   cut_tiling =
       ap (λ (r : List ℕ). tiling st 0 r hi) cut

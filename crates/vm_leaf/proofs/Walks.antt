@@ -50,6 +50,7 @@ module _ (a : Inside) (bs : List Block) (v : IsInside a) (e : length a.starts �
   abbrev ss : List ℕ
   ss = take a.len a.starts
 
+  -- The first blocks are those of the first starts.
   first_blocks : take j bs ≡ tiling (states_in a.held) 0 (take j (take a.len a.starts)) t
   first_blocks =
       let n = length_of a v e in
@@ -72,6 +73,7 @@ module _ (a : Inside) (bs : List Block) (v : IsInside a) (e : length a.starts �
             )
       ]
 
+  -- The blocks that are left of a part are those of the leaf between its bounds.
   pub part_is : blocks_left (mid_of i (j - i) a.starts) t (a.held / 2 ^ i) ≡ part_of bs i j
   part_is =
       let n = length_of a v e in
@@ -100,15 +102,18 @@ module _ (a : Inside) (bs : List Block) (v : IsInside a) (e : length a.starts �
     | inr c ↦ (let z : i ≡ 0 = omega arith in rw z low_leaf)
   ]
 
+  -- The blocks of a part are a leaf.
   pub part_left : AreLeft (blocks_left (mid_of i (j - i) a.starts) t (a.held / 2 ^ i))
   part_left l = subst IsLeaf (sym part_is) part_leaf
 
 -- ---- Without the first block
 module _ (ss : List ℕ) (hi m s : ℕ) (rest : List ℕ) (e : ss ≡ s ∷ rest) where
+  -- The blocks after the first one have the states of the shifted mask.
   same_rest : tiling (states_in m) 1 rest hi ≡ blocks_left rest hi (m / 2)
   same_rest = same_tiling (states_in m) (states_in (m / 2)) 1 0 rest hi
       (λ k l. let z : 0 + k ≡ k = omega arith in rw z (sym (high_states m 1 k)))
 
+  -- The first block is given by the first start and the lowest state.
   pub first_left : blocks_left ss hi m ≡ record { key = record { start = s; end = end_before rest hi }; state = states_in m 0 } ∷
       blocks_left rest hi (m / 2)
   first_left = ap (λ (z : List ℕ). blocks_left z hi m) e ∙ rw same_rest refl
@@ -117,9 +122,11 @@ module _ (ss : List ℕ) (hi m s : ℕ) (rest : List ℕ) (e : ss ≡ s ∷ rest
     leaf : IsLeaf (record { key = record { start = s; end = end_before rest hi }; state = states_in m 0 } ∷ blocks_left rest hi (m / 2))
     leaf = subst AreLeft first_left a (omega arith)
 
+    -- The first block is a range.
     pub first_range : IsRange s (end_before rest hi)
     first_range = leaf_range _ 0 leaf (omega arith)
 
+    -- The blocks after the first one are a leaf.
     pub rest_left : AreLeft (blocks_left rest hi (m / 2))
     rest_left l = leaf_high _ 1 leaf (omega arith) (omega arith)
 
@@ -132,6 +139,7 @@ first_of_parts bs ss hi m s t rest k st v e f g h = sym v ∙ first_left ss hi m
 
 -- ---- Without the last block
 module _ (ss : List ℕ) (hi m s : ℕ) (rest : List ℕ) (e : ss ≡ rest ++ s ∷ []) where
+  -- The last block is given by the last start and its state.
   pub last_left : blocks_left ss hi m ≡ blocks_left rest (s - 1) m ++ record
       { key = record { start = s; end = hi }; state = states_in m (length rest) } ∷ []
   last_left = ap (λ (z : List ℕ). blocks_left z hi m) e ∙ tiling-append (states_in m) 0 (length rest) rest (s ∷ []) hi (omega arith)
@@ -146,9 +154,11 @@ module _ (ss : List ℕ) (hi m s : ℕ) (rest : List ℕ) (e : ss ≡ rest ++ s 
     whole : IsLeaf (blocks_left rest (s - 1) m ++ last ∷ [])
     whole = subst AreLeft last_left a (omega (arith, length-append (blocks_left rest (s - 1) m) (last ∷ [])))
 
+    -- Fewer than 64 blocks are left.
     pub few_left : length rest < 64
     few_left = let n = long in omega (arith, whole.fits, length-append (blocks_left rest (s - 1) m) (last ∷ []))
 
+    -- The last block is a range.
     pub last_range : IsRange s hi
     last_range =
         let n = long in
@@ -158,12 +168,14 @@ module _ (ss : List ℕ) (hi m s : ℕ) (rest : List ℕ) (e : ss ≡ rest ++ s 
         subst (λ (b : Block). IsRange b.key.start b.key.end) f
         (leaf_range (blocks_left rest (s - 1) m ++ last ∷ []) (length (blocks_left rest (s - 1) m)) whole (omega arith))
 
+    -- The blocks before the last one are a leaf.
     pub lower_left : AreLeft (blocks_left rest (s - 1) m)
     lower_left l =
         let k = length-append (blocks_left rest (s - 1) m) (last ∷ []) in
         subst IsLeaf (take_at (blocks_left rest (s - 1) m) (last ∷ []) (length (blocks_left rest (s - 1) m)) refl)
         (leaf_low (blocks_left rest (s - 1) m ++ last ∷ []) (length (blocks_left rest (s - 1) m)) whole l (omega arith))
 
+-- The same, with the last block made of its parts.
 pub last_of_parts : (bs : List Block) (ss : List ℕ) (hi m s t : ℕ) (rest : List ℕ) (k : Range) (st : NodeState) → blocks_left ss hi m ≡ bs →
     ss ≡ rest ++ s ∷ []
     → k ≡ record { start = s; end = hi } → t ≡ s - 1 → st ≡ states_in m (length rest) →

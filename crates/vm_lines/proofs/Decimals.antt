@@ -49,6 +49,7 @@ use Rattle.vm_lines.specs.declared.buffer.TheConstants.{PAIRS}
 pub long : (n : ℕ) → n < 2 ^ 64 → length (decimal n) ≤ 20
 long n fits = length-decimal-le 20 n (omega arith) (omega arith) fits
 
+-- A number has at least one digit.
 pub some_long : (n : ℕ) → n < 2 ^ 64 → 1 ≤ length (decimal n)
 some_long n fits = decimal_nonempty n fits
 
@@ -75,6 +76,7 @@ id_behind old text named told all id last fits a b c =
 take_next : (n x : ℕ) (xs : List ℕ) → take (n + 1) (x ∷ xs) ≡ x ∷ take n xs
 take_next n x xs = rw (add-one n) refl
 
+-- The digit is written before the others in the array.
 pub put : (start digit : ℕ) (digits : List ℕ) → 0 < start → start ≤ 20 → start ≤ length digits
     → digits_from (start - 1) (set digits (start - 1) digit) ≡ digit ∷ digits_from start digits
 put start digit digits some within room =
@@ -122,6 +124,7 @@ abbrev passes_below : (ℕ → Bool) → ℕ → Bool
 passes_below test zero = true
 passes_below test (suc n) = test n && passes_below test n
 
+-- A test that is true below a bound is true for each number below it.
 passes_at : (test : ℕ → Bool) (n k : ℕ) → passes_below test n ≡ true → k < n → test k ≡ true
 passes_at test zero k e h = absurd (omega arith)
 passes_at test (suc n) k e h = step (test n) (passes_below test n) refl refl (passes_at test n k)

@@ -52,6 +52,7 @@ says_none word words e = step (number_of word) refl
     step None is = is
     step (Some n) is = absurd (let f = rw is at e in cc)
 
+-- The first word is the number, and the other words are behind it.
 pub says_some : (word : List ℕ) (words behind : List (List ℕ)) (number : ℕ) → number_first (word ∷ words) ≡ Some (number, behind)
     → (number_of word ≡ Some number) × (words ≡ behind)
 says_some word words behind number e = step (number_of word) refl
@@ -68,11 +69,13 @@ one_none [] e = refl
 one_none (word ∷ []) e = says_none word [] e
 one_none (word ∷ second ∷ more) e = refl
 
+-- One number is read if it is the only word.
 pub one_alone : (words : List (List ℕ)) (number : ℕ) → number_first words ≡ Some (number, []) → one_in number_of words ≡ Some number
 one_alone [] number e = absurd cc
 one_alone (word ∷ []) number e = (says_some word [] [] number e).0
 one_alone (word ∷ second ∷ more) number e = let h = (says_some word (second ∷ more) [] number e).1 in absurd cc
 
+-- One number is not read if words are behind it.
 pub one_more : (words behind : List (List ℕ)) (number : ℕ) → number_first words ≡ Some (number, behind) → 0 < length behind
     → one_in number_of words ≡ None
 one_more [] behind number e some = refl
@@ -86,6 +89,7 @@ two_none (word ∷ []) e = refl
 two_none (word ∷ second ∷ []) e = rw (says_none word (second ∷ []) e) refl
 two_none (word ∷ second ∷ third ∷ more) e = refl
 
+-- Two numbers are the first one and the one behind it.
 pub two_some : (words behind : List (List ℕ)) (number : ℕ) → number_first words ≡ Some (number, behind)
     → two_in number_of words ≡ option_map {U = ℕ × ℕ} (λ second. (number, second)) (one_in number_of behind)
 two_some [] behind number e = absurd cc
@@ -103,6 +107,7 @@ pub three_none : (words : List (List ℕ)) → number_first words ≡ None → t
 three_none [] e = refl
 three_none (word ∷ words) e = rw (says_none word words e) refl
 
+-- Three numbers are the first one and two behind it.
 pub three_some : (words behind : List (List ℕ)) (number : ℕ) → number_first words ≡ Some (number, behind)
     → three_in number_of words ≡ option_map {U = ℕ × ℕ × ℕ} (λ p. (number, p.0, p.1)) (two_in number_of behind)
 three_some [] behind number e = absurd cc
@@ -137,6 +142,7 @@ first_word_is text =
     (λ all. ([], rw (take_all (end_of_word text) text all) (words_none text (grind (arith, nat_tests)))))
     (cases_lt (end_of_word text) (length text))
 
+-- The first word ends within the text.
 end_within : (text : List ℕ) → end_of_word text ≤ length text
 end_within text = prefix_len-le-length (λ byte. not (byte == blank)) text
 
@@ -155,12 +161,14 @@ mixed_none text n is more =
 says_word : (text : List ℕ) → number_of (take (end_of_word text) text) ≡ None → number_first (words_of text) ≡ None
 says_word text none = let first = first_word_is text in rw (first.1, none) refl
 
+-- There is no first number if the leading digits are not a number.
 pub no_number : (text : List ℕ) → number_of (take (leading_digits text) text) ≡ None → number_first (words_of text) ≡ None
 no_number text e =
     ⊎_elim (λ more. says_word text (mixed_none text (leading_digits text) refl more))
     (λ all. let same : leading_digits text ≡ end_of_word text = omega (arith, digits_before_blank text) in says_word text (rw same at e))
     (cases_lt (leading_digits text) (end_of_word text))
 
+-- There is no first number if a byte other than a blank follows the digits.
 pub then_other : (text : List ℕ) (n : ℕ) → n ≡ leading_digits text → n < length text → get_or text n 0 ≢ 32
     → number_first (words_of text) ≡ None
 then_other text n is within other =
@@ -171,6 +179,7 @@ then_other text n is within other =
     absurd (other (grind (arith, nat_tests))))
     (cases_lt n (end_of_word text))
 
+-- If the text is digits only, its number is the first one.
 pub alone_number : (text : List ℕ) (number : ℕ) → leading_digits text ≡ length text
     → number_of (take (leading_digits text) text) ≡ Some number → number_first (words_of text) ≡ Some (number, [])
 alone_number text number all e =
@@ -180,6 +189,7 @@ alone_number text number all e =
     let says : number_of text ≡ Some number = rw whole at e in
     rw (word, says) refl
 
+-- If a blank follows the digits, their number is the first one, and the other words are behind it.
 pub then_blank : (text : List ℕ) (number n : ℕ) → n ≡ leading_digits text → n < length text → get_or text n 0 ≡ 32
     → number_of (take (leading_digits text) text) ≡ Some number
     → number_first (words_of text) ≡ Some (number, words_of (take (length text - (n + 1)) (drop (n + 1) text)))

@@ -21,6 +21,7 @@ abbrev pub ids_in : Option (ℕ × ℕ) → Option (ℕ × ℕ)
 ids_in None = None
 ids_in (Some p) = option_zip (id_in (Some p.0)) (id_in (Some p.1))
 
+-- The id of a word is that of its number.
 id_is : (word : List ℕ) → id_of word ≡ id_in (number_of word)
 id_is word = grind (arith, nat_tests)
 
@@ -30,6 +31,7 @@ converted E n (Ok x) h = let is = OkIff-at_ok {E = E} (Ok x) (n < 2 ^ 32) n x h 
 converted E n (Err e) h = let high : 2 ^ 32 ≤ n = omega (arith, OkIff-at_err {E = E} (Err e) (n < 2 ^ 32) n e h refl) in rw
     (le-ltb n (2 ^ 32) high) refl
 
+-- The ids of words are those of their numbers.
 pub one_id : (words : List (List ℕ)) → one_in id_of words ≡ id_in (one_in number_of words)
 one_id [] = refl
 one_id (word ∷ []) = id_is word
@@ -55,11 +57,13 @@ abbrev pub ids_among : ℕ → Option (ℕ × ℕ × ℕ) → Option ((ℕ × �
 ids_among number None = None
 ids_among number (Some p) = option_map (λ ids. (ids, (p.1, p.2))) (option_zip (id_in (Some number)) (id_in (Some p.0)))
 
+-- Without a first number, two ids and two numbers are not read.
 pub four_none : (words : List (List ℕ)) → number_first words ≡ None → four_in id_of number_of words ≡ None
 four_none [] e = refl
 four_none (word ∷ []) e = refl
 four_none (word ∷ second ∷ words) e = rw (id_is word, says_none word (second ∷ words) e) refl
 
+-- With a first number, the result is the one from this id and three numbers behind it.
 pub four_some : (words behind : List (List ℕ)) (number : ℕ) → number_first words ≡ Some (number, behind)
     → four_in id_of number_of words ≡ ids_among number (three_in number_of behind)
 four_some [] behind number e = absurd cc
@@ -87,6 +91,7 @@ four_some (word ∷ second ∷ words) behind number e =
         some None = refl
         some (Some q) = refl
 
+-- With fewer than three numbers behind the first one, nothing is read.
 pub four_less : (words behind : List (List ℕ)) (number : ℕ) → number_first words ≡ Some (number, behind) → three_in number_of behind ≡ None
     → four_in id_of number_of words ≡ None
 four_less words behind number e less = four_some words behind number e ∙ ap (ids_among number) less

@@ -48,6 +48,7 @@ value_push : (before digit : ℕ) (digits : List ℕ)
 value_push before digit [] = refl
 value_push before digit (first ∷ digits) = value_push (before * 10 + (first - digit_zero)) digit digits
 
+-- The value with the digit at an index.
 pub value_more : (text : List ℕ) (i : ℕ) → i < length text
     → value_from 0 (take (i + 1) text) ≡ value_from 0 (take i text) * 10 + (get_or text i 0 - digit_zero)
 value_more text i h = rw (take_more text i 0 h) (value_push 0 (get_or text i 0) (take i text))
@@ -61,6 +62,7 @@ value_one (digit ∷ text) h = omega arith
 pub next_below : (value count digit : ℕ) → value < 10 ^ count → digit ≤ 9 → value * 10 + digit < 10 ^ (count + 1)
 next_below value count digit h d = rw (pow_more 10 count) (omega arith)
 
+-- A value of at most 18 digits with one more digit fits into 64 bits.
 pub next_fits : (value count : ℕ) → value < 10 ^ count → count < 19 → value * 10 + 9 < 2 ^ 64
 next_fits value count h few =
     let l : 10 ^ count ≤ 1000000000000000000 = pow-le-pow_right (omega arith) (let f : count ≤ 18 = omega arith in f) in
@@ -106,6 +108,7 @@ ahead_drop (x ∷ xs) (suc n) h = step (is_digit x) refl (ahead_drop xs n)
     step true e more = let rest : n ≤ leading_digits xs = omega (arith, rw e at h) in rw e (omega (arith, more rest))
     step false e more = absurd (omega (arith, rw e at h))
 
+-- The leading digits are within the text.
 pub ahead_within : (text : List ℕ) → leading_digits text ≤ length text
 ahead_within text = prefix_len-le-length is_digit text
 
@@ -149,6 +152,7 @@ value_last text value last h is one =
     let same : get_or (drop 19 text) 0 0 ≡ get_or text 19 0 = get_or-drop 19 text 0 0 in
     omega (arith, value_more text 19 h, is, rw (behind_is text) at one, digit, same)
 
+-- Nineteen digits without another one are a number.
 pub last_none : (text : List ℕ) (value more : ℕ) → 19 ≤ leading_digits text → value ≡ value_from 0 (take 19 text) → value < 2 ^ 64
     → more ≡ min (leading_digits (behind text)) 19 → more ≡ 0
     → (number_of (take (leading_digits text) text) ≡ Some value) × (19 ≡ leading_digits text)
@@ -156,6 +160,7 @@ last_none text value more h is fits count none =
     let n : leading_digits text ≡ 19 = omega (arith, ahead_is text more h count) in
     (rw n (number_is text 19 value h (omega arith) (omega arith) is fits), sym n)
 
+-- Twenty digits are a number if the value fits into 64 bits.
 pub last_one : (text : List ℕ) (value more last : ℕ) → 19 ≤ leading_digits text → value ≡ value_from 0 (take 19 text)
     → more ≡ min (leading_digits (behind text)) 19 → more ≡ 1 → last ≡ value_from 0 (take 1 (behind text))
     → value * 10 + last < 2 ^ 64
@@ -165,6 +170,7 @@ last_one text value more last h is count one digit fits =
     let all = value_last text value last (omega (arith, ahead_within text)) is digit in
     (rw n (number_is text 20 (value * 10 + last) (omega arith) (omega arith) (omega arith) (sym all) fits), sym n)
 
+-- Twenty digits are not a number if the value does not fit.
 pub last_large : (text : List ℕ) (value more last : ℕ) → 19 ≤ leading_digits text → value ≡ value_from 0 (take 19 text)
     → more ≡ min (leading_digits (behind text)) 19 → more ≡ 1 → last ≡ value_from 0 (take 1 (behind text))
     → 2 ^ 64 ≤ value * 10 + last → number_of (take (leading_digits text) text) ≡ None

@@ -37,6 +37,7 @@ same_outcome : {A : Type 0} (tell : Result A Error → Reply) (x y : Reply) (ans
     → y ≡ tell other → answer ≡ other → x ≡ y
 same_outcome tell x y answer other p q e = p ∙ ap tell e ∙ sym q
 
+-- Freeing a range has one result and leaves one state.
 released_once : (old m n : AddressState) (start end : ℕ) (x y : Result (Unit {0}) Error) → FreesRange old start end x m
     → FreesRange old start end y n → (x ≡ y) × (m ≡ n)
 unfolding FreesRange
@@ -66,6 +67,7 @@ part_once (Some state) put old m n absent x y call other once a b =
     let same = once state a.0 b.0 a.1 b.1 in
     (same.0, a.2 ∙ ap put same.1 ∙ sym b.2)
 
+-- The effect of a line on the space is determined if the call is.
 on_space_once : (old m n : Machine) (x y : Reply) (call other : AddressState → AddressState → Type 0)
     → ((state later after : AddressState) → call state later → other state after → (x ≡ y) × (later ≡ after))
     → OnSpace old x m call → OnSpace old y n other → Agree x m y n
@@ -73,6 +75,7 @@ unfolding OnSpace
 on_space_once old m n x y call other once a b =
     part_once old.space (λ s. record old { space = Some s }) old m n NoSpace x y call other once a b
 
+-- The effect of a line on the ids is determined if the call is.
 on_ids_once : (old m n : Machine) (x y : Reply) (call other : IdState → IdState → Type 0)
     → ((state later after : IdState) → call state later → other state after → (x ≡ y) × (later ≡ after))
     → OnIds old x m call → OnIds old y n other → Agree x m y n
@@ -80,6 +83,7 @@ unfolding OnIds
 on_ids_once old m n x y call other once a b =
     part_once old.ids (λ s. record old { ids = Some s }) old m n NoIds x y call other once a b
 
+-- The effect of a line on the devices is determined if the call is.
 on_devices_once : (old m n : Machine) (x y : Reply) (call other : DeviceState → DeviceState → Type 0)
     → ((state later after : DeviceState) → call state later → other state after → (x ≡ y) × (later ≡ after))
     → OnDevices old x m call → OnDevices old y n other → Agree x m y n
@@ -87,6 +91,7 @@ unfolding OnDevices
 on_devices_once old m n x y call other once a b =
     part_once old.devices (λ s. record old { devices = Some s }) old m n NoManager x y call other once a b
 
+-- A line that allocates a range has one reply, if memory suffices.
 places_once : (old m n : Machine) (request : Request) (x y : Reply) → x ≢ Failed OutOfMemory
     → y ≢ Failed OutOfMemory → AllocatesRange old request x m → AllocatesRange old request y n → Agree x m y n
 unfolding AllocatesRange
@@ -153,6 +158,7 @@ answered_once (line ∷ lines) old new end text other a b =
     let told : text_of a.0 ++ newline ∷ a.2 ≡ text_of b.0 ++ newline ∷ b.2 = cc in
     (a.6 ∙ told ∙ sym b.6, after.1)
 
+-- Each input has one output, if memory suffices.
 pub one_text : OneText
 unfolding OneText
 one_text lines text other new end a b = answered_once lines start new end text other a b

@@ -56,6 +56,7 @@ plain_refused : (e : Error) {A : Type 0} → (let answer : Result A Error = Err 
 plain_refused e {A} plain same = let told : e ≡ OutOfMemory = cc in plain
     (ap (λ (f : Error). let answer : Result A Error = Err f in answer) told)
 
+-- If the result is not OutOfMemory, the reply is not that memory ran out.
 plain_done : {A : Type 0} (answer : Result A Error) → answer ≢ Err OutOfMemory → done_reply answer ≢ Failed OutOfMemory
 plain_done (Ok value) plain = λ e. cc
 plain_done {A} (Err e) plain = plain_refused e {A = A} plain
@@ -87,24 +88,28 @@ on_part : {S : Type 0} (part : Option S) (put : S → Machine) (old : Machine) (
 on_part None put old absent plain call each = (absent, old, (refl, refl), plain)
 on_part (Some state) put old absent plain call each = let h = each state in (h.0, put h.1, (h.1, h.2, refl), h.3)
 
+-- A line on the space has a reply if the call has one.
 on_space : (old : Machine) (call : Reply → AddressState → AddressState → Type 0)
     → ((state : AddressState) → IsReplied (λ reply later. call reply state later))
     → IsReplied (λ reply new. OnSpace old reply new (call reply))
 unfolding OnSpace
 on_space old call each = on_part old.space (λ s. record old { space = Some s }) old NoSpace (λ e. cc) call each
 
+-- A line on the ids has a reply if the call has one.
 on_ids : (old : Machine) (call : Reply → IdState → IdState → Type 0)
     → ((state : IdState) → IsReplied (λ reply later. call reply state later))
     → IsReplied (λ reply new. OnIds old reply new (call reply))
 unfolding OnIds
 on_ids old call each = on_part old.ids (λ s. record old { ids = Some s }) old NoIds (λ e. cc) call each
 
+-- A line on the devices has a reply if the call has one.
 on_devices : (old : Machine) (call : Reply → DeviceState → DeviceState → Type 0)
     → ((state : DeviceState) → IsReplied (λ reply later. call reply state later))
     → IsReplied (λ reply new. OnDevices old reply new (call reply))
 unfolding OnDevices
 on_devices old call each = on_part old.devices (λ s. record old { devices = Some s }) old NoManager (λ e. cc) call each
 
+-- A line that allocates a range has a reply.
 places_replied : (old : Machine) (request : Request) → IsReplied (λ reply new. AllocatesRange old request reply new)
 unfolding AllocatesRange
 places_replied old request =
@@ -140,6 +145,7 @@ does_replied (Undevice id) old =
 
 -- Several lines.
 
+-- Several lines have an output, with and without enough memory.
 lines_answered : (lines : List (List ℕ)) (old : Machine)
     → (text : List ℕ) × (new : Machine) × AreAnswered old lines text new × AreAnsweredInMemory old lines text new
 lines_answered [] old = ([], old, (refl, refl), (refl, refl))
@@ -148,10 +154,12 @@ lines_answered (line ∷ lines) old =
     let rest = lines_answered lines h.1 in
     (text_of h.0 ++ newline ∷ rest.0, rest.1, (h.0, h.1, rest.0, h.2, rest.2, refl), (h.0, h.1, rest.0, h.2, h.3, rest.3, refl))
 
+-- Each line has a reply.
 pub has_reply : HasReply
 unfolding HasReply
 has_reply old line = does_replied (command_of line) old
 
+-- Each input has an output.
 pub has_text : HasText
 unfolding HasText
 has_text lines = let h = lines_answered lines start in (h.0, (h.1, h.2), (h.1, h.3))

@@ -68,6 +68,7 @@ none_step c (x ∷ xs) h = none_cons c x xs (x == c) refl (none_step c xs) h
     none_cons c x xs true e ih h = absurd (omega (arith, rw e at h))
     none_cons c x xs false e ih h = let k : length xs ≤ position_or_len (λ byte. byte == c) xs = omega (arith, rw e at h) in rw (e, ih k)
 
+-- A text without such a byte is not cut.
 cut_none : (c : ℕ) (text : List ℕ) → position (λ byte. byte == c) text ≡ None → cut_at c text ≡ text ∷ []
 cut_none c text e = none_step c text (grind (arith, nat_tests))
 
@@ -101,9 +102,11 @@ begins_with text word next more e =
 pub too_short : (text prefix rest : List ℕ) → length text < length prefix → text ≢ prefix ++ rest
 too_short text prefix rest h e = omega (arith, front_fits text prefix rest e)
 
+-- A text that differs from the prefix at an index does not begin with it.
 pub begins_else : (text prefix rest : List ℕ) (i : ℕ) → i < length prefix → get_or text i 0 ≢ get_or prefix i 0 → text ≢ prefix ++ rest
 begins_else text prefix rest i within differs e = differs (front_reads 0 text prefix rest e i within)
 
+-- A text with the bytes of the prefix begins with it.
 pub begins_so : (text prefix : List ℕ) → length prefix ≤ length text
     → ((i : ℕ) → i < length prefix → get_or text i 0 ≡ get_or prefix i 0)
     → text ≡ prefix ++ take (length text - length prefix) (drop (length prefix) text)

@@ -7,10 +7,12 @@ use Rattle.vm_ranges.specs.declared.error.Error.{Error}
 use Rattle.vm_ranges.specs.declared.error.Error.TheVariants.{InvalidAlignment, Overflow}
 use Rattle.vm_ranges.proofs.Power.{alignment_if_true, no_alignment_if_false, alignment_pos, masked, highest_multiple, lowest_multiple}
 
+-- Rounding down by a number that is no power of two returns InvalidAlignment.
 pub down_refused : (x a : ℕ) → is_power_of_two a ≡ false → AlignsDown x a (Err InvalidAlignment)
 unfolding AlignsDown
 down_refused x a e = inl (no_alignment_if_false a e, refl)
 
+-- Rounding down clears the bits below the alignment.
 pub down_given : (x a : ℕ) → x < 2 ^ 64 → a < 2 ^ 64 → is_power_of_two a ≡ true →
     AlignsDown x a (Ok (bit_and x (18446744073709551615 - (a - 1))))
 unfolding AlignsDown
@@ -20,14 +22,17 @@ down_given x a p q e =
     rw (masked x a p h) (highest_multiple a x (alignment_pos a h)) in
     inr (h, (_, refl, g))
 
+-- Rounding up by 0 returns InvalidAlignment.
 pub up_zero : (x a : ℕ) → a ≡ 0 → AlignsUp x a (Err InvalidAlignment)
 unfolding AlignsUp
 up_zero x a e = inl (e, refl)
 
+-- Rounding up returns Overflow if x + (a - 1) is past MAX.
 pub up_over : (x a : ℕ) → 0 < a → MAX < x + (a - 1) → AlignsUp x a (Err Overflow)
 unfolding AlignsUp
 up_over x a z p = inr (λ e. omega arith, inl (omega arith, refl))
 
+-- Rounding x + (a - 1) down rounds x up.
 pub up_given : (x a : ℕ) (answer : Result ℕ Error) → 0 < a → x + (a - 1) ≤ MAX → AlignsDown (x + (a - 1)) a answer → AlignsUp x a answer
 unfolding AlignsUp AlignsDown
 up_given x a answer z p h =

@@ -5,6 +5,7 @@ use Rattle.vm_ranges.specs.Cloning.{Clones}
 use Rattle.vm_ranges.specs.declared.error.Error.{Error}
 use Rattle.vm_ranges.specs.declared.error.Error.TheVariants.{OutOfMemory}
 
+-- A clone that was made is equal to the original.
 pub clone_is : {X : Type 0} (original clone : X) → Clones original (Ok clone) → clone ≡ original
 clone_is original clone h = ⊎_elim (λ e. cc e) (λ e. absurd (cc e)) h
 

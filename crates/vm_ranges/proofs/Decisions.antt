@@ -14,11 +14,13 @@ use Rattle.vm_ranges.proofs.RangeCalls.{same_range}
 abbrev pub Decided : Type 0 → Type 0
 Decided P = P ⊎ ¬ P
 
+-- Whether both facts are true can be decided.
 pub decided_both : (P Q : Type 0) → Decided P → Decided Q → Decided (P × Q)
 decided_both P Q (inl p) (inl q) = inl (p, q)
 decided_both P Q (inl p) (inr n) = inr (λ h. n h.1)
 decided_both P Q (inr n) q = inr (λ h. n h.0)
 
+-- Facts that follow from each other are decided together.
 pub decided_if : (P Q : Type 0) → (P → Q) → (Q → P) → Decided P → Decided Q
 decided_if P Q f g (inl p) = inl (f p)
 decided_if P Q f g (inr n) = inr (λ q. n (g q))

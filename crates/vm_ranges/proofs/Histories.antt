@@ -7,6 +7,7 @@ use Rattle.vm_ranges.specs.declared.error.Error.TheVariants.{OutOfMemory}
 
 -- ---- Histories in two parts, and facts that each call keeps
 module _ {State Call : Type 0} (IsCall : State → Call → State → Type 0) where
+  -- A history that starts where another one ends is appended to it.
   pub history_append : (xs ys : List Call) (first mid last : State) → IsHistory IsCall first xs mid → IsHistory IsCall mid ys last →
       IsHistory IsCall first (xs ++ ys) last
   history_append [] ys first mid last h k = subst (λ (v : State). IsHistory IsCall v ys last) h k
@@ -28,6 +29,7 @@ module _ {State Call : Type 0} (IsCall : State → Call → State → Type 0) wh
 
 -- ---- Results
 module _ {State Asked : Type 0} {Value : Asked → Type 0} (IsCall : State → CallOf Value → State → Type 0) where
+  -- If every call is answered, every list of calls has a history.
   pub every_list : EveryCallIsAnswered IsCall → EveryListHasHistory IsCall
   every_list total old [] = ([], old, refl, refl, All-nil _)
   every_list total old (asked ∷ more) =
@@ -40,6 +42,7 @@ module _ {State Asked : Type 0} {Value : Asked → Type 0} (IsCall : State → C
         All-cons (λ (call : CallOf Value). ¬ RunsOutOfMemory call) (asked, a.0) rest.0 a.3 rest.4,
       )
 
+  -- A call from one state has one result and one next state, if memory does not run out.
   call_once : CallsAreDetermined IsCall → (c d : CallOf Value) (old new later : State) → d.0 ≡ c.0 → ¬ RunsOutOfMemory c →
       ¬ RunsOutOfMemory d → IsCall old c new → IsCall old d later → (c ≡ d) × (new ≡ later)
   call_once once c d old new later e p m h k =
@@ -49,6 +52,7 @@ module _ {State Asked : Type 0} {Value : Asked → Type 0} (IsCall : State → C
       let same = once old new later c.0 c.1 own.0 p plain h (subst (λ (v : CallOf Value). IsCall old v later) own.1 k) in
       (ap (λ (y : Result (Value c.0) Error). (c.0, y)) same.0 ∙ sym own.1, same.1)
 
+  -- The same calls from the same state have the same results, if memory does not run out.
   pub same_results : CallsAreDetermined IsCall → SameCallsSameResults IsCall
   same_results once old new later [] [] h k e p m = (refl, h ∙ sym k)
   same_results once old new later [] (d ∷ others) h k e p m = absurd (cc e)

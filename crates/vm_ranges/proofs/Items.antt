@@ -12,6 +12,7 @@ pub items_from : (vs : List Value) (i : ℕ) (v : Value) → i < length vs → v
     items_view (drop i vs) ≡ item (view v) (items_view (drop (i + 1) vs))
 items_from vs i v h e = ap items_view (drop_more vs i v h ∙ ap (λ (x : Value). x ∷ drop (i + 1) vs) (sym e))
 
+-- Numbers are compared as Less if and only if the first one is less.
 pub less : (n m : ℕ) → n < m → nat_cmp n m ≡ Less
 less n m p = sym (nat_cmp_is n m Less p)
 

@@ -15,9 +15,11 @@ module _ {X : Type 0} (States : Data → X → Type 0) where
     found None s = absurd s
     found (Some ds) s = (ds, refl, s)
 
+  -- A list whose items encode some things encodes the list of these things.
   pub list_encoded : (d : Data) (ds : Items) (xs : List X) → as_array d ≡ Some ds → EncodesItems States ds xs → EncodesListOf States d xs
   list_encoded d ds xs e s = rw e s
 
+  -- An item at the end of a list encodes one more thing at the end.
   push_item : (vs : List Value) (v : Value) (xs : List X) (x : X) → EncodesItems States (items_view vs) xs → States (view v) x →
       EncodesItems States (items_view (vs ++ v ∷ [])) (xs ++ x ∷ [])
   push_item [] v [] x s t = (t, tt)
@@ -25,6 +27,7 @@ module _ {X : Type 0} (States : Data → X → Type 0) where
   push_item (w ∷ vs) v [] x s t = absurd s
   push_item (w ∷ vs) v (y ∷ xs) x s t = (s.0, push_item vs v xs x s.1 t)
 
+  -- A function is applied to a list with one more item at the end.
   map_last : {Y : Type 0} (f : Y → X) (ys : List Y) (y : Y) → map f (ys ++ y ∷ []) ≡ map f ys ++ f y ∷ []
   map_last f [] y = refl
   map_last f (z ∷ ys) y = ap (λ (l : List X). f z ∷ l) (map_last f ys y)

@@ -71,6 +71,7 @@ abbrev without : List ℕ → Members → Members
 without k no_members = no_members
 without k (member l e ms) = match_ordering (slice_cmp nat_cmp k l) (member l e (without k ms)) ms (member l e (without k ms))
 
+-- The step of `len_without` at one member.
 len_at : (o : Ordering) (l : List ℕ) (e v : Data) (ms less : Members) (found : Option Data) →
     match_ordering o found (Some e) found ≡ Some v →
     (found ≡ Some v → members_len ms ≡ suc (members_len less)) →
@@ -79,10 +80,12 @@ len_at Less l e v ms less found h next = ap suc (next h)
 len_at Equal l e v ms less found h next = refl
 len_at Greater l e v ms less found h next = ap suc (next h)
 
+-- The members without one of them are one fewer.
 len_without : (k : List ℕ) (ms : Members) (v : Data) → get_member k ms ≡ Some v → members_len ms ≡ suc (members_len (without k ms))
 len_without k no_members v h = absurd (cc)
 len_without k (member l e ms) v h = len_at (slice_cmp nat_cmp k l) l e v ms (without k ms) (get_member k ms) h (len_without k ms v)
 
+-- The step of `depth_without` at one member.
 depth_at : (o : Ordering) (n : ℕ) (l : List ℕ) (e v : Data) (ms less : Members) (found : Option Data) →
     match_ordering o found (Some e) found ≡ Some v → depth v ≤ n →
     (found ≡ Some v → members_depth less ≤ n → members_depth ms ≤ n) →
@@ -91,6 +94,7 @@ depth_at Less n l e v ms less found h p next q = let r = next h (omega (arith, q
 depth_at Equal n l e v ms less found h p next q = let s = subst (λ (x : Data). depth x ≤ n) (sym (same_Some e v h)) p in omega (arith, q, s)
 depth_at Greater n l e v ms less found h p next q = let r = next h (omega (arith, q)) in omega (arith, q, r)
 
+-- If one member and the others nest at most n deep, all members do.
 depth_without : (n : ℕ) (k : List ℕ) (ms : Members) (v : Data) → get_member k ms ≡ Some v → depth v ≤ n → members_depth (without k ms) ≤ n →
     members_depth ms ≤ n
 depth_without n k no_members v h p q = absurd (cc)
@@ -101,11 +105,13 @@ depth_without n k (member l e ms) v h p q =
 same_at : (o : Ordering) (k l : List ℕ) (x y z : Option Data) → is_eq o ≡ false → x ≡ z → match_ordering o x y x ≡ match_ordering o z y z
 same_at o k l x y z n e = rw e refl
 
+-- A choice by an order that is not Equal is the same for Less and for Greater.
 skipped : (o : Ordering) (x y : Option Data) → is_eq o ≡ false → x ≡ match_ordering o x y x
 skipped Less x y n = refl
 skipped Equal x y n = absurd (true≢false n)
 skipped Greater x y n = refl
 
+-- The step of `other_without` at one member.
 other_at : (o : Ordering) (j k l : List ℕ) (e : Data) (ms less : Members) → slice_cmp nat_cmp k l ≡ o → bytes_eq j k ≡ false →
     get_member j less ≡ get_member j ms →
     get_member j (match_ordering o (member l e less) ms (member l e less)) ≡ get_member j (member l e ms)
@@ -115,6 +121,7 @@ other_at Equal j k l e ms less is n s =
     let same : k ≡ l = (bytes_eq-Decides k l).0 (sym (is_eq-slice_cmp k l) ∙ ap is_eq is) in
     skipped (slice_cmp nat_cmp j l) (get_member j ms) (Some e) (is_eq-slice_cmp j l ∙ subst (λ (x : List ℕ). bytes_eq j x ≡ false) same n)
 
+-- The member with another name is the same without the one that is named k.
 other_without : (j k : List ℕ) (ms : Members) → bytes_eq j k ≡ false → get_member j (without k ms) ≡ get_member j ms
 other_without j k no_members n = refl
 other_without j k (member l e ms) n = other_at (slice_cmp nat_cmp k l) j k l e ms (without k ms) refl n (other_without j k ms n)
@@ -140,6 +147,7 @@ abbrev pub FieldsWithin : ℕ → List (List ℕ) → Data → Type 0
 FieldsWithin n [] d = Unit {0}
 FieldsWithin n (k ∷ ks) d = FieldIs k d (λ v. depth v ≤ n) × FieldsWithin n ks d
 
+-- Members that nest at most n deep also do so without one with a new name.
 within_without : (n : ℕ) (k : List ℕ) (ks : List (List ℕ)) (ms : Members) → IsNew k ks → AreWithin n ks ms → AreWithin n ks (without k ms)
 within_without n k [] ms a w = tt
 within_without n k (j ∷ ks) ms a w = (
@@ -147,14 +155,17 @@ within_without n k (j ∷ ks) ms a w = (
   within_without n k ks ms a.1 w.1,
 )
 
+-- A field whose value nests at most n deep has a value.
 found_within : (n : ℕ) (o : Option Data) → MatchOption o ⊥ (λ v. depth v ≤ n) → (v : Data) × (o ≡ Some v) × (depth v ≤ n)
 found_within n None h = absurd h
 found_within n (Some v) h = (v, refl, h)
 
+-- An object without members has depth 0.
 no_depth : (n : ℕ) (ms : Members) → members_len ms ≡ 0 → members_depth ms ≤ n
 no_depth n no_members e = omega arith
 no_depth n (member l d ms) e = absurd (omega (arith, e))
 
+-- If the members are exactly those with these names, their depths limit that of all.
 members_within : (n : ℕ) (ks : List (List ℕ)) (ms : Members) → AreNew ks → AreWithin n ks ms → members_len ms ≡ length ks →
     members_depth ms ≤ n
 members_within n [] ms a w e = no_depth n ms e
@@ -164,6 +175,7 @@ members_within n (k ∷ ks) ms a w e =
     let rest = members_within n ks (without k ms) a.1 (within_without n k ks ms a.0 w.1) (omega (arith, e, len)) in
     depth_without n k ms at.0 at.1 at.2 rest
 
+-- The fields of an object are its members.
 in_members : (n : ℕ) (ks : List (List ℕ)) (ms : Members) → FieldsWithin n ks (object ms) → AreWithin n ks ms
 in_members n [] ms w = tt
 in_members n (k ∷ ks) ms w = (w.0, in_members n ks ms w.1)
@@ -180,6 +192,7 @@ object_within n ks (object ms) a c w =
     let e = members_within n ks ms a (in_members n ks ms w) (same_Some (members_len ms) (length ks) c) in omega (arith, e)
 
 -- ---- Numbers, states and ranges
+-- A number nests nothing.
 number_flat : (d : Data) (x : Num) → as_number d ≡ Some x → depth d ≡ 0
 number_flat null x e = refl
 number_flat (boolean b) x e = refl
@@ -211,6 +224,7 @@ state_nests d s e = let f = ap depth e in omega (arith, f)
 
 -- ---- Lists
 module _ {X : Type 0} (States : Data → X → Type 0) (n : ℕ) (within : (d : Data) (x : X) → States d x → depth d ≤ n) where
+  -- The items of a list nest at most n deep if each encoded item does.
   items_within : (ds : Items) (xs : List X) → EncodesItems States ds xs → items_depth ds ≤ n
   items_within no_items [] s = omega arith
   items_within no_items (x ∷ xs) s = absurd s

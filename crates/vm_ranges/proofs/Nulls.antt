@@ -4,6 +4,7 @@ use Rattle.serde_json.specs.Data.{Data, null, boolean, number, string, array, ob
 use Rattle.serde_json.specs.Find.{as_null}
 use Rattle.vm_ranges.specs.Fields.{field_count}
 
+-- Only null is read as null.
 pub null_of : (d : Data) → is_some (as_null d) ≡ true → d ≡ null
 null_of null e = refl
 null_of (boolean b) e = absurd (cc)
@@ -12,6 +13,7 @@ null_of (string s) e = absurd (cc)
 null_of (array ds) e = absurd (cc)
 null_of (object ms) e = absurd (cc)
 
+-- A value with fields is not null.
 pub not_null : (d : Data) (n : ℕ) → field_count d ≡ Some n → is_some (as_null d) ≡ false
 not_null null n e = absurd (cc)
 not_null (boolean b) n e = refl

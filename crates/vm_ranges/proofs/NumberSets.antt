@@ -6,39 +6,49 @@ use Rattle.std.specs.Cmp.{nat_cmp_total, unsigned_tied}
 use Rattle.std.specs.BTreeSet.{BTreeSet, contains, Updates}
 use Rattle.std.specs.FinSet as set
 
+-- A number is tied with itself.
 pub tied_here : (i : ℕ) → eq_by_cmp nat_cmp i i ≡ true
 tied_here i = unsigned_tied i i ∙ eq-eqb i i refl
 
+-- Numbers that are tied are equal.
 pub tied_is : (i j : ℕ) → eq_by_cmp nat_cmp i j ≡ true → i ≡ j
 tied_is i j e = eqb-true i j (sym (unsigned_tied i j) ∙ e)
 
+-- Different numbers are not tied.
 pub apart_not_tied : (i j : ℕ) → (i ≡ j → ⊥) → eq_by_cmp nat_cmp i j ≡ false
 apart_not_tied i j ne = unsigned_tied i j ∙ ne_eqb i j ne
 
+-- Two tests that follow from each other are equal.
 pub same_test : (a b : Bool) → (a ≡ true → b ≡ true) → (b ≡ true → a ≡ true) → a ≡ b
 same_test true b f g = sym (f refl)
 same_test false true f g = g refl
 same_test false false f g = refl
 
+-- Sets with the same members are equal.
 pub same_members : (s t : set.FinSet nat_cmp) → ((q : ℕ) → IsTrue (set.contains s q) → IsTrue (set.contains t q)) →
     ((q : ℕ) → IsTrue (set.contains t q) → IsTrue (set.contains s q)) → s ≡ t
 same_members s t there back =
     set.same_set nat_cmp_total set.nat_cmp-IsAntisymmetric s t (λ q. same_test (set.contains s q) (set.contains t q) (there q) (back q))
 
+-- A set contains a number that was inserted.
 pub inserted_here : (s : set.FinSet nat_cmp) (k : ℕ) → IsTrue (set.contains (set.insert s k) k)
 inserted_here s k = set.contains-insert nat_cmp_total s k k ∙ or_left _ _ (tied_here k)
 
+-- A set contains its former members after an insertion.
 pub inserted_other : (s : set.FinSet nat_cmp) (k q : ℕ) → IsTrue (set.contains s q) → IsTrue (set.contains (set.insert s k) q)
 inserted_other s k q h = set.contains-insert nat_cmp_total s k q ∙ or_right _ _ h
 
+-- A member after an insertion is the inserted number or a former member.
 pub from_inserted : (s : set.FinSet nat_cmp) (k q : ℕ) → IsTrue (set.contains (set.insert s k) q) → (q ≡ k) ⊎ IsTrue (set.contains s q)
 from_inserted s k q h =
     ⊎_elim (λ e. inl (tied_is q k e)) (λ m. inr m) (or_cases _ _ (sym (set.contains-insert nat_cmp_total s k q) ∙ h))
 
+-- A set contains its other members after a removal.
 pub removed_other : (s : set.FinSet nat_cmp) (k q : ℕ) → (q ≡ k → ⊥) → IsTrue (set.contains s q) → IsTrue (set.contains (set.remove s k) q)
 removed_other s k q ne h =
     set.contains-remove nat_cmp_total s k q ∙ and_from _ _ (ap not (apart_not_tied q k ne)) h
 
+-- A member after a removal is a former member that was not removed.
 pub from_removed : (s : set.FinSet nat_cmp) (k q : ℕ) → IsTrue (set.contains (set.remove s k) q) → (q ≡ k → ⊥) × IsTrue (set.contains s q)
 from_removed s k q h =
     let parts = and_parts _ _ (sym (set.contains-remove nat_cmp_total s k q) ∙ h) in (
@@ -48,9 +58,11 @@ from_removed s k q h =
 
 -- Sets after a change.
 
+-- A change at k determines if k is a member.
 pub changed_here : (old new : BTreeSet ℕ) (k : ℕ) (b : Bool) → Updates nat_cmp old new k b → contains nat_cmp new k ≡ b
 changed_here old new k b u = u.0 k ∙ ap (λ (t : Bool). cond t b (contains nat_cmp old k)) (tied_here k)
 
+-- A change at k does not change if other numbers are members.
 pub changed_other : (old new : BTreeSet ℕ) (k q : ℕ) (b : Bool) → Updates nat_cmp old new k b → (k ≡ q → ⊥) →
     contains nat_cmp new q ≡ contains nat_cmp old q
 changed_other old new k q b u ne = u.0 q ∙ ap (λ (t : Bool). cond t b (contains nat_cmp old q)) (apart_not_tied k q ne)

@@ -44,10 +44,12 @@ pow_one_bit (suc k) =
     let e : 2 ^ suc k ≡ 2 ^ k * 2 + 0 = omega (arith, pow-suc 2 k) in
     ap count_ones e ∙ ones_cat 1 (2 ^ k) 0 (omega arith) ∙ omega (arith, pow_one_bit k, ones_of_zero)
 
+-- The test for a power of two is true only for alignments.
 pub alignment_if_true : (a : ℕ) → a < 2 ^ 64 → is_power_of_two a ≡ true → IsAlignment a
 unfolding IsAlignment
 alignment_if_true a p e = one_bit 64 a p (eqb-true (count_ones a) 1 e)
 
+-- The test for a power of two is false only for numbers that are no alignment.
 pub no_alignment_if_false : (a : ℕ) → is_power_of_two a ≡ false → ¬ IsAlignment a
 unfolding IsAlignment
 no_alignment_if_false a e h =
@@ -55,10 +57,12 @@ no_alignment_if_false a e h =
     let t : is_power_of_two a ≡ true = eq-eqb (count_ones a) 1 one in
     cc
 
+-- An alignment is not 0.
 pub alignment_pos : (a : ℕ) → IsAlignment a → 0 < a
 unfolding IsAlignment
 alignment_pos a h = omega (arith, h.2, pow_pos h.0)
 
+-- An alignment has at most 64 bits.
 pub alignment_below : (a : ℕ) → IsAlignment a → a < 2 ^ 64
 unfolding IsAlignment
 alignment_below a h = omega (arith, h.2, pow_below h.0 64 h.1)
@@ -88,12 +92,14 @@ gap a m r p q l =
     (λ (h : r / a ≤ m / a). let k : r / a * a ≤ m / a * a = mul-le (r / a) a (m / a) a h (omega arith) in absurd (omega arith))
     (cases_lt (m / a) (r / a))
 
+-- A number without its remainder is a multiple.
 pub less_remainder : (a x : ℕ) → (x - x % a) % a ≡ 0
 less_remainder a x =
     let e : x / a * a + x % a ≡ x = div-add-mod' x a in
     let d : x - x % a ≡ x / a * a + 0 = omega arith in
     ap (λ (v : ℕ). v % a) d ∙ mul-add-mod_self_right (x / a) a 0 ∙ zero-mod a
 
+-- The highest multiple up to x is x without its remainder.
 pub highest_multiple : (a x : ℕ) → 0 < a → IsHighestMultiple a x (x - x % a)
 unfolding IsHighestMultiple
 highest_multiple a x z =

@@ -12,6 +12,7 @@ same_range x y p q =
     g ∙ ap (λ v. f y.start v) q
 
 -- ---- The order of two ranges
+-- A range before another one has a lower start, or the same start and a lower end.
 pub before_parts : (a b : Range) → Before a b → (a.start < b.start) ⊎ ((a.start ≡ b.start) × (a.end < b.end))
 unfolding Before
 before_parts a b h =
@@ -31,6 +32,7 @@ unfolding Before
 before_by_end a b e l =
     rw (le-ltb a.start b.start (omega (arith, e)), eq-eqb a.start b.start e, lt-ltb a.end b.end l) refl
 
+-- A range before another one does not start above it.
 pub starts_low : (a b : Range) → Before a b → a.start ≤ b.start
 starts_low a b h = ⊎_elim (λ (l : a.start < b.start). omega arith) (λ p. omega (arith, p.0)) (before_parts a b h)
 
@@ -38,6 +40,7 @@ pub ruleset orders = (before_by_start, before_by_end)
 
 -- ---- Ranges that overlap, and ranges that contain others
 
+-- Two ranges overlap if each starts at most at the end of the other one.
 pub meet : (r s : Range) → r.start ≤ r.end → s.start ≤ s.end → r.start ≤ s.end → s.start ≤ r.end → Overlaps r s
 unfolding Overlaps
 meet r s a b l h =
@@ -46,24 +49,29 @@ meet r s a b l h =
     (λ (i : s.start ≤ r.start). (r.start, (omega arith, a), (i, l)))
     (cases_lt r.start s.start)
 
+-- A range does not overlap one that ends below its start.
 pub apart_below : (r s : Range) → s.end < r.start → ¬ Overlaps r s
 unfolding Overlaps
 apart_below r s l o = omega (arith, o.1, o.2)
 
+-- A range does not overlap one that starts above its end.
 pub apart_above : (r s : Range) → r.end < s.start → ¬ Overlaps r s
 unfolding Overlaps
 apart_above r s l o = omega (arith, o.1, o.2)
 
 pub ruleset overlappings = (meet, apart_below, apart_above)
 
+-- A range covers another one if both ends of the other one are in it.
 pub covers : (r s : Range) → r.start ≤ s.start → s.end ≤ r.end → Covers r s
 unfolding Covers
 covers r s l h x i = (omega (arith, i.0), omega (arith, i.1))
 
+-- A range does not cover one that starts below it.
 pub sticks_out_below : (r s : Range) → s.start ≤ s.end → s.start < r.start → ¬ Covers r s
 unfolding Covers
 sticks_out_below r s o l c = let i = c s.start (omega arith, o) in omega (arith, i.0)
 
+-- A range does not cover one that ends above it.
 pub sticks_out_above : (r s : Range) → s.start ≤ s.end → r.end < s.end → ¬ Covers r s
 unfolding Covers
 sticks_out_above r s o l c = let i = c s.end (o, omega arith) in omega (arith, i.1)

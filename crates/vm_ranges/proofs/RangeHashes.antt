@@ -28,6 +28,7 @@ same_number : (n m : ℕ) → n < 2 ^ 64 → m < 2 ^ 64 → le_bytes 8 n ≡ le_
 unfolding le_bytes
 same_number n m p q e = sym (from_le_bytes-to_le_bytes_8 n p) ∙ ap (from_le_bytes w64) e ∙ from_le_bytes-to_le_bytes_8 m q
 
+-- Ranges are equal if and only if they write the same bytes to a hasher.
 pub hash_agrees : HashAgreesWithEquality same_range writes
 hash_agrees r s p q = (
   λ h.

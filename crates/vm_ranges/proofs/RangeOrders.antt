@@ -21,6 +21,7 @@ both_equal Greater p h = cc
 by_ends : (a b : Range) (o : Ordering) → a.start ≡ b.start → o ≡ nat_cmp a.end b.end → o ≡ range_cmp a b
 by_ends a b o s e = e ∙ ap (λ (v : Ordering). ordering_then v (nat_cmp a.end b.end)) (nat_cmp_is a.start b.start Equal s)
 
+-- The starts are compared first, and then the ends.
 by_starts : (a b : Range) (o : Ordering) → o ≡ nat_cmp a.start b.start → ordering_then o (nat_cmp a.end b.end) ≡ range_cmp a b
 by_starts a b o e = ap (λ (v : Ordering). ordering_then v (nat_cmp a.end b.end)) e
 
@@ -77,12 +78,14 @@ told o a b e =
 
 pub ruleset ordered = (told)
 
+-- Ranges that are compared as Equal are equal.
 pub range_cmp-exact : CmpEqualImpliesEq range_cmp
 range_cmp-exact a b h =
     let p = both_equal (nat_cmp a.start b.start) (nat_cmp a.end b.end) h in
     same_range a b (exact_unsigned a.start b.start p.0) (exact_unsigned a.end b.end p.1)
 
 -- ---- Ranges as sets of addresses
+-- Overlaps is symmetric, Covers is an order, and only equal ranges compare as Equal.
 pub ranges_are_sets : RangesAreSets
 unfolding Overlaps Covers
 ranges_are_sets = record {

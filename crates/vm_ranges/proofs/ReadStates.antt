@@ -9,6 +9,7 @@ use Rattle.vm_ranges.specs.RangeValues.{EncodesState, state_name, state_named, d
 use Rattle.vm_ranges.specs.declared.state.NodeState.{NodeState}
 use Rattle.vm_ranges.specs.declared.state.NodeState.TheVariants.{Free, Allocated}
 
+-- A text that is read as a state is the name of the state.
 spelled : (o : Option (List ℕ)) (s : NodeState) → state_named o ≡ Some s → o ≡ Some (state_name s)
 spelled None s h = absurd (cc)
 spelled (Some t) s h =
@@ -21,6 +22,7 @@ spelled (Some t) s h =
           ap Some ((bytes_eq-Decides t (codes "Allocated")).0 p.0 ∙ ap state_name (same_Some Allocated s p.1))
     ] refl h
 
+-- Only a string is read as a text.
 text_of : (d : Data) (t : List ℕ) → as_str d ≡ Some t → d ≡ string t
 text_of null t e = absurd (cc)
 text_of (boolean b) t e = absurd (cc)
@@ -29,13 +31,16 @@ text_of (string s) t e = ap string (same_Some s t e)
 text_of (array ds) t e = absurd (cc)
 text_of (object ms) t e = absurd (cc)
 
+-- A state that is read from a value is encoded by it.
 pub found-states : (d : Data) (s : NodeState) → decoded_state d ≡ Some s → EncodesState d s
 found-states d s h = text_of d (state_name s) (spelled (as_str d) s h)
 
+-- A state that a value encodes is read from it.
 pub states-found : (d : Data) (s : NodeState) → EncodesState d s → decoded_state d ≡ Some s
 states-found d Free h = rw h refl
 states-found d Allocated h = rw h refl
 
+-- A value from which no state is read encodes no state.
 pub none_encoded : (d : Data) → decoded_state d ≡ None → ((s : NodeState) × EncodesState d s) → ⊥
 none_encoded d e p = let t = states-found d p.0 p.1 in cc
 

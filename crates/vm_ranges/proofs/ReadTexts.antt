@@ -11,6 +11,7 @@ use Rattle.serde_json.specs.declared.error.Error.{Error}
 use Rattle.serde_json.specs.declared.value.Value.{Value}
 use Rattle.vm_ranges.specs.Texts.{IsTextOf, Parses}
 
+-- An error code is OutOfMemory if it is not different from it.
 is_memory : (c : Code) → ¬ ¬ (c ≡ OutOfMemory) → c ≡ OutOfMemory
 is_memory Invalid h = absurd (h (λ e. cc))
 is_memory NumberOutOfRange h = absurd (h (λ e. cc))

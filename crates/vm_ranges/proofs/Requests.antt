@@ -7,25 +7,30 @@ use Rattle.vm_ranges.specs.declared.error.Error.TheVariants.{InvalidSize, Invali
 use Rattle.vm_ranges.specs.declared.constraint.AllocPolicy.{AllocPolicy}
 use Rattle.vm_ranges.proofs.Power.{alignment_if_true, no_alignment_if_false}
 
+-- A request for 0 addresses is InvalidSize.
 pub constrains_size : (request : Request) → request.size ≡ 0 → MakesConstraint request (Err (InvalidSize 0))
 unfolding MakesConstraint ByConstraint
 constrains_size request e = inl (e, refl)
 
+-- A request whose alignment is no power of two is InvalidAlignment.
 pub constrains_alignment : (request : Request) → 0 < request.size → is_power_of_two request.align ≡ false →
     MakesConstraint request (Err InvalidAlignment)
 unfolding MakesConstraint ByConstraint
 constrains_alignment request z e = inr (λ e. omega arith, inl (no_alignment_if_false request.align e, refl))
 
+-- A request for an exact start that is not aligned is UnalignedAddress.
 pub constrains_start : (request : Request) → 0 < request.size → request.align < 2 ^ 64 → is_power_of_two request.align ≡ true →
     ¬ IsStartAligned request.align request.policy → MakesConstraint request (Err UnalignedAddress)
 unfolding MakesConstraint ByConstraint
 constrains_start request z l e u = inr (λ e. omega arith, inr (alignment_if_true request.align l e, inl (u, refl)))
 
+-- Every other request makes its constraint.
 pub constrains_given : (request : Request) → 0 < request.size → request.align < 2 ^ 64 → is_power_of_two request.align ≡ true →
     IsStartAligned request.align request.policy → MakesConstraint request (Ok request)
 unfolding MakesConstraint ByConstraint
 constrains_given request z l e u = inr (λ e. omega arith, inr (alignment_if_true request.align l e, inr (u, refl)))
 
+-- A request that passes each test is valid.
 pub is_valid_request : (size align : ℕ) (policy : AllocPolicy) → 0 < size → align < 2 ^ 64 → is_power_of_two align ≡ true →
     IsStartAligned align policy → IsRequest (request_for size align policy)
 is_valid_request size align policy z l e u = record { some = z; aligned = alignment_if_true align l e; start = u }

@@ -14,6 +14,7 @@ use Rattle.vm_tree.proofs.Allocating.{exact_left, exact_right}
 use Rattle.vm_tree.proofs.AllocatedTrees.{subtree_left, subtree_right, answered_left, answered_right}
 
 -- ---- The nodes on the path
+-- The path to an address enters one node of a leaf, and otherwise continues in one child.
 pub address_leaf : (x : ℕ) (bs : List Block) → nodes_to_address x (Tip bs) ≡ 1
 unfolding nodes_to_address
 address_leaf x bs = refl
@@ -32,6 +33,7 @@ address_some x (Tip bs) = omega arith
 address_some x (Fork l r) = omega arith
 
 -- ---- The start in a child
+-- A start that is below the right child is in the left one.
 pub start_in_left : (seek : Search) (t : ℕ) (l r : Shape) → IsSubtree (Fork l r) → IsStartIn seek t (blocks l ++ blocks r) →
     t < start_of (blocks r) → IsStartIn seek t (blocks l)
 start_in_left seek t l r h s k =
@@ -41,6 +43,7 @@ start_in_left seek t l r h s k =
     let f = start_append (blocks l) (blocks r) (omega arith) in
     record { from = omega (arith, s.from); upto = omega arith; low = s.low; high = s.high; fits = s.fits }
 
+-- A start that is not below the right child is in it.
 pub start_in_right : (seek : Search) (t : ℕ) (l r : Shape) → IsSubtree (Fork l r) → IsStartIn seek t (blocks l ++ blocks r) →
     start_of (blocks r) ≤ t → IsStartIn seek t (blocks r)
 start_in_right seek t l r h s k =

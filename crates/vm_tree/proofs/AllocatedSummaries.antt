@@ -25,6 +25,7 @@ has_in : (a : ℕ) (k r : Range) → k.start ≤ r.start → r.end ≤ k.end →
 unfolding HasMultiple
 has_in a k r from upto h = (h.0, h.1, (omega (arith, h.2.0), omega (arith, h.2.1)))
 
+-- At most 64 alignments have a multiple in a range.
 count_fits : (r : Range) → alignment_count r ≤ 64
 unfolding alignment_count
 count_fits r = at_most 64 r
@@ -49,6 +50,7 @@ longest_parts Before k r h t = rw (parts_upper k r h.0 h.1) (omega (arith, t.som
 longest_parts After k r h t = rw (parts_lower k r h.0 h.1) (omega (arith, t.some, t.upto))
 longest_parts Both k r h t = rw (parts_middle k r h.0 h.1) (omega (arith, t.some, t.upto))
 
+-- The parts of a gap have at most its alignments.
 pub alignments_parts : (rest : Rest) (k r : Range) → IsRest rest k r → IsTakenFrom k r → most_alignments (parts k r) ≤ alignment_count k
 alignments_parts Nothing k r h t = rw (parts_all k r h.0 h.1) (omega arith)
 alignments_parts Before k r h t =
@@ -62,6 +64,7 @@ alignments_parts Both k r h t =
     let b = alignments_in k (record { start = r.end + 1; end = k.end }) (omega (arith, t.some, t.from)) (omega arith) in
     rw (parts_middle k r h.0 h.1) (omega arith)
 
+-- A gap has at least one part.
 pub some_parts : (k r : Range) → 1 ≤ length (parts k r)
 some_parts k r = omega (arith, length-append (before_part k r) (held_block r ∷ after_part k r))
 

@@ -17,6 +17,7 @@ use Rattle.vm_tree.proofs.Lists.{longest_append, alignments_append, cover_left, 
 use Rattle.vm_tree.proofs.Trees.{full_some, full_rooted, rooted_full, tall, high}
 
 -- ---- Children of a subtree
+-- Both children of a subtree are subtrees.
 pub subtree_left : (l r : Shape) → IsSubtree (Fork l r) → IsSubtree l
 subtree_left l r h = record {
   balanced = h.balanced.0;
@@ -35,6 +36,7 @@ subtree_right l r h = record {
 }
 
 -- ---- One child has grown
+-- The node has grown below if one of its children has grown.
 pub grew_left : (change : Change) (l m r : Shape) → GrowsBy change l m → GrowsBelow change (Fork l r) (Fork m r)
 unfolding GrowsBelow
 grew_left change l m r g = inl (g, refl)
@@ -67,12 +69,14 @@ mended l r m s final t a b upto close u =
 
 -- The node after a change of its left child can be updated.
 module _ (l m r : Shape) (t : IsSubtree (Fork l r)) where
+  -- If the height of the left child stays, the node is a tree.
   tree_left : height_of l ≡ height_of m → Grows l m → IsTree (Fork m r)
   tree_left e g = record {
     balanced = (g.balanced, t.balanced.1, (omega (arith, t.balanced.2.0), omega (arith, t.balanced.2.1)));
     leaves = (g.full, t.full.1);
   }
 
+  -- If the left child has grown, the node can be mended.
   mend_left : IsRun (blocks m ++ blocks r) → Grows l m → CanMend m r
   mend_left run g =
       let a = full_some m g.full in
@@ -89,6 +93,7 @@ module _ (l m r : Shape) (t : IsSubtree (Fork l r)) where
         cover = run;
       }
 
+  -- If the left child has grown, the node can be updated.
   update_left : (change : Change) → IsRun (blocks m ++ blocks r) → GrowsBy change l m
       → CanUpdate change (longest_gap (blocks l ++ blocks r)) (most_alignments (blocks l ++ blocks r)) (height_of (Fork l r)) (Fork m r)
   update_left Nothing run g =
@@ -101,6 +106,7 @@ module _ (l m r : Shape) (t : IsSubtree (Fork l r)) where
   update_left FreeOnly run g = let k = g.kept in (omega (arith, k.0), tree_left k.0 g.grows)
   update_left Structure run g = mend_left run g.grows
 
+  -- If the left child has grown, the updated node has grown.
   grown_left : (change : Change) (final : Shape) → GrowsBy change l m → Updates change (Fork m r) final → Grows (Fork l r) final
   grown_left Nothing final g u =
       let k = g.kept in
@@ -172,6 +178,7 @@ module _ (l r s : Shape) (t : IsSubtree (Fork l r)) where
       (λ x. (omega (arith, d.0, d.1, h.upto), omega arith, omega (arith, d.0, d.1, h.upto), omega (arith, d.0, d.1, h.upto))) u
 
 -- ---- A node of which a child has grown
+-- A node of which a child has grown can be updated.
 pub can_update : (change : Change) (old new : Shape) → GrowsBelow change old new → IsSubtree old → IsRun (blocks new)
     → CanUpdate change (longest_gap (blocks old)) (most_alignments (blocks old)) (height_of old) new
 unfolding GrowsBelow
@@ -183,6 +190,7 @@ can_update change (Fork l r) (Fork m s) g t run =
       | inr x ↦ (let e = x.0 in rw e (update_right l r s t change (rw e at run) x.1))
     ]
 
+-- A node of which a child has grown has grown after its update.
 pub has_grown : (change : Change) (old new final : Shape) → GrowsBelow change old new → IsSubtree old → Updates change new final →
     Grows old final
 unfolding GrowsBelow
@@ -194,6 +202,7 @@ has_grown change (Fork l r) (Fork m s) final g t u =
       | inr x ↦ (let e = x.0 in grown_right l r s t change final x.1 (rw e at u))
     ]
 
+-- A node of which a child has grown is at most one higher.
 pub grown_height : (change : Change) (old new : Shape) → GrowsBelow change old new →
     (2 ≤ height_of new) × (height_of new ≤ height_of old + 1)
 unfolding GrowsBelow
@@ -207,6 +216,7 @@ grown_height change (Fork l r) (Fork m s) g =
       | inr x ↦ (let e = ap height_of x.0 in (omega arith, omega (arith, x.1.grows.upto)))
     ]
 
+-- An update keeps the blocks.
 pub same_blocks : (change : Change) (new final : Shape) → Updates change new final → blocks final ≡ blocks new
 same_blocks Nothing new final u = ap blocks u
 same_blocks FreeOnly new final u = ap blocks u
@@ -214,6 +224,7 @@ same_blocks Structure (Tip bs) final u = absurd u
 same_blocks Structure (Fork m s) final u = u.blocks
 
 -- ---- By what is stored beside the link
+-- A node of which a child has grown can be updated from its stored summary.
 pub can_update_stored : (change : Change) (n new : Shape) (longest alignments height : ℕ) →
     IsFreeOf n longest alignments × (height ≡ height_of n) → GrowsBelow change n new → IsSubtree n → IsRun (blocks new)
     → CanUpdate change longest alignments height new
@@ -223,6 +234,7 @@ can_update_stored change n new longest alignments height s g t run =
     let c = s.1 in
     rw (a, b, c) (can_update change n new g t run)
 
+-- After its update the node has grown as the update reports.
 pub grown_by : (change more : Change) (t n new final : Shape) (longest alignments height : ℕ) → t ≡ n →
     IsFreeOf n longest alignments × (height ≡ height_of n) → GrowsBelow change n new → IsSubtree n
     → Updates change new final → Reports more longest alignments height final → (more ≡ Structure → height_of final ≢ height) →
@@ -235,10 +247,12 @@ grown_by change more t n new final longest alignments height q s g tree u r m =
     rw q (record { grows = h; higher = λ z. (let k = m z in omega (arith, h.from)); kept = rw (a, b, c) at r })
 
 -- ---- The result of an answer
+-- After an error the tree is the same.
 pub same_if_err : (answer : Result Taken Refusal) → (old new : Shape) → GrowsIfOk answer old new → OnErr answer (new ≡ old)
 same_if_err (Ok taken) old new h = tt
 same_if_err (Err refusal) old new h = h
 
+-- If the answer is that of a child, only this child has grown.
 pub answered_left : (answer : Result Taken Refusal) → (l m r : Shape) → GrowsIfOk answer l m → GrowsBelowIfOk answer (Fork l r) (Fork m r)
 answered_left (Ok taken) l m r h = (grew_left taken.change l m r h.0, h.1)
 answered_left (Err refusal) l m r h = ap (λ (s : Shape). Fork s r) h
@@ -247,6 +261,7 @@ pub answered_right : (answer : Result Taken Refusal) → (l r s : Shape) → Gro
 answered_right (Ok taken) l r s h = (grew_right taken.change l r s h.0, h.1)
 answered_right (Err refusal) l r s h = ap (λ (t : Shape). Fork l t) h
 
+-- After the answer of a child a node is still a node.
 pub answered_tall : (answer : Result Taken Refusal) → (old new : Shape) → 2 ≤ height_of old → GrowsBelowIfOk answer old new →
     2 ≤ height_of new
 answered_tall (Ok taken) old new t h = (grown_height taken.change old new h.0).0

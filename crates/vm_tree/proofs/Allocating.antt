@@ -49,6 +49,7 @@ use Rattle.vm_tree.specs.declared.search.Refusal.{Refusal}
 use Rattle.vm_tree.specs.declared.search.Refusal.TheVariants.{NoPlace, Held, PastMax, OutOfMemory, CannotSplit}
 
 -- ---- The parts that stay free of a gap
+-- A range that is taken from a gap leaves parts of it free.
 pub rest_of : (k r : Range) → IsTakenFrom k r → (rest : Rest) × IsRest rest k r
 rest_of k r t =
     elim (cases_lt k.start r.start) [
@@ -63,6 +64,7 @@ rest_of k r t =
     ]
 
 -- ---- The parts of a gap cover what the gap covered
+-- The parts of a gap cover what the gap covered.
 tiles_parts : (rest : Rest) (k r : Range) (q : NodeState) (m hi : ℕ) (us : List Block) → IsRest rest k r → IsTakenFrom k r →
     Tiles q m (free_block k ∷ us) hi → Tiles q m (parts k r ++ us) hi
 tiles_parts Nothing k r q m hi us h t c =
@@ -84,6 +86,7 @@ tiles_parts Both k r q m hi us h t c =
       (omega arith, omega (arith, t.some), tt, (omega arith, omega arith, tt, c.3)),
     )
 
+-- A gap has at least one part.
 some_parts : (k r : Range) → IsTakenFrom k r → 1 ≤ length (parts k r)
 some_parts k r t =
     let l = rest_of k r t in
@@ -95,6 +98,7 @@ some_parts k r t =
     by_rest After h = rw (parts_lower k r h.0 h.1) (omega arith)
     by_rest Both h = rw (parts_middle k r h.0 h.1) (omega arith)
 
+-- A cover starts at the start of its first block.
 start_tiles : (p : NodeState) (lo hi : ℕ) (bs : List Block) → 0 < length bs → Tiles p lo bs hi → start_of bs ≡ lo
 start_tiles p lo hi [] l t = absurd (omega arith)
 start_tiles p lo hi (b ∷ bs) l t = t.0
@@ -109,6 +113,7 @@ module _ (old new lower upper : List Block) (k r : Range) (run : IsRun old) (cut
       rw after (tiles_under Allocated run.lo run.hi lower (free_block k ∷ upper) (parts k r ++ upper)
       (λ m c. tiles_parts l.0 k r (last_state Allocated lower) m run.hi upper l.1 taken c) t)
 
+  -- The new list has a block.
   new_some : 0 < length new
   new_some =
       let a = length-append lower (parts k r ++ upper) in
@@ -116,9 +121,11 @@ module _ (old new lower upper : List Block) (k r : Range) (run : IsRun old) (cut
       let c = some_parts k r taken in
       rw after (omega arith)
 
+  -- A run in which a range of a gap is allocated is a run.
   pub run_after : IsRun new
   run_after = record { lo = run.lo; hi = run.hi; some = new_some; tiles = new_tiles; range = run.range }
 
+  -- The run starts at the same address.
   pub start_after : start_of new ≡ start_of old
   start_after = start_tiles Allocated run.lo run.hi new new_some new_tiles
       ∙ sym (start_tiles Allocated run.lo run.hi old run.some run.tiles)
@@ -174,18 +181,22 @@ settles_other seek place new other taken more e f g h = record {
 same_key : (k : Range) (start end : ℕ) → k.start ≡ start → k.end ≡ end → k ≡ record { start = start; end = end }
 same_key k start end p q = rw (← p, ← q) refl
 
+-- A free block is the gap of its range.
 pub gap_of : (b : Block) → b.state ≡ Free → b ≡ free_block b.key
 gap_of b e = rw (← e) refl
 
 -- ---- The block of an exact range
 module _ (seek : Search) (t : ℕ) (bs : List Block) (i : ℕ) where
+  -- The block at an index is the one that contains the address.
   here : i < length bs → IsIn (nth bs i).key t → IsBlockAt t bs (take i bs) (nth bs i) (drop (i + 1) bs)
   here l f = record { cut = cut_at bs i l; inside = f }
 
+  -- The result at the block is the result of the exact range.
   found : (new : List Block) (answer : Result Taken Refusal) → i < length bs → IsIn (nth bs i).key t
       → SettlesIn seek t (take i bs) (nth bs i).state (nth bs i).key (drop (i + 1) bs) new answer → AllocatesExact seek t bs new answer
   found new answer l f h = record { lower = take i bs; block = nth bs i; upper = drop (i + 1) bs; at = here l f; settles = h }
 
+  -- If the block refuses the range, the call returns this error.
   pub exact_refused : (refusal : Refusal) → i < length bs → IsIn (nth bs i).key t → RefusesIn seek t (nth bs i) (Some refusal) →
       AllocatesExact seek t bs bs (Err refusal)
   exact_refused refusal l f h = found bs (Err refusal) l f (h (take i bs) (drop (i + 1) bs) bs)
@@ -215,6 +226,7 @@ module _ (seek : Search) (t : ℕ) (bs : List Block) (i : ℕ) where
         high = h.high;
       }
 
+-- The result at the place in the list is the result of the exact range.
 pub exact_settled : (seek : Search) (t : ℕ) (bs : List Block) (place : Place) (new : List Block) (answer : Result Taken Refusal) →
     0 < seek.size → IsExactPlace seek t bs place → SettlesAt seek (in_list bs place) new answer → AllocatesExact seek t bs new answer
 exact_settled seek t bs place new answer z h s =
@@ -233,18 +245,22 @@ exact_settled seek t bs place new answer z h s =
 
 -- ---- The reason why an exact range cannot be allocated in a block
 module _ (seek : Search) (t : ℕ) (b : Block) where
+  -- A held block with exactly this range returns Held.
   pub refused_held : b.state ≡ Allocated → b.key.start ≡ t → b.key.end ≡ t + seek.size - 1 → RefusesIn seek t b (Some Held)
   refused_held state start end = λ lower upper new. rw state (inl (same_key b.key t (t + seek.size - 1) start end, refl))
 
+  -- A held block with another range returns NoPlace.
   pub refused_other_start : b.state ≡ Allocated → b.key.start ≢ t → RefusesIn seek t b (Some NoPlace)
   refused_other_start state start = λ lower upper new. rw state (inr (λ e. start (ap (λ (k : Range). k.start) e), refl))
 
   pub refused_other_end : b.state ≡ Allocated → b.key.end ≢ t + seek.size - 1 → RefusesIn seek t b (Some NoPlace)
   refused_other_end state end = λ lower upper new. rw state (inr (λ e. end (ap (λ (k : Range). k.end) e), refl))
 
+  -- A gap that ends before the range returns NoPlace.
   pub refused_short : b.state ≡ Free → b.key.end < t + seek.size - 1 → RefusesIn seek t b (Some NoPlace)
   refused_short state short = λ lower upper new. rw state (inl (inl short, refl))
 
+  -- A range that ends past the window returns NoPlace.
   pub refused_past : b.state ≡ Free → seek.high < t + seek.size - 1 → RefusesIn seek t b (Some NoPlace)
   refused_past state past = λ lower upper new. rw state (inl (inr past, refl))
 
@@ -265,6 +281,7 @@ in_right seek t lower Free key upper l m answer h =
     let place : ListPlace = record { lower = lower; key = key; upper = upper; start = t } in
     elim h [ inl x ↦ inl x | inr x ↦ inr (x.0, settles_right seek place l m answer x.1) ]
 
+-- The result of an exact range in one part is the result in the list.
 pub exact_left : (seek : Search) (t : ℕ) (l m r : List Block) (answer : Result Taken Refusal) → AllocatesExact seek t l m answer →
     AllocatesExact seek t (l ++ r) (m ++ r) answer
 exact_left seek t l m r answer h = record {
@@ -285,6 +302,7 @@ exact_right seek t l r m answer h = record {
   settles = in_right seek t h.lower h.block.state h.block.key h.upper l m answer h.settles;
 }
 
+-- If no bound is below the last address, the range lies in the gap.
 gap_end : (x last high : ℕ) → ¬ ((x < last) ⊎ (high < last)) → last ≤ x
 gap_end x last high h = elim (cases_lt x last) [ inl l ↦ absurd (h (inl l)) | inr l ↦ l ]
 
@@ -295,15 +313,18 @@ pub record IsAllocated (seek : Search) (old new : List Block) (taken : Taken) : 
   pub inside : IsTakenFrom place.key (span place.start seek.size)
   pub taken_at : IsTakenAt seek place new taken
 
+-- A run in which a range was allocated is a run.
 pub run_allocated : (seek : Search) (old new : List Block) (taken : Taken) → IsRun old → IsAllocated seek old new taken → IsRun new
 run_allocated seek old new taken run h = run_after old new h.place.lower h.place.upper h.place.key (span h.place.start seek.size) run h.cut
     h.inside h.taken_at.blocks
 
+-- A run in which a range was allocated starts at the same address.
 pub start_allocated : (seek : Search) (old new : List Block) (taken : Taken) → IsRun old → IsAllocated seek old new taken →
     start_of new ≡ start_of old
 start_allocated seek old new taken run h = start_after old new h.place.lower h.place.upper h.place.key (span h.place.start seek.size) run
     h.cut h.inside h.taken_at.blocks
 
+-- An exact range that was allocated lies in a gap.
 pub exact_allocated : (seek : Search) (t : ℕ) (old new : List Block) (taken : Taken) → 0 < seek.size →
     AllocatesExact seek t old new (Ok taken) → IsAllocated seek old new taken
 exact_allocated seek t old new taken z h = by_state h.lower h.block.state h.block.key h.upper h.at.cut h.at.inside h.settles

@@ -33,6 +33,7 @@ use Rattle.vm_tree.specs.Building.{AreInOrder, gap_before, blocks_between, remai
 use Rattle.vm_tree.specs.declared.build.BlockCursor.{BlockCursor}
 use Rattle.vm_tree.proofs.Lists.{cover_left, cover_leaf}
 
+-- There is a gap before a range only if the range starts later.
 no_gap : (lo next : ℕ) → next ≤ lo → gap_before lo next ≡ []
 no_gap lo next h = rw (le-ltb lo next h) refl
 
@@ -44,6 +45,7 @@ pub some_address : (lo hi : ℕ) (rs : List Range) → lo ≤ hi + 1 → AreInOr
 some_address lo hi [] l s n = ⊎_elim (λ (c : hi < lo). absurd (n (no_gap lo (hi + 1) (omega arith)))) (λ (c : lo ≤ hi). c) (cases_lt hi lo)
 some_address lo hi (r ∷ rs) l s n = omega (arith, s.0, s.1, s.2)
 
+-- If no range is left, the rest of the space is a gap.
 pub last_gap : (lo hi : ℕ) → lo ≤ hi →
     blocks_between lo [] hi ≡ free_block (record { start = lo; end = hi }) ∷ blocks_between (hi + 1) [] hi
 last_gap lo hi l =
@@ -51,6 +53,7 @@ last_gap lo hi l =
     gap lo (hi + 1) (omega arith) ∙ ap (λ (v : ℕ). free_block (record { start = lo; end = v }) ∷ []) end
     ∙ ap (λ (v : List Block). free_block (record { start = lo; end = hi }) ∷ v) (sym (no_gap (hi + 1) (hi + 1) (omega arith)))
 
+-- If the next range starts later, a gap is before it.
 pub gap_first : (lo hi : ℕ) (r : Range) (rs : List Range) → lo < r.start →
     blocks_between lo (r ∷ rs) hi ≡ free_block (record { start = lo; end = r.start - 1 }) ∷ blocks_between r.start (r ∷ rs) hi
 gap_first lo hi r rs l =
@@ -59,6 +62,7 @@ gap_first lo hi r rs l =
     ∙ ap (λ (v : List Block). free_block (record { start = lo; end = r.start - 1 }) ∷ (v ++ rest))
     (sym (no_gap r.start r.start (omega arith)))
 
+-- If the next range starts here, it is the first block.
 pub held_first : (lo hi : ℕ) (r : Range) (rs : List Range) → r.start ≤ lo →
     blocks_between lo (r ∷ rs) hi ≡ held_block r ∷ blocks_between (r.end + 1) rs hi
 held_first lo hi r rs l = ap (λ (v : List Block). v ++ held_block r ∷ blocks_between (r.end + 1) rs hi) (no_gap lo r.start l)
@@ -66,6 +70,7 @@ held_first lo hi r rs l = ap (λ (v : List Block). v ++ held_block r ∷ blocks_
 pub ruleset firsts = (some_address, last_gap, gap_first, held_first)
 
 -- ---- The blocks are in order
+-- The blocks of ranges in order cover the space.
 pub between_tiles : (lo hi : ℕ) (rs : List Range) → lo ≤ hi + 1 → AreInOrder lo rs hi → Tiles Allocated lo (blocks_between lo rs hi) hi
 between_tiles lo hi [] l s =
     ⊎_elim
@@ -80,6 +85,7 @@ between_tiles lo hi (r ∷ rs) l s =
     (cases_lt lo r.start)
 
 -- ---- A leaf of the next blocks
+-- The blocks that a cursor has left are a run.
 pub cursor_run : (c : BlockCursor) → IsBlockCursor c → remaining_blocks c ≢ [] → IsRun (remaining_blocks c)
 cursor_run c h n =
     let a = some_address c.next c.end c.held.now h.within h.in_order n in
@@ -95,15 +101,18 @@ cursor_run c h n =
     not_empty [] n = absurd (n refl)
     not_empty (b ∷ bs) n = omega arith
 
+-- If fewer blocks were read than there are, a block is left.
 pub some_left : (old xs ys : List Block) (n : ℕ) → old ≡ xs ++ ys → n ≤ length old → length xs < n → ys ≢ []
 some_left old xs ys n e l k z =
     let f = ap length e ∙ length-append xs ys in
     let g : length ys ≡ 0 = ap length z in
     absurd (omega arith)
 
+-- The next block moves from the blocks that are left to those that were read.
 pub one_more : (old xs ys more : List Block) (b : Block) → old ≡ xs ++ ys → ys ≡ b ∷ more → old ≡ (xs ++ b ∷ []) ++ more
 one_more old xs ys more b e f = e ∙ ap (λ (v : List Block). xs ++ v) f ∙ sym (append_assoc xs (b ∷ []) more)
 
+-- Up to 32 blocks that were read are a leaf.
 pub leaf_one_more : (old xs ys more : List Block) (b : Block) → IsRun old → old ≡ xs ++ ys → ys ≡ b ∷ more → length xs < 32 →
     IsLeaf (xs ++ b ∷ [])
 leaf_one_more old xs ys more b run e f l =
@@ -111,11 +120,13 @@ leaf_one_more old xs ys more b run e f l =
     let g = one_more old xs ys more b e f in
     cover_leaf (xs ++ b ∷ []) (cover_left (xs ++ b ∷ []) more (subst IsRun g run) (omega arith)) (omega arith)
 
+-- A list of at least one block is not empty.
 pub none_of_none : (bs : List Block) (n : ℕ) → n ≤ length bs → 0 < n → bs ≢ []
 none_of_none bs n l k z = let g : length bs ≡ 0 = ap length z in absurd (omega arith)
 
 pub ruleset filling = (cursor_run, some_left, one_more, leaf_one_more, none_of_none, length-append)
 
+-- A cursor starts at the start of its first block.
 pub first_address : (lo hi : ℕ) (rs : List Range) → lo ≤ hi + 1 → AreInOrder lo rs hi → blocks_between lo rs hi ≢ [] →
     lo ≡ start_of (blocks_between lo rs hi)
 first_address lo hi rs l s n = sym (start_is_low Allocated lo hi (blocks_between lo rs hi) n (between_tiles lo hi rs l s))

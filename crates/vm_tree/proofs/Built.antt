@@ -42,6 +42,7 @@ use Rattle.vm_tree.proofs.Trees.{full_rooted, rooted_some}
 
 -- ---- The plan of a tree and those of its halves
 module _ (n e m low more : ℕ) (p : IsPlan n e m) (two : n ≢ 1) (half : low ≡ n / 2) (share : more ≡ min m low) where
+  -- Both halves of a plan are plans.
   pub left_plan : IsPlan low e more
   left_plan = let s = p.some in let f = p.full (omega arith) in record {
     some = omega arith;
@@ -64,6 +65,7 @@ module _ (n e m low more : ℕ) (p : IsPlan n e m) (two : n ≢ 1) (half : low �
     any = omega arith;
   }
 
+  -- The blocks of both halves are those of the whole.
   pub halves : low * e + more + ((n - low) * e + (m - more)) ≡ n * e + m
   halves =
       let d : (low + (n - low)) * e ≡ low * e + (n - low) * e = add-mul low (n - low) e in
@@ -72,6 +74,7 @@ module _ (n e m low more : ℕ) (p : IsPlan n e m) (two : n ≢ 1) (half : low �
       omega (arith, p.order)
 
 -- ---- Nodes and heights
+-- A tree has one node less than twice its leaves.
 pub nodes_of_leaves : (s : Shape) → node_count s + 1 ≡ 2 * leaf_count s
 nodes_of_leaves (Tip bs) = refl
 nodes_of_leaves (Fork l r) = let a = nodes_of_leaves l in let b = nodes_of_leaves r in omega arith
@@ -90,6 +93,7 @@ not_above a b g h l p q = elim (cases_lt h g) [
   | inr c ↦ c
 ]
 
+-- A half with at most one leaf more is at most one higher.
 pub at_most_one : (a b g h : ℕ) → 0 < b → a ≤ b + 1 → IsLeafHeight a g → IsLeafHeight b h → g ≤ h + 1
 at_most_one a b g h z l p q = elim (cases_lt (h + 1) g) [
   | inl c ↦ (
@@ -112,6 +116,7 @@ height_above a b (suc (suc h)) z l m p =
     (omega (arith, p.0), omega (arith, p.1))
 
 -- ---- A leaf
+-- A tree of one leaf is built.
 pub leaf_is_built : (e m : ℕ) (old : List Block) (s : Shape) (new : List Block) → IsPlan 1 e m → IsBuiltLeaf (e + m) old s new →
     IsBuilt 1 e m old s new
 leaf_is_built e m old s new p b =
@@ -139,6 +144,7 @@ module _ (n e m a ma b mb : ℕ) (old xs new : List Block) (l r s : Shape) (two 
     at_most_one b a (height_of r) (height_of l) some close right.height left.height,
   )
 
+  -- A node over two halves is built.
   fork_built : IsBuilt n e m old (Fork l r) new
   fork_built =
       let c = near in
@@ -155,6 +161,7 @@ module _ (n e m a ma b mb : ℕ) (old xs new : List Block) (l r s : Shape) (two 
         rooted = full_rooted (Fork l r) full;
       }
 
+  -- The same for a node that is given by its children.
   pub node_built : IsBuilt n e m old s new
   node_built = subst (λ (t : Shape). IsBuilt n e m old t new) (sym q) fork_built
 
@@ -165,6 +172,7 @@ half_low n h l p = elim (cases_lt h 47) [
   | inr c ↦ (let f = pow_mono {i = 47} {j = h} c in absurd (omega (arith, p.1)))
 ]
 
+-- A tree takes as many blocks from the list as its plan has.
 pub left_over : (n e m : ℕ) (old new : List Block) (s : Shape) → IsBuilt n e m old s new → length old ≡ n * e + m + length new
 left_over n e m old new s b = ap length b.cut ∙ length-append (blocks s) new ∙ ap (λ (k : ℕ). k + length new) b.count
 
@@ -175,6 +183,7 @@ module _ (b e mb : ℕ) (xs new : List Block) (r : Shape) (right : IsBuilt b e m
   pub first_of_half : start_of xs ≡ start_of (blocks r)
   first_of_half = ap start_of right.cut ∙ start_append (blocks r) new (rooted_some r right.rooted)
 
+-- A half with leaves takes a block.
 pub some_block : (b e mb : ℕ) (xs : List Block) → 0 < b → 12 ≤ e → b * e + mb ≤ length xs → xs ≢ []
 some_block zero e mb xs s l h z = absurd (omega arith)
 some_block (suc b) e mb xs s l h z = let g : length xs ≡ 0 = ap length z in let k = add-mul b 1 e in absurd (omega arith)

@@ -65,6 +65,7 @@ freed_under (x ∷ []) [] us k h = absurd (omega arith)
 freed_under (x ∷ []) (y ∷ m) us k h = refl
 freed_under (x ∷ z ∷ l) m us k h = ap (λ (b : List Block). x ∷ b) (freed_under (z ∷ l) m us k h)
 
+-- Blocks behind a freed block stay behind it.
 join_if_append : (s : NodeState) (k : Range) (b : Block) (us r : List Block) → join_if s k b us ++ r ≡ join_if s k b (us ++ r)
 join_if_append Free k b us r = refl
 join_if_append Allocated k b us r = refl
@@ -98,13 +99,16 @@ module _ (was k : Range) (m us x y : List Block) (e : x ≡ m ++ held_block was 
     ap (λ (z : List Block). z ++ r) f ∙ freed_over m us r k n,
   )
 
+-- A freed block before a gap is joined with it.
 join_free : (g : Block) (k : Range) (us : List Block) → g.state ≡ Free →
     join_if g.state k g us ≡ free_block (record { start = k.start; end = g.key.end }) ∷ us
 join_free g k us e = ap (λ (s : NodeState). join_if s k g us) e
 
+-- A freed block before a held block is not joined.
 join_held : (g : Block) (k : Range) (us : List Block) → g.state ≡ Allocated → join_if g.state k g us ≡ free_block k ∷ g ∷ us
 join_held g k us e = ap (λ (s : NodeState). join_if s k g us) e
 
+-- A block that is freed up to the end of a gap is the block joined with the gap.
 over_gap : (s : NodeState) (x g : Block) (a z : ℕ) (r : List Block) → g.state ≡ Free
     → freed_on s x (record { start = a; end = g.key.end }) [] ++ r ≡ freed_on s x (record { start = a; end = z }) (g ∷ r)
 over_gap Free x g a z r e = sym (join_free g (record { start = x.key.start; end = z }) r e)
@@ -117,6 +121,7 @@ freed_gap_after [] g r a z e = sym (join_free g (record { start = a; end = z }) 
 freed_gap_after (x ∷ []) g r a z e = over_gap x.state x g a z r e
 freed_gap_after (x ∷ y ∷ m) g r a z e = ap (λ (b : List Block). x ∷ b) (freed_gap_after (y ∷ m) g r a z e)
 
+-- A block that is freed before a held block is not joined with it.
 over_held : (s : NodeState) (x g : Block) (k : Range) (r : List Block) → g.state ≡ Allocated →
     freed_on s x k [] ++ g ∷ r ≡ freed_on s x k (g ∷ r)
 over_held Free x g k r e = sym (join_held g (record { start = x.key.start; end = k.end }) r e)
@@ -142,6 +147,7 @@ freed_held_before m g us k e =
     append_assoc m (g ∷ []) (with_free k us) ∙ ap (λ (z : List Block). m ++ z) (sym (ap (λ (s : NodeState). freed_on s g k us) e))
     ∙ sym (freed_under m (g ∷ []) us k (omega arith))
 
+-- Joining takes at most the next block away.
 length-join_if : (s : NodeState) (k : Range) (b : Block) (us : List Block) → length us + 1 ≤ length (join_if s k b us)
 length-join_if Free k b us = omega arith
 length-join_if Allocated k b us = omega arith
@@ -163,6 +169,7 @@ length-freed [] k us = let h = length-with_free k us in (omega (arith, h.0), ome
 length-freed (x ∷ []) k us = let h = length-freed_on x.state x k us in (omega (arith, h.0), omega (arith, h.1), h.0)
 length-freed (x ∷ y ∷ m) k us = let h = length-freed (y ∷ m) k us in (omega (arith, h.0), omega (arith, h.1), omega (arith, h.2))
 
+-- A freed block that is joined with the next one starts at the same address.
 start_join : (s : NodeState) (k : Range) (b : Block) (us : List Block) → start_of (join_if s k b us) ≡ k.start
 start_join Free k b us = refl
 start_join Allocated k b us = refl
@@ -176,6 +183,7 @@ pub start_free : (k : Range) (us : List Block) → start_of (with_free k us) ≡
 start_free k [] = refl
 start_free k (b ∷ us) = start_join b.state k b us
 
+-- A list with a freed block starts at the same address.
 pub start_freed : (m : List Block) (k : Range) (us : List Block) → 0 < length m → start_of (freed_between m k us) ≡ start_of m
 start_freed [] k us h = absurd (omega arith)
 start_freed (x ∷ []) k us h = start_freed_on x.state x k us refl
@@ -187,16 +195,19 @@ tiles_join : (s : NodeState) (hi a z : ℕ) (b : Block) (us : List Block) → b.
 tiles_join Free hi a z b us e l t = (refl, omega (arith, t.0, t.1), tt, subst (λ (s : NodeState). Tiles s (b.key.end + 1) us hi) e t.3)
 tiles_join Allocated hi a z b us e l t = (refl, l, tt, (t.0, t.1, subst (NotBothFree Free) (sym e) tt, t.3))
 
+-- A freed block joined with the block after it covers both.
 tiles_free : (hi a z : ℕ) (us : List Block) → a ≤ z → Tiles Allocated (z + 1) us hi →
     Tiles Allocated a (with_free (record { start = a; end = z }) us) hi
 tiles_free hi a z [] l t = (refl, l, tt, t)
 tiles_free hi a z (b ∷ us) l t = tiles_join b.state hi a z b us refl l t
 
+-- A cover that begins with a gap can follow any block that is not free.
 from_held : (p : NodeState) (lo hi : ℕ) (k : Range) (us : List Block) → NotBothFree p Free → Tiles Allocated lo (with_free k us) hi →
     Tiles p lo (with_free k us) hi
 from_held Allocated lo hi k us n t = t
 from_held Free lo hi k us n t = absurd n
 
+-- A freed block joined with the block before it covers both.
 tiles_on : (s p : NodeState) (lo hi : ℕ) (x : Block) (k : Range) (us : List Block) → x.state ≡ s → Tiles p lo (x ∷ held_block k ∷ us) hi →
     Tiles p lo (freed_on s x k us) hi
 tiles_on Allocated p lo hi x k us e t = (
@@ -211,12 +222,14 @@ tiles_on Free p lo hi x k us e t =
     subst (λ (v : ℕ). Tiles p v (with_free (record { start = x.key.start; end = k.end }) us) hi) t.0
     (from_held p x.key.start hi (record { start = x.key.start; end = k.end }) us (subst (NotBothFree p) e t.2) f)
 
+-- The blocks cover the same addresses after one of them is freed.
 pub tiles_freed : (p : NodeState) (lo hi : ℕ) (m : List Block) (k : Range) (us : List Block) → 0 < length m →
     Tiles p lo (m ++ held_block k ∷ us) hi → Tiles p lo (freed_between m k us) hi
 tiles_freed p lo hi [] k us h t = absurd (omega arith)
 tiles_freed p lo hi (x ∷ []) k us h t = tiles_on x.state p lo hi x k us refl t
 tiles_freed p lo hi (x ∷ y ∷ m) k us h t = (t.0, t.1, t.2, tiles_freed x.state (x.key.end + 1) hi (y ∷ m) k us (omega arith) t.3)
 
+-- A run in which a block is freed is a run.
 pub cover_freed : (m : List Block) (k : Range) (us : List Block) → IsRun (m ++ held_block k ∷ us) → IsRun (freed_between m k us)
 cover_freed [] k us h =
     let n = length-with_free k us in
@@ -238,6 +251,7 @@ cover_freed (x ∷ m) k us h =
       range = h.range;
     }
 
+-- Joining adds at most the freed block and its neighbour.
 length-joined : (s : NodeState) (k : Range) (b : Block) (us : List Block) → length (join_if s k b us) ≤ length us + 2
 length-joined Free k b us = omega arith
 length-joined Allocated k b us = omega arith
@@ -256,11 +270,13 @@ length-freed_upto [] k us = let h = length-with_upto k us in omega arith
 length-freed_upto (x ∷ []) k us = let h = length-on_upto x.state x k us in omega arith
 length-freed_upto (x ∷ y ∷ m) k us = let h = length-freed_upto (y ∷ m) k us in omega arith
 
+-- A held block is that of its range.
 held_is : (b : Block) → b.state ≡ Allocated → b ≡ held_block b.key
 held_is b h = ap (λ (s : NodeState). record { key = b.key; state = s }) h
 
 -- The block at an index of a leaf is freed.
 module _ (old new : List Block) (i : ℕ) (within : i < length old) (e : new ≡ freed_at i old) where
+  -- A list has no more blocks after one of them is freed.
   pub freed_fewer : length new ≤ length old
   freed_fewer =
       let h = length-freed_upto (take i old) (nth old i).key (drop (i + 1) old) in
@@ -268,6 +284,7 @@ module _ (old new : List Block) (i : ℕ) (within : i < length old) (e : new ≡
       let z = length-drop (i + 1) old in
       omega (arith, ap length e)
 
+  -- The held block at an index is freed.
   pub freed_here : (b : Block) (k : Range) → b ≡ nth old i → b.key.start ≡ k.start → b.key.end ≡ k.end → b.state ≡ Allocated →
       Frees k old new
   freed_here b k q s z h =
@@ -281,10 +298,12 @@ module _ (old new : List Block) (i : ℕ) (within : i < length old) (e : new ≡
         after = e ∙ ap (λ (x : Block). freed_between (take i old) x.key (drop (i + 1) old)) g;
       }
 
+  -- The gap that is reported has the number of blocks that were joined.
   pub freed_gap : (key : Range) (m n : ℕ) → m ≡ length old → n ≡ length new → IsLeaf new → Raises key old new →
       JoinsGap (record { range = key; joined = m - n }) old new
   freed_gap key m n a z l r = let h = freed_fewer in record { leaf = l; loss = omega arith; raised = r }
 
+-- The block at an index is freed between the blocks on both sides.
 pub freed_index : (m : List Block) (b : Block) (us : List Block) (i : ℕ) → i ≡ length m →
     freed_at i (m ++ b ∷ us) ≡ freed_between m b.key us
 freed_index m b us i e =
@@ -306,12 +325,14 @@ end_none : (end : End) (bs : List Block) → 0 < length bs → beyond end (take 
 end_none First bs some = refl
 end_none Last bs some = drop_all (length bs - 1 + 1) bs (omega arith)
 
+-- A list without the block at an end, by the index of the block.
 without_is : (end : End) (bs : List Block) → 0 < length bs →
     without_end end bs ≡ take (end_index end bs) bs ++ drop (end_index end bs + 1) bs
 without_is First bs some = refl
 without_is Last bs some = sym (append-nil (take (length bs - 1) bs))
     ∙ ap (λ (z : List Block). take (length bs - 1) bs ++ z) (sym (end_none Last bs some))
 
+-- A list with an extended block at an end, by the index of the block.
 extended_is : (end : End) (k : Range) (bs : List Block) → 0 < length bs → EndHeld end k bs →
     extended end k bs ≡ take (end_index end bs) bs ++ held_block k ∷ drop (end_index end bs + 1) bs
 extended_is First k bs some h =
@@ -335,12 +356,14 @@ module _ (end : End) (k : Range) (old mid : List Block) (i : ℕ) (within : i < 
   abbrev b : Block
   b = block_at_end end old
 
+  -- Both lists have the same blocks beside the one at the end.
   old_is : old ≡ lower ++ held_block b.key ∷ upper
   old_is = cut_at old (end_index end old) (omega arith) ∙ ap (λ (x : Block). lower ++ x ∷ upper) (held_is b h.held)
 
   mid_is : mid ≡ lower ++ held_block k ∷ upper
   mid_is = e ∙ extended_is end k old (omega arith) h
 
+  -- The block at the end is freed with its extended range.
   pub frees_end : (out : List Block) → out ≡ freed_at i mid → FreesEnd end k old out
   frees_end out o = record {
     lower = lower;
@@ -353,6 +376,7 @@ module _ (end : End) (k : Range) (old mid : List Block) (i : ℕ) (within : i < 
         (omega (arith, length-take-le (end_index end old) old (omega arith)));
   }
 
+  -- The gap of the list with the extended block is that of the list before.
   pub joins_end : (gap : Gap) (out : List Block) → JoinsGap gap mid out → JoinsGap gap old out
   joins_end gap out j =
       let a = ap length mid_is ∙ length-append lower (held_block k ∷ upper) in
@@ -374,9 +398,11 @@ module _ (end : End) (old new : List Block) (i : ℕ) (k : Range) (within : i < 
   old_cut : old ≡ take i old ++ nth old i ∷ drop (i + 1) old
   old_cut = cut_at old i within
 
+  -- The list loses only the block at the end.
   new_cut : new ≡ take i old ++ drop (i + 1) old
   new_cut = e ∙ without_is end old (omega arith) ∙ ap (λ (x : ℕ). take x old ++ drop (x + 1) old) (sym v)
 
+  -- The longest gap is one of the others or the block at the end.
   pub longest_without : (longest : ℕ) → longest ≡ longest_gap old →
       (longest_gap new ≤ longest) × (longest ≤ max (longest_gap new) (address_count k))
   longest_without longest f =
@@ -386,6 +412,7 @@ module _ (end : End) (old new : List Block) (i : ℕ) (k : Range) (within : i < 
       let w = ap address_count q in
       (omega arith, omega arith)
 
+  -- The same for the most alignments.
   pub most_without : (alignments : ℕ) → alignments ≡ most_alignments old →
       (most_alignments new ≤ alignments) × (alignments ≤ max (most_alignments new) (alignment_count k))
   most_without alignments f =

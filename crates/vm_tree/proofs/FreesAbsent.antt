@@ -12,6 +12,7 @@ use Rattle.vm_leaf.proofs.Tiles.{IsPart, tiles_part}
 use Rattle.vm_tree.specs.Frees.{Holds, EndHeld}
 use Rattle.vm_tree.specs.declared.end.End.TheVariants.{First, Last}
 
+-- Blocks of a cover are in order.
 order : (p : NodeState) (lo hi : ℕ) (bs : List Block) (i j : ℕ) → Tiles p lo bs hi → i < j → j < length bs →
     (nth bs i).key.end < (nth bs j).key.start
 order p lo hi [] i j t l m = absurd (omega arith)
@@ -21,6 +22,7 @@ order p lo hi (b ∷ bs) (suc i) (suc j) t l m = order b.state (b.key.end + 1) h
 
 -- The block at an index that meets a held block is that block.
 module _ (bs : List Block) (i : ℕ) (k : Range) (lo hi : ℕ) (t : Tiles Allocated lo bs hi) (l : i < length bs) (f : Holds k bs) where
+  -- A block that meets a held block is that block.
   holds_at : (nth bs i).key.start ≤ k.end → k.start ≤ (nth bs i).key.end → nth bs i ≡ held_block k
   holds_at a b =
       let s = ap (λ (x : Block). x.key.start) f.found in
@@ -33,6 +35,7 @@ module _ (bs : List Block) (i : ℕ) (k : Range) (lo hi : ℕ) (t : Tiles Alloca
         ]
       ]
 
+  -- A held block has an address.
   holds_some : k.start ≤ k.end
   holds_some =
       let s = ap (λ (x : Block). x.key.start) f.found in
@@ -40,21 +43,26 @@ module _ (bs : List Block) (i : ℕ) (k : Range) (lo hi : ℕ) (t : Tiles Alloca
       let p = tiles_part Allocated lo hi bs f.index t f.within in
       omega (arith, p.some)
 
+-- A free block is not a held one.
 pub not_held : (b : Block) (k : Range) → b.state ≡ Free → b ≡ held_block k → ⊥
 not_held b k n e = let h = ap (λ (x : Block). x.state) e in absurd (cc)
 
+-- The block that contains the start of a held block is that block.
 pub held_at : (bs : List Block) (i : ℕ) (k : Range) (x : ℕ) → IsLeaf bs → i < length bs → (nth bs i).key.start ≤ x →
     x ≤ (nth bs i).key.end → x ≡ k.start → Holds k bs → nth bs i ≡ held_block k
 held_at bs i k x h l a b e f = let s = holds_some bs i k h.lo h.hi h.tiles l f in holds_at bs i k h.lo h.hi h.tiles l f (omega arith)
     (omega arith)
 
 module _ (l r : List Block) (k : Range) (c : IsRun (l ++ r)) (n : 0 < length l) (m : 0 < length r) where
+  -- A list in two parts has the blocks of both.
   long : length (l ++ r) ≡ length l + length r
   long = length-append l r
 
+  -- Each block is a part of the cover.
   part : (i : ℕ) → i < length (l ++ r) → IsPart c.lo c.hi (l ++ r) i
   part i h = tiles_part Allocated c.lo c.hi (l ++ r) i c.tiles h
 
+  -- The blocks at the edge are the first of the right part and the last of the left part.
   at_edge : nth (l ++ r) (length l) ≡ nth r 0
   at_edge = let z : length l - length l ≡ 0 = omega arith in get_or-append_right l r (length l) (length l) blank refl (omega arith)
       ∙ ap (nth r) z
@@ -62,9 +70,11 @@ module _ (l r : List Block) (k : Range) (c : IsRun (l ++ r)) (n : 0 < length l) 
   before_edge : nth (l ++ r) (length l - 1) ≡ nth l (length l - 1)
   before_edge = get_or_append_left l r blank (length l - 1) (omega arith)
 
+  -- A held block with a lower index than the edge is in the left part.
   in_left : (f : Holds k (l ++ r)) → f.index < length l → Holds k l
   in_left f h = record { index = f.index; within = h; found = sym (get_or_append_left l r blank f.index h) ∙ f.found }
 
+  -- A held block with a higher index than the edge is in the right part.
   in_right : (f : Holds k (l ++ r)) → length l ≤ f.index → Holds k r
   in_right f h =
       let z = long in
@@ -75,6 +85,7 @@ module _ (l r : List Block) (k : Range) (c : IsRun (l ++ r)) (n : 0 < length l) 
             (get_or-append_right l r (length l) f.index blank refl h) ∙ f.found;
       }
 
+  -- A held block that starts below the right part is in the left part.
   pub held_left : k.start < start_of r → Holds k (l ++ r) → Holds k l
   held_left h f =
       elim (cases_lt f.index (length l)) [
@@ -92,6 +103,7 @@ module _ (l r : List Block) (k : Range) (c : IsRun (l ++ r)) (n : 0 < length l) 
             )
       ]
 
+  -- A held block that starts at the right part or above is in the right part.
   pub held_right : start_of r ≤ k.start → Holds k (l ++ r) → Holds k r
   held_right h f =
       elim (cases_lt f.index (length l)) [

@@ -20,6 +20,7 @@ use Rattle.vm_tree.proofs.FreesAbsent.{held_left, held_right, held_below}
 use Rattle.vm_tree.proofs.FreesTrees.{cover_start, cover_order, can_l, can_r, many_l, many_r, edge_is, same_start}
 use Rattle.vm_tree.proofs.Lists.{last_append}
 
+-- The path to an end enters at least one node, and at most one at each height.
 pub end_nodes : (end : End) (s : Shape) → (1 ≤ nodes_to_end end s) × (nodes_to_end end s ≤ height_of s)
 end_nodes end (Tip bs) = (omega arith, omega arith)
 end_nodes First (Fork l r) = let h = end_nodes First l in (omega arith, omega (arith, h.1))
@@ -72,6 +73,7 @@ counted_above None n old x y e s = s
 counted_above (Some f) n old x y e s = omega arith
 
 -- ---- A free enters the path to its leaf
+-- The path to the first block is the path to the first address.
 first_path : (x : ℕ) (s : Shape) → CanChange s → x ≡ start_of (blocks s) → nodes_to_address x s ≡ nodes_to_end First s
 first_path x (Tip bs) h e = address_leaf x bs
 first_path x (Fork l r) h e =
@@ -82,6 +84,7 @@ first_path x (Fork l r) h e =
     let p = address_left x l r (omega arith) in
     omega arith
 
+-- The path to the last block is the path to its start.
 last_path : (x : ℕ) (s : Shape) → CanChange s → x ≡ (block_at_end Last (blocks s)).key.start → nodes_to_address x s ≡ nodes_to_end Last s
 last_path x (Tip bs) h e = address_leaf x bs
 last_path x (Fork l r) h e =
@@ -94,10 +97,12 @@ last_path x (Fork l r) h e =
     let q = address_right x l r (omega (arith, p.from)) in
     omega arith
 
+-- A free beside the edge enters the path to the near side.
 near_nodes : (end : End) (near far : Shape) → nodes_to_end (opposite end) near ≤ nodes_beside end near far
 unfolding nodes_beside
 near_nodes end near far = omega arith
 
+-- A free enters the path to its block.
 pub free_path : (k : Range) (s : Shape) → CanChange s → Holds k (blocks s) → nodes_to_address k.start s ≤ nodes_to_free k s
 free_path k (Tip bs) h f = let a = address_leaf k.start bs in let b = free_leaf k bs in omega arith
 free_path k (Fork l r) h f =

@@ -73,15 +73,18 @@ use Rattle.vm_tree.proofs.Frees.{
 }
 use Rattle.vm_tree.proofs.FreesTrees.{cover_start, cover_end, cover_order, end_length, freed_length, can_l, can_r, many_l, many_r, edge_is, child_can, FreesIn}
 
+-- The ends of a run are those of a range.
 cover_range : (bs : List Block) → IsRun bs → IsRange (start_of bs) (end_of bs)
 cover_range bs h = let a = cover_start bs h in let b = cover_end bs h in
     (omega (arith, h.range.0), omega (arith, h.range.1), λ y. omega (arith, h.range.2))
 
+-- The second block starts right after the first one.
 next_start : (bs : List Block) → IsRun bs → 1 < length bs → start_of (drop 1 bs) ≡ (nth bs 0).key.end + 1
 next_start [] h n = absurd (omega arith)
 next_start (b ∷ []) h n = absurd (omega arith)
 next_start (b ∷ c ∷ bs) h n = h.tiles.3.0
 
+-- The address after the first of several blocks is not past MAX.
 next_fits : (bs : List Block) → IsRun bs → 1 < length bs → ((nth bs 0).key.end + 1 ≤ MAX) × (start_of bs ≤ (nth bs 0).key.end)
 next_fits bs h n =
     let p = tiles_part Allocated h.lo h.hi bs 0 h.tiles (omega arith) in
@@ -89,18 +92,22 @@ next_fits bs h n =
     let e = p.next n in
     (omega (arith, h.range.1, q.some, q.upto), p.some)
 
+-- The last of several blocks does not start at 0.
 last_fits : (bs : List Block) → IsRun bs → 1 < length bs →
     (0 < (nth bs (length bs - 1)).key.start) × ((nth bs (length bs - 1)).key.start ≤ end_of bs)
 last_fits bs h n = let p = tiles_part Allocated h.lo h.hi bs (length bs - 1) h.tiles (omega arith) in
     (omega (arith, p.above (omega arith)), p.some)
 
+-- A run in which a block is freed is a run.
 frees_cover : (k : Range) (xs ys : List Block) → Frees k xs ys → IsRun xs → IsRun ys
 frees_cover k xs ys f h = subst IsRun (sym f.after) (cover_freed f.lower k f.upper (subst IsRun f.before h))
 
+-- A block that does not end at the end of the list has one after it.
 upper_some : (l : List Block) (k : Range) (m us : List Block) → l ≡ m ++ held_block k ∷ us → (end_of l ≡ k.end → ⊥) → 0 < length us
 upper_some l k m [] e u = absurd (u (ap end_of e ∙ end_append m (held_block k ∷ []) (omega arith)))
 upper_some l k m (b ∷ us) e u = omega arith
 
+-- A block that does not start at the start of the list has one before it.
 lower_some : (r : List Block) (k : Range) (m us : List Block) → r ≡ m ++ held_block k ∷ us → (start_of r ≡ k.start → ⊥) → 0 < length m
 lower_some r k [] us e u = absurd (u (ap start_of e))
 lower_some r k (b ∷ m) us e u = omega arith
@@ -128,6 +135,7 @@ abbrev pub with_gap : End → Range → Range → Range
 with_gap First k g = between k.start g.end
 with_gap Last k g = between g.start k.end
 
+-- The joined range has the same end on the side of the child.
 same_inner : (end : End) (k g : Range) → inner (opposite end) (with_gap end k g) ≡ inner (opposite end) k
 same_inner First k g = refl
 same_inner Last k g = refl
@@ -166,10 +174,12 @@ pub far_can : (end : End) (c x : Shape) → CanChange (fork_at end c x) → CanC
 far_can First c x h = can_r c x h
 far_can Last c x h = can_l x c h
 
+-- The other child has more than one block.
 pub far_many : (end : End) (c x : Shape) → CanChange (fork_at end c x) → 1 < length (blocks x)
 far_many First c x h = many_r c x h
 far_many Last c x h = many_l x c h
 
+-- The block of the child at the edge can be extended to the range k.
 pub near_extends : (end : End) (k : Range) (c x : Shape) → CanChange (fork_at end c x) → TouchesEdge end k (edge_of end c x) →
     CanExtend (opposite end) k (blocks c)
 near_extends First k c x h e =
@@ -180,6 +190,7 @@ near_extends Last k c x h e =
     let g = cover_range (blocks c) (can_r x c h).run in
     (omega arith, (omega (arith, g.0), omega (arith, g.1), λ y. omega (arith, g.2)))
 
+-- The block of the child at the edge can be extended over the gap beside it.
 pub gap_extends : (end : End) (k : Range) (c x : Shape) → CanChange (fork_at end c x) →
     CanExtend (opposite end) (with_gap end k (block_at_end end (blocks x)).key) (blocks c)
 gap_extends First k c x h =
@@ -198,6 +209,7 @@ abbrev pub edge_past : End → Range → ℕ
 edge_past First z = z.end + 1
 edge_past Last z = z.start
 
+-- The range from the lower to the higher end is the range with the gap.
 hull_is : (end : End) (k : Range) (c x : Shape) → CanChange (fork_at end c x) → TouchesEdge end k (edge_of end c x) → k.start ≤ k.end
     → between (min k.start (block_at_end end (blocks x)).key.start) (max k.end (block_at_end end (blocks x)).key.end)
     ≡ with_gap end k (block_at_end end (blocks x)).key
@@ -214,6 +226,7 @@ hull_is Last k c x h e o =
     let z : max k.end (nth (blocks x) (length (blocks x) - 1)).key.end ≡ k.end = omega arith in
     rw (s, z) refl
 
+-- A held range that touches the edge is that of the block beside it.
 held_beside : (end : End) (k : Range) (c x : Shape) → CanChange (fork_at end c x) → TouchesEdge end k (edge_of end c x) →
     Holds k (blocks (fork_at end c x)) → EndHeld (opposite end) k (blocks c)
 held_beside First k c x h e f = held_below (blocks c) (blocks x) k h.run (omega (arith, many_l c x h)) (omega (arith, many_r c x h)) e f
@@ -224,6 +237,7 @@ abbrev Seals : End → Range → Range → List Block → List Block → Type 0
 Seals First k z x y = (m : List Block) → freed_between m z [] ++ y ≡ freed_between m k x
 Seals Last k z x y = (us : List Block) → y ++ with_free z us ≡ freed_between x k us
 
+-- Beside a held block a gap stays the same.
 seals_held : (end : End) (k : Range) (x : List Block) → 0 < length x → (block_at_end end x).state ≡ Allocated → Seals end k k x x
 seals_held First k x n st = λ m.
     ap (λ (u : List Block). freed_between m k [] ++ u) (cut_at x 0 n) ∙ freed_held_after m (nth x 0) (drop 1 x) k st
@@ -232,6 +246,7 @@ seals_held Last k x n st = λ us.
     ap (λ (u : List Block). u ++ with_free k us) (cut_last x n) ∙ freed_held_before (take (length x - 1) x) (nth x (length x - 1)) us k st
     ∙ ap (λ (u : List Block). freed_between u k us) (sym (cut_last x n))
 
+-- Beside another gap it is joined with that gap, which is dropped.
 seals_gap : (end : End) (k : Range) (x : List Block) → 0 < length x → (block_at_end end x).state ≡ Free →
     Seals end k (with_gap end k (block_at_end end x).key) x (without_end end x)
 seals_gap First k x n st = λ m. freed_gap_after m (nth x 0) (drop 1 x) k.start k.end st ∙ ap (freed_between m k) (sym (cut_at x 0 n))
@@ -241,6 +256,7 @@ seals_gap Last k x n st = λ us. freed_gap_before (take (length x - 1) x) (nth x
 same_range : (k z : Range) → z.start ≡ k.start → z.end ≡ k.end → z ≡ k
 same_range k z s e = ap (λ (v : ℕ). record { start = v; end = z.end }) s ∙ ap (λ (v : ℕ). record { start = k.start; end = v }) e
 
+-- A block that is freed beside the edge is freed in the node.
 frees_beside : (end : End) (k z : Range) (c x d y : Shape) → CanChange (fork_at end c x) → TouchesEdge end k (edge_of end c x) →
     inner (opposite end) z ≡ inner (opposite end) k
     → FreesEnd (opposite end) z (blocks c) (blocks d) → Seals end k z (blocks x) (blocks y) →
@@ -267,6 +283,7 @@ frees_beside Last k z c x d y h e i f p =
       after = ap (λ (u : List Block). blocks y ++ u) (f.after ∙ ap (λ (u : List Block). freed_between u z f.upper) f.none) ∙ p f.upper;
     }
 
+-- A range that touches the stored start of the right child touches the edge.
 pub beside_edge : (end : End) (k : Range) (at : ℕ) (near far : Link) → IsNode (node_at end at near far) → TouchesEdge end k at →
     TouchesEdge end k (edge_of end (side near) (side far))
 beside_edge First k at near far n e = e ∙ n.at
@@ -289,17 +306,20 @@ pub record Beside (end : End) (k z : Range) (c x : Shape) : Type 0 where
   pub edge : TouchesEdge end k (edge_of end c x)
   pub gap : z ≡ with_gap end k (block_at_end end (blocks x)).key
 
+-- The range together with the gap beside it.
 pub gap_beside : (end : End) (k : Range) (near far : Link) (b : Block) (s l : ℕ) → CanChange (fork_at end (side near) (side far)) →
     TouchesEdge end k (edge_of end (side near) (side far)) → k.start ≤ k.end
     → b ≡ block_at_end end (blocks (side far)) → s ≡ min k.start b.key.start → l ≡ max k.end b.key.end →
     Beside end k (between s l) (side near) (side far)
 gap_beside end k near far b s l h e o q i j = record { can = h; edge = e; gap = rw (i, j, q) (hull_is end k (side near) (side far) h e o) }
 
+-- A joined range that another block follows ends below MAX.
 gap_fits : (end : End) (k z : Range) (c x : Shape) → Beside end k z c x → end ≡ First → z.end + 1 ≤ MAX
 gap_fits First k z c x q e = let f = ap (λ (v : Range). v.end) q.gap in let g = next_fits (blocks x) (can_r c x q.can).run
     (many_r c x q.can) in omega (arith, g.0)
 gap_fits Last k z c x q e = absurd (cc)
 
+-- The children are a node with the moved edge.
 gap_node : (end : End) (k z : Range) (c x : Shape) → Beside end k z c x → (near far : Link) (at : ℕ) →
     FreesEnd (opposite end) z (blocks c) (blocks (side near)) → blocks (side far) ≡ without_end end (blocks x)
     → IsSummed near → IsSummed far → at ≡ edge_past end z → IsNode (node_at end at near far)
@@ -317,15 +337,18 @@ gap_node Last k z c x q near far at f w s t a =
 
 -- The gap is dropped, and c is freed together with it.
 module _ {end : End} {k z : Range} {c x : Shape} (q : Beside end k z c x) where
+  -- The joined range has the same end on the side of the child.
   inner_is : inner (opposite end) z ≡ inner (opposite end) k
   inner_is = ap (inner (opposite end)) q.gap ∙ same_inner end k _
 
+  -- The block of the child can be extended to the joined range.
   pub beside_extends : CanExtend (opposite end) z (blocks c)
   beside_extends = rw q.gap (gap_extends end k c x q.can)
 
   pub beside_fits : end ≡ First → z.end + 1 ≤ MAX
   beside_fits e = gap_fits end k z c x q e
 
+  -- If the range is not held, nothing is freed.
   pub beside_none : (d : Shape) → (d ≡ c) × ¬ EndHeld (opposite end) z (blocks c) → FreesBeside end k c x d x None
   beside_none d s =
       under_child end k c x d q.can None (
@@ -339,10 +362,12 @@ module _ {end : End} {k z : Range} {c x : Shape} (q : Beside end k z c x) where
     pub beside_few : g.joined ≤ 1
     beside_few = omega (arith, end_length (opposite end) z (blocks c) (blocks (side near)) f.0, f.1.loss)
 
+    -- The changed children are a node with the moved edge.
     pub beside_node : (at : ℕ) → blocks (side far) ≡ without_end end (blocks x) → IsSummed near → IsSummed far → at ≡ edge_past end z →
         IsNode (node_at end at near far)
     beside_node at w s t a = gap_node end k z c x q near far at f.0 w s t a
 
+    -- The freed block is joined with the gap beside the edge.
     pub beside_gap : (ch : Change) → (block_at_end end (blocks x)).state ≡ Free → blocks (side far) ≡ without_end end (blocks x) →
         Reduces ch 1 x (side far)
         → FreesBeside end k c x (side near) (side far) (Some (record { change = Structure; joined = g.joined + 1 }))
@@ -356,18 +381,21 @@ abbrev pub IsInside : End → Range → ℕ → Type 0
 IsInside First k at = (k.start < at) × (k.end + 1 ≢ at)
 IsInside Last k at = at < k.start
 
+-- A held range that does not touch the edge is held in the child.
 inside_held : (end : End) (k : Range) (c x : Shape) → CanChange (fork_at end c x) → IsInside end k (edge_of end c x) →
     Holds k (blocks (fork_at end c x)) → Holds k (blocks c)
 inside_held First k c x h i f = held_left (blocks c) (blocks x) k h.run (omega (arith, many_l c x h)) (omega (arith, many_r c x h)) i.0 f
 inside_held Last k c x h i f = held_right (blocks x) (blocks c) k h.run (omega (arith, many_l x c h)) (omega (arith, many_r x c h))
     (omega arith) f
 
+-- A block that is freed in the child is freed in the node.
 inside_frees : (end : End) (k : Range) (c x d : Shape) → CanChange (fork_at end c x) → IsInside end k (edge_of end c x) →
     Frees k (blocks c) (blocks d) → Frees k (blocks (fork_at end c x)) (blocks (fork_at end d x))
 inside_frees First k c x d h i f = inside_left (blocks c) (blocks x) (blocks d) k h.run (omega (arith, many_l c x h))
     (omega (arith, many_r c x h)) i.1 f
 inside_frees Last k c x d h i f = inside_right (blocks x) (blocks c) (blocks d) k (λ z. omega arith) f
 
+-- The answer of the child is the answer of the node.
 pub under_inside : (end : End) (k : Range) (c x d : Shape) → CanChange (fork_at end c x) → IsInside end k (edge_of end c x)
     → (o : Option Freed) →
     MatchOption o ((d ≡ c) × ¬ Holds k (blocks c)) (λ (g : Freed). Frees k (blocks c) (blocks d) × Reduces g.change g.joined c d) →

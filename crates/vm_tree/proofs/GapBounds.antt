@@ -61,6 +61,7 @@ one_more m f hx fx wx hy fy wy p q u v s o =
     let both : m * (fx + fy) ≤ m * f = mul-le-mul (omega arith) s in
     omega arith
 
+-- The blocks of two lists that pass a test are those of each list.
 pub among_append : (q : Block → Bool) (xs ys : List Block) → length (filter q (xs ++ ys)) ≡ length (filter q xs) + length (filter q ys)
 among_append q xs ys = ap length (filter-append q xs ys) ∙ length-append (filter q xs) (filter q ys)
 
@@ -77,6 +78,7 @@ not_below x y p = rw (le-ltb x y p) refl
 below_most : (x y : ℕ) → below x y ≤ 1
 below_most x y = ⊎_elim (λ (p : x < y). omega (arith, below_is x y p)) (λ (p : y ≤ x). omega (arith, not_below x y p)) (cases_lt x y)
 
+-- `below` is not less for a lower x and a higher y.
 below_rises : (x y v w : ℕ) → v ≤ x → y ≤ w → below x y ≤ below v w
 below_rises x y v w p q =
     ⊎_elim
@@ -89,6 +91,7 @@ if_entered : (t : Bool) (count h v c : ℕ) → count ≤ h * (v + c) → cond t
 if_entered true count h v c p = p
 if_entered false count h v c p = omega arith
 
+-- A number under a condition is at most the number.
 if_at_most : (t : Bool) (x : ℕ) → cond t x 0 ≤ x
 if_at_most true x = omega arith
 if_at_most false x = omega arith
@@ -100,14 +103,17 @@ both_more First false right x y most p = p
 both_more Last left true x y most p = omega arith
 both_more Last left false x y most p = omega arith
 
+-- A count under a condition is limited if it is limited when the condition is true.
 if_may_fit : (test : Bool) (count most : ℕ) → (test ≡ true → count ≤ most) → cond test count 0 ≤ most
 if_may_fit true count most f = f refl
 if_may_fit false count most f = omega arith
 
+-- A leaf counts at most one node.
 one_or_none : (test : Bool) (most : ℕ) → 1 ≤ most → cond test 1 0 ≤ most
 one_or_none true most p = p
 one_or_none false most p = omega arith
 
+-- A bound with fewer than two cuts is a bound with two.
 widened : (h v c count : ℕ) → c ≤ 2 → count ≤ h * (v + c) → count ≤ h * (v + 2)
 widened h v c count p q = let k : h * (v + c) ≤ h * (v + 2) = mul-le-mul (omega arith) (omega arith) in omega arith
 
@@ -120,6 +126,7 @@ record AreSides (p : NodeState) (lo hi : ℕ) (l r : List Block) : Type 0 where
   from : lo < start_of r
   upto : start_of r ≤ hi
 
+-- A cover starts at the start of its first block, which is at most its end.
 first_start : (p : NodeState) (lo hi : ℕ) (bs : List Block) → 0 < length bs → Tiles p lo bs hi → (start_of bs ≡ lo) × (lo ≤ hi)
 first_start p lo hi [] z t = absurd (omega arith)
 first_start p lo hi (b ∷ bs) z t = (t.0, omega (arith, t.1, upto b.state (b.key.end + 1) hi bs t.3))
@@ -128,6 +135,7 @@ first_start p lo hi (b ∷ bs) z t = (t.0, omega (arith, t.1, upto b.state (b.ke
     upto p lo hi [] t = omega (arith, t)
     upto p lo hi (b ∷ bs) t = omega (arith, t.1, upto b.state (b.key.end + 1) hi bs t.3)
 
+-- A cover in two parts has an edge between them.
 sides : (p : NodeState) (lo hi : ℕ) (l r : List Block) → 0 < length l → 0 < length r → Tiles p lo (l ++ r) hi → AreSides p lo hi l r
 sides p lo hi l r a b t =
     let c = cut_tiles p lo hi l r a t in
@@ -147,10 +155,12 @@ sides p lo hi l r a b t =
 abbrev HasOneWithoutPlace : ℕ → ℕ → (Block → Bool) → Type 0
 HasOneWithoutPlace n a q = (bs : List Block) → may_fit_in n a bs ≡ true → list_any (has_fit n a) bs ≡ false → 1 ≤ length (filter q bs)
 
+-- A gap that is long enough and has no fit is misaligned.
 long_is_misaligned : (n a : ℕ) (b : Block) → n ≤ free_length b → has_fit n a b ≡ false → length (filter (is_misaligned n a) (b ∷ [])) ≡ 1
 unfolding is_misaligned
 long_is_misaligned n a b p e = rw (le-leb n (free_length b) p, e) refl
 
+-- If the longest gap is long enough and nothing fits, a gap is misaligned.
 misaligned_in_long : (n a : ℕ) (bs : List Block) → 0 < n → n ≤ longest_gap bs → list_any (has_fit n a) bs ≡ false →
     1 ≤ length (filter (is_misaligned n a) bs)
 misaligned_in_long n a [] z p e = absurd (omega arith)
@@ -162,6 +172,7 @@ misaligned_in_long n a (b ∷ bs) z p e =
     (λ (k : n ≤ free_length b). omega (arith, split, long_is_misaligned n a b k none.0))
     (cases_lt (free_length b) n)
 
+-- If a gap is aligned and nothing fits, a gap is too short.
 too_short_in_aligned : (n a : ℕ) (bs : List Block) → list_any (has_aligned a) bs ≡ true → list_any (has_fit n a) bs ≡ false →
     1 ≤ length (filter (is_too_short n a) bs)
 unfolding is_too_short
@@ -174,23 +185,28 @@ too_short_in_aligned n a (b ∷ bs) p e =
       | false ↦ λ f. omega (arith, split, too_short_in_aligned n a bs (rw f at p) none.1)
     ] refl
 
+-- Blocks that may have a fit have a gap that is long enough and one that is aligned.
 searched_parts : (n a : ℕ) (bs : List Block) → may_fit_in n a bs ≡ true → (n ≤ longest_gap bs) × (list_any (has_aligned a) bs ≡ true)
 unfolding may_fit_in
 searched_parts n a bs e =
     let parts = and_parts (leb n (longest_gap bs)) (list_any (has_aligned a) bs) e in
     (leb-true _ _ parts.0, parts.1)
 
+-- Blocks that are searched in vain have a misaligned gap.
 pub misaligned_in_vain : (n a : ℕ) → 0 < n → HasOneWithoutPlace n a (is_misaligned n a)
 misaligned_in_vain n a z bs k e = misaligned_in_long n a bs z (searched_parts n a bs k).0 e
 
+-- Blocks that are searched in vain have a gap that is too short.
 pub too_short_in_vain : (n a : ℕ) → HasOneWithoutPlace n a (is_too_short n a)
 too_short_in_vain n a bs k e = too_short_in_aligned n a bs (searched_parts n a bs k).1 e
 
 -- ---- A window
 module _ (w : Range) (n a : ℕ) (q : Block → Bool) where
+  -- The parts of blocks that pass a test are those of each child.
   parts_split : (l r : Shape) → parts_passing w q (blocks l ++ blocks r) ≡ parts_passing w q (blocks l) + parts_passing w q (blocks r)
   parts_split l r = among_append (on_part w q) (blocks l) (blocks r)
 
+  -- If the node has no place, neither child has one.
   none_split : (l r : Shape) → list_any (has_fit_in w n a) (blocks l ++ blocks r) ≡ false
       → (list_any (has_fit_in w n a) (blocks l) ≡ false) × (list_any (has_fit_in w n a) (blocks r) ≡ false)
   none_split l r e = or_parts (list_any (has_fit_in w n a) (blocks l)) (list_any (has_fit_in w n a) (blocks r))
@@ -200,13 +216,16 @@ module _ (w : Range) (n a : ℕ) (q : Block → Bool) where
   same_part : (b : Block) → w.start ≤ b.key.start → b.key.end ≤ w.end → cut_to w b ≡ b
   same_part b p u = ap (λ (v : Range). record b { key = v }) (same_range (common w b.key) b.key (omega (arith, p)) (omega (arith, u)))
 
+  -- A block in the window passes a test if and only if its part does.
   part_passes : (b : Block) → w.start ≤ b.key.start → b.key.start ≤ b.key.end → b.key.end ≤ w.end → on_part w q b ≡ q b
   part_passes b p m u = rw (le-leb (common w b.key).start (common w b.key).end (omega (arith, p, m, u)), same_part b p u) refl
 
+  -- Each block of a cover ends at its end or before it.
   ends : (p : NodeState) (lo hi : ℕ) (b : Block) (bs : List Block) → Tiles p lo (b ∷ bs) hi → b.key.end ≤ hi
   ends p lo hi b [] t = omega (arith, t.3)
   ends p lo hi b (x ∷ bs) t = omega (arith, t.3.0, t.3.1, ends b.state (b.key.end + 1) hi x bs t.3)
 
+  -- If all blocks are in the window, their fits are those in it.
   same_fits : (p : NodeState) (lo hi : ℕ) (bs : List Block) → Tiles p lo bs hi → w.start ≤ lo → hi ≤ w.end →
       list_any (has_fit_in w n a) bs ≡ list_any (has_fit n a) bs
   same_fits p lo hi [] k s u = refl
@@ -214,6 +233,7 @@ module _ (w : Range) (n a : ℕ) (q : Block → Bool) where
       let e = ends p lo hi b bs k in
       rw (same_part b (omega (arith, k.0)) (omega arith), same_fits b.state (b.key.end + 1) hi bs k.3 (omega (arith, k.0, k.1)) u) refl
 
+  -- If all blocks are in the window, the parts that pass a test are the blocks that do.
   same_parts : (p : NodeState) (lo hi : ℕ) (bs : List Block) → Tiles p lo bs hi → w.start ≤ lo → hi ≤ w.end →
       parts_passing w q bs ≡ length (filter q bs)
   same_parts p lo hi [] k s u = refl
@@ -242,6 +262,7 @@ module _ (w : Range) (n a : ℕ) (q : Block → Bool) where
   paths First lo hi = lower lo + 1
   paths Last lo hi = 1 + upper hi
 
+  -- At least one path and at most two are entered.
   paths_some : (end : End) (lo hi : ℕ) → 1 ≤ paths end lo hi
   paths_some First lo hi = omega arith
   paths_some Last lo hi = omega arith
@@ -251,6 +272,7 @@ module _ (w : Range) (n a : ℕ) (q : Block → Bool) where
   paths_most Last lo hi = omega (arith, below_most w.end hi)
 
   module _ (some : HasOneWithoutPlace n a q) where
+    -- A subtree that is searched in vain is cut by the window or has such a gap.
     one_at_least : (p : NodeState) (lo hi : ℕ) (bs : List Block) → Tiles p lo bs hi → may_fit_in n a bs ≡ true →
         list_any (has_fit_in w n a) bs ≡ false → 1 ≤ parts_passing w q bs + (lower lo + upper hi)
     one_at_least s lo hi bs k m e =
@@ -267,6 +289,7 @@ module _ (w : Range) (n a : ℕ) (q : Block → Bool) where
   abbrev both_cuts : ℕ → ℕ → ℕ → ℕ
   both_cuts at x y = cond (ltb w.start at) x 0 + cond (leb at w.end) y 0
 
+  -- The cuts of the children are limited if they are in each position of the window.
   by_sides : (at x y most : ℕ) → (w.start < at → at ≤ w.end → x + y ≤ most) → (w.start < at → w.end < at → x ≤ most) →
       (at ≤ w.start → at ≤ w.end → y ≤ most) → both_cuts at x y ≤ most
   by_sides at x y most both left right =
@@ -284,15 +307,19 @@ module _ (w : Range) (n a : ℕ) (q : Block → Bool) where
       (cases_lt w.start at)
 
   module _ (lo hi at : ℕ) (p : lo < at) (u : at ≤ hi) where
+    -- A child that ends within the window is not cut above.
     no_upper : at ≤ w.end → upper (at - 1) ≡ 0
     no_upper j = not_below w.end (at - 1) (omega arith)
 
+    -- A child that starts within the window is not cut below.
     no_lower : w.start < at → lower at ≡ 0
     no_lower i = not_below at w.start (omega arith)
 
+    -- The window cuts the left child above at most as often as the node.
     less_upper : upper (at - 1) ≤ upper hi
     less_upper = below_rises w.end (at - 1) w.end hi (omega arith) (omega arith)
 
+    -- The window cuts the right child below at most as often as the node.
     less_lower : lower at ≤ lower lo
     less_lower = below_rises at w.start lo w.start (omega arith) (omega arith)
 
@@ -321,6 +348,7 @@ module _ (w : Range) (n a : ℕ) (q : Block → Bool) where
         (λ i j. omega (arith, below_most at w.start))
 
   -- ---- The nodes of a subtree, if they are at most its height for each of so many paths
+  -- The step at a node with two children.
   step : (l r : Shape) (first second x y most : ℕ) → first ≤ height_of l * (parts_passing w q (blocks l) + x) →
       second ≤ height_of r * (parts_passing w q (blocks r) + y) → x + y ≤ most → 1 ≤ parts_passing w q (blocks l ++ blocks r) + most
       → first + second + 1 ≤ height_of (Fork l r) * (parts_passing w q (blocks l ++ blocks r) + most)
@@ -330,11 +358,13 @@ module _ (w : Range) (n a : ℕ) (q : Block → Bool) where
       (parts_passing w q (blocks l) + x) first (height_of r) (parts_passing w q (blocks r) + y) second (omega arith) (omega arith) p u
       (omega (arith, split, c)) o
 
+  -- The blocks of two children have an edge between them.
   child_sides : (p : NodeState) (lo hi : ℕ) (l r : Shape) → HasFullLeaves (Fork l r) → Tiles p lo (blocks l ++ blocks r) hi →
       AreSides p lo hi (blocks l) (blocks r)
   child_sides p lo hi l r f k = sides p lo hi (blocks l) (blocks r) (omega (arith, full_some l f.0)) (omega (arith, full_some r f.1)) k
 
   module _ (some : HasOneWithoutPlace n a q) where
+    -- A search without a result enters at most the height for each such gap and for each cut.
     search_in_vain : (end : End) (p : NodeState) (lo hi : ℕ) (s : Shape) → HasFullLeaves s → Tiles p lo (blocks s) hi →
         list_any (has_fit_in w n a) (blocks s) ≡ false →
         nodes_of_search end w n a s ≤ height_of s * (parts_passing w q (blocks s) + (lower lo + upper hi))
@@ -355,6 +385,7 @@ module _ (w : Range) (n a : ℕ) (q : Block → Bool) where
         (step l r _ _ _ _ (lower lo + upper hi) left right (cuts_in_vain lo hi at i.from i.upto)
         (one_at_least some p lo hi (blocks l ++ blocks r) k m e)))
 
+    -- A search enters at most the height for each such gap and for each path.
     search_in_most : (end : End) (p : NodeState) (lo hi : ℕ) (s : Shape) → HasFullLeaves s → Tiles p lo (blocks s) hi →
         nodes_of_search end w n a s ≤ height_of s * (parts_passing w q (blocks s) + paths end lo hi)
     unfolding nodes_of_search
@@ -412,10 +443,12 @@ module _ (w : Range) (n a : ℕ) (q : Block → Bool) where
             (step l r _ _ _ _ (1 + upper hi) first (vain_right Last (d refl)) (cuts_to_left lo hi at i.from i.upto) (omega arith))
 
 -- ---- No node is entered twice
+-- A number under a condition is at most a number that is not less.
 upto_all : (entered : Bool) (x y : ℕ) → x ≤ y → cond entered x 0 ≤ y
 upto_all true x y l = l
 upto_all false x y l = omega arith
 
+-- A search enters at most all nodes.
 pub search_all : (end : End) (w : Range) (n a : ℕ) (s : Shape) → nodes_of_search end w n a s ≤ node_count s
 unfolding nodes_of_search
 search_all end w n a (Tip bs) = upto_all (may_fit_in n a bs) 1 1 (omega arith)
@@ -427,6 +460,7 @@ search_all end w n a (Fork l r) =
     (both_more end (list_any (has_fit_in w n a) (blocks l)) (list_any (has_fit_in w n a) (blocks r)) _ _ _ (omega (arith, left, right)))
 
 -- ---- A whole tree
+-- A cover ends at the end of its last block.
 last_end : (p : NodeState) (lo hi : ℕ) (bs : List Block) → 0 < length bs → Tiles p lo bs hi → end_of bs ≡ hi
 last_end p lo hi bs z t =
     let q = tiles_part p lo hi bs (length bs - 1) t (omega arith) in
@@ -437,23 +471,28 @@ module _ (w : Range) (n a : ℕ) (q : Block → Bool) (some : HasOneWithoutPlace
   starts : start_of (blocks s) ≡ h.lo
   starts = (first_start Allocated h.lo h.hi (blocks s) h.some h.tiles).0
 
+  -- The blocks end at the end of the cover.
   stops : end_of (blocks s) ≡ h.hi
   stops = last_end Allocated h.lo h.hi (blocks s) h.some h.tiles
 
+  -- A window over all blocks cuts nothing below or above.
   cut_below : IsWholeWindow w (blocks s) → below h.lo w.start ≡ 0
   cut_below c = not_below h.lo w.start (omega (arith, c.from, starts))
 
   cut_above : IsWholeWindow w (blocks s) → below w.end h.hi ≡ 0
   cut_above c = not_below w.end h.hi (omega (arith, c.upto, stops))
 
+  -- A bound for one number of paths is one for an equal number.
   exact : (c d : ℕ) (count : ℕ) → c ≡ d → count ≤ height_of s * (parts_passing w q (blocks s) + c) →
       count ≤ height_of s * (parts_passing w q (blocks s) + d)
   exact c d count e p = subst (λ (v : ℕ). count ≤ height_of s * (parts_passing w q (blocks s) + v)) e p
 
+  -- A search in a window over all blocks enters one path.
   paths_whole : (end : End) → IsWholeWindow w (blocks s) → paths w n a q end h.lo h.hi ≡ 1
   paths_whole First c = omega (arith, cut_below c)
   paths_whole Last c = omega (arith, cut_above c)
 
+  -- The number of nodes is limited by the gaps without a place that pass the test.
   pub search_count : (end : End) → IsSearchCount w n a (parts_passing w q (blocks s)) s (nodes_of_search end w n a s)
   search_count end =
       let most = search_in_most w n a q some end Allocated h.lo h.hi s f h.tiles in
@@ -478,6 +517,7 @@ lesser w n a u v s count g h =
     (λ (l : v ≤ u). let e : v ≡ min u v = omega arith in subst (λ (x : ℕ). IsSearchCount w n a x s count) e h)
     (cases_lt u v)
 
+-- The number of nodes is limited by the gaps without a place.
 pub all_searches : (end : End) (w : Range) (n a : ℕ) (s : Shape) → 0 < n → HasFullLeaves s → IsRun (blocks s) →
     IsSearchCount w n a (gaps_without_place w n a (blocks s)) s (nodes_of_search end w n a s)
 all_searches end w n a s z f h =

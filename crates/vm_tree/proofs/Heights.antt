@@ -13,14 +13,17 @@ use Rattle.vm_tree.specs.Heights.{held_blocks, one_if_held, IsLowTree}
 use Rattle.vm_tree.proofs.Trees.{high}
 
 -- ---- The Fibonacci numbers
+-- A Fibonacci number is the sum of the two before it.
 fib_sum : (n : ℕ) → fibonacci (suc (suc n)) ≡ fibonacci n + fibonacci (suc n)
 unfolding fibonacci fibonacci_pair
 fib_sum n = refl
 
+-- The first Fibonacci numbers.
 fib_low : (fibonacci 0 ≡ 0) × (fibonacci 1 ≡ 1) × (fibonacci 2 ≡ 1) × (fibonacci 3 ≡ 2)
 unfolding fibonacci fibonacci_pair
 fib_low = (refl, refl, refl, refl)
 
+-- The Fibonacci numbers do not fall.
 fib_more : (n : ℕ) → fibonacci n ≤ fibonacci (suc n)
 fib_more zero = omega (arith, fib_low)
 fib_more (suc n) = omega (arith, fib_sum n)
@@ -84,6 +87,7 @@ nodes_by_height (Fork l r) =
     let m = pow_more 2 (max (height_of l) (height_of r)) in
     omega arith
 
+-- A tree of full leaves has at least 12 blocks for each leaf.
 blocks_by_leaves : (s : Shape) → HasFullLeaves s → 12 * leaf_count s ≤ length (blocks s)
 blocks_by_leaves (Tip bs) h = omega (arith, h.0)
 blocks_by_leaves (Fork l r) h = let a = blocks_by_leaves l h.0 in let b = blocks_by_leaves r h.1 in omega
@@ -100,6 +104,7 @@ held_step Free Allocated h = omega arith
 held_step Allocated Free h = omega arith
 held_step Allocated Allocated h = omega arith
 
+-- A cover has at most twice as many blocks as held ones, and one more if a gap can be first.
 blocks_by_held : (p : NodeState) (lo hi : ℕ) (bs : List Block) → Tiles p lo bs hi → length bs ≤ 2 * held_blocks bs + room p
 blocks_by_held p lo hi [] t = omega arith
 blocks_by_held p lo hi (b ∷ bs) t =
@@ -107,6 +112,7 @@ blocks_by_held p lo hi (b ∷ bs) t =
     let m = held_step p b.state t.2 in
     omega arith
 
+-- A run has at most one gap more than held blocks.
 pub run_held : (bs : List Block) → IsRun bs → length bs ≤ 2 * held_blocks bs + 1
 run_held bs h = blocks_by_held Allocated h.lo h.hi bs h.tiles
 
@@ -131,6 +137,7 @@ height_by_held_all (Fork l r) h c =
     let m = fib_mono (height_of (Fork l r)) (height_of (Fork l r) + 1) (omega arith) in
     omega arith
 
+-- A tree has at most twice as many nodes as held blocks, and one more.
 nodes_by_held : (s : Shape) → IsTree s → IsRun (blocks s) → node_count s ≤ 2 * held_blocks (blocks s) + 1
 nodes_by_held (Tip bs) h c = omega arith
 nodes_by_held (Fork l r) h c =
@@ -138,6 +145,7 @@ nodes_by_held (Fork l r) h c =
     let d = run_held (blocks (Fork l r)) c in
     omega (arith, nodes_by_leaves (Fork l r))
 
+-- The height of a tree is limited by its leaves, its nodes and its held blocks.
 pub low_tree : (s : Shape) → IsTree s → IsRun (blocks s) → IsLowTree s
 low_tree s h c = record {
   fewest = nodes_from_height s h.balanced;
@@ -152,6 +160,7 @@ fib_49 : fibonacci 49 ≡ 7778742049
 unfolding fibonacci fibonacci_pair
 fib_49 = refl
 
+-- A tree of height 48 has at least 46,672,452,294 held blocks.
 pub high_tree_held : (s : Shape) → IsTree s → IsRun (blocks s) → 48 ≤ height_of s → 46_672_452_294 ≤ held_blocks (blocks s)
 high_tree_held s h c k =
     let f = height_by_held s h c (omega arith) in

@@ -56,6 +56,7 @@ cut_tiles p lo hi (b ∷ c ∷ xs) ys l t =
     let e : suc (suc (length xs)) - 1 ≡ suc (suc (length xs) - 1) = omega arith in
     rw e ((t.0, t.1, t.2, r.0), r.1)
 
+-- Both parts of a run are runs.
 pub cover_left : (l r : List Block) → IsRun (l ++ r) → 0 < length l → IsRun l
 cover_left l r h a =
     let c = cut_tiles Allocated h.lo h.hi l r a h.tiles in
@@ -86,6 +87,7 @@ cover_right l r h a b =
       range = (omega (arith, z.from, z.some, z.upto), omega (arith, h.range.1), λ e. omega (arith, h.range.2));
     }
 
+-- A run of at most 32 blocks is a leaf.
 pub cover_leaf : (bs : List Block) → IsRun bs → length bs ≤ 32 → IsLeaf bs
 cover_leaf bs h f = record { lo = h.lo; hi = h.hi; some = h.some; fits = f; tiles = h.tiles; range = h.range }
 
@@ -108,16 +110,19 @@ leaf_upper l r k h a b c =
     let d = length-drop k l in
     cover_leaf (drop k l ++ r) (cover_right (take k l) (drop k l ++ r) (subst IsRun (sym e) h) (omega arith) (omega arith)) (omega arith)
 
+-- Blocks that move between the parts stay in the list.
 pub moved_left : (l r : List Block) (k : ℕ) → (l ++ take k r) ++ drop k r ≡ l ++ r
 moved_left l r k = append_assoc l (take k r) (drop k r) ∙ ap (λ (z : List Block). l ++ z) (take-append-drop k r)
 
 pub moved_right : (l r : List Block) (k : ℕ) → take k l ++ (drop k l ++ r) ≡ l ++ r
 moved_right l r k = sym (append_assoc (take k l) (drop k l) r) ∙ ap (λ (z : List Block). z ++ r) (take-append-drop k l)
 
+-- Without its first block a list loses it in its left part.
 pub drop_append : (l r : List Block) → 0 < length l → drop 1 (l ++ r) ≡ drop 1 l ++ r
 drop_append [] r h = absurd (omega arith)
 drop_append (x ∷ l) r h = refl
 
+-- Without its last block a list loses it in its right part.
 pub take_append : (l r : List Block) → 0 < length r → take (length (l ++ r) - 1) (l ++ r) ≡ l ++ take (length r - 1) r
 take_append [] r h = refl
 take_append (x ∷ l) r h =
@@ -125,11 +130,13 @@ take_append (x ∷ l) r h =
     let e : suc (length (l ++ r)) - 1 ≡ suc (length (l ++ r) - 1) = omega arith in
     rw e (ap (λ (z : List Block). x ∷ z) (take_append l r h))
 
+-- A run without its first block is a run.
 pub cover_drop : (bs : List Block) → IsRun bs → 1 < length bs → IsRun (drop 1 bs)
 cover_drop bs h n =
     cover_right (take 1 bs) (drop 1 bs) (subst IsRun (sym (take-append-drop 1 bs)) h) (omega (arith, length-take-le 1 bs (omega arith)))
     (omega (arith, length-drop 1 bs))
 
+-- A run without its last block is a run.
 pub cover_take : (bs : List Block) → IsRun bs → 1 < length bs → IsRun (take (length bs - 1) bs)
 cover_take bs h n =
     let k = length bs - 1 in
@@ -151,6 +158,7 @@ last_append l r h =
 pub cut_at : (bs : List Block) (i : ℕ) → i < length bs → bs ≡ take i bs ++ nth bs i ∷ drop (i + 1) bs
 cut_at bs i h = sym (take-append-drop i bs) ∙ ap (λ (r : List Block). take i bs ++ r) (drop_more bs i blank h)
 
+-- A list is its blocks before the last one, and the last one.
 pub cut_last : (bs : List Block) → 0 < length bs → bs ≡ take (length bs - 1) bs ++ nth bs (length bs - 1) ∷ []
 cut_last bs h =
     let e : length bs - 1 + 1 ≡ length bs = omega arith in

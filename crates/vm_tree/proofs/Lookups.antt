@@ -44,6 +44,7 @@ use Rattle.vm_tree.specs.Lookups.{find_superset, IsLeafAt}
 use Rattle.vm_tree.proofs.Lists.{start_append, end_append, end_left}
 use Rattle.vm_tree.proofs.Trees.{tree_left, tree_right, left_some, right_some}
 
+-- A number that is not positive is 0.
 zero_if : (n : ℕ) → (0 < n → ⊥) → n ≡ 0
 zero_if zero h = refl
 zero_if (suc n) h = absurd (h (omega arith))
@@ -52,21 +53,25 @@ no_blocks : (bs : List Block) → length bs ≡ 0 → bs ≡ []
 no_blocks [] z = refl
 no_blocks (b ∷ bs) z = absurd (omega arith)
 
+-- The end of a cover is at most one below its start.
 tiles_order : (p : NodeState) (lo hi : ℕ) (bs : List Block) → Tiles p lo bs hi → lo ≤ hi + 1
 tiles_order p lo hi [] t = omega arith
 tiles_order p lo hi (b ∷ bs) t = let h = tiles_order b.state (b.key.end + 1) hi bs t.3 in omega arith
 
+-- A cover starts at the start of its first block.
 start_is_low : (p : NodeState) (lo hi : ℕ) (bs : List Block) → 0 < length bs → Tiles p lo bs hi → start_of bs ≡ lo
 start_is_low p lo hi [] z t = absurd (omega arith)
 start_is_low p lo hi (b ∷ bs) z t = t.0
 
 -- ---- The path to the leaf
+-- Both children of a tree are trees.
 pub tree_of_left : (t l r : Shape) → t ≡ Fork l r → IsTree t → IsTree l
 tree_of_left t l r q h = tree_left l r (subst IsTree q h)
 
 pub tree_of_right : (t l r : Shape) → t ≡ Fork l r → IsTree t → IsTree r
 tree_of_right t l r q h = tree_right l r (subst IsTree q h)
 
+-- The leaf at an address of a leaf is this leaf.
 pub leaf_of_tip : (t : Shape) (bs : List Block) (x : ℕ) → t ≡ Tip bs → IsTree t → IsLeafAt x (blocks t) bs
 leaf_of_tip t bs x q h =
     let g : IsTree (Tip bs) = subst IsTree q h in
@@ -80,9 +85,11 @@ leaf_of_tip t bs x q h =
     }
 
 module _ (t l r : Shape) (x : ℕ) (leaf : List Block) (q : t ≡ Fork l r) (h : IsTree t) (c : IsRun (blocks t)) where
+  -- The node is a tree.
   whole : IsTree (Fork l r)
   whole = subst IsTree q h
 
+  -- The right child starts right after the end of the left one.
   seam : start_of (blocks r) ≡ end_of (blocks l) + 1
   seam = end_left (blocks l) (blocks r) (subst (λ (z : Shape). IsRun (blocks z)) q c) (omega (arith, left_some l r whole))
       (omega (arith, right_some l r whole))
@@ -93,11 +100,13 @@ module _ (t l r : Shape) (x : ℕ) (leaf : List Block) (q : t ≡ Fork l r) (h :
   last_part lower [] e s z = ap end_of (e ∙ ap (λ (v : List Block). lower ++ v) (append-nil leaf)) ∙ end_append lower leaf s
   last_part lower (b ∷ upper) e s z = absurd (omega arith)
 
+  -- The leaf is the first part of the right child if no block is before it.
   first_part : (lower upper : List Block) → blocks r ≡ lower ++ (leaf ++ upper) → 0 < length leaf → length lower ≡ 0 →
       start_of (blocks r) ≡ start_of leaf
   first_part [] upper e s z = ap start_of e ∙ start_append leaf upper s
   first_part (b ∷ lower) upper e s z = absurd (omega arith)
 
+  -- The leaf at an address below the right child is that of the left one.
   pub leaf_in_left : x < start_of (blocks r) → IsLeafAt x (blocks l) leaf → IsLeafAt x (blocks t) leaf
   leaf_in_left u i = record {
     lower = i.lower;
@@ -112,6 +121,7 @@ module _ (t l r : Shape) (x : ℕ) (leaf : List Block) (q : t ≡ Fork l r) (h :
     ];
   }
 
+  -- The leaf at an address in the right child is that of the right one.
   pub leaf_in_right : start_of (blocks r) ≤ x → IsLeafAt x (blocks r) leaf → IsLeafAt x (blocks t) leaf
   leaf_in_right u i = record {
     lower = blocks l ++ i.lower;
@@ -128,6 +138,7 @@ module _ (t l r : Shape) (x : ℕ) (leaf : List Block) (q : t ≡ Fork l r) (h :
 pub ruleset descending = (leaf_of_tip, leaf_in_left)
 
 -- ---- The block at the address
+-- A block covers an address if and only if the address is in it.
 covers_it : (b : Block) (x : ℕ) → b.key.start ≤ x → x ≤ b.key.end → covers b.key (at_address x) ≡ true
 unfolding covers
 covers_it b x h k = rw (le-leb b.key.start x h, le-leb x b.key.end k) refl
@@ -140,6 +151,7 @@ covers_not_below : (b : Block) (x : ℕ) → b.key.end < x → covers b.key (at_
 unfolding covers
 covers_not_below b x h = rw (lt-leb x b.key.end h) (and_right (leb b.key.start x) false refl)
 
+-- No block covers an address below all blocks, or above all blocks.
 none_above : (p : NodeState) (lo hi x : ℕ) (bs : List Block) → Tiles p lo bs hi → x < lo → find_superset (at_address x) bs ≡ None
 none_above p lo hi x [] t h = refl
 none_above p lo hi x (b ∷ bs) t h = rw (covers_not_above b x (omega (arith, t.0)))
@@ -151,6 +163,7 @@ none_below p lo hi x (b ∷ bs) t h =
     let e = tiles_order b.state (b.key.end + 1) hi bs t.3 in
     rw (covers_not_below b x (omega arith)) (none_below b.state (b.key.end + 1) hi x bs t.3 h)
 
+-- The block that contains the address is found.
 found : (p : NodeState) (lo hi x i : ℕ) (bs : List Block) → Tiles p lo bs hi → i < length bs → IsIn (nth bs i).key x →
     find_superset (at_address x) bs ≡ Some (nth bs i)
 found p lo hi x i [] t l h = absurd (omega arith)
@@ -160,6 +173,7 @@ found p lo hi x (suc i) (b ∷ bs) t l h =
     rw (covers_not_below b x (omega (arith, q.from, h.0))) (found b.state (b.key.end + 1) hi x i bs t.3 (omega arith) h)
 
 module _ (bs leaf : List Block) (x : ℕ) (run : IsRun bs) (at : IsLeafAt x bs leaf) where
+  -- Without blocks on one side, the leaf is at that end of the list.
   lower_only : length at.lower ≡ 0 → bs ≡ leaf ++ at.upper
   lower_only z = at.cut ∙ ap (λ (v : List Block). v ++ (leaf ++ at.upper)) (no_blocks at.lower z)
 
@@ -167,6 +181,7 @@ module _ (bs leaf : List Block) (x : ℕ) (run : IsRun bs) (at : IsLeafAt x bs l
   upper_only z = at.cut ∙ ap (λ (v : List Block). at.lower ++ v)
       (ap (λ (v : List Block). leaf ++ v) (no_blocks at.upper z) ∙ append-nil leaf)
 
+  -- No block covers an address below the leaf.
   pub none_before : x < start_of leaf → find_superset (at_address x) bs ≡ None
   none_before h =
       let z : length at.lower ≡ 0 = zero_if (length at.lower) (λ k. omega (arith, at.from k)) in
@@ -175,6 +190,7 @@ module _ (bs leaf : List Block) (x : ℕ) (run : IsRun bs) (at : IsLeafAt x bs l
       let k = start_is_low Allocated run.lo run.hi bs run.some run.tiles in
       none_above Allocated run.lo run.hi x bs run.tiles (omega arith)
 
+  -- No block covers an address above the leaf.
   pub none_after : end_of leaf < x → find_superset (at_address x) bs ≡ None
   none_after h =
       let z : length at.upper ≡ 0 = zero_if (length at.upper) (λ k. omega (arith, at.upto k)) in
@@ -182,6 +198,7 @@ module _ (bs leaf : List Block) (x : ℕ) (run : IsRun bs) (at : IsLeafAt x bs l
       let q = tiles_part Allocated run.lo run.hi bs (length bs - 1) run.tiles (omega (arith, run.some)) in
       none_below Allocated run.lo run.hi x bs run.tiles (omega (arith, q.last (omega (arith, run.some))))
 
+  -- The block of the leaf that contains the address is found.
   pub block_found : (i : ℕ) → i < length leaf → IsIn (nth leaf i).key x → find_superset (at_address x) bs ≡ Some (nth leaf i)
   block_found i l h =
       let j = length at.lower + i in

@@ -11,6 +11,7 @@ use Rattle.vm_leaf.proofs.Tiles.{tiles_part}
 use Rattle.vm_tree.specs.Walks.{meets, meeting_blocks, IsFirstFrom, IsCountUpTo}
 
 -- ---- The order of blocks
+-- Blocks of a cover are in order.
 pub apart : (p : NodeState) (lo hi : ℕ) (bs : List Block) (i k : ℕ) → Tiles p lo bs hi → i < k → k < length bs →
     (nth bs i).key.end < (nth bs k).key.start
 apart p lo hi [] i k t l h = absurd (omega arith)
@@ -20,9 +21,11 @@ apart p lo hi (b ∷ bs) (suc i) (suc k) t l h = apart b.state (b.key.end + 1) h
 
 -- ---- Indices in a leaf
 module _ (bs : List Block) (h : IsLeaf bs) where
+  -- A block starts at most at its end.
   in_order : (k : ℕ) → k < length bs → (nth bs k).key.start ≤ (nth bs k).key.end
   in_order k l = (tiles_part Allocated h.lo h.hi bs k h.tiles l).some
 
+  -- No block starts below the leaf, or ends above it.
   from_start : (k : ℕ) → k < length bs → start_of bs ≤ (nth bs k).key.start
   from_start k l = elim (cases_lt 0 k) [
     | inl z ↦ (let a = apart Allocated h.lo h.hi bs 0 k h.tiles z l in let b = in_order 0 h.some in omega arith)
@@ -36,6 +39,7 @@ module _ (bs : List Block) (h : IsLeaf bs) where
     | inr z ↦ (let e : end_of bs ≡ (nth bs k).key.end = ap (λ (i : ℕ). (nth bs i).key.end) (omega arith) in omega arith)
   ]
 
+  -- If x is not above the start of the leaf, the first block is the first one from x.
   pub first_at_start : (x : ℕ) → x ≤ start_of bs → IsFirstFrom x bs 0
   first_at_start x l = record {
     within = h.some;
@@ -43,6 +47,7 @@ module _ (bs : List Block) (h : IsLeaf bs) where
     from = λ k z m. (let a = from_start k m in let b = in_order k m in omega arith);
   }
 
+  -- The block that contains x is the first one from x.
   pub first_at_index : (x i : ℕ) → i < length bs → (nth bs i).key.start ≤ x → x ≤ (nth bs i).key.end → IsFirstFrom x bs i
   first_at_index x i l f g = record {
     within = l;
@@ -53,6 +58,7 @@ module _ (bs : List Block) (h : IsLeaf bs) where
     ];
   }
 
+  -- If the leaf ends at x or below it, all its blocks count.
   pub count_to_end : (x : ℕ) → end_of bs ≤ x → IsCountUpTo x bs (length bs)
   count_to_end x l = record {
     within = omega arith;
@@ -60,6 +66,7 @@ module _ (bs : List Block) (h : IsLeaf bs) where
     above = λ k z m. absurd (omega arith);
   }
 
+  -- The blocks up to the one that contains x count.
   pub count_to_index : (x i : ℕ) → i < length bs → (nth bs i).key.start ≤ x → x ≤ (nth bs i).key.end → IsCountUpTo x bs (i + 1)
   count_to_index x i l f g = record {
     within = omega arith;
@@ -73,16 +80,19 @@ module _ (bs : List Block) (h : IsLeaf bs) where
 pub ruleset indices = (first_at_start, first_at_index, count_to_end, count_to_index)
 
 -- ---- The blocks that meet a window
+-- Blocks below the window do not meet it.
 pub none_before : (w : Range) (bs : List Block) → ((k : ℕ) → k < length bs → (nth bs k).key.end < w.start) → meeting_blocks w bs ≡ []
 none_before w [] h = refl
 none_before w (b ∷ bs) h = rw (lt-leb w.start b.key.end (h 0 (omega arith))) (none_before w bs (λ k l. h (suc k) (omega arith)))
 
+-- Blocks above the window do not meet it.
 pub none_after : (w : Range) (bs : List Block) → ((k : ℕ) → k < length bs → w.end < (nth bs k).key.start) → meeting_blocks w bs ≡ []
 none_after w [] h = refl
 none_after w (b ∷ bs) h =
     rw (lt-leb b.key.start w.end (h 0 (omega arith)), and_right (leb w.start b.key.end) false refl)
     (none_after w bs (λ k l. h (suc k) (omega arith)))
 
+-- The blocks that meet a window are those between two indices.
 meeting_part : (w : Range) (bs : List Block) (i j : ℕ) → i ≤ j → j ≤ length bs
     → ((k : ℕ) → k < i → (nth bs k).key.end < w.start) → ((k : ℕ) → i ≤ k → k < length bs → w.start ≤ (nth bs k).key.end)
     → ((k : ℕ) → k < j → (nth bs k).key.start ≤ w.end) → ((k : ℕ) → j ≤ k → k < length bs → w.end < (nth bs k).key.start)
@@ -103,12 +113,15 @@ meeting_part w (x ∷ bs) (suc i) (suc j) o l a b c d =
     (λ k m. c (suc k) (omega arith)) (λ k m n. d (suc k) (omega arith) (omega arith)))
 
 module _ (w : Range) (bs : List Block) (h : IsLeaf bs) where
+  -- A leaf below the window has no block in it.
   pub ends_before : end_of bs < w.start → [] ≡ meeting_blocks w bs
   ends_before l = sym (none_before w bs (λ k m. (let a = upto_end bs h k m in omega arith)))
 
+  -- A leaf above the window has no block in it.
   pub starts_after : w.end < start_of bs → [] ≡ meeting_blocks w bs
   starts_after l = sym (none_after w bs (λ k m. (let a = from_start bs h k m in omega arith)))
 
+  -- The first index is at most the second one.
   pub part_order : (i j : ℕ) → w.start ≤ w.end → IsFirstFrom w.start bs i → IsCountUpTo w.end bs j → i ≤ j
   part_order i j o f c = elim (cases_lt j i) [
     | inl z ↦ (let a = f.below j z in let b = c.above j (omega arith) (omega (arith, f.within)) in let d = in_order bs h j
@@ -116,11 +129,13 @@ module _ (w : Range) (bs : List Block) (h : IsLeaf bs) where
     | inr z ↦ z
   ]
 
+  -- The part of the leaf between both indices has the blocks in the window.
   pub part_is : (i j : ℕ) → w.start ≤ w.end → IsFirstFrom w.start bs i → IsCountUpTo w.end bs j → part_of bs i j ≡ meeting_blocks w bs
   part_is i j o f c = meeting_part w bs i j (part_order i j o f c) c.within f.below f.from c.upto c.above
 
 pub ruleset parts = (ends_before, starts_after, part_order, part_is)
 
+-- Windows that the same blocks meet have the same blocks.
 pub same_meeting : (v w : Range) (bs : List Block) → ((k : ℕ) → k < length bs → meets v (nth bs k).key ≡ meets w (nth bs k).key) →
     meeting_blocks v bs ≡ meeting_blocks w bs
 same_meeting v w [] h = refl
@@ -128,6 +143,7 @@ same_meeting v w (b ∷ bs) h =
     let e : meets v b.key ≡ meets w b.key = h 0 (omega arith) in
     rw (e, same_meeting v w bs (λ k l. h (suc k) (omega arith))) refl
 
+-- If a block meets the window, some block does.
 pub meeting_one : (w : Range) (bs : List Block) (k : ℕ) → k < length bs → w.start ≤ (nth bs k).key.end → (nth bs k).key.start ≤ w.end →
     meeting_blocks w bs ≡ [] → ⊥
 meeting_one w [] k l a b e = absurd (omega arith)

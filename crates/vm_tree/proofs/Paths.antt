@@ -28,6 +28,7 @@ use Rattle.vm_tree.proofs.SearchedBlocks.{none_if_passed, none_below, none_above
 use Rattle.vm_tree.proofs.Trees.{full_some}
 
 -- ---- The path to an address
+-- The path to an address is between the lowest and the highest leaf of a balanced tree.
 pub path_length : (x : ℕ) (s : Shape) → IsBalanced s → IsPathLength s (nodes_to_address x s)
 unfolding nodes_to_address
 path_length x (Tip bs) b = record { upto = omega arith; least = omega arith }
@@ -46,6 +47,7 @@ path_length x (Fork l r) b =
     ]
 
 -- ---- The nodes of a search fit into an integer
+-- A tree below height 49 has at most MAX nodes.
 few_nodes : (s : Shape) → height_of s < 49 → node_count s ≤ MAX
 few_nodes s h =
     let a = nodes_by_height s in
@@ -57,13 +59,16 @@ search_fits end w n a s h = omega (arith, search_all end w n a s, few_nodes s h)
 
 -- ---- A search that finds a place enters a path at least
 module _ (w : Range) (n a : ℕ) (some : 0 < n) (aligned : IsAlignment a) where
+  -- A list with a fit is not one without any.
   none_means : (bs : List Block) → All (HasNoFitIn w n a) bs → list_any (has_fit_in w n a) bs ≡ true → ⊥
   none_means bs h e = false≢true (sym (none_found w n a bs (alignment_pos a aligned) h) ∙ e)
 
+  -- Blocks with a fit pass the test of the summary.
   passed : (bs : List Block) → list_any (has_fit_in w n a) bs ≡ true → may_fit_in n a bs ≡ true
   passed bs e = true_from_ne_false (may_fit_in n a bs) (λ z. none_means bs (none_if_passed w n a bs some aligned z) e)
 
   module _ (l r : Shape) (tree : IsSubtree (Fork l r)) where
+    -- A left child with a fit starts below the end of the window.
     before : list_any (has_fit_in w n a) (blocks l) ≡ true → w.start < start_of (blocks r)
     before e =
         let p = full_some l tree.full.0 in
@@ -76,6 +81,7 @@ module _ (w : Range) (n a : ℕ) (some : 0 < n) (aligned : IsAlignment a) where
               (none_below w n a Allocated h.lo h.hi (blocks l) some h.tiles (omega (arith, end_of_run (blocks l) h))) e)
         ]
 
+    -- A right child with a fit starts at most at the end of the window.
     behind : list_any (has_fit_in w n a) (blocks r) ≡ true → start_of (blocks r) ≤ w.end
     behind e =
         let h = (subtree_right l r tree).run in
@@ -95,6 +101,7 @@ module _ (w : Range) (n a : ℕ) (some : 0 < n) (aligned : IsAlignment a) where
   by_found Last true false x y most p q e = omega (arith, p refl)
   by_found Last false false x y most p q e = absurd (cc e)
 
+  -- A search that finds a place enters at least half its height.
   pub search_path : (end : End) (s : Shape) → IsSubtree s → list_any (has_fit_in w n a) (blocks s) ≡ true →
       height_of s ≤ 2 * nodes_of_search end w n a s
   unfolding nodes_of_search
@@ -112,6 +119,7 @@ module _ (w : Range) (n a : ℕ) (some : 0 < n) (aligned : IsAlignment a) where
 
 -- ---- The nodes from the root
 module _ (w : Range) (n a : ℕ) (some : 0 < n) where
+  -- A leaf counts one node if it has a place.
   one_or_none : (v : ℕ) (bs : List Block) → IsSearchCount w n a v (Tip bs) (if list_any (has_fit_in w n a) bs then 1 else 0)
   one_or_none v bs =
       elim (cases_Bool (list_any (has_fit_in w n a) bs)) [
@@ -120,12 +128,14 @@ module _ (w : Range) (n a : ℕ) (some : 0 < n) where
         | inr e ↦ rw e (record { none = λ i z. omega arith; whole = λ i. omega arith; most = omega arith; all = omega arith })
       ]
 
+  -- The nodes of a search from the root have the same bounds.
   pub fit_searches : (end : End) (s : Shape) → IsTree s → IsRun (blocks s) →
       IsSearchCount w n a (gaps_without_place w n a (blocks s)) s (nodes_to_fit end w n a s)
   unfolding nodes_to_fit
   fit_searches end (Tip bs) t h = one_or_none (gaps_without_place w n a bs) bs
   fit_searches end (Fork l r) t h = all_searches end w n a (Fork l r) some t.leaves h
 
+  -- A search from the root that finds a place enters at least half the height.
   pub fit_path : (end : End) (s : Shape) → IsAlignment a → IsTree s → IsRun (blocks s) → height_of s < 49 →
       list_any (has_fit_in w n a) (blocks s) ≡ true → height_of s ≤ 2 * nodes_to_fit end w n a s
   unfolding nodes_to_fit

@@ -41,18 +41,23 @@ some_between lo hi (r ∷ rs) l = let n = length-append (gap_before lo r.start) 
     arith
 
 module _ (n l e m : ℕ) (some : 0 < n) (few : n < 2 ^ 49) (leaves : l ≡ (n - 1) / 32 + 1) (each : e ≡ n / l) (more : m ≡ n % l) where
+  -- The leaves of a plan have all blocks.
   pub count_is : l * e + m ≡ n
   count_is = rw (each, more) (div-add-mod n l)
 
+  -- The leaves have room for all blocks.
   enough : n ≤ 32 * l
   enough = omega arith
 
+  -- With one leaf less, the blocks would not fit.
   pub needed : 32 * l < n + 32
   needed = omega arith
 
+  -- Not every leaf gets one block more.
   rest : m < l
   rest = omega arith
 
+  -- The leaves have between 12 and 32 blocks, unless there is only one.
   pub plan : IsPlan l e m
   plan =
       let c = count_is in
@@ -75,6 +80,7 @@ module _ (n l e m : ℕ) (some : 0 < n) (few : n < 2 ^ 49) (leaves : l ≡ (n - 
             [ inl k ↦ k | inr k ↦ (let f : l * e ≤ l * 0 = mul-le-mul_left l (omega arith) in absurd (omega arith)) ];
       }
 
+-- The tree that is built has the blocks of the list.
 pub tree_is : (n l e m : ℕ) (bs old new : List Block) (s : Shape) → old ≡ bs → l * e + m ≡ n → n ≡ length bs → l ≤ 2 ^ 44 →
     32 * l < n + 32 → IsBuilt l e m old s new → IsBuiltTree bs s
 tree_is n l e m bs old new s same c d f t b =

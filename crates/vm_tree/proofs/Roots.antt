@@ -56,9 +56,11 @@ use Rattle.vm_tree.proofs.Plans.{some_between}
 use Rattle.vm_tree.proofs.Searched.{closest_allocated, none_closest, closest_found, none_missed, passed, nodes_passed}
 use Rattle.vm_tree.proofs.Trees.{high, full_rooted}
 
+-- A tree over a run that is low enough is a valid tree.
 pub valid : (s : Shape) → IsTree s → IsRun (blocks s) → height_of s < 49 → IsBlockTree s
 valid s t r h = record { tree = t; run = r; height = h; low = low_tree s t r }
 
+-- A tree over a run that is low enough can be changed.
 pub can_change : (s : Shape) → IsTree s → IsRun (blocks s) → height_of s < 49 → CanChange s
 can_change s t r h = record { tree = t; run = r; height = omega arith }
 
@@ -66,9 +68,11 @@ can_change s t r h = record { tree = t; run = r; height = omega arith }
 pub lone_tree : (bs : List Block) → IsLeaf bs → IsTree (Tip bs)
 lone_tree bs h = record { balanced = tt; leaves = (h.some, h.fits) }
 
+-- A leaf is a run.
 pub lone_run : (bs : List Block) → IsLeaf bs → IsRun bs
 lone_run bs h = record { lo = h.lo; hi = h.hi; some = h.some; tiles = h.tiles; range = h.range }
 
+-- A run in which a block is freed is a run.
 pub freed_run : (k : Range) (old new : List Block) → IsRun old → Frees k old new → IsRun new
 freed_run k old new r f = subst IsRun (sym f.after) (cover_freed f.lower k f.upper (subst IsRun f.before r))
 
@@ -102,20 +106,25 @@ pub ruleset heights = (valid, high)
 pub ruleset freeing = (can_change, lone_tree, lone_run, freed_run, high)
 
 -- ---- Allocation
+-- A tree that is no leaf is a subtree.
 subtree_of : (s : Shape) → 2 ≤ height_of s → IsTree s → IsRun (blocks s) → height_of s < 49 → IsSubtree s
 subtree_of (Tip bs) h t r k = absurd (omega arith)
 subtree_of (Fork l r) h t c k = record { balanced = t.balanced; full = t.leaves; run = c; low = k }
 
+-- The link of a tree that is no leaf is a child.
 pub child_of : (t : Link) → 2 ≤ height_of (side t) → IsTree (side t) → IsRun (blocks (side t)) → height_of (side t) < 49 → IsSummed t →
     IsChild t
 child_of t h tree run low summed = record { subtree = subtree_of (side t) h tree run low; summed = summed }
 
+-- The nodes on a path fit into an integer.
 pub path_fits : (x : ℕ) (s : Shape) → IsTree s → height_of s < 49 → nodes_to_address x s ≤ MAX
 path_fits x s t h = omega (arith, (path_length x s t.balanced).upto)
 
+-- The path to an address is between the lowest and the highest leaf.
 pub path_of : (x : ℕ) (s : Shape) → IsTree s → IsPathLength s (nodes_to_address x s)
 path_of x s t = path_length x s t.balanced
 
+-- A tree that has grown is a tree.
 pub grown_tree : (change : Change) (old new : Shape) → GrowsBy change old new → IsTree new
 grown_tree change old new g = record { balanced = g.grows.balanced; leaves = full_rooted new g.grows.full }
 
@@ -133,6 +142,7 @@ fill_adds_none seek old new taken c h =
     [ inl l ↦ absurd (none (inr l)) | inr k ↦ k ] in
     omega (arith, h.taken_at.added, fill_parts h.place.key (range_at seek h.place) before after)
 
+-- If the structure does not change, the height does not either.
 same_height : (change : Change) (old new : Shape) → GrowsBy change old new → change ≢ Structure → height_of new ≡ height_of old
 same_height Nothing old new g n = sym g.kept.1
 same_height FreeOnly old new g n = sym g.kept.0
@@ -143,6 +153,7 @@ abbrev Allocated : Search → List Block → List Block → Result Taken Refusal
 Allocated seek old new answer = (taken : Taken) → answer ≡ Ok taken → IsAllocated seek old new taken
 
 module _ (seek : Search) (old new : Link) (root : IsRoot (record { root = old })) where
+  -- A leaf that is the whole tree stays a valid root, whatever the answer.
   pub lone_after : (answer : Result Taken Refusal) → Allocated seek (blocks (side old)) (blocks (side new)) answer →
       OnErr answer (new ≡ old) → IfOk answer (λ _. IsTree (side new) × (height_of (side new) ≤ 2))
       → (2 ≤ height_of (side new) → IsSummed new) → IsRoot (record { root = new })
@@ -155,6 +166,7 @@ module _ (seek : Search) (old new : Link) (root : IsRoot (record { root = old })
   }
   lone_after (Err e) f u t s = subst (λ (l : Link). IsRoot (record { root = l })) (sym u) root
 
+  -- A tree with several leaves stays a valid root, whatever the answer.
   pub fork_after : (v : Shape) → side old ≡ v → (answer : Result Taken Refusal) → Allocated seek (blocks v) (blocks (side new)) answer →
       GrowsIfOk answer v (side new) → IsSummed new → (seek.can_split ≡ true → height_of v < 48) → IsRoot (record { root = new })
   fork_after v q (Ok taken) f g s low = record {
@@ -175,9 +187,11 @@ module _ (seek : Search) (old new : Link) (root : IsRoot (record { root = old })
   }
 
 module _ (seek : Search) (valid : IsSearch seek) (old new : List Block) (answer : Result Taken Refusal) where
+  -- The result for an exact range is that of an allocation.
   pub exact_allocates : (t : ℕ) → AllocatesExact seek t old new answer → Allocated seek old new answer
   exact_allocates t h = λ taken e. exact_allocated seek t old new taken valid.some (subst (AllocatesExact seek t old new) e h)
 
+  -- The result of a search from an end is that of an allocation.
   pub fit_allocates : (end : End) → AllocatesFit end seek old new answer → Allocated seek old new answer
   fit_allocates end h = λ taken e. closest_allocated end seek old new taken valid.some (subst (AllocatesFit end seek old new) e h)
 
@@ -194,12 +208,14 @@ no_place (Err CannotSplit) = inr (λ e. absurd (cc))
 
 -- ---- The place that is closest to an end
 module _ (end : End) (seek : Search) (valid : IsSearch seek) where
+  -- A leaf without a place is not counted.
   fit_lone_none : (v : Shape) (new : List Block) → height_of v < 2 → AllocatesFit end seek (blocks v) new (Err NoPlace) →
       nodes_to_fit end (window_of seek) seek.size seek.alignment v ≡ 0
   unfolding nodes_to_fit
   fit_lone_none (Tip bs) new h a = rw (none_missed seek valid bs (none_closest end seek bs new a)) refl
   fit_lone_none (Fork l r) new h a = absurd (omega (arith, high l))
 
+  -- A leaf with a place counts one node.
   fit_lone_some : (v : Shape) (new : List Block) (answer : Result Taken Refusal) → height_of v < 2 →
       AllocatesFit end seek (blocks v) new answer → answer ≢ Err NoPlace
       → nodes_to_fit end (window_of seek) seek.size seek.alignment v ≡ 1
@@ -207,6 +223,7 @@ module _ (end : End) (seek : Search) (valid : IsSearch seek) where
   fit_lone_some (Tip bs) new answer h a n = rw (closest_found end seek valid bs new answer n a) refl
   fit_lone_some (Fork l r) new answer h a n = absurd (omega (arith, high l))
 
+  -- The count of a leaf that is the whole tree.
   pub fit_lone : (v : Shape) (new : List Block) (answer : Result Taken Refusal) (count : ℕ) → height_of v < 2 →
       AllocatesFit end seek (blocks v) new answer
       → (answer ≡ Err NoPlace → count ≡ 0) → (answer ≢ Err NoPlace → count ≡ 1) →
@@ -217,12 +234,14 @@ module _ (end : End) (seek : Search) (valid : IsSearch seek) where
         | inr n ↦ found n ∙ sym (fit_lone_some v new answer h a n)
       ]
 
+  -- The count of a tree with several leaves is that of the search from its root.
   pub fit_tall : (v : Shape) → 2 ≤ height_of v →
       nodes_to_fit end (window_of seek) seek.size seek.alignment v ≡ nodes_of_search end (window_of seek) seek.size seek.alignment v
   unfolding nodes_to_fit
   fit_tall (Tip bs) h = absurd (omega arith)
   fit_tall (Fork l r) h = refl
 
+  -- A tree that cannot have a place is not entered.
   pub fit_passed : (v : Shape) → 2 ≤ height_of v → may_fit_in seek.size seek.alignment (blocks v) ≡ false →
       nodes_to_fit end (window_of seek) seek.size seek.alignment v ≡ 0
   fit_passed v t h = fit_tall v t ∙ nodes_passed end seek valid v h
@@ -236,6 +255,7 @@ module _ (end : End) (seek : Search) (valid : IsSearch seek) where
         (gaps_without_place (window_of seek) seek.size seek.alignment (blocks v)) v) (sym exact)
         (fit_searches (window_of seek) seek.size seek.alignment valid.some end v tree run)
 
+    -- A search that finds a place enters at least half the height.
     pub fit_least : (new : List Block) (answer : Result Taken Refusal) → AllocatesFit end seek (blocks v) new answer →
         answer ≢ Err NoPlace → height_of v ≤ 2 * count
     fit_least new answer a n = omega (

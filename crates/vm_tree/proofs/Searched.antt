@@ -61,6 +61,7 @@ use Rattle.vm_tree.proofs.Allocating.{gap_of, IsAllocated, settles_left, settles
 use Rattle.vm_tree.proofs.AllocatedTrees.{subtree_left, subtree_right}
 use Rattle.vm_tree.proofs.SearchedBlocks.{none_upto, none_from, none_if_passed, none_below, none_above, one_found, none_found, start_of_run, end_of_run}
 
+-- The fit that is closest to an end is a fit.
 is_fit : (end : End) (n a t : ℕ) (b : Block) → IsClosestFit end n a b t → IsFit n a b t
 unfolding IsLowestFit IsHighestFit
 is_fit First n a t b h = h.0
@@ -68,16 +69,19 @@ is_fit Last n a t b h = h.0
 
 -- ---- A leaf
 module _ (seek : Search) (bs : List Block) (found : Fit) where
+  -- The fit that was found is in a block of the leaf.
   fit_of : (end : End) → IsClosestFitIn end seek bs found →
       (found.index < length bs) × IsFit seek.size seek.alignment (cut_to (window_of seek) (nth bs found.index)) found.start
   fit_of First h = (h.within, is_fit First seek.size seek.alignment found.start (cut_to (window_of seek) (nth bs found.index)) h.lowest)
   fit_of Last h = (h.within, is_fit Last seek.size seek.alignment found.start (cut_to (window_of seek) (nth bs found.index)) h.highest)
 
+  -- The range of the fit is taken from its gap.
   pub fit_taken : (end : End) (gap range : Range) → 0 < seek.size → IsClosestFitIn end seek bs found → gap ≡ (nth bs found.index).key →
       range ≡ span found.start seek.size → IsTakenFrom gap range
   fit_taken end gap range z h p q = let f = (fit_of end h).1 in rw (p, q)
       (record { from = omega (arith, f.2); some = omega arith; upto = omega (arith, f.3) })
 
+  -- The fit that is closest to an end gives the closest place of the leaf.
   closest_in : (end : End) → IsClosestFitIn end seek bs found →
       IsClosestPlace end seek bs (record
       { lower = take found.index bs; key = (nth bs found.index).key; upper = drop (found.index + 1) bs; start = found.start })
@@ -99,6 +103,7 @@ module _ (seek : Search) (bs : List Block) (found : Fit) where
       fit_by First h = h.lowest
       fit_by Last h = h.highest
 
+  -- The same for the fields of a place.
   pub closest_place : (end : End) (place : Place) (gap range : Range) → 0 < seek.size → IsClosestFitIn end seek bs found →
       gap ≡ (nth bs found.index).key → range ≡ record { start = found.start; end = found.start + (seek.size - 1) }
       → (place.index ≡ found.index) × (place.gap ≡ gap) × (place.range ≡ range) → IsRest place.rest gap range →
@@ -117,29 +122,35 @@ module _ (seek : Search) (bs : List Block) (found : Fit) where
         closest = rw (e.0, e.1, p, e.2, q) (closest_in end h);
       }
 
+-- Without a fit there is no place.
 pub no_place : (seek : Search) (bs : List Block) → HaveNoFitIn (window_of seek) seek.size seek.alignment bs 0 (length bs) →
     HasNoPlace seek bs
 no_place seek bs h = subst (HasNoPlace seek) (take_all (length bs) bs (omega arith))
     (none_upto (window_of seek) seek.size seek.alignment bs (length bs) h)
 
 -- ---- The children of a node
+-- The answer NoPlace is returned only if there is no place.
 pub none_closest : (end : End) (seek : Search) (old new : List Block) → AllocatesFit end seek old new (Err NoPlace) → HasNoPlace seek old
 none_closest end seek old new h = elim h [ inl x ↦ x.0 | inr x ↦ absurd x.2 ]
 
 module _ (seek : Search) where
+  -- Without a place in both parts the list has none.
   none_both : (l r : List Block) → HasNoPlace seek l → HasNoPlace seek r → HasNoPlace seek (l ++ r)
   none_both l r h k = All-append (HasNoFitIn (window_of seek) seek.size seek.alignment) l r h k
 
+  -- No place is beyond the one in the left part, if the right part has none there.
   none_to_left : (end : End) (place : ListPlace) (r : List Block) → HasNoPlace seek (beyond end place.lower place.upper) →
       (end ≡ Last → HasNoPlace seek r) → HasNoPlace seek (beyond end place.lower (place.upper ++ r))
   none_to_left First place r h k = h
   none_to_left Last place r h k = none_both place.upper r h (k refl)
 
+  -- No place is beyond the one in the right part, if the left part has none there.
   none_to_right : (end : End) (place : ListPlace) (l : List Block) → HasNoPlace seek (beyond end place.lower place.upper) →
       (end ≡ First → HasNoPlace seek l) → HasNoPlace seek (beyond end (l ++ place.lower) place.upper)
   none_to_right First place l h k = none_both l place.lower (k refl) h
   none_to_right Last place l h k = h
 
+  -- The answer of the left part is that of the list, if the right part has no closer place.
   in_left : (end : End) (l m r : List Block) (answer : Result Taken Refusal) → (answer ≡ Err NoPlace → HasNoPlace seek r) →
       (end ≡ Last → HasNoPlace seek r) → AllocatesFit end seek l m answer → AllocatesFit end seek (l ++ r) (m ++ r) answer
   in_left end l m r answer n k h =
@@ -156,6 +167,7 @@ module _ (seek : Search) where
         )
       ]
 
+  -- The answer of the right part is that of the list, if the left part has no closer place.
   in_right : (end : End) (l r m : List Block) (answer : Result Taken Refusal) → (answer ≡ Err NoPlace → HasNoPlace seek l) →
       (end ≡ First → HasNoPlace seek l) → AllocatesFit end seek r m answer → AllocatesFit end seek (l ++ r) (l ++ m) answer
   in_right end l r m answer n k h =
@@ -196,6 +208,7 @@ module _ (seek : Search) where
   far_searched Last (Fork l r) (Fork m s) answer t u n e h = rw e (in_left Last (blocks l) (blocks m) (blocks r) answer (λ p. n) (λ p. n) h)
 
 -- ---- What was allocated
+-- A place that was found lies in a gap.
 pub closest_allocated : (end : End) (seek : Search) (old new : List Block) (taken : Taken) → 0 < seek.size →
     AllocatesFit end seek old new (Ok taken) → IsAllocated seek old new taken
 closest_allocated end seek old new taken z h =
@@ -212,6 +225,7 @@ closest_allocated end seek old new taken z h =
           )
     ]
 
+-- The list starts at the same address, whatever the answer.
 pub closest_start : (end : End) (seek : Search) (old new : Shape) (answer : Result Taken Refusal) → 0 < seek.size → IsRun (blocks old)
     → AllocatesFit end seek (blocks old) (blocks new) answer → OnErr answer (new ≡ old) → start_of (blocks new) ≡ start_of (blocks old)
 closest_start end seek old new (Ok taken) z run h u = start_allocated seek (blocks old) (blocks new) taken run
@@ -230,6 +244,7 @@ closest_other end seek old new other taken more e f g h =
 
 -- ---- The number of nodes
 module _ (end : End) (seek : Search) (valid : IsSearch seek) where
+  -- If a place was found, a block has a fit.
   pub closest_found : (old new : List Block) (answer : Result Taken Refusal) → answer ≢ Err NoPlace → AllocatesFit end seek old new answer
       → list_any (has_fit_in (window_of seek) seek.size seek.alignment) old ≡ true
   closest_found old new answer n h =
@@ -242,17 +257,20 @@ module _ (end : End) (seek : Search) (valid : IsSearch seek) where
             )
       ]
 
+  -- A leaf that may have a fit counts one node.
   pub nodes_leaf : (bs : List Block) → may_fit_in seek.size seek.alignment bs ≡ true →
       nodes_of_search end (window_of seek) seek.size seek.alignment (Tip bs) ≡ 1
   unfolding nodes_of_search
   nodes_leaf bs h = rw h refl
 
+  -- A subtree that cannot have a fit is not entered.
   pub nodes_passed : (s : Shape) → may_fit_in seek.size seek.alignment (blocks s) ≡ false →
       nodes_of_search end (window_of seek) seek.size seek.alignment s ≡ 0
   unfolding nodes_of_search
   nodes_passed (Tip bs) h = rw h refl
   nodes_passed (Fork l r) h = rw h refl
 
+  -- A subtree that may have a fit is entered.
   pub nodes_some : (s : Shape) → may_fit_in seek.size seek.alignment (blocks s) ≡ true →
       1 ≤ nodes_of_search end (window_of seek) seek.size seek.alignment s
   unfolding nodes_of_search
@@ -261,20 +279,24 @@ module _ (end : End) (seek : Search) (valid : IsSearch seek) where
 
 -- ---- The test of a child
 module _ (seek : Search) (t l r : Shape) (q : Fork l r ≡ t) (at : ℕ) (edge : at ≡ start_of (blocks r)) where
+  -- If the window starts below the edge, the left child is entered if it may have a fit.
   pub left_reached : seek.low < at →
       may_fit_in_child First (window_of seek) seek.size seek.alignment t ≡ may_fit_in seek.size seek.alignment (blocks l)
   unfolding reaches_child
   left_reached h = rw (← q, ← edge, lt-ltb seek.low at h) refl
 
+  -- A left child below the window is not entered.
   pub left_outside : at ≤ seek.low → may_fit_in_child First (window_of seek) seek.size seek.alignment t ≡ false
   unfolding reaches_child
   left_outside h = rw (← q, ← edge, le-ltb seek.low at h) refl
 
+  -- If the window ends at the edge or above, the right child is entered if it may have a fit.
   pub right_reached : at ≤ seek.high →
       may_fit_in_child Last (window_of seek) seek.size seek.alignment t ≡ may_fit_in seek.size seek.alignment (blocks r)
   unfolding reaches_child
   right_reached h = rw (← q, ← edge, le-leb at seek.high h) refl
 
+  -- A right child above the window is not entered.
   pub right_outside : seek.high < at → may_fit_in_child Last (window_of seek) seek.size seek.alignment t ≡ false
   unfolding reaches_child
   right_outside h = rw (← q, ← edge, lt-leb at seek.high h) refl

@@ -36,26 +36,32 @@ use Rattle.vm_tree.specs.declared.end.End.{End}
 use Rattle.vm_tree.specs.declared.end.End.TheVariants.{First, Last}
 use Rattle.vm_tree.proofs.Lists.{start_append, cover_left, cover_right, drop_append, take_append, cover_drop, cover_take, first_append, last_append}
 
+-- A tree of full leaves has at least 12 blocks.
 pub full_some : (s : Shape) → HasFullLeaves s → 12 ≤ length (blocks s)
 full_some (Tip bs) h = h.0
 full_some (Fork l r) h = let a = full_some l h.0 in omega (arith, length-append (blocks l) (blocks r))
 
+-- A tree with several leaves has at least 24 blocks.
 pub tall : (s : Shape) → IsRooted s → 2 ≤ height_of s → 24 ≤ length (blocks s)
 tall (Tip bs) h k = absurd (omega arith)
 tall (Fork l r) h k = let a = full_some l h.0 in let b = full_some r h.1 in omega (arith, length-append (blocks l) (blocks r))
 
+-- The tree of a root has full leaves if it has at least 12 blocks.
 pub rooted_full : (s : Shape) → IsRooted s → 12 ≤ length (blocks s) → HasFullLeaves s
 rooted_full (Tip bs) h k = (k, h.1)
 rooted_full (Fork l r) h k = h
 
+-- A tree of full leaves can be that of a root.
 pub full_rooted : (s : Shape) → HasFullLeaves s → IsRooted s
 full_rooted (Tip bs) h = (omega (arith, h.0), h.1)
 full_rooted (Fork l r) h = h
 
+-- The tree of a root has a block.
 pub rooted_some : (s : Shape) → IsRooted s → 0 < length (blocks s)
 rooted_some (Tip bs) h = h.0
 rooted_some (Fork l r) h = let a = full_some l h.0 in omega (arith, length-append (blocks l) (blocks r))
 
+-- A tree has at least height 1.
 pub high : (s : Shape) → 1 ≤ height_of s
 high (Tip bs) = omega arith
 high (Fork l r) = omega arith
@@ -63,6 +69,7 @@ high (Fork l r) = omega arith
 pub start_full : (l r : Shape) → HasFullLeaves l → start_of (blocks l ++ blocks r) ≡ start_of (blocks l)
 start_full l r h = start_append (blocks l) (blocks r) (omega (arith, full_some l h))
 
+-- Children whose heights differ by at most one need no rotation.
 pub joined : (l r : Shape) → CanBalance l r → DifferByAtMost 1 (height_of l) (height_of r) → Mends l r (Fork l r)
 joined l r h d = record {
   blocks = refl;
@@ -73,6 +80,7 @@ joined l r h d = record {
   steady = λ a b c. refl;
 }
 
+-- One rotation mends a left child that is two higher, and not higher inside.
 pub rotated_right : (a b r : Shape) → CanBalance (Fork a b) r → height_of (Fork a b) ≡ height_of r + 2 → height_of b ≤ height_of a →
     Mends (Fork a b) r (Fork a (Fork b r))
 rotated_right a b r h e o =
@@ -93,6 +101,7 @@ rotated_right a b r h e o =
       steady = λ a b c. absurd (omega (arith, c.0, c.1));
     }
 
+-- One rotation mends a right child that is two higher, and not higher inside.
 pub rotated_left : (l a b : Shape) → CanBalance l (Fork a b) → height_of (Fork a b) ≡ height_of l + 2 → height_of a ≤ height_of b →
     Mends l (Fork a b) (Fork (Fork l a) b)
 rotated_left l a b h e o =
@@ -119,6 +128,7 @@ assoc4 a b c d = simp append_assoc
 assoc4_left : (a b c d : List Block) → (a ++ b) ++ (c ++ d) ≡ a ++ ((b ++ c) ++ d)
 assoc4_left a b c d = simp append_assoc
 
+-- Two rotations mend a left child that is two higher, and higher inside.
 pub rotated_twice_right : (a b c r : Shape) → CanBalance (Fork a (Fork b c)) r → height_of (Fork a (Fork b c)) ≡ height_of r + 2 →
     height_of a < height_of (Fork b c)
     → Mends (Fork a (Fork b c)) r (Fork (Fork a b) (Fork c r))
@@ -141,6 +151,7 @@ rotated_twice_right a b c r h e o =
       steady = λ a b c. absurd (omega (arith, c.0, c.1));
     }
 
+-- Two rotations mend a right child that is two higher, and higher inside.
 pub rotated_twice_left : (l b c a : Shape) → CanBalance l (Fork (Fork b c) a) → height_of (Fork (Fork b c) a) ≡ height_of l + 2 →
     height_of a < height_of (Fork b c)
     → Mends l (Fork (Fork b c) a) (Fork (Fork l b) (Fork c a))
@@ -163,6 +174,7 @@ rotated_twice_left l b c a h e o =
       steady = λ a b c. absurd (omega (arith, c.0, c.1));
     }
 
+-- Blocks that do not fit into one leaf are joined to two leaves.
 pub two_leaves : (xs ys us vs : List Block) → us ++ vs ≡ xs ++ ys → (12 ≤ length us) × (length us ≤ 32) →
     (12 ≤ length vs) × (length vs ≤ 32)
     → 32 < length xs + length ys → JoinsLeaves xs ys (Fork (Tip us) (Tip vs))
@@ -174,6 +186,7 @@ two_leaves xs ys us vs e a b m = record {
   two = λ l. refl;
 }
 
+-- Blocks that fit into one leaf are joined to it.
 pub one_leaf : (xs ys : List Block) → length xs + length ys ≤ 32 → JoinsLeaves xs ys (Tip (xs ++ ys))
 one_leaf xs ys m = record {
   blocks = refl;
@@ -192,6 +205,7 @@ joined_rooted xs ys s j a =
           (omega (arith, length-append xs ys), omega (arith, length-append xs ys))
     ]
 
+-- Joined leaves with at least 12 blocks are full.
 joined_full : (xs ys : List Block) (s : Shape) → JoinsLeaves xs ys s → 12 ≤ length xs + length ys → HasFullLeaves s
 joined_full xs ys s j a =
     elim (Rattle.std.proofs.lemmas.Bool.cases_lt 32 (length xs + length ys)) [
@@ -200,6 +214,7 @@ joined_full xs ys s j a =
           (omega (arith, length-append xs ys), omega (arith, length-append xs ys))
     ]
 
+-- Joined leaves have at most height 2.
 joined_low : (xs ys : List Block) (s : Shape) → JoinsLeaves xs ys s → height_of s ≤ 2
 joined_low xs ys s j =
     elim (Rattle.std.proofs.lemmas.Bool.cases_lt 32 (length xs + length ys)) [
@@ -215,6 +230,7 @@ joined_one xs ys s j m = ap leaf_count (j.merged m)
 abbrev pub CannotStay : List Block → List Block → Type 0
 CannotStay xs ys = 20 < length xs → 20 < length ys → ⊥
 
+-- A leaf that is to be joined with the next one cannot stay the same.
 pub cannot_stay_left : (xs ys : List Block) → JoinsNext First (Tip xs) (Tip ys) → CannotStay xs ys
 cannot_stay_left xs ys j a b =
     elim j [
@@ -229,6 +245,7 @@ cannot_stay_right xs ys j a b =
       | Rattle.std.proofs.Common.inr k ↦ omega arith
     ]
 
+-- A node of two leaves that are joined is mended.
 pub filled_leaves : (xs ys : List Block) (s : Shape) → CanMend (Tip xs) (Tip ys) → JoinsLeaves xs ys s → CannotStay xs ys →
     Mends (Tip xs) (Tip ys) s
 filled_leaves xs ys s h j n =
@@ -246,6 +263,7 @@ filled_leaves xs ys s h j n =
       steady = λ a b c. absurd (n a b);
     }
 
+-- A left leaf that is joined with the first leaf of its sibling mends the node.
 pub filled_low : (xs ys : List Block) (r s : Shape) → CanMend (Tip xs) (Fork (Tip ys) r) → JoinsNext First (Tip xs) (Fork (Tip ys) r) →
     JoinsLeaves xs ys s
     → Mends (Tip xs) (Fork (Tip ys) r) (Fork s r)
@@ -280,6 +298,7 @@ filled_low xs ys r s h n j =
       ];
     }
 
+-- A right leaf that is joined with the last leaf of its sibling mends the node.
 pub filled_high : (l : Shape) (xs ys : List Block) (s : Shape) → CanMend (Fork l (Tip xs)) (Tip ys) →
     JoinsNext Last (Tip ys) (Fork l (Tip xs)) → JoinsLeaves xs ys s
     → Mends (Fork l (Tip xs)) (Tip ys) (Fork l s)
@@ -314,9 +333,11 @@ filled_high l xs ys s h n j =
       ];
     }
 
+-- The first two of three parts of a run are a run.
 pub cover_low : (xs ys zs : List Block) → IsRun (xs ++ (ys ++ zs)) → 0 < length xs → IsRun (xs ++ ys)
 cover_low xs ys zs h a = cover_left (xs ++ ys) zs (subst IsRun (sym (append_assoc xs ys zs)) h) (omega (arith, length-append xs ys))
 
+-- The last two of three parts of a run are a run.
 pub cover_high : (xs ys zs : List Block) → IsRun ((xs ++ ys) ++ zs) → 0 < length xs → 0 < length ys → IsRun (ys ++ zs)
 cover_high xs ys zs h a b = cover_right xs (ys ++ zs) (subst IsRun (append_assoc xs ys zs) h) a (omega (arith, length-append ys zs))
 
@@ -328,6 +349,7 @@ some_at_end First (Fork (Fork l m) r) h k = omega arith
 some_at_end Last (Fork l (Tip bs)) h k = let a = h.leaves.1.0 in omega arith
 some_at_end Last (Fork l (Fork m r)) h k = omega arith
 
+-- A tree that is joined with the next leaf is a leaf.
 pub joins_leaf : (end : End) (s t : Shape) → JoinsNext end s t → IsTree t → 0 < length (blocks t) → height_of s < 2
 joins_leaf end (Tip bs) t j h k = omega arith
 joins_leaf end (Fork l r) t j h k =
@@ -336,10 +358,12 @@ joins_leaf end (Fork l r) t j h k =
       | Rattle.std.proofs.Common.inr p ↦ absurd (omega (arith, some_at_end end t h k))
     ]
 
+-- A tree with at least 12 blocks in its leaf has full leaves.
 pub full_len : (s : Shape) → IsTree s → 12 ≤ leaf_len s → HasFullLeaves s
 full_len (Tip bs) h k = (k, h.leaves.1)
 full_len (Fork l r) h k = h.leaves
 
+-- Children of which no leaf has to be joined only need rotations.
 pub can_balance : (l r : Shape) → CanMend l r → 12 ≤ leaf_len l → 12 ≤ leaf_len r → 32 < leaf_len l + end_len First r →
     32 < leaf_len r + end_len Last l → CanBalance l r
 can_balance l r h a b c d = record {
@@ -364,6 +388,7 @@ leaf_first xs (Fork a b) z h n =
       | Rattle.std.proofs.Common.inr p ↦ absurd (omega (arith, h.left_some))
     ]
 
+-- The leaf that is joined is a child of the sibling.
 leaf_last : (a m : Shape) (ys : List Block) → CanMend (Fork a m) (Tip ys) → JoinsNext Last (Tip ys) (Fork a m) → height_of m < 2
 leaf_last a (Tip bs) ys h n = omega arith
 leaf_last a (Fork b c) ys h n =
@@ -373,14 +398,17 @@ leaf_last a (Fork b c) ys h n =
       | Rattle.std.proofs.Common.inr p ↦ absurd (omega (arith, h.right_some))
     ]
 
+-- The leaf that is joined is the first child of the sibling.
 pub next_first : (xs : List Block) (r m z : Shape) → r ≡ Fork m z → CanMend (Tip xs) r → JoinsNext First (Tip xs) r → height_of m < 2
 next_first xs r m z q h n = leaf_first xs m z (subst (λ (t : Shape). CanMend (Tip xs) t) q h)
     (subst (λ (t : Shape). JoinsNext First (Tip xs) t) q n)
 
+-- The leaf that is joined is the last child of the sibling.
 pub next_last : (l a m : Shape) (ys : List Block) → l ≡ Fork a m → CanMend l (Tip ys) → JoinsNext Last (Tip ys) l → height_of m < 2
 next_last l a m ys q h n = leaf_last a m ys (subst (λ (t : Shape). CanMend t (Tip ys)) q h)
     (subst (λ (t : Shape). JoinsNext Last (Tip ys) t) q n)
 
+-- The same as `filled_low`, for trees that are given by their parts.
 pub filled_low_at : (xs ys : List Block) (r m z low out : Shape) → r ≡ Fork m z → m ≡ Tip ys → CanMend (Tip xs) r →
     JoinsNext First (Tip xs) r → JoinsLeaves xs ys low → out ≡ Fork low z
     → Mends (Tip xs) r out
@@ -390,6 +418,7 @@ filled_low_at xs ys r m z low out e f h n j o =
     (subst (λ (t : Shape). Mends (Tip xs) t (Fork low z)) (sym q)
     (filled_low xs ys z low (subst (λ (t : Shape). CanMend (Tip xs) t) q h) (subst (λ (t : Shape). JoinsNext First (Tip xs) t) q n) j))
 
+-- The same as `filled_high`, for trees that are given by their parts.
 pub filled_high_at : (xs ys : List Block) (l a m high out : Shape) → l ≡ Fork a m → m ≡ Tip xs → CanMend l (Tip ys) →
     JoinsNext Last (Tip ys) l → JoinsLeaves xs ys high → out ≡ Fork a high
     → Mends l (Tip ys) out
@@ -406,6 +435,7 @@ tree_left l r h = record { balanced = h.balanced.0; leaves = full_rooted l h.lea
 pub tree_right : (l r : Shape) → IsTree (Fork l r) → IsTree r
 tree_right l r h = record { balanced = h.balanced.1; leaves = full_rooted r h.leaves.1 }
 
+-- Both children of a tree have at least 12 blocks.
 pub left_some : (l r : Shape) → IsTree (Fork l r) → 12 ≤ length (blocks l)
 left_some l r h = full_some l h.leaves.0
 
@@ -435,13 +465,16 @@ joined_start xs ys l a m s e f h j =
     ap (λ (t : Shape). start_of (blocks t)) f ∙ sym
     (ap start_of j.blocks ∙ start_append xs ys (omega (arith, right_some a (Tip xs) g.left)))
 
+-- A tree that stays the same has not shrunk.
 pub unchanged : (s : Shape) → IsTree s → Shrinks s s
 unchanged s h = record { tree = h; upto = omega arith; from = omega arith }
 
+-- A tree of height 1 has at most 32 blocks.
 low_fits : (s : Shape) → IsRooted s → height_of s ≤ 1 → length (blocks s) ≤ 32
 low_fits (Tip bs) h k = h.1
 low_fits (Fork l r) h k = let a = high l in absurd (omega arith)
 
+-- A tree with fewer than 24 blocks is a leaf.
 short_low : (s : Shape) → HasFullLeaves s → length (blocks s) < 24 → height_of s ≤ 1
 short_low s h k =
     elim (Rattle.std.proofs.lemmas.Bool.cases_lt 1 (height_of s)) [
@@ -449,6 +482,7 @@ short_low s h k =
       | Rattle.std.proofs.Common.inr t ↦ t
     ]
 
+-- Children that lost blocks can be mended.
 pub can_mend : (l r a b : Shape) → Loses l r a b → IsRun (blocks a ++ blocks b) → CanMend a b
 can_mend l r a b h c =
     let n = left_some l r h.whole in
@@ -471,9 +505,11 @@ can_mend l r a b h c =
       cover = c;
     }
 
+-- A mended node has the blocks of its children.
 mended_length : (a b s : Shape) → Mends a b s → length (blocks s) ≡ length (blocks a) + length (blocks b)
 mended_length a b s m = ap length m.blocks ∙ length-append (blocks a) (blocks b)
 
+-- A mended node is at least as high as the higher one of its former children.
 not_lower : (l r a b s : Shape) → Loses l r a b → Mends a b s → height_of s < max (height_of l) (height_of r) → ⊥
 not_lower l r a b s h m k =
     let d = h.whole.balanced.2 in
@@ -508,6 +544,7 @@ not_lower l r a b s h m k =
           )
     ]
 
+-- A mended node whose children lost blocks has shrunk.
 pub shrunk : (l r a b s : Shape) → Loses l r a b → Mends a b s → Shrinks (Fork l r) s
 shrunk l r a b s h m =
     record {
@@ -519,6 +556,7 @@ shrunk l r a b s h m =
       ];
     }
 
+-- The blocks of both children are runs.
 pub cover_of_left : (t l r : Shape) → t ≡ Fork l r → IsTree t → IsRun (blocks t) → IsRun (blocks l)
 cover_of_left t l r q h c = let g : IsTree (Fork l r) = subst IsTree q h in cover_left (blocks l) (blocks r)
     (subst (λ (z : Shape). IsRun (blocks z)) q c) (omega (arith, left_some l r g))
@@ -557,16 +595,19 @@ pub ruleset mending = (high, full_len, joins_leaf, can_balance)
 
 pub ruleset ends = (full_some, rooted_some, high, tree_left, tree_right, left_some, right_some, first_append, last_append)
 
+-- The children of a node that can be mended can be mended.
 pub mend_parts : (t l r : Shape) → t ≡ Fork l r → CanMendTree t → CanMend l r
 mend_parts t l r q h = subst CanMendTree q h
 
 pub mend_whole : (t l r s : Shape) → t ≡ Fork l r → Mends l r s → MendsTree t s
 mend_whole t l r s q h = subst (λ (x : Shape). MendsTree x s) (sym q) h
 
+-- A balanced node without a leaf to be joined needs no mending.
 pub mends_itself : (l r : Shape) → CanMend l r → 12 ≤ leaf_len l → 12 ≤ leaf_len r → 32 < leaf_len l + end_len First r →
     32 < leaf_len r + end_len Last l → height_of l ≤ height_of r + 1 → height_of r ≤ height_of l + 1 → MendsTree (Fork l r) (Fork l r)
 mends_itself l r h a b c d low up = joined l r (can_balance l r h a b c d) (low, up)
 
+-- A node that needs no mending is a tree.
 pub mended_tree : (t : Shape) → MendsTree t t → IsTree t
 mended_tree (Tip bs) h = absurd h
 mended_tree (Fork l r) h = h.tree

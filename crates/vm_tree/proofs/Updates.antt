@@ -39,6 +39,7 @@ pub node_is : {t : Link} {longest alignments height : ℕ} {n : _} (a : Inside) 
     shape_of a ≡ v → v ≡ n.value → side t ≡ Fork (side a.left) (side a.right)
 node_is a e w q = ap side e ∙ sym (w ∙ q)
 
+-- The values stored beside a link to a node are the summary of its subtree.
 pub linked : (t : Link) {longest alignments height : ℕ} {n : _} → t ≡ link.Fork longest alignments height n → IsSummed t →
     IsFreeOf (side t) longest alignments × (height ≡ height_of (side t))
 linked t e s = rw e (subst IsSummed e s)
@@ -59,6 +60,7 @@ can_left t l r q h =
       height = omega (arith, h.height);
     }
 
+-- The right child of a node that can be changed can be changed.
 pub can_right : (t l r : Shape) → t ≡ Fork l r → CanChange t → CanChange r
 can_right t l r q h =
     let k = ap height_of q in
@@ -88,6 +90,7 @@ loosens_left c n l r a h few s run =
       run = run;
     }
 
+-- The right child lost blocks.
 pub loosens_right : (c : Change) (n : ℕ) (l r b : Shape) → IsTree (Fork l r) → n ≤ 2 → Reduces c n r b → IsRun (blocks l ++ blocks b) →
     Loosens c n l r l b
 loosens_right c n l r b h few s run =
@@ -107,6 +110,7 @@ loosens_right c n l r b h few s run =
       run = run;
     }
 
+-- Both children lost blocks.
 pub loosens_both : (c d : Change) (m n : ℕ) (l r a b : Shape) → IsTree (Fork l r) → m ≤ 2 → n ≤ 2 → m + n ≤ 3 → Reduces c m l a →
     Reduces d n r b → IsRun (blocks a ++ blocks b)
     → Loosens Structure (m + n) l r a b
@@ -137,6 +141,7 @@ loosened_tree l r a b h x y m n =
       leaves = (rooted_full a h.left.tree.leaves m, rooted_full b h.right.tree.leaves n);
     }
 
+-- A node whose children lost blocks can be updated.
 can_by : (c : Change) (n longest alignments height : ℕ) (l r a b : Shape) → Loosens c n l r a b → IsFreeOf (Fork l r) longest alignments →
     height ≡ height_of (Fork l r)
     → CanUpdate c longest alignments height (Fork a b)
@@ -159,17 +164,20 @@ updated_by Nothing a b s u = ap blocks u
 updated_by FreeOnly a b s u = ap blocks u
 updated_by Structure a b s u = u.blocks
 
+-- A node whose children keep their height and stay full has shrunk.
 shrinks_same : (l r a b s : Shape) → Loses l r a b → height_of l ≡ height_of a → height_of r ≡ height_of b → 12 ≤ length (blocks a) →
     12 ≤ length (blocks b) → s ≡ Fork a b → Shrinks (Fork l r) s
 shrinks_same l r a b s h x y m n e =
     let k = ap height_of e in
     record { tree = subst IsTree (sym e) (loosened_tree l r a b h x y m n); upto = omega arith; from = omega arith }
 
+-- The updated node has shrunk.
 shrinks_by : (c : Change) (n : ℕ) (l r a b s : Shape) → Loosens c n l r a b → Updates c (Fork a b) s → Shrinks (Fork l r) s
 shrinks_by Nothing n l r a b s h u = shrinks_same l r a b s h.loses h.left.1 h.right.1 h.left.2 h.right.2 u
 shrinks_by FreeOnly n l r a b s h u = shrinks_same l r a b s h.loses h.left.0 h.right.0 h.left.1 h.right.1 u
 shrinks_by Structure n l r a b s h u = shrunk l r a b s h.loses u
 
+-- The summary is kept as the change reports.
 reported : (d : Change) (longest alignments height : ℕ) (t s : Shape) → IsFreeOf t longest alignments → height ≡ height_of t →
     Reports d longest alignments height s → Keeps d t s
 reported d longest alignments height t s f e p = rw (← f.0, ← f.1, ← e) p
@@ -186,12 +194,14 @@ pub record Changed (c : Change) (n longest alignments height : ℕ) (t v : Shape
   pub free : IsFreeOf t longest alignments
   pub height_is : height ≡ height_of t
 
+-- A node whose children lost blocks has changed.
 pub changed : {c : Change} {n longest alignments height : ℕ} {t l r a b : Shape} → t ≡ Fork l r → Loosens c n l r a b →
     IsFreeOf t longest alignments × (height ≡ height_of t) → Changed c n longest alignments height t (Fork a b)
 changed {c} {n} {longest} {alignments} {height} {t} {l} {r} {a} {b} q h f = record
     { l = l; r = r; a = a; b = b; before = q; after = refl; loosens = h; free = f.0; height_is = f.1 }
 
 module _ {c : Change} {n longest alignments height : ℕ} {t v : Shape} (h : Changed c n longest alignments height t v) where
+  -- The changed node can be updated.
   pub can_update : CanUpdate c longest alignments height v
   can_update =
       subst (CanUpdate c longest alignments height) (sym h.after)
@@ -199,12 +209,15 @@ module _ {c : Change} {n longest alignments height : ℕ} {t v : Shape} (h : Cha
       (h.height_is ∙ ap height_of h.before))
 
   module _ (s : Shape) (u : Updates c v s) where
+    -- The update is that of the node over the changed children.
     is_updated : Updates c (Fork h.a h.b) s
     is_updated = subst (λ (x : Shape). Updates c x s) h.after u
 
+    -- An update keeps the blocks.
     pub updated_blocks : blocks s ≡ blocks v
     updated_blocks = updated_by c h.a h.b s is_updated ∙ sym (ap blocks h.after)
 
+    -- The tree has lost blocks as the change reports that its update returns.
     pub update_reduces : (d : Change) → Reports d longest alignments height s → Reduces d n t s
     update_reduces d p =
         let m = ap length (updated_by c h.a h.b s is_updated) ∙ length-append (blocks h.a) (blocks h.b) in

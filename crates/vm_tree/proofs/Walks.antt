@@ -45,9 +45,11 @@ use Rattle.vm_tree.specs.declared.walk.Span.{Span}
 use Rattle.vm_tree.proofs.Meetings.{apart, none_before, none_after, same_meeting, meeting_one}
 
 module _ (bs lower leaf upper : List Block) (run : IsRun bs) (cut : bs ≡ lower ++ (leaf ++ upper)) (some : 0 < length leaf) where
+  -- The list has the blocks of its three parts.
   long : length bs ≡ length lower + length leaf + length upper
   long = let k = ap length cut in let n = length-append lower (leaf ++ upper) in let m = length-append leaf upper in omega arith
 
+  -- An index in the list is one in the part that contains it.
   in_lower : (k : ℕ) → k < length lower → nth bs k ≡ nth lower k
   in_lower k l = ap (λ (v : List Block). nth v k) cut ∙ get_or_append_left lower (leaf ++ upper) blank k l
 
@@ -67,6 +69,7 @@ module _ (bs lower leaf upper : List Block) (run : IsRun bs) (cut : bs ≡ lower
       ∙ ap (nth (leaf ++ upper)) e ∙ get_or-append_right leaf upper (length leaf) (length leaf + k) blank refl (omega arith)
       ∙ ap (nth upper) f
 
+  -- The blocks before the leaf end below it.
   pub lower_ends : (k : ℕ) → k < length lower → (nth lower k).key.end < start_of leaf
   lower_ends k l =
       let n = long in
@@ -75,6 +78,7 @@ module _ (bs lower leaf upper : List Block) (run : IsRun bs) (cut : bs ≡ lower
       let f = ap (λ (b : Block). b.key.start) (in_leaf 0 some) in
       omega arith
 
+  -- The blocks behind the leaf start above it.
   pub upper_starts : (k : ℕ) → k < length upper → end_of leaf < (nth upper k).key.start
   upper_starts k l =
       let n = long in
@@ -84,6 +88,7 @@ module _ (bs lower leaf upper : List Block) (run : IsRun bs) (cut : bs ≡ lower
       let f = ap (λ (b : Block). b.key.start) (in_upper k l) in
       omega arith
 
+  -- Each block of the three parts starts at most at its end.
   pub upper_order : (k : ℕ) → k < length upper → (nth upper k).key.start ≤ (nth upper k).key.end
   upper_order k l =
       let n = long in
@@ -108,6 +113,7 @@ module _ (bs lower leaf upper : List Block) (run : IsRun bs) (cut : bs ≡ lower
       let f = ap (λ (b : Block). b.key.start) (in_leaf k l) in
       omega (arith, a.some)
 
+  -- Each block of the leaf is between its ends.
   pub leaf_within : (k : ℕ) → k < length leaf → (start_of leaf ≤ (nth leaf k).key.start) × ((nth leaf k).key.end ≤ end_of leaf)
   leaf_within k l =
       let n = long in
@@ -130,6 +136,7 @@ module _ (bs lower leaf upper : List Block) (run : IsRun bs) (cut : bs ≡ lower
         ],
       )
 
+  -- The blocks in a window are those of the three parts in it.
   pub in_parts : (w : Range) → meeting_blocks w bs ≡ meeting_blocks w lower ++ (meeting_blocks w leaf ++ meeting_blocks w upper)
   in_parts w =
       ap (meeting_blocks w) cut ∙ filter-append (λ b. meets w b.key) lower (leaf ++ upper)
@@ -141,12 +148,14 @@ nothing (x ∷ xs) z = absurd (omega arith)
 
 -- ---- The blocks of the first leaf
 module _ (span : Span) (bs leaf : List Block) (run : IsRun bs) (at : IsLeafAt span.start bs leaf) (order : span.start ≤ span.end) where
+  -- The blocks before the leaf are not in the span.
   none_in_lower : meeting_blocks (addresses_of span) at.lower ≡ []
   none_in_lower = none_before (addresses_of span) at.lower (λ k l.
       let a = lower_ends bs at.lower leaf at.upper run at.cut at.some k l in
       let b = at.from (omega arith) in
       omega arith)
 
+  -- If the span ends in the leaf, its blocks are those of the leaf.
   pub first_of_all : (part : List Block) → part ≡ meeting_blocks (addresses_of span) leaf → span.end ≤ end_of leaf →
       TakesFirst span bs part None
   first_of_all part e h =
@@ -163,6 +172,7 @@ module _ (span : Span) (bs leaf : List Block) (run : IsRun bs) (at : IsLeafAt sp
     abbrev rest : Span
     rest = record { start = end_of leaf + 1; end = span.end }
 
+    -- The blocks before the leaf are not in the rest of the span.
     none_of_lower : meeting_blocks (addresses_of rest) at.lower ≡ []
     none_of_lower = none_before (addresses_of rest) at.lower (λ k l.
         let a = lower_ends bs at.lower leaf at.upper run at.cut at.some k l in
@@ -170,11 +180,13 @@ module _ (span : Span) (bs leaf : List Block) (run : IsRun bs) (at : IsLeafAt sp
         let c = leaf_within bs at.lower leaf at.upper run at.cut at.some 0 at.some in
         omega (arith, c.1))
 
+    -- The blocks of the leaf are not in the rest of the span.
     none_of_leaf : meeting_blocks (addresses_of rest) leaf ≡ []
     none_of_leaf = none_before (addresses_of rest) leaf (λ k l.
         let c = leaf_within bs at.lower leaf at.upper run at.cut at.some k l in
         omega (arith, c.1))
 
+    -- The blocks behind the leaf are in the rest if and only if they are in the span.
     same_upper : meeting_blocks (addresses_of rest) at.upper ≡ meeting_blocks (addresses_of span) at.upper
     same_upper = same_meeting (addresses_of rest) (addresses_of span) at.upper (λ k l.
         let a = upper_starts bs at.lower leaf at.upper run at.cut at.some k l in
@@ -182,6 +194,7 @@ module _ (span : Span) (bs leaf : List Block) (run : IsRun bs) (at : IsLeafAt sp
         let c = at.upto (omega arith) in
         rw (le-leb (end_of leaf + 1) (nth at.upper k).key.end (omega arith), le-leb span.start (nth at.upper k).key.end (omega arith)) refl)
 
+    -- The blocks in the rest of the span are those behind the leaf.
     rest_is : meeting_blocks (addresses_of rest) bs ≡ meeting_blocks (addresses_of span) at.upper
     rest_is = in_parts bs at.lower leaf at.upper run at.cut at.some (addresses_of rest) ∙ rw (none_of_lower, none_of_leaf, same_upper) refl
 
@@ -196,6 +209,7 @@ module _ (span : Span) (bs leaf : List Block) (run : IsRun bs) (at : IsLeafAt sp
       | inr m ↦ rest_is ∙ ap (meeting_blocks (addresses_of span)) (nothing at.upper (omega arith))
     ]
 
+    -- If the span ends behind the leaf, the blocks of the leaf come first.
     pub first_of_more : (part : List Block) → part ≡ meeting_blocks (addresses_of span) leaf → TakesFirst span bs part (Some rest)
     first_of_more part e = record {
       cut = in_parts bs at.lower leaf at.upper run at.cut at.some (addresses_of span) ∙ rw (none_in_lower, e, rest_is) refl;
@@ -205,12 +219,14 @@ module _ (span : Span) (bs leaf : List Block) (run : IsRun bs) (at : IsLeafAt sp
 
 -- ---- The blocks of the last leaf
 module _ (span : Span) (bs leaf : List Block) (run : IsRun bs) (at : IsLeafAt span.end bs leaf) (order : span.start ≤ span.end) where
+  -- The blocks behind the leaf are not in the span.
   none_in_upper : meeting_blocks (addresses_of span) at.upper ≡ []
   none_in_upper = none_after (addresses_of span) at.upper (λ k l.
       let a = upper_starts bs at.lower leaf at.upper run at.cut at.some k l in
       let b = at.upto (omega arith) in
       omega arith)
 
+  -- If the span starts in the leaf, its blocks are those of the leaf.
   pub last_of_all : (part : List Block) → part ≡ meeting_blocks (addresses_of span) leaf → start_of leaf ≤ span.start →
       TakesLast span bs part None
   last_of_all part e h =
@@ -228,6 +244,7 @@ module _ (span : Span) (bs leaf : List Block) (run : IsRun bs) (at : IsLeafAt sp
     abbrev before : Span
     before = record { start = span.start; end = start_of leaf - 1 }
 
+    -- The blocks behind the leaf are not in the rest of the span.
     none_of_upper : meeting_blocks (addresses_of before) at.upper ≡ []
     none_of_upper = none_after (addresses_of before) at.upper (λ k l.
         let a = upper_starts bs at.lower leaf at.upper run at.cut at.some k l in
@@ -235,11 +252,13 @@ module _ (span : Span) (bs leaf : List Block) (run : IsRun bs) (at : IsLeafAt sp
         let c = leaf_within bs at.lower leaf at.upper run at.cut at.some 0 at.some in
         omega (arith, c.1))
 
+    -- The blocks of the leaf are not in the rest of the span.
     none_of_last : meeting_blocks (addresses_of before) leaf ≡ []
     none_of_last = none_after (addresses_of before) leaf (λ k l.
         let c = leaf_within bs at.lower leaf at.upper run at.cut at.some k l in
         omega (arith, c.0))
 
+    -- The blocks before the leaf are in the rest if and only if they are in the span.
     same_lower : meeting_blocks (addresses_of before) at.lower ≡ meeting_blocks (addresses_of span) at.lower
     same_lower = same_meeting (addresses_of before) (addresses_of span) at.lower (λ k l.
         let a = lower_ends bs at.lower leaf at.upper run at.cut at.some k l in
@@ -248,6 +267,7 @@ module _ (span : Span) (bs leaf : List Block) (run : IsRun bs) (at : IsLeafAt sp
         rw (le-leb (nth at.lower k).key.start (start_of leaf - 1) (omega arith), le-leb (nth at.lower k).key.start span.end (omega arith))
         refl)
 
+    -- The blocks in the rest of the span are those before the leaf.
     before_is : meeting_blocks (addresses_of before) bs ≡ meeting_blocks (addresses_of span) at.lower
     before_is =
         in_parts bs at.lower leaf at.upper run at.cut at.some (addresses_of before)
@@ -264,6 +284,7 @@ module _ (span : Span) (bs leaf : List Block) (run : IsRun bs) (at : IsLeafAt sp
       | inr m ↦ before_is ∙ ap (meeting_blocks (addresses_of span)) (nothing at.lower (omega arith))
     ]
 
+    -- If the span starts before the leaf, the blocks of the leaf come last.
     pub last_of_more : (part : List Block) → part ≡ meeting_blocks (addresses_of span) leaf → TakesLast span bs part (Some before)
     last_of_more part e = record {
       cut =
@@ -276,6 +297,7 @@ module _ (span : Span) (bs leaf : List Block) (run : IsRun bs) (at : IsLeafAt sp
     }
 
 -- ---- All blocks
+-- If each block meets the window, all blocks do.
 all_meet : (w : Range) (bs : List Block) → ((k : ℕ) → k < length bs → (w.start ≤ (nth bs k).key.end) × ((nth bs k).key.start ≤ w.end)) →
     meeting_blocks w bs ≡ bs
 all_meet w [] h = refl
@@ -283,6 +305,7 @@ all_meet w (b ∷ bs) h =
     rw (le-leb w.start b.key.end (h 0 (omega arith)).0, le-leb b.key.start w.end (h 0 (omega arith)).1)
     (ap (λ (v : List Block). b ∷ v) (all_meet w bs (λ k l. h (suc k) (omega arith))))
 
+-- All blocks of a run meet the window of all addresses.
 pub whole_run : (bs : List Block) (w : Range) → IsRun bs → w.start ≡ 0 → MAX ≤ w.end → meeting_blocks w bs ≡ bs
 whole_run bs w run a b = all_meet w bs
     (λ k l. (let q = tiles_part Allocated run.lo run.hi bs k run.tiles l in (omega arith, omega (arith, q.some, q.upto, run.range.1))))

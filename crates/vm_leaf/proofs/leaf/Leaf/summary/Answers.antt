@@ -10,6 +10,7 @@ use Rattle.vm_leaf.proofs.Tiles.{leaf_range}
 use Rattle.vm_leaf.proofs.Reaches.{none_summed, skipped, summed, all_summed}
 use Rattle.vm_leaf.proofs.leaf.Leaf.summary.Goals as goal
 
+-- The length of a range fits into 64 bits.
 length_fits : (start end : ℕ) → IsRange start end → 1 + (end - start) ≤ MAX
 length_fits start end r =
     elim (cases_lt 0 start) [ inl l ↦ omega (arith, r.1) | inr l ↦ omega (arith, r.2 (omega arith)) ]
