@@ -88,28 +88,20 @@ given old new request r h =
     (given_or_refused old (span s request.size) (Ok r) new k.1.3))
     (allocates_outcome old new (Ok r) request h)
 
--- An allocated range starts at a multiple of the alignment.
-pub allocated_aligned : (old new : AddressState) (size align : ℕ) (policy : AllocPolicy) (answer : Result Range Error) →
-    Allocates old (request_for size align policy) answer new → IfOk answer (λ r. r.start % align ≡ 0)
+-- An allocated range has the requested length, and starts at a multiple of the alignment.
+pub request_fits : (old new : AddressState) (request : Request) (answer : Result Range Error) → Allocates old request answer new →
+    IfOk answer (λ r. (address_count r ≡ request.size) × (r.start % request.align ≡ 0))
 unfolding IsPlace
-allocated_aligned old new size align policy (Ok r) h = (given old new (request_for size align policy) r h).place.0
-allocated_aligned old new size align policy (Err e) h = tt
-
--- An allocated range has the requested number of addresses.
-pub allocated_long : (old new : AddressState) (size align : ℕ) (policy : AllocPolicy) (answer : Result Range Error) →
-    Allocates old (request_for size align policy) answer new → IfOk answer (λ r. address_count r ≡ size)
-allocated_long old new size align policy (Ok r) h =
-    let g = given old new (request_for size align policy) r h in
-    let some : 0 < size = g.some in
-    let end : r.end ≡ r.start + size - 1 = ap (λ (v : Range). v.end) g.long in
-    omega arith
-allocated_long old new size align policy (Err e) h = tt
+request_fits old new request (Err e) h = tt
+request_fits old new request (Ok r) h =
+    let g = given old new request r h in
+    let some : 0 < request.size = g.some in
+    let end : r.end ≡ r.start + request.size - 1 = ap (λ (v : Range). v.end) g.long in
+    (omega arith, g.place.0)
 
 pub allocated_fits : (old new : AddressState) (size align : ℕ) (policy : AllocPolicy) (answer : Result Range Error) →
     Allocates old (request_for size align policy) answer new → IfOk answer (λ r. (address_count r ≡ size) × (r.start % align ≡ 0))
-allocated_fits old new size align policy (Ok r) h =
-    (allocated_long old new size align policy (Ok r) h, allocated_aligned old new size align policy (Ok r) h)
-allocated_fits old new size align policy (Err e) h = tt
+allocated_fits old new size align policy answer h = request_fits old new (request_for size align policy) answer h
 
 -- An allocated range is at the place that the policy chooses.
 pub allocated_chosen : (old new : AddressState) (request : Request) (answer : Result Range Error) → Allocates old request answer new →
@@ -124,22 +116,6 @@ allocated_leaves old new request (Ok r) h = (given old new request r h).left
 allocated_leaves old new request (Err e) h = tt
 
 pub ruleset allocations = (allocated_fits, allocated_chosen, allocated_leaves)
-
--- The same for a request that was made before, and for the result of a valid request.
-pub granted_allocates : (old new : AddressState) (request : Request) (answer : Result Range Error) → IsRequest request →
-    Grants old request answer new → Allocates old request answer new
-unfolding Allocates ByConstraint
-granted_allocates old new request answer v g = inr (λ e. omega (arith, e, v.some), inr (v.aligned, inr (v.start, g)))
-
-pub request_fits : (old new : AddressState) (request : Request) (answer : Result Range Error) → Allocates old request answer new →
-    IfOk answer (λ r. (address_count r ≡ request.size) × (r.start % request.align ≡ 0))
-unfolding IsPlace
-request_fits old new request (Err e) h = tt
-request_fits old new request (Ok r) h =
-    let g = given old new request r h in
-    let some : 0 < request.size = g.some in
-    let end : r.end ≡ r.start + request.size - 1 = ap (λ (v : Range). v.end) g.long in
-    (omega arith, g.place.0)
 
 -- A range that is allocated for a request with a window lies in the window.
 pub lies_in_window : (old new : AddressState) (request : Request) (w r : Range) → request.window ≡ Some w →
@@ -162,7 +138,7 @@ pub request_inside : (old new : AddressState) (request : Request) (answer : Resu
 request_inside old new request (Err e) h = tt
 request_inside old new request (Ok r) h = inside_by old new request request.window r refl h
 
-pub ruleset constraint_allocations = (granted_allocates, request_fits, request_inside, allocated_chosen, allocated_leaves)
+pub ruleset constraint_allocations = (request_fits, request_inside, allocated_chosen, allocated_leaves)
 
 -- An allocated range is held after the call.
 pub allocated_held : (old new : AddressState) (request : Request) (r : Range) → Allocates old request (Ok r) new → Contains new.held r

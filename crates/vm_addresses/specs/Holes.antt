@@ -15,9 +15,9 @@ holes_after next (r ∷ rs) =
     else holes_after (r.end + 1) rs
 
 -- The end of the last range, or `end` if there is no range.
-abbrev pub last_end : ℕ → List Range → ℕ
-last_end end [] = end
-last_end end (r ∷ rs) = last_end r.end rs
+abbrev pub last_range_end : ℕ → List Range → ℕ
+last_range_end end [] = end
+last_range_end end (r ∷ rs) = last_range_end r.end rs
 
 -- The index of the first range that starts below `next`, which is one past the range before it, or None. The first range has
 -- the index i.
@@ -34,6 +34,6 @@ abbrev pub MakesWithFree : List Range → Result AddressState Error → Type 0
 MakesWithFree [] answer = answer ≡ Err Underflow
 MakesWithFree (r ∷ rs) answer =
     MatchOption (wrong_index 0 0 (r ∷ rs))
-    (Unless (IsRange r.start (last_end r.end rs)) (answer ≡ Err (InvalidRange r.start (last_end r.end rs)))
-    (MakesHeld (record { start = r.start; end = last_end r.end rs }) (holes_after (r.end + 1) rs) answer))
+    (Unless (IsRange r.start (last_range_end r.end rs)) (answer ≡ Err (InvalidRange r.start (last_range_end r.end rs)))
+    (MakesHeld (record { start = r.start; end = last_range_end r.end rs }) (holes_after (r.end + 1) rs) answer))
     (λ index. answer ≡ Err ResourceNotAvailable)

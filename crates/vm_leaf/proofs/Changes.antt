@@ -4,7 +4,7 @@ use Rattle.std.proofs.lemmas.List.{take-take}
 use Rattle.vm_ranges.specs.declared.state.NodeState.TheVariants.{Free, Allocated}
 use Rattle.vm_leaf.specs.Block.{Block, held_block}
 use Rattle.vm_leaf.specs.Blocks.{nth, with_parts, upper_held, lower_held, middle_held, gap_over, IsLeaf}
-use Rattle.vm_leaf.specs.Leaf.{blocks_of, IsInside}
+use Rattle.vm_leaf.specs.Leaf.{encoded_blocks, IsInside}
 use Rattle.vm_leaf.specs.States.{states_in, moved}
 use Rattle.vm_leaf.specs.declared.leaf.Leaf.TheInside.{Inside}
 use Rattle.vm_leaf.proofs.Fields.{length_of, state_is}
@@ -24,7 +24,7 @@ pub record WithFree (m : ℕ) (i : ℕ) (r : ℕ) : Type 0 where
   pub others : (k : ℕ) → k ≢ i → states_in r k ≡ states_in m k
   pub bound : (n : ℕ) → m < 2 ^ n → r < 2 ^ n
 
-module _ (a : Inside) (bs : List Block) (i : ℕ) (v : IsInside a) (e : length a.starts ≡ 32) (view : blocks_of a ≡ bs)
+module _ (a : Inside) (bs : List Block) (i : ℕ) (v : IsInside a) (e : length a.starts ≡ 32) (view : encoded_blocks a ≡ bs)
     (within : i < length bs) where
   long : length bs ≡ a.len
   long = ap length (sym view) ∙ length_of a v e
@@ -52,7 +52,7 @@ module _ (a : Inside) (bs : List Block) (i : ℕ) (v : IsInside a) (e : length a
 
   -- If the bit of a free block is set, the block is held.
   pub taken : (m : ℕ) → WithHeld a.held i m → (nth bs i).state ≡ Free
-      → IsInside (record a { held = m }) × (blocks_of (record a { held = m }) ≡ with_parts bs i 1 (held_block (nth bs i).key ∷ []))
+      → IsInside (record a { held = m }) × (encoded_blocks (record a { held = m }) ≡ with_parts bs i 1 (held_block (nth bs i).key ∷ []))
   taken m w free =
       let n = long in
       let q : i + 1 - 1 ≡ i = omega arith in
@@ -63,7 +63,7 @@ module _ (a : Inside) (bs : List Block) (i : ℕ) (v : IsInside a) (e : length a
   -- If the bit of a block between held blocks is cleared, the block is free.
   pub released : (m : ℕ) → WithFree a.held i m → (0 < i → (nth bs (i - 1)).state ≡ Allocated) →
       (i + 1 < length bs → (nth bs (i + 1)).state ≡ Allocated)
-      → IsInside (record a { held = m }) × (blocks_of (record a { held = m }) ≡ with_parts bs i 1 (gap_over bs i 1))
+      → IsInside (record a { held = m }) × (encoded_blocks (record a { held = m }) ≡ with_parts bs i 1 (gap_over bs i 1))
   released m w before after =
       let n = long in
       let s = recoloured m w.others (w.bound a.len v.mask) in
@@ -108,7 +108,7 @@ module _ (a : Inside) (bs : List Block) (i : ℕ) (v : IsInside a) (e : length a
       → r ≡ moved a.held (i + 1) (i + 1) (i + 2) → WithHeld r (i + 1) m → (nth bs i).state ≡ Free → length bs + 1 ≤ 32
       → (nth bs i).key.start < x → x ≤ (nth bs i).key.end
       → let b : Inside = record { starts = S; end = a.end; held = m; len = a.len + 1 } in IsInside b
-      × (blocks_of b ≡ with_parts bs i 1 (upper_held (nth bs i).key x))
+      × (encoded_blocks b ≡ with_parts bs i 1 (upper_held (nth bs i).key x))
   upper S r m x h f w free room after upto =
       let q : i + 1 - 1 ≡ i = omega arith in
       let s = widened (x ∷ []) S r (i + 2) (i + 1) m h (omega arith) f w (omega arith) (omega arith) in
@@ -122,7 +122,7 @@ module _ (a : Inside) (bs : List Block) (i : ℕ) (v : IsInside a) (e : length a
       → r ≡ moved a.held (i + 1) (i + 1) (i + 2) → WithHeld r i m → (nth bs i).state ≡ Free → length bs + 1 ≤ 32
       → (nth bs i).key.start < x → x ≤ (nth bs i).key.end
       → let b : Inside = record { starts = S; end = a.end; held = m; len = a.len + 1 } in IsInside b
-      × (blocks_of b ≡ with_parts bs i 1 (lower_held (nth bs i).key x))
+      × (encoded_blocks b ≡ with_parts bs i 1 (lower_held (nth bs i).key x))
   lower S r m x h f w free room after upto =
       let q : i + 1 - 1 ≡ i = omega arith in
       let s = widened (x ∷ []) S r (i + 2) i m h (omega arith) f w (omega arith) (omega arith) in
@@ -136,7 +136,7 @@ module _ (a : Inside) (bs : List Block) (i : ℕ) (v : IsInside a) (e : length a
       → r ≡ moved a.held (i + 1) (i + 1) (i + 3) → WithHeld r (i + 1) m → (nth bs i).state ≡ Free → length bs + 2 ≤ 32
       → (nth bs i).key.start < x → x < y → y ≤ (nth bs i).key.end
       → let b : Inside = record { starts = S; end = a.end; held = m; len = a.len + 2 } in IsInside b
-      × (blocks_of b ≡ with_parts bs i 1 (middle_held (nth bs i).key x y))
+      × (encoded_blocks b ≡ with_parts bs i 1 (middle_held (nth bs i).key x y))
   middle S r m x y h f w free room after order upto =
       let q : i + 1 - 1 ≡ i = omega arith in
       let s = widened (x ∷ y ∷ []) S r (i + 3) (i + 1) m h (omega arith) f w (omega arith) (omega arith) in
@@ -153,7 +153,7 @@ module _ (a : Inside) (bs : List Block) (i : ℕ) (v : IsInside a) (e : length a
       → m ≡ moved a.held i (i + n) (i + 1)
       → (0 < i → (nth bs (i - 1)).state ≡ Allocated) → (i + n < length bs → (nth bs (i + n)).state ≡ Allocated)
       → let b : Inside = record { starts = S; end = a.end; held = m; len = a.len - n + 1 } in IsInside b
-      × (blocks_of b ≡ with_parts bs i n (gap_over bs i n))
+      × (encoded_blocks b ≡ with_parts bs i n (gap_over bs i n))
   merged n S m some fits h f before after =
       let z = long in
       let c : a.len - (i + n) + (i + 1) ≡ a.len - n + 1 = omega arith in

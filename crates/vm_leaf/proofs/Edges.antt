@@ -33,7 +33,7 @@ use Rattle.vm_ranges.specs.declared.state.NodeState.{NodeState}
 use Rattle.vm_ranges.specs.declared.state.NodeState.TheVariants.{Allocated}
 use Rattle.vm_leaf.specs.Block.{Block}
 use Rattle.vm_leaf.specs.Blocks.{nth, blank, Tiles, IsLeaf, start_of, end_of, from_start, upto_end}
-use Rattle.vm_leaf.specs.Leaf.{tiling, blocks_of, IsInside}
+use Rattle.vm_leaf.specs.Leaf.{tiling, encoded_blocks, IsInside}
 use Rattle.vm_leaf.specs.States.{states_in}
 use Rattle.vm_leaf.specs.declared.leaf.Leaf.TheInside.{Inside}
 use Rattle.vm_leaf.proofs.Tiles.{leaf_part}
@@ -111,14 +111,14 @@ first_set [] len x z l = absurd (omega arith)
 first_set (s ∷ S) zero x z l = absurd (omega arith)
 first_set (s ∷ S) (suc len) x z l = refl
 
-module _ (a : Inside) (bs : List Block) (v : IsInside a) (e : length a.starts ≡ 32) (view : blocks_of a ≡ bs) (x : ℕ) where
+module _ (a : Inside) (bs : List Block) (v : IsInside a) (e : length a.starts ≡ 32) (view : encoded_blocks a ≡ bs) (x : ℕ) where
   leaf : IsLeaf bs
   leaf = subst IsLeaf view v.blocks
 
   -- If the first start is written, the first block starts there.
   pub moved_start : x ≤ (nth bs 0).key.end → IsRange x (end_of bs)
       → let b : Inside = record { starts = set a.starts 0 x; end = a.end; held = a.held; len = a.len } in IsInside b
-      × (blocks_of b ≡ from_start x bs)
+      × (encoded_blocks b ≡ from_start x bs)
   moved_start l r =
       let ss = take a.len a.starts in
       let n = length-take-le a.len a.starts (omega (arith, v.fits)) in
@@ -133,7 +133,7 @@ module _ (a : Inside) (bs : List Block) (v : IsInside a) (e : length a.starts �
 
   -- If the end is written, the last block ends there.
   pub moved_end : (nth bs (length bs - 1)).key.start ≤ x → IsRange (start_of bs) x
-      → let b : Inside = record { starts = a.starts; end = x; held = a.held; len = a.len } in IsInside b × (blocks_of b ≡ upto_end x bs)
+      → let b : Inside = record { starts = a.starts; end = x; held = a.held; len = a.len } in IsInside b × (encoded_blocks b ≡ upto_end x bs)
   moved_end l r =
       let st = states_in a.held in
       let ss = take a.len a.starts in

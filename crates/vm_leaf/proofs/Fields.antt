@@ -7,7 +7,7 @@ use Rattle.std.specs.Prelude.{◌&&◌}
 use Rattle.std.proofs.Common.{true, false, ltb, leb, inl, inr}
 use Rattle.std.proofs.lemmas.Bool.{and_parts, ltb-true, leb-true, lt-ltb, le-leb, cases_lt}
 use Rattle.vm_ranges.specs.Range.{IsRange}
-use Rattle.vm_leaf.specs.Leaf.{tiling, blocks_of, IsInside}
+use Rattle.vm_leaf.specs.Leaf.{tiling, encoded_blocks, IsInside}
 use Rattle.vm_leaf.specs.States.{states_in}
 use Rattle.vm_leaf.specs.declared.leaf.Leaf.TheInside.{Inside}
 use Rattle.vm_leaf.proofs.Tiles.{leaf_part, leaf_range}
@@ -39,23 +39,23 @@ nth_last S m len hi i h l =
     nth-tiling (states_in m) 0 i (take len S) hi (omega arith) ∙ rw (none, at_i, zero_plus) refl
 
 -- A leaf has `len` blocks.
-pub length_of : (a : Inside) → IsInside a → length a.starts ≡ 32 → length (blocks_of a) ≡ a.len
+pub length_of : (a : Inside) → IsInside a → length a.starts ≡ 32 → length (encoded_blocks a) ≡ a.len
 length_of a v h = length_blocks a.starts a.held a.len a.end (omega (arith, v.fits))
 
 -- The block at i, by the fields of the leaf.
 pub record IsBlockAt (a : Inside) (i : ℕ) : Type 0 where
   pub inner : i + 1 < a.len →
-      nth (blocks_of a) i ≡ record {
+      nth (encoded_blocks a) i ≡ record {
         key = record { start = get_or a.starts i 0; end = get_or a.starts (i + 1) 0 - 1 };
         state = states_in
             a.held i;
       }
   pub last : i + 1 ≡ a.len →
-      nth (blocks_of a) i ≡ record { key = record { start = get_or a.starts i 0; end = a.end }; state = states_in a.held i }
+      nth (encoded_blocks a) i ≡ record { key = record { start = get_or a.starts i 0; end = a.end }; state = states_in a.held i }
   pub above : 0 < i → 1 ≤ get_or a.starts i 0
-  pub start : (nth (blocks_of a) i).key.start ≡ get_or a.starts i 0
-  pub state : (nth (blocks_of a) i).state ≡ states_in a.held i
-  pub range : IsRange (nth (blocks_of a) i).key.start (nth (blocks_of a) i).key.end
+  pub start : (nth (encoded_blocks a) i).key.start ≡ get_or a.starts i 0
+  pub state : (nth (encoded_blocks a) i).state ≡ states_in a.held i
+  pub range : IsRange (nth (encoded_blocks a) i).key.start (nth (encoded_blocks a) i).key.end
 
 -- The fields of a leaf give each block.
 pub block_at : (a : Inside) (i : ℕ) → IsInside a → length a.starts ≡ 32 → i < a.len → IsBlockAt a i
@@ -64,14 +64,14 @@ block_at a i v e l =
     let n = length_blocks a.starts a.held a.len a.end h in
     let inner = nth_inner a.starts a.held a.len a.end i h in
     let last = nth_last a.starts a.held a.len a.end i h in
-    let p = leaf_part (blocks_of a) i v.blocks (omega arith) in
-    let start : (nth (blocks_of a) i).key.start ≡ get_or a.starts i 0 =
+    let p = leaf_part (encoded_blocks a) i v.blocks (omega arith) in
+    let start : (nth (encoded_blocks a) i).key.start ≡ get_or a.starts i 0 =
     elim (cases_lt (i + 1) a.len) [
       | inl q ↦ ap (λ (b : Block). b.key.start) (inner q)
       | inr q ↦ ap (λ (b : Block). b.key.start)
           (last (omega arith))
     ] in
-    let state : (nth (blocks_of a) i).state ≡ states_in a.held i =
+    let state : (nth (encoded_blocks a) i).state ≡ states_in a.held i =
     elim (cases_lt (i + 1) a.len) [
       | inl q ↦ ap (λ (b : Block). b.state) (inner q)
       | inr q ↦ ap (λ (b : Block). b.state) (last (omega arith))
@@ -82,10 +82,10 @@ block_at a i v e l =
       above = λ z. omega (arith, p.above z);
       start = start;
       state = state;
-      range = leaf_range (blocks_of a) i v.blocks (omega arith);
+      range = leaf_range (encoded_blocks a) i v.blocks (omega arith);
     }
 
-module _ (a : Inside) (bs : List Block) (i : ℕ) (v : IsInside a) (e : length a.starts ≡ 32) (view : blocks_of a ≡ bs)
+module _ (a : Inside) (bs : List Block) (i : ℕ) (v : IsInside a) (e : length a.starts ≡ 32) (view : encoded_blocks a ≡ bs)
     (l : i < length bs) where
   within : i < a.len
   within = let n = length_of a v e in let m = ap length view in omega arith

@@ -6,11 +6,11 @@ use Rattle.std.proofs.lemmas.Nat.Bits.{bit_at_above, bit_at_not, bit_at-lt}
 use Rattle.std.proofs.lemmas.Nat.{pow_pos, div_below, le-div}
 use Rattle.std.proofs.Math.Nat.{pow-suc, mod-lt}
 use Rattle.vm_ranges.specs.declared.state.NodeState.TheVariants.{Free, Allocated}
-use Rattle.vm_leaf.specs.States.{states_in, state_of}
+use Rattle.vm_leaf.specs.States.{states_in, state_of_bit}
 use Rattle.vm_leaf.proofs.Masks.{bit_of_mod}
 
 -- A 1 is the state of a held block.
-pub held_if : (x : ℕ) → x ≡ 1 → state_of x ≡ Allocated
+pub held_if : (x : ℕ) → x ≡ 1 → state_of_bit x ≡ Allocated
 held_if x e = rw e refl
 
 -- The highest one of the mask of the gaps below `upto` is the last gap there.
@@ -49,7 +49,7 @@ module _ (m x upto : ℕ) (fits : m < 2 ^ 32) (low : upto ≤ 32) (rest : x ≡ 
         let e : x / 2 ^ j ≡ 1 = omega arith in
         let f : bit_at x j ≡ 1 = ap (λ (v : ℕ). v % 2) e in
         let g : bit_at m j ≡ 0 = omega (arith, opposite j gap_below) in
-        ap state_of g
+        ap state_of_bit g
 
     -- The blocks above the highest gap are held.
     pub held_above : (k : ℕ) → j < k → k < upto → states_in m k ≡ Allocated

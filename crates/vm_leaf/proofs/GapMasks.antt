@@ -20,7 +20,7 @@ use Rattle.vm_ranges.specs.declared.state.NodeState.TheVariants.{Free, Allocated
 use Rattle.vm_leaf.specs.Block.{Block}
 use Rattle.vm_leaf.specs.Blocks.{nth}
 use Rattle.vm_leaf.specs.GapMasks.{IsLowestOne, IsMaskAbove, AreGapsFrom}
-use Rattle.vm_leaf.specs.States.{states_in, state_of}
+use Rattle.vm_leaf.specs.States.{states_in, state_of_bit}
 use Rattle.vm_leaf.proofs.Masks.{bit_of_mod}
 use Rattle.vm_leaf.proofs.GapBits.{opposite, held_if}
 
@@ -91,7 +91,7 @@ module _ (bs : List Block) (m x : ℕ) (long : length bs ≤ 32) (fits : m < 2 ^
   inverse k l = omega (arith, opposite m x (length bs) small long rest k l, bit_at-lt m k, bit_at-lt x k)
 
   -- A state whose inverted bit is 1 is free.
-  free_if : (v : ℕ) → v < 2 → 1 - v ≡ 1 → state_of v ≡ Free
+  free_if : (v : ℕ) → v < 2 → 1 - v ≡ 1 → state_of_bit v ≡ Free
   free_if v l e = let f : v ≡ 0 = omega arith in rw f refl
 
   -- The inverted mask has a bit for each block.

@@ -7,8 +7,8 @@ use Rattle.vm_ranges.specs.declared.state.NodeState.{NodeState}
 use Rattle.vm_ranges.specs.declared.state.NodeState.TheVariants.{Free, Allocated}
 use Rattle.vm_leaf.specs.Block.{Block}
 use Rattle.vm_leaf.specs.Blocks.{nth}
-use Rattle.vm_leaf.specs.Leaf.{blocks_of, IsInside}
-use Rattle.vm_leaf.specs.States.{states_in, state_of}
+use Rattle.vm_leaf.specs.Leaf.{encoded_blocks, IsInside}
+use Rattle.vm_leaf.specs.States.{states_in, state_of_bit}
 use Rattle.vm_leaf.specs.declared.leaf.Leaf.TheInside.{Inside}
 use Rattle.vm_leaf.specs.GapMasks.{AreGapsFrom}
 use Rattle.vm_leaf.proofs.Fields.{length_of, state_is}
@@ -30,7 +30,7 @@ same_finds : (st su : ℕ → NodeState) (upto : ℕ) → ((k : ℕ) → k < upt
 same_finds st su upto e None h = λ k l. e k l ∙ h k l
 same_finds st su upto e (Some i) h = (h.0, e i h.0 ∙ h.1, λ k l u. e k u ∙ h.2 k l u)
 
-module _ (a : Inside) (bs : List Block) (v : IsInside a) (e : length a.starts ≡ 32) (view : blocks_of a ≡ bs) where
+module _ (a : Inside) (bs : List Block) (v : IsInside a) (e : length a.starts ≡ 32) (view : encoded_blocks a ≡ bs) where
   -- A row of held bits ends at the end of the leaf or before it.
   pub gap_within : (r from : ℕ) → from ≤ length bs → ((k : ℕ) → from ≤ k → k < r → states_in a.held k ≡ Allocated) → r ≤ length bs
   gap_within r from l h =
@@ -38,19 +38,11 @@ module _ (a : Inside) (bs : List Block) (v : IsInside a) (e : length a.starts �
       let m = ap length view in
       elim (cases_lt (length bs) r) [
         | inl q ↦ (
-            let past : states_in a.held (length bs) ≡ Free = ap state_of (bit_at_above a.held a.len (length bs) v.mask (omega arith)) in
+            let past : states_in a.held (length bs) ≡ Free = ap state_of_bit (bit_at_above a.held a.len (length bs) v.mask (omega arith)) in
             absurd (not_both _ past (h (length bs) l q))
             )
         | inr q ↦ q
       ]
-
-  -- A free state in the mask is that of a free block.
-  pub gap_free : (r : ℕ) → states_in a.held r ≡ Free → r < length bs → (nth bs r).state ≡ Free
-  gap_free r h l = sym (state_is a bs r v e view l) ∙ h
-
-  -- A held state in the mask is that of a held block.
-  pub gap_skipped : (k : ℕ) → states_in a.held k ≡ Allocated → k < length bs → (nth bs k).state ≡ Allocated
-  gap_skipped k h l = sym (state_is a bs k v e view l) ∙ h
 
   -- The last gap by the mask is the last gap by the blocks.
   pub gap_last : (upto : ℕ) (r : Option ℕ) → upto ≤ length bs → FindsBefore (states_in a.held) upto r →

@@ -15,17 +15,17 @@ use Rattle.std.proofs.lemmas.Nat.Bits.{
 use Rattle.std.proofs.lemmas.Nat.{pow-add, or_lt, and_le_l}
 use Rattle.std.proofs.Math.Nat.{mod-lt, div-add-mod', div-div-eq-div-mul, mul-le-mul_right, mod-eq_of_lt}
 use Rattle.std.proofs.Math.Pow.{pow_pos, pow_mono, pow-lt, shr_lt, shl_exact}
-use Rattle.vm_leaf.specs.States.{states_in, state_of, moved}
+use Rattle.vm_leaf.specs.States.{states_in, state_of_bit, moved}
 use Rattle.vm_ranges.specs.declared.state.NodeState.TheVariants.{Free, Allocated}
 
 -- A bit that is 0 is that of a free block.
 pub free_bit : (m i : ℕ) → bit_and (m / 2 ^ i) 1 ≡ 0 → Free ≡ states_in m i
-free_bit m i e = ap state_of (sym e ∙ shr_and_one m i)
+free_bit m i e = ap state_of_bit (sym e ∙ shr_and_one m i)
 
 -- A bit that is not 0 is that of a held block.
 held_bit : (m i n : ℕ) → n ≡ bit_at m i → (n ≡ 0 → ⊥) → Allocated ≡ states_in m i
 held_bit m i zero e h = absurd (h refl)
-held_bit m i (suc n) e h = ap state_of e
+held_bit m i (suc n) e h = ap state_of_bit e
 
 -- The same for the bit that the code tests.
 pub taken_bit : (m i : ℕ) → (bit_and (m / 2 ^ i) 1 ≡ 0 → ⊥) → Allocated ≡ states_in m i
@@ -35,11 +35,11 @@ pub ruleset reading = (free_bit, taken_bit)
 
 -- The state after a bit is set.
 pub set_same : (m i : ℕ) → i < 64 → states_in (bit_or m (1 * 2 ^ i % 2 ^ 64)) i ≡ Allocated
-set_same m i h = ap state_of (bit_at_set_same w64 m i h)
+set_same m i h = ap state_of_bit (bit_at_set_same w64 m i h)
 
 -- Setting a bit does not change the other states.
 pub set_other : (m i k : ℕ) → i < 64 → k ≢ i → states_in (bit_or m (1 * 2 ^ i % 2 ^ 64)) k ≡ states_in m k
-set_other m i k h n = ap state_of (bit_at_set_other w64 m i h k n)
+set_other m i k h n = ap state_of_bit (bit_at_set_other w64 m i h k n)
 
 mod_lt : (m k : ℕ) → m % 2 ^ k < 2 ^ k
 mod_lt m k = mod-lt m (pow_pos k)
@@ -59,18 +59,18 @@ bit_of_div m k i = ap (λ (n : ℕ). n % 2) (div-div-eq-div-mul m (2 ^ k) (2 ^ i
 -- The states below a part that is moved stay the same.
 pub moved_below : (m keep from to k : ℕ) → keep ≤ to → k < keep → states_in (moved m keep from to) k ≡ states_in m k
 moved_below m keep from to k h l =
-    ap state_of (bit_at_cat_low (m / 2 ^ from) to (m % 2 ^ keep) k (omega arith) ∙ bit_of_mod m keep k l)
+    ap state_of_bit (bit_at_cat_low (m / 2 ^ from) to (m % 2 ^ keep) k (omega arith) ∙ bit_of_mod m keep k l)
 
 -- The states between both parts are free.
 pub moved_between : (m keep from to k : ℕ) → keep ≤ to → keep ≤ k → k < to → states_in (moved m keep from to) k ≡ Free
 moved_between m keep from to k h l u =
-    ap state_of (bit_at_cat_low (m / 2 ^ from) to (m % 2 ^ keep) k u ∙ bit_at_above (m % 2 ^ keep) keep k (mod_lt m keep) l)
+    ap state_of_bit (bit_at_cat_low (m / 2 ^ from) to (m % 2 ^ keep) k u ∙ bit_at_above (m % 2 ^ keep) keep k (mod_lt m keep) l)
 
 -- The states of the part that is moved are those of its former place.
 pub moved_above : (m keep from to k : ℕ) → keep ≤ to → states_in (moved m keep from to) (to + k) ≡ states_in m (from + k)
 moved_above m keep from to k h =
     let e : to + k - to ≡ k = omega arith in
-    ap state_of (bit_at_cat_high (m / 2 ^ from) to (m % 2 ^ keep) (to + k) (low_lt m keep to h) (omega arith) ∙ rw e (bit_of_div m from k))
+    ap state_of_bit (bit_at_cat_high (m / 2 ^ from) to (m % 2 ^ keep) (to + k) (low_lt m keep to h) (omega arith) ∙ rw e (bit_of_div m from k))
 
 -- A mask of n bits with a moved part has n - from + to bits.
 pub moved_lt : (m keep from to n : ℕ) → keep ≤ to → from ≤ n → m < 2 ^ n → moved m keep from to < 2 ^ (n - from + to)
@@ -97,7 +97,7 @@ pub ruleset setting = (set_same, set_other, set_lt)
 
 -- The state after a bit is cleared.
 pub clear_same : (m i : ℕ) → i < 64 → states_in (bit_and m (18446744073709551615 - 1 * 2 ^ i % 2 ^ 64)) i ≡ Free
-clear_same m i h = ap state_of (bit_at_clear_same w64 m i h)
+clear_same m i h = ap state_of_bit (bit_at_clear_same w64 m i h)
 
 -- A mask of n bits with one of them cleared has n bits.
 pub clear_lt : (m i n : ℕ) → m < 2 ^ n → bit_and m (18446744073709551615 - 1 * 2 ^ i % 2 ^ 64) < 2 ^ n
@@ -108,8 +108,8 @@ pub clear_other : (m i k : ℕ) → m < 2 ^ 64 → i < 64 → k ≢ i →
     states_in (bit_and m (18446744073709551615 - 1 * 2 ^ i % 2 ^ 64)) k ≡ states_in m k
 clear_other m i k fits h n =
     elim (cases_lt k 64) [
-      | inl l ↦ ap state_of (bit_at_clear_other w64 m i h k l n)
-      | inr l ↦ ap state_of (bit_at_above _ 64 k (clear_lt m i 64 fits) l ∙ sym (bit_at_above m 64 k fits l))
+      | inl l ↦ ap state_of_bit (bit_at_clear_other w64 m i h k l n)
+      | inr l ↦ ap state_of_bit (bit_at_above _ 64 k (clear_lt m i 64 fits) l ∙ sym (bit_at_above m 64 k fits l))
     ]
 
 pub ruleset clearing = (clear_same, clear_other, clear_lt)
@@ -157,21 +157,21 @@ pub ruleset appending = (appended_shift, appended_room)
 
 -- The states of the first leaf stay the same.
 pub appended_below : (len m n k : ℕ) → k < len → states_in (n * 2 ^ len + m) k ≡ states_in m k
-appended_below len m n k h = ap state_of (bit_at_cat_low n len m k h)
+appended_below len m n k h = ap state_of_bit (bit_at_cat_low n len m k h)
 
 -- The states of the second leaf follow those of the first one.
 pub appended_above : (len m n k : ℕ) → m < 2 ^ len → states_in (n * 2 ^ len + m) (len + k) ≡ states_in n k
 appended_above len m n k u =
     let e : len + k - len ≡ k = omega arith in
-    ap state_of (bit_at_cat_high n len m (len + k) u (omega arith) ∙ rw e refl)
+    ap state_of_bit (bit_at_cat_high n len m (len + k) u (omega arith) ∙ rw e refl)
 
 -- The low part of a mask has the states of the first blocks.
 pub low_states : (m at k : ℕ) → k < at → states_in (m % 2 ^ at) k ≡ states_in m k
-low_states m at k h = ap state_of (bit_of_mod m at k h)
+low_states m at k h = ap state_of_bit (bit_of_mod m at k h)
 
 -- The high part of a mask has the states of the other blocks.
 pub high_states : (m at k : ℕ) → states_in (m / 2 ^ at) k ≡ states_in m (at + k)
-high_states m at k = ap state_of (bit_of_div m at k)
+high_states m at k = ap state_of_bit (bit_of_div m at k)
 
 -- The low part of a mask has a bit for each of the first blocks.
 pub low_mask : (m at : ℕ) → m % 2 ^ at < 2 ^ at

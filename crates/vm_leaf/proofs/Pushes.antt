@@ -29,8 +29,8 @@ use Rattle.std.proofs.Math.Pow.{pow_mono}
 use Rattle.vm_ranges.specs.declared.state.NodeState.TheVariants.{Free}
 use Rattle.vm_leaf.specs.Block.{Block}
 use Rattle.vm_leaf.specs.Blocks.{nth, blank, end_of, IsLeaf}
-use Rattle.vm_leaf.specs.Leaf.{tiling, blocks_of, IsInside}
-use Rattle.vm_leaf.specs.States.{states_in, state_of}
+use Rattle.vm_leaf.specs.Leaf.{tiling, encoded_blocks, IsInside}
+use Rattle.vm_leaf.specs.States.{states_in, state_of_bit}
 use Rattle.vm_leaf.specs.declared.leaf.Leaf.TheInside.{Inside}
 use Rattle.vm_leaf.proofs.Tilings.{same_tiling, tiling-append}
 use Rattle.vm_leaf.proofs.Fields.{length_of, end_is}
@@ -38,7 +38,7 @@ use Rattle.vm_leaf.proofs.Tiles.{leaf_part}
 
 -- A mask of i bits has a free state at i.
 pub clear_above : (m i : ℕ) → m < 2 ^ i → states_in m i ≡ Free
-clear_above m i h = ap state_of (bit_at_above m i i h (omega arith))
+clear_above m i h = ap state_of_bit (bit_at_above m i i h (omega arith))
 
 -- A mask of i bits is one of i + 1 bits.
 pub lower_power : (m i : ℕ) → m < 2 ^ i → m < 2 ^ (i + 1)
@@ -46,7 +46,7 @@ lower_power m i h = let p : 2 ^ i ≤ 2 ^ (i + 1) = pow_mono (omega arith) in om
 
 pub ruleset masks = (clear_above, lower_power)
 
-module _ (a : Inside) (xs : List Block) (v : IsInside a) (e : length a.starts ≡ 32) (view : blocks_of a ≡ xs) where
+module _ (a : Inside) (xs : List Block) (v : IsInside a) (e : length a.starts ≡ 32) (view : encoded_blocks a ≡ xs) where
   long : length xs ≡ a.len
   long = ap length (sym view) ∙ length_of a v e
 
@@ -82,7 +82,7 @@ module _ (a : Inside) (xs : List Block) (v : IsInside a) (e : length a.starts �
     pub pushed : (s t m : ℕ) → s ≡ b.key.start → t ≡ b.key.end → states_in m a.len ≡ b.state →
         ((k : ℕ) → k < a.len → states_in m k ≡ states_in a.held k) → m < 2 ^ (a.len + 1)
         → let c : Inside = record { starts = set a.starts a.len s; end = t; held = m; len = a.len + 1 } in IsInside c
-        × (blocks_of c ≡ xs ++ b ∷ [])
+        × (encoded_blocks c ≡ xs ++ b ∷ [])
     pushed s t m f g same others bound =
         let n = length-take-le a.len a.starts (omega (arith, v.fits)) in
         let r = room in

@@ -27,7 +27,7 @@ use Rattle.std.proofs.Common.{
 use Rattle.std.proofs.lemmas.List.{take_more, take-take}
 use Rattle.vm_leaf.specs.Block.{Block}
 use Rattle.vm_leaf.specs.Blocks.{nth, with_parts, IsLeaf}
-use Rattle.vm_leaf.specs.Leaf.{tiling, end_before, blocks_of, IsInside}
+use Rattle.vm_leaf.specs.Leaf.{tiling, end_before, encoded_blocks, IsInside}
 use Rattle.vm_leaf.specs.States.{states_in}
 use Rattle.vm_leaf.specs.declared.leaf.Leaf.TheInside.{Inside}
 use Rattle.vm_leaf.proofs.Tilings.{replaced, nth-tiling, length-tiling}
@@ -44,9 +44,9 @@ pub record Spliced (a b : Inside) (i n : ℕ) (extra : List ℕ) : Type 0 where
   pub mask : b.held < 2 ^ b.len
 
 module _ (a b : Inside) (i n : ℕ) (extra : List ℕ) (bs : List Block) (s : Spliced a b i n extra) (v : IsInside a) (e : length a.starts ≡ 32)
-    (view : blocks_of a ≡ bs) (some : 0 < n) (fits : i + n ≤ length bs) where
+    (view : encoded_blocks a ≡ bs) (some : 0 < n) (fits : i + n ≤ length bs) where
   -- The blocks of the new fields.
-  pub view_spliced : blocks_of b ≡ with_parts bs i n
+  pub view_spliced : encoded_blocks b ≡ with_parts bs i n
       (tiling (states_in b.held) i ((nth bs i).key.start ∷ extra) (nth bs (i + n - 1)).key.end)
   view_spliced =
       let ss = take a.len a.starts in
@@ -74,9 +74,9 @@ module _ (a b : Inside) (i n : ℕ) (extra : List ℕ) (bs : List Block) (s : Sp
 
   -- The new fields are those of a leaf if the new blocks are.
   pub spliced : (ys : List Block) → tiling (states_in b.held) i ((nth bs i).key.start ∷ extra) (nth bs (i + n - 1)).key.end ≡ ys
-      → IsLeaf (with_parts bs i n ys) → IsInside b × (blocks_of b ≡ with_parts bs i n ys)
+      → IsLeaf (with_parts bs i n ys) → IsInside b × (encoded_blocks b ≡ with_parts bs i n ys)
   spliced ys w h =
-      let q : blocks_of b ≡ with_parts bs i n ys = view_spliced ∙ ap (with_parts bs i n) w in
+      let q : encoded_blocks b ≡ with_parts bs i n ys = view_spliced ∙ ap (with_parts bs i n) w in
       let long : length bs ≡ a.len = ap length (sym view) ∙ length_of a v e in
       let same : length ys ≡ 1 + length extra = ap length (sym w)
       ∙ length-tiling (states_in b.held) i ((nth bs i).key.start ∷ extra) (nth bs (i + n - 1)).key.end ∙ omega arith in

@@ -35,7 +35,7 @@ use Rattle.vm_ranges.specs.Range.{Range, IsRange}
 use Rattle.vm_ranges.specs.declared.state.NodeState.{NodeState}
 use Rattle.vm_leaf.specs.Block.{Block}
 use Rattle.vm_leaf.specs.Blocks.{nth, blank, IsLeaf}
-use Rattle.vm_leaf.specs.Leaf.{tiling, end_before, blocks_of, IsInside}
+use Rattle.vm_leaf.specs.Leaf.{tiling, end_before, encoded_blocks, IsInside}
 use Rattle.vm_leaf.specs.States.{states_in}
 use Rattle.vm_leaf.specs.Walks.{part_of, blocks_left, AreLeft}
 use Rattle.vm_leaf.specs.declared.leaf.Leaf.TheInside.{Inside}
@@ -45,7 +45,7 @@ use Rattle.vm_leaf.proofs.Fields.{length_of, end_is}
 use Rattle.vm_leaf.proofs.Tiles.{leaf_range, leaf_low, leaf_high}
 
 -- ---- A part of a leaf
-module _ (a : Inside) (bs : List Block) (v : IsInside a) (e : length a.starts ≡ 32) (view : blocks_of a ≡ bs) (i j : ℕ) (order : i < j)
+module _ (a : Inside) (bs : List Block) (v : IsInside a) (e : length a.starts ≡ 32) (view : encoded_blocks a ≡ bs) (i j : ℕ) (order : i < j)
     (within : j ≤ length bs) (t : ℕ) (end : t ≡ (nth bs (j - 1)).key.end) where
   abbrev ss : List ℕ
   ss = take a.len a.starts

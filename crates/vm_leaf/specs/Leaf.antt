@@ -18,12 +18,12 @@ tiling st i (s ∷ ss) hi =
     record { key = record { start = s; end = end_before ss hi }; state = st i } ∷ tiling st (i + 1) ss hi
 
 -- The blocks that the fields encode.
-abbrev pub blocks_of : Inside → List Block
-blocks_of a = tiling (states_in a.held) 0 (take a.len a.starts) a.end
+abbrev pub encoded_blocks : Inside → List Block
+encoded_blocks a = tiling (states_in a.held) 0 (take a.len a.starts) a.end
 
 -- The fields are valid: they encode the blocks of a leaf.
 pub record IsInside (a : Inside) : Type 0 where
   pub some : 0 < a.len
   pub fits : a.len ≤ CAPACITY
   pub mask : a.held < 2 ^ a.len
-  pub blocks : IsLeaf (blocks_of a)
+  pub blocks : IsLeaf (encoded_blocks a)

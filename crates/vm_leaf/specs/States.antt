@@ -6,13 +6,13 @@ use Rattle.vm_ranges.specs.declared.state.NodeState.{NodeState}
 use Rattle.vm_ranges.specs.declared.state.NodeState.TheVariants.{Free, Allocated}
 
 -- The state of a block with this bit in the mask.
-abbrev pub state_of : ℕ → NodeState
-state_of zero = Free
-state_of (suc n) = Allocated
+abbrev pub state_of_bit : ℕ → NodeState
+state_of_bit zero = Free
+state_of_bit (suc n) = Allocated
 
 -- The state of block k in the mask m. Its bit is 1 if the block is held.
 abbrev pub states_in : ℕ → ℕ → NodeState
-states_in m k = state_of (bit_at m k)
+states_in m k = state_of_bit (bit_at m k)
 
 -- The bits of m below `keep`, and its bits starting at `from`, moved so that they start at `to`.
 abbrev pub moved : ℕ → ℕ → ℕ → ℕ → ℕ

@@ -63,9 +63,9 @@ impl Model for Leaf {
 
     ghost coded = { blocks_code };
 
-    ghost use Rattle.vm_leaf.specs.Leaf.{blocks_of, IsInside};
+    ghost use Rattle.vm_leaf.specs.Leaf.{encoded_blocks, IsInside};
 
-    ghost view = { blocks_of };
+    ghost view = { encoded_blocks };
 
     ghost invariant = { IsInside };
 }

@@ -39,7 +39,7 @@ use Rattle.std.proofs.lemmas.List.Splits.{slice_split_first}
 use Rattle.std.proofs.lemmas.List.Sums.{prefix_len_stops, prefix_len-le-length, passes_at_first, fails_before_first}
 use Rattle.vm_lines.specs.Numbers.{is_digit, number_of}
 use Rattle.vm_lines.specs.Reading.{leading_digits, number_first}
-use Rattle.vm_lines.specs.Words.{blank, words_of, one_in, two_in, three_in}
+use Rattle.vm_lines.specs.Words.{blank_byte, words_of, one_in, two_in, three_in}
 use Rattle.vm_lines.proofs.Splitting.{words_some, words_none}
 
 -- Words that begin with a number.
@@ -124,7 +124,7 @@ three_some (word ∷ words) behind number e =
 
 -- The index of the first blank, or the length of the text.
 abbrev end_of_word : List ℕ → ℕ
-end_of_word text = position_or_len (λ byte. byte == blank) text
+end_of_word text = position_or_len (λ byte. byte == blank_byte) text
 
 -- No digit is a blank.
 digits_before_blank : (text : List ℕ) → leading_digits text ≤ end_of_word text
@@ -132,19 +132,19 @@ digits_before_blank [] = omega arith
 digits_before_blank (x ∷ xs) = step (is_digit x) refl (digits_before_blank xs)
   where
     step : (b : Bool) → is_digit x ≡ b → leading_digits xs ≤ end_of_word xs → leading_digits (x ∷ xs) ≤ end_of_word (x ∷ xs)
-    step true e h = let other : (x == blank) ≡ false = grind (arith, nat_tests) in rw (e, other) (omega arith)
+    step true e h = let other : (x == blank_byte) ≡ false = grind (arith, nat_tests) in rw (e, other) (omega arith)
     step false e h = rw e (omega arith)
 
 -- The first word of a text, and the words after it.
 first_word_is : (text : List ℕ) → (words : List (List ℕ)) × (words_of text ≡ take (end_of_word text) text ∷ words)
 first_word_is text =
-    ⊎_elim (λ within. (words_of (after_first (λ byte. byte == blank) text), slice_split_first (λ byte. byte == blank) text 0 within))
+    ⊎_elim (λ within. (words_of (after_first (λ byte. byte == blank_byte) text), slice_split_first (λ byte. byte == blank_byte) text 0 within))
     (λ all. ([], rw (take_all (end_of_word text) text all) (words_none text (grind (arith, nat_tests)))))
     (cases_lt (end_of_word text) (length text))
 
 -- The first word ends within the text.
 end_within : (text : List ℕ) → end_of_word text ≤ length text
-end_within text = prefix_len-le-length (λ byte. not (byte == blank)) text
+end_within text = prefix_len-le-length (λ byte. not (byte == blank_byte)) text
 
 -- A word that has other bytes after its digits is not a number.
 mixed_none : (text : List ℕ) (n : ℕ) → n ≡ leading_digits text → n < end_of_word text → number_of (take (end_of_word text) text) ≡ None
@@ -175,7 +175,7 @@ then_other text n is within other =
     ⊎_elim (λ more. says_word text (mixed_none text n is more))
     (λ all.
     let same : end_of_word text ≡ n = omega (arith, digits_before_blank text) in
-    let blank_there = rw same at (passes_at_first (λ byte. byte == blank) text 0 (omega arith)) in
+    let blank_there = rw same at (passes_at_first (λ byte. byte == blank_byte) text 0 (omega arith)) in
     absurd (other (grind (arith, nat_tests))))
     (cases_lt n (end_of_word text))
 
@@ -194,9 +194,9 @@ pub then_blank : (text : List ℕ) (number n : ℕ) → n ≡ leading_digits tex
     → number_of (take (leading_digits text) text) ≡ Some number
     → number_first (words_of text) ≡ Some (number, words_of (take (length text - (n + 1)) (drop (n + 1) text)))
 then_blank text number n is within at e =
-    let there : (get_or text n 0 == blank) ≡ true = grind (arith, nat_tests) in
+    let there : (get_or text n 0 == blank_byte) ≡ true = grind (arith, nat_tests) in
     let near : end_of_word text ≤ n =
-    ⊎_elim (λ more. absurd (let other = fails_before_first (λ byte. byte == blank) text n 0 more in cc)) (λ l. l)
+    ⊎_elim (λ more. absurd (let other = fails_before_first (λ byte. byte == blank_byte) text n 0 more in cc)) (λ l. l)
     (cases_lt n (end_of_word text)) in
     let ends : end_of_word text ≡ n = omega (arith, digits_before_blank text) in
     let first = words_some text n (rw ends (grind (arith, nat_tests))) in

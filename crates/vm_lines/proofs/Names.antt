@@ -6,7 +6,7 @@ use Rattle.std.specs.List.{join_with_byte}
 use Rattle.std.proofs.lemmas.List.Splits.{join_with_byte-slice_split}
 use Rattle.std.proofs.lemmas.Slice.Eq.{bytes_eq-Decides}
 use Rattle.vm_lines.specs.Commands.{asked, ids_command, devices_command}
-use Rattle.vm_lines.specs.Words.{blank, words_of, alone}
+use Rattle.vm_lines.specs.Words.{blank_byte, words_of, alone}
 use Rattle.vm_lines.specs.declared.command.Command.{Command}
 use Rattle.vm_lines.specs.declared.command.Command.TheVariants.{Id}
 use Rattle.vm_lines.proofs.Splitting.{begins_with}
@@ -17,11 +17,11 @@ BeginsNot prefix text = (rest : List ℕ) → text ≢ prefix ++ rest
 
 -- If the first word is this name, it is the only word.
 alone_so : (name text word : List ℕ) (words : List (List ℕ)) → words_of text ≡ word ∷ words
-    → BeginsNot (name ++ blank ∷ []) text → word ≡ name → words ≡ []
+    → BeginsNot (name ++ blank_byte ∷ []) text → word ≡ name → words ≡ []
 alone_so name text word [] e h same = refl
 alone_so name text word (next ∷ more) e h same =
     let begins = begins_with text word next more e in
-    absurd (h begins.0 (begins.1 ∙ ap (λ w. w ++ blank ∷ begins.0) same ∙ sym (append_assoc name (blank ∷ []) begins.0)))
+    absurd (h begins.0 (begins.1 ∙ ap (λ w. w ++ blank_byte ∷ begins.0) same ∙ sym (append_assoc name (blank_byte ∷ []) begins.0)))
 
 -- The test for a name is skipped if its command is the command of the rest.
 other_name : (word name : List ℕ) (found other : Option Command) → (word ≡ name → found ≡ other)
@@ -54,7 +54,7 @@ none_of_space line space first last exact free = step (words_of line) refl
 
 -- A line of one word is this word.
 alone_is : (line word : List ℕ) → words_of line ≡ word ∷ [] → line ≡ word
-alone_is line word e = sym (join_with_byte-slice_split blank line) ∙ ap (join_with_byte blank) e
+alone_is line word e = sym (join_with_byte-slice_split blank_byte line) ∙ ap (join_with_byte blank_byte) e
 
 -- A line that begins with none of these names and is not `id` has the command of the devices.
 pub none_of_ids : (line : List ℕ) → BeginsNot (codes "ids ") line → BeginsNot (codes "unid ") line

@@ -40,7 +40,7 @@ use Rattle.std.proofs.lemmas.List.Prefix.{front_fits, front_reads, front_from_re
 use Rattle.std.proofs.lemmas.List.Sums.{split_at_first, passes_at_first}
 use Rattle.std.proofs.lemmas.Grind.{common_steps}
 use Rattle.vm_lines.specs.Lines.{newline, parts_of}
-use Rattle.vm_lines.specs.Words.{blank, words_of}
+use Rattle.vm_lines.specs.Words.{blank_byte, words_of}
 
 -- The parts of a text between bytes of this value.
 abbrev cut_at : ℕ → List ℕ → List (List ℕ)
@@ -73,27 +73,27 @@ cut_none : (c : ℕ) (text : List ℕ) → position (λ byte. byte == c) text �
 cut_none c text e = none_step c text (grind (arith, nat_tests))
 
 -- The first word of a text with a blank, and the words after it.
-pub words_some : (line : List ℕ) (i : ℕ) → position (λ byte. byte == blank) line ≡ Some i
+pub words_some : (line : List ℕ) (i : ℕ) → position (λ byte. byte == blank_byte) line ≡ Some i
     → words_of line ≡ take i line ∷ words_of (take (length line - (i + 1)) (drop (i + 1) line))
-words_some line i e = cut_some blank line i e
+words_some line i e = cut_some blank_byte line i e
 
 -- The words of a text without a blank.
-pub words_none : (line : List ℕ) → position (λ byte. byte == blank) line ≡ None → words_of line ≡ line ∷ []
-words_none line e = cut_none blank line e
+pub words_none : (line : List ℕ) → position (λ byte. byte == blank_byte) line ≡ None → words_of line ≡ line ∷ []
+words_none line e = cut_none blank_byte line e
 
 -- A text of several words begins with the first word and a blank.
 pub begins_with : (text word next : List ℕ) (more : List (List ℕ)) → words_of text ≡ word ∷ next ∷ more
-    → (rest : List ℕ) × (text ≡ word ++ blank ∷ rest)
+    → (rest : List ℕ) × (text ≡ word ++ blank_byte ∷ rest)
 begins_with text word next more e =
-    let m = position_or_len (λ byte. byte == blank) text in
+    let m = position_or_len (λ byte. byte == blank_byte) text in
     ⊎_elim (λ within.
-    let first = slice_split_first (λ byte. byte == blank) text 0 within in
+    let first = slice_split_first (λ byte. byte == blank_byte) text 0 within in
     let is : word ≡ take m text = cc in
-    let ends : get_or text m 0 ≡ blank = let there = passes_at_first (λ byte. byte == blank) text 0 within in grind (arith, nat_tests) in
-    let rest = after_first (λ byte. byte == blank) text in (
+    let ends : get_or text m 0 ≡ blank_byte = let there = passes_at_first (λ byte. byte == blank_byte) text 0 within in grind (arith, nat_tests) in
+    let rest = after_first (λ byte. byte == blank_byte) text in (
       rest,
-      split_at_first (λ byte. byte == blank) text 0 within ∙ ap (λ byte. take m text ++ byte ∷ rest) ends
-          ∙ ap (λ w. w ++ blank ∷ rest) (sym is),
+      split_at_first (λ byte. byte == blank_byte) text 0 within ∙ ap (λ byte. take m text ++ byte ∷ rest) ends
+          ∙ ap (λ w. w ++ blank_byte ∷ rest) (sym is),
     ))
     (λ all. absurd (let alone = words_none text (grind (arith, nat_tests)) in cc))
     (cases_lt m (length text))
@@ -125,4 +125,4 @@ parts_none piece e = cut_none newline piece e
 
 -- A text has at least one word.
 pub some_words : (text : List ℕ) → 0 < length (words_of text)
-some_words text = omega (arith, length-slice_split (λ byte. byte == blank) text)
+some_words text = omega (arith, length-slice_split (λ byte. byte == blank_byte) text)

@@ -18,17 +18,17 @@ use Rattle.vm_ranges.specs.declared.error.Error.TheVariants.{
   OutOfMemory,
 }
 use Rattle.vm_devices.specs.declared.device_slot.DeviceSlot.{DeviceSlot}
-use Rattle.vm_lines.specs.Words.{blank}
+use Rattle.vm_lines.specs.Words.{blank_byte}
 use Rattle.vm_lines.specs.declared.reply.Reply.{Reply}
 use Rattle.vm_lines.specs.declared.reply.Reply.TheVariants.{Done, Given, Id, Held, Device, Failed, NoSpace, NoIds, NoManager, NotInLanguage}
 
 -- Two numbers with a blank between them.
 abbrev pub pair_text : ℕ → ℕ → List ℕ
-pair_text first second = decimal first ++ blank ∷ decimal second
+pair_text first second = decimal first ++ blank_byte ∷ decimal second
 
 -- The text of a device: its id and its range.
 abbrev pub device_text : DeviceSlot → List ℕ
-device_text slot = codes "device " ++ decimal slot.id ++ blank ∷ pair_text slot.range.start slot.range.end
+device_text slot = codes "device " ++ decimal slot.id ++ blank_byte ∷ pair_text slot.range.start slot.range.end
 
 -- The text of an error. No call returns Overlap.
 abbrev pub error_text : Error → List ℕ

@@ -4,12 +4,12 @@ use Rattle.std.specs.List.{slice_split}
 use Rattle.std.specs.Option.{option_map, option_zip}
 
 -- The byte that separates words.
-abbrev pub blank : ℕ
-blank = 32
+abbrev pub blank_byte : ℕ
+blank_byte = 32
 
 -- The words of a text: its parts between blanks.
 abbrev pub words_of : List ℕ → List (List ℕ)
-words_of text = slice_split (λ byte. byte == blank) text
+words_of text = slice_split (λ byte. byte == blank_byte) text
 
 -- The words after a word and its blank, if there is a blank.
 abbrev pub words_after : Option (List ℕ) → List (List ℕ)

@@ -101,10 +101,6 @@ depth_without n k no_members v h p q = absurd (cc)
 depth_without n k (member l e ms) v h p q =
     depth_at (slice_cmp nat_cmp k l) n l e v ms (without k ms) (get_member k ms) h p (λ f r. depth_without n k ms v f p r) q
 
--- The other names have the same values.
-same_at : (o : Ordering) (k l : List ℕ) (x y z : Option Data) → is_eq o ≡ false → x ≡ z → match_ordering o x y x ≡ match_ordering o z y z
-same_at o k l x y z n e = rw e refl
-
 -- A choice by an order that is not Equal is the same for Less and for Greater.
 skipped : (o : Ordering) (x y : Option Data) → is_eq o ≡ false → x ≡ match_ordering o x y x
 skipped Less x y n = refl

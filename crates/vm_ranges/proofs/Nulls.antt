@@ -12,12 +12,3 @@ null_of (number n) e = absurd (cc)
 null_of (string s) e = absurd (cc)
 null_of (array ds) e = absurd (cc)
 null_of (object ms) e = absurd (cc)
-
--- A value with fields is not null.
-pub not_null : (d : Data) (n : ℕ) → field_count d ≡ Some n → is_some (as_null d) ≡ false
-not_null null n e = absurd (cc)
-not_null (boolean b) n e = refl
-not_null (number x) n e = refl
-not_null (string s) n e = refl
-not_null (array ds) n e = refl
-not_null (object ms) n e = refl

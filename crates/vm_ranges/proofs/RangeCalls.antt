@@ -32,10 +32,6 @@ unfolding Before
 before_by_end a b e l =
     rw (le-ltb a.start b.start (omega (arith, e)), eq-eqb a.start b.start e, lt-ltb a.end b.end l) refl
 
--- A range before another one does not start above it.
-pub starts_low : (a b : Range) → Before a b → a.start ≤ b.start
-starts_low a b h = ⊎_elim (λ (l : a.start < b.start). omega arith) (λ p. omega (arith, p.0)) (before_parts a b h)
-
 pub ruleset orders = (before_by_start, before_by_end)
 
 -- ---- Ranges that overlap, and ranges that contain others

@@ -46,11 +46,6 @@ constraint_made request k (inr (some, inr (aligned, inl z))) = absurd (cc (z.1))
 constraint_made request k (inr (some, inr (aligned, inr (start, made)))) =
     (cc (made), record { some = omega (arith, some); aligned = aligned; start = start })
 
--- A valid request makes its constraint.
-pub valid_request_made : (request : Request) → IsRequest request → MakesConstraint request (Ok request)
-unfolding MakesConstraint ByConstraint
-valid_request_made request r = inr (λ e. omega (arith, e, r.some), inr (r.aligned, inr (r.start, refl)))
-
 -- A fact that follows from the fact of each case of a request.
 pub constraint_map : (request : Request) (P Q : Error → Type 0) (R S : Type 0) → ((e : Error) → P e → Q e) → (R → S) →
     ByConstraint request P R → ByConstraint request Q S

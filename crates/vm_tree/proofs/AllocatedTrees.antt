@@ -216,13 +216,6 @@ grown_height change (Fork l r) (Fork m s) g =
       | inr x ↦ (let e = ap height_of x.0 in (omega arith, omega (arith, x.1.grows.upto)))
     ]
 
--- An update keeps the blocks.
-pub same_blocks : (change : Change) (new final : Shape) → Updates change new final → blocks final ≡ blocks new
-same_blocks Nothing new final u = ap blocks u
-same_blocks FreeOnly new final u = ap blocks u
-same_blocks Structure (Tip bs) final u = absurd u
-same_blocks Structure (Fork m s) final u = u.blocks
-
 -- ---- By what is stored beside the link
 -- A node of which a child has grown can be updated from its stored summary.
 pub can_update_stored : (change : Change) (n new : Shape) (longest alignments height : ℕ) →

@@ -52,7 +52,7 @@ use Rattle.vm_leaf.specs.Multiples.{alignment_count, most_alignments}
 use Rattle.vm_leaf.specs.Raises.{Raises}
 use Rattle.vm_leaf.proofs.Raised.{length_upto, alignments_upto}
 use Rattle.vm_tree.specs.Ends.{beyond}
-use Rattle.vm_tree.specs.Frees.{Frees, FreesEnd, EndHeld, JoinsGap, block_at_end, end_index, without_end}
+use Rattle.vm_tree.specs.Frees.{FreesBlock, FreesEnd, EndHeld, JoinsGap, block_at_end, end_index, without_end}
 use Rattle.vm_tree.specs.declared.end.End.{End}
 use Rattle.vm_tree.specs.declared.end.End.TheVariants.{First, Last}
 use Rattle.vm_tree.specs.declared.free.Gap.{Gap}
@@ -286,7 +286,7 @@ module _ (old new : List Block) (i : ℕ) (within : i < length old) (e : new ≡
 
   -- The held block at an index is freed.
   pub freed_here : (b : Block) (k : Range) → b ≡ nth old i → b.key.start ≡ k.start → b.key.end ≡ k.end → b.state ≡ Allocated →
-      Frees k old new
+      FreesBlock k old new
   freed_here b k q s z h =
       let f : b ≡ held_block k = held_is b h ∙ ap (λ (v : ℕ). held_block (record { start = v; end = b.key.end })) s
       ∙ ap (λ (v : ℕ). held_block (record { start = k.start; end = v })) z in

@@ -33,7 +33,7 @@ use Rattle.vm_leaf.proofs.Tiles.{tiles_part}
 use Rattle.std.specs.Prelude.{MatchOption, Option, Some, None}
 use Rattle.vm_tree.specs.Ends.{opposite}
 use Rattle.vm_tree.specs.Frees.{
-  Frees,
+  FreesBlock,
   FreesEnd,
   Holds,
   EndHeld,
@@ -99,7 +99,7 @@ last_fits bs h n = let p = tiles_part Allocated h.lo h.hi bs (length bs - 1) h.t
     (omega (arith, p.above (omega arith)), p.some)
 
 -- A run in which a block is freed is a run.
-frees_cover : (k : Range) (xs ys : List Block) → Frees k xs ys → IsRun xs → IsRun ys
+frees_cover : (k : Range) (xs ys : List Block) → FreesBlock k xs ys → IsRun xs → IsRun ys
 frees_cover k xs ys f h = subst IsRun (sym f.after) (cover_freed f.lower k f.upper (subst IsRun f.before h))
 
 -- A block that does not end at the end of the list has one after it.
@@ -113,14 +113,14 @@ lower_some r k [] us e u = absurd (u (ap start_of e))
 lower_some r k (b ∷ m) us e u = omega arith
 
 -- A block inside the left part, or inside the right part.
-inside_left : (l r a : List Block) (k : Range) → IsRun (l ++ r) → 0 < length l → 0 < length r → k.end + 1 ≢ start_of r → Frees k l a →
-    Frees k (l ++ r) (a ++ r)
+inside_left : (l r a : List Block) (k : Range) → IsRun (l ++ r) → 0 < length l → 0 < length r → k.end + 1 ≢ start_of r → FreesBlock k l a →
+    FreesBlock k (l ++ r) (a ++ r)
 inside_left l r a k c n m u f =
     let d = end_left l r c n m in
     let o = freed_before k k f.lower f.upper l a f.before f.after r (upper_some l k f.lower f.upper f.before (λ z. u (omega arith))) in
     record { lower = f.lower; upper = f.upper ++ r; before = o.0; after = o.1 }
 
-inside_right : (l r b : List Block) (k : Range) → k.start ≢ start_of r → Frees k r b → Frees k (l ++ r) (l ++ b)
+inside_right : (l r b : List Block) (k : Range) → k.start ≢ start_of r → FreesBlock k r b → FreesBlock k (l ++ r) (l ++ b)
 inside_right l r b k u f =
     let o = freed_after k k f.lower f.upper r b f.before f.after l (lower_some r k f.lower f.upper f.before (λ z. u (sym z))) in
     record { lower = l ++ f.lower; upper = f.upper; before = o.0; after = o.1 }
@@ -143,7 +143,7 @@ same_inner Last k g = refl
 -- Only the child c of a node changed.
 pub under_child : (end : End) (k : Range) (c x d : Shape) → CanChange (fork_at end c x) → (o : Option Freed)
     → MatchOption o ((d ≡ c) × ¬ Holds k (blocks (fork_at end c x)))
-    (λ (g : Freed). Frees k (blocks (fork_at end c x)) (blocks (fork_at end d x)) × (g.joined ≤ 2) × Reduces g.change g.joined c d)
+    (λ (g : Freed). FreesBlock k (blocks (fork_at end c x)) (blocks (fork_at end d x)) × (g.joined ≤ 2) × Reduces g.change g.joined c d)
     → FreesBeside end k c x d x o
 under_child First k c x d h None s = (s.0, refl, s.1)
 under_child Last k c x d h None s = (refl, s.0, s.1)
@@ -155,7 +155,7 @@ under_child Last k c x d h (Some g) s =
 -- Both children changed.
 both_loosened : (end : End) (k : Range) (a b : Change) (n : ℕ) (c x d y : Shape) → CanChange (fork_at end c x) → n ≤ 1 → Reduces a n c d →
     Reduces b 1 x y
-    → Frees k (blocks (fork_at end c x)) (blocks (fork_at end d y)) →
+    → FreesBlock k (blocks (fork_at end c x)) (blocks (fork_at end d y)) →
     FreesBeside end k c x d y (Some (record { change = Structure; joined = n + 1 }))
 both_loosened First k a b n c x d y h few s t o = (
   o,
@@ -260,7 +260,7 @@ same_range k z s e = ap (λ (v : ℕ). record { start = v; end = z.end }) s ∙ 
 frees_beside : (end : End) (k z : Range) (c x d y : Shape) → CanChange (fork_at end c x) → TouchesEdge end k (edge_of end c x) →
     inner (opposite end) z ≡ inner (opposite end) k
     → FreesEnd (opposite end) z (blocks c) (blocks d) → Seals end k z (blocks x) (blocks y) →
-    Frees k (blocks (fork_at end c x)) (blocks (fork_at end d y))
+    FreesBlock k (blocks (fork_at end c x)) (blocks (fork_at end d y))
 frees_beside First k z c x d y h e i f p =
     let b : blocks c ≡ f.lower ++ held_block f.was ∷ [] = f.before ∙ ap (λ (u : List Block). f.lower ++ held_block f.was ∷ u) f.none in
     let o : end_of (blocks c) ≡ f.was.end = ap end_of b ∙ end_append f.lower (held_block f.was ∷ []) (omega arith) in
@@ -390,7 +390,7 @@ inside_held Last k c x h i f = held_right (blocks x) (blocks c) k h.run (omega (
 
 -- A block that is freed in the child is freed in the node.
 inside_frees : (end : End) (k : Range) (c x d : Shape) → CanChange (fork_at end c x) → IsInside end k (edge_of end c x) →
-    Frees k (blocks c) (blocks d) → Frees k (blocks (fork_at end c x)) (blocks (fork_at end d x))
+    FreesBlock k (blocks c) (blocks d) → FreesBlock k (blocks (fork_at end c x)) (blocks (fork_at end d x))
 inside_frees First k c x d h i f = inside_left (blocks c) (blocks x) (blocks d) k h.run (omega (arith, many_l c x h))
     (omega (arith, many_r c x h)) i.1 f
 inside_frees Last k c x d h i f = inside_right (blocks x) (blocks c) (blocks d) k (λ z. omega arith) f
@@ -398,7 +398,7 @@ inside_frees Last k c x d h i f = inside_right (blocks x) (blocks c) (blocks d) 
 -- The answer of the child is the answer of the node.
 pub under_inside : (end : End) (k : Range) (c x d : Shape) → CanChange (fork_at end c x) → IsInside end k (edge_of end c x)
     → (o : Option Freed) →
-    MatchOption o ((d ≡ c) × ¬ Holds k (blocks c)) (λ (g : Freed). Frees k (blocks c) (blocks d) × Reduces g.change g.joined c d) →
+    MatchOption o ((d ≡ c) × ¬ Holds k (blocks c)) (λ (g : Freed). FreesBlock k (blocks c) (blocks d) × Reduces g.change g.joined c d) →
     FreesBeside end k c x d x o
 under_inside end k c x d h i None s = under_child end k c x d h None
     (s.0, λ (y : Holds k (blocks (fork_at end c x))). s.1 (inside_held end k c x h i y))
@@ -408,7 +408,7 @@ under_inside end k c x d h i (Some g) s =
 
 -- The first address of the right subtree stays.
 pub right_start : (r b : Shape) (k : Range) (o : Option Freed) → start_of (blocks r) < k.start
-    → MatchOption o ((b ≡ r) × ¬ Holds k (blocks r)) (λ (f : Freed). Frees k (blocks r) (blocks b) × Reduces f.change f.joined r b) →
+    → MatchOption o ((b ≡ r) × ¬ Holds k (blocks r)) (λ (f : Freed). FreesBlock k (blocks r) (blocks b) × Reduces f.change f.joined r b) →
     start_of (blocks r) ≡ start_of (blocks b)
 right_start r b k None s f = ap (λ (x : Shape). start_of (blocks x)) (sym f.0)
 right_start r b k (Some g) s h =

@@ -10,7 +10,7 @@ use Rattle.vm_leaf.specs.Blocks.{Tiles, start_of, end_of, IsRun}
 use Rattle.vm_leaf.proofs.Tiles.{tiles_part}
 use Rattle.vm_tree.specs.Changes.{CanChange, Reduces}
 use Rattle.vm_tree.specs.Ends.{beyond}
-use Rattle.vm_tree.specs.Frees.{Frees, FreesEnd, EndHeld, CanExtend, block_at_end, without_end, inner, fork_at}
+use Rattle.vm_tree.specs.Frees.{FreesBlock, FreesEnd, EndHeld, CanExtend, block_at_end, without_end, inner, fork_at}
 use Rattle.vm_tree.specs.declared.change.Change.{Change}
 use Rattle.vm_tree.specs.declared.free.Freed.{Freed}
 use Rattle.vm_tree.specs.declared.end.End.{End}
@@ -94,7 +94,7 @@ module _ (end : End) (k : Range) (xs ys : List Block) (f : FreesEnd end k xs ys)
       omega (arith, n.1, n.2)
 
 -- A freed block is joined with at most two other blocks.
-pub freed_length : (xs ys : List Block) (k : Range) → Frees k xs ys → length xs ≤ length ys + 2
+pub freed_length : (xs ys : List Block) (k : Range) → FreesBlock k xs ys → length xs ≤ length ys + 2
 freed_length xs ys k f =
     let a = ap length f.before ∙ length-append f.lower (held_block k ∷ f.upper) in
     let b = ap length f.after in

@@ -44,7 +44,7 @@ use Rattle.vm_tree.specs.declared.search.Refusal.TheVariants.{NoPlace, Held, Pas
 use Rattle.vm_tree.proofs.Allocating.{IsAllocated, run_allocated, exact_allocated}
 use Rattle.vm_tree.proofs.Paths.{path_length, search_fits, fit_searches, fit_path}
 use Rattle.vm_tree.specs.Changes.{CanChange, Reduces}
-use Rattle.vm_tree.specs.Frees.{Frees}
+use Rattle.vm_tree.specs.Frees.{FreesBlock}
 use Rattle.vm_tree.specs.Roots.{IsBlockTree, IsPathLength, IsRoot}
 use Rattle.vm_tree.specs.Links.{side, IsSummed}
 use Rattle.vm_tree.specs.declared.link.Link.{Link}
@@ -73,7 +73,7 @@ pub lone_run : (bs : List Block) → IsLeaf bs → IsRun bs
 lone_run bs h = record { lo = h.lo; hi = h.hi; some = h.some; tiles = h.tiles; range = h.range }
 
 -- A run in which a block is freed is a run.
-pub freed_run : (k : Range) (old new : List Block) → IsRun old → Frees k old new → IsRun new
+pub freed_run : (k : Range) (old new : List Block) → IsRun old → FreesBlock k old new → IsRun new
 freed_run k old new r f = subst IsRun (sym f.after) (cover_freed f.lower k f.upper (subst IsRun f.before r))
 
 -- The tree of a space with held ranges covers the space.
@@ -91,7 +91,7 @@ built_run space held s r o b =
 
 -- A root stays valid when a range is freed under it.
 pub freed_root : (k : Range) (change : Change) (n : ℕ) (old new : Link) (v : Shape) → side old ≡ v → IsRoot (record { root = old }) →
-    Frees k (blocks v) (blocks (side new)) → Reduces change n v (side new) → IsSummed new
+    FreesBlock k (blocks v) (blocks (side new)) → Reduces change n v (side new) → IsSummed new
     → IsRoot (record { root = new })
 freed_root k change n old new v q root f h s =
     let run = freed_run k (blocks v) (blocks (side new)) (subst (λ (t : Shape). IsRun (blocks t)) q root.run) f in

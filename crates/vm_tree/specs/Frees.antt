@@ -17,7 +17,7 @@ use Rattle.vm_tree.specs.declared.free.Freed.{Freed}
 use Rattle.vm_ranges.specs.declared.state.NodeState.TheVariants.{Allocated}
 
 -- The range k was held, and became a gap, joined with its free neighbours.
-pub record Frees (k : Range) (old new : List Block) : Type 0 where
+pub record FreesBlock (k : Range) (old new : List Block) : Type 0 where
   pub lower : List Block
   pub upper : List Block
   pub before : old ≡ lower ++ held_block k ∷ upper
@@ -83,7 +83,7 @@ pub record JoinsGap (gap : Gap) (old new : List Block) : Type 0 where
 abbrev pub FreesUnder : Range → Shape → Shape → Shape → Shape → Option Freed → Type 0
 FreesUnder k l r a b found =
     MatchOption found ((a ≡ l) × (b ≡ r) × ¬ Holds k (blocks l ++ blocks r))
-    (λ freed. Frees k (blocks l ++ blocks r) (blocks a ++ blocks b) × Loosens freed.change freed.joined l r a b)
+    (λ freed. FreesBlock k (blocks l ++ blocks r) (blocks a ++ blocks b) × Loosens freed.change freed.joined l r a b)
 
 -- The node whose child at this end is `near`, and whose other child is `far`.
 abbrev pub fork_at : End → Shape → Shape → Shape

@@ -1,4 +1,4 @@
-//! Frees a block of a tree in place, and joins it with the gaps on both sides. It does not allocate.
+//! FreesBlock a block of a tree in place, and joins it with the gaps on both sides. It does not allocate.
 //!
 //! The range of a block can end right before the edge between two children of a node, or start at it. Then
 //! the block on the other side of the edge is looked at. If it is a gap, the range is freed together with it.
@@ -12,7 +12,7 @@ ghost use Rattle.vm_tree.specs.Shape.{Tip, Fork, blocks, height_of, IsTree};
 ghost use Rattle.vm_tree.specs.NodeCounts.{nodes_to_end, nodes_beside, nodes_to_free};
 ghost use Rattle.vm_tree.specs.Links.{side, IsFreeOf, IsSummed, IsNode};
 ghost use Rattle.vm_tree.specs.Changes.{Reports, CanChange, Reduces};
-ghost use Rattle.vm_tree.specs.Frees.{Frees, Holds, JoinsGap, FreesUnder, FreesBeside, FreesEnd, EndHeld, CanExtend, TouchesEdge, between, end_index, block_at_end, without_end, fork_at, node_at};
+ghost use Rattle.vm_tree.specs.Frees.{FreesBlock, Holds, JoinsGap, FreesUnder, FreesBeside, FreesEnd, EndHeld, CanExtend, TouchesEdge, between, end_index, block_at_end, without_end, fork_at, node_at};
 
 use crate::change::{Change, update};
 use crate::end::End;
@@ -37,7 +37,7 @@ pub(crate) struct Gap {
     pub(crate) joined: u64,
 }
 
-/// Frees the block at an index, and joins it with the gaps on both sides.
+/// FreesBlock the block at an index, and joins it with the gaps on both sides.
 #[inline(always)]
 fn join_at(leaf: &mut Leaf, i: usize) -> Gap
     requires within { i < length leaf.old }
@@ -51,13 +51,13 @@ fn join_at(leaf: &mut Leaf, i: usize) -> Gap
     Gap { range, joined }
 }
 
-/// Frees a held range of a leaf. Returns `None` if the leaf does not hold it.
+/// FreesBlock a held range of a leaf. Returns `None` if the leaf does not hold it.
 #[inline(always)]
 pub(crate) fn free_in(leaf: &mut Leaf, key: &RangeInclusive) -> Option<Gap>
     requires from { start_of leaf.old ≤ key.now.start }
     requires upto { key.now.start ≤ end_of leaf.old }
     ensures { MatchOption result ((leaf.new ≡ leaf.old) × ¬ Holds key.now leaf.old)
-        (λ gap. Frees key.now leaf.old leaf.new × JoinsGap gap leaf.old leaf.new) }
+        (λ gap. FreesBlock key.now leaf.old leaf.new × JoinsGap gap leaf.old leaf.new) }
 {
     // Proof: `len` gives the facts of a leaf.
     let _len = leaf.len();
@@ -296,7 +296,7 @@ fn free_end(tree: &mut Link, end: End, start: u64, last: u64, count: &mut Steps)
     }
 }
 
-/// Frees a range that touches the edge between two children of a node. It is in `near`, the child at the given
+/// FreesBlock a range that touches the edge between two children of a node. It is in `near`, the child at the given
 /// end of the node. If the block of `far` at the edge is a gap, it is dropped, and the edge moves over it.
 #[inline(never)]
 #[tactic(auto, using(crate::proofs::FreesEdges::beside, crate::proofs::FreesCounts::beside_counts))]
@@ -338,7 +338,7 @@ fn free_beside(
     }
 }
 
-/// Frees a held range below a node that does not touch the edge between its children. Returns `None` if it
+/// FreesBlock a held range below a node that does not touch the edge between its children. Returns `None` if it
 /// is not there.
 ///
 /// The compiler selects the child without a branch, because the call has no other code.
@@ -370,7 +370,7 @@ fn free_child(
     free_at(right, key, count)
 }
 
-/// Frees a held range below a node. Returns `None` if it is not there.
+/// FreesBlock a held range below a node. Returns `None` if it is not there.
 #[cycle(free_at)]
 #[inline(always)]
 #[tactic(auto, using(crate::proofs::FreesEdges::edges))]
@@ -403,7 +403,7 @@ fn free_under(
     free_child(left, edge, right, key, count)
 }
 
-/// Frees a held range, and joins it with the gaps on both sides. Returns `None` if the tree does not hold it.
+/// FreesBlock a held range, and joins it with the gaps on both sides. Returns `None` if the tree does not hold it.
 #[cycle(free_at)]
 pub(crate) fn free_at(tree: &mut Link, key: &RangeInclusive, count: &mut Steps) -> Option<Freed>
     requires can { CanChange (side tree.old) }
@@ -413,7 +413,7 @@ pub(crate) fn free_at(tree: &mut Link, key: &RangeInclusive, count: &mut Steps) 
     requires count_fits { count.old + 3 * height_of (side tree.old) < MAX }
     ensures freed { MatchOption result
         ((side tree.new ≡ side tree.old) × ¬ Holds key.now (blocks (side tree.old)))
-        (λ freed. Frees key.now (blocks (side tree.old)) (blocks (side tree.new)) × Reduces freed.change freed.joined (side tree.old) (side tree.new)) }
+        (λ freed. FreesBlock key.now (blocks (side tree.old)) (blocks (side tree.new)) × Reduces freed.change freed.joined (side tree.old) (side tree.new)) }
     ensures summed { IsSummed tree.new }
     ensures count { (count.old < count.new) × (count.new + 2 ≤ count.old + 3 * height_of (side tree.old)) }
     ensures exact { OnSome result (count.new ≡ count.old + nodes_to_free key.now (side tree.old)) }

@@ -8,7 +8,7 @@ ghost use Rattle.vm_leaf.specs.Block.{free_block};
 ghost use Rattle.vm_leaf.specs.Blocks.{longest_gap};
 ghost use Rattle.vm_tree.specs.Allocation.{window_of, IsSearch, AllocatesExact, AllocatesFit};
 ghost use Rattle.vm_tree.specs.Building.{AreInOrder, blocks_between, IsBuiltTree, TOO_MANY_BLOCKS};
-ghost use Rattle.vm_tree.specs.Frees.{Frees, Holds};
+ghost use Rattle.vm_tree.specs.Frees.{FreesBlock, Holds};
 ghost use Rattle.vm_tree.specs.GapSearch.{IsSearchCount, gaps_without_place};
 ghost use Rattle.vm_tree.specs.Links.{side};
 ghost use Rattle.vm_tree.specs.Lookups.{find_superset};
@@ -158,7 +158,7 @@ impl Tree {
         Walk::within(&self.root, window)
     }
 
-    /// Frees an allocated range, and joins it with the gaps on both sides. Returns the number of these gaps:
+    /// FreesBlock an allocated range, and joins it with the gaps on both sides. Returns the number of these gaps:
     /// 0, 1 or 2.
     ///
     /// It returns `None`, and changes nothing, unless exactly this range is allocated. It does not allocate
@@ -171,7 +171,7 @@ impl Tree {
         requires count { count.old ≡ 0 }
         ensures freed { MatchOption result
             ((self.new ≡ self.old) × ¬ Holds key.now (blocks self.old))
-            (λ joined. Frees key.now (blocks self.old) (blocks self.new) × (length (blocks self.old) ≡ length (blocks self.new) + joined)) }
+            (λ joined. FreesBlock key.now (blocks self.old) (blocks self.new) × (length (blocks self.old) ≡ length (blocks self.new) + joined)) }
         ensures count { (1 ≤ count.new) × (count.new ≤ 3 * height_of self.old) }
         ensures exact { OnSome result (count.new ≡ nodes_to_free key.now self.old) }
         ensures height { height_of self.new ≤ height_of self.old }

@@ -8,10 +8,6 @@ use Rattle.vm_leaf.specs.Blocks.{Tiles}
 use Rattle.vm_addresses.specs.Tree.BlockList.{IsOrderedFrom}
 use Rattle.vm_ranges.specs.declared.state.NodeState.{NodeState}
 
-pub ordered_weaken : (lo hi : ℕ) (bs : List Block) → lo ≤ hi → IsOrderedFrom hi bs → IsOrderedFrom lo bs
-ordered_weaken lo hi [] p s = tt
-ordered_weaken lo hi (b ∷ bs) p s = (omega arith, s.1, s.2)
-
 -- The blocks of a tiling are in order.
 pub tiles_ordered : (p : NodeState) (lo hi : ℕ) (bs : List Block) → Tiles p lo bs hi → IsOrderedFrom lo bs
 tiles_ordered p lo hi [] t = tt

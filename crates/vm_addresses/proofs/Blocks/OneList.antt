@@ -40,5 +40,3 @@ few p lo hi (b ∷ bs) t =
 -- A state with k held ranges has at most 2k + 1 blocks.
 pub few_blocks : (state : AddressState) (bs : List Block) → IsBlocksOf state bs → length bs ≤ 2 * length state.held + 1
 few_blocks state bs h = let i = few Allocated state.space.start state.space.end bs h.tiles in omega (arith, i.0, ap length h.held)
-
-pub ruleset held_of_first = (held_of-free, held_of-held)

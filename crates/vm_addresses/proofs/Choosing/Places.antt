@@ -95,33 +95,3 @@ none_at (b ∷ bs) n a u nf z d i =
 pub no_place : (state : AddressState) (bs : List Block) (n a : ℕ) → IsBlocksOf state bs → 0 < n → All (HasNoFit n a) bs → (s : ℕ) →
     ¬ IsPlace n a state s
 no_place state bs n a h z nf s p = none_at bs n a s nf z (place_divides state n a s p) (place_in_block state bs n a s h z p)
-
--- The lowest fit of the first block that has a fit is the lowest place.
-pub lowest_place : (state : AddressState) (bs xs ys : List Block) (b : Block) (n a t : ℕ) → IsBlocksOf state bs → bs ≡ xs ++ b ∷ ys →
-    0 < n → All (HasNoFit n a) xs → IsLowestFit n a b t → IsLowestPlace n a state t
-unfolding IsLowestPlace IsLowestFit
-lowest_place state bs xs ys b n a t h e z nf l =
-    let tiles : Tiles Allocated state.space.start (xs ++ b ∷ ys) state.space.end = subst
-    (λ (v : List Block). Tiles Allocated state.space.start v state.space.end) e h.tiles in
-    let inside : InFreeBlock bs t (t + n - 1) = subst (λ (v : List Block). InFreeBlock v t (t + n - 1)) (sym e)
-    (fit_within xs ys b n a t z l.0) in (
-      block_place state bs n a t h z l.0.1 inside,
-      λ u p.
-          not_below Allocated state.space.start state.space.end n a t u xs ys b tiles nf l z (place_divides state n a u p)
-          (subst (λ (v : List Block). InFreeBlock v u (u + n - 1)) e (place_in_block state bs n a u h z p)),
-    )
-
--- The highest fit of the last block that has a fit is the highest place.
-pub highest_place : (state : AddressState) (bs xs ys : List Block) (b : Block) (n a t : ℕ) → IsBlocksOf state bs → bs ≡ xs ++ b ∷ ys →
-    0 < n → All (HasNoFit n a) ys → IsHighestFit n a b t → IsHighestPlace n a state t
-unfolding IsHighestPlace IsHighestFit
-highest_place state bs xs ys b n a t h e z nf l =
-    let tiles : Tiles Allocated state.space.start (xs ++ b ∷ ys) state.space.end = subst
-    (λ (v : List Block). Tiles Allocated state.space.start v state.space.end) e h.tiles in
-    let inside : InFreeBlock bs t (t + n - 1) = subst (λ (v : List Block). InFreeBlock v t (t + n - 1)) (sym e)
-    (fit_within xs ys b n a t z l.0) in (
-      block_place state bs n a t h z l.0.1 inside,
-      λ u p.
-          not_above Allocated state.space.start state.space.end n a t u xs ys b tiles nf l z (place_divides state n a u p)
-          (subst (λ (v : List Block). InFreeBlock v u (u + n - 1)) e (place_in_block state bs n a u h z p)),
-    )

@@ -5,16 +5,16 @@ use Rattle.vm_ranges.proofs.FieldSteps.{field_map}
 use Rattle.vm_ranges.proofs.Nesting.{object_within, number_within, range_nests, state_nests}
 use Rattle.vm_ranges.specs.Range.{Range}
 use Rattle.vm_addresses.specs.Address.{AddressState}
-use Rattle.vm_addresses.specs.Values.NodeTree.{NodeTree, Tip, Fork, height_of}
+use Rattle.vm_addresses.specs.Values.NodeTree.{NodeTree, Tip, Fork, node_height}
 use Rattle.vm_tree.specs.Shape.{MAX_HEIGHT}
 use Rattle.vm_addresses.specs.Values.AllocatorValues.{EncodesTree, EncodesAddresses}
 use Rattle.vm_addresses.specs.Values.TreeValues.{EncodesShape, EncodesSpaceTree}
 
 -- The value of a tree nests at most one deeper than its nodes.
-pub shape_nests : (s : NodeTree) (d : Data) → EncodesShape d s → depth d ≤ height_of s + 1
+pub shape_nests : (s : NodeTree) (d : Data) → EncodesShape d s → depth d ≤ node_height s + 1
 shape_nests Tip d p = let e = ap depth p in omega (arith, e)
 shape_nests (Fork l b r) d p =
-    let n = max (height_of l) (height_of r) + 1 in
+    let n = max (node_height l) (node_height r) + 1 in
     let e =
     object_within n (codes "key" ∷ codes "node_state" ∷ codes "left" ∷ codes "right" ∷ codes "height" ∷ []) d
     ((refl, (refl, (refl, (refl, tt)))), ((refl, (refl, (refl, tt))), ((refl, (refl, tt)), ((refl, tt), (tt, tt)))))

@@ -8,7 +8,7 @@ use Rattle.vm_ranges.proofs.Steps.{and_then_some, map_some, if_some}
 use Rattle.vm_ranges.specs.Fields.{field_count, is_count}
 use Rattle.vm_ranges.specs.Numbers.{number_in}
 use Rattle.vm_leaf.specs.declared.block.Block.{Block}
-use Rattle.vm_addresses.specs.Values.NodeTree.{NodeTree, Tip, Fork, height_of}
+use Rattle.vm_addresses.specs.Values.NodeTree.{NodeTree, Tip, Fork, node_height}
 use Rattle.vm_ranges.specs.RangeValues.{EncodesRange, EncodesState, decoded_range, decoded_state}
 use Rattle.vm_addresses.specs.Values.TreeValues.{EncodesNode, EncodesShape, HasNodes}
 use Rattle.vm_addresses.specs.Checks.NodeChecks.{NodeData, decoded_node}
@@ -88,9 +88,9 @@ node_is d b L R h n =
 pub shape_nodes : (s : NodeTree) (d : Data) → EncodesShape d s → HasNodes d s
 shape_nodes Tip d p = p
 shape_nodes (Fork l b r) d p = (
-  max (height_of l) (height_of r) + 1,
+  max (node_height l) (node_height r) + 1,
   sides_map d b (λ v. EncodesShape v l) (λ v. EncodesShape v r) (λ v. HasNodes v l) (λ v. HasNodes v r)
-      (max (height_of l) (height_of r) + 1) (λ v. shape_nodes l v) (λ v. shape_nodes r v) p,
+      (max (node_height l) (node_height r) + 1) (λ v. shape_nodes l v) (λ v. shape_nodes r v) p,
 )
 
 pub no_data : (d : Data) (n : NodeData) → d ≡ null → decoded_node d ≡ Some n → ⊥
@@ -118,8 +118,3 @@ one_tree (Fork l x r) (Fork m y n) d p q =
 
 pub one_shape : (s t : NodeTree) (d : Data) → EncodesShape d s → EncodesShape d t → s ≡ t
 one_shape s t d p q = one_tree s t d (shape_nodes s d p) (shape_nodes t d q)
-
--- A value without the fields of a node has no nodes.
-pub none_tip : (s : NodeTree) (d : Data) → HasNodes d s → decoded_node d ≡ None → s ≡ Tip
-none_tip Tip d p e = refl
-none_tip (Fork l b r) d p e = let n = fork_is d l r b p in absurd (let f = n.1 in cc)

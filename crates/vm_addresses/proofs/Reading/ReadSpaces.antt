@@ -7,7 +7,7 @@ use Rattle.vm_addresses.specs.Address.{AddressState, IsAddressState}
 use Rattle.vm_addresses.specs.Checks.Spans.{StandsFor, is_tree_of}
 use Rattle.vm_addresses.specs.Checks.ValueNodes.{EncodesSaved, IsSavedIn}
 use Rattle.vm_addresses.specs.Tree.Blocks.{TilesSpace, held_of}
-use Rattle.vm_addresses.specs.Values.NodeTree.{NodeTree, blocks}
+use Rattle.vm_addresses.specs.Values.NodeTree.{NodeTree, node_blocks}
 use Rattle.vm_addresses.specs.Values.SavedTrees.{Saved, saved_blocks, IsReadable, HasTreeOf}
 use Rattle.vm_addresses.specs.Values.TreeValues.{EncodesSpaceTree}
 use Rattle.vm_addresses.specs.declared.saved.span.Span.{Span}
@@ -38,14 +38,14 @@ saved_in d space state range p =
 pub one_encoded : (d : Data) (space : Range) (a b : AddressState) → EncodesSpaceTree d space a → EncodesSpaceTree d space b → a ≡ b
 one_encoded d space a b p q =
     let tree : p.tree ≡ q.tree = one_shape p.tree q.tree d p.encoded q.encoded in
-    let held : a.held ≡ b.held = sym p.held ∙ ap (λ (s : NodeTree). held_of (blocks s)) tree ∙ q.held in
+    let held : a.held ≡ b.held = sym p.held ∙ ap (λ (s : NodeTree). held_of (node_blocks s)) tree ∙ q.held in
     ap (λ (v : Range). state_with v a.held) (p.is_space ∙ sym q.is_space) ∙ ap (state_with b.space) held
 
 -- The state that a value encodes is valid.
 pub tree_state_valid : (d : Data) (state : AddressState) → IsRange state.space.start state.space.end →
     EncodesSpaceTree d state.space state → IsAddressState state
 tree_state_valid d state range p =
-    let i = is_state state.space (blocks p.tree) p.blocks range in
+    let i = is_state state.space (node_blocks p.tree) p.blocks range in
     subst (λ (hs : List Range). IsAddressState (state_with state.space hs)) p.held i
 
 -- ---- The clauses of the code

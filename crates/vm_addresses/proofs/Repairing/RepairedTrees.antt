@@ -6,7 +6,7 @@ use Rattle.vm_addresses.specs.Address.{AddressState, IsAddressState}
 use Rattle.vm_tree.specs.Building.{AreInOrder}
 use Rattle.vm_addresses.specs.Answer.{SPLIT_LIMIT_MIN_HELD}
 use Rattle.vm_addresses.specs.Tree.Blocks.{held_of, TilesSpace}
-use Rattle.vm_addresses.specs.Values.NodeTree.{NodeTree, blocks}
+use Rattle.vm_addresses.specs.Values.NodeTree.{NodeTree, node_blocks}
 use Rattle.vm_addresses.specs.Values.TreeValues.{EncodesSpaceTree}
 use Rattle.vm_addresses.specs.Values.KeyValues.{EncodesKeys}
 use Rattle.vm_addresses.specs.Values.SavedTrees.{Saved, IsReadable, HasHeldKeys}
@@ -27,7 +27,7 @@ saved_in : (d : Data) (space : Range) (state : AddressState) → space.end ≤ M
     (span : Option Span) × (t : Saved) × IsSavedIn 0 d span t
 saved_in d space state v p =
     let t = nodes_saved p.tree d p.nodes in
-    let keys = keys_within space.start 0 space.end MAX (blocks p.tree) (omega arith) v p.keys in
+    let keys = keys_within space.start 0 space.end MAX (node_blocks p.tree) (omega arith) v p.keys in
     let readable : IsReadable t.0 = record { nested = rw t.2 p.nested; keys = rw t.2 keys; below = rw t.2 p.below } in
     let ranges = ranges_saved t.0 d t.1 in
     let o = complete t.0 ranges readable in
@@ -45,14 +45,14 @@ held_in d space state t nodes p =
 pub one_keys : (d : Data) (space : Range) (a b : AddressState) → EncodesKeys d space a → EncodesKeys d space b → a ≡ b
 one_keys d space a b p q =
     let tree : p.tree ≡ q.tree = one_tree p.tree q.tree d p.nodes q.nodes in
-    let held : a.held ≡ b.held = sym p.held ∙ ap (λ (s : NodeTree). held_of (blocks s)) tree ∙ q.held in
+    let held : a.held ≡ b.held = sym p.held ∙ ap (λ (s : NodeTree). held_of (node_blocks s)) tree ∙ q.held in
     ap (λ (v : Range). state_with v a.held) (p.is_space ∙ sym q.is_space) ∙ ap (state_with b.space) held
 
 -- The state that a value encodes is valid.
 pub keys_state : (d : Data) (state : AddressState) → IsRange state.space.start state.space.end → EncodesKeys d state.space state →
     IsAddressState state
 keys_state d state range p =
-    let in_order = keys_in_order state.space.start state.space.end (blocks p.tree) p.keys p.below in
+    let in_order = keys_in_order state.space.start state.space.end (node_blocks p.tree) p.keys p.below in
     record { space = range; in_order = subst (λ (hs : List Range). AreInOrder state.space.start hs state.space.end) p.held in_order }
 
 -- A value that is read without repairs is read with repairs to the same state, if not too many ranges are held.
@@ -65,7 +65,7 @@ strict_keys d space state p few =
       tree = p.tree;
       nodes = shape_nodes p.tree d p.encoded;
       nested = omega arith;
-      keys = tiles_keys Allocated space.start space.end (blocks p.tree) p.blocks.tiles;
+      keys = tiles_keys Allocated space.start space.end (node_blocks p.tree) p.blocks.tiles;
       below = p.blocks.below;
       few = omega (arith, few, ap length p.held);
       held = p.held;

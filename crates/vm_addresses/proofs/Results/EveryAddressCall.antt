@@ -45,7 +45,7 @@ use Rattle.vm_tree.specs.Building.{TOO_MANY_BLOCKS}
 use Rattle.vm_addresses.specs.Tree.Blocks.{blocks_of}
 use Rattle.vm_addresses.specs.Several.{RefusesOne, AllocatesAll}
 use Rattle.vm_addresses.specs.Moves.{IsFor, MovesRange}
-use Rattle.vm_addresses.specs.Holes.{holes_after, last_end, wrong_index, MakesWithFree}
+use Rattle.vm_addresses.specs.Holes.{holes_after, last_range_end, wrong_index, MakesWithFree}
 use Rattle.vm_addresses.specs.Histories.AddressHistories.{Allocate, AllocateAll, Free, MoveTo, Clone, IsCallFrom}
 use Rattle.vm_addresses.specs.Laws.HistoryLaws.{EveryAddressCallIsAnswered}
 use Rattle.vm_ranges.specs.declared.error.Error.{Error}
@@ -281,7 +281,7 @@ total_makes_held base size held =
 total_makes_with_free : (free : List Range) → (answer : Result AddressState Error) × MakesWithFree free answer × (answer ≢ Err OutOfMemory)
 total_makes_with_free [] = (Err Underflow, refl, λ h. absurd (cc h))
 total_makes_with_free (r ∷ rs) =
-    let space : Range = record { start = r.start; end = last_end r.end rs } in
+    let space : Range = record { start = r.start; end = last_range_end r.end rs } in
     elim (wrong_index 0 0 (r ∷ rs)) as (λ v. (answer : Result AddressState Error) × MatchOption v
     (Unless (IsRange space.start space.end) (answer ≡ Err (InvalidRange space.start space.end))
     (MakesHeld space (holes_after (r.end + 1) rs) answer))

@@ -57,7 +57,7 @@ use Rattle.vm_addresses.proofs.Comparing.Tilings.{gap}
 use Rattle.vm_addresses.proofs.Blocks.PlainWords.{IsHeldAddress, contains_held, held_contains, held_address, all_miss, none_holds}
 use Rattle.vm_ranges.specs.Making.{MakesRange}
 use Rattle.vm_addresses.specs.Checks.FreeChecks.{AreRanges, ChecksFree}
-use Rattle.vm_addresses.specs.Holes.{holes_after, last_end, wrong_index, MakesWithFree}
+use Rattle.vm_addresses.specs.Holes.{holes_after, last_range_end, wrong_index, MakesWithFree}
 use Rattle.vm_addresses.specs.Laws.SeveralLaws.{FreeIsHeld}
 use Rattle.vm_addresses.proofs.Callers.{range_of}
 
@@ -112,7 +112,7 @@ none_made hs rs end start r e is word made =
     ap (λ (v : List Range). hs ++ v) (no_hole (end + 1) r rs low)
 
 -- The lists of a list in order end at its last range.
-last_above : (i end : ℕ) (rs : List Range) → wrong_index i (end + 1) rs ≡ None → AreRanges rs → end ≤ last_end end rs
+last_above : (i end : ℕ) (rs : List Range) → wrong_index i (end + 1) rs ≡ None → AreRanges rs → end ≤ last_range_end end rs
 last_above i end [] e v = omega arith
 last_above i end (r ∷ rs) e v =
     let l = in_order_first i (end + 1) r rs e in
@@ -169,7 +169,7 @@ more_holes lo end hi r hs l o some within m h =
           omega (arith, both, one, rest);
     }
 
-hole_list : (i lo end hi : ℕ) (rs : List Range) → wrong_index i (end + 1) rs ≡ None → AreRanges rs → lo ≤ end + 1 → last_end end rs ≤ hi →
+hole_list : (i lo end hi : ℕ) (rs : List Range) → wrong_index i (end + 1) rs ≡ None → AreRanges rs → lo ≤ end + 1 → last_range_end end rs ≤ hi →
     hi ≤ MAX → IsHoleList lo end hi (holes_after (end + 1) rs)
 hole_list i lo end hi [] e v l h m = record {
   faults = refl;
@@ -232,7 +232,7 @@ hole_not_before i next (r ∷ rs) x e v h =
 
 -- An address from `next` on is in one of the ranges if and only if it is in none of the holes, and not past the last range.
 abbrev AreClearFrom : ℕ → ℕ → List Range → ℕ → Type 0
-AreClearFrom next end rs x = ((x ≤ last_end end rs) × ¬ IsHeldAddress (holes_after next rs) x) ↔ IsHeldAddress rs x
+AreClearFrom next end rs x = ((x ≤ last_range_end end rs) × ¬ IsHeldAddress (holes_after next rs) x) ↔ IsHeldAddress rs x
 
 clear_step : (i next end : ℕ) (r : Range) (rs : List Range) (x : ℕ) → wrong_index i next (r ∷ rs) ≡ None → AreRanges (r ∷ rs) → next ≤ x →
     (r.end < x → AreClearFrom (r.end + 1) r.end rs x) → AreClearFrom next end (r ∷ rs) x
@@ -278,7 +278,7 @@ clear_above i end (r ∷ rs) x e v above =
 
 -- An address of the space is clear if and only if it is in one of the free ranges.
 pub free_clear : (r : Range) (rs : List Range) (x : ℕ) → wrong_index 0 0 (r ∷ rs) ≡ None → AreRanges (r ∷ rs) →
-    IsClear (record { space = record { start = r.start; end = last_end r.end rs }; held = holes_after (r.end + 1) rs }) x
+    IsClear (record { space = record { start = r.start; end = last_range_end r.end rs }; held = holes_after (r.end + 1) rs }) x
     ↔ ((q : Range) × Contains (r ∷ rs) q × IsIn q x)
 free_clear r rs x e v =
     let rest = in_order_rest 0 0 r rs e in
@@ -305,10 +305,10 @@ free_clear r rs x e v =
 pub record IsFreeList (r : Range) (rs : List Range) : Type 0 where
   pub right : wrong_index 1 (r.end + 1) rs ≡ None
   pub ranges : AreRanges (r ∷ rs)
-  pub space : IsRange r.start (last_end r.end rs)
+  pub space : IsRange r.start (last_range_end r.end rs)
 
-holes_fit : (r : Range) (rs : List Range) → IsFreeList r rs → IsHoleList r.start r.end (last_end r.end rs) (holes_after (r.end + 1) rs)
-holes_fit r rs l = hole_list 1 r.start r.end (last_end r.end rs) rs l.right l.ranges.1 (omega (arith, l.ranges.0.0)) (omega arith)
+holes_fit : (r : Range) (rs : List Range) → IsFreeList r rs → IsHoleList r.start r.end (last_range_end r.end rs) (holes_after (r.end + 1) rs)
+holes_fit r rs l = hole_list 1 r.start r.end (last_range_end r.end rs) rs l.right l.ranges.1 (omega (arith, l.ranges.0.0)) (omega arith)
     (omega (arith, l.space.1))
 
 none_wrong : (r : Range) (rs : List Range) → IsFreeList r rs → wrong_index 0 0 (r ∷ rs) ≡ None
@@ -317,7 +317,7 @@ none_wrong r rs l = right_here 0 0 r rs (omega arith) ∙ l.right
 -- The checks of the body accept only such a list.
 pub list_checked : (r last : Range) (rs : List Range) (n : ℕ) (space : Range) → IsRange r.start r.end → ChecksFree r rs (Ok (last, n)) →
     MakesRange r.start last.end (Ok space) →
-    IsFreeList r rs × (space ≡ record { start = r.start; end = last_end r.end rs })
+    IsFreeList r rs × (space ≡ record { start = r.start; end = last_range_end r.end rs })
 list_checked r last rs n space some checks made =
     ⊎_elim
     (λ u. absurd (cc (u.1)))
@@ -329,7 +329,7 @@ list_checked r last rs n space some checks made =
     made
 
 pub makes_of : (r : Range) (rs : List Range) (answer : Result AddressState Error) → IsFreeList r rs →
-    MakesHeld (record { start = r.start; end = last_end r.end rs }) (holes_after (r.end + 1) rs) answer → MakesWithFree (r ∷ rs) answer
+    MakesHeld (record { start = r.start; end = last_range_end r.end rs }) (holes_after (r.end + 1) rs) answer → MakesWithFree (r ∷ rs) answer
 makes_of r rs answer l h = rw (none_wrong r rs l) (inr (l.space, h))
 
 pub too_many : (r : Range) (rs : List Range) (n : ℕ) → IsFreeList r rs → n ≡ length (holes_after (r.end + 1) rs) → 2 ^ 48 ≤ n →
@@ -338,7 +338,7 @@ too_many r rs n l e many =
     let h = holes_fit r rs l in
     let blocks = h.blocks l.ranges.0.0 in
     makes_of r rs (Err Overflow) l
-    (makes_high (record { start = r.start; end = last_end r.end rs }) (holes_after (r.end + 1) rs) (2 * n + 1) h.faults
+    (makes_high (record { start = r.start; end = last_range_end r.end rs }) (holes_after (r.end + 1) rs) (2 * n + 1) h.faults
     (omega (arith, blocks, e)) (omega (arith, many)))
 
 pub no_memory : (r : Range) (rs : List Range) (n : ℕ) → IsFreeList r rs → n ≡ length (holes_after (r.end + 1) rs) → n < 2 ^ 48 →
@@ -347,30 +347,30 @@ no_memory r rs n l e few =
     let h = holes_fit r rs l in
     let blocks = h.blocks l.ranges.0.0 in
     makes_of r rs (Err OutOfMemory) l
-    (makes_memory (record { start = r.start; end = last_end r.end rs }) (holes_after (r.end + 1) rs) (2 * n + 1) h.faults
+    (makes_memory (record { start = r.start; end = last_range_end r.end rs }) (holes_after (r.end + 1) rs) (2 * n + 1) h.faults
     (omega (arith, blocks, e)) (omega (arith, few)))
 
 no_hole_index : (r : Range) (rs : List Range) → IsFreeList r rs →
-    fault_index 0 r.start (last_end r.end rs) (holes_after (r.end + 1) rs) ≡ wrong_index 0 0 (r ∷ rs)
+    fault_index 0 r.start (last_range_end r.end rs) (holes_after (r.end + 1) rs) ≡ wrong_index 0 0 (r ∷ rs)
 no_hole_index r rs l = (holes_fit r rs l).index 0 ∙ sym (none_wrong r rs l)
 
 clear_in : (r : Range) (rs : List Range) (made : AddressState) (x : ℕ) → IsFreeList r rs →
-    MakesHeld (record { start = r.start; end = last_end r.end rs }) (holes_after (r.end + 1) rs) (Ok made) →
+    MakesHeld (record { start = r.start; end = last_range_end r.end rs }) (holes_after (r.end + 1) rs) (Ok made) →
     IsClear made x ↔ ((q : Range) × Contains (r ∷ rs) q × IsIn q x)
 clear_in r rs made x l h =
     subst (λ (v : AddressState). IsClear v x ↔ ((q : Range) × Contains (r ∷ rs) q × IsIn q x))
-    (sym (held_made (record { start = r.start; end = last_end r.end rs }) (holes_after (r.end + 1) rs) made h))
+    (sym (held_made (record { start = r.start; end = last_range_end r.end rs }) (holes_after (r.end + 1) rs) made h))
     (free_clear r rs x (none_wrong r rs l) l.ranges)
 
 -- The same for the result of making the allocator.
 pub no_index_named : (r : Range) (rs : List Range) (made : Result Shape ListError) → IsFreeList r rs →
-    IfErr made (λ f. f.index ≡ fault_index 0 r.start (last_end r.end rs) (holes_after (r.end + 1) rs)) →
+    IfErr made (λ f. f.index ≡ fault_index 0 r.start (last_range_end r.end rs) (holes_after (r.end + 1) rs)) →
     IfErr made (λ f. f.index ≡ wrong_index 0 0 (r ∷ rs))
 no_index_named r rs (Ok s) l e = tt
 no_index_named r rs (Err f) l e = e ∙ no_hole_index r rs l
 
 pub clear_if_made : (r : Range) (rs : List Range) (made : Result Shape ListError) → IsFreeList r rs →
-    MakesHeld (record { start = r.start; end = last_end r.end rs }) (holes_after (r.end + 1) rs) (made_state (by_error made)) →
+    MakesHeld (record { start = r.start; end = last_range_end r.end rs }) (holes_after (r.end + 1) rs) (made_state (by_error made)) →
     IfOk made (λ s. (x : ℕ) → IsClear (state_of s) x ↔ ((q : Range) × Contains (r ∷ rs) q × IsIn q x))
 clear_if_made r rs (Ok s) l h = λ x. clear_in r rs (state_of s) x l h
 clear_if_made r rs (Err f) l h = tt
@@ -404,7 +404,7 @@ pub free_is_held : FreeIsHeld
 unfolding BySpace
 free_is_held [] made v m = absurd (cc m)
 free_is_held (r ∷ rs) made v m =
-    let last = last_end r.end rs in
+    let last = last_range_end r.end rs in
     let k = made_cases (wrong_index 0 0 (r ∷ rs)) (IsRange r.start last) (InvalidRange r.start last)
     (MakesHeld (record { start = r.start; end = last }) (holes_after (r.end + 1) rs)) (Ok made) made m refl in
     let space : record { start = r.start; end = last }

@@ -70,13 +70,6 @@ pub none_given : (qs : List Request) (old new : AddressState) → AllocatesEach 
 none_given [] old new e = e
 none_given (q ∷ qs) old new e = absurd e
 
--- Allocations keep the space.
-pub each_space : (qs : List Request) (rs : List Range) (old new : AddressState) → AllocatesEach old qs rs new → new.space ≡ old.space
-each_space [] [] old new e = ap (λ (v : AddressState). v.space) e
-each_space [] (r ∷ rs) old new e = absurd e
-each_space (q ∷ qs) [] old new e = absurd e
-each_space (q ∷ qs) (r ∷ rs) old new e = each_space qs rs e.0 new e.2 ∙ ap (λ (v : AddressState). v.space) (given old e.0 q r e.1).left
-
 -- ---- The first requests of a list
 take_more : {A : Type 0} (xs : List A) (i : ℕ) (x : A) → i < length xs → x ≡ get_or xs i x → take (suc i) xs ≡ take i xs ++ x ∷ []
 take_more [] i x l e = absurd (omega arith)

@@ -3,7 +3,7 @@ use Rattle.std.proofs.Common.{◌≡◌, ℕ, ◌+◌, ◌*◌, ◌^◌, ◌<◌
 use Rattle.std.proofs.lemmas.Bool.{cases_lt}
 use Rattle.std.proofs.Math.Nat.{pow-suc}
 use Rattle.vm_tree.specs.Building.{IsLowestHeight}
-use Rattle.vm_addresses.specs.Values.NodeTree.{NodeTree, Tip, Fork, blocks, height_of, node_count}
+use Rattle.vm_addresses.specs.Values.NodeTree.{NodeTree, Tip, Fork, node_blocks, node_height, number_of_nodes}
 use Rattle.vm_tree.specs.Shape.{MAX_HEIGHT}
 
 pub power_grows : (a b : ℕ) → a ≤ b → 2 ^ a ≤ 2 ^ b
@@ -14,21 +14,21 @@ power_grows a (suc b) p =
     (λ (c : suc b ≤ a). let e : a ≡ suc b = omega arith in rw e (omega arith))
     (cases_lt a (suc b))
 
-pub most_nodes : (s : NodeTree) → node_count s + 1 ≤ 2 ^ height_of s
+pub most_nodes : (s : NodeTree) → number_of_nodes s + 1 ≤ 2 ^ node_height s
 most_nodes Tip = omega arith
 most_nodes (Fork l b r) =
-    let m = max (height_of l) (height_of r) in
+    let m = max (node_height l) (node_height r) in
     let e : m + 1 ≡ suc m = omega arith in
     let p : 2 ^ (m + 1) ≡ 2 ^ m * 2 = rw e (pow-suc 2 m) in
-    omega (arith, p, most_nodes l, most_nodes r, power_grows (height_of l) m (omega arith), power_grows (height_of r) m (omega arith))
+    omega (arith, p, most_nodes l, most_nodes r, power_grows (node_height l) m (omega arith), power_grows (node_height r) m (omega arith))
 
-pub node_count-blocks : (s : NodeTree) → node_count s ≡ length (blocks s)
+pub node_count-blocks : (s : NodeTree) → number_of_nodes s ≡ length (node_blocks s)
 node_count-blocks Tip = refl
 node_count-blocks (Fork l b r) = simp length-append (omega (arith, node_count-blocks l, node_count-blocks r))
 
 -- A tree of the maximum height has fewer than 2 ^ MAX_HEIGHT blocks.
-pub few_in_tree : (s : NodeTree) → height_of s ≤ MAX_HEIGHT → length (blocks s) < 2 ^ MAX_HEIGHT
-few_in_tree s h = omega (arith, node_count-blocks s, most_nodes s, power_grows (height_of s) MAX_HEIGHT h)
+pub few_in_tree : (s : NodeTree) → node_height s ≤ MAX_HEIGHT → length (node_blocks s) < 2 ^ MAX_HEIGHT
+few_in_tree s h = omega (arith, node_count-blocks s, most_nodes s, power_grows (node_height s) MAX_HEIGHT h)
 
 -- The heights of two halves differ by at most one.
 pub not_above : (a b g h : ℕ) → a ≤ b → IsLowestHeight a g → IsLowestHeight b h → g ≤ h

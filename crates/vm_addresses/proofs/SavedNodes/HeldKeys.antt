@@ -7,7 +7,7 @@ use Rattle.vm_tree.specs.Building.{AreInOrder}
 use Rattle.vm_addresses.specs.Held.{first_fault}
 use Rattle.vm_addresses.specs.Tree.Blocks.{blocks_of}
 use Rattle.vm_addresses.specs.Checks.HeldKeys.{CanBeHeld}
-use Rattle.vm_addresses.specs.Values.SavedTrees.{Saved, shape_of, saved_blocks, held_keys, HasHeldKeys, HasTreeOf}
+use Rattle.vm_addresses.specs.Values.SavedTrees.{Saved, nodes_of_saved, saved_blocks, held_keys, HasHeldKeys, HasTreeOf}
 use Rattle.vm_addresses.proofs.Blocks.BlockCounts.{blocks_are_few}
 use Rattle.vm_addresses.proofs.Blocks.BlockStates.{keys_in_order, is_state}
 use Rattle.vm_addresses.proofs.Comparing.Tilings.{tiling_blocks}
@@ -43,5 +43,5 @@ can_hold_strict space t x keys range e h =
     let same : blocks_of (record { space = space; held = keys })
     ≡ saved_blocks t = ap (λ (v : List Range). blocks_of (record { space = space; held = v })) e
     ∙ tiling_blocks space (saved_blocks t) s.blocks.tiles in
-    let few = few_in_tree (shape_of t) s.nested in
+    let few = few_in_tree (nodes_of_saved t) s.nested in
     record { in_order = no_fault space.start space.end keys (omega (arith, range.1)) order; few = omega (arith, few, ap length same) }

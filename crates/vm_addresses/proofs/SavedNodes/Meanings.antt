@@ -2,8 +2,8 @@
 use Rattle.std.proofs.Common.{◌≡◌, ℕ, true, List, [], ◌∷◌, ◌++◌, length, Option, Some, None}
 use Rattle.vm_leaf.specs.declared.block.Block.{Block}
 use Rattle.vm_leaf.specs.Blocks.{Tiles}
-use Rattle.vm_addresses.specs.Values.NodeTree.{height_of, IsBalanced}
-use Rattle.vm_addresses.specs.Values.SavedTrees.{Saved, Absent, shape_of, saved_blocks, held_keys, HasHeights, IsReadable}
+use Rattle.vm_addresses.specs.Values.NodeTree.{node_height, HasBalancedNodes}
+use Rattle.vm_addresses.specs.Values.SavedTrees.{Saved, Absent, nodes_of_saved, saved_blocks, held_keys, HasHeights, IsReadable}
 use Rattle.vm_addresses.specs.declared.saved.span.Span.{Span}
 use Rattle.vm_ranges.specs.declared.state.NodeState.TheVariants.{Allocated}
 
@@ -19,7 +19,7 @@ pub record HasEnds (bs : List Block) : Type 0 where
 -- The subtree can be one of an allocator, from the address lo to the address hi.
 pub record IsExact (t : Saved) (lo hi : ℕ) : Type 0 where
   pub heights : HasHeights t
-  pub balanced : IsBalanced (shape_of t)
+  pub balanced : HasBalancedNodes (nodes_of_saved t)
   pub tiles : Tiles Allocated lo (saved_blocks t) hi
 
 pub record Means (s : Span) (t : Saved) : Type 0 where
@@ -28,7 +28,7 @@ pub record Means (s : Span) (t : Saved) : Type 0 where
   pub first_state : ends.first.state ≡ s.first_state
   pub last_end : ends.last.key.end ≡ s.last
   pub last_state : ends.last.state ≡ s.last_state
-  pub nesting : height_of (shape_of t) ≡ s.nesting
+  pub nesting : node_height (nodes_of_saved t) ≡ s.nesting
   pub held : length (held_keys t) ≡ s.held
   pub readable : IsReadable t
   pub exact : s.is_exact ≡ true → IsExact t s.first s.last

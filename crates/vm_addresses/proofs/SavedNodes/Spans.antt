@@ -41,9 +41,9 @@ use Rattle.vm_leaf.specs.declared.block.Block.{Block}
 use Rattle.vm_leaf.specs.Block.{is_free}
 use Rattle.vm_leaf.specs.Blocks.{NotBothFree, Tiles}
 use Rattle.vm_addresses.specs.Tree.Blocks.{range_if_held, AreKeysIn, AreBelowMax}
-use Rattle.vm_addresses.specs.Values.NodeTree.{height_of, IsBalanced}
+use Rattle.vm_addresses.specs.Values.NodeTree.{node_height, HasBalancedNodes}
 use Rattle.vm_addresses.specs.Values.KeyValues.{MAX_NESTING_REPAIRED}
-use Rattle.vm_addresses.specs.Values.SavedTrees.{Saved, Absent, Node, shape_of, saved_blocks, held_keys, HasHeights, HasRanges, IsReadable}
+use Rattle.vm_addresses.specs.Values.SavedTrees.{Saved, Absent, Node, nodes_of_saved, saved_blocks, held_keys, HasHeights, HasRanges, IsReadable}
 use Rattle.vm_addresses.specs.Checks.NodeChecks.{is_correct_height}
 use Rattle.vm_addresses.specs.Checks.Spans.{
   nesting_of,
@@ -84,7 +84,7 @@ use Rattle.vm_addresses.proofs.SavedNodes.Meanings.{HasEnds, IsExact, Means, Mea
 
 -- ---- The span of a child that can be absent
 
-pub height_is : (o : Option Span) (t : Saved) → MeansAll o t → height_of (shape_of t) ≡ nesting_of o
+pub height_is : (o : Option Span) (t : Saved) → MeansAll o t → node_height (nodes_of_saved t) ≡ nesting_of o
 height_is None t m = rw m refl
 height_is (Some s) t m = m.nesting
 
@@ -150,7 +150,7 @@ left_tiles (Some s) l b ys hi m e v t =
     ∙ append_assoc z.before (z.last ∷ []) (b ∷ ys) in
     subst (λ (x : List Block). Tiles Allocated s.first x hi) (sym cut) all
 
-left_tiled : (o : Option Span) (l : Saved) (b : Block) (ys : List Block) (hi : ℕ) → MeansAll o l → HasHeights l → IsBalanced (shape_of l) →
+left_tiled : (o : Option Span) (l : Saved) (b : Block) (ys : List Block) (hi : ℕ) → MeansAll o l → HasHeights l → HasBalancedNodes (nodes_of_saved l) →
     Tiles Allocated (first_of o b).0 (saved_blocks l ++ b ∷ ys) hi → (joins_left o b ≡ true) × Tiles b.state (b.key.end + 1) ys hi
 left_tiled None l b ys hi m h g t = (refl, (subst (λ (x : Saved). Tiles Allocated b.key.start (saved_blocks x ++ b ∷ ys) hi) m t).3)
 left_tiled (Some s) l b ys hi m h g t =
@@ -203,7 +203,7 @@ right_tiles (Some s) r b m e =
     subst (λ (x : List Block). Tiles b.state (b.key.end + 1) x s.last) (sym z.first_is)
     (omega arith, omega (arith, own.0, own.1), free, own.3)
 
-right_tiled : (o : Option Span) (r : Saved) (b : Block) → MeansAll o r → HasHeights r → IsBalanced (shape_of r) →
+right_tiled : (o : Option Span) (r : Saved) (b : Block) → MeansAll o r → HasHeights r → HasBalancedNodes (nodes_of_saved r) →
     Tiles b.state (b.key.end + 1) (saved_blocks r) (last_of o b).0 → joins_right o b ≡ true
 right_tiled None r b m h g t = refl
 right_tiled (Some s) r b m h g t =
@@ -284,12 +284,12 @@ own_held Free k = refl
 own_held Allocated k = refl
 
 -- So many nodes are never nested that their number does not fit.
-held_fit : (t : Saved) → height_of (shape_of t) ≤ MAX_NESTING_REPAIRED → length (held_keys t) < 2 ^ 50
+held_fit : (t : Saved) → node_height (nodes_of_saved t) ≤ MAX_NESTING_REPAIRED → length (held_keys t) < 2 ^ 50
 held_fit t n =
     let a = held_few (saved_blocks t) in
-    let b = node_count-blocks (shape_of t) in
-    let c = most_nodes (shape_of t) in
-    let d = power_grows (height_of (shape_of t)) 50 n in
+    let b = node_count-blocks (nodes_of_saved t) in
+    let c = most_nodes (nodes_of_saved t) in
+    let d = power_grows (node_height (nodes_of_saved t)) 50 n in
     omega arith
 
 held_sum : (l r : Saved) (b : Block) (h : ℕ) →
@@ -302,7 +302,7 @@ held_sum l r b h =
     omega arith
 
 held_node_is : (lo ro : Option Span) (l r : Saved) (b : Block) (h : ℕ) → MeansAll lo l → MeansAll ro r →
-    height_of (shape_of (Node l b r h)) ≤ MAX_NESTING_REPAIRED → length (held_keys (Node l b r h)) ≡ held_over lo b.state ro
+    node_height (nodes_of_saved (Node l b r h)) ≤ MAX_NESTING_REPAIRED → length (held_keys (Node l b r h)) ≡ held_over lo b.state ro
 held_node_is lo ro l r b h m n deep =
     let fit = held_fit (Node l b r h) deep in
     let sum = held_sum l r b h in
@@ -332,12 +332,12 @@ correct_height l r h e =
 height_correct : (l r h : ℕ) → l ≤ r + 1 → r ≤ l + 1 → h ≡ max l r + 1 → is_correct_height l r h ≡ true
 height_correct l r h p q e = and_from _ _ (and_from _ _ (le-leb l (r + 1) p) (le-leb r (l + 1) q)) (eq-eqb h (max l r + 1) e)
 
-heights_of : (o : Option Span) (t : Saved) → MeansAll o t → (b : Block) → joins_left o b ≡ true → HasHeights t × IsBalanced (shape_of t)
+heights_of : (o : Option Span) (t : Saved) → MeansAll o t → (b : Block) → joins_left o b ≡ true → HasHeights t × HasBalancedNodes (nodes_of_saved t)
 heights_of None t m b e = rw m (tt, tt)
 heights_of (Some s) t m b e = let x = m.exact (and_parts s.is_exact _ e).0 in (x.heights, x.balanced)
 
 heights_of_right : (o : Option Span) (t : Saved) → MeansAll o t → (b : Block) → joins_right o b ≡ true →
-    HasHeights t × IsBalanced (shape_of t)
+    HasHeights t × HasBalancedNodes (nodes_of_saved t)
 heights_of_right None t m b e = rw m (tt, tt)
 heights_of_right (Some s) t m b e = let x = m.exact (and_parts s.is_exact _ e).0 in (x.heights, x.balanced)
 
@@ -387,7 +387,7 @@ module _ (lo ro : Option Span) (l r : Saved) (b : Block) (h : ℕ) (m : MeansAll
       let hl = height_is lo l m in
       let hr = height_is ro r n in
       let deep = ltb-true (max (nesting_of lo) (nesting_of ro)) MAX_NESTING_REPAIRED q.0 in
-      let nested : height_of (shape_of tree) ≤ MAX_NESTING_REPAIRED = omega arith in
+      let nested : node_height (nodes_of_saved tree) ≤ MAX_NESTING_REPAIRED = omega arith in
       let z = ends_node lo ro l r b m n in
       let v = range.0 in
       let v2 = range.1 in

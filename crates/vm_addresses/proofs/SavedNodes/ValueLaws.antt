@@ -12,7 +12,7 @@ use Rattle.vm_addresses.specs.Checks.ValueNodes.{EncodesSaved, WritesTree}
 use Rattle.vm_addresses.specs.Laws.SavedLaws.{ValuesAreSavedTrees, ValuesHaveHeldKeys}
 use Rattle.vm_addresses.specs.Allocator.{state_of, IsSpaceTree}
 use Rattle.vm_addresses.specs.Values.NodeTree.{Tip}
-use Rattle.vm_addresses.specs.Values.SavedTrees.{Saved, Absent, Node, shape_of, HasTreeOf}
+use Rattle.vm_addresses.specs.Values.SavedTrees.{Saved, Absent, Node, nodes_of_saved, HasTreeOf}
 use Rattle.vm_addresses.specs.Values.TreeValues.{EncodesNode, EncodesSpaceTree}
 use Rattle.vm_addresses.specs.Values.WrittenTrees.{WritesNode}
 use Rattle.vm_addresses.specs.declared.saved.written.WrittenNode.{WrittenNode}
@@ -29,7 +29,7 @@ strict_nodes d space state p =
       shape_saved p.tree d p.encoded,
       record {
         tree = record {
-          some_node = λ e. p.some_node (sym is ∙ ap shape_of e);
+          some_node = λ e. p.some_node (sym is ∙ ap nodes_of_saved e);
           heights = saved_of-heights p.tree;
           nested = rw is p.nested;
           balanced = rw is p.balanced;
@@ -40,14 +40,14 @@ strict_nodes d space state p =
       },
     )
 
-not_absent : (t : Saved) → t ≢ Absent → shape_of t ≢ Tip
+not_absent : (t : Saved) → t ≢ Absent → nodes_of_saved t ≢ Tip
 not_absent Absent n = absurd (n refl)
 not_absent (Node l b r h) n = λ e. cc e
 
 pub strict_value : (d : Data) (space : Range) (state : AddressState) (t : Saved) → EncodesSaved d t → HasTreeOf space t state →
     EncodesSpaceTree d space state
 strict_value d space state t nodes p = record {
-  tree = shape_of t;
+  tree = nodes_of_saved t;
   encoded = saved_shape t d p.tree.heights nodes;
   some_node = not_absent t p.tree.some_node;
   nested = p.tree.nested;
@@ -76,7 +76,7 @@ values_have_held_keys = record {
         },
       );
   keys = λ d space state t nodes p. record {
-    tree = shape_of t;
+    tree = nodes_of_saved t;
     nodes = saved_nodes t d nodes;
     nested = p.nested;
     keys = p.keys;

@@ -4,36 +4,36 @@ use Rattle.std.proofs.lemmas.Option.{same_Some}
 use Rattle.serde_json.specs.Data.{Data}
 use Rattle.vm_ranges.proofs.FieldSteps.{in_field}
 use Rattle.vm_ranges.specs.RangeValues.{EncodesRange}
-use Rattle.vm_addresses.specs.Values.NodeTree.{NodeTree, Tip, Fork, height_of}
+use Rattle.vm_addresses.specs.Values.NodeTree.{NodeTree, Tip, Fork, node_height}
 use Rattle.vm_addresses.specs.Values.TreeValues.{EncodesNode, EncodesShape, HasNodes}
-use Rattle.vm_addresses.specs.Values.SavedTrees.{Saved, Absent, Node, shape_of, HasRanges, HasHeights}
+use Rattle.vm_addresses.specs.Values.SavedTrees.{Saved, Absent, Node, nodes_of_saved, HasRanges, HasHeights}
 use Rattle.vm_addresses.specs.Checks.NodeChecks.{NodeData}
 use Rattle.vm_addresses.specs.Checks.ValueNodes.{EncodesSaved}
 use Rattle.vm_addresses.proofs.Reading.ReadNodes.{data_of, no_data, over_sides, node_is, sides_map}
 
 -- ---- Saved trees and shapes
 
-pub saved_nodes : (t : Saved) (d : Data) → EncodesSaved d t → HasNodes d (shape_of t)
+pub saved_nodes : (t : Saved) (d : Data) → EncodesSaved d t → HasNodes d (nodes_of_saved t)
 saved_nodes Absent d p = p
 saved_nodes (Node l b r h) d p = (
   h,
-  sides_map d b (λ v. EncodesSaved v l) (λ v. EncodesSaved v r) (λ v. HasNodes v (shape_of l)) (λ v. HasNodes v (shape_of r)) h
+  sides_map d b (λ v. EncodesSaved v l) (λ v. EncodesSaved v r) (λ v. HasNodes v (nodes_of_saved l)) (λ v. HasNodes v (nodes_of_saved r)) h
       (λ v. saved_nodes l v) (λ v. saved_nodes r v) p,
 )
 
-pub saved_shape : (t : Saved) (d : Data) → HasHeights t → EncodesSaved d t → EncodesShape d (shape_of t)
+pub saved_shape : (t : Saved) (d : Data) → HasHeights t → EncodesSaved d t → EncodesShape d (nodes_of_saved t)
 saved_shape Absent d g p = p
 saved_shape (Node l b r h) d g p =
-    let mapped = sides_map d b (λ v. EncodesSaved v l) (λ v. EncodesSaved v r) (λ v. EncodesShape v (shape_of l))
-    (λ v. EncodesShape v (shape_of r)) h (λ v. saved_shape l v g.0) (λ v. saved_shape r v g.1) p in
-    subst (EncodesNode d b (λ v. EncodesShape v (shape_of l)) (λ v. EncodesShape v (shape_of r))) g.2 mapped
+    let mapped = sides_map d b (λ v. EncodesSaved v l) (λ v. EncodesSaved v r) (λ v. EncodesShape v (nodes_of_saved l))
+    (λ v. EncodesShape v (nodes_of_saved r)) h (λ v. saved_shape l v g.0) (λ v. saved_shape r v g.1) p in
+    subst (EncodesNode d b (λ v. EncodesShape v (nodes_of_saved l)) (λ v. EncodesShape v (nodes_of_saved r))) g.2 mapped
 
 -- The saved tree of a shape, with its heights.
 abbrev pub saved_of : NodeTree → Saved
 saved_of Tip = Absent
-saved_of (Fork l b r) = Node (saved_of l) b (saved_of r) (max (height_of l) (height_of r) + 1)
+saved_of (Fork l b r) = Node (saved_of l) b (saved_of r) (max (node_height l) (node_height r) + 1)
 
-pub shape_of-saved_of : (s : NodeTree) → shape_of (saved_of s) ≡ s
+pub shape_of-saved_of : (s : NodeTree) → nodes_of_saved (saved_of s) ≡ s
 shape_of-saved_of Tip = refl
 shape_of-saved_of (Fork l b r) = rw (shape_of-saved_of l, shape_of-saved_of r) refl
 
@@ -46,7 +46,7 @@ pub shape_saved : (s : NodeTree) (d : Data) → EncodesShape d s → EncodesSave
 shape_saved Tip d p = p
 shape_saved (Fork l b r) d p =
     sides_map d b (λ v. EncodesShape v l) (λ v. EncodesShape v r) (λ v. EncodesSaved v (saved_of l)) (λ v. EncodesSaved v (saved_of r))
-    (max (height_of l) (height_of r) + 1) (λ v. shape_saved l v) (λ v. shape_saved r v) p
+    (max (node_height l) (node_height r) + 1) (λ v. shape_saved l v) (λ v. shape_saved r v) p
 
 pub ranges_saved : (t : Saved) (d : Data) → EncodesSaved d t → HasRanges t
 ranges_saved Absent d p = tt
@@ -56,7 +56,7 @@ ranges_saved (Node l b r h) d p =
     (ranges_saved l n.0 n.3, ranges_saved r n.1 n.4, key_at.2.range)
 
 -- The nodes of a value are those of a saved tree.
-pub nodes_saved : (s : NodeTree) (d : Data) → HasNodes d s → (t : Saved) × EncodesSaved d t × (shape_of t ≡ s)
+pub nodes_saved : (s : NodeTree) (d : Data) → HasNodes d s → (t : Saved) × EncodesSaved d t × (nodes_of_saved t ≡ s)
 nodes_saved Tip d p = (Absent, p, refl)
 nodes_saved (Fork l b r) d p =
     let n = node_is d b (λ v. HasNodes v l) (λ v. HasNodes v r) p.0 p.1 in

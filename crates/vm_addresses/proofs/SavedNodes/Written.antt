@@ -30,8 +30,8 @@ use Rattle.vm_ranges.specs.Range.{Range}
 use Rattle.vm_leaf.specs.declared.block.Block.{Block}
 use Rattle.vm_addresses.specs.Tree.Blocks.{IsTiling}
 use Rattle.vm_tree.specs.Building.{IsLowestHeight}
-use Rattle.vm_addresses.specs.Values.NodeTree.{height_of, IsBalanced}
-use Rattle.vm_addresses.specs.Values.SavedTrees.{Saved, Absent, Node, shape_of, saved_blocks, HasHeights, IsSavedTree}
+use Rattle.vm_addresses.specs.Values.NodeTree.{node_height, HasBalancedNodes}
+use Rattle.vm_addresses.specs.Values.SavedTrees.{Saved, Absent, Node, nodes_of_saved, saved_blocks, HasHeights, IsSavedTree}
 use Rattle.vm_addresses.specs.Values.WrittenTrees.{IsMiddle, IsWritten}
 use Rattle.vm_addresses.proofs.SavedNodes.Heights.{not_above, at_most_one, height_above}
 use Rattle.vm_addresses.proofs.SavedNodes.Heights.{power_grows}
@@ -61,8 +61,8 @@ after_middle bs left right b h m =
 
 pub record IsLow (bs : List Block) (t : Saved) : Type 0 where
   pub heights : HasHeights t
-  pub balanced : IsBalanced (shape_of t)
-  pub low : IsLowestHeight (length bs) (height_of (shape_of t))
+  pub balanced : HasBalancedNodes (nodes_of_saved t)
+  pub low : IsLowestHeight (length bs) (node_height (nodes_of_saved t))
 
 pub written_low : (bs : List Block) (t : Saved) → IsWritten bs t → IsLow bs t
 written_low bs Absent w = let e = ap length w in record { heights = tt; balanced = tt; low = (omega arith, omega arith) }
@@ -70,13 +70,13 @@ written_low bs (Node l b r h) w =
     let x = written_low (saved_blocks l) l w.1 in
     let y = written_low (saved_blocks r) r w.2 in
     let n = after_middle bs (saved_blocks l) (saved_blocks r) b h w.0 in
-    let a = not_above (length (saved_blocks r)) (length (saved_blocks l)) (height_of (shape_of r)) (height_of (shape_of l)) n.0 y.low
+    let a = not_above (length (saved_blocks r)) (length (saved_blocks l)) (node_height (nodes_of_saved r)) (node_height (nodes_of_saved l)) n.0 y.low
     x.low in
-    let c = at_most_one (length (saved_blocks l)) (length (saved_blocks r)) (height_of (shape_of l)) (height_of (shape_of r)) n.1 x.low
+    let c = at_most_one (length (saved_blocks l)) (length (saved_blocks r)) (node_height (nodes_of_saved l)) (node_height (nodes_of_saved r)) n.1 x.low
     y.low in
-    let up = height_above (length bs) (length (saved_blocks l)) (height_of (shape_of l)) n.2 n.3 n.4 x.low in
-    let same = same_height (length bs) (suc (height_of (shape_of l))) h up w.0.height in
-    let whole : suc (height_of (shape_of l)) ≡ height_of (shape_of (Node l b r h)) = omega arith in
+    let up = height_above (length bs) (length (saved_blocks l)) (node_height (nodes_of_saved l)) n.2 n.3 n.4 x.low in
+    let same = same_height (length bs) (suc (node_height (nodes_of_saved l))) h up w.0.height in
+    let whole : suc (node_height (nodes_of_saved l)) ≡ node_height (nodes_of_saved (Node l b r h)) = omega arith in
     record {
       heights = (x.heights, y.heights, omega arith);
       balanced = (x.balanced, y.balanced, (omega arith, omega arith));
@@ -89,12 +89,12 @@ pub written_tree : (space : Range) (bs : List Block) (t : Saved) → IsTiling sp
 written_tree space bs t tiling some few w =
     let x = written_low bs t w in
     let is = written_blocks bs t w in
-    let nested : height_of (shape_of t) ≤ 49 =
+    let nested : node_height (nodes_of_saved t) ≤ 49 =
     ⊎_elim
-    (λ (c : 49 < height_of (shape_of t)). let f = power_grows 50 (height_of (shape_of t)) (omega arith) in let h = x.low.1 in absurd
+    (λ (c : 49 < node_height (nodes_of_saved t)). let f = power_grows 50 (node_height (nodes_of_saved t)) (omega arith) in let h = x.low.1 in absurd
     (omega arith))
-    (λ (c : height_of (shape_of t) ≤ 49). c)
-    (cases_lt 49 (height_of (shape_of t))) in
+    (λ (c : node_height (nodes_of_saved t) ≤ 49). c)
+    (cases_lt 49 (node_height (nodes_of_saved t))) in
     record {
       some_node = λ (e : t ≡ Absent). some (sym is ∙ ap saved_blocks e);
       heights = x.heights;

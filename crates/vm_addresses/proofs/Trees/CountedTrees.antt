@@ -36,21 +36,11 @@ count_with r (h ∷ hs) =
     (λ (c : h.start ≤ r.start). rw (le-ltb r.start h.start c) (omega (arith, count_with r hs)))
     (cases_lt r.start h.start)
 
--- Ranges in order have no more addresses than the space.
-pub count_within : (lo hi : ℕ) (rs : List Range) → AreInOrder lo rs hi → lo ≤ hi + 1 → count_of rs + lo ≤ hi + 1
-count_within lo hi [] s l = omega arith
-count_within lo hi (r ∷ rs) s l = omega (arith, count_within (r.end + 1) hi rs s.4 (omega (arith, s.2)), s.0, s.1)
-
 -- Some last ranges have at most as many addresses as all.
 pub count_dropped : (rs : List Range) (i : ℕ) → count_of (drop i rs) ≤ count_of rs
 count_dropped rs zero = omega arith
 count_dropped [] (suc i) = omega arith
 count_dropped (r ∷ rs) (suc i) = omega (arith, count_dropped rs i)
-
--- The addresses of the ranges that are left in a list.
-pub count_rest : (rs : List Range) (i : ℕ) (d r : Range) → i < length rs → r ≡ get_or rs i d →
-    count_of (drop i rs) ≡ address_count r + count_of (drop (i + 1) rs)
-count_rest rs i d r l e = ap count_of (drop_more rs i d l) ∙ ap (λ (v : Range). address_count v + count_of (drop (i + 1) rs)) (sym e)
 
 -- Ranges with an address are some ranges.
 some_counted : (rs : List Range) → 0 < count_of rs → 0 < length rs

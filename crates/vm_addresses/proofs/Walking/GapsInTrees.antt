@@ -20,8 +20,6 @@ free_of-free b bs e = ap (λ (s : NodeState). range_if_free s b.key ++ free_of b
 pub free_of-held : (b : Block) (bs : List Block) → b.state ≡ Allocated → free_of (b ∷ bs) ≡ free_of bs
 free_of-held b bs e = ap (λ (s : NodeState). range_if_free s b.key ++ free_of bs) e
 
-pub ruleset free_of_first = (free_of-free, free_of-held)
-
 free_of-append : (xs ys : List Block) → free_of (xs ++ ys) ≡ free_of xs ++ free_of ys
 free_of-append [] ys = refl
 free_of-append (b ∷ bs) ys =
@@ -35,16 +33,9 @@ free_of-last_held bs b e = free_of-append bs (b ∷ []) ∙ ap (λ (v : List Ran
 pub free_of-last_free : (bs : List Block) (b : Block) → b.state ≡ Free → free_of (bs ++ b ∷ []) ≡ free_of bs ++ b.key ∷ []
 free_of-last_free bs b e = free_of-append bs (b ∷ []) ∙ ap (λ (v : List Range). free_of bs ++ v) (free_of-free b [] e)
 
-pub ruleset free_of_last = (free_of-last_held, free_of-last_free)
-
 -- ---- Their number
-pub length-free_of : (xs ys : List Block) → length (free_of (xs ++ ys)) ≡ length (free_of xs) + length (free_of ys)
-length-free_of xs ys = ap length (free_of-append xs ys) ∙ length-append (free_of xs) (free_of ys)
 
 -- ---- The number of their addresses
-count_of-append : (xs ys : List Range) → count_of (xs ++ ys) ≡ count_of xs + count_of ys
-count_of-append [] ys = omega arith
-count_of-append (r ∷ rs) ys = omega (arith, count_of-append rs ys)
 
 own_count : (s : NodeState) (k : Range) (rs : List Range) →
     count_of (range_if_free s k ++ rs) ≡ free_length (record { key = k; state = s }) + count_of rs
@@ -55,12 +46,6 @@ own_few : (s : NodeState) (k : Range) → free_length (record { key = k; state =
 own_few Free k = omega arith
 own_few Allocated k = omega arith
 
--- The addresses of a free block are among the free addresses.
-pub clear_middle : (before after : List Block) (b : Block) → b.state ≡ Free → address_count b.key ≤ count_of (free_of (before ++ b ∷ after))
-clear_middle before after b e =
-    let all = ap count_of (free_of-append before (b ∷ after)) ∙ count_of-append (free_of before) (free_of (b ∷ after)) in
-    omega (arith, all, ap count_of (free_of-free b after e))
-
 -- A tiling has no more free addresses than addresses.
 pub clear_within : (p : NodeState) (lo hi : ℕ) (bs : List Block) → Tiles p lo bs hi → count_of (free_of bs) + lo ≤ hi + 1
 clear_within p lo hi [] t = omega arith
@@ -68,9 +53,6 @@ clear_within p lo hi (b ∷ bs) t =
     omega (arith, clear_within b.state (b.key.end + 1) hi bs t.3, own_count b.state b.key (free_of bs), own_few b.state b.key, t.0, t.1)
 
 -- ---- The longest one
-longest_of-append : (xs ys : List Range) → longest_of (xs ++ ys) ≡ max (longest_of xs) (longest_of ys)
-longest_of-append [] ys = omega arith
-longest_of-append (r ∷ rs) ys = omega (arith, longest_of-append rs ys)
 
 own_longest : (s : NodeState) (k : Range) (rs : List Range) →
     longest_of (range_if_free s k ++ rs) ≡ max (free_length (record { key = k; state = s })) (longest_of rs)

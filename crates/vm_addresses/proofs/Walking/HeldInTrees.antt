@@ -25,11 +25,6 @@ held_of-last_free bs b e = held_of-append bs (b ∷ []) ∙ ap (λ (v : List Ran
 pub held_of-last_held : (bs : List Block) (b : Block) → b.state ≡ Allocated → held_of (bs ++ b ∷ []) ≡ held_of bs ++ b.key ∷ []
 held_of-last_held bs b e = held_of-append bs (b ∷ []) ∙ ap (λ (v : List Range). held_of bs ++ v) (held_of-held b [] e)
 
-pub ruleset held_of_last = (held_of-last_free, held_of-last_held)
-
-length-held_of : (xs ys : List Block) → length (held_of (xs ++ ys)) ≡ length (held_of xs) + length (held_of ys)
-length-held_of xs ys = ap length (held_of-append xs ys) ∙ length-append (held_of xs) (held_of ys)
-
 -- Each block is held or free.
 pub all_blocks : (bs : List Block) → length (held_of bs) + length (free_of bs) ≡ length bs
 all_blocks [] = refl

@@ -3,7 +3,7 @@ use Rattle.std.specs.Prelude.{◌≡◌, ◌≢◌, ℕ, ◌+◌, List, [], ◌�
 use Rattle.vm_ranges.specs.Range.{Range, IsRange}
 use Rattle.vm_ranges.specs.declared.error.Error.TheVariants.{ResourceNotAvailable}
 use Rattle.vm_ranges.specs.declared.error.ListError.{ListError}
-use Rattle.vm_addresses.specs.Holes.{holes_after, last_end, wrong_index}
+use Rattle.vm_addresses.specs.Holes.{holes_after, last_range_end, wrong_index}
 
 -- The ends of each range are valid.
 abbrev pub AreRanges : List Range → Type 0
@@ -16,7 +16,7 @@ abbrev pub ChecksFree : Range → List Range → Result (Range × ℕ) ListError
 ChecksFree first others answer =
     MatchResult answer
     (λ found. (wrong_index 1 (first.end + 1) others ≡ None)
-    × (found.0.end ≡ last_end first.end others)
+    × (found.0.end ≡ last_range_end first.end others)
     × (found.1 ≡ length (holes_after (first.end + 1) others))
     × AreRanges others)
     (λ failure. (failure.index ≡ wrong_index 1 (first.end + 1) others) × (failure.index ≢ None)

@@ -1,10 +1,10 @@
 -- The values that have the nodes of saved trees, and the result of reading them.
 use Rattle.std.specs.Prelude.{◌≡◌, ◌+◌, ◌≤◌, ℕ, List, Option, Some, None}
 use Rattle.serde_json.specs.Data.{Data, null}
-use Rattle.vm_addresses.specs.Values.NodeTree.{height_of}
+use Rattle.vm_addresses.specs.Values.NodeTree.{node_height}
 use Rattle.vm_addresses.specs.Values.TreeValues.{EncodesNode}
 use Rattle.vm_addresses.specs.Values.KeyValues.{MAX_NESTING_REPAIRED}
-use Rattle.vm_addresses.specs.Values.SavedTrees.{Saved, Absent, Node, shape_of}
+use Rattle.vm_addresses.specs.Values.SavedTrees.{Saved, Absent, Node, nodes_of_saved}
 use Rattle.vm_addresses.specs.Values.WrittenTrees.{IsWritten}
 use Rattle.vm_leaf.specs.declared.block.Block.{Block}
 use Rattle.vm_addresses.specs.Checks.Spans.{StandsFor}
@@ -23,7 +23,7 @@ WritesTree bs d = (t : Saved) × IsWritten bs t × EncodesSaved d t
 pub record IsSavedIn (depth : ℕ) (d : Data) (span : Option Span) (t : Saved) : Type 0 where
   pub nodes : EncodesSaved d t
   pub stands : StandsFor span t
-  pub nested : height_of (shape_of t) + depth ≤ MAX_NESTING_REPAIRED
+  pub nested : node_height (nodes_of_saved t) + depth ≤ MAX_NESTING_REPAIRED
 
 -- The result of reading the nodes of a value: the span of their saved tree, or None if there is none.
 abbrev pub ReadsValue : ℕ → Data → Option (Option Span) → Type 0

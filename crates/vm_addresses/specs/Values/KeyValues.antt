@@ -6,7 +6,7 @@ use Rattle.vm_ranges.specs.Range.{Range}
 use Rattle.vm_addresses.specs.Address.{AddressState}
 use Rattle.vm_addresses.specs.Answer.{SPLIT_LIMIT_MIN_HELD}
 use Rattle.vm_addresses.specs.Tree.Blocks.{held_of, AreKeysIn, AreBelowMax}
-use Rattle.vm_addresses.specs.Values.NodeTree.{NodeTree, blocks, height_of}
+use Rattle.vm_addresses.specs.Values.NodeTree.{NodeTree, node_blocks, node_height}
 use Rattle.vm_addresses.specs.Values.TreeValues.{HasNodes}
 
 -- The maximum nesting of nodes: no tree that the Rust crate saves is higher.
@@ -19,9 +19,9 @@ MAX_NESTING_REPAIRED = 50
 pub record EncodesKeys (d : Data) (space : Range) (state : AddressState) : Type 0 where
   pub tree : NodeTree
   pub nodes : HasNodes d tree
-  pub nested : height_of tree ≤ MAX_NESTING_REPAIRED
-  pub keys : AreKeysIn space.start (blocks tree) space.end
-  pub below : AreBelowMax (held_of (blocks tree))
-  pub few : length (held_of (blocks tree)) ≤ SPLIT_LIMIT_MIN_HELD
-  pub held : held_of (blocks tree) ≡ state.held
+  pub nested : node_height tree ≤ MAX_NESTING_REPAIRED
+  pub keys : AreKeysIn space.start (node_blocks tree) space.end
+  pub below : AreBelowMax (held_of (node_blocks tree))
+  pub few : length (held_of (node_blocks tree)) ≤ SPLIT_LIMIT_MIN_HELD
+  pub held : held_of (node_blocks tree) ≡ state.held
   pub is_space : state.space ≡ space

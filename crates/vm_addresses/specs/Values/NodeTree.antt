@@ -9,21 +9,21 @@ pub data NodeTree : Type 0 where
   Fork : NodeTree → Block → NodeTree → NodeTree
 
 -- The blocks of the tree, from left to right.
-abbrev pub blocks : NodeTree → List Block
-blocks Tip = []
-blocks (Fork l b r) = blocks l ++ b ∷ blocks r
+abbrev pub node_blocks : NodeTree → List Block
+node_blocks Tip = []
+node_blocks (Fork l b r) = node_blocks l ++ b ∷ node_blocks r
 
 -- The height: the number of nodes on the longest path.
-abbrev pub height_of : NodeTree → ℕ
-height_of Tip = 0
-height_of (Fork l b r) = max (height_of l) (height_of r) + 1
+abbrev pub node_height : NodeTree → ℕ
+node_height Tip = 0
+node_height (Fork l b r) = max (node_height l) (node_height r) + 1
 
 -- The number of nodes.
-abbrev pub node_count : NodeTree → ℕ
-node_count Tip = 0
-node_count (Fork l b r) = node_count l + node_count r + 1
+abbrev pub number_of_nodes : NodeTree → ℕ
+number_of_nodes Tip = 0
+number_of_nodes (Fork l b r) = number_of_nodes l + number_of_nodes r + 1
 
 -- The heights of both children of each node are at most one apart.
-abbrev pub IsBalanced : NodeTree → Type 0
-IsBalanced Tip = Unit {0}
-IsBalanced (Fork l b r) = IsBalanced l × IsBalanced r × DifferByAtMost 1 (height_of l) (height_of r)
+abbrev pub HasBalancedNodes : NodeTree → Type 0
+HasBalancedNodes Tip = Unit {0}
+HasBalancedNodes (Fork l b r) = HasBalancedNodes l × HasBalancedNodes r × DifferByAtMost 1 (node_height l) (node_height r)

@@ -5,7 +5,7 @@ use Rattle.vm_addresses.specs.Address.{AddressState}
 use Rattle.vm_addresses.specs.Answer.{SPLIT_LIMIT_MIN_HELD}
 use Rattle.vm_leaf.specs.declared.block.Block.{Block}
 use Rattle.vm_addresses.specs.Tree.Blocks.{held_of, AreKeysIn, AreBelowMax, IsTiling}
-use Rattle.vm_addresses.specs.Values.NodeTree.{NodeTree, Tip, Fork, blocks, height_of, IsBalanced}
+use Rattle.vm_addresses.specs.Values.NodeTree.{NodeTree, Tip, Fork, node_blocks, node_height, HasBalancedNodes}
 use Rattle.vm_tree.specs.Shape.{MAX_HEIGHT}
 use Rattle.vm_addresses.specs.Values.KeyValues.{MAX_NESTING_REPAIRED}
 
@@ -15,13 +15,13 @@ pub data Saved : Type 0 where
   Node : Saved → Block → Saved → ℕ → Saved
 
 -- The nodes of a saved tree without the saved heights.
-abbrev pub shape_of : Saved → NodeTree
-shape_of Absent = Tip
-shape_of (Node l b r h) = Fork (shape_of l) b (shape_of r)
+abbrev pub nodes_of_saved : Saved → NodeTree
+nodes_of_saved Absent = Tip
+nodes_of_saved (Node l b r h) = Fork (nodes_of_saved l) b (nodes_of_saved r)
 
 -- The blocks of a saved tree, from left to right.
 abbrev pub saved_blocks : Saved → List Block
-saved_blocks t = blocks (shape_of t)
+saved_blocks t = node_blocks (nodes_of_saved t)
 
 -- The keys of the held blocks of a saved tree, from left to right.
 abbrev pub held_keys : Saved → List Range
@@ -35,11 +35,11 @@ HasRanges (Node l b r h) = HasRanges l × HasRanges r × IsRange b.key.start b.k
 -- Each saved height is that of the node.
 abbrev pub HasHeights : Saved → Type 0
 HasHeights Absent = Unit {0}
-HasHeights (Node l b r h) = HasHeights l × HasHeights r × (h ≡ max (height_of (shape_of l)) (height_of (shape_of r)) + 1)
+HasHeights (Node l b r h) = HasHeights l × HasHeights r × (h ≡ max (node_height (nodes_of_saved l)) (node_height (nodes_of_saved r)) + 1)
 
 -- Nodes are nested at most MAX_NESTING_REPAIRED deep, keys are in order and share no address, and no held key ends at MAX.
 pub record IsReadable (t : Saved) : Type 0 where
-  pub nested : height_of (shape_of t) ≤ MAX_NESTING_REPAIRED
+  pub nested : node_height (nodes_of_saved t) ≤ MAX_NESTING_REPAIRED
   pub keys : AreKeysIn 0 (saved_blocks t) MAX
   pub below : AreBelowMax (held_keys t)
 
@@ -47,13 +47,13 @@ pub record IsReadable (t : Saved) : Type 0 where
 pub record IsSavedTree (space : Range) (t : Saved) : Type 0 where
   pub some_node : t ≢ Absent
   pub heights : HasHeights t
-  pub nested : height_of (shape_of t) ≤ MAX_HEIGHT
-  pub balanced : IsBalanced (shape_of t)
+  pub nested : node_height (nodes_of_saved t) ≤ MAX_HEIGHT
+  pub balanced : HasBalancedNodes (nodes_of_saved t)
   pub blocks : IsTiling space (saved_blocks t)
 
 -- The held keys of the saved tree are the held ranges of a state of the space. All else that a tree has can be wrong.
 pub record HasHeldKeys (space : Range) (t : Saved) (state : AddressState) : Type 0 where
-  pub nested : height_of (shape_of t) ≤ MAX_NESTING_REPAIRED
+  pub nested : node_height (nodes_of_saved t) ≤ MAX_NESTING_REPAIRED
   pub keys : AreKeysIn space.start (saved_blocks t) space.end
   pub below : AreBelowMax (held_keys t)
   pub few : length (held_keys t) ≤ SPLIT_LIMIT_MIN_HELD

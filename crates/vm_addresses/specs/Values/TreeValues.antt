@@ -7,7 +7,7 @@ use Rattle.vm_ranges.specs.Range.{Range}
 use Rattle.vm_leaf.specs.declared.block.Block.{Block}
 use Rattle.vm_addresses.specs.Address.{AddressState}
 use Rattle.vm_addresses.specs.Tree.Blocks.{held_of, IsTiling}
-use Rattle.vm_addresses.specs.Values.NodeTree.{NodeTree, Tip, Fork, blocks, height_of, IsBalanced}
+use Rattle.vm_addresses.specs.Values.NodeTree.{NodeTree, Tip, Fork, node_blocks, node_height, HasBalancedNodes}
 use Rattle.vm_tree.specs.Shape.{MAX_HEIGHT}
 use Rattle.vm_ranges.specs.RangeValues.{EncodesRange, EncodesState}
 
@@ -25,7 +25,7 @@ pub record EncodesNode (d : Data) (block : Block) (Left Right : Data → Type 0)
 abbrev pub EncodesShape : Data → NodeTree → Type 0
 EncodesShape d Tip = d ≡ null
 EncodesShape d (Fork l b r) =
-    EncodesNode d b (λ v. EncodesShape v l) (λ v. EncodesShape v r) (max (height_of l) (height_of r) + 1)
+    EncodesNode d b (λ v. EncodesShape v l) (λ v. EncodesShape v r) (max (node_height l) (node_height r) + 1)
 
 -- The value d encodes a valid tree of the space, whose held ranges are those of the state: it is not empty, not too high and
 -- balanced, and its blocks are valid for the space.
@@ -33,11 +33,11 @@ pub record EncodesSpaceTree (d : Data) (space : Range) (state : AddressState) : 
   pub tree : NodeTree
   pub encoded : EncodesShape d tree
   pub some_node : tree ≢ Tip
-  pub nested : height_of tree ≤ MAX_HEIGHT
-  pub balanced : IsBalanced tree
-  pub held : held_of (blocks tree) ≡ state.held
+  pub nested : node_height tree ≤ MAX_HEIGHT
+  pub balanced : HasBalancedNodes tree
+  pub held : held_of (node_blocks tree) ≡ state.held
   pub is_space : state.space ≡ space
-  pub blocks : IsTiling space (blocks tree)
+  pub blocks : IsTiling space (node_blocks tree)
 
 -- The value d has the nodes of the tree, with any whole numbers as heights. An absent child is null.
 abbrev pub HasNodes : Data → NodeTree → Type 0
