@@ -199,7 +199,7 @@ impl DeviceManager {
     /// An error changes nothing, and leaves the same tree. In this order:
     /// - `NeverAllocated(id)` if no device has the id.
     /// - `OutOfMemory` if an allocation of memory fails.
-    #[tactic(auto, using(crate::proofs::DeviceCalls::no_device, vm_addresses::proofs::TakenParts::parts))]
+    #[tactic(auto, using(crate::proofs::DeviceCalls::no_device, vm_addresses::proofs::Counts::TakenParts::taken))]
     pub fn release(&mut self, id: u32) -> Result<()>
         // The id and the range of the device are freed, and nothing else changes.
         ensures released { OnOk result ((range : Range) × IsDevice (device_state self.old) id range
