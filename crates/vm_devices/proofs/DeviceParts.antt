@@ -7,8 +7,7 @@ use Rattle.vm_ranges.specs.declared.error.Error.{Error}
 use Rattle.vm_ranges.specs.declared.error.Error.TheVariants.{OutOfMemory}
 use Rattle.vm_addresses.specs.Counts.Parts.{Allocating, Freeing, HasPart, HasParts, TakesParts}
 use Rattle.vm_ranges.proofs.Histories.{history_append}
-use Rattle.vm_addresses.proofs.Counts.TakenParts.{no_parts, allocated_only}
-use Rattle.vm_addresses.proofs.TakenParts.{allocated_and_freed}
+use Rattle.vm_addresses.proofs.Counts.TakenParts.{no_parts, allocated_only, allocated_and_freed}
 use Rattle.vm_tree.specs.Shape.{Shape}
 use Rattle.vm_devices.specs.Manager.{DevicesInTree, GivesBack, ReservesInParts}
 use Rattle.vm_devices.specs.declared.device_slot.DeviceSlot.{DeviceSlot}
