@@ -1,6 +1,6 @@
 pub mod Allocating
 pub mod Balanced
-pub mod GapBounds
+pub mod GapSearches
 pub mod LeftClear
 pub mod MadeOrNot
 pub mod MisalignedGaps

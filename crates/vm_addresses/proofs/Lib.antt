@@ -2,14 +2,10 @@ pub mod Blocks
 pub mod Choosing
 pub mod Comparing
 pub mod Counts
-pub mod Making
 pub mod Placing
 pub mod Reading
-pub mod Releasing
-pub mod Repairing
 pub mod Results
 pub mod SavedNodes
-pub mod Splitting
 pub mod Trees
 pub mod Walking
 pub mod Decisions

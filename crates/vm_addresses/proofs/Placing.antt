@@ -2,3 +2,4 @@ pub mod Counted
 pub mod ExactPlaces
 pub mod Requests
 pub mod Places
+pub mod TakenRanges

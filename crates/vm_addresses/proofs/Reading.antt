@@ -6,3 +6,4 @@ pub mod Writing
 pub mod NodeStates
 pub mod ReadAllocators
 pub mod WrittenAllocators
+pub mod RepairedTrees

@@ -2,3 +2,5 @@ pub mod CountedTrees
 pub mod Ends
 pub mod Freeing
 pub mod Spaces
+pub mod HeldTrees
+pub mod Joining

@@ -4,3 +4,4 @@ pub mod BlockList
 pub mod BlockEdits
 pub mod Allocation
 pub mod CountedTrees
+pub mod BalancedTree

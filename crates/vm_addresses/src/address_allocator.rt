@@ -23,7 +23,8 @@ ghost use Rattle.vm_tree.specs.Shape.{blocks, height_of};
 ghost use Rattle.vm_tree.specs.Walks.{meeting_blocks};
 ghost use Rattle.vm_addresses.specs.Counts.GapSearch.{SearchesGaps, SearchesAligned};
 ghost use Rattle.vm_addresses.specs.Counts.Parts.{Allocating, Freeing, HasParts};
-ghost use Rattle.vm_addresses.specs.Counts.Steps.{EntersToAllocate, IsAllocationCount, IsBalancedTreeOf};
+ghost use Rattle.vm_addresses.specs.Counts.Steps.{EntersToAllocate, IsAllocationCount};
+ghost use Rattle.vm_addresses.specs.Tree.BalancedTree.{IsBalancedTreeOf};
 
 use std::alloc::Global;
 use std::marker::Model;
@@ -273,7 +274,7 @@ impl AddressAllocator {
     /// # Errors
     ///
     /// Those of [`allocate`](Self::allocate), in the same order.
-    #[tactic(auto, using(crate::proofs::Counts::GapBounds::refused))]
+    #[tactic(auto, using(crate::proofs::Counts::GapSearches::refused))]
     pub fn allocate_counted(
         &mut self,
         alloc: Global,

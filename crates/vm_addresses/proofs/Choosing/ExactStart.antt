@@ -21,7 +21,7 @@ use Rattle.vm_addresses.proofs.Blocks.PlainWords.{IsHeld, contains_held, held_co
 use Rattle.vm_addresses.proofs.Blocks.Gaps.{InFreeBlock, free_is_clear, in_free_block, state_cases, held_within, tiles_end}
 use Rattle.vm_addresses.proofs.Blocks.OneList.{held_of-free, held_of-held}
 use Rattle.vm_ranges.proofs.RangeCalls.{same_range}
-use Rattle.vm_addresses.proofs.Splitting.TakenRanges.{starts_after, in_block}
+use Rattle.vm_addresses.proofs.Placing.TakenRanges.{starts_after, in_block}
 
 -- The request for n addresses at the start t, with alignment a.
 abbrev pub named : ℕ → ℕ → ℕ → Request

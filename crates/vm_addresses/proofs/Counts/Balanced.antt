@@ -2,10 +2,10 @@
 use Rattle.std.proofs.Common.{arith}
 use Rattle.vm_tree.specs.Roots.{IsBlockTree}
 use Rattle.vm_tree.specs.Shape.{Shape, blocks}
-use Rattle.vm_addresses.specs.Counts.Steps.{IsBalancedTreeOf}
+use Rattle.vm_addresses.specs.Tree.BalancedTree.{IsBalancedTreeOf}
 use Rattle.vm_addresses.specs.Allocator.{space_of, state_of, IsSpaceTree}
 use Rattle.vm_addresses.proofs.Placing.Requests.{held_blocks_are}
-use Rattle.vm_addresses.proofs.Splitting.TakenRanges.{as_blocks}
+use Rattle.vm_addresses.proofs.Placing.TakenRanges.{as_blocks}
 
 pub balanced_tree : (s : Shape) → IsSpaceTree s → IsBlockTree s → IsBalancedTreeOf (state_of s) s
 balanced_tree s h t = record {

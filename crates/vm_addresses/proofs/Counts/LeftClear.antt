@@ -13,7 +13,7 @@ use Rattle.vm_ranges.specs.declared.state.NodeState.TheVariants.{Free, Allocated
 use Rattle.vm_addresses.proofs.Blocks.PlainWords.{IsHeldAddress, none_holds}
 use Rattle.vm_addresses.proofs.Blocks.Gaps.{InFreeBlock, in_free_block, free_is_clear}
 use Rattle.vm_addresses.proofs.Choosing.Places.{above}
-use Rattle.vm_addresses.proofs.Splitting.TakenRanges.{starts_after, in_block}
+use Rattle.vm_addresses.proofs.Placing.TakenRanges.{starts_after, in_block}
 
 -- ---- A range that fills its block has no clear address next to it
 -- No free block overlaps another, from below or from above.

@@ -14,7 +14,8 @@ use Rattle.vm_tree.specs.Shape.{Shape, blocks, height_of}
 use Rattle.vm_addresses.specs.Address.{AddressState, holding, without_range}
 use Rattle.vm_addresses.specs.Answer.{Allocates, Frees}
 use Rattle.vm_addresses.specs.Counts.Parts.{Part, Allocating, Freeing, HasPart, HasParts, EntersAtMost}
-use Rattle.vm_addresses.specs.Counts.Steps.{EntersToAllocate, IsAllocationCount, IsBalancedTreeOf, IsFreeCount, max_entered}
+use Rattle.vm_addresses.specs.Counts.Steps.{EntersToAllocate, IsAllocationCount, IsFreeCount, max_entered}
+use Rattle.vm_addresses.specs.Tree.BalancedTree.{IsBalancedTreeOf}
 use Rattle.vm_addresses.specs.Laws.CountLaws.{PartsEnterFew}
 use Rattle.vm_addresses.specs.Allocator.{state_of}
 use Rattle.vm_addresses.proofs.Results.Outcomes.{allocates_outcome, given_or_refused}

@@ -50,10 +50,10 @@ use Rattle.vm_addresses.specs.Tree.Blocks.{TilesSpace, IsBlocksOf, held_of, bloc
 use Rattle.vm_addresses.specs.Allocator.{space_of, state_of, IsSpaceTree}
 use Rattle.vm_addresses.proofs.Blocks.OneList.{few_blocks}
 use Rattle.vm_addresses.proofs.Placing.Places.{taken_from}
-use Rattle.vm_addresses.proofs.Splitting.TakenRanges.{as_blocks, blocks_split}
+use Rattle.vm_addresses.proofs.Placing.TakenRanges.{as_blocks, blocks_split}
 use Rattle.vm_addresses.proofs.Trees.CountedTrees.{TakesOne, length_with, taken_counted, taken_fits, gaps_left, gaps_fit}
 use Rattle.vm_addresses.proofs.Trees.Spaces.{state_of_tree}
-use Rattle.vm_addresses.proofs.Counts.GapBounds.{aligned_searches}
+use Rattle.vm_addresses.proofs.Counts.GapSearches.{aligned_searches}
 use Rattle.vm_addresses.specs.Counts.GapSearch.{SearchesGaps, SearchesAligned}
 use Rattle.vm_addresses.specs.Counts.NodeCounts.{nodes_of_request}
 use Rattle.vm_addresses.specs.Counts.Steps.{EntersToAllocate, IsAllocationCount, IsGrantCount}

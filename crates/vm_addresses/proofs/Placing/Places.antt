@@ -54,7 +54,7 @@ use Rattle.vm_tree.specs.declared.search.Taken.{Taken}
 use Rattle.vm_tree.specs.declared.search.Refusal.{Refusal}
 use Rattle.vm_tree.specs.declared.search.Refusal.TheVariants.{NoPlace, Held, PastMax, CannotSplit, OutOfMemory as NoMemory}
 use Rattle.vm_addresses.proofs.Counts.LeftClear.{needs_split}
-use Rattle.vm_addresses.proofs.Splitting.TakenRanges.{blocks_split, leaves_clear, as_blocks}
+use Rattle.vm_addresses.proofs.Placing.TakenRanges.{blocks_split, leaves_clear, as_blocks}
 use Rattle.vm_addresses.proofs.Choosing.WindowPlaces.{lowest_place_in, highest_place_in, no_place_in}
 use Rattle.vm_addresses.proofs.Choosing.Searched.{IsNotExact, none_grants, chosen_grants, over_grants, lowest_chosen, highest_chosen}
 use Rattle.vm_addresses.specs.Tree.Allocation.{with_error, taken_range, IsSearchOf}

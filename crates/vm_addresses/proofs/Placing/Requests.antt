@@ -75,7 +75,7 @@ use Rattle.vm_addresses.specs.Tree.Allocation.{with_error, taken_range, IsSearch
 use Rattle.vm_addresses.specs.Tree.Blocks.{range_if_held, held_of, blocks_state, TilesSpace}
 use Rattle.vm_addresses.specs.Windows.{part_in, window_in}
 use Rattle.vm_addresses.proofs.Blocks.OneList.{same_block}
-use Rattle.vm_addresses.proofs.Counts.GapBounds.{searches, exact_searches}
+use Rattle.vm_addresses.proofs.Counts.GapSearches.{searches, exact_searches}
 use Rattle.vm_addresses.proofs.Placing.Places.{policy_of, fit_grants, place_chosen}
 use Rattle.vm_addresses.proofs.Placing.ExactPlaces.{exact_grants}
 use Rattle.vm_addresses.proofs.Results.Requests.{request_in, with_policy}

@@ -18,7 +18,7 @@ use Rattle.vm_addresses.specs.Values.AllocatorValues.{EncodesAllocator, EncodesA
 use Rattle.vm_addresses.specs.Values.KeyValues.{EncodesKeys}
 use Rattle.vm_addresses.specs.Values.TreeValues.{EncodesSpaceTree}
 use Rattle.vm_addresses.proofs.Reading.ReadSpaces.{one_encoded, tree_state_valid}
-use Rattle.vm_addresses.proofs.Repairing.RepairedTrees.{one_keys, keys_state, strict_keys}
+use Rattle.vm_addresses.proofs.Reading.RepairedTrees.{one_keys, keys_state, strict_keys}
 use Rattle.vm_ranges.proofs.ReadRanges as ranges
 
 module _ (Root : Data → Range → AddressState → Type 0)

@@ -64,7 +64,7 @@ use Rattle.vm_ranges.specs.declared.state.NodeState.TheVariants.{Allocated}
 use Rattle.vm_ranges.specs.declared.constraint.AllocPolicy.{AllocPolicy}
 use Rattle.vm_ranges.specs.declared.constraint.AllocPolicy.TheVariants.{FirstMatch, LastMatch, ExactMatch}
 use Rattle.vm_ranges.proofs.Decisions.{Decided, decided_below, decided_up_to, decided_alignment, decided_start, lowest_or_none, highest_or_none}
-use Rattle.vm_addresses.proofs.Making.HeldTrees.{first_fault_known}
+use Rattle.vm_addresses.proofs.Trees.HeldTrees.{first_fault_known}
 use Rattle.vm_addresses.proofs.Results.Moves.{move_refused, move_stays}
 use Rattle.vm_addresses.proofs.Decisions.{decided_all_clear, decided_split, decided_place, decided_inside, decided_held, decided_for, decided_range}
 

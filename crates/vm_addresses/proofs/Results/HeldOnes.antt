@@ -55,7 +55,7 @@ use Rattle.vm_addresses.specs.Laws.SeveralLaws.{HeldIsEqual}
 use Rattle.vm_addresses.proofs.Callers.{given}
 use Rattle.vm_addresses.proofs.Blocks.PlainWords.{IsHeld}
 use Rattle.vm_addresses.proofs.Blocks.HeldSets.{later_above}
-use Rattle.vm_addresses.proofs.Making.HeldTrees.{held_made}
+use Rattle.vm_addresses.proofs.Trees.HeldTrees.{held_made}
 
 -- The ranges of a list without its end are in order.
 in_order_below : (xs ys : List Range) (lo hi : ℕ) → AreInOrder lo (xs ++ ys) hi → AreInOrder lo xs hi

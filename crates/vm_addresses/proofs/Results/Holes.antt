@@ -52,7 +52,7 @@ use Rattle.vm_leaf.specs.Block.{held_block}
 use Rattle.vm_tree.specs.Building.{gap_before, blocks_between}
 use Rattle.vm_ranges.specs.declared.error.Error.{Error}
 use Rattle.vm_ranges.specs.declared.error.Error.TheVariants.{Overflow, OutOfMemory, ResourceNotAvailable, InvalidRange}
-use Rattle.vm_addresses.proofs.Making.HeldTrees.{held_made, makes_high, makes_memory}
+use Rattle.vm_addresses.proofs.Trees.HeldTrees.{held_made, makes_high, makes_memory}
 use Rattle.vm_addresses.proofs.Comparing.Tilings.{gap}
 use Rattle.vm_addresses.proofs.Blocks.PlainWords.{IsHeldAddress, contains_held, held_contains, held_address, all_miss, none_holds}
 use Rattle.vm_ranges.specs.Making.{MakesRange}

@@ -6,7 +6,7 @@ use Rattle.vm_addresses.specs.Address.{AddressState}
 use Rattle.vm_ranges.specs.declared.error.Error.{Error}
 use Rattle.vm_tree.specs.Shape.{Shape, blocks}
 use Rattle.vm_addresses.specs.Allocator.{space_of, state_of}
-use Rattle.vm_addresses.proofs.Making.HeldTrees.{held_made}
+use Rattle.vm_addresses.proofs.Trees.HeldTrees.{held_made}
 use Rattle.vm_addresses.specs.Held.{BySpace, MakesSpace, MakesHeld, MakesWithHeld, HasFaultIndex, fault_index}
 use Rattle.vm_addresses.specs.Tree.Blocks.{blocks_state, TilesSpace, IsTiling}
 use Rattle.vm_ranges.specs.declared.error.Error.TheVariants.{Overflow, Underflow, OutOfMemory}

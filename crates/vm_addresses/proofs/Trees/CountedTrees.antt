@@ -15,7 +15,7 @@ use Rattle.vm_addresses.specs.Allocator.{space_of, state_of, IsSpaceTree}
 use Rattle.vm_addresses.proofs.Blocks.GapLists.{all_counted}
 use Rattle.vm_addresses.proofs.Blocks.HeldChanges.{with_without}
 use Rattle.vm_addresses.proofs.Blocks.PlainWords.{held_contains}
-use Rattle.vm_addresses.proofs.Splitting.TakenRanges.{below_with}
+use Rattle.vm_addresses.proofs.Placing.TakenRanges.{below_with}
 use Rattle.vm_addresses.proofs.Trees.Spaces.{space_tiled, space_tree, state_of_tree}
 use Rattle.vm_addresses.proofs.Walking.HeldInTrees.{all_blocks}
 

@@ -47,8 +47,8 @@ use Rattle.vm_addresses.specs.Answer.{Frees}
 use Rattle.vm_addresses.specs.Tree.Blocks.{held_of, blocks_state, TilesSpace, IsBlocksOf}
 use Rattle.vm_addresses.proofs.Blocks.PlainWords.{IsHeld, contains_held, held_contains}
 use Rattle.vm_addresses.proofs.Blocks.Gaps.{state_cases}
-use Rattle.vm_addresses.proofs.Releasing.Joining.{EndsHeld, blocks_freed, blocks_freed_before, held_or_later, is_held, IsHeldBlock}
-use Rattle.vm_addresses.proofs.Splitting.TakenRanges.{as_blocks}
+use Rattle.vm_addresses.proofs.Trees.Joining.{EndsHeld, blocks_freed, blocks_freed_before, held_or_later, is_held, IsHeldBlock}
+use Rattle.vm_addresses.proofs.Placing.TakenRanges.{as_blocks}
 use Rattle.vm_addresses.specs.Address.{without_range}
 use Rattle.vm_addresses.specs.Tree.Blocks.{AreBelowMax}
 use Rattle.vm_addresses.specs.Allocator.{space_of, state_of, IsSpaceTree}

@@ -7,7 +7,8 @@ use Rattle.vm_ranges.specs.Request.{Request}
 use Rattle.vm_ranges.specs.declared.error.Error.{Error}
 use Rattle.vm_tree.specs.Shape.{Shape, height_of}
 use Rattle.vm_addresses.specs.Answer.{Allocates, Frees}
-use Rattle.vm_addresses.specs.Counts.Steps.{EntersToAllocate, IsAllocationCount, IsBalancedTreeOf, IsFreeCount, max_entered}
+use Rattle.vm_addresses.specs.Counts.Steps.{EntersToAllocate, IsAllocationCount, IsFreeCount, max_entered}
+use Rattle.vm_addresses.specs.Tree.BalancedTree.{IsBalancedTreeOf}
 use Rattle.vm_addresses.specs.Allocator.{state_of}
 
 -- A part with the number of nodes that it enters: an allocation for a request with its result, or a free that succeeds.

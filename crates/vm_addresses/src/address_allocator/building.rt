@@ -56,7 +56,7 @@ impl AddressAllocator {
     /// Creates an allocator of a space with these ranges allocated. They must be in ascending order.
     ///
     /// [`with_held`](Self::with_held) documents the errors.
-    #[tactic(auto, using(crate::proofs::Making::HeldTrees::makings))]
+    #[tactic(auto, using(crate::proofs::Trees::HeldTrees::makings))]
     pub(super) fn holding(
         alloc: Global,
         space: RangeInclusive,
@@ -76,7 +76,7 @@ impl AddressAllocator {
 
     /// Creates an allocator of a space with these ranges allocated, which can be. Its tree has the minimum
     /// height for its nodes.
-    #[tactic(auto, using(crate::proofs::Making::HeldTrees::holdings))]
+    #[tactic(auto, using(crate::proofs::Trees::HeldTrees::holdings))]
     pub(crate) fn of_held(
         alloc: Global,
         space: RangeInclusive,

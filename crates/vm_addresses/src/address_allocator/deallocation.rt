@@ -2,7 +2,8 @@
 ghost use Rattle.std.specs.Prelude.{◌≡◌, OnErr, OnOk};
 ghost use Rattle.vm_addresses.specs.Address.{IsAddressState};
 ghost use Rattle.vm_addresses.specs.Answer.{Frees};
-ghost use Rattle.vm_addresses.specs.Counts.Steps.{IsBalancedTreeOf, IsFreeCount};
+ghost use Rattle.vm_addresses.specs.Counts.Steps.{IsFreeCount};
+ghost use Rattle.vm_addresses.specs.Tree.BalancedTree.{IsBalancedTreeOf};
 ghost use Rattle.vm_addresses.specs.Allocator.{state_of};
 
 use super::AddressAllocator;

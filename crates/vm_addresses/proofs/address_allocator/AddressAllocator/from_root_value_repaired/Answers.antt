@@ -2,7 +2,7 @@ use Rattle.std.proofs.Common.{◌≡◌, Err, sym, ◌∙◌, rules}
 use Rattle.serde_json.specs.View.{view}
 use Rattle.vm_ranges.specs.declared.saved.ValueError.TheVariants.{OutOfMemory}
 use Rattle.vm_addresses.specs.Allocator.{state_of}
-use Rattle.vm_addresses.proofs.Repairing.RepairedTrees.{keys_unread, not_inside, keys_read}
+use Rattle.vm_addresses.proofs.Reading.RepairedTrees.{keys_unread, not_inside, keys_read}
 use Rattle.vm_addresses.proofs.SavedNodes.HeldKeys.{can_hold_repaired}
 use Rattle.vm_addresses.proofs.SavedNodes.Roots.{repaired_state, repaired_made}
 use Rattle.vm_addresses.proofs.address_allocator.AddressAllocator.from_root_value_repaired.Goals as goal

@@ -1,5 +1,5 @@
 use Rattle.std.proofs.Common.{arith}
-use Rattle.vm_addresses.proofs.Making.HeldTrees.{held_counted, built_counted, built_is_state, built_state}
+use Rattle.vm_addresses.proofs.Trees.HeldTrees.{held_counted, built_counted, built_is_state, built_state}
 use Rattle.vm_addresses.proofs.address_allocator.building.build.Goals as goal
 
 pub overflow_sub-result : goal.overflow_sub-result

@@ -11,7 +11,7 @@ use Rattle.vm_ranges.specs.declared.state.NodeState.{NodeState}
 use Rattle.vm_ranges.specs.declared.state.NodeState.TheVariants.{Free, Allocated}
 use Rattle.vm_addresses.proofs.Blocks.Gaps.{state_cases}
 use Rattle.vm_addresses.proofs.Blocks.OneList.{held_of-free, held_of-held}
-use Rattle.vm_addresses.proofs.Splitting.TakenRanges.{starts_after}
+use Rattle.vm_addresses.proofs.Placing.TakenRanges.{starts_after}
 
 -- The last block is not free. If the list is empty, the state before it is not Free.
 abbrev pub EndsHeld : NodeState → List Block → Type 0
