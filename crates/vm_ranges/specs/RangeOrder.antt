@@ -1,5 +1,5 @@
 -- The order of ranges, and the relations of two ranges.
-use Rattle.std.specs.Prelude.{◌≡◌, ◌<◌, ◌≤◌, ◌⊎◌, ◌==◌, ◌&&◌, ◌||◌, nat_le, nat_lt, Bool, true}
+use Rattle.std.specs.Prelude.{◌≡◌, ◌<◌, ◌⊎◌, ◌==◌, ◌&&◌, ◌||◌, nat_le, nat_lt, Bool, true}
 use Rattle.std.specs.declared.cmp.Ordering.{Ordering}
 use Rattle.std.specs.Ordering.{nat_cmp, on, then_cmp}
 use Rattle.std.specs.Cmp.{IsTotalOrder}
@@ -13,26 +13,6 @@ is_before a b = nat_lt a.start b.start || a.start == b.start && nat_lt a.end b.e
 -- a is before b.
 unfoldable pub Before : Range → Range → Type 0
 Before a b = is_before a b ≡ true
-
--- a starts before b starts.
-unfoldable pub StartsBefore : Range → Range → Type 0
-StartsBefore a b = a.start < b.start
-
--- a starts at the start of b or after it.
-unfoldable pub StartsAtOrAfter : Range → Range → Type 0
-StartsAtOrAfter a b = b.start ≤ a.start
-
--- a ends before b starts.
-unfoldable pub EndsBefore : Range → Range → Type 0
-EndsBefore a b = a.end < b.start
-
--- a ends at the start of b or after it.
-unfoldable pub EndsAtOrAfterStartOf : Range → Range → Type 0
-EndsAtOrAfterStartOf a b = b.start ≤ a.end
-
--- The start is at most the end.
-unfoldable pub IsInOrder : Range → Type 0
-IsInOrder a = a.start ≤ a.end
 
 -- Whether both ranges have the same ends.
 abbrev pub same_range : Range → Range → Bool

@@ -26,10 +26,6 @@ passing (Some w) test bs = length (filter (on_part w test) bs)
 unfoldable pub misaligned_gaps : AddressState → Request → ℕ
 misaligned_gaps state request = passing request.window (is_misaligned request.size request.align) (blocks_of state)
 
--- The number of gaps in a list of blocks that are too short.
-abbrev pub too_short_among : ℕ → ℕ → List Block → ℕ
-too_short_among n a bs = length (filter (is_too_short n a) bs)
-
 -- The number of gaps of a state that have a multiple of a request's alignment, but no place for it. A window counts the
 -- parts of gaps.
 unfoldable pub too_short_gaps : AddressState → Request → ℕ
