@@ -124,7 +124,7 @@ const OF_WALKS: [Calls<[AddressAllocator; 2]>; 9] = [
     |[one, _], _| one.layout().blocks().count() == one.layout().blocks().rev().count(),
     |[one, other], _| one.clone() == other.try_clone().unwrap(),
     |[one, _], _| {
-        let (size, held) = (one.space().len() as u64, items(one.held_ranges()));
+        let (size, held) = (one.space().len(), items(one.held_ranges()));
         let built = AddressAllocator::with_held(0, size, &held).unwrap();
         built == AddressAllocator::try_with_held(0, size, &held).unwrap()
     },
