@@ -13,6 +13,7 @@ import shutil
 import subprocess
 import sys
 import tempfile
+import types
 
 import erase
 
@@ -152,6 +153,14 @@ def unused(project):
     return sorted(name for name in names if not words >= set(re.findall(r"\w+", name)))
 
 
+def overlapping_cuts_pass():
+    """Returns `True` if a file can have cuts that overlap. The sources above lead to none."""
+    said = []
+    cuts = types.SimpleNamespace(cuts=[(0, 2, ""), (1, 3, "")], fail=lambda *reason: said.append(reason))
+    erase.File.outer_cuts(cuts)
+    return said != [("two pieces to cut that overlap", 1)]
+
+
 def main():
     if len(sys.argv) != 2:
         sys.exit(__doc__)
@@ -163,6 +172,7 @@ def main():
         wrong = faults_of_program(project, os.path.join(project, "out"))
     wrong += [f"{new}: {why}, instead of: {reason}" for new, why, reason in found if reason not in why]
     wrong += [f"{name} is in a table of the eraser, and no source uses it" for name in unused(sys.argv[1])]
+    wrong += ["cuts that overlap are accepted"] * overlapping_cuts_pass()
     print(*wrong, f"{len(found)} hostile edits, {len(wrong)} faults", sep="\n")
     sys.exit(len(wrong) > 0)
 

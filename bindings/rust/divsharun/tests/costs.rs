@@ -1,21 +1,28 @@
 // SPDX-License-Identifier: Apache-2.0 OR BSD-3-Clause
 //! Guards against a call that goes through all items, although it takes constant or logarithmic
-//! time, and against calls that take quadratic time.
+//! time, and against calls that take quadratic time. The root of the crate promises these times.
 
+#[cfg(feature = "serde")]
+mod packed;
 mod processor;
 
 use divsharun::AllocPolicy::{ExactMatch, FirstMatch, LastMatch};
+#[cfg(feature = "serde")]
+use divsharun::Strict;
 use divsharun::{
-    AddressAllocator, Constraint, DeviceManager, DeviceSlot, Error, IdAllocator, RangeInclusive,
+    AddressAllocator, Conflict, Constraint, DeviceManager, DeviceSlot, Error, IdAllocator,
+    RangeInclusive,
 };
 use processor::processor_time;
 use std::cmp::Ordering;
 
-/// The numbers of items of two objects. A linear call takes a hundred times as long in the second one.
-const COUNTS: [u64; 2] = [300, 30_000];
+/// The limit of the growth of a quick call. The second object has a hundred times as many items, and a
+/// linear call takes a hundred times as long in it.
 const LIMIT: u64 = 20;
-/// The limit of a call that goes through all items. A quadratic one takes ten thousand times as long.
-const LINEAR_LIMIT: u64 = 1_000;
+const COUNTS: [u64; 2] = [300, 30_000];
+/// The same for a call that goes through all items. A quadratic one takes 900 times as long.
+const LINEAR_LIMIT: u64 = 200;
+const LINEAR_COUNTS: [u64; 2] = [300, 9_000];
 const ROUNDS: usize = 5;
 
 /// Calls of an object at an address or id of one of its items. They change nothing in the end, and
@@ -23,7 +30,7 @@ const ROUNDS: usize = 5;
 type Calls<O> = fn(&mut O, u64) -> bool;
 
 /// Every second address is allocated.
-const OF_SPACES: [Calls<AddressAllocator>; 16] = [
+const OF_SPACES: [Calls<AddressAllocator>; 18] = [
     |space, at| space.held_at(at).is_some() && space.gap_at(at + 1).is_some(),
     |space, at| space.holds(&one(at)) && !space.holds(&one(at + 1)),
     |space, _| space.held_count() == space.gap_count() && space.free_len() == space.gap_count(),
@@ -87,6 +94,21 @@ const OF_SPACES: [Calls<AddressAllocator>; 16] = [
             && space.allocate_constraint(held).is_err()
             && space.move_range(&one(at), at + 2).is_err()
     },
+    |space, at| {
+        let rest = RangeInclusive::new(at, space.end()).unwrap();
+        let wide = Constraint::new(rest.len(), 1, ExactMatch(at)).unwrap();
+        space.conflict(wide) == Some(Conflict::Allocated(one(at)))
+            && space.allocate_constraint(wide).is_err()
+            && space.move_constraint(&one(at), wide).is_err()
+            && !space.holds(&rest)
+            && space.free(&rest).is_err()
+    },
+    |space, at| {
+        has_ends(space.held_ranges_in(at..), |items| items.size_hint().0 < 9)
+            && has_ends(space.gaps_in(at..), |items| items.size_hint().0 < 9)
+            && has_ends(space.layout().blocks(), |items| items.len() > 2)
+            && AddressAllocator::new(at, space.end()).is_ok()
+    },
 ];
 
 /// Two spaces that differ in their first range.
@@ -95,9 +117,32 @@ const OF_PAIRS: [Calls<[AddressAllocator; 2]>; 1] = [|[one, other], _| {
 }];
 
 /// Two equal spaces. The calls go through all of their ranges or gaps.
-const OF_WALKS: [Calls<[AddressAllocator; 2]>; 2] = [
+const OF_WALKS: [Calls<[AddressAllocator; 2]>; 9] = [
     |[one, other], _| one == other && one.cmp(&other).is_eq(),
-    |[one, _], _| one.held_ranges().count() == one.gaps().count(),
+    |[one, _], _| one.held_ranges().count() == one.gaps().rev().count(),
+    |[one, _], _| one.held_ranges_in(..).rev().count() == one.gaps_in(..).count(),
+    |[one, _], _| one.layout().blocks().count() == one.layout().blocks().rev().count(),
+    |[one, other], _| one.clone() == other.try_clone().unwrap(),
+    |[one, _], _| {
+        let (size, held) = (one.space().len(), items(one.held_ranges()));
+        let built = AddressAllocator::with_held(0, size, &held).unwrap();
+        built == AddressAllocator::try_with_held(0, size, &held).unwrap()
+    },
+    |[one, _], _| {
+        let free = items(one.gaps());
+        let built = AddressAllocator::with_free(&free).unwrap();
+        built == AddressAllocator::try_with_free(&free).unwrap()
+    },
+    |[one, _], _| {
+        let names = one.held_ranges().map(|range| (range, "bar"));
+        let layout = one.layout().try_named(names).unwrap();
+        layout.to_string().len() > format!("{one:?}").len() / 4
+    },
+    |[one, _], _| {
+        let requests = vec![Constraint::new(1, 1, FirstMatch).unwrap(); one.gap_count() as usize];
+        let allocated = one.allocate_all(&requests).unwrap();
+        allocated.iter().all(|range| one.free(range).is_ok())
+    },
 ];
 
 /// The ids below the last three are allocated.
@@ -137,11 +182,32 @@ const OF_FREED_IDS: [Calls<IdAllocator>; 2] = [
     },
 ];
 
+/// Every second id below the middle is allocated, and each id above it, except for the last ten.
+const OF_WINDOWS: [Calls<IdAllocator>; 1] = [|ids, at| {
+    let last = ids.range_end();
+    let allocated = [
+        ids.allocate_in(last / 2..),
+        ids.allocate_in(last / 2..=last),
+        ids.allocate_in(at as u32..),
+        ids.try_allocate_in(last / 2..).map_err(|_| Error::Overflow),
+    ];
+    let full = ids.allocate_in(last / 2..last - 9).is_err();
+    full && allocated.map(|id| ids.free_id(id.unwrap()).is_ok()) == [true; 4]
+}];
+
 /// Every second id is allocated. Each call has a list of the allocated ids, or of half as many.
-const OF_LISTS: [Calls<IdAllocator>; 2] = [
+const OF_LISTS: [Calls<IdAllocator>; 5] = [
     |ids, _| {
-        let held: Vec<u32> = ids.held_ids().collect();
+        let held = items(ids.held_ids());
         IdAllocator::with_held(0, ids.range_end(), &held).as_ref() == Ok(&*ids)
+            && IdAllocator::try_with_held(0, ids.range_end(), &held).as_ref() == Ok(&*ids)
+    },
+    |ids, _| ids.clone() == ids.try_clone().unwrap(),
+    |ids, _| ids.held_ids().rev().count() == ids.iter().count(),
+    |ids, _| {
+        let last = ids.range_end();
+        let mut new = [(); 2].map(|()| IdAllocator::new(0, last).unwrap());
+        new[0].allocate_exact(last) == new[1].allocate_in(last..)
     },
     |ids, _| {
         let allocated = ids.allocate_ids(ids.held_count() as usize / 2).unwrap();
@@ -150,7 +216,7 @@ const OF_LISTS: [Calls<IdAllocator>; 2] = [
 ];
 
 /// Each device has two addresses, and two are free.
-const OF_DEVICES: [Calls<DeviceManager>; 6] = [
+const OF_DEVICES: [Calls<DeviceManager>; 7] = [
     |devices, at| devices.slot(at as u32).is_some() && devices.device_at(2 * at).is_some(),
     |devices, at| devices.device_count() > at && devices.conflict(exact(2 * at)).is_some(),
     |devices, at| devices.space().contains_address(at),
@@ -170,7 +236,57 @@ const OF_DEVICES: [Calls<DeviceManager>; 6] = [
             && devices.try_reserve(3, 1, FirstMatch).is_err()
             && devices.try_reserve_constraint(whole.unwrap()) == Ok(DeviceSlot { id, range })
     },
+    |devices, at| {
+        let rest = devices.space().end() - 2 * at;
+        let wide = Constraint::new(rest, 1, ExactMatch(2 * at)).unwrap();
+        devices.conflict(wide).is_some() && devices.reserve_constraint(wide).is_err()
+    },
 ];
+
+/// Two equal managers. The calls go through all of their devices.
+const OF_MANAGERS: [Calls<[DeviceManager; 2]>; 3] = [
+    |[one, other], _| one == other && one.clone() == other.try_clone().unwrap(),
+    |[one, _], _| one.devices().rev().count() == one.iter().count(),
+    |[one, _], _| {
+        let high_first = items(one.devices().rev());
+        let released = high_first
+            .iter()
+            .all(|device| one.release(device.id) == Ok(()));
+        let reserved = high_first
+            .iter()
+            .all(|_| one.reserve(2, 1, FirstMatch).is_ok());
+        released && reserved
+    },
+];
+
+/// Writes and reads objects of each kind.
+#[cfg(feature = "serde")]
+const OF_SAVED: [Calls<(AddressAllocator, IdAllocator, DeviceManager)>; 5] = [
+    |(space, _, _), _| is_read_again(space) && is_read_again(&Strict::from(space.clone())),
+    |(_, ids, _), _| is_read_again(ids),
+    |(_, _, devices), _| is_read_again(devices),
+    |(space, _, devices), _| {
+        let views = (space.try_saved().unwrap(), devices.try_saved().unwrap());
+        let bytes = [packed::to_bytes(&views.0), packed::to_bytes(&views.1)];
+        bytes.map(Result::unwrap)
+            == [packed::to_bytes(space), packed::to_bytes(devices)].map(Result::unwrap)
+    },
+    // The table begins at its highest id.
+    |(_, _, devices), _| {
+        let (mut high, last) = (devices.clone(), devices.device_count() as u32 - 1);
+        let released = (0..last).all(|id| high.release(id) == Ok(()));
+        let bytes = packed::to_bytes(&high).unwrap();
+        let mut read: DeviceManager = packed::from_bytes(bytes).unwrap();
+        released && (0..last).all(|_| read.reserve(2, 1, FirstMatch).is_ok()) && read == *devices
+    },
+];
+
+#[cfg(feature = "serde")]
+fn is_read_again<T: serde::Serialize + serde::de::DeserializeOwned + PartialEq>(
+    object: &T,
+) -> bool {
+    packed::from_bytes::<T>(packed::to_bytes(object).unwrap()).unwrap() == *object
+}
 
 fn one(at: u64) -> RangeInclusive {
     RangeInclusive::new(at, at).unwrap()
@@ -184,6 +300,10 @@ fn exact(at: u64) -> Constraint {
     Constraint::new(1, 1, ExactMatch(at)).unwrap()
 }
 
+fn items<T>(all: impl Iterator<Item = T>) -> Vec<T> {
+    all.collect()
+}
+
 /// Returns whether an iterator passes a check, and has a first and a last item.
 fn has_ends<I: DoubleEndedIterator>(mut items: I, check: fn(&I) -> bool) -> bool {
     check(&items) && items.next().is_some() && items.next_back().is_some()
@@ -191,22 +311,27 @@ fn has_ends<I: DoubleEndedIterator>(mut items: I, check: fn(&I) -> bool) -> bool
 
 /// Compares the shortest times of each row in two objects, at many items.
 fn expect_quick<O>(make: impl Fn(u64) -> O, rows: &[Calls<O>], distance: u64) {
-    expect_growth(LIMIT, 50, make, rows, distance);
+    expect_growth((COUNTS, LIMIT), 50, make, rows, distance);
+}
+
+/// Does the same for calls that go through all items.
+fn expect_linear<O>(make: impl Fn(u64) -> O, rows: &[Calls<O>]) {
+    expect_growth((LINEAR_COUNTS, LINEAR_LIMIT), 1, make, rows, 2);
 }
 
 fn expect_growth<O>(
-    limit: u64,
+    (counts, limit): ([u64; 2], u64),
     calls_of_row: u64,
     make: impl Fn(u64) -> O,
     rows: &[Calls<O>],
     distance: u64,
 ) {
-    let mut objects = COUNTS.map(make);
+    let mut objects = counts.map(make);
     for (number, calls) in rows.iter().enumerate() {
         let mut times = [u64::MAX; 2];
         for place in [0, 1].repeat(ROUNDS) {
             let begun = processor_time();
-            for at in (0..calls_of_row).map(|at| distance * (at * 7919 % (COUNTS[place] - 4))) {
+            for at in (0..calls_of_row).map(|at| distance * (at * 7919 % (counts[place] - 4))) {
                 assert!(calls(&mut objects[place], at), "row {number}");
             }
             times[place] = times[place].min(processor_time() - begun);
@@ -215,12 +340,28 @@ fn expect_growth<O>(
     }
 }
 
+/// Returns a space with every second address allocated.
+fn space(count: u64) -> AddressAllocator {
+    let held = items((0..count).map(|at| one(2 * at)));
+    AddressAllocator::with_held(0, 2 * count, &held).unwrap()
+}
+
+/// Returns ids with every second id allocated.
+fn freed(count: u64) -> IdAllocator {
+    let held = items((0..count as u32).map(|at| 2 * at));
+    IdAllocator::with_held(0, 2 * count as u32 + 9, &held).unwrap()
+}
+
+/// Returns a manager with two free addresses after its devices.
+fn devices(count: u64) -> DeviceManager {
+    let mut devices = DeviceManager::new(0, u32::MAX, 0, 2 * count + 2).unwrap();
+    let mut reserve = |_| devices.reserve(2, 1, FirstMatch).is_ok();
+    assert!((0..count).all(&mut reserve));
+    devices
+}
+
 #[test]
 fn calls_do_not_go_through_all_items() {
-    let space = |count| {
-        let held: Vec<_> = (0..count).map(|at| one(2 * at)).collect();
-        AddressAllocator::with_held(0, 2 * count, &held).unwrap()
-    };
     expect_quick(space, &OF_SPACES, 2);
     let pair = |count| {
         let mut spaces = [count; 2].map(space);
@@ -228,23 +369,29 @@ fn calls_do_not_go_through_all_items() {
         spaces
     };
     expect_quick(pair, &OF_PAIRS, 2);
-    expect_growth(LINEAR_LIMIT, 5, |count| [count; 2].map(space), &OF_WALKS, 2);
     let ids = |count| {
-        let held: Vec<_> = (0..count as u32).collect();
+        let held = items(0..count as u32);
         IdAllocator::with_held(0, count as u32 + 2, &held).unwrap()
     };
     expect_quick(ids, &OF_IDS, 1);
-    let freed = |count| {
-        let held: Vec<_> = (0..count as u32).map(|at| 2 * at).collect();
-        IdAllocator::with_held(0, 2 * count as u32 + 9, &held).unwrap()
-    };
     expect_quick(freed, &OF_FREED_IDS, 2);
-    expect_growth(LINEAR_LIMIT, 5, freed, &OF_LISTS, 2);
-    let devices = |count| {
-        let mut devices = DeviceManager::new(0, u32::MAX, 0, 2 * count + 2).unwrap();
-        let mut reserve = |_| devices.reserve(2, 1, FirstMatch).is_ok();
-        assert!((0..count).all(&mut reserve));
-        devices
+    let in_windows = |count| {
+        let (middle, end) = (count as u32, 2 * count as u32);
+        let held = items((0..middle).step_by(2).chain(middle..end - 9));
+        IdAllocator::with_held(0, end, &held).unwrap()
     };
+    expect_quick(in_windows, &OF_WINDOWS, 1);
     expect_quick(devices, &OF_DEVICES, 1);
+}
+
+#[test]
+fn calls_go_through_all_items_once() {
+    expect_linear(|count| [count; 2].map(space), &OF_WALKS);
+    expect_linear(freed, &OF_LISTS);
+    expect_linear(|count| [count; 2].map(devices), &OF_MANAGERS);
+    #[cfg(feature = "serde")]
+    expect_linear(
+        |count| (space(count), freed(count), devices(count)),
+        &OF_SAVED,
+    );
 }

@@ -14,6 +14,18 @@ use std::process::{Command, Stdio};
 
 const USAGE: &str = "usage: divsharun-replay [FILE]";
 
+const HELP: &str = "usage: divsharun-replay [FILE]
+
+Reads one call per line, and prints one result per line. Without a file, or if it is -, the calls are in the
+standard input. After -- a file can have any name.
+
+  --help     prints this
+  --version  prints the version
+";
+
+/// The text of Linux for a file that is missing.
+const MISSING: &str = "No such file or directory (os error 2)";
+
 /// Lines, and the result of each.
 const LINES: [(&str, &str); 14] = [
     ("first 256 256", "error no-space"),
@@ -113,12 +125,38 @@ fn results_are_written_together_and_without_memory() {
 
 /// Runs the program. Returns its exit status, its output and its standard error.
 fn program(arguments: &[&str], input: Stdio, output: Stdio) -> (Option<i32>, String, String) {
+    program_with(arguments, input, output, Stdio::piped())
+}
+
+fn program_with(
+    arguments: &[&str],
+    input: Stdio,
+    output: Stdio,
+    errors: Stdio,
+) -> (Option<i32>, String, String) {
     let mut program = Command::new(env!("CARGO_BIN_EXE_divsharun-replay"));
     program.args(arguments).stdin(input).stdout(output);
-    let child = program.stderr(Stdio::piped()).spawn().unwrap();
+    let child = program.stderr(errors).spawn().unwrap();
     let done = child.wait_with_output().unwrap();
     let text = |bytes| String::from_utf8(bytes).unwrap();
     (done.status.code(), text(done.stdout), text(done.stderr))
+}
+
+fn full_device() -> Stdio {
+    File::options()
+        .write(true)
+        .open("/dev/full")
+        .unwrap()
+        .into()
+}
+
+/// Returns the line with an error, or nothing if there is none. The usage is a whole line.
+fn line_of(error: &str) -> String {
+    match error {
+        "" => String::new(),
+        USAGE => format!("{USAGE}\n"),
+        _ => format!("divsharun-replay: {error}\n"),
+    }
 }
 
 /// Writes a file of lines. Returns its path.
@@ -133,41 +171,46 @@ fn the_program_reads_its_input_or_a_file() {
     let (lines, file) = (file_of("lines", &input()), file_of("a file", "undevice\n"));
     let (file, output) = (&file[..], &output()[..]);
     let version = concat!("divsharun-replay ", env!("CARGO_PKG_VERSION"), "\n");
-    // The arguments, and the status, the output and a part of the error that they lead to.
-    for (arguments, status, output, part) in [
+    // The arguments, and the status, the output and the error that they lead to.
+    for (arguments, status, output, error) in [
         (&[][..], 0, output, ""),
         (&["-"], 0, output, ""),
         (&[file], 0, "error line\n", ""),
         (&["--", file], 0, "error line\n", ""),
         (&["--version"], 0, version, ""),
+        (&["--help"], 0, HELP, ""),
         (&["--unknown"], 2, "", USAGE),
         (&[file, file], 2, "", USAGE),
-        (&["no such"], 1, "", "replay: no such: "),
-        (&["--", "-"], 1, "", "replay: -: "),
-        (&["/"], 1, "", "replay: /: "),
+        (&["--help", file], 2, "", USAGE),
+        (&["no such"], 1, "", &format!("no such: {MISSING}")),
+        (&["--", "-"], 1, "", &format!("-: {MISSING}")),
+        (&["/"], 1, "", "/: reading a line failed"),
     ] {
-        let input = File::open(&lines).unwrap().into();
-        let (code, printed, errors) = program(arguments, input, Stdio::piped());
+        let input = || File::open(&lines).unwrap().into();
+        let (code, printed, errors) = program(arguments, input(), Stdio::piped());
+        let result = (code, &printed[..], &errors[..]);
         assert_eq!(
-            (code, &printed[..]),
-            (Some(status), output),
+            result,
+            (Some(status), output, &line_of(error)[..]),
             "{arguments:?}"
         );
-        assert!(errors.contains(part), "{arguments:?}: {errors}");
-        assert_eq!(errors.lines().count(), part.lines().count(), "{errors}");
+        let (code, _, _) = program_with(arguments, input(), Stdio::null(), full_device());
+        assert_eq!(code, Some(status), "{arguments:?}");
     }
-    let (code, help, errors) = program(&["--help"], Stdio::null(), Stdio::piped());
-    assert!(help.starts_with(USAGE), "{help}");
-    assert_eq!((code, &errors[..]), (Some(0), ""));
 }
 
 #[test]
 fn the_program_reports_a_failed_write() {
-    for arguments in [&["-"], &["--help"]] {
-        let input = File::open(file_of("lines to a full device", &input())).unwrap();
-        let full = File::options().write(true).open("/dev/full").unwrap();
-        let (code, _, errors) = program(arguments, input.into(), full.into());
-        assert_eq!((code, errors.lines().count()), (Some(2), 1), "{errors}");
+    for (argument, error) in [
+        ("-", "writing a result failed"),
+        ("--help", "No space left on device (os error 28)"),
+        ("--version", "No space left on device (os error 28)"),
+    ] {
+        let input = || File::open(file_of("lines to a full device", &input())).unwrap();
+        let (code, _, errors) = program(&[argument], input().into(), full_device());
+        assert_eq!((code, errors), (Some(2), line_of(error)));
+        let (code, _, _) = program_with(&[argument], input().into(), full_device(), full_device());
+        assert_eq!(code, Some(2));
     }
 }
 
@@ -180,5 +223,5 @@ fn the_program_prints_the_results_before_a_failed_read() {
     drop(near);
     let (code, printed, errors) = program(&[], OwnedFd::from(far).into(), Stdio::piped());
     assert_eq!((code, printed), (Some(1), output()));
-    assert!(errors.contains("replay: standard input: "), "{errors}");
+    assert_eq!(errors, line_of("standard input: reading a line failed"));
 }

@@ -801,6 +801,28 @@ fn hostile_bytes_cost_memory_of_their_length() {
     costs::<DeviceManager>(&bytes, false, 1.0);
 }
 
+/// Checks that the table of a manager begins at the lowest id that was in use since it was read, and that it
+/// has few spare slots. A freed id has 4 bytes, and a slot has 24.
+#[test]
+fn a_table_of_devices_begins_at_the_lowest_id() {
+    const LAST: u32 = 1000;
+    let mut devices = DeviceManager::new(0, LAST, 0, 2000).unwrap();
+    let mut reserve = |_| devices.reserve(1, 1, AllocPolicy::FirstMatch).is_ok();
+    assert!((0..=LAST).all(&mut reserve));
+    assert!((0..LAST).all(|id| devices.release(id) == Ok(())));
+    let bytes = packed::to_bytes(&devices).unwrap();
+    let (read, of_ids) = peak_of(|| packed::from_bytes::<DeviceManager>(bytes));
+    let mut read = read.unwrap();
+    let (device, of_slots) = peak_of(|| read.reserve(1, 1, AllocPolicy::FirstMatch));
+    assert_eq!(device.map(|device| device.id), Ok(0));
+    let (_, of_both) = peak_of(|| read.clone());
+    let bytes = [of_ids, of_slots, of_both];
+    assert!(
+        of_ids < 5_000 && of_slots < 25_000 && of_both < 29_000,
+        "{bytes:?}"
+    );
+}
+
 /// Fails each allocation of a call in turn. The call returns an error with the text of a failed
 /// allocation, until no allocation is left to fail.
 fn fails_each<T>(mut call: impl FnMut() -> Result<T, packed::Failure>) {
@@ -845,11 +867,11 @@ fn a_saved_view_is_written_without_an_allocation() {
     assert_eq!(json(&views.0), json(&manager));
     assert_eq!(json(&views.1), json(&space));
     assert_eq!(format!("{:?}", views.1), format!("Saved({space:?})"));
-    // The list of blocks grows by an eighth. A block has 24 bytes.
+    // A block has 24 bytes.
     let large = windows(3000);
     let blocks = (large.held_count() + large.gap_count()) as usize;
     let ((view, bytes), requests) = refusing(0, || peak_of(|| large.try_saved()));
-    assert!(view.is_ok() && bytes <= 24 * (blocks + blocks / 8 + 4) && requests < 60);
+    assert!(view.is_ok() && (bytes, requests) == (24 * blocks, 1));
     let mut bytes = Vec::with_capacity(10_000);
     let (written, requests) = refusing(0, || {
         packed::to_bytes_in(&views.0, &mut bytes).and(packed::to_bytes_in(&views.1, &mut bytes))
