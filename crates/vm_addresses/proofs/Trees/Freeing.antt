@@ -39,7 +39,7 @@ use Rattle.vm_ranges.specs.declared.state.NodeState.TheVariants.{Free, Allocated
 use Rattle.vm_leaf.specs.declared.block.Block.{Block}
 use Rattle.vm_leaf.specs.Block.{held_block}
 use Rattle.vm_leaf.specs.Blocks.{NotBothFree, nth, freed_between, with_free}
-use Rattle.vm_tree.specs.Frees as tree
+use Rattle.vm_tree.specs.Frees.{FreesBlock, Holds}
 use Rattle.vm_tree.proofs.Frees.{freed_gap_before, freed_held_before}
 use Rattle.vm_tree.proofs.Lists.{cut_last}
 use Rattle.vm_addresses.specs.Address.{releasing}
@@ -96,15 +96,15 @@ module _ (sp : Range) (old : List Block) (tiles : TilesSpace sp old) (k : Range)
       subst (λ (v : List Block). IsBlocksOf (releasing k (blocks_state sp old)) (freed_between v k us)) (sym c)
       (freed_later xs x us (e ∙ ap (λ (v : List Block). v ++ held_block k ∷ us) c))
 
-  pub freed_blocks : (new : List Block) → tree.Frees k old new → IsBlocksOf (releasing k (blocks_state sp old)) new
+  pub freed_blocks : (new : List Block) → FreesBlock k old new → IsBlocksOf (releasing k (blocks_state sp old)) new
   freed_blocks new h = subst (λ (v : List Block). IsBlocksOf (releasing k (blocks_state sp old)) v) (sym h.after)
       (freed_cut h.lower h.upper h.before)
 
-  was_held : (new : List Block) → tree.Frees k old new → IsHeld (held_of old) k
+  was_held : (new : List Block) → FreesBlock k old new → IsHeld (held_of old) k
   unfolding IsHeldBlock
   was_held new h = subst (λ (v : List Block). IsHeld (held_of v) k) (sym h.before) (is_held k (held_block k) h.lower h.upper (refl, refl))
 
-  pub frees : (new : List Block) → tree.Frees k old new → Frees (blocks_state sp old) k (Ok tt) (blocks_state sp new)
+  pub frees : (new : List Block) → FreesBlock k old new → Frees (blocks_state sp old) k (Ok tt) (blocks_state sp new)
   unfolding Frees
   frees new h = inl (
     contains_held (held_of old) k (was_held new h),
@@ -112,7 +112,7 @@ module _ (sp : Range) (old : List Block) (tiles : TilesSpace sp old) (k : Range)
   )
 
 -- ---- A range that no block holds
-pub found_at : (r : Range) (bs : List Block) → IsHeld (held_of bs) r → tree.Holds r bs
+pub found_at : (r : Range) (bs : List Block) → IsHeld (held_of bs) r → Holds r bs
 unfolding IsHeldBlock
 found_at r [] h = absurd h
 found_at r (b ∷ bs) h =
@@ -125,7 +125,7 @@ found_at r (b ∷ bs) h =
     held_is : (b : Block) → b.key ≡ r → b.state ≡ Allocated → b ≡ held_block r
     held_is b p q = ap (λ (v : Range). record { key = v; state = b.state }) p ∙ ap (λ (s : NodeState). record { key = r; state = s }) q
 
-pub not_freed : (sp : Range) (bs : List Block) (r : Range) → (tree.Holds r bs → ⊥) →
+pub not_freed : (sp : Range) (bs : List Block) (r : Range) → (Holds r bs → ⊥) →
     Frees (blocks_state sp bs) r (Err ResourceNotAvailable) (blocks_state sp bs)
 unfolding Frees
 not_freed sp bs r n = inr (λ c. n (found_at r bs (held_contains (held_of bs) r c)), (refl, refl))
@@ -136,7 +136,7 @@ below_without r [] h = tt
 below_without r (x ∷ xs) h = elim (eqb r.start x.start) as (λ v. AreBelowMax (cond v xs (x ∷ without_range r xs)))
     [ true ↦ h.1 | false ↦ (h.0, below_without r xs h.1) ]
 
-module _ (s n : Shape) (k : Range) (joined : ℕ) (h : IsSpaceTree s) (f : tree.Frees k (blocks s) (blocks n))
+module _ (s n : Shape) (k : Range) (joined : ℕ) (h : IsSpaceTree s) (f : FreesBlock k (blocks s) (blocks n))
     (l : length (blocks s) ≡ length (blocks n) + joined) where
   pub frees_one : FreesOne s n k joined
   frees_one = record {
