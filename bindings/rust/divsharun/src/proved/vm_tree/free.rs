@@ -1,6 +1,6 @@
 // Written by bindings/erase from crates/vm_tree/src/free.rt: do not edit.
 
-//! Frees a block of a tree in place, and joins it with the gaps on both sides. It does not allocate.
+//! FreesBlock a block of a tree in place, and joins it with the gaps on both sides. It does not allocate.
 //!
 //! The range of a block can end right before the edge between two children of a node, or start at it. Then
 //! the block on the other side of the edge is looked at. If it is a gap, the range is freed together with it.
@@ -29,7 +29,7 @@ pub(in crate::proved::vm_tree) struct Gap {
     pub(in crate::proved::vm_tree) joined: u64,
 }
 
-/// Frees the block at an index, and joins it with the gaps on both sides.
+/// FreesBlock the block at an index, and joins it with the gaps on both sides.
 #[inline(always)]
 fn join_at(leaf: &mut Leaf, i: usize) -> Gap {
     let len = leaf.len();
@@ -38,7 +38,7 @@ fn join_at(leaf: &mut Leaf, i: usize) -> Gap {
     Gap { range, joined }
 }
 
-/// Frees a held range of a leaf. Returns `None` if the leaf does not hold it.
+/// FreesBlock a held range of a leaf. Returns `None` if the leaf does not hold it.
 #[inline(always)]
 pub(in crate::proved::vm_tree) fn free_in(leaf: &mut Leaf, key: &RangeInclusive) -> Option<Gap> {
     let (start, end) = (key.start(), key.end());
@@ -219,7 +219,7 @@ fn free_end(tree: &mut Link, end: End, start: u64, last: u64, count: &mut Steps)
     }
 }
 
-/// Frees a range that touches the edge between two children of a node. It is in `near`, the child at the given
+/// FreesBlock a range that touches the edge between two children of a node. It is in `near`, the child at the given
 /// end of the node. If the block of `far` at the edge is a gap, it is dropped, and the edge moves over it.
 #[inline(never)]
 fn free_beside(
@@ -250,7 +250,7 @@ fn free_beside(
     }
 }
 
-/// Frees a held range below a node that does not touch the edge between its children. Returns `None` if it
+/// FreesBlock a held range below a node that does not touch the edge between its children. Returns `None` if it
 /// is not there.
 ///
 /// The compiler selects the child without a branch, because the call has no other code.
@@ -268,7 +268,7 @@ fn free_child(
     free_at(right, key, count)
 }
 
-/// Frees a held range below a node. Returns `None` if it is not there.
+/// FreesBlock a held range below a node. Returns `None` if it is not there.
 #[inline(always)]
 fn free_under(
     left: &mut Link,
@@ -287,7 +287,7 @@ fn free_under(
     free_child(left, edge, right, key, count)
 }
 
-/// Frees a held range, and joins it with the gaps on both sides. Returns `None` if the tree does not hold it.
+/// FreesBlock a held range, and joins it with the gaps on both sides. Returns `None` if the tree does not hold it.
 pub(in crate::proved::vm_tree) fn free_at(
     tree: &mut Link,
     key: &RangeInclusive,

@@ -2,8 +2,8 @@
 
 //! A balanced tree of the blocks of an address space, whose leaves hold up to 32 blocks each.
 //!
-//! A block is a range of addresses that is allocated as a whole, or free as a whole. `IntervalTree` of
-//! `vm_engine` allocates and frees ranges in this tree.
+//! A block is a range of addresses that is allocated as a whole, or free as a whole. `AddressAllocator`
+//! of `vm_addresses` allocates and frees ranges in this tree.
 //!
 //! # How the tree is stated
 //!
