@@ -1,5 +1,5 @@
 // SPDX-License-Identifier: Apache-2.0 OR BSD-3-Clause
-//! The two rounds of `speed.c` as direct calls of the Rust crate.
+//! The two rounds of `speed.c` as direct calls of the plain modules.
 
 use crate::proved::vm_addresses::{AddressAllocator, AllocPolicy, RangeInclusive, Result};
 use crate::rattle::Global;

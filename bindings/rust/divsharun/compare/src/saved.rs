@@ -15,7 +15,7 @@ pub fn value_of<T: Serialize>(object: &T) -> Value {
 
 /// Returns the object of `vm-allocator` that divsharun's saved object encodes.
 pub fn reread(port: &divsharun::AddressAllocator) -> vm_allocator::AddressAllocator {
-    serde_json::from_value(value_of(port)).expect("the Rust crate reads what the port writes")
+    serde_json::from_value(value_of(port)).expect("vm-allocator reads what the port writes")
 }
 
 /// Returns the blocks of a space in order, for any shape of its tree.
@@ -45,9 +45,9 @@ where
         packed::from_bytes(packed::to_bytes(rust).expect("bytes")).expect("the port reads bytes"),
     ];
     let from_port: [R; 2] = [
-        serde_json::from_value(value_of(port)).expect("the Rust crate reads JSON"),
+        serde_json::from_value(value_of(port)).expect("vm-allocator reads JSON"),
         packed::from_bytes(packed::to_bytes(port).expect("bytes"))
-            .expect("the Rust crate reads bytes"),
+            .expect("vm-allocator reads bytes"),
     ];
     let is_same = from_rust
         .iter()
