@@ -102,7 +102,7 @@ module _ (a : Inside) (bs : List Block) (v : IsInside a) (e : length a.starts �
     | inr c ↦ (let z : i ≡ 0 = omega arith in rw z low_leaf)
   ]
 
-  -- The blocks of a part are a leaf.
+  -- The blocks of a part, if any, are those of a leaf.
   pub part_left : AreLeft (blocks_left (mid_of i (j - i) a.starts) t (a.held / 2 ^ i))
   part_left l = subst IsLeaf (sym part_is) part_leaf
 
@@ -126,7 +126,7 @@ module _ (ss : List ℕ) (hi m s : ℕ) (rest : List ℕ) (e : ss ≡ s ∷ rest
     pub first_range : IsRange s (end_before rest hi)
     first_range = leaf_range _ 0 leaf (omega arith)
 
-    -- The blocks after the first one are a leaf.
+    -- The blocks after the first one, if any, are those of a leaf.
     pub rest_left : AreLeft (blocks_left rest hi (m / 2))
     rest_left l = leaf_high _ 1 leaf (omega arith) (omega arith)
 
@@ -168,7 +168,7 @@ module _ (ss : List ℕ) (hi m s : ℕ) (rest : List ℕ) (e : ss ≡ rest ++ s 
         subst (λ (b : Block). IsRange b.key.start b.key.end) f
         (leaf_range (blocks_left rest (s - 1) m ++ last ∷ []) (length (blocks_left rest (s - 1) m)) whole (omega arith))
 
-    -- The blocks before the last one are a leaf.
+    -- The blocks before the last one, if any, are those of a leaf.
     pub lower_left : AreLeft (blocks_left rest (s - 1) m)
     lower_left l =
         let k = length-append (blocks_left rest (s - 1) m) (last ∷ []) in

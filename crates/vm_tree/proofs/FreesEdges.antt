@@ -306,7 +306,7 @@ pub record Beside (end : End) (k z : Range) (c x : Shape) : Type 0 where
   pub edge : TouchesEdge end k (edge_of end c x)
   pub gap : z ≡ with_gap end k (block_at_end end (blocks x)).key
 
--- The range together with the gap beside it.
+-- The range and the gap beside it are joined to one range.
 pub gap_beside : (end : End) (k : Range) (near far : Link) (b : Block) (s l : ℕ) → CanChange (fork_at end (side near) (side far)) →
     TouchesEdge end k (edge_of end (side near) (side far)) → k.start ≤ k.end
     → b ≡ block_at_end end (blocks (side far)) → s ≡ min k.start b.key.start → l ≡ max k.end b.key.end →

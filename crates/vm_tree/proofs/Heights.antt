@@ -145,7 +145,7 @@ nodes_by_held (Fork l r) h c =
     let d = run_held (blocks (Fork l r)) c in
     omega (arith, nodes_by_leaves (Fork l r))
 
--- The height of a tree is limited by its leaves, its nodes and its held blocks.
+-- The height of a tree is limited by its nodes and by its held blocks.
 pub low_tree : (s : Shape) → IsTree s → IsRun (blocks s) → IsLowTree s
 low_tree s h c = record {
   fewest = nodes_from_height s h.balanced;

@@ -28,7 +28,7 @@ use Rattle.vm_tree.proofs.SearchedBlocks.{none_if_passed, none_below, none_above
 use Rattle.vm_tree.proofs.Trees.{full_some}
 
 -- ---- The path to an address
--- The path to an address is between the lowest and the highest leaf of a balanced tree.
+-- The path to an address is at most the height of a balanced tree, and at least half of it.
 pub path_length : (x : ℕ) (s : Shape) → IsBalanced s → IsPathLength s (nodes_to_address x s)
 unfolding nodes_to_address
 path_length x (Tip bs) b = record { upto = omega arith; least = omega arith }
@@ -59,7 +59,7 @@ search_fits end w n a s h = omega (arith, search_all end w n a s, few_nodes s h)
 
 -- ---- A search that finds a place enters a path at least
 module _ (w : Range) (n a : ℕ) (some : 0 < n) (aligned : IsAlignment a) where
-  -- A list with a fit is not one without any.
+  -- A list without a fit does not pass the test for one.
   none_means : (bs : List Block) → All (HasNoFitIn w n a) bs → list_any (has_fit_in w n a) bs ≡ true → ⊥
   none_means bs h e = false≢true (sym (none_found w n a bs (alignment_pos a aligned) h) ∙ e)
 

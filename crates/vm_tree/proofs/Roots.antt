@@ -120,7 +120,7 @@ child_of t h tree run low summed = record { subtree = subtree_of (side t) h tree
 pub path_fits : (x : ℕ) (s : Shape) → IsTree s → height_of s < 49 → nodes_to_address x s ≤ MAX
 path_fits x s t h = omega (arith, (path_length x s t.balanced).upto)
 
--- The path to an address is between the lowest and the highest leaf.
+-- The path to an address is at most the height, and at least half of it.
 pub path_of : (x : ℕ) (s : Shape) → IsTree s → IsPathLength s (nodes_to_address x s)
 path_of x s t = path_length x s t.balanced
 
@@ -223,7 +223,7 @@ module _ (end : End) (seek : Search) (valid : IsSearch seek) where
   fit_lone_some (Tip bs) new answer h a n = rw (closest_found end seek valid bs new answer n a) refl
   fit_lone_some (Fork l r) new answer h a n = absurd (omega (arith, high l))
 
-  -- The count of a leaf that is the whole tree.
+  -- The count of a leaf that is the whole tree is that of the search.
   pub fit_lone : (v : Shape) (new : List Block) (answer : Result Taken Refusal) (count : ℕ) → height_of v < 2 →
       AllocatesFit end seek (blocks v) new answer
       → (answer ≡ Err NoPlace → count ≡ 0) → (answer ≢ Err NoPlace → count ≡ 1) →

@@ -60,7 +60,6 @@ can_left t l r q h =
       height = omega (arith, h.height);
     }
 
--- The right child of a node that can be changed can be changed.
 pub can_right : (t l r : Shape) → t ≡ Fork l r → CanChange t → CanChange r
 can_right t l r q h =
     let k = ap height_of q in
@@ -90,7 +89,6 @@ loosens_left c n l r a h few s run =
       run = run;
     }
 
--- The right child lost blocks.
 pub loosens_right : (c : Change) (n : ℕ) (l r b : Shape) → IsTree (Fork l r) → n ≤ 2 → Reduces c n r b → IsRun (blocks l ++ blocks b) →
     Loosens c n l r l b
 loosens_right c n l r b h few s run =
@@ -110,7 +108,6 @@ loosens_right c n l r b h few s run =
       run = run;
     }
 
--- Both children lost blocks.
 pub loosens_both : (c d : Change) (m n : ℕ) (l r a b : Shape) → IsTree (Fork l r) → m ≤ 2 → n ≤ 2 → m + n ≤ 3 → Reduces c m l a →
     Reduces d n r b → IsRun (blocks a ++ blocks b)
     → Loosens Structure (m + n) l r a b
@@ -217,7 +214,7 @@ module _ {c : Change} {n longest alignments height : ℕ} {t v : Shape} (h : Cha
     pub updated_blocks : blocks s ≡ blocks v
     updated_blocks = updated_by c h.a h.b s is_updated ∙ sym (ap blocks h.after)
 
-    -- The tree has lost blocks as the change reports that its update returns.
+    -- The tree has lost blocks as the update reports.
     pub update_reduces : (d : Change) → Reports d longest alignments height s → Reduces d n t s
     update_reduces d p =
         let m = ap length (updated_by c h.a h.b s is_updated) ∙ length-append (blocks h.a) (blocks h.b) in

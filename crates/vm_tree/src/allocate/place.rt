@@ -86,7 +86,7 @@ pub(super) fn leaf_of(tree: &Link) -> &Leaf
 fn has_room(leaf: &Leaf, rest: Rest) -> bool
     ensures { MatchBool result (length leaf.now + added_by rest ≤ 32) (32 < length leaf.now + added_by rest) }
 {
-    leaf.len() + rest.added() as usize <= CAPACITY
+    leaf.len() <= CAPACITY - rest.added() as usize
 }
 
 /// Allocates the range of a place in a leaf that has room for it. Unless the leaf is the whole tree (`lone`),

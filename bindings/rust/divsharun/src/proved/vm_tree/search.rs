@@ -24,11 +24,12 @@ pub(in crate::proved) struct Search {
 /// A range that was allocated.
 #[derive(Clone, Copy)]
 pub(in crate::proved) struct Taken {
-    pub(in crate::proved) range: RangeInclusive,
-    /// The number of blocks that the tree has more than before: 0, 1 or 2.
-    pub(in crate::proved) added: u64,
-    /// The change of the summary of the subtree.
+    /// The change of the summary of the subtree. It is the first field, so that a copy of the others is
+    /// one piece.
     pub(in crate::proved::vm_tree) change: Change,
+    /// The number of blocks that the tree has more than before: 0, 1 or 2.
+    pub(in crate::proved) added: u8,
+    pub(in crate::proved) range: RangeInclusive,
 }
 
 /// The reason why no range was allocated.

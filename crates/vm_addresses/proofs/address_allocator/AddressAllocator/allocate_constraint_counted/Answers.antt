@@ -21,7 +21,7 @@ overflow_add-self-2 c =
     let valid = c.in-Ok.ensures.valid in
     let k = taken_gaps c.self.inside.tree c.allocate_in.new.tree c.self.inside.space c.self.inside.held_count c.self.inside.gap_count
     c.self.inside.free_len c.args.request c.allocate_in.new.count c.self.invariant c.in-Ok.taken valid.some c.in-Ok.ensures.answer
-    c.in-Ok.taken.added refl in
+    c.from.result c.from.ensures in
     omega (arith, k.1)
 
 pub overflow_sub-self : goal.overflow_sub-self
@@ -29,7 +29,7 @@ overflow_sub-self c =
     let valid = c.in-Ok.ensures.valid in
     (taken_gaps c.self.inside.tree c.allocate_in.new.tree c.self.inside.space c.self.inside.held_count c.self.inside.gap_count
     c.self.inside.free_len c.args.request c.allocate_in.new.count c.self.invariant c.in-Ok.taken valid.some c.in-Ok.ensures.answer
-    c.in-Ok.taken.added refl).0
+    c.from.result c.from.ensures).0
 
 pub overflow_sub-self-2 : goal.overflow_sub-self-2
 overflow_sub-self-2 c =
@@ -43,7 +43,7 @@ invariant_of-self-2 c =
     let valid = c.in-Ok.ensures.valid in
     taken_new c.self.inside.tree c.allocate_in.new.tree c.self.inside.space c.self.inside.held_count c.self.inside.gap_count
     c.self.inside.free_len c.args.request c.allocate_in.new.count c.self.invariant c.in-Ok.taken valid.some c.in-Ok.ensures.answer
-    c.in-Ok.taken.added c.size.result refl c.size.ensures.value
+    c.from.result c.size.result c.from.ensures c.size.ensures.value
 
 pub returns-clause-state : goal.returns-clause-state
 returns-clause-state c =

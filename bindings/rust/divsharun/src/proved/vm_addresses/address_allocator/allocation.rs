@@ -38,7 +38,7 @@ impl AddressAllocator {
             Err(error) => return (Err(error), count.entered()),
         };
         self.held_count += 1;
-        self.gap_count += taken.added;
+        self.gap_count += u64::from(taken.added);
         self.gap_count -= 1;
         self.free_len -= request.size();
         (Ok(taken.range), count.entered())

@@ -33,7 +33,7 @@ impl Rest {
 
     /// Returns the number of these parts, which is the number of blocks that the allocation adds.
     #[inline(always)]
-    pub(in crate::proved) fn added(self) -> u64 {
+    pub(in crate::proved) fn added(self) -> u8 {
         match self {
             Rest::Nothing => 0,
             Rest::Before => 1,

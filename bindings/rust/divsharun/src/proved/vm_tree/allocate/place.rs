@@ -65,7 +65,7 @@ pub(super) fn leaf_of(tree: &Link) -> &Leaf {
 /// Returns `true` if the leaf has room for the parts that stay free.
 #[inline(always)]
 fn has_room(leaf: &Leaf, rest: Rest) -> bool {
-    leaf.len() + rest.added() as usize <= CAPACITY
+    leaf.len() <= CAPACITY - rest.added() as usize
 }
 
 /// Allocates the range of a place in a leaf that has room for it. Unless the leaf is the whole tree (`lone`),
