@@ -16,7 +16,6 @@ use Rattle.std.proofs.Common.{
   false,
   cond,
   not,
-  ◌&&◌,
   ◌||◌,
   eqb,
   List,
@@ -41,13 +40,12 @@ use Rattle.std.proofs.Common.{
   Bor,
 }
 use Rattle.std.proofs.Math.Bool.{or-false}
-use Rattle.std.proofs.lemmas.Bool.{both_ways, and_parts, and_from, or_left, or_right, not-true, not-false, eq-eqb, eqb-true}
+use Rattle.std.proofs.lemmas.Bool.{both_ways, or_left, or_right, not-true, not-false, eq-eqb, eqb-true}
 use Rattle.std.proofs.lemmas.List.{append-nil, length_push}
 use Rattle.std.proofs.lemmas.List.Elements.{All-weaker, Contains-get_or, filter-append}
 use Rattle.std.proofs.lemmas.List.Folds.{list_any-append}
 use Rattle.std.proofs.lemmas.Map.Keys.{below_from_sorted}
 use Rattle.std.proofs.lemmas.Map.Made.{is_member-Decides}
-use Rattle.std.proofs.lemmas.Map.Views.{any-filter_same}
 use Rattle.std.specs.Iterator.{YieldsFirstRef, YieldsLastRef}
 use Rattle.std.specs.List.{All, AllPairs, Contains, filter, list_any, range_with_len}
 use Rattle.std.specs.List.Sorted.{IsStrictlySortedBy}
@@ -55,13 +53,13 @@ use Rattle.std.specs.Option.{option_copied, option_eq}
 use Rattle.std.specs.Ordering.{nat_cmp, eq_by_cmp}
 use Rattle.std.specs.BTreeSet.{BTreeSet, contains, IsOrdered}
 use Rattle.std.specs.FinSet as set
-use Rattle.vm_ranges.proofs.NumberSets.{tied_here, tied_is, apart_not_tied, same_test}
-use Rattle.vm_ids.specs.Ids.{IdState, IsHeld, held_ids, held_count, IsIdState, bound_of, held_of, ids_of, AreIds}
+use Rattle.vm_ranges.proofs.NumberSets.{tied_here, apart_not_tied}
+use Rattle.vm_ids.specs.Ids.{IdState, IsHeld, held_ids, held_count, IsIdState, bound_of, ids_of, AreIds}
 use Rattle.vm_ids.specs.Checks.IdQueries.{freed_from, freed_to, ids_left, AscendWithin, AreIdsLeft}
 use Rattle.vm_ids.specs.Laws.IdLaws.{HeldIdsAreListed}
-use Rattle.vm_ids.proofs.Ids.IdSets.{in_row, held_from, from_held, bound_above, bound_fits}
+use Rattle.vm_ids.proofs.Ids.IdSets.{held_test, bound_fits}
 use Rattle.vm_ids.proofs.Ids.AscendingBounds.{rise, wider}
-use Rattle.vm_ids.proofs.Ids.IdRows.{same_kept, row_end, passed_rise}
+use Rattle.vm_ids.proofs.Ids.IdRows.{same_kept, row_end, passed_rise, row_passed}
 use Rattle.vm_ids.proofs.Ids.IdCounts.{tells_apart, ids_listed}
 
 abbrev same : ℕ → ℕ → Bool
@@ -253,39 +251,20 @@ module _ (next bound : ℕ) (l : next < bound) where
 
 pub ruleset walks = (none_left)
 
--- An id that was allocated at some time is held if and only if it was not freed since.
-pub held_not_freed : (lo bound i : ℕ) (freed : BTreeSet ℕ) → lo ≤ i → i < bound →
-    set.contains (held_of lo bound freed) i ≡ not (contains nat_cmp freed i)
-held_not_freed lo bound i freed l h =
-    same_test _ _ (λ t. ap not (from_held lo bound i freed t).2) (λ t. held_from lo bound i freed l h (not-true _ t))
-
-walk_from : (lo bound : ℕ) (freed : BTreeSet ℕ) → lo ≤ bound →
-    ids_left lo bound freed.keys ≡ filter (λ i. set.contains (held_of lo bound freed) i) (range_with_len lo (bound - lo))
-unfolding ids_left
-walk_from lo bound freed l =
-    same_kept _ _ lo (bound - lo) (λ i a b. sym (held_not_freed lo bound i freed a (omega arith)))
-
 -- The walk from the lowest id visits the held ids.
 pub walk_lists : (state : IdState) (lo hi : ℕ) (next : Option ℕ) (freed : BTreeSet ℕ) → ids_of lo hi next freed ≡ state →
     AreIds lo hi next freed → ids_left lo (bound_of next hi) freed.keys ≡ held_ids state
-unfolding ids_of
+unfolding ids_of ids_left
 walk_lists state lo hi next freed e a =
-    walk_from lo (bound_of next hi) freed (bound_above lo hi next a.range a.next_id) ∙ ap (λ (s : IdState). held_ids s) e
+    rw (← e) (same_kept _ _ lo (bound_of next hi - lo) (λ i l u. grind (arith, held_test)))
 
 -- ---- The list of held ids
 -- The list has exactly the held ids.
 pub in_held_ids : (state : IdState) → IsIdState state → (q : ℕ) → list_any (same q) (held_ids state) ≡ set.contains state.held q
 in_held_ids state s q =
-    let row = range_with_len state.lo (state.bound - state.lo) in
-    let both : list_any (same q) (held_ids state) ≡ (set.contains state.held q && list_any (same q) row) =
-    any-filter_same (same q) (λ i. set.contains state.held i) (set.contains state.held q)
-    (λ k t. ap (λ (v : ℕ). set.contains state.held v) (sym (tied_is q k t))) row in
-    both
-    ∙ same_test _ _
-    (λ t. (and_parts _ _ t).0)
-    (λ t. let w = s.held q t in and_from _ _ t (in_row state.lo (state.bound - state.lo) q w.0 (omega (arith, w.0, w.1))))
+    row_passed (λ i. set.contains state.held i) state.lo (state.bound - state.lo) q ∙ grind (arith, s.held q)
 
-held_ids_rise : (state : IdState) → IsStrictlySortedBy nat_cmp (held_ids state)
+pub held_ids_rise : (state : IdState) → IsStrictlySortedBy nat_cmp (held_ids state)
 held_ids_rise state = passed_rise (λ i. set.contains state.held i) state.lo (state.bound - state.lo)
 
 held_id_listed : (state : IdState) (id : ℕ) → IsIdState state → Contains (held_ids state) id ↔ IsHeld state id
@@ -294,7 +273,7 @@ held_id_listed state id s = (
   λ h. (is_member-Decides tells_apart (held_ids state) id).0 (in_held_ids state s id ∙ h),
 )
 
-held_ids_counted : (state : IdState) → IsIdState state → length (held_ids state) ≡ held_count state
+pub held_ids_counted : (state : IdState) → IsIdState state → length (held_ids state) ≡ held_count state
 held_ids_counted state s =
     let apart : AllPairs (λ i j. i ≢ j) (held_ids state) = λ i j d l m e. omega
     (arith, below_from_sorted (held_ids state) i j d (held_ids_rise state) l m, e) in

@@ -34,7 +34,6 @@ use Rattle.std.proofs.Common.{
 use Rattle.std.proofs.lemmas.Option.{same_Some}
 use Rattle.std.proofs.lemmas.List.Elements.{All-contains}
 use Rattle.std.proofs.lemmas.Map.Views.{Contains-from_any, list_any-from_Contains}
-use Rattle.std.proofs.lemmas.Bool.{both_ways}
 use Rattle.std.specs.List.{All, Contains}
 use Rattle.std.specs.Prelude.{slice_index_or}
 use Rattle.std.specs.List.Sorted.{IsStrictlySortedBy}
@@ -51,7 +50,7 @@ use Rattle.vm_ranges.specs.declared.saved.SavedError.{SavedError}
 use Rattle.vm_ranges.specs.declared.saved.SavedError.TheVariants.{Violated, OutOfMemory}
 use Rattle.vm_ids.specs.FreedLists.{AreFreedOf, MakesOfIds}
 use Rattle.vm_ids.specs.Checks.IdChecks.{IdParts, ascending, ids_in, decoded_ids}
-use Rattle.vm_ids.proofs.Ids.IdSets.{holds_from, from_holds}
+use Rattle.vm_ids.proofs.Ids.IdSets.{held_test}
 use Rattle.vm_ids.proofs.Ids.IdFields.{is_state}
 use Rattle.vm_ids.proofs.Ids.ReadIds.{Found, fields_of, widened, bound_fits_ids, checks, passes, one_fields}
 
@@ -76,8 +75,8 @@ state_of_fields lo hi next freed = record {
   hi = refl;
   bound = refl;
   held = λ i. (
-    λ h. let p = from_holds lo hi i next freed h in ((p.0, p.1), λ c. both_ways _ p.2 (among freed i c)),
-    λ h. holds_from lo hi i next freed h.0.0 h.0.1 (not_among freed i h.1),
+    λ h. (grind (arith, held_test), λ c. grind (arith, held_test, among freed i c)),
+    λ h. grind (arith, held_test, not_among freed i h.1),
   );
 }
 
