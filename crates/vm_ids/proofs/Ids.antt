@@ -15,7 +15,6 @@ pub mod IdEnds
 pub mod AscendingNumbers
 pub mod AscendingBounds
 pub mod ReadIds
-pub mod ReadIdStates
 pub mod AddedIds
 pub mod FreedParts
 pub mod WrittenIds

@@ -43,10 +43,8 @@ use Rattle.vm_ids.proofs.Ids.FreeIds.{in_free, several_state}
 use Rattle.vm_ids.proofs.Ids.IdsInTurn.{taken_in_turn, in_turn_state, held_after_all, held_are_made}
 use Rattle.vm_ids.proofs.Ids.WithHeld.{made_state}
 use Rattle.vm_ids.proofs.Ids.IdSets.{inserted_test, removed_test}
-use Rattle.std.specs.BTreeSet.{BTreeSet}
 use Rattle.vm_ids.proofs.Ids.IdFields.{is_state}
-use Rattle.vm_ids.proofs.Ids.FreedParts.{parts_are_ids}
-use Rattle.vm_ids.specs.Ids.{IdState, IsHeld, IsLowestNotHeld, IsIdState, ids_of, new_ids, holding_id, releasing_id, MakesIds}
+use Rattle.vm_ids.specs.Ids.{IdState, IsHeld, IsLowestNotHeld, IsIdState, new_ids, holding_id, releasing_id, MakesIds}
 use Rattle.vm_ids.specs.Histories.IdHistories.{
   Allocate,
   AllocateExact,
@@ -69,7 +67,7 @@ use Rattle.vm_ids.specs.Laws.IdHistoryLaws.{EachIsLowestNotHeld, NoIdIsHeldTwice
 use Rattle.vm_ranges.proofs.Clones.{cloning_keeps}
 use Rattle.vm_ranges.specs.Histories.{ErrorsChangeNothing}
 use Rattle.vm_ranges.proofs.Histories.{state_between, history_keeps}
-use Rattle.vm_ids.proofs.Ids.ReadIdStates.{encoded_state}
+use Rattle.vm_ids.proofs.Ids.ReadIds.{encoded_state}
 use Rattle.vm_ids.proofs.Ids.IdResults.{lowest_is_held, freed_is_removed, made_ids, allocated_ids, freed_ids_state}
 use Rattle.vm_ids.specs.Laws.IdLaws.{IdStateIsPreserved}
 use Rattle.vm_ids.proofs.Callers.{id_is_held, id_is_lowest}
@@ -132,9 +130,7 @@ first_state : (first : IdState) → AreIdsMade first ⊎ (AreIdsMadeOfFreed firs
 unfolding MakesWithHeld MakesIds
 first_state first (inl m) = made_ids m.lo m.hi first m.word m.made
 first_state first (inr (inl m)) =
-    let freed : BTreeSet ℕ = record { keys = m.freed } in
-    rw m.made.1 (is_state (ids_of m.lo m.hi m.next freed) m.lo m.hi m.next freed refl
-    (parts_are_ids m.lo m.hi m.next m.freed freed m.word m.made.0 refl))
+    is_state first m.lo m.hi m.next (record { keys = m.freed }) (sym m.made.1) m.made.0.parts
 first_state first (inr (inr (inl m))) =
     (held_are_made m.lo m.hi m.held (new_ids m.lo m.hi) first m.word (grind arith) m.made).1
 first_state first (inr (inr (inr r))) = encoded_state r.value first r.encoded

@@ -52,7 +52,8 @@ use Rattle.vm_ids.specs.IdRequests.{free_ids, holding_ids, AllocatesIds}
 use Rattle.vm_ids.proofs.Ids.IdSets.{inserted_test}
 use Rattle.vm_ids.proofs.Ids.IdFields.{is_state}
 use Rattle.vm_ids.proofs.Ids.RisingIds.{same_rising}
-use Rattle.vm_ids.proofs.Ids.IdRows.{passed_rise, row_passed, rises_above}
+use Rattle.vm_ids.proofs.Ids.IdRows.{passed_rise, row_passed}
+use Rattle.vm_ids.proofs.Ids.AscendingBounds.{rises_above}
 use Rattle.vm_ids.proofs.Ids.HeldIds.{in_held_ids, held_ids_rise, held_ids_counted}
 
 abbrev same : ℕ → ℕ → Bool

@@ -36,13 +36,12 @@ use Rattle.std.proofs.Common.{
   Option,
   Some,
   None,
-  IsTrue,
   Bor,
 }
 use Rattle.std.proofs.Math.Bool.{or-false}
 use Rattle.std.proofs.lemmas.Bool.{both_ways, or_left, or_right, not-true, not-false, eq-eqb, eqb-true}
 use Rattle.std.proofs.lemmas.List.{append-nil, length_push}
-use Rattle.std.proofs.lemmas.List.Elements.{All-weaker, Contains-get_or, filter-append}
+use Rattle.std.proofs.lemmas.List.Elements.{Contains-get_or, filter-append}
 use Rattle.std.proofs.lemmas.List.Folds.{list_any-append}
 use Rattle.std.proofs.lemmas.Map.Keys.{below_from_sorted}
 use Rattle.std.proofs.lemmas.Map.Made.{is_member-Decides}
@@ -51,14 +50,14 @@ use Rattle.std.specs.List.{All, AllPairs, Contains, filter, list_any, range_with
 use Rattle.std.specs.List.Sorted.{IsStrictlySortedBy}
 use Rattle.std.specs.Option.{option_copied, option_eq}
 use Rattle.std.specs.Ordering.{nat_cmp, eq_by_cmp}
-use Rattle.std.specs.BTreeSet.{BTreeSet, contains, IsOrdered}
+use Rattle.std.specs.BTreeSet.{BTreeSet, IsOrdered}
 use Rattle.std.specs.FinSet as set
 use Rattle.vm_ranges.proofs.NumberSets.{tied_here, apart_not_tied}
 use Rattle.vm_ids.specs.Ids.{IdState, IsHeld, held_ids, held_count, IsIdState, bound_of, ids_of, AreIds}
 use Rattle.vm_ids.specs.Checks.IdQueries.{freed_from, freed_to, ids_left, AscendWithin, AreIdsLeft}
 use Rattle.vm_ids.specs.Laws.IdLaws.{HeldIdsAreListed}
 use Rattle.vm_ids.proofs.Ids.IdSets.{held_test, bound_fits}
-use Rattle.vm_ids.proofs.Ids.AscendingBounds.{rise, wider}
+use Rattle.vm_ids.proofs.Ids.AscendingBounds.{rise}
 use Rattle.vm_ids.proofs.Ids.IdRows.{same_kept, row_end, passed_rise, row_passed}
 use Rattle.vm_ids.proofs.Ids.IdCounts.{tells_apart, ids_listed}
 
@@ -289,18 +288,14 @@ pub ruleset listings = (listed_held)
 -- ---- The first state of the walk
 pub walk_starts : (state : IdState) (lo hi : ℕ) (next : Option ℕ) (freed : BTreeSet ℕ) (above below : List ℕ) →
     ids_of lo hi next freed ≡ state → AreIds lo hi next freed → IsOrdered nat_cmp freed →
-    All (λ i. IsTrue (contains nat_cmp freed i)) freed.keys → IsIdState state → above ≡ freed.keys → below ≡ freed.keys →
+    IsIdState state → above ≡ freed.keys → below ≡ freed.keys →
     AreIdsLeft lo (bound_of next hi) above below (held_count state)
-walk_starts state lo hi next freed above below b a o all s e f =
-    let r : AscendWithin lo (bound_of next hi) freed.keys =
-    rise lo (bound_of next hi) freed.keys o (All-weaker _ _ (λ i h. a.freed_ids i h) freed.keys all) in
+walk_starts state lo hi next freed above below b a o s e f =
     let fits = bound_fits lo hi next a.next_id in
     record {
       ids = omega (arith, fits, a.ids);
-      from_next = subst (AscendWithin lo (2 ^ 32)) (sym e)
-          (wider lo lo (bound_of next hi) (2 ^ 32) freed.keys (omega arith) (omega (arith, fits, a.ids)) r);
-      to_bound = subst (AscendWithin 0 (bound_of next hi)) (sym f)
-          (wider 0 lo (bound_of next hi) (bound_of next hi) freed.keys (omega arith) (omega arith) r);
+      from_next = rw e (rise lo (2 ^ 32) freed.keys o (λ i t. grind (arith, a.freed_ids i t, fits, a.ids)));
+      to_bound = rw f (rise 0 (bound_of next hi) freed.keys o (λ i t. grind (arith, a.freed_ids i t)));
       same = λ i l u. ap (list_any (same i)) (e ∙ sym f);
       counted = sym (ap (λ (is : List ℕ). length (ids_left lo (bound_of next hi) is)) e ∙ ap length (walk_lists state lo hi next freed b a)
           ∙ held_ids_counted state s);

@@ -1,13 +1,10 @@
 -- Rows: the numbers from a to below a + n.
-use Rattle.std.proofs.Common.{◌≡◌, ℕ, zero, suc, ◌+◌, ◌<◌, ◌≤◌, ◌&&◌, Bool, true, leb, ltb, List, [], ◌∷◌, ◌++◌, refl, ap, ◌∙◌, arith, Less}
-use Rattle.std.proofs.lemmas.Bool.{or_left, or_right}
+use Rattle.std.proofs.Common.{◌≡◌, ℕ, zero, suc, ◌+◌, ◌<◌, ◌≤◌, ◌&&◌, Bool, leb, ltb, List, [], ◌∷◌, ◌++◌, refl, ap, ◌∙◌, arith}
 use Rattle.std.proofs.lemmas.Map.Views.{any-filter_same}
 use Rattle.std.proofs.lemmas.List.Kept.{IsStrictlySortedBy-filter}
-use Rattle.std.specs.List.{AllByRecursion, filter, list_any, range_with_len}
+use Rattle.std.specs.List.{filter, list_any, range_with_len}
 use Rattle.std.specs.List.Sorted.{IsStrictlySortedBy}
 use Rattle.std.specs.Ordering.{nat_cmp, eq_by_cmp}
-use Rattle.vm_ranges.proofs.NumberSets.{tied_here}
-use Rattle.vm_ranges.proofs.Items.{less}
 use Rattle.vm_ids.proofs.Ids.IdSets.{row_test}
 use Rattle.vm_ids.specs.Checks.IdQueries.{AscendWithin}
 use Rattle.vm_ids.proofs.Ids.AscendingBounds.{sorted}
@@ -41,12 +38,3 @@ pub row_passed : (p : ℕ → Bool) (a n q : ℕ) →
 row_passed p a n q =
     any-filter_same (eq_by_cmp nat_cmp q) p (p q) (λ k t. ap p (grind arith)) (range_with_len a n)
     ∙ ap (λ (b : Bool). p q && b) (row_test a n q)
-
--- A number below all numbers of a list in ascending order is its first.
-pub rises_above : (i : ℕ) (xs : List ℕ) → ((q : ℕ) → list_any (eq_by_cmp nat_cmp q) xs ≡ true → i < q) → IsStrictlySortedBy nat_cmp xs →
-    IsStrictlySortedBy nat_cmp (i ∷ xs)
-unfolding IsStrictlySortedBy
-rises_above i xs h s = (all xs h, s) where
-  all : (ys : List ℕ) → ((q : ℕ) → list_any (eq_by_cmp nat_cmp q) ys ≡ true → i < q) → AllByRecursion (λ m. nat_cmp i m ≡ Less) ys
-  all [] h = tt
-  all (y ∷ ys) h = (less i y (h y (or_left _ _ (tied_here y))), all ys (λ q t. h q (or_right _ _ t)))

@@ -38,7 +38,7 @@ use Rattle.std.proofs.Common.{
   append-nil,
   Less,
 }
-use Rattle.std.proofs.lemmas.Bool.{cases_lt, both_ways, or_cases, or_left, or_right, lt-ltb, le-ltb}
+use Rattle.std.proofs.lemmas.Bool.{cases_lt, both_ways, or_left, or_right, lt-ltb, le-ltb}
 use Rattle.std.proofs.lemmas.List.{take-append-drop, length-take-le}
 use Rattle.std.proofs.lemmas.List.Kept.{IsStrictlySortedBy-filter}
 use Rattle.std.proofs.lemmas.Map.Views.{any-filter_same}
@@ -92,6 +92,7 @@ use Rattle.vm_ids.proofs.Ids.IdResults.{lowest_is_held, allocated_ids, made_ids,
 use Rattle.vm_ids.proofs.Ids.EveryIdCall.{lowest_or_all}
 use Rattle.vm_ids.proofs.Ids.ExactIds.{holding_in_range, exact_state, exact_was_free}
 use Rattle.vm_ids.proofs.Ids.FreeIds.{free_test, free_rise, lowest_first, holding_more, ids_taken, several_state}
+use Rattle.vm_ids.proofs.Ids.AscendingBounds.{rises_below}
 use Rattle.vm_ids.proofs.Ids.WithHeld.{made_state, right_from}
 
 abbrev same : ℕ → ℕ → Bool
@@ -190,12 +191,6 @@ pub several_are_as_single : SeveralAreAsSingle
 several_are_as_single = record { taken = several_taken; single = several_single; refused = several_refused }
 
 -- ---- A given id
-rises_below : (i j : ℕ) (is : List ℕ) → AllByRecursion (λ m. nat_cmp i m ≡ Less) is → list_any (same j) is ≡ true → i < j
-rises_below i j [] a t = absurd (both_ways false refl t)
-rises_below i j (k ∷ is) a t =
-    ⊎_elim (λ (e : same j k ≡ true). grind (arith, less_is i k a.0))
-    (λ (m : list_any (same j) is ≡ true). rises_below i j is a.1 m) (or_cases _ _ t)
-
 none_less : (x id : ℕ) (xs : List ℕ) → AllByRecursion (λ m. nat_cmp x m ≡ Less) xs → id ≤ x → filter (λ i. ltb i id) xs ≡ []
 none_less x id [] a l = refl
 none_less x id (y ∷ ys) a l = let h = less_is x y a.0 in rw (le-ltb y id (omega (arith, h, l))) (none_less x id ys a.1 l)

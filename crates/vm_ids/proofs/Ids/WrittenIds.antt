@@ -35,11 +35,9 @@ use Rattle.std.proofs.Common.{
   Less,
 }
 use Rattle.std.proofs.lemmas.Bool.{cases_lt, le-leb, lt-leb}
-use Rattle.std.proofs.lemmas.Map.Views.{list_any-from_Contains}
-use Rattle.std.specs.List.{AllByRecursion, Contains, list_any}
+use Rattle.std.specs.List.{AllByRecursion, list_any}
 use Rattle.std.specs.List.Sorted.{IsStrictlySortedBy}
 use Rattle.std.specs.Ordering.{eq_by_cmp}
-use Rattle.std.specs.Cmp.{nat_cmp_total, eq_by_cmp_equiv}
 use Rattle.std.specs.FinSet as set
 use Rattle.vm_ranges.specs.declared.saved.SavedError.{SavedError}
 use Rattle.vm_ranges.specs.declared.saved.SavedError.TheVariants.{Violated, OutOfMemory}
@@ -74,16 +72,15 @@ is_freed : (state : IdState) (i : ℕ) → IsIdState state →
 is_freed state i s =
     row_passed (λ k. not (set.contains state.held k)) state.lo (state.bound - state.lo) i ∙ grind (arith, s.bound)
 
-freed_within : (state : IdState) → IsIdState state → (i : ℕ) → Contains (freed_ids state) i → (state.lo ≤ i) × (i < state.bound)
-freed_within state s i c =
-    grind (arith, is_freed state i s, list_any-from_Contains (eq_by_cmp_equiv nat_cmp_total) i (freed_ids state) c)
-
 parts_accepted : (state : IdState) → IsIdState state → AreFreedOf state.lo state.hi (next_id_of state) (freed_ids state)
 parts_accepted state s = record {
-  range = s.range;
-  next_id = next_valid state s;
+  parts = record {
+    range = s.range;
+    ids = s.ids;
+    next_id = next_valid state s;
+    freed_ids = λ i t. rw (bound_is state s) (grind (arith, is_freed state i s));
+  };
   ascending = passed_rise (λ i. not (set.contains state.held i)) state.lo (state.bound - state.lo);
-  freed_ids = λ i c. subst (λ (b : ℕ). (state.lo ≤ i) × (i < b)) (sym (bound_is state s)) (freed_within state s i c);
 }
 
 -- The state of the parts.
