@@ -5,7 +5,7 @@ use Rattle.vm_ids.specs.Ids.{IdState, IsIdState, IsHeld, IsLowestNotHeld, holdin
 use Rattle.vm_ids.specs.Values.IdValues.{EncodesIds}
 use Rattle.vm_ranges.specs.declared.error.Error.{Error}
 use Rattle.vm_ids.proofs.Ids.IdSets.{inserted_test}
-use Rattle.vm_ids.proofs.Ids.ReadIds.{one_encoded, encoded_state as encoded_ids}
+use Rattle.vm_ids.proofs.Ids.ReadIdStates.{one_encoded, encoded_state as encoded_ids}
 
 module _ (old new : IdState) (answer : Result ℕ Error) (h : AllocatesId old answer new) where
   -- An allocated id was not held before, and is held after.

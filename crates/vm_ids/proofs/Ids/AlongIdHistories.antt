@@ -67,7 +67,7 @@ use Rattle.vm_ids.specs.Laws.IdHistoryLaws.{EachIsLowestNotHeld, NoIdIsHeldTwice
 use Rattle.vm_ranges.proofs.Clones.{cloning_keeps}
 use Rattle.vm_ranges.specs.Histories.{ErrorsChangeNothing}
 use Rattle.vm_ranges.proofs.Histories.{state_between, history_keeps}
-use Rattle.vm_ids.proofs.Ids.ReadIds.{encoded_state}
+use Rattle.vm_ids.proofs.Ids.ReadIdStates.{encoded_state}
 use Rattle.vm_ids.proofs.Ids.IdResults.{lowest_is_held, freed_is_removed, made_ids, allocated_ids, freed_ids_state}
 use Rattle.vm_ids.specs.Laws.IdLaws.{IdStateIsPreserved}
 use Rattle.vm_ids.proofs.Callers.{id_is_held, id_is_lowest}

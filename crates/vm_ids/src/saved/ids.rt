@@ -24,7 +24,7 @@ impl IdAllocator {
     /// # Errors
     ///
     /// - `OutOfMemory` if an allocation of memory fails.
-    #[tactic(auto, using(crate::proofs::Ids::ReadIds::written))]
+    #[tactic(auto, using(crate::proofs::Ids::ReadIdStates::written))]
     pub fn to_value(&self, alloc: Global) -> Result<Value>
         ensures { Saves (λ d. EncodesIds d self.now) result }
     {

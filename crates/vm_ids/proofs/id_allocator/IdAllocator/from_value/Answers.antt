@@ -2,7 +2,7 @@ use Rattle.std.proofs.Common.{◌≡◌, Some, Ok, Err, refl, rules}
 use Rattle.serde_json.specs.View.{view, items_view}
 use Rattle.vm_ranges.specs.declared.saved.ValueError.TheVariants.{OutOfMemory}
 use Rattle.vm_ids.specs.Checks.IdChecks.{ids_from}
-use Rattle.vm_ids.proofs.Ids.ReadIds.{some_encoded, state_read}
+use Rattle.vm_ids.proofs.Ids.ReadIdStates.{some_encoded, state_read}
 use Rattle.vm_ids.proofs.id_allocator.IdAllocator.from_value.Goals as goal
 
 pub collect_ids-requires : goal.collect_ids-requires

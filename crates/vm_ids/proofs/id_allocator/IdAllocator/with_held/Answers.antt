@@ -64,8 +64,8 @@ pub loop-id-preserved : goal.loop-id-preserved
 loop-id-preserved c =
     let new = new_held_state c.loop-id.ids c.allocate_new.new.self _ c.allocate_new.result c.in_ok-allocate_new.field-0
     c.in_ok-allocate_new.was c.allocate_new.ensures in
-    one_more_held c.args.range_base c.args.range_end c.loop-id.id-index _ c.args.held.now c.loop-id.ids c.allocate_new.new.self
-    c.loop-id-test.true refl c.loop-id.invariant new
+    one_more_held c.args.range_base c.args.range_end c.loop-id.id-index _ c.args.held.now c.loop-id.ids c.loop-id-test.true refl
+    c.loop-id.invariant c.allocate_new.new.self new
 
 pub returns-clause-answer : goal.returns-clause-answer
 returns-clause-answer c =

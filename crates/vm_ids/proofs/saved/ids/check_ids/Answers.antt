@@ -3,7 +3,7 @@ use Rattle.serde_json.specs.View.{view, items_view}
 use Rattle.vm_ids.specs.Values.IdValues.{IdFields}
 use Rattle.vm_ids.specs.Checks.FreedChecks.{ends_of}
 use Rattle.vm_ids.specs.Checks.IdChecks.{ids_from}
-use Rattle.vm_ids.proofs.Ids.ReadIds.{AreRead, ends_kept, ends_refused, parts_refused, parts_accepted}
+use Rattle.vm_ids.proofs.Ids.ReadIdStates.{AreRead, ends_kept, ends_refused, parts_refused, parts_accepted}
 use Rattle.vm_ids.proofs.saved.ids.check_ids.Goals as goal
 
 pub returns-in_err-ends-clause-none : goal.returns-in_err-ends-clause-none
