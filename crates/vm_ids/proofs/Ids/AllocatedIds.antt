@@ -69,17 +69,16 @@ takes_released lo hi k next freed left a t u =
     let was = a.freed_ids k t in
     same_state _ _ refl refl (omega (arith, was.1)) (λ q. grind (arith, tests, u.0 q, was))
 
-pub allocates_released : (old : IdState) (lo hi k : ℕ) (next : Option ℕ) (freed left : BTreeSet ℕ) → ids_of lo hi next freed ≡ old →
-    AreIds lo hi next freed → IsTrue (contains nat_cmp freed k) → IsLowerBound nat_cmp freed k → Updates nat_cmp freed left k false →
-    AllocatesId old (Ok k) (ids_of lo hi next left)
-unfolding AllocatesId ByLowestNotHeld
-allocates_released old lo hi k next freed left e a t lowest u =
-    rw (← e) (inl (k, lowest_released lo hi k next freed a t lowest, (refl, takes_released lo hi k next freed left a t u)))
+module _ (old : IdState) (lo hi k : ℕ) (next : Option ℕ) (freed : BTreeSet ℕ) (e : ids_of lo hi next freed ≡ old)
+    (a : AreIds lo hi next freed) (t : IsTrue (contains nat_cmp freed k)) (lowest : IsLowerBound nat_cmp freed k) where
+  pub allocates_released : (left : BTreeSet ℕ) → Updates nat_cmp freed left k false → AllocatesId old (Ok k) (ids_of lo hi next left)
+  unfolding AllocatesId ByLowestNotHeld
+  allocates_released left u =
+      rw (← e) (inl (k, lowest_released lo hi k next freed a t lowest, (refl, takes_released lo hi k next freed left a t u)))
 
-pub peeks_released : (state : IdState) (lo hi k : ℕ) (next : Option ℕ) (freed : BTreeSet ℕ) → ids_of lo hi next freed ≡ state →
-    AreIds lo hi next freed → IsTrue (contains nat_cmp freed k) → IsLowerBound nat_cmp freed k → PeeksId state (Ok k)
-unfolding PeeksId ByLowestNotHeld
-peeks_released state lo hi k next freed e a t lowest = rw (← e) (inl (k, lowest_released lo hi k next freed a t lowest, refl))
+  pub peeks_released : PeeksId old (Ok k)
+  unfolding PeeksId ByLowestNotHeld
+  peeks_released = rw (← e) (inl (k, lowest_released lo hi k next freed a t lowest, refl))
 
 -- ---- The next id, if there is no freed id
 pub takes_same : (lo hi : ℕ) (next : Option ℕ) (freed left : BTreeSet ℕ) → IsUnchanged freed left →
@@ -93,9 +92,6 @@ same_ids old lo hi next freed left e same = takes_same lo hi next freed left sam
 none_in_list : (ks : List ℕ) (i : ℕ) → (0 < length ks → ⊥) → list_any (eq_by_cmp nat_cmp i) ks ≡ false
 none_in_list [] i f = refl
 none_in_list (k ∷ ks) i f = absurd (f (omega arith))
-
-none_without_first : (freed : BTreeSet ℕ) (i : ℕ) → (false ≡ true) ↔ (0 < btree_set_len freed) → contains nat_cmp freed i ≡ false
-none_without_first freed i v = none_in_list freed.keys i (λ h. both_ways false refl (v.1 h))
 
 -- Either the next id is the lowest that is not held, or all ids are held.
 by_next : (lo hi : ℕ) (next : Option ℕ) (freed : BTreeSet ℕ) (r : Result ℕ Error) (takes : ℕ → Type 0) (refused : Error → Type 0) →
@@ -111,13 +107,6 @@ by_next lo hi (Some n) freed r takes refused a none (inr h) t f =
     let m : n ≤ hi = grind (arith, h.0) in
     inl (n, (grind (arith, held_test, a.next_id), λ j free. grind (arith, held_test, none j)), t n refl m h.1)
 
-pub peeks_next : (state : IdState) (lo hi : ℕ) (next : Option ℕ) (freed : BTreeSet ℕ) (r : Result ℕ Error) →
-    ids_of lo hi next freed ≡ state → AreIds lo hi next freed → (false ≡ true) ↔ (0 < btree_set_len freed) → NextId next hi r →
-    PeeksId state r
-unfolding PeeksId
-peeks_next state lo hi next freed r e a v h =
-    rw (← e) (by_next lo hi next freed r _ _ a (λ i. none_without_first freed i v) h (λ n s l t. t) (λ x t. t))
-
 -- The bound is right after the next id.
 bound_after : (hi n : ℕ) (next after : Option ℕ) → hi ≤ MAX_ID → NextId next hi (Ok n) → SomeIff after (n + 1 < 2 ^ 32) (n + 1) →
     bound_of after hi ≡ n + 1
@@ -126,40 +115,42 @@ bound_after hi n (Some k) after m (inl h) s = absurd cc
 bound_after hi n (Some k) None m (inr h) s = let same : n ≡ k = cc in omega (arith, same, m, s, h.0)
 bound_after hi n (Some k) (Some a) m (inr h) s = s.1
 
-pub allocates_next : (old : IdState) (lo hi n : ℕ) (next after : Option ℕ) (freed left : BTreeSet ℕ) → ids_of lo hi next freed ≡ old →
-    AreIds lo hi next freed → (false ≡ true) ↔ (0 < btree_set_len freed) → NextId next hi (Ok n) → SomeIff after (n + 1 < 2 ^ 32) (n + 1) →
-    IsUnchanged freed left → AllocatesId old (Ok n) (ids_of lo hi after left)
-unfolding AllocatesId ids_of
-allocates_next old lo hi n next after freed left e a v h b same =
-    let none = λ (i : ℕ). none_without_first freed i v in
-    let bound = bound_after hi n next after a.ids h b in
-    rw (← e) (by_next lo hi next freed (Ok n) _ _ a none h
-    (λ m s l t. (t, takes m s (cc) bound none)) (λ x t. absurd cc))
-  where
-    takes : (m : ℕ) → next ≡ Some m → n ≡ m → bound_of after hi ≡ n + 1 → ((i : ℕ) → contains nat_cmp freed i ≡ false) →
-        ids_of lo hi after left ≡ holding_id m (ids_of lo hi next freed)
-    takes m s is b none =
-        let bound : bound_of next hi ≡ m = ap (λ (o : Option ℕ). bound_of o hi) s in
-        same_state _ _ refl refl (omega (arith, b, is, bound))
-        (λ q. rw same (grind (arith, tests, none q, b, is, bound, a.range)))
+-- The results if there is no freed id.
+module _ (old : IdState) (lo hi : ℕ) (next : Option ℕ) (freed : BTreeSet ℕ) (e : ids_of lo hi next freed ≡ old)
+    (a : AreIds lo hi next freed) (v : (false ≡ true) ↔ (0 < btree_set_len freed)) where
+  none : (i : ℕ) → contains nat_cmp freed i ≡ false
+  none i = none_in_list freed.keys i (λ h. both_ways false refl (v.1 h))
 
-pub allocates_none : (old : IdState) (lo hi : ℕ) (x : Error) (next : Option ℕ) (freed left : BTreeSet ℕ) (r : Result ℕ Error) →
-    ids_of lo hi next freed ≡ old → AreIds lo hi next freed → (false ≡ true) ↔ (0 < btree_set_len freed) → NextId next hi (Err x) →
-    r ≡ Err x → IsUnchanged freed left → AllocatesId old r (ids_of lo hi next left)
-unfolding AllocatesId
-allocates_none old lo hi x next freed left r e a v h is same =
-    rw (← e, is) (by_next lo hi next freed (Err x) _ _ a (λ i. none_without_first freed i v) h
-    (λ m s l t. absurd cc) (λ y t. (t, takes_same lo hi next freed left same)))
+  pub peeks_next : (r : Result ℕ Error) → NextId next hi r → PeeksId old r
+  unfolding PeeksId
+  peeks_next r h = rw (← e) (by_next lo hi next freed r _ _ a none h (λ n s l t. t) (λ x t. t))
 
--- If there is no next id in the range, all ids of the range are held.
-pub none_not_held : (old : IdState) (lo hi i : ℕ) (x : Error) (next : Option ℕ) (freed : BTreeSet ℕ) (r : Result ℕ Error) →
-    ids_of lo hi next freed ≡ old → AreIds lo hi next freed → (false ≡ true) ↔ (0 < btree_set_len freed) → NextId next hi (Err x) →
-    IsNotHeld old i → IsOk r
-unfolding ByLowestNotHeld AreAllHeld
-none_not_held old lo hi i x next freed r e a v h free =
-    let all = by_next lo hi next freed (Err x) (λ i. ⊥) (λ y. Unit {0}) a (λ i. none_without_first freed i v) h (λ m s l t. absurd cc)
-    (λ y t. tt) in
-    elim all [ inl t ↦ absurd (t.2) | inr f ↦ absurd (free.1 (subst AreAllHeld e f.0 i free.0)) ]
+  pub allocates_next : (n : ℕ) (after : Option ℕ) (left : BTreeSet ℕ) → NextId next hi (Ok n) → SomeIff after (n + 1 < 2 ^ 32) (n + 1) →
+      IsUnchanged freed left → AllocatesId old (Ok n) (ids_of lo hi after left)
+  unfolding AllocatesId ids_of
+  allocates_next n after left h b same =
+      let after_n = bound_after hi n next after a.ids h b in
+      rw (← e) (by_next lo hi next freed (Ok n) _ _ a none h (λ m s l t. (t, takes m s (cc) after_n)) (λ x t. absurd cc))
+    where
+      takes : (m : ℕ) → next ≡ Some m → n ≡ m → bound_of after hi ≡ n + 1 → ids_of lo hi after left ≡ holding_id m (ids_of lo hi next freed)
+      takes m s is after_n =
+          let bound : bound_of next hi ≡ m = ap (λ (o : Option ℕ). bound_of o hi) s in
+          same_state _ _ refl refl (omega (arith, after_n, is, bound))
+          (λ q. rw same (grind (arith, tests, none q, after_n, is, bound, a.range)))
+
+  pub allocates_none : (x : Error) (left : BTreeSet ℕ) (r : Result ℕ Error) → NextId next hi (Err x) → r ≡ Err x → IsUnchanged freed left →
+      AllocatesId old r (ids_of lo hi next left)
+  unfolding AllocatesId
+  allocates_none x left r h is same =
+      rw (← e, is) (by_next lo hi next freed (Err x) _ _ a none h (λ m s l t. absurd cc)
+      (λ y t. (t, takes_same lo hi next freed left same)))
+
+  -- If there is no next id in the range, all ids of the range are held.
+  pub none_not_held : (i : ℕ) (x : Error) (r : Result ℕ Error) → NextId next hi (Err x) → IsNotHeld old i → IsOk r
+  unfolding ByLowestNotHeld AreAllHeld
+  none_not_held i x r h free =
+      let all = by_next lo hi next freed (Err x) (λ i. ⊥) (λ y. Unit {0}) a none h (λ m s l t. absurd cc) (λ y t. tt) in
+      elim all [ inl t ↦ absurd (t.2) | inr f ↦ absurd (free.1 (subst AreAllHeld e f.0 i free.0)) ]
 
 pub ruleset allocates = (allocates_released, allocates_next, allocates_none, none_not_held, same_ids)
 

@@ -1,7 +1,8 @@
 -- Equality of id allocators is equality of their states.
-use Rattle.std.proofs.Common.{◌≡◌, ◌↔◌, ℕ, ◌<◌, ◌≤◌, Bool, nat_eq, List, refl, sym, ap, ◌∙◌, arith, subst, Option, Some, None, IsTrue}
+use Rattle.std.proofs.Common.{◌≡◌, ◌↔◌, ℕ, Bool, nat_eq, List, refl, sym, ap, ◌∙◌, arith, Option, Some, None, IsTrue}
 use Rattle.std.proofs.lemmas.Bool.Decides.{same_from_decides}
 use Rattle.std.proofs.lemmas.Cmp.{tied_itself, lists_total}
+use Rattle.std.specs.List.{list_any}
 use Rattle.std.specs.declared.cmp.Ordering.TheVariants.{Equal}
 use Rattle.std.specs.Ordering.{nat_cmp, eq_by_cmp, is_eq}
 use Rattle.std.specs.Cmp.{Equal-is, nat_cmp_total, unsigned_tied}
@@ -48,15 +49,6 @@ same_next lo hi None (Some m) f g e = absurd (omega (arith, f, g.1))
 same_next lo hi (Some n) None f g e = absurd (omega (arith, g, f.1))
 same_next lo hi (Some n) (Some m) f g e = ap Some e
 
--- The freed ids follow from the held ids.
-same_freed : (lo bound : ℕ) (freed other : BTreeSet ℕ) → IsOrdered nat_cmp freed → IsOrdered nat_cmp other →
-    ((i : ℕ) → IsTrue (contains nat_cmp freed i) → (lo ≤ i) × (i < bound)) →
-    ((i : ℕ) → IsTrue (contains nat_cmp other i) → (lo ≤ i) × (i < bound)) →
-    held_of lo bound freed ≡ held_of lo bound other → freed.keys ≡ other.keys
-same_freed lo bound freed other o p f g e =
-    same_rising freed.keys other.keys o p
-    (λ q. grind (arith, held_test, f q, g q, ap (λ (s : set.FinSet nat_cmp). set.contains s q) e))
-
 -- Sets of numbers with equal lists are equal.
 pub equal_lists : (a b : List ℕ) → IsTrue (pointwise nat_eq a b) ↔ (a ≡ b)
 equal_lists a b =
@@ -79,17 +71,28 @@ same_if_freed : {lo hi lo' hi' : ℕ} {next next' : Option ℕ} {freed freed' : 
     HaveSameBounds s t → IsOrdered nat_cmp freed → IsOrdered nat_cmp freed' → (freed.keys ≡ freed'.keys) ↔ (s ≡ t)
 unfolding ids_of
 same_if_freed {lo} {hi} {lo'} {hi'} {next} {next'} {freed} {freed'} {s} {t} p q h o k =
-    let l : lo ≡ lo' = ap (λ (v : IdState). v.lo) p.is ∙ h.lo ∙ sym (ap (λ (v : IdState). v.lo) q.is) in
-    let n : bound_of next hi ≡ bound_of next' hi' = ap (λ (v : IdState). v.bound) p.is ∙ h.bound
+    let lows : lo ≡ lo' = ap (λ (v : IdState). v.lo) p.is ∙ h.lo ∙ sym (ap (λ (v : IdState). v.lo) q.is) in
+    let bounds : bound_of next hi ≡ bound_of next' hi' = ap (λ (v : IdState). v.bound) p.is ∙ h.bound
     ∙ sym (ap (λ (v : IdState). v.bound) q.is) in
-    let held : s.held ≡ held_of lo (bound_of next hi) freed = sym (ap (λ (v : IdState). v.held) p.is) in
-    let other : t.held ≡ held_of lo (bound_of next hi) freed' = sym (ap (λ (v : IdState). v.held) q.is)
-    ∙ (λ i. held_of (sym l i) (sym n i) freed') in (
-      λ e. same_state s t h.lo h.hi h.bound (λ i. rw (held, other, e) refl),
-      λ e. same_freed lo (bound_of next hi) freed freed' o k p.valid.freed_ids
-          (subst (λ (b : ℕ). (i : ℕ) → IsTrue (contains nat_cmp freed' i) → (lo ≤ i) × (i < b)) (sym n)
-          (subst (λ (b : ℕ). (i : ℕ) → IsTrue (contains nat_cmp freed' i) → (b ≤ i) × (i < bound_of next' hi')) (sym l) q.valid.freed_ids))
-          (sym held ∙ ap (λ (v : IdState). v.held) e ∙ other),
+    let one : (i : ℕ) → set.contains s.held i ≡ set.contains (held_of lo (bound_of next hi) freed) i =
+    λ i. ap (λ (v : IdState). set.contains v.held i) (sym p.is) in
+    let two : (i : ℕ) → set.contains t.held i ≡ set.contains (held_of lo' (bound_of next' hi') freed') i =
+    λ i. ap (λ (v : IdState). set.contains v.held i) (sym q.is) in (
+      λ e.
+          let listed : (i : ℕ) → contains nat_cmp freed i ≡ contains nat_cmp freed' i = λ i. ap (list_any (eq_by_cmp nat_cmp i)) e in
+          same_state s t h.lo h.hi h.bound (λ i. grind (arith, held_test, one i, two i, lows, bounds, listed i)),
+      λ e. same_rising freed.keys freed'.keys o k (λ i.
+          grind (
+            arith,
+            held_test,
+            one i,
+            two i,
+            lows,
+            bounds,
+            p.valid.freed_ids i,
+            q.valid.freed_ids i,
+            ap (λ (v : IdState). set.contains v.held i) e,
+          )),
     )
 
 pub tested : {lo hi lo' hi' : ℕ} {next next' : Option ℕ} {freed freed' : BTreeSet ℕ} {s t : IdState} (r : Bool) →

@@ -106,7 +106,7 @@ are_read d state s =
       },
     )
 
--- What is decoded and valid are the fields.
+-- Decoded fields that are valid are those of the value.
 decoded : (d : Data) (f : IdFields) (freed : Items) → AreRead d f freed → AreFreedOf f.range_base f.range_end f.next_id f.freed_ids →
     AreDecoded d f freed
 decoded d f freed r v =
