@@ -11,7 +11,7 @@ use Rattle.vm_addresses.specs.Answer.{Makes, IsChosen, Allocates, Frees}
 use Rattle.vm_ids.specs.Ids.{MAX_ID, IdState, IsHeld, MakesIds, new_ids, IsLowestNotHeld, ByLowestNotHeld, AllocatesId, holding_id, PeeksId, releasing_id}
 use Rattle.vm_ranges.specs.declared.error.Error.{Error}
 use Rattle.vm_addresses.proofs.Results.AddressResults.{made_is, state_is_preserved, freeing_undoes}
-use Rattle.vm_ids.proofs.Ids.IdResults.{id_states_are_preserved, peeking_predicts}
+use Rattle.vm_ids.proofs.Ids.IdResults.{made_ids, peeking_predicts}
 use Rattle.vm_devices.specs.Devices.{DeviceState, IsDeviceState, MakesManager, IsDevice, with_device, without_device, Pairs, Reserves, Releases, devices_of}
 use Rattle.vm_ranges.specs.Request.{Request, MakesConstraint}
 use Rattle.vm_ranges.specs.declared.error.Error.TheVariants.{NeverAllocated, OutOfMemory}
@@ -166,7 +166,7 @@ no_devices lo hi base size ids space id word ids_made space_made =
     λ r c. let none = subst (λ (v : AddressState). Contains v.held r) (made_is base size space space_made).2 c in let below = none.1 in
     omega (arith, below) in
     record {
-      ids = id_states_are_preserved.made lo hi ids id ids_made;
+      ids = made_ids lo hi ids id ids_made;
       space = state_is_preserved.made base size space word space_made;
       pairs = record {
         ids = λ q. (

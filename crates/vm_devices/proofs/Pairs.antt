@@ -9,7 +9,7 @@ use Rattle.vm_addresses.specs.Laws.AddressLaws.{AddsRange, RemovesRange}
 use Rattle.vm_ids.specs.Ids.{IsHeld, AllocatesId, FreesId, holding_id, releasing_id}
 use Rattle.vm_ids.specs.Laws.IdLaws.{AddsId, RemovesId}
 use Rattle.vm_addresses.proofs.Results.AddressResults.{adds_range, removes_range, state_is_preserved}
-use Rattle.vm_ids.proofs.Ids.IdResults.{id_states_are_preserved, allocating_adds, freeing_removes}
+use Rattle.vm_ids.proofs.Ids.IdResults.{allocated_ids, freed_ids_state, allocating_adds, freeing_removes}
 use Rattle.vm_addresses.proofs.Callers.{range_was_free, frees_held}
 use Rattle.vm_ids.proofs.Callers.{id_was_free}
 use Rattle.vm_devices.specs.Devices.{DeviceState, IsDevice, ArePaired, IsDeviceState, with_device, without_device}
@@ -47,7 +47,7 @@ module _ (old : DeviceState) (id : ℕ) (r : Range) where
   pub state_with : (request : Request) → IsDeviceState old → AllocatesId old.ids (Ok id) (holding_id id old.ids) →
       Allocates old.space request (Ok r) (holding r old.space) → IsDeviceState (with_device id r old)
   state_with request i a s = record {
-    ids = id_states_are_preserved.allocated old.ids (holding_id id old.ids) (Ok id) i.ids a;
+    ids = allocated_ids old.ids (holding_id id old.ids) (Ok id) i.ids a;
     space = state_is_preserved.allocated old.space (holding r old.space) request (Ok r) i.space s;
     pairs = pairs_with i.pairs (id_was_free old.ids (holding_id id old.ids) (Ok id) a)
         (allocating_adds old.ids (holding_id id old.ids) id i.ids a)
@@ -97,7 +97,7 @@ module _ (old : DeviceState) (id : ℕ) (r : Range) where
     -- Without a released device, the state is still valid.
     pub state_without : IsDeviceState (without_device id r old)
     state_without = record {
-      ids = id_states_are_preserved.freed old.ids (releasing_id id old.ids) id (Ok id) i.ids frees_id;
+      ids = freed_ids_state old.ids (releasing_id id old.ids) id (Ok id) i.ids frees_id;
       space = state_is_preserved.freed old.space (releasing r old.space) r (Ok tt) i.space frees_range;
       pairs = pairs_without i.pairs d (freeing_removes old.ids (releasing_id id old.ids) id id frees_id)
           (removes_range old.space (releasing r old.space) r i.space frees_range);

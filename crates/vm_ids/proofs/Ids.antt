@@ -14,7 +14,6 @@ pub mod AlongIdHistories
 pub mod IdEnds
 pub mod AscendingNumbers
 pub mod AscendingBounds
-pub mod ReadIds
 pub mod ReadIdStates
 pub mod AddedIds
 pub mod FreedParts

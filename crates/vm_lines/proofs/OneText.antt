@@ -10,7 +10,9 @@ use Rattle.vm_ranges.specs.declared.error.Error.TheVariants.{OutOfMemory}
 use Rattle.vm_ranges.proofs.TwoFacts.{unless_same}
 use Rattle.vm_addresses.proofs.Results.Once.{frees_once}
 use Rattle.vm_addresses.proofs.Results.InMemory.{placed_once, made_once}
-use Rattle.vm_ids.proofs.Ids.IdResults.{making_is_determined, allocating_is_determined, freeing_is_determined}
+use Rattle.vm_ids.proofs.Ids.IdResults.{making_is_determined, allocating_is_determined}
+use Rattle.vm_ids.proofs.Ids.SameIdCalls.{id_calls_are_determined}
+use Rattle.vm_ids.specs.Histories.IdHistories.{Free as FreeId}
 use Rattle.vm_lines.specs.Commands.{command_of}
 use Rattle.vm_lines.specs.Lines.{newline}
 use Rattle.vm_devices.specs.Devices.{DeviceState}
@@ -125,7 +127,7 @@ does_once Id old m n x y p q a b =
     (same_outcome id_reply x y u.0 v.0 u.2 v.2 same.0, same.1)) a b
 does_once (Unid id) old m n x y p q a b =
     on_ids_once old m n x y _ _ (λ state later after u v.
-    let same = freeing_is_determined state later after id u.0 v.0 (not_memory id_reply x u.0 refl u.2 p)
+    let same = id_calls_are_determined state later after (FreeId id) u.0 v.0 (not_memory id_reply x u.0 refl u.2 p)
     (not_memory id_reply y v.0 refl v.2 q) u.1 v.1 in
     (same_outcome id_reply x y u.0 v.0 u.2 v.2 same.0, same.1)) a b
 does_once (Has id) old m n x y p q a b =

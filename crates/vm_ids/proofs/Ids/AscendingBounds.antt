@@ -1,78 +1,74 @@
--- Numbers in strictly ascending order between two bounds.
-use Rattle.std.proofs.Common.{◌≡◌, ℕ, ◌+◌, ◌<◌, ◌≤◌, ◌&&◌, leb, ltb, List, [], ◌∷◌, Option, Some, None, option_map, refl, subst, arith, nat_cmp, Less}
-use Rattle.std.proofs.lemmas.Bool.{le-leb, lt-ltb, leb-true, ltb-true, and_parts}
-use Rattle.std.proofs.lemmas.List.Elements.{recursion_from_All, All-from_recursion}
-use Rattle.std.specs.List.{All, AllByRecursion}
+-- Numbers in strictly ascending order, and items that encode ids in this order.
+use Rattle.std.proofs.Common.{◌≡◌, ℕ, ◌+◌, ◌^◌, ◌<◌, ◌≤◌, true, leb, List, [], ◌∷◌, Some, option_and_then, false, refl, subst, arith, nat_cmp, Less, ⊎_elim}
+use Rattle.std.proofs.lemmas.Bool.{le-leb, leb-true, both_ways, or_cases, or_left, or_right}
+use Rattle.std.specs.List.{AllByRecursion, list_any}
 use Rattle.std.specs.List.Sorted.{IsStrictlySortedBy}
+use Rattle.std.specs.Ordering.{eq_by_cmp}
 use Rattle.serde_json.specs.Data.{Items, no_items, item}
-use Rattle.vm_ranges.proofs.Steps.{and_then_some, if_some}
-use Rattle.vm_ranges.specs.Numbers.{whole_number}
+use Rattle.vm_ranges.proofs.NumberSets.{tied_here}
+use Rattle.vm_ranges.proofs.NumberSteps.{u32-some, some-u32}
+use Rattle.vm_ranges.proofs.Steps.{and_then_some, map_some, if_some}
+use Rattle.vm_ranges.specs.Numbers.{whole_number, u32_from}
 use Rattle.vm_ranges.proofs.Items.{less, less_is}
 use Rattle.vm_ranges.specs.Lists.{EncodesItems}
 use Rattle.vm_ids.specs.Values.IdValues.{EncodesNumber}
-use Rattle.vm_ids.specs.Checks.IdChecks.{ascending}
+use Rattle.vm_ids.specs.Checks.IdChecks.{ids_from}
 use Rattle.vm_ids.specs.Checks.IdQueries.{AscendWithin}
 
-pub ascending-states : (lowest bound : ℕ) (ds : Items) (ns : List ℕ) → ascending lowest bound ds ≡ Some ns →
-    EncodesItems EncodesNumber ds ns × AscendWithin lowest bound ns
-ascending-states lowest bound no_items [] e = (tt, tt)
-ascending-states lowest bound no_items (n ∷ ns) e = absurd (cc)
-ascending-states lowest bound (item d ds) ns e =
-    let a = and_then_some _ (whole_number d) ns e in
-    let b = if_some (leb lowest a.0 && ltb a.0 bound) _ ns a.2 in
-    let c = and_parts (leb lowest a.0) (ltb a.0 bound) b.0 in
-    let m = mapped a.0 (ascending (a.0 + 1) bound ds) ns b.1 in
-    let r = ascending-states (a.0 + 1) bound ds m.0 m.1 in
-    subst (λ (x : List ℕ). EncodesItems EncodesNumber (item d ds) x × AscendWithin lowest bound x) m.2
-    ((a.1, r.0), (leb-true lowest a.0 c.0, ltb-true a.0 bound c.1, r.1)) where
-      mapped : (n : ℕ) (o : Option (List ℕ)) (ns : List ℕ) → option_map (λ (x : List ℕ). n ∷ x) o ≡ Some ns →
-          (ms : List ℕ) × (o ≡ Some ms) × (n ∷ ms ≡ ns)
-      mapped n None ns e = absurd (cc)
-      mapped n (Some ms) ns e = (ms, refl, cc)
-
-pub states-ascending : (ns : List ℕ) (lowest bound : ℕ) (ds : Items) → EncodesItems EncodesNumber ds ns → AscendWithin lowest bound ns →
-    ascending lowest bound ds ≡ Some ns
-states-ascending [] lowest bound no_items s r = refl
-states-ascending [] lowest bound (item d ds) s r = absurd s
-states-ascending (n ∷ ns) lowest bound no_items s r = absurd s
-states-ascending (n ∷ ns) lowest bound (item d ds) s r = rw
-    (s.0, le-leb lowest n r.0, lt-ltb n bound r.1, states-ascending ns (n + 1) bound ds s.1 r.2) refl
-
--- The numbers are between wider bounds too.
-pub wider : (a b c d : ℕ) (is : List ℕ) → a ≤ b → c ≤ d → AscendWithin b c is → AscendWithin a d is
-wider a b c d [] l u r = tt
-wider a b c d (i ∷ is) l u r = (omega (arith, r.0), omega (arith, r.1), wider (i + 1) (i + 1) c d is (omega arith) u r.2)
-
--- The same with the definitions of the standard library.
-
-abbrev IsWithin : ℕ → ℕ → ℕ → Type 0
-IsWithin lowest bound n = (lowest ≤ n) × (n < bound)
-
-above : (n lowest bound : ℕ) (ns : List ℕ) → n < lowest → AscendWithin lowest bound ns → AllByRecursion (λ m. nat_cmp n m ≡ Less) ns
-above n lowest bound [] p r = tt
-above n lowest bound (m ∷ ms) p r = let l = r.0 in (less n m (omega arith), above n (m + 1) bound ms (omega arith) r.2)
-
-pub sorted : (lowest bound : ℕ) (ns : List ℕ) → AscendWithin lowest bound ns → IsStrictlySortedBy nat_cmp ns
+-- ---- Lists
+-- A number below all numbers of a list in ascending order is its first.
+pub rises_above : (i : ℕ) (xs : List ℕ) → ((q : ℕ) → list_any (eq_by_cmp nat_cmp q) xs ≡ true → i < q) → IsStrictlySortedBy nat_cmp xs →
+    IsStrictlySortedBy nat_cmp (i ∷ xs)
 unfolding IsStrictlySortedBy
-sorted lowest bound [] r = tt
-sorted lowest bound (n ∷ ns) r = (above n (n + 1) bound ns (omega arith) r.2, sorted (n + 1) bound ns r.2)
+rises_above i xs h s = (all xs h, s) where
+  all : (ys : List ℕ) → ((q : ℕ) → list_any (eq_by_cmp nat_cmp q) ys ≡ true → i < q) → AllByRecursion (λ m. nat_cmp i m ≡ Less) ys
+  all [] h = tt
+  all (y ∷ ys) h = (less i y (h y (or_left _ _ (tied_here y))), all ys (λ q t. h q (or_right _ _ t)))
 
-within_row : (lo lowest bound : ℕ) (ns : List ℕ) → lo ≤ lowest → AscendWithin lowest bound ns → AllByRecursion (IsWithin lo bound) ns
-within_row lo lowest bound [] p r = tt
-within_row lo lowest bound (n ∷ ns) p r = let l = r.0 in ((omega arith, r.1), within_row lo (n + 1) bound ns (omega arith) r.2)
+pub rises_below : (i j : ℕ) (is : List ℕ) → AllByRecursion (λ m. nat_cmp i m ≡ Less) is → list_any (eq_by_cmp nat_cmp j) is ≡ true → i < j
+rises_below i j [] a t = absurd (both_ways false refl t)
+rises_below i j (k ∷ is) a t =
+    ⊎_elim (λ (e : eq_by_cmp nat_cmp j k ≡ true). grind (arith, less_is i k a.0))
+    (λ (m : list_any (eq_by_cmp nat_cmp j) is ≡ true). rises_below i j is a.1 m) (or_cases _ _ t)
 
-pub within : (lo bound : ℕ) (ns : List ℕ) → AscendWithin lo bound ns → All (λ n. (lo ≤ n) × (n < bound)) ns
-within lo bound ns r = All-from_recursion (IsWithin lo bound) ns (within_row lo lo bound ns (omega arith) r)
+pub within : (lo bound q : ℕ) (ns : List ℕ) → AscendWithin lo bound ns → list_any (eq_by_cmp nat_cmp q) ns ≡ true → (lo ≤ q) × (q < bound)
+within lo bound q [] r t = absurd (both_ways false refl t)
+within lo bound q (n ∷ ns) r t =
+    ⊎_elim (λ (e : eq_by_cmp nat_cmp q n ≡ true). grind arith)
+    (λ (m : list_any (eq_by_cmp nat_cmp q) ns ≡ true). let w = within (n + 1) bound q ns r.2 m in omega (arith, w, r.0)) (or_cases _ _ t)
 
-from_above : (n lo bound : ℕ) (ns : List ℕ) → AllByRecursion (λ m. nat_cmp n m ≡ Less) ns → AllByRecursion (IsWithin lo bound) ns →
-    AllByRecursion (IsWithin (n + 1) bound) ns
-from_above n lo bound [] a b = tt
-from_above n lo bound (m ∷ ms) a b = let l = less_is n m a.0 in ((omega arith, b.0.1), from_above n lo bound ms a.1 b.1)
-
-ascend_row : (lo bound : ℕ) (ns : List ℕ) → IsStrictlySortedBy nat_cmp ns → AllByRecursion (IsWithin lo bound) ns → AscendWithin lo bound ns
+pub sorted : (lo bound : ℕ) (ns : List ℕ) → AscendWithin lo bound ns → IsStrictlySortedBy nat_cmp ns
 unfolding IsStrictlySortedBy
-ascend_row lo bound [] s a = tt
-ascend_row lo bound (n ∷ ns) s a = (a.0.0, a.0.1, ascend_row (n + 1) bound ns s.1 (from_above n lo bound ns s.0 a.1))
+sorted lo bound [] r = tt
+sorted lo bound (n ∷ ns) r = rises_above n ns (λ q t. let w = within (n + 1) bound q ns r.2 t in omega (arith, w)) (sorted (n + 1) bound ns r.2)
 
-pub rise : (lo bound : ℕ) (ns : List ℕ) → IsStrictlySortedBy nat_cmp ns → All (λ n. (lo ≤ n) × (n < bound)) ns → AscendWithin lo bound ns
-rise lo bound ns s a = ascend_row lo bound ns s (recursion_from_All (IsWithin lo bound) ns a)
+pub rise : (lo bound : ℕ) (ns : List ℕ) → IsStrictlySortedBy nat_cmp ns →
+    ((i : ℕ) → list_any (eq_by_cmp nat_cmp i) ns ≡ true → (lo ≤ i) × (i < bound)) → AscendWithin lo bound ns
+unfolding IsStrictlySortedBy
+rise lo bound [] s m = tt
+rise lo bound (n ∷ ns) s m =
+    let h = m n (or_left _ _ (tied_here n)) in
+    (h.0, h.1, rise (n + 1) bound ns s.1 (λ i t. let l = rises_below n i ns s.0 t in omega (arith, l, (m i (or_right _ _ t)).1)))
+
+-- ---- Items
+pub ids-encoded : (lowest : ℕ) (ds : Items) (ns : List ℕ) → ids_from lowest ds ≡ Some ns →
+    EncodesItems EncodesNumber ds ns × AscendWithin lowest (2 ^ 32) ns
+ids-encoded lowest no_items [] e = (tt, tt)
+ids-encoded lowest no_items (n ∷ ns) e = absurd (cc)
+ids-encoded lowest (item d ds) ns e =
+    let a = and_then_some _ (option_and_then u32_from (whole_number d)) ns e in
+    let w = and_then_some u32_from (whole_number d) a.0 a.1 in
+    let u = u32-some w.0 a.0 w.2 in
+    let b = if_some (leb lowest a.0) _ ns a.2 in
+    let m = map_some _ (ids_from (a.0 + 1) ds) ns b.1 in
+    let r = ids-encoded (a.0 + 1) ds m.0 m.1 in
+    subst (λ (x : List ℕ). EncodesItems EncodesNumber (item d ds) x × AscendWithin lowest (2 ^ 32) x) m.2
+    ((rw u.0 at w.1, r.0), (leb-true lowest a.0 b.0, omega (arith, u.1), r.1))
+
+pub encoded-ids : (ns : List ℕ) (lowest : ℕ) (ds : Items) → EncodesItems EncodesNumber ds ns → AscendWithin lowest (2 ^ 32) ns →
+    ids_from lowest ds ≡ Some ns
+encoded-ids [] lowest no_items s r = refl
+encoded-ids [] lowest (item d ds) s r = absurd s
+encoded-ids (n ∷ ns) lowest no_items s r = absurd s
+encoded-ids (n ∷ ns) lowest (item d ds) s r =
+    rw (s.0, some-u32 n (omega (arith, r.1)), le-leb lowest n r.0, encoded-ids ns (n + 1) ds s.1 r.2) refl

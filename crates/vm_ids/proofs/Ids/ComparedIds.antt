@@ -1,6 +1,5 @@
 -- Equality of id allocators is equality of their states.
-use Rattle.std.proofs.Common.{◌≡◌, ◌↔◌, ℕ, ◌<◌, ◌≤◌, Bool, false, true, nat_eq, List, refl, sym, ap, ◌∙◌, arith, subst, ⊎_elim, Option, Some, None, IsTrue}
-use Rattle.std.proofs.lemmas.Bool.{both_ways, cases_Bool}
+use Rattle.std.proofs.Common.{◌≡◌, ◌↔◌, ℕ, Bool, nat_eq, List, refl, sym, ap, ◌∙◌, arith, Option, Some, None, IsTrue}
 use Rattle.std.proofs.lemmas.Bool.Decides.{same_from_decides}
 use Rattle.std.proofs.lemmas.Cmp.{tied_itself, lists_total}
 use Rattle.std.specs.List.{list_any}
@@ -11,26 +10,16 @@ use Rattle.std.specs.Cmp.Lexicographic.{pointwise, slice_cmp, lists_ties}
 use Rattle.std.specs.BTreeSet.{BTreeSet, contains, IsOrdered}
 use Rattle.std.specs.FinMap.{slice_cmp-IsAntisymmetric}
 use Rattle.std.specs.FinSet as set
-use Rattle.vm_ranges.proofs.NumberSets.{same_test}
 use Rattle.vm_ranges.proofs.RangeOrders.{both_equal}
 use Rattle.vm_ids.specs.Ids.{IdState, IsIdState, held_ids, bound_of, held_of, ids_of, IsNext, AreIds}
 use Rattle.vm_ids.specs.Checks.IdQueries.{HaveSameBounds}
 use Rattle.vm_ids.specs.IdOrder.{id_state_cmp, id_state_cmp-total}
 use Rattle.vm_ids.proofs.Ids.IdFields.{is_state}
-use Rattle.vm_ids.proofs.Ids.IdSets.{from_held, held_from}
+use Rattle.vm_ids.proofs.Ids.IdSets.{held_test, same_state}
 use Rattle.vm_ids.proofs.Ids.RisingIds.{same_rising}
 use Rattle.vm_ids.proofs.Ids.HeldIds.{in_held_ids}
 
 -- ---- States
--- Valid states with the same list of held ids hold the same ids.
-same_held : (a b : IdState) → IsIdState a → IsIdState b → held_ids a ≡ held_ids b → a.held ≡ b.held
-same_held a b s t e =
-    set.same_set nat_cmp_total set.nat_cmp-IsAntisymmetric a.held b.held (λ q.
-    sym (in_held_ids a s q) ∙ ap (λ (is : List ℕ). list_any (eq_by_cmp nat_cmp q) is) e ∙ in_held_ids b t q)
-
-same_state : (a b : IdState) → a.lo ≡ b.lo → a.hi ≡ b.hi → a.bound ≡ b.bound → a.held ≡ b.held → a ≡ b
-same_state a b l h n s = λ i. record { lo = l i; hi = h i; bound = n i; held = s i }
-
 -- The order returns Equal if and only if both states are the same.
 pub id_state_cmp-Equal : (a b : IdState) → IsIdState a → IsIdState b → (id_state_cmp a b ≡ Equal) ↔ (a ≡ b)
 id_state_cmp-Equal a b s t = (
@@ -39,8 +28,9 @@ id_state_cmp-Equal a b s t = (
       let q = both_equal _ _ p.1 in
       let r = both_equal _ _ q.1 in
       let n = set.nat_cmp-IsAntisymmetric in
+      let e = slice_cmp-IsAntisymmetric n (held_ids a) (held_ids b) r.1 in
       same_state a b (n a.lo b.lo p.0) (n a.hi b.hi q.0) (n a.bound b.bound r.0)
-      (same_held a b s t (slice_cmp-IsAntisymmetric n (held_ids a) (held_ids b) r.1)),
+      (λ i. sym (in_held_ids a s i) ∙ rw e (in_held_ids b t i)),
   λ e. ap (id_state_cmp a) (sym e) ∙ tied_itself id_state_cmp-total a,
 )
 
@@ -58,24 +48,6 @@ same_next lo hi None None f g e = refl
 same_next lo hi None (Some m) f g e = absurd (omega (arith, f, g.1))
 same_next lo hi (Some n) None f g e = absurd (omega (arith, g, f.1))
 same_next lo hi (Some n) (Some m) f g e = ap Some e
-
--- The freed ids follow from the held ids.
-same_freed : (lo bound : ℕ) (freed other : BTreeSet ℕ) → IsOrdered nat_cmp freed → IsOrdered nat_cmp other →
-    ((i : ℕ) → IsTrue (contains nat_cmp freed i) → (lo ≤ i) × (i < bound)) →
-    ((i : ℕ) → IsTrue (contains nat_cmp other i) → (lo ≤ i) × (i < bound)) →
-    held_of lo bound freed ≡ held_of lo bound other → freed.keys ≡ other.keys
-same_freed lo bound freed other o p f g e =
-    same_rising freed.keys other.keys o p (λ q.
-    same_test _ _ (λ t. freed_in freed other q (f q t) t e) (λ t. freed_in other freed q (g q t) t (sym e)))
-  where
-    freed_in : (a b : BTreeSet ℕ) (q : ℕ) → (lo ≤ q) × (q < bound) → contains nat_cmp a q ≡ true → held_of lo bound a ≡ held_of lo bound b →
-        contains nat_cmp b q ≡ true
-    freed_in a b q l t same =
-        ⊎_elim (λ h. h)
-        (λ (n : contains nat_cmp b q ≡ false).
-        let h = held_from lo bound q b l.0 l.1 n in
-        absurd (both_ways _ (from_held lo bound q a (subst (λ (s : set.FinSet nat_cmp). IsTrue (set.contains s q)) (sym same) h)).2 t))
-        (cases_Bool (contains nat_cmp b q))
 
 -- Sets of numbers with equal lists are equal.
 pub equal_lists : (a b : List ℕ) → IsTrue (pointwise nat_eq a b) ↔ (a ≡ b)
@@ -99,18 +71,28 @@ same_if_freed : {lo hi lo' hi' : ℕ} {next next' : Option ℕ} {freed freed' : 
     HaveSameBounds s t → IsOrdered nat_cmp freed → IsOrdered nat_cmp freed' → (freed.keys ≡ freed'.keys) ↔ (s ≡ t)
 unfolding ids_of
 same_if_freed {lo} {hi} {lo'} {hi'} {next} {next'} {freed} {freed'} {s} {t} p q h o k =
-    let l : lo ≡ lo' = ap (λ (v : IdState). v.lo) p.is ∙ h.lo ∙ sym (ap (λ (v : IdState). v.lo) q.is) in
-    let n : bound_of next hi ≡ bound_of next' hi' = ap (λ (v : IdState). v.bound) p.is ∙ h.bound
+    let lows : lo ≡ lo' = ap (λ (v : IdState). v.lo) p.is ∙ h.lo ∙ sym (ap (λ (v : IdState). v.lo) q.is) in
+    let bounds : bound_of next hi ≡ bound_of next' hi' = ap (λ (v : IdState). v.bound) p.is ∙ h.bound
     ∙ sym (ap (λ (v : IdState). v.bound) q.is) in
-    let held : s.held ≡ held_of lo (bound_of next hi) freed = sym (ap (λ (v : IdState). v.held) p.is) in
-    let other : t.held ≡ held_of lo (bound_of next hi) freed' = sym (ap (λ (v : IdState). v.held) q.is)
-    ∙ (λ i. held_of (sym l i) (sym n i) freed') in (
-      λ e. same_state s t h.lo h.hi h.bound
-          (held ∙ ap (λ (ks : List ℕ). held_of lo (bound_of next hi) (record { keys = ks })) e ∙ sym other),
-      λ e. same_freed lo (bound_of next hi) freed freed' o k p.valid.freed_ids
-          (subst (λ (b : ℕ). (i : ℕ) → IsTrue (contains nat_cmp freed' i) → (lo ≤ i) × (i < b)) (sym n)
-          (subst (λ (b : ℕ). (i : ℕ) → IsTrue (contains nat_cmp freed' i) → (b ≤ i) × (i < bound_of next' hi')) (sym l) q.valid.freed_ids))
-          (sym held ∙ ap (λ (v : IdState). v.held) e ∙ other),
+    let one : (i : ℕ) → set.contains s.held i ≡ set.contains (held_of lo (bound_of next hi) freed) i =
+    λ i. ap (λ (v : IdState). set.contains v.held i) (sym p.is) in
+    let two : (i : ℕ) → set.contains t.held i ≡ set.contains (held_of lo' (bound_of next' hi') freed') i =
+    λ i. ap (λ (v : IdState). set.contains v.held i) (sym q.is) in (
+      λ e.
+          let listed : (i : ℕ) → contains nat_cmp freed i ≡ contains nat_cmp freed' i = λ i. ap (list_any (eq_by_cmp nat_cmp i)) e in
+          same_state s t h.lo h.hi h.bound (λ i. grind (arith, held_test, one i, two i, lows, bounds, listed i)),
+      λ e. same_rising freed.keys freed'.keys o k (λ i.
+          grind (
+            arith,
+            held_test,
+            one i,
+            two i,
+            lows,
+            bounds,
+            p.valid.freed_ids i,
+            q.valid.freed_ids i,
+            ap (λ (v : IdState). set.contains v.held i) e,
+          )),
     )
 
 pub tested : {lo hi lo' hi' : ℕ} {next next' : Option ℕ} {freed freed' : BTreeSet ℕ} {s t : IdState} (r : Bool) →

@@ -7,19 +7,18 @@ use Rattle.std.proofs.Common.{
   ◌<◌,
   ◌≤◌,
   ◌⊎◌,
-  ◌||◌,
-  Bool,
-  nat_lt,
+  ◌&&◌,
+  eqb,
+  leb,
+  ltb,
+  not,
   if◌then◌else◌,
   List,
   [],
   ◌∷◌,
   length,
   take,
-  true,
-  false,
   refl,
-  ap,
   arith,
   inl,
   inr,
@@ -31,15 +30,12 @@ use Rattle.std.proofs.Common.{
   Ok,
   Err,
 }
+use Rattle.std.proofs.lemmas.Bool.{cases_lt}
 use Rattle.std.specs.Option.{MatchOption}
-use Rattle.std.proofs.lemmas.Bool.{cases_eq, cases_Bool, both_ways}
 use Rattle.std.specs.FinSet as set
 use Rattle.vm_ids.specs.Ids.{
   MAX_ID,
   IdState,
-  IsOfRange,
-  WasEverAllocated,
-  IsHeld,
   IsNotHeld,
   IsLowestNotHeld,
   AreAllHeld,
@@ -80,168 +76,109 @@ use Rattle.vm_ranges.specs.declared.error.Error.TheVariants.{
   NeverAllocated,
   AlreadyReleased,
 }
-use Rattle.vm_ranges.proofs.Decisions.{Decided, decided_both, decided_below, decided_up_to, lowest_or_none}
+use Rattle.vm_ranges.proofs.Decisions.{Decided, lowest_or_none}
 
--- ---- Decidable facts of an id
-pub decided_held : (state : IdState) (i : ℕ) → Decided (IsHeld state i)
-decided_held state i =
-    ⊎_elim (λ (e : set.contains state.held i ≡ true). inl e) (λ (e : set.contains state.held i ≡ false). inr (λ h. both_ways _ e h))
-    (cases_Bool (set.contains state.held i))
+-- ---- The lowest id that is not held
+decided_not_held : (state : IdState) (i : ℕ) → Decided (IsNotHeld state i)
+decided_not_held state i = grind arith
 
-pub decided_of_range : (state : IdState) (i : ℕ) → Decided (IsOfRange state i)
-decided_of_range state i = decided_both _ _ (decided_up_to state.lo i) (decided_up_to i state.hi)
-
-pub decided_not_held : (state : IdState) (i : ℕ) → Decided (IsNotHeld state i)
-decided_not_held state i =
-    decided_both _ _ (decided_of_range state i)
-    (⊎_elim (λ (h : IsHeld state i). inr (λ n. n h)) (λ (n : IsHeld state i → ⊥). inl n) (decided_held state i))
+decided_within : (first last : ℕ) (state : IdState) (i : ℕ) → Decided (IsNotHeldIn first last state i)
+decided_within first last state i = grind arith
 
 -- Either an id is the lowest that is not held, or all ids are held.
 pub lowest_or_all : (state : IdState) → ((i : ℕ) × IsLowestNotHeld state i) ⊎ AreAllHeld state
 unfolding IsLowestNotHeld AreAllHeld
 lowest_or_all state =
-    ⊎_elim
-    (λ none. inr (λ i r. ⊎_elim (λ (h : IsHeld state i). h) (λ (n : IsHeld state i → ⊥). absurd (none i (omega (arith, r.1)) (r, n)))
-    (decided_held state i)))
-    (λ found. inl (found.0, (found.1, found.2)))
+    ⊎_elim (λ none. inr (λ i r. grind (arith, none i))) (λ found. inl (found.0, (found.1, found.2)))
     (lowest_or_none (IsNotHeld state) (decided_not_held state) (state.hi + 1))
 
 -- ---- Each call has a result
--- The result of allocating an id: an id or an error.
-by_lowest : (state : IdState) →
-    ((i : ℕ) × IsLowestNotHeld state i) ⊎
-    ((e : Error) × (e ≢ OutOfMemory) × ((takes : ℕ → Type 0) (refused : Error → Type 0) → refused e → ByLowestNotHeld state takes refused))
-unfolding ByLowestNotHeld
-by_lowest state =
-    ⊎_elim
-    (λ found. inl found)
-    (λ (all : AreAllHeld state).
-    ⊎_elim
-    (λ (last : state.hi ≡ MAX_ID). inr (Overflow, λ h. absurd (cc h), λ takes refused r. inr (all, inl (last, r))))
-    (λ (not_last : state.hi ≡ MAX_ID → ⊥). inr (ResourceNotAvailable, λ h. absurd (cc h), λ takes refused r. inr (all, inr (not_last, r))))
-    (cases_eq state.hi MAX_ID))
-    (lowest_or_all state)
+-- A call has a result other than OutOfMemory.
+abbrev Answered : {A : Type 0} → (Result A Error → IdState → Type 0) → Type 0
+Answered {A} IsAnswer = (answer : Result A Error) × (new : IdState) × IsAnswer answer new × (answer ≢ Err OutOfMemory)
 
-total_allocates : (old : IdState) → (answer : Result ℕ Error) × (new : IdState) × AllocatesId old answer new × (answer ≢ Err OutOfMemory)
-unfolding AllocatesId ByLowestNotHeld
+-- The error if no id is free.
+none_free : IdState → Error
+none_free state = if eqb state.hi MAX_ID then Overflow else ResourceNotAvailable
+
+total_allocates : (old : IdState) → Answered (AllocatesId old)
+unfolding AllocatesId ByLowestNotHeld none_free
 total_allocates old =
     ⊎_elim
-    (λ found. (Ok found.0, holding_id found.0 old, inl (found.0, found.1, (refl, refl)), λ h. absurd (cc h)))
-    (λ refusal.
-    let answer : Result ℕ Error = Err refusal.0 in (
-      answer,
-      old,
-      refusal.2 (λ i. (answer ≡ Ok i) × (old ≡ holding_id i old)) (λ e. (answer ≡ Err e) × (old ≡ old)) (refl, refl),
-      λ h.
-          refusal.1 (cc h),
-    ))
-    (by_lowest old)
+    (λ (found : (i : ℕ) × IsLowestNotHeld old i).
+    (Ok found.0, holding_id found.0 old, inl (found.0, found.1, (refl, refl)), λ h. absurd (cc h)))
+    (λ (all : AreAllHeld old). (Err (none_free old), old, inr (all, grind arith), grind arith))
+    (lowest_or_all old)
 
 total_peeks : (state : IdState) → (answer : Result ℕ Error) × PeeksId state answer × (answer ≢ Err OutOfMemory)
-unfolding PeeksId ByLowestNotHeld
+unfolding PeeksId ByLowestNotHeld none_free
 total_peeks state =
     ⊎_elim
-    (λ found. (Ok found.0, inl (found.0, found.1, refl), λ h. absurd (cc h)))
-    (λ refusal. let answer : Result ℕ Error = Err refusal.0 in
-    (answer, refusal.2 (λ i. answer ≡ Ok i) (λ e. answer ≡ Err e) refl, λ h. refusal.1 (cc h)))
-    (by_lowest state)
+    (λ (found : (i : ℕ) × IsLowestNotHeld state i). (Ok found.0, inl (found.0, found.1, refl), λ h. absurd (cc h)))
+    (λ (all : AreAllHeld state). (Err (none_free state), inr (all, grind arith), grind arith))
+    (lowest_or_all state)
 
-total_frees : (old : IdState) (id : ℕ) →
-    (answer : Result ℕ Error) × (new : IdState) × FreesId old id answer new × (answer ≢ Err OutOfMemory)
-unfolding FreesId
-total_frees old id =
-    ⊎_elim
-    (λ (range : IsOfRange old id).
-    ⊎_elim
-    (λ (out : WasEverAllocated old id).
-    ⊎_elim
-    (λ (held : IsHeld old id). (Ok id, releasing_id id old, inr (range, inr (out, inr (held, inl (refl, refl)))), λ h. absurd (cc h)))
-    (λ (not_held : IsHeld old id → ⊥).
-    (Err (AlreadyReleased id), old, inr (range, inr (out, inl (not_held, (refl, refl)))), λ h. absurd (cc h)))
-    (decided_held old id))
-    (λ (never : WasEverAllocated old id → ⊥). (Err (NeverAllocated id), old, inr (range, inl (never, (refl, refl))), λ h. absurd (cc h)))
-    (decided_both _ _ (decided_up_to old.lo id) (decided_below id old.bound)))
-    (λ (outside : IsOfRange old id → ⊥). (Err (OutOfRange id), old, inl (outside, (refl, refl)), λ h. absurd (cc h)))
-    (decided_of_range old id)
+free_of : IdState → ℕ → Result ℕ Error × IdState
+free_of old id =
+    if not (leb old.lo id && leb id old.hi) then (Err (OutOfRange id), old) else
+    if not (ltb id old.bound) then (Err (NeverAllocated id), old) else
+    if not (set.contains old.held id) then (Err (AlreadyReleased id), old) else (Ok id, releasing_id id old)
+
+total_frees : (old : IdState) (id : ℕ) → Answered (FreesId old id)
+unfolding FreesId free_of
+total_frees old id = let r = free_of old id in (r.0, r.1, grind arith, grind arith)
 
 total_makes : (lo hi : ℕ) → (answer : Result IdState Error) × MakesIds lo hi answer × (answer ≢ Err OutOfMemory)
 unfolding MakesIds
-total_makes lo hi =
-    ⊎_elim
-    (λ (no_range : hi < lo). (Err (InvalidRange lo hi), inl (no_range, refl), λ h. absurd (cc h)))
-    (λ (range : hi < lo → ⊥). (Ok (new_ids lo hi), inr (range, refl), λ h. absurd (cc h)))
-    (decided_below hi lo)
+total_makes lo hi = (if ltb hi lo then Err (InvalidRange lo hi) else Ok (new_ids lo hi), grind arith, grind arith)
 
-total_exact : (old : IdState) (id : ℕ) →
-    (answer : Result ℕ Error) × (new : IdState) × AllocatesExactId old id answer new × (answer ≢ Err OutOfMemory)
-unfolding AllocatesExactId HoldsId
-total_exact old id =
-    ⊎_elim
-    (λ (range : IsOfRange old id).
-    ⊎_elim
-    (λ (held : IsHeld old id). (Err ResourceNotAvailable, old, inr (range, inl (held, (refl, refl))), λ h. absurd (cc h)))
-    (λ (free : IsHeld old id → ⊥). (Ok id, holding_id id old, inr (range, inr (free, inl (refl, refl))), λ h. absurd (cc h)))
-    (decided_held old id))
-    (λ (outside : IsOfRange old id → ⊥). (Err (OutOfRange id), old, inl (outside, (refl, refl)), λ h. absurd (cc h)))
-    (decided_of_range old id)
+exact_of : IdState → ℕ → Result ℕ Error × IdState
+exact_of old id =
+    if not (leb old.lo id && leb id old.hi) then (Err (OutOfRange id), old) else
+    if set.contains old.held id then (Err ResourceNotAvailable, old) else (Ok id, holding_id id old)
 
-decided_within : (first last : ℕ) (state : IdState) (i : ℕ) → Decided (IsNotHeldIn first last state i)
-decided_within first last state i =
-    ⊎_elim
-    (λ (a : first ≤ i).
-    ⊎_elim
-    (λ (b : i ≤ last).
-    ⊎_elim (λ (f : IsNotHeld state i). inl (a, b, f)) (λ (n : IsNotHeld state i → ⊥). inr (λ h. n h.2)) (decided_not_held state i))
-    (λ (n : i ≤ last → ⊥). inr (λ h. n h.1))
-    (decided_up_to i last))
-    (λ (n : first ≤ i → ⊥). inr (λ h. n h.0))
-    (decided_up_to first i)
+total_exact : (old : IdState) (id : ℕ) → Answered (AllocatesExactId old id)
+unfolding AllocatesExactId HoldsId exact_of
+total_exact old id = let r = exact_of old id in (r.0, r.1, grind arith, grind arith)
 
-total_within : (old : IdState) (first last : ℕ) →
-    (answer : Result ℕ Error) × (new : IdState) × AllocatesIdIn old first last answer new × (answer ≢ Err OutOfMemory)
+total_within : (old : IdState) (first last : ℕ) → Answered (AllocatesIdIn old first last)
 unfolding AllocatesIdIn HoldsId IsLowestNotHeldIn IsNoneNotHeldIn
 total_within old first last =
     ⊎_elim
-    (λ (below : last < first). (Err (InvalidRange first last), old, inl (below, (refl, refl)), λ h. absurd (cc h)))
-    (λ (order : last < first → ⊥).
+    (λ (below : last < first). (Err (InvalidRange first last), old, grind arith, λ h. absurd (cc h)))
+    (λ (order : first ≤ last).
     ⊎_elim
-    (λ none. (Err ResourceNotAvailable, old, inr (order, inl (λ i h. none i (omega (arith, h.1)) h, (refl, refl))), λ h. absurd (cc h)))
-    (λ found. (Ok found.0, holding_id found.0 old, inr (order, inr (found.0, (found.1, found.2), inl (refl, refl))), λ h. absurd (cc h)))
+    (λ none.
+    (Err ResourceNotAvailable, old, inr (λ h. omega arith, inl (λ i h. grind (arith, none i), (refl, refl))), λ h. absurd (cc h)))
+    (λ found. (
+      Ok found.0,
+      holding_id found.0 old,
+      inr (λ h. omega arith, inr (found.0, (found.1, found.2), inl (refl, refl))),
+      λ h. absurd (cc h),
+    ))
     (lowest_or_none (IsNotHeldIn first last old) (decided_within first last old) (last + 1)))
-    (decided_below last first)
+    (cases_lt last first)
 
-total_several : (old : IdState) (count : ℕ) →
-    (answer : Result (List ℕ) Error) × (new : IdState) × AllocatesIds old count answer new × (answer ≢ Err OutOfMemory)
-unfolding AllocatesIds
-total_several old count =
-    ⊎_elim
-    (λ (few : length (free_ids old) < count).
-    ⊎_elim
-    (λ (last : old.hi ≡ MAX_ID). (Err Overflow, old, inl (few, inl (last, (refl, refl))), λ h. absurd (cc h)))
-    (λ (not_last : old.hi ≡ MAX_ID → ⊥). (Err ResourceNotAvailable, old, inl (few, inr (not_last, (refl, refl))), λ h. absurd (cc h)))
-    (cases_eq old.hi MAX_ID))
-    (λ (enough : length (free_ids old) < count → ⊥).
-    (Ok (take count (free_ids old)), holding_ids (take count (free_ids old)) old, inr (enough, inl (refl, refl)), λ h. absurd (cc h)))
-    (decided_below (length (free_ids old)) count)
+several_of : IdState → ℕ → Result (List ℕ) Error × IdState
+several_of old count =
+    if ltb (length (free_ids old)) count then (Err (none_free old), old) else
+    (Ok (take count (free_ids old)), holding_ids (take count (free_ids old)) old)
+
+total_several : (old : IdState) (count : ℕ) → Answered (AllocatesIds old count)
+unfolding AllocatesIds several_of none_free
+total_several old count = let r = several_of old count in (r.0, r.1, grind arith, grind arith)
 
 -- The error of a wrong id is not OutOfMemory.
-one_fault : (outside below : Bool) (i : ℕ) (others : Option Error) → others ≢ Some OutOfMemory →
-    (if outside then Some (OutOfRange i) else if below then Some ResourceNotAvailable else others) ≢ Some OutOfMemory
-one_fault true below i others n = λ h. absurd (cc h)
-one_fault false true i others n = λ h. absurd (cc h)
-one_fault false false i others n = n
-
 plain_fault : (lo hi next : ℕ) (held : List ℕ) → fault_of_held lo hi next held ≢ Some OutOfMemory
 plain_fault lo hi next [] = λ h. absurd (cc h)
-plain_fault lo hi next (i ∷ is) =
-    one_fault (nat_lt i lo || nat_lt hi i) (nat_lt i next) i (fault_of_held lo hi (i + 1) is) (plain_fault lo hi (i + 1) is)
+plain_fault lo hi next (i ∷ is) = grind (arith, plain_fault lo hi (i + 1) is)
 
 by_fault : (lo hi : ℕ) (held : List ℕ) (o : Option Error) → o ≢ Some OutOfMemory →
     (answer : Result IdState Error) × MatchOption o
     ((answer ≡ Ok (holding_ids held (new_ids lo hi))) ⊎ (SkipsId lo held × (answer ≡ Err OutOfMemory))) (λ e. answer ≡ Err e)
     × (answer ≢ Err OutOfMemory)
 by_fault lo hi held None n = (Ok (holding_ids held (new_ids lo hi)), inl refl, λ h. absurd (cc h))
-by_fault lo hi held (Some e) n = (Err e, refl, λ h. let is : e ≡ OutOfMemory = cc h in n (ap Some is))
+by_fault lo hi held (Some e) n = (Err e, refl, grind arith)
 
 total_makes_with_held : (lo hi : ℕ) (held : List ℕ) →
     (answer : Result IdState Error) × MakesWithHeld lo hi held answer × (answer ≢ Err OutOfMemory)
@@ -249,9 +186,9 @@ unfolding MakesWithHeld
 total_makes_with_held lo hi held =
     ⊎_elim
     (λ (no_range : hi < lo). (Err (InvalidRange lo hi), inl (no_range, refl), λ h. absurd (cc h)))
-    (λ (range : hi < lo → ⊥). let m = by_fault lo hi held (fault_of_held lo hi lo held) (plain_fault lo hi lo held) in
-    (m.0, inr (range, m.1), m.2))
-    (decided_below hi lo)
+    (λ (range : lo ≤ hi). let m = by_fault lo hi held (fault_of_held lo hi lo held) (plain_fault lo hi lo held) in
+    (m.0, inr (λ h. omega arith, m.1), m.2))
+    (cases_lt hi lo)
 
 total_call : EveryCallIsAnswered IsIdCallFrom
 total_call old Allocate = total_allocates old

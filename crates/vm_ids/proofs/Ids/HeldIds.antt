@@ -16,7 +16,6 @@ use Rattle.std.proofs.Common.{
   false,
   cond,
   not,
-  ◌&&◌,
   ◌||◌,
   eqb,
   List,
@@ -25,43 +24,35 @@ use Rattle.std.proofs.Common.{
   ◌++◌,
   length,
   get_or,
-  refl,
   sym,
   ap,
   ◌∙◌,
   arith,
   inl,
   inr,
-  ⊎_elim,
-  subst,
   Option,
   Some,
   None,
-  IsTrue,
   Bor,
 }
-use Rattle.std.proofs.Math.Bool.{or-false}
-use Rattle.std.proofs.lemmas.Bool.{both_ways, and_parts, and_from, or_left, or_right, not-true, not-false, eq-eqb, eqb-true}
 use Rattle.std.proofs.lemmas.List.{append-nil, length_push}
-use Rattle.std.proofs.lemmas.List.Elements.{All-weaker, Contains-get_or, filter-append}
+use Rattle.std.proofs.lemmas.List.Elements.{Contains-get_or, filter-append}
 use Rattle.std.proofs.lemmas.List.Folds.{list_any-append}
 use Rattle.std.proofs.lemmas.Map.Keys.{below_from_sorted}
 use Rattle.std.proofs.lemmas.Map.Made.{is_member-Decides}
-use Rattle.std.proofs.lemmas.Map.Views.{any-filter_same}
 use Rattle.std.specs.Iterator.{YieldsFirstRef, YieldsLastRef}
 use Rattle.std.specs.List.{All, AllPairs, Contains, filter, list_any, range_with_len}
 use Rattle.std.specs.List.Sorted.{IsStrictlySortedBy}
 use Rattle.std.specs.Option.{option_copied, option_eq}
 use Rattle.std.specs.Ordering.{nat_cmp, eq_by_cmp}
-use Rattle.std.specs.BTreeSet.{BTreeSet, contains, IsOrdered}
+use Rattle.std.specs.BTreeSet.{BTreeSet, IsOrdered}
 use Rattle.std.specs.FinSet as set
-use Rattle.vm_ranges.proofs.NumberSets.{tied_here, tied_is, apart_not_tied, same_test}
-use Rattle.vm_ids.specs.Ids.{IdState, IsHeld, held_ids, held_count, IsIdState, bound_of, held_of, ids_of, AreIds}
+use Rattle.vm_ids.specs.Ids.{IdState, IsHeld, held_ids, held_count, IsIdState, bound_of, ids_of, AreIds}
 use Rattle.vm_ids.specs.Checks.IdQueries.{freed_from, freed_to, ids_left, AscendWithin, AreIdsLeft}
 use Rattle.vm_ids.specs.Laws.IdLaws.{HeldIdsAreListed}
-use Rattle.vm_ids.proofs.Ids.IdSets.{in_row, held_from, from_held, bound_above, bound_fits}
-use Rattle.vm_ids.proofs.Ids.AscendingBounds.{rise, wider}
-use Rattle.vm_ids.proofs.Ids.IdRows.{same_kept, row_end, passed_rise}
+use Rattle.vm_ids.proofs.Ids.IdSets.{held_test, bound_fits}
+use Rattle.vm_ids.proofs.Ids.AscendingBounds.{rise, within}
+use Rattle.vm_ids.proofs.Ids.IdRows.{same_kept, row_end, passed_rise, row_passed}
 use Rattle.vm_ids.proofs.Ids.IdCounts.{tells_apart, ids_listed}
 
 abbrev same : ℕ → ℕ → Bool
@@ -72,30 +63,20 @@ kept freed i = not (list_any (same i) freed)
 
 -- ---- Numbers in ascending order
 none_outside : (q low bound : ℕ) (is : List ℕ) → (q < low) ⊎ (bound ≤ q) → AscendWithin low bound is → list_any (same q) is ≡ false
-none_outside q low bound [] o r = refl
-none_outside q low bound (i ∷ is) o r =
-    let d : q ≢ i = ⊎_elim (λ (l : q < low). λ e. omega (arith, r.0)) (λ (l : bound ≤ q). λ e. omega (arith, r.1)) o in
-    let rest = none_outside q (i + 1) bound is (⊎_elim (λ (l : q < low). inl (omega (arith, r.0))) (λ (l : bound ≤ q). inr l) o) r.2 in
-    rw (apart_not_tied q i d, rest) refl
+none_outside q low bound is o r = grind (arith, within low bound q is r)
 
--- The first number is not the lowest possible one, or the last not the highest.
-first_above : (a b i : ℕ) (is : List ℕ) → i ≢ a → AscendWithin a b (i ∷ is) → AscendWithin (a + 1) b (i ∷ is)
-first_above a b i is d r = (omega (arith, r.0, d), r.1, r.2)
+without_last : (a b i : ℕ) (is : List ℕ) → AscendWithin a b (is ++ i ∷ []) → AscendWithin a i is × (a ≤ i) × (i < b)
+without_last a b i [] r = (tt, r.0, r.1)
+without_last a b i (j ∷ is) r =
+    let s = without_last (j + 1) b i is r.2 in ((r.0, omega (arith, s.1), s.0), omega (arith, r.0, s.1), s.2)
 
-last_below : (a b i : ℕ) (is : List ℕ) → i ≢ b - 1 → AscendWithin a b (is ++ i ∷ []) → AscendWithin a (b - 1) (is ++ i ∷ [])
-last_below a b i [] d r = (r.0, omega (arith, r.1, d), tt)
+-- The last number is not the highest possible one.
+last_below : (a b i : ℕ) (is : List ℕ) → i ≢ b - 1 → AscendWithin a b (is ++ i ∷ []) → (a ≤ i) × AscendWithin a (b - 1) (is ++ i ∷ [])
+last_below a b i [] d r = (r.0, (r.0, omega (arith, r.1, d), tt))
 last_below a b i (j ∷ is) d r =
     let rest = last_below (j + 1) b i is d r.2 in
-    (r.0, omega (arith, before_last (j + 1) (b - 1) i is rest), rest)
-  where
-    before_last : (a b i : ℕ) (is : List ℕ) → AscendWithin a b (is ++ i ∷ []) → a < b
-    before_last a b i [] r = omega (arith, r.0, r.1)
-    before_last a b i (j ∷ is) r = omega (arith, r.0, r.1)
-
-without_last : (a b i : ℕ) (is : List ℕ) → AscendWithin a b (is ++ i ∷ []) → AscendWithin a i is × (a ≤ i)
-without_last a b i [] r = (tt, r.0)
-without_last a b i (j ∷ is) r =
-    let s = without_last (j + 1) b i is r.2 in ((r.0, omega (arith, s.1), s.0), omega (arith, r.0, s.1))
+    let last : i < b - 1 = (without_last (j + 1) (b - 1) i is rest.1).2 in
+    (omega (arith, rest.0, r.0), (r.0, omega (arith, rest.0, last), rest.1))
 
 -- ---- The freed ids at hand
 pub first_taken : (keys rest : List ℕ) (taken : Option (Bor ℕ)) → YieldsFirstRef (λ (is : List ℕ). is) keys taken rest →
@@ -109,36 +90,33 @@ last_taken keys rest None s = sym s.0
 last_taken keys rest (Some id) s = sym s
 
 other_id : (i : ℕ) (freed : Option ℕ) → true ≡ not (option_eq eqb freed (Some i)) → freed ≢ Some i
-other_id i freed t e =
-    absurd (both_ways _ (not-true _ (sym t)) (ap (λ (o : Option ℕ). option_eq eqb o (Some i)) e ∙ eq-eqb i i refl))
+other_id i freed t = grind arith
 
 that_id : (i : ℕ) (freed : Option ℕ) → false ≡ not (option_eq eqb freed (Some i)) → freed ≡ Some i
-that_id i None t = absurd (both_ways _ refl t)
-that_id i (Some f) t = ap Some (eqb-true f i (not-false _ (sym t)))
+that_id i freed t = grind arith
 
 pub next_freed_passed : (next : ℕ) (freed copied : Option ℕ) (above rest : List ℕ) (taken : Option (Bor ℕ)) →
     false ≡ not (option_eq eqb freed (Some next)) → copied ≡ option_copied taken →
     YieldsFirstRef (λ (is : List ℕ). is) above taken rest → freed_from freed above ≡ next ∷ freed_from copied rest
 next_freed_passed next freed copied above rest taken t c s =
-    ap (λ (o : Option ℕ). freed_from o above) (that_id next freed t)
-    ∙ ap (λ (is : List ℕ). next ∷ is) (sym (ap (λ (o : Option ℕ). freed_from o rest) c ∙ first_taken above rest taken s))
+    rw (that_id next freed t, c) (ap (λ (is : List ℕ). next ∷ is) (sym (first_taken above rest taken s)))
 
 pub last_freed_passed : (last : ℕ) (freed copied : Option ℕ) (below rest : List ℕ) (taken : Option (Bor ℕ)) →
     false ≡ not (option_eq eqb freed (Some last)) → copied ≡ option_copied taken →
     YieldsLastRef (λ (is : List ℕ). is) below taken rest → freed_to below freed ≡ freed_to rest copied ++ last ∷ []
 last_freed_passed last freed copied below rest taken t c s =
-    ap (freed_to below) (that_id last freed t)
-    ∙ ap (λ (is : List ℕ). is ++ last ∷ []) (sym (ap (freed_to rest) c ∙ last_taken below rest taken s))
+    rw (that_id last freed t, c) (ap (λ (is : List ℕ). is ++ last ∷ []) (sym (last_taken below rest taken s)))
 
 pub next_freed_above : (next b : ℕ) (freed : Option ℕ) (above : List ℕ) → true ≡ not (option_eq eqb freed (Some next)) →
     AscendWithin next b (freed_from freed above) → AscendWithin (next + 1) b (freed_from freed above)
 next_freed_above next b None above t r = tt
-next_freed_above next b (Some i) above t r = first_above next b i above (λ e. other_id next (Some i) t (ap Some e)) r
+next_freed_above next b (Some i) above t r = let d : i ≢ next = grind arith in (omega (arith, r.0, d), r.1, r.2)
 
 pub last_freed_below : (a bound : ℕ) (freed : Option ℕ) (below : List ℕ) → true ≡ not (option_eq eqb freed (Some (bound - 1))) →
     AscendWithin a bound (freed_to below freed) → AscendWithin a (bound - 1) (freed_to below freed)
 last_freed_below a bound None below t r = tt
-last_freed_below a bound (Some i) below t r = last_below a bound i below (λ e. other_id (bound - 1) (Some i) t (ap Some e)) r
+last_freed_below a bound (Some i) below t r =
+    let d : i ≢ bound - 1 = grind arith in (last_below a bound i below d r).1
 
 -- ---- One step of the walk
 pub none_left : (next bound : ℕ) (freed : List ℕ) → bound ≤ next → ids_left next bound freed ≡ []
@@ -171,25 +149,22 @@ module _ (next bound : ℕ) (l : next < bound) where
   front_freed : (rest : List ℕ) → ids_left next bound (next ∷ rest) ≡ ids_left (next + 1) bound rest
   unfolding ids_left
   front_freed rest =
-      from_front (next ∷ rest) false (ap not (or_left _ _ (tied_here next)))
-      ∙ same_kept (kept (next ∷ rest)) (kept rest) (next + 1) (bound - (next + 1))
-      (λ i a b. ap (λ (t : Bool). not (t || list_any (same i) rest)) (apart_not_tied i next (λ e. omega arith)))
+      from_front (next ∷ rest) false (grind arith)
+      ∙ same_kept (kept (next ∷ rest)) (kept rest) (next + 1) (bound - (next + 1)) (λ i a b. grind arith)
 
   -- The walk from below passes a freed id, or visits a held one.
   pub passes_first : (above rest below : List ℕ) (left : ℕ) → above ≡ next ∷ rest → AreIdsLeft next bound above below left →
       AreIdsLeft (next + 1) bound rest below left × (ids_left next bound above ≡ ids_left (next + 1) bound rest)
   passes_first above rest below left e v =
-      let r = subst (AscendWithin next (2 ^ 32)) e v.from_next in
-      let same_left = ap (ids_left next bound) e ∙ front_freed rest in (
+      let w : AreIdsLeft next bound (next ∷ rest) below left = rw e at v in (
         record {
-          ids = v.ids;
-          from_next = r.2;
-          to_bound = v.to_bound;
-          same = λ i a b. sym (ap (λ (t : Bool). t || list_any (same i) rest) (apart_not_tied i next (λ k. omega arith)))
-              ∙ ap (list_any (same i)) (sym e) ∙ v.same i (omega arith) b;
-          counted = v.counted ∙ ap length same_left;
+          ids = w.ids;
+          from_next = w.from_next.2;
+          to_bound = w.to_bound;
+          same = λ i a b. grind (arith, w.same i);
+          counted = w.counted ∙ ap length (front_freed rest);
         },
-        same_left,
+        rw e (front_freed rest),
       )
 
   pub visits_first : (above below : List ℕ) (left : ℕ) → AscendWithin (next + 1) (2 ^ 32) above → AreIdsLeft next bound above below left →
@@ -197,15 +172,15 @@ module _ (next bound : ℕ) (l : next < bound) where
   visits_first above below left r v =
       let held : kept above next ≡ true = ap not (none_outside next (next + 1) (2 ^ 32) above (inl (omega arith)) r) in
       let visited = from_front above true held in
-      let n : left ≡ suc (length (ids_left (next + 1) bound above)) = v.counted ∙ ap length visited in (
+      let n = ap length visited in (
         record {
           ids = v.ids;
           from_next = r;
           to_bound = v.to_bound;
           same = λ i a b. v.same i (omega arith) b;
-          counted = omega (arith, n);
+          counted = omega (arith, n, v.counted);
         },
-        omega (arith, n),
+        omega (arith, n, v.counted),
         visited,
       )
 
@@ -213,20 +188,17 @@ module _ (next bound : ℕ) (l : next < bound) where
   pub passes_last : (above below rest : List ℕ) (left : ℕ) → below ≡ rest ++ (bound - 1) ∷ [] → AreIdsLeft next bound above below left →
       AreIdsLeft next (bound - 1) above rest left × (ids_left next bound above ≡ ids_left next (bound - 1) above)
   passes_last above below rest left e v =
-      let r = without_last 0 bound (bound - 1) rest (subst (AscendWithin 0 bound) e v.to_bound) in
-      let any_below : (i : ℕ) →
-      list_any (same i) below ≡ (list_any (same i) rest || (same i (bound - 1) || false)) = λ i. ap (list_any (same i)) e
-      ∙ list_any-append (same i) rest ((bound - 1) ∷ []) in
-      let freed : kept above (bound - 1) ≡ false = ap not
-      (v.same (bound - 1) (omega arith) (omega arith) ∙ any_below (bound - 1) ∙ or_right _ _ (or_left _ _ (tied_here (bound - 1)))) in
+      let w : AreIdsLeft next bound above (rest ++ (bound - 1) ∷ []) left = rw e at v in
+      let any : (i : ℕ) → list_any (same i) (rest ++ (bound - 1) ∷ []) ≡ (list_any (same i) rest || (same i (bound - 1) || false)) =
+      λ i. list_any-append (same i) rest ((bound - 1) ∷ []) in
+      let freed : kept above (bound - 1) ≡ false = grind (arith, w.same (bound - 1), any (bound - 1)) in
       let same_left = from_back above false freed ∙ append-nil _ in (
         record {
-          ids = omega (arith, v.ids);
-          from_next = v.from_next;
-          to_bound = r.0;
-          same = λ i a b. v.same i a (omega arith) ∙ any_below i
-              ∙ ap (λ (t : Bool). list_any (same i) rest || (t || false)) (apart_not_tied i (bound - 1) (λ k. omega arith)) ∙ or-false _;
-          counted = v.counted ∙ ap length same_left;
+          ids = omega (arith, w.ids);
+          from_next = w.from_next;
+          to_bound = (without_last 0 bound (bound - 1) rest w.to_bound).0;
+          same = λ i a b. grind (arith, w.same i, any i);
+          counted = w.counted ∙ ap length same_left;
         },
         same_left,
       )
@@ -238,54 +210,34 @@ module _ (next bound : ℕ) (l : next < bound) where
       let held : kept above (bound - 1) ≡ true = ap not
       (v.same (bound - 1) (omega arith) (omega arith) ∙ none_outside (bound - 1) 0 (bound - 1) below (inr (omega arith)) r) in
       let visited = from_back above true held in
-      let n : left ≡ length (ids_left next (bound - 1) above) + 1 = v.counted ∙ ap length visited
-      ∙ length_push (ids_left next (bound - 1) above) (bound - 1) in (
+      let n = ap length visited ∙ length_push (ids_left next (bound - 1) above) (bound - 1) in (
         record {
           ids = omega (arith, v.ids);
           from_next = v.from_next;
           to_bound = r;
           same = λ i a b. v.same i a (omega arith);
-          counted = omega (arith, n);
+          counted = omega (arith, n, v.counted);
         },
-        omega (arith, n),
+        omega (arith, n, v.counted),
         visited,
       )
 
 pub ruleset walks = (none_left)
 
--- An id that was allocated at some time is held if and only if it was not freed since.
-pub held_not_freed : (lo bound i : ℕ) (freed : BTreeSet ℕ) → lo ≤ i → i < bound →
-    set.contains (held_of lo bound freed) i ≡ not (contains nat_cmp freed i)
-held_not_freed lo bound i freed l h =
-    same_test _ _ (λ t. ap not (from_held lo bound i freed t).2) (λ t. held_from lo bound i freed l h (not-true _ t))
-
-walk_from : (lo bound : ℕ) (freed : BTreeSet ℕ) → lo ≤ bound →
-    ids_left lo bound freed.keys ≡ filter (λ i. set.contains (held_of lo bound freed) i) (range_with_len lo (bound - lo))
-unfolding ids_left
-walk_from lo bound freed l =
-    same_kept _ _ lo (bound - lo) (λ i a b. sym (held_not_freed lo bound i freed a (omega arith)))
-
 -- The walk from the lowest id visits the held ids.
 pub walk_lists : (state : IdState) (lo hi : ℕ) (next : Option ℕ) (freed : BTreeSet ℕ) → ids_of lo hi next freed ≡ state →
     AreIds lo hi next freed → ids_left lo (bound_of next hi) freed.keys ≡ held_ids state
-unfolding ids_of
+unfolding ids_of ids_left
 walk_lists state lo hi next freed e a =
-    walk_from lo (bound_of next hi) freed (bound_above lo hi next a.range a.next_id) ∙ ap (λ (s : IdState). held_ids s) e
+    rw (← e) (same_kept _ _ lo (bound_of next hi - lo) (λ i l u. grind (arith, held_test)))
 
 -- ---- The list of held ids
 -- The list has exactly the held ids.
 pub in_held_ids : (state : IdState) → IsIdState state → (q : ℕ) → list_any (same q) (held_ids state) ≡ set.contains state.held q
 in_held_ids state s q =
-    let row = range_with_len state.lo (state.bound - state.lo) in
-    let both : list_any (same q) (held_ids state) ≡ (set.contains state.held q && list_any (same q) row) =
-    any-filter_same (same q) (λ i. set.contains state.held i) (set.contains state.held q)
-    (λ k t. ap (λ (v : ℕ). set.contains state.held v) (sym (tied_is q k t))) row in
-    both
-    ∙ same_test _ _
-    (λ t. (and_parts _ _ t).0)
-    (λ t. let w = s.held q t in and_from _ _ t (in_row state.lo (state.bound - state.lo) q w.0 (omega (arith, w.0, w.1))))
+    row_passed (λ i. set.contains state.held i) state.lo (state.bound - state.lo) q ∙ grind (arith, s.held q)
 
-held_ids_rise : (state : IdState) → IsStrictlySortedBy nat_cmp (held_ids state)
+pub held_ids_rise : (state : IdState) → IsStrictlySortedBy nat_cmp (held_ids state)
 held_ids_rise state = passed_rise (λ i. set.contains state.held i) state.lo (state.bound - state.lo)
 
 held_id_listed : (state : IdState) (id : ℕ) → IsIdState state → Contains (held_ids state) id ↔ IsHeld state id
@@ -294,7 +246,7 @@ held_id_listed state id s = (
   λ h. (is_member-Decides tells_apart (held_ids state) id).0 (in_held_ids state s id ∙ h),
 )
 
-held_ids_counted : (state : IdState) → IsIdState state → length (held_ids state) ≡ held_count state
+pub held_ids_counted : (state : IdState) → IsIdState state → length (held_ids state) ≡ held_count state
 held_ids_counted state s =
     let apart : AllPairs (λ i j. i ≢ j) (held_ids state) = λ i j d l m e. omega
     (arith, below_from_sorted (held_ids state) i j d (held_ids_rise state) l m, e) in
@@ -310,18 +262,14 @@ pub ruleset listings = (listed_held)
 -- ---- The first state of the walk
 pub walk_starts : (state : IdState) (lo hi : ℕ) (next : Option ℕ) (freed : BTreeSet ℕ) (above below : List ℕ) →
     ids_of lo hi next freed ≡ state → AreIds lo hi next freed → IsOrdered nat_cmp freed →
-    All (λ i. IsTrue (contains nat_cmp freed i)) freed.keys → IsIdState state → above ≡ freed.keys → below ≡ freed.keys →
+    IsIdState state → above ≡ freed.keys → below ≡ freed.keys →
     AreIdsLeft lo (bound_of next hi) above below (held_count state)
-walk_starts state lo hi next freed above below b a o all s e f =
-    let r : AscendWithin lo (bound_of next hi) freed.keys =
-    rise lo (bound_of next hi) freed.keys o (All-weaker _ _ (λ i h. a.freed_ids i h) freed.keys all) in
+walk_starts state lo hi next freed above below b a o s e f =
     let fits = bound_fits lo hi next a.next_id in
     record {
       ids = omega (arith, fits, a.ids);
-      from_next = subst (AscendWithin lo (2 ^ 32)) (sym e)
-          (wider lo lo (bound_of next hi) (2 ^ 32) freed.keys (omega arith) (omega (arith, fits, a.ids)) r);
-      to_bound = subst (AscendWithin 0 (bound_of next hi)) (sym f)
-          (wider 0 lo (bound_of next hi) (bound_of next hi) freed.keys (omega arith) (omega arith) r);
+      from_next = rw e (rise lo (2 ^ 32) freed.keys o (λ i t. grind (arith, a.freed_ids i t, fits, a.ids)));
+      to_bound = rw f (rise 0 (bound_of next hi) freed.keys o (λ i t. grind (arith, a.freed_ids i t)));
       same = λ i l u. ap (list_any (same i)) (e ∙ sym f);
       counted = sym (ap (λ (is : List ℕ). length (ids_left lo (bound_of next hi) is)) e ∙ ap length (walk_lists state lo hi next freed b a)
           ∙ held_ids_counted state s);

@@ -14,8 +14,6 @@ use Rattle.std.proofs.Common.{
   false,
   cond,
   not,
-  ◌&&◌,
-  ◌||◌,
   List,
   [],
   ◌∷◌,
@@ -46,7 +44,7 @@ use Rattle.vm_ranges.proofs.NumberSets.{tied_here, tied_is, apart_not_tied, same
 use Rattle.vm_ids.specs.Ids.{IdState, IsHeld, held_count, bound_of, held_of, ids_of, AreIds}
 use Rattle.vm_ids.specs.Laws.IdLaws.{IdCountFindsAll}
 use Rattle.vm_ranges.proofs.Listed.{Differ, listed_is, each_listed}
-use Rattle.vm_ids.proofs.Ids.IdSets.{in_row, bound_above}
+use Rattle.vm_ids.proofs.Ids.IdSets.{row_test, inserted_test, removed_test, bound_above}
 
 -- ---- A set of different numbers
 abbrev same : ℕ → ℕ → Bool
@@ -95,36 +93,19 @@ one_less s i h =
 abbrev but_for : set.FinSet nat_cmp → List ℕ → set.FinSet nat_cmp
 but_for s is = set.difference s (set.from_list is)
 
-but_for_none : (s : set.FinSet nat_cmp) → but_for s [] ≡ s
-but_for_none s =
-    set.same_set nat_cmp_total set.nat_cmp-IsAntisymmetric (but_for s []) s (λ q.
-    set.contains-difference nat_cmp_total s set.empty q
-    ∙ ap (λ (b : Bool). set.contains s q && not b) (set.contains-empty nat_cmp q)
-    ∙ alone (set.contains s q))
-  where
-    alone : (a : Bool) → (a && true) ≡ a
-    alone true = refl
-    alone false = refl
-
+-- A number of a set that is removed in addition to others.
 but_for_more : (s : set.FinSet nat_cmp) (i : ℕ) (is : List ℕ) → but_for s (i ∷ is) ≡ set.remove (but_for s is) i
 but_for_more s i is =
     set.same_set nat_cmp_total set.nat_cmp-IsAntisymmetric (but_for s (i ∷ is)) (set.remove (but_for s is) i) (λ q.
-    set.contains-difference nat_cmp_total s (set.from_list (i ∷ is)) q
-    ∙ ap (λ (b : Bool). set.contains s q && not b) (set.contains-insert nat_cmp_total (set.from_list is) i q)
-    ∙ turned (set.contains s q) (same q i) (set.contains (set.from_list is) q)
-    ∙ sym (set.contains-remove nat_cmp_total (but_for s is) i q
-    ∙ ap (λ (b : Bool). not (same q i) && b) (set.contains-difference nat_cmp_total s (set.from_list is) q)))
-  where
-    turned : (a b c : Bool) → (a && not (b || c)) ≡ (not b && (a && not c))
-    turned true true c = refl
-    turned true false c = refl
-    turned false true c = refl
-    turned false false c = refl
+    grind (arith, set.contains-difference nat_cmp_total, inserted_test, removed_test))
 
 len-but_for : (s : set.FinSet nat_cmp) (is : List ℕ) → IsDistinct same is →
     ((i : ℕ) → list_any (same i) is ≡ true → IsTrue (set.contains s i)) → set.len (but_for s is) + length is ≡ set.len s
 unfolding IsDistinct
-len-but_for s [] d h = let e = ap set.len (but_for_none s) in omega (arith, e)
+len-but_for s [] d h =
+    let same = set.same_set nat_cmp_total set.nat_cmp-IsAntisymmetric (but_for s []) s
+    (λ q. grind (arith, set.contains-difference nat_cmp_total, set.contains-empty)) in
+    omega (arith, ap set.len same)
 len-but_for s (i ∷ is) d h =
     let here : IsTrue (set.contains (but_for s is) i) =
     set.contains-difference nat_cmp_total s (set.from_list is) i
@@ -145,7 +126,7 @@ held_and_freed lo hi next freed a o =
     let parts : set.len (but_for cursor freed.keys) + length freed.keys ≡ set.len cursor =
     len-but_for cursor freed.keys (IsDistinct-from_sorted nat_cmp freed.keys o) (λ i m.
     let was = a.freed_ids i m in
-    set.contains-from_list nat_cmp_total (range_with_len lo n) i ∙ in_row lo n i was.0 (omega (arith, was.1))) in
+    set.contains-from_list nat_cmp_total (range_with_len lo n) i ∙ grind (arith, row_test, was)) in
     parts ∙ whole
 
 pub freed_fit : (lo hi : ℕ) (next : Option ℕ) (freed : BTreeSet ℕ) → AreIds lo hi next freed → IsOrdered nat_cmp freed →

@@ -1,9 +1,11 @@
 -- Rows: the numbers from a to below a + n.
-use Rattle.std.proofs.Common.{◌≡◌, ℕ, zero, suc, ◌+◌, ◌<◌, ◌≤◌, Bool, List, [], ◌∷◌, ◌++◌, refl, ap, ◌∙◌, arith}
+use Rattle.std.proofs.Common.{◌≡◌, ℕ, zero, suc, ◌+◌, ◌<◌, ◌≤◌, ◌&&◌, Bool, leb, ltb, List, [], ◌∷◌, ◌++◌, refl, ap, ◌∙◌, arith}
+use Rattle.std.proofs.lemmas.Map.Views.{any-filter_same}
 use Rattle.std.proofs.lemmas.List.Kept.{IsStrictlySortedBy-filter}
-use Rattle.std.specs.List.{filter, range_with_len}
+use Rattle.std.specs.List.{filter, list_any, range_with_len}
 use Rattle.std.specs.List.Sorted.{IsStrictlySortedBy}
-use Rattle.std.specs.Ordering.{nat_cmp}
+use Rattle.std.specs.Ordering.{nat_cmp, eq_by_cmp}
+use Rattle.vm_ids.proofs.Ids.IdSets.{row_test}
 use Rattle.vm_ids.specs.Checks.IdQueries.{AscendWithin}
 use Rattle.vm_ids.proofs.Ids.AscendingBounds.{sorted}
 
@@ -29,3 +31,10 @@ row_rises (suc n) a bound e = (omega arith, omega arith, row_rises n (a + 1) bou
 pub passed_rise : (p : ℕ → Bool) (a n : ℕ) → IsStrictlySortedBy nat_cmp (filter p (range_with_len a n))
 passed_rise p a n =
     IsStrictlySortedBy-filter nat_cmp p (range_with_len a n) (sorted a (a + n) (range_with_len a n) (row_rises n a (a + n) refl))
+
+-- The members of the part of a row that passes a test.
+pub row_passed : (p : ℕ → Bool) (a n q : ℕ) →
+    list_any (eq_by_cmp nat_cmp q) (filter p (range_with_len a n)) ≡ (p q && (leb a q && ltb q (a + n)))
+row_passed p a n q =
+    any-filter_same (eq_by_cmp nat_cmp q) p (p q) (λ k t. ap p (grind arith)) (range_with_len a n)
+    ∙ ap (λ (b : Bool). p q && b) (row_test a n q)

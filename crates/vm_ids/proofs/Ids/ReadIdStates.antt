@@ -1,188 +1,201 @@
--- The state that a value encodes, and the fields of an allocator with this state.
+-- The fields that a value encodes, and the state of an allocator with these fields.
 use Rattle.std.proofs.Common.{
   ◌≡◌,
   ℕ,
-  zero,
-  suc,
-  ◌≤◌,
-  ◌<◌,
+  ◌^◌,
   true,
   false,
+  cond,
   List,
-  [],
-  ◌∷◌,
-  length,
   Option,
   Some,
   None,
   is_some,
-  IsSome,
+  option_map,
+  option_and_then,
   Result,
   Ok,
   Err,
   MatchResult,
   codes,
-  IsTrue,
   refl,
   sym,
   ap,
   ◌∙◌,
   subst,
   arith,
-  true≢false,
 }
 use Rattle.std.proofs.lemmas.Option.{same_Some}
-use Rattle.std.proofs.lemmas.List.Elements.{All-contains}
-use Rattle.std.proofs.lemmas.Map.Views.{Contains-from_any, list_any-from_Contains}
-use Rattle.std.proofs.lemmas.Bool.{both_ways}
-use Rattle.std.specs.List.{All, Contains}
-use Rattle.std.specs.Prelude.{slice_index_or}
-use Rattle.std.specs.List.Sorted.{IsStrictlySortedBy}
+use Rattle.std.specs.Result.{result_ok}
+use Rattle.std.specs.BTreeSet.{BTreeSet, IsOrdered}
 use Rattle.std.specs.Ordering.{nat_cmp}
-use Rattle.std.specs.Cmp.{nat_cmp_total, eq_by_cmp_equiv}
-use Rattle.std.specs.BTreeSet.{BTreeSet, contains}
-use Rattle.std.specs.FinSet as set
-use Rattle.serde_json.specs.Data.{Data}
-use Rattle.vm_ranges.proofs.FieldSteps.{field_is}
-use Rattle.vm_ranges.proofs.NumberSets.{same_members, tied_is}
-use Rattle.vm_ids.specs.Ids.{IdState, IsIdState, AreIds, bound_of, ids_of}
-use Rattle.vm_ids.specs.Values.IdValues.{IdFields, HasIdFields, AreIdFields, AreIdsOf, EncodesNext, EncodesList, EncodesIds}
+use Rattle.serde_json.specs.Data.{Data, null, boolean, number, string, array, object, Items}
+use Rattle.serde_json.specs.Find.{get, as_array, as_null}
+use Rattle.vm_ranges.proofs.NumberSteps.{u32-some, some-u32, u32_in-some}
+use Rattle.vm_ranges.proofs.Lists.{in_list, list_encoded}
+use Rattle.vm_ranges.proofs.FieldSteps.{count-true, true-count, in_field, field_is}
+use Rattle.vm_ranges.proofs.Steps.{and_then_some, map_some}
+use Rattle.vm_ranges.proofs.Nulls.{null_of}
+use Rattle.vm_ranges.specs.Fields.{field_count, is_count}
+use Rattle.vm_ranges.specs.Numbers.{whole_number, u32_from, u32_in}
 use Rattle.vm_ranges.specs.declared.saved.SavedError.{SavedError}
 use Rattle.vm_ranges.specs.declared.saved.SavedError.TheVariants.{Violated, OutOfMemory}
+use Rattle.vm_ids.specs.declared.saved.read_ids.Ends.{Ends}
+use Rattle.vm_ids.specs.Ids.{IdState, IsIdState, IsNext, AreIds, ids_of}
 use Rattle.vm_ids.specs.FreedLists.{AreFreedOf, MakesOfIds}
-use Rattle.vm_ids.specs.Checks.IdChecks.{IdParts, ascending, ids_in, decoded_ids}
-use Rattle.vm_ids.proofs.Ids.IdSets.{holds_from, from_holds}
+use Rattle.vm_ids.specs.Values.IdValues.{IdFields, EncodesNext, EncodesNumber, EncodesList, EncodesIds}
+use Rattle.vm_ids.specs.Checks.FreedChecks.{ends_of, AreEndsOf}
+use Rattle.vm_ids.specs.Checks.IdChecks.{ids_from, decoded_next, AreDecoded, IdParts}
+use Rattle.vm_ids.proofs.Ids.IdSets.{bound_fits}
 use Rattle.vm_ids.proofs.Ids.IdFields.{is_state}
-use Rattle.vm_ids.proofs.Ids.ReadIds.{Found, fields_of, widened, bound_fits_ids, checks, passes, one_fields}
+use Rattle.vm_ids.proofs.Ids.AscendingBounds.{ids-encoded, encoded-ids, sorted, rise}
 
-among : (freed : BTreeSet ℕ) (i : ℕ) → Contains freed.keys i → contains nat_cmp freed i ≡ true
-among freed i c = list_any-from_Contains (eq_by_cmp_equiv nat_cmp_total) i freed.keys c
+-- ---- The next id
+next-some : (d : Data) (n : Option ℕ) → decoded_next d ≡ Some n → EncodesNext d n
+next-some d n e =
+    elim (is_some (as_null d)) as (λ v. is_some (as_null d) ≡ v → cond v (Some None)
+    (option_map (λ (x : ℕ). Some x) (option_and_then u32_from (whole_number d))) ≡ Some n → EncodesNext d n) [
+      | true ↦ λ z q. subst (EncodesNext d) (same_Some None n q) (null_of d z)
+      | false ↦ λ z q.
+          let a = map_some (λ (x : ℕ). Some x) (option_and_then u32_from (whole_number d)) n q in
+          let p = and_then_some u32_from (whole_number d) a.0 a.1 in
+          subst (EncodesNext d) a.2 (rw (u32-some p.0 a.0 p.2).0 at p.1)
+    ] refl e
 
-is_among : (freed : BTreeSet ℕ) (i : ℕ) → contains nat_cmp freed i ≡ true → Contains freed.keys i
-is_among freed i h = Contains-from_any tied_is i freed.keys h
+no_null : (d : Data) (n : ℕ) → whole_number d ≡ Some n → is_some (as_null d) ≡ false
+no_null null n e = absurd (cc)
+no_null (boolean b) n e = refl
+no_null (number x) n e = refl
+no_null (string t) n e = refl
+no_null (array ds) n e = refl
+no_null (object ms) n e = refl
 
-not_among : (freed : BTreeSet ℕ) (i : ℕ) → (Contains freed.keys i → ⊥) → contains nat_cmp freed i ≡ false
-not_among freed i n =
-    elim (contains nat_cmp freed i) as (λ v. contains nat_cmp freed i ≡ v → contains nat_cmp freed i ≡ false) [
-      | true ↦ λ h. absurd (n (is_among freed i h))
-      | false ↦ λ h. h
-    ] refl
+some-next : (d : Data) (n : Option ℕ) (lo hi : ℕ) → EncodesNext d n → IsNext lo hi n → decoded_next d ≡ Some n
+some-next d None lo hi s t = rw s refl
+some-next d (Some n) lo hi s t = rw (no_null d n s, s, some-u32 n t.2) refl
 
--- The fields of an allocator have the state of the same fields in a value.
-state_of_fields : (lo hi : ℕ) (next : Option ℕ) (freed : BTreeSet ℕ) → AreIdsOf (fields_of lo next hi freed.keys) (ids_of lo hi next freed)
-unfolding ids_of
-state_of_fields lo hi next freed = record {
-  lo = refl;
-  hi = refl;
-  bound = refl;
-  held = λ i. (
-    λ h. let p = from_holds lo hi i next freed h in ((p.0, p.1), λ c. both_ways _ p.2 (among freed i c)),
-    λ h. holds_from lo hi i next freed h.0.0 h.0.1 (not_among freed i h.1),
-  );
-}
+-- ---- Decoding a value
+-- The steps that decode the fields.
+pub record AreRead (d : Data) (f : IdFields) (freed : Items) : Type 0 where
+  pub four : is_count 4 (field_count d) ≡ true
+  pub base : u32_in (codes "range_base") d ≡ Some f.range_base
+  pub end : u32_in (codes "range_end") d ≡ Some f.range_end
+  pub next : option_and_then decoded_next (get (codes "next_id") d) ≡ Some f.next_id
+  pub freed_is : option_and_then as_array (get (codes "freed_ids") d) ≡ Some freed
+  pub listed : ids_from 0 freed ≡ Some f.freed_ids
 
-are_ids : (lo hi : ℕ) (next : Option ℕ) (freed : BTreeSet ℕ) → AreIdFields (fields_of lo next hi freed.keys) → AreIds lo hi next freed
-are_ids lo hi next freed s = record {
-  range = s.range;
-  ids = s.ids;
-  next_id = s.next_id;
-  freed_ids = λ i h. let c = is_among freed i h in all_of freed.keys i s.ever_allocated c;
-} where
-  all_of : (ns : List ℕ) (i : ℕ) → All (λ n. (lo ≤ n) × (n < bound_of next hi)) ns → Contains ns i → (lo ≤ i) × (i < bound_of next hi)
-  all_of ns i a c = subst (λ (x : ℕ). (lo ≤ x) × (x < bound_of next hi)) c.2 (a c.0 i c.1)
+-- The fields that a value encodes are decoded.
+pub are_read : (d : Data) (state : IdState) (s : EncodesIds d state) → (freed : Items) × AreRead d s.fields freed
+are_read d state s =
+    let f = s.fields in
+    let w = s.written in
+    let v = s.made.0.parts in
+    let next = in_field (codes "next_id") d (λ v. EncodesNext v f.next_id) w.next_id in
+    let freed = in_field (codes "freed_ids") d (λ v. EncodesList v f.freed_ids) w.freed_ids in
+    let list = in_list EncodesNumber freed.0 f.freed_ids freed.2 in
+    let fits = bound_fits f.range_base f.range_end f.next_id v.next_id in (
+      list.0,
+      record {
+        four = true-count 4 (field_count d) w.four_fields;
+        base = rw w.range_base (some-u32 f.range_base (omega (arith, v.range, v.ids)));
+        end = rw w.range_end (some-u32 f.range_end v.ids);
+        next = rw next.1 (some-next next.0 f.next_id f.range_base f.range_end next.2 v.next_id);
+        freed_is = rw freed.1 list.1;
+        listed = encoded-ids f.freed_ids 0 list.0 list.2
+            (rise 0 (2 ^ 32) f.freed_ids s.made.0.ascending (λ i t. let o = v.freed_ids i t in omega (arith, o, fits, v.ids)));
+      },
+    )
 
-valid : (lo hi : ℕ) (next : Option ℕ) (freed : BTreeSet ℕ) → AreIds lo hi next freed → IsStrictlySortedBy nat_cmp freed.keys →
-    AreIdFields (fields_of lo next hi freed.keys)
-valid lo hi next freed i s = record {
-  range = i.range;
-  ids = i.ids;
-  next_id = i.next_id;
-  ascending = s;
-  ever_allocated = λ k d l. i.freed_ids _ (among freed _ (k, l, same freed.keys k d l));
-} where
-  same : (ns : List ℕ) (k d : ℕ) → k < length ns → slice_index_or ns k (slice_index_or ns k d) ≡ slice_index_or ns k d
-  same [] k d l = absurd (omega arith)
-  same (n ∷ ns) zero d l = refl
-  same (n ∷ ns) (suc k) d l = same ns k d (omega arith)
-
--- Fields have one state.
-one_state : (f : IdFields) (a b : IdState) → AreIdsOf f a → AreIdsOf f b → a ≡ b
-one_state f a b p q =
-    let lo : a.lo ≡ b.lo = p.lo ∙ sym q.lo in
-    let hi : a.hi ≡ b.hi = p.hi ∙ sym q.hi in
-    let bound : a.bound ≡ b.bound = p.bound ∙ sym q.bound in
-    let held : a.held ≡ b.held = same_members a.held b.held (moved a b p q lo bound) (moved b a q p (sym lo) (sym bound)) in
-    ap (λ (x : ℕ). record { lo = x; hi = a.hi; bound = a.bound; held = a.held }) lo
-    ∙ ap (λ (x : ℕ). record { lo = b.lo; hi = x; bound = a.bound; held = a.held }) hi
-    ∙ ap (λ (x : ℕ). record { lo = b.lo; hi = b.hi; bound = x; held = a.held }) bound
-    ∙ ap (λ (x : set.FinSet nat_cmp). record { lo = b.lo; hi = b.hi; bound = b.bound; held = x }) held where
-      moved : (a b : IdState) → AreIdsOf f a → AreIdsOf f b → a.lo ≡ b.lo → a.bound ≡ b.bound → (i : ℕ) → IsTrue (set.contains a.held i) →
-          IsTrue (set.contains b.held i)
-      moved a b p q lo bound i h = let x = (p.held i).0 h in (q.held i).1
-          ((subst (λ (l : ℕ). l ≤ i) lo x.0.0, subst (λ (n : ℕ). i < n) bound x.0.1), x.1)
-
--- The facts that the contracts of the code need.
-
-pub none_encoded : (d : Data) → decoded_ids d ≡ None → ((state : IdState) × EncodesIds d state) → ⊥
-none_encoded d e p = true≢false (sym (passes d p.1.fields p.1.written p.1.valid) ∙ ap is_some e)
-
-built_states : (d : Data) (p : Found) (freed : BTreeSet ℕ) → decoded_ids d ≡ Some p →
-    ascending p.0 (bound_of p.1 p.2) p.3 ≡ Some freed.keys → EncodesIds d (ids_of p.0 p.2 p.1 freed)
-built_states d p freed e r =
-    let c = checks d p e in
-    let same : c.freed ≡ freed.keys = same_Some c.freed freed.keys (sym c.ascends ∙ r) in record {
-      fields = fields_of p.0 p.1 p.2 freed.keys;
-      written = subst (λ (ns : List ℕ). HasIdFields d (fields_of p.0 p.1 p.2 ns)) same c.written;
-      valid = subst (λ (ns : List ℕ). AreIdFields (fields_of p.0 p.1 p.2 ns)) same c.valid;
-      is = state_of_fields p.0 p.2 p.1 freed;
+-- Decoded fields that are valid are those of the value.
+decoded : (d : Data) (f : IdFields) (freed : Items) → AreRead d f freed → AreFreedOf f.range_base f.range_end f.next_id f.freed_ids →
+    AreDecoded d f freed
+decoded d f freed r v =
+    let next = and_then_some decoded_next (get (codes "next_id") d) f.next_id r.next in
+    let list = and_then_some as_array (get (codes "freed_ids") d) freed r.freed_is in
+    record {
+      listed = r.listed;
+      written = record {
+        four_fields = count-true 4 (field_count d) r.four;
+        range_base = (u32_in-some (codes "range_base") d f.range_base r.base).0;
+        next_id = field_is (codes "next_id") d next.0 (λ v. EncodesNext v f.next_id) next.1 (next-some next.0 f.next_id next.2);
+        range_end = (u32_in-some (codes "range_end") d f.range_end r.end).0;
+        freed_ids = field_is (codes "freed_ids") d list.0 (λ v. EncodesList v f.freed_ids) list.1
+            (list_encoded EncodesNumber list.0 freed f.freed_ids list.2 (ids-encoded 0 freed f.freed_ids r.listed).0);
+      };
+      valid = v;
     }
 
-pub some_encoded : (d : Data) (p : Found) → decoded_ids d ≡ Some p → (state : IdState) × EncodesIds d state
-some_encoded d p e =
-    let c = checks d p e in
-    let freed : BTreeSet ℕ = record { keys = c.freed } in
-    (ids_of p.0 p.2 p.1 freed, built_states d p freed e c.ascends)
+-- The fields are decoded in one way.
+one_read : (d : Data) (f g : IdFields) (ds es : Items) → AreRead d f ds → AreRead d g es → f ≡ g
+one_read d f g ds es x y =
+    let items : ds ≡ es = same_Some ds es (sym x.freed_is ∙ y.freed_is) in
+    let base : f.range_base ≡ g.range_base = same_Some _ _ (sym x.base ∙ y.base) in
+    let end : f.range_end ≡ g.range_end = same_Some _ _ (sym x.end ∙ y.end) in
+    let next : f.next_id ≡ g.next_id = same_Some _ _ (sym x.next ∙ y.next) in
+    let freed : f.freed_ids ≡ g.freed_ids = same_Some _ _ (sym x.listed ∙ ap (ids_from 0) items ∙ y.listed) in
+    λ i. record { range_base = base i; next_id = next i; range_end = end i; freed_ids = freed i }
 
--- The freed ids of a value that is decoded are ids in order.
-in_order : (d : Data) (p : Found) (e : decoded_ids d ≡ Some p) → ids_in p.3 ≡ Some (checks d p e).freed
-in_order d p e = let c = checks d p e in widened p.0 (bound_of p.1 p.2) p.3 c.freed (bound_fits_ids p.0 p.2 p.1 c.valid.ids c.valid.next_id)
-    c.ascends
+-- The ids of which the ends were kept.
+pub ends_kept : (ds : Items) (ends : Option Ends) → option_map ends_of (ids_from 0 ds) ≡ Some ends →
+    (ids : List ℕ) × (ids_from 0 ds ≡ Some ids) × AreEndsOf ends ids
+ends_kept ds ends e =
+    let m = map_some ends_of (ids_from 0 ds) ends e in
+    (m.0, m.1, (sorted 0 (2 ^ 32) m.0 (ids-encoded 0 ds m.0 m.1).1, sym m.2))
 
-pub ids_listed_in : (d : Data) (p : Found) → decoded_ids d ≡ Some p → IsSome (ids_in p.3)
-ids_listed_in d p e = ap is_some (in_order d p e)
+pub ends_refused : (d : Data) (ds : Items) → option_and_then as_array (get (codes "freed_ids") d) ≡ Some ds →
+    option_map ends_of (ids_from 0 ds) ≡ None → ¬ ((state : IdState) × EncodesIds d state)
+ends_refused d ds e none p =
+    let r = are_read d p.0 p.1 in
+    let items : r.0 ≡ ds = same_Some r.0 ds (sym r.1.freed_is ∙ e) in
+    let some : option_map ends_of (ids_from 0 ds) ≡ Some (ends_of p.1.fields.freed_ids) = rw (← items, r.1.listed) refl in
+    absurd (cc (none, some))
+
+-- The result of checking the parts decides.
+abbrev pub ChecksFields : IdFields → Result (Unit {0}) SavedError → Type 0
+ChecksFields f answer =
+    MatchResult answer (λ _. AreFreedOf f.range_base f.range_end f.next_id f.freed_ids)
+    (λ e. MakesOfIds f.range_base f.range_end f.next_id f.freed_ids (Err e))
+
+pub parts_refused : (d : Data) (f : IdFields) (ds : Items) (answer : Result (Unit {0}) SavedError) → AreRead d f ds → ChecksFields f answer →
+    None ≡ result_ok answer → ¬ ((state : IdState) × EncodesIds d state)
+parts_refused d f ds (Ok u) r h e p = absurd (cc e)
+parts_refused d f ds (Err OutOfMemory) r h e p = h
+parts_refused d f ds (Err (Violated c)) r h e p =
+    let q = are_read d p.0 p.1 in
+    h.1 (rw (one_read d f p.1.fields ds q.0 r q.1) p.1.made.0)
+
+pub parts_accepted : (d : Data) (f : IdFields) (ds : Items) (answer : Result (Unit {0}) SavedError) (u : Unit {0}) → AreRead d f ds →
+    ChecksFields f answer → Some u ≡ result_ok answer → AreDecoded d f ds
+parts_accepted d f ds (Ok v) u r h e = decoded d f ds r h
+parts_accepted d f ds (Err x) u r h e = absurd (cc e)
 
 -- The parts of a value that is decoded make a state, and it is the state that the value encodes.
-pub state_read : (d : Data) (p : Found) (freed : List ℕ) (answer : Result IdState SavedError) → decoded_ids d ≡ Some p →
-    ids_in p.3 ≡ Some freed → MakesOfIds p.0 p.2 p.1 freed answer → MatchResult answer (EncodesIds d) (λ _. ⊥)
-state_read d p freed (Ok state) e i m =
-    let c = checks d p e in
-    let same : c.freed ≡ freed = same_Some c.freed freed (sym (in_order d p e) ∙ i) in
-    let set : BTreeSet ℕ = record { keys = freed } in
-    subst (EncodesIds d) (sym m.1) (built_states d p set e (c.ascends ∙ ap Some same))
-state_read d p freed (Err (Violated v)) e i m =
-    let c = checks d p e in
-    let same : c.freed ≡ freed = same_Some c.freed freed (sym (in_order d p e) ∙ i) in
-    m.1 (subst (λ (ids : List ℕ). AreFreedOf p.0 p.2 p.1 ids) same (record {
-      range = c.valid.range;
-      next_id = c.valid.next_id;
-      ascending = c.valid.ascending;
-      freed_ids = λ i k. All-contains (λ n. (p.0 ≤ n) × (n < bound_of p.1 p.2)) c.freed i c.valid.ever_allocated k;
-    }))
-state_read d p freed (Err OutOfMemory) e i m = m
+pub state_read : (d : Data) (f : IdFields) (ds : Items) (freed : List ℕ) (answer : Result IdState SavedError) → AreDecoded d f ds →
+    ids_from 0 ds ≡ Some freed → MakesOfIds f.range_base f.range_end f.next_id freed answer → MatchResult answer (EncodesIds d) (λ _. ⊥)
+state_read d f ds freed answer s e m =
+    let same : freed ≡ f.freed_ids = same_Some freed f.freed_ids (sym e ∙ s.listed) in
+    read answer (rw same at m) where
+      read : (answer : Result IdState SavedError) → MakesOfIds f.range_base f.range_end f.next_id f.freed_ids answer →
+          MatchResult answer (EncodesIds d) (λ _. ⊥)
+      read (Ok state) m = record { fields = f; written = s.written; made = m }
+      read (Err (Violated c)) m = m.1 s.valid
+      read (Err OutOfMemory) m = m
 
+pub some_encoded : (d : Data) (f : IdFields) (ds : Items) → AreDecoded d f ds → (state : IdState) × EncodesIds d state
+some_encoded d f ds s =
+    (ids_of f.range_base f.range_end f.next_id (record { keys = f.freed_ids }), record { fields = f; written = s.written; made = (s.valid, refl) })
+
+-- ---- The state
 pub encoded_state : (d : Data) (state : IdState) → EncodesIds d state → IsIdState state
 encoded_state d state s =
     let f = s.fields in
-    let freed : BTreeSet ℕ = record { keys = f.freed_ids } in
-    let i = are_ids f.range_base f.range_end f.next_id freed s.valid in
-    is_state state f.range_base f.range_end f.next_id freed
-    (one_state f (ids_of f.range_base f.range_end f.next_id freed) state (state_of_fields f.range_base f.range_end f.next_id freed) s.is) i
+    is_state state f.range_base f.range_end f.next_id (record { keys = f.freed_ids }) (sym s.made.1) s.made.0.parts
 
 pub encodes_ids : (d v w : Data) (state : IdState) (lo hi : ℕ) (next : Option ℕ) (freed : BTreeSet ℕ) → ids_of lo hi next freed ≡ state →
-    IdParts d lo v hi w → EncodesNext v next → EncodesList w freed.keys → AreIds lo hi next freed → IsStrictlySortedBy nat_cmp freed.keys →
+    IdParts d lo v hi w → EncodesNext v next → EncodesList w freed.keys → AreIds lo hi next freed → IsOrdered nat_cmp freed →
     EncodesIds d state
-encodes_ids d v w state lo hi next freed e p next_encoded freed_encoded i s = subst (EncodesIds d) e (record {
-  fields = fields_of lo next hi freed.keys;
+encodes_ids d v w state lo hi next freed e p next_encoded freed_encoded i s = record {
+  fields = record { range_base = lo; next_id = next; range_end = hi; freed_ids = freed.keys };
   written = record {
     four_fields = p.four_fields;
     range_base = p.base_is;
@@ -190,14 +203,15 @@ encodes_ids d v w state lo hi next freed e p next_encoded freed_encoded i s = su
     range_end = p.end_is;
     freed_ids = field_is (codes "freed_ids") d w (λ x. EncodesList x freed.keys) p.freed_is freed_encoded;
   };
-  valid = valid lo hi next freed i s;
-  is = state_of_fields lo hi next freed;
-})
+  made = (record { parts = i; ascending = s }, sym e);
+}
 
 pub ruleset written = (encodes_ids)
 
 -- A value encodes at most one state.
 pub one_encoded : (d : Data) (a b : IdState) → EncodesIds d a → EncodesIds d b → a ≡ b
 one_encoded d a b p q =
-    let e = one_fields d p.fields q.fields p.written q.written in
-    one_state q.fields a b (subst (λ (f : IdFields). AreIdsOf f a) e p.is) q.is
+    let x = are_read d a p in
+    let y = are_read d b q in
+    let e = one_read d p.fields q.fields x.0 y.0 x.1 y.1 in
+    p.made.1 ∙ ap (λ (f : IdFields). ids_of f.range_base f.range_end f.next_id (record { keys = f.freed_ids })) e ∙ sym q.made.1

@@ -1,5 +1,5 @@
 -- Lists in strictly ascending order, and the entries of maps.
-use Rattle.std.proofs.Common.{◌≡◌, ℕ, Bool, true, false, cond, ◌&&◌, ◌||◌, T, List, [], ◌∷◌, refl, sym, ap, ◌∙◌, subst, Some, None, Less}
+use Rattle.std.proofs.Common.{◌≡◌, ℕ, arith, ⊎_elim, Bool, true, false, ◌&&◌, T, List, [], ◌∷◌, refl, sym, ◌∙◌, subst, Less}
 use Rattle.std.specs.declared.cmp.Ordering.{Ordering}
 use Rattle.std.specs.declared.cmp.Ordering.TheVariants.{Equal, Greater}
 use Rattle.std.specs.List.{AllByRecursion, list_any}
@@ -9,6 +9,9 @@ use Rattle.std.specs.Ordering.{nat_cmp, eq_by_cmp, is_lt}
 use Rattle.std.specs.Cmp.{nat_cmp_total}
 use Rattle.std.specs.FinMap.Entries.{below_all, is_sorted, find, same_entries}
 use Rattle.std.specs.FinMap as map
+use Rattle.std.proofs.lemmas.Bool.{both_ways, or_left, or_cases}
+use Rattle.vm_ranges.proofs.NumberSets.{tied_here, tied_is}
+use Rattle.vm_ids.proofs.Ids.AscendingBounds.{rises_below}
 
 -- ---- The two forms of strictly ascending keys
 both : (a b : Bool) → T a → T b → T (a && b)
@@ -60,31 +63,18 @@ module _ {X : Type 0} where
   entries_of_sorted es s = entries_are (map.from_entries es) es s (λ q. sym (map.get-from_entries nat_cmp_total es q))
 
 -- ---- Lists of numbers
-marked : List ℕ → List (ℕ × Unit {0})
-marked [] = []
-marked (k ∷ ks) = (k, tt) ∷ marked ks
-
-unmarked : (ks : List ℕ) → keys_of (marked ks) ≡ ks
-unfolding marked
-unmarked [] = refl
-unmarked (k ∷ ks) = ap (λ (xs : List ℕ). k ∷ xs) (unmarked ks)
-
-found_mark : (q : ℕ) (ks : List ℕ) → find nat_cmp q (marked ks) ≡ cond (list_any (eq_by_cmp nat_cmp q) ks) (Some tt) None
-unfolding marked
-found_mark q [] = refl
-found_mark q (k ∷ ks) =
-    elim (eq_by_cmp nat_cmp q k) as
-    (λ t. cond t (Some tt) (find nat_cmp q (marked ks)) ≡ cond (t || list_any (eq_by_cmp nat_cmp q) ks) (Some tt) None)
-    [ true ↦ refl | false ↦ found_mark q ks ]
-
-sorted_marks : (ks : List ℕ) → IsStrictlySortedBy nat_cmp ks → T (is_sorted nat_cmp (marked ks))
-sorted_marks ks s = sorted_entries (marked ks) (subst (IsStrictlySortedBy nat_cmp) (sym (unmarked ks)) s)
-
 -- Two lists in strictly ascending order with the same members are equal.
 pub same_rising : (xs ys : List ℕ) → IsStrictlySortedBy nat_cmp xs → IsStrictlySortedBy nat_cmp ys →
     ((q : ℕ) → list_any (eq_by_cmp nat_cmp q) xs ≡ list_any (eq_by_cmp nat_cmp q) ys) → xs ≡ ys
-same_rising xs ys s t h =
-    let alike : marked xs ≡ marked ys =
-    same_entries nat_cmp nat_cmp_total map.nat_cmp-IsAntisymmetric (marked xs) (marked ys) (sorted_marks xs s) (sorted_marks ys t)
-    (λ q. found_mark q xs ∙ ap (λ (b : Bool). cond b (Some tt) None) (h q) ∙ sym (found_mark q ys)) in
-    sym (unmarked xs) ∙ ap keys_of alike ∙ unmarked ys
+unfolding IsStrictlySortedBy
+same_rising [] [] s t h = refl
+same_rising [] (y ∷ ys) s t h = absurd (both_ways false refl (h y ∙ or_left _ _ (tied_here y)))
+same_rising (x ∷ xs) [] s t h = absurd (both_ways false refl (sym (h x) ∙ or_left _ _ (tied_here x)))
+same_rising (x ∷ xs) (y ∷ ys) s t h =
+    let first : x ≡ y = ⊎_elim (λ (e : eq_by_cmp nat_cmp x y ≡ true). tied_is x y e)
+    (λ (m : list_any (eq_by_cmp nat_cmp x) ys ≡ true). ⊎_elim (λ (e : eq_by_cmp nat_cmp y x ≡ true). sym (tied_is y x e))
+    (λ (n : list_any (eq_by_cmp nat_cmp y) xs ≡ true). absurd (omega (arith, rises_below x y xs s.0 n, rises_below y x ys t.0 m)))
+    (or_cases _ _ (h y ∙ or_left _ _ (tied_here y))))
+    (or_cases _ _ (sym (h x) ∙ or_left _ _ (tied_here x))) in
+    let rest = same_rising xs ys s.1 t.1 (λ q. grind (arith, h q, first, rises_below x q xs s.0, rises_below y q ys t.0)) in
+    rw (first, rest) refl

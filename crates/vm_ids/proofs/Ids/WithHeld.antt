@@ -6,15 +6,11 @@ use Rattle.std.proofs.Common.{
   ◌<◌,
   ◌≤◌,
   ◌⊎◌,
-  ◌||◌,
-  true,
-  ltb,
   zero,
   suc,
   List,
   [],
   ◌∷◌,
-  ◌++◌,
   length,
   take,
   drop,
@@ -36,7 +32,6 @@ use Rattle.std.proofs.Common.{
   Ok,
   Err,
 }
-use Rattle.std.proofs.lemmas.Bool.{cases_lt, lt-ltb, le-ltb, or_left, or_right}
 use Rattle.std.proofs.lemmas.List.{drop_more, drop_all, take_more, take-append-drop}
 use Rattle.std.proofs.lemmas.List.Elements.{Contains-get_or, Contains-append_cases}
 use Rattle.std.specs.List.{Contains}
@@ -49,20 +44,6 @@ use Rattle.vm_ids.proofs.Ids.ExactIds.{holding_in_range}
 use Rattle.vm_ids.proofs.Ids.FreeIds.{holding_more}
 
 -- ---- The first id of a list
-pub wrong_range : (lo hi next n : ℕ) (rest : List ℕ) → (n < lo) ⊎ (hi < n) → fault_of_held lo hi next (n ∷ rest) ≡ Some (OutOfRange n)
-wrong_range lo hi next n rest out =
-    let t : (ltb n lo || ltb hi n) ≡ true = ⊎_elim (λ (l : n < lo). or_left _ _ (lt-ltb n lo l))
-    (λ (l : hi < n). or_right _ _ (lt-ltb hi n l)) out in
-    rw t refl
-
-pub wrong_order : (lo hi next n : ℕ) (rest : List ℕ) → lo ≤ n → n ≤ hi → n < next →
-    fault_of_held lo hi next (n ∷ rest) ≡ Some ResourceNotAvailable
-wrong_order lo hi next n rest l h b = rw (le-ltb n lo l, le-ltb hi n h, lt-ltb n next b) refl
-
-pub right_id : (lo hi next n : ℕ) (rest : List ℕ) → lo ≤ n → n ≤ hi → next ≤ n →
-    fault_of_held lo hi next (n ∷ rest) ≡ fault_of_held lo hi (n + 1) rest
-right_id lo hi next n rest l h b = rw (le-ltb n lo l, le-ltb hi n h, le-ltb n next b) refl
-
 -- An id in a list without a wrong id.
 pub record IsRightId (lo hi next n : ℕ) (rest : List ℕ) : Type 0 where
   pub range : (lo ≤ n) × (n ≤ hi)
@@ -70,15 +51,11 @@ pub record IsRightId (lo hi next n : ℕ) (rest : List ℕ) : Type 0 where
   pub others : fault_of_held lo hi (n + 1) rest ≡ None
 
 pub right_from : (lo hi next n : ℕ) (rest : List ℕ) → fault_of_held lo hi next (n ∷ rest) ≡ None → IsRightId lo hi next n rest
-right_from lo hi next n rest none =
-    ⊎_elim
-    (λ (l : n < lo). absurd (cc (none, wrong_range lo hi next n rest (inl l))))
-    (λ (l : lo ≤ n). ⊎_elim
-    (λ (h : hi < n). absurd (cc (none, wrong_range lo hi next n rest (inr h))))
-    (λ (h : n ≤ hi). ⊎_elim
-    (λ (b : n < next). absurd (cc (none, wrong_order lo hi next n rest l h b)))
-    (λ (b : next ≤ n). record { range = (l, h); order = b; others = sym (right_id lo hi next n rest l h b) ∙ none })
-    (cases_lt n next)) (cases_lt hi n)) (cases_lt n lo)
+right_from lo hi next n rest none = record { range = grind arith; order = grind arith; others = grind arith }
+
+right_id : (lo hi next n : ℕ) (rest : List ℕ) → lo ≤ n → n ≤ hi → next ≤ n →
+    fault_of_held lo hi next (n ∷ rest) ≡ fault_of_held lo hi (n + 1) rest
+right_id lo hi next n rest l h b = grind arith
 
 -- ---- The check of a list
 -- The first wrong id of the list is that of the part that is left.
@@ -88,66 +65,54 @@ LeftDecides lo hi next i ids = fault_of_held lo hi lo ids ≡ fault_of_held lo h
 abbrev pub ChecksHeld : ℕ → ℕ → List ℕ → Result (Unit {0}) Error → Type 0
 ChecksHeld lo hi ids r = MatchOption (fault_of_held lo hi lo ids) (r ≡ Ok tt) (λ e. r ≡ Err e)
 
-left_first : (lo hi next i n : ℕ) (ids : List ℕ) → i < length ids → n ≡ get_or ids i 0 → LeftDecides lo hi next i ids →
-    fault_of_held lo hi lo ids ≡ fault_of_held lo hi next (n ∷ drop (i + 1) ids)
-left_first lo hi next i n ids l e d =
-    d ∙ ap (fault_of_held lo hi next) (drop_more ids i 0 l ∙ ap (λ (x : ℕ). x ∷ drop (i + 1) ids) (sym e))
+module _ (lo hi next i n : ℕ) (ids : List ℕ) (l : i < length ids) (e : n ≡ get_or ids i 0) (d : LeftDecides lo hi next i ids) where
+  left_first : fault_of_held lo hi lo ids ≡ fault_of_held lo hi next (n ∷ drop (i + 1) ids)
+  left_first = d ∙ rw (drop_more ids i 0 l, e) refl
 
-pub range_refused : (lo hi next i n : ℕ) (ids : List ℕ) → i < length ids → n ≡ get_or ids i 0 → LeftDecides lo hi next i ids →
-    (n < lo) ⊎ (hi < n) → ChecksHeld lo hi ids (Err (OutOfRange n))
-range_refused lo hi next i n ids l e d out =
-    rw (left_first lo hi next i n ids l e d ∙ wrong_range lo hi next n (drop (i + 1) ids) out) refl
+  pub range_refused : (n < lo) ⊎ (hi < n) → ChecksHeld lo hi ids (Err (OutOfRange n))
+  range_refused out = let fault : fault_of_held lo hi lo ids ≡ Some (OutOfRange n) = left_first ∙ grind arith in rw fault refl
 
-pub order_refused : (lo hi next i n : ℕ) (ids : List ℕ) → i < length ids → n ≡ get_or ids i 0 → LeftDecides lo hi next i ids → lo ≤ n →
-    n ≤ hi → n < next → ChecksHeld lo hi ids (Err ResourceNotAvailable)
-order_refused lo hi next i n ids l e d a h b =
-    rw (left_first lo hi next i n ids l e d ∙ wrong_order lo hi next n (drop (i + 1) ids) a h b) refl
+  pub order_refused : lo ≤ n → n ≤ hi → n < next → ChecksHeld lo hi ids (Err ResourceNotAvailable)
+  order_refused a h b = let fault : fault_of_held lo hi lo ids ≡ Some ResourceNotAvailable = left_first ∙ grind arith in rw fault refl
 
-pub one_right : (lo hi next i n : ℕ) (ids : List ℕ) → i < length ids → n ≡ get_or ids i 0 → LeftDecides lo hi next i ids → lo ≤ n → n ≤ hi →
-    next ≤ n → LeftDecides lo hi (n + 1) (i + 1) ids
-one_right lo hi next i n ids l e d a h b = left_first lo hi next i n ids l e d ∙ right_id lo hi next n (drop (i + 1) ids) a h b
+  pub one_right : lo ≤ n → n ≤ hi → next ≤ n → LeftDecides lo hi (n + 1) (i + 1) ids
+  one_right a h b = left_first ∙ right_id lo hi next n (drop (i + 1) ids) a h b
 
 pub all_right : (lo hi next i : ℕ) (ids : List ℕ) → length ids ≤ i → LeftDecides lo hi next i ids → ChecksHeld lo hi ids (Ok tt)
-all_right lo hi next i ids l d =
-    rw (d ∙ ap (fault_of_held lo hi next) (drop_all i ids l)) refl
+all_right lo hi next i ids l d = rw (d ∙ ap (fault_of_held lo hi next) (drop_all i ids l)) refl
 
 pub ruleset checks = (range_refused, order_refused, one_right, all_right)
 
 -- ---- The allocator
 pub checked_error : (o : Option Error) (r : Result (Unit {0}) Error) (e : Error) → r ≡ Err e → MatchOption o (r ≡ Ok tt) (λ x. r ≡ Err x) →
     o ≡ Some e
-checked_error None r e is h = absurd (cc (is, h))
-checked_error (Some x) r e is h = cc (is, h)
+checked_error o r e is h = grind arith
 
 pub checked_right : (o : Option Error) (r : Result (Unit {0}) Error) → r ≡ Ok tt → MatchOption o (r ≡ Ok tt) (λ x. r ≡ Err x) → o ≡ None
-checked_right None r is h = refl
-checked_right (Some x) r is h = absurd (cc (is, h))
+checked_right o r is h = grind arith
 
 -- A new allocator has this state and a range that is not empty. An error is InvalidRange.
 pub made_state : (lo hi : ℕ) (state : IdState) → MakesIds lo hi (Ok state) → (state ≡ new_ids lo hi) × (lo ≤ hi)
 unfolding MakesIds
-made_state lo hi state (inl a) = absurd (cc (a.1))
-made_state lo hi state (inr a) = (cc (a.1), ⊎_elim (λ (x : hi < lo). absurd (a.0 x)) (λ (x : lo ≤ hi). x) (cases_lt hi lo))
+made_state lo hi state h = grind arith
 
 pub made_error : (lo hi : ℕ) (held : List ℕ) (e : Error) → MakesIds lo hi (Err e) → MakesWithHeld lo hi held (Err e)
 unfolding MakesIds MakesWithHeld
-made_error lo hi held e (inl a) = inl (a.0, cc (a.1))
-made_error lo hi held e (inr a) = absurd (cc (a.1))
+made_error lo hi held e h = grind arith
 
-pub held_refused : (lo hi : ℕ) (held : List ℕ) (e : Error) → lo ≤ hi → fault_of_held lo hi lo held ≡ Some e →
-    MakesWithHeld lo hi held (Err e)
-unfolding MakesWithHeld
-held_refused lo hi held e l f = inr (λ h. omega arith, rw f refl)
+module _ (lo hi : ℕ) (held : List ℕ) where
+  pub held_refused : (e : Error) → lo ≤ hi → fault_of_held lo hi lo held ≡ Some e → MakesWithHeld lo hi held (Err e)
+  unfolding MakesWithHeld
+  held_refused e l f = inr (λ h. omega arith, rw f refl)
 
-pub held_no_memory : (lo hi : ℕ) (held : List ℕ) → lo ≤ hi → fault_of_held lo hi lo held ≡ None → SkipsId lo held →
-    MakesWithHeld lo hi held (Err OutOfMemory)
-unfolding MakesWithHeld
-held_no_memory lo hi held l f s = inr (λ h. omega arith, rw f (inr (s, refl)))
+  pub held_no_memory : lo ≤ hi → fault_of_held lo hi lo held ≡ None → SkipsId lo held → MakesWithHeld lo hi held (Err OutOfMemory)
+  unfolding MakesWithHeld
+  held_no_memory l f s = inr (λ h. omega arith, rw f (inr (s, refl)))
 
-pub held_made : (lo hi : ℕ) (held : List ℕ) (state : IdState) → lo ≤ hi → fault_of_held lo hi lo held ≡ None →
-    state ≡ holding_ids held (new_ids lo hi) → MakesWithHeld lo hi held (Ok state)
-unfolding MakesWithHeld
-held_made lo hi held state l f e = inr (λ h. omega arith, rw f (inl (ap Ok e)))
+  pub held_made : (state : IdState) → lo ≤ hi → fault_of_held lo hi lo held ≡ None → state ≡ holding_ids held (new_ids lo hi) →
+      MakesWithHeld lo hi held (Ok state)
+  unfolding MakesWithHeld
+  held_made state l f e = inr (λ h. omega arith, rw f (inl (ap Ok e)))
 
 -- The ids before the index are allocated, and those that are left have no wrong id.
 pub record HoldsUpTo (lo hi i : ℕ) (held : List ℕ) (state : IdState) : Type 0 where
@@ -158,33 +123,25 @@ pub record HoldsUpTo (lo hi i : ℕ) (held : List ℕ) (state : IdState) : Type 
 
 pub none_yet : (lo hi : ℕ) (held : List ℕ) (state : IdState) → state ≡ new_ids lo hi → IsIdState state →
     fault_of_held lo hi lo held ≡ None → HoldsUpTo lo hi 0 held state
-none_yet lo hi held state e s f = record {
-  range = (ap (λ (v : IdState). v.lo) e, ap (λ (v : IdState). v.hi) e);
-  so_far = e;
-  left = ap (λ (v : IdState). fault_of_held lo hi v.bound held) e ∙ f;
-  valid = s;
-}
+none_yet lo hi held state e s f = record { range = rw e (refl, refl); so_far = e; left = rw e f; valid = s }
 
-pub next_right : (lo hi i n : ℕ) (held : List ℕ) (state : IdState) → i < length held → n ≡ get_or held i 0 → HoldsUpTo lo hi i held state →
-    IsRightId lo hi state.bound n (drop (i + 1) held)
-next_right lo hi i n held state l e h =
-    right_from lo hi state.bound n (drop (i + 1) held)
-    (sym (ap (fault_of_held lo hi state.bound) (drop_more held i 0 l ∙ ap (λ (x : ℕ). x ∷ drop (i + 1) held) (sym e))) ∙ h.left)
+-- The next id, if the ids before it are allocated.
+module _ (lo hi i n : ℕ) (held : List ℕ) (state : IdState) (l : i < length held) (e : n ≡ get_or held i 0)
+    (h : HoldsUpTo lo hi i held state) where
+  next_right : IsRightId lo hi state.bound n (drop (i + 1) held)
+  next_right = right_from lo hi state.bound n (drop (i + 1) held) (rw e (rw (drop_more held i 0 l) at h.left))
 
-pub one_more_held : (lo hi i n : ℕ) (held : List ℕ) (state new : IdState) → i < length held → n ≡ get_or held i 0 →
-    HoldsUpTo lo hi i held state → new ≡ holding_id n state → HoldsUpTo lo hi (i + 1) held new
-one_more_held lo hi i n held state new l e h is =
-    let r = next_right lo hi i n held state l e h in
-    let bound : n + 1 ≡ max state.bound (n + 1) = omega (arith, r.order) in
-    subst (λ (s : IdState). HoldsUpTo lo hi (i + 1) held s) (sym is)
-    (record {
-      range = h.range;
-      so_far = ap (holding_id n) h.so_far
-          ∙ sym (holding_more (take i held) n (new_ids lo hi))
-          ∙ ap (λ (xs : List ℕ). holding_ids xs (new_ids lo hi)) (ap (λ (x : ℕ). take i held ++ x ∷ []) e ∙ sym (take_more held i 0 l));
-      valid = holding_in_range state n h.valid (omega (arith, r.range.0, h.range.0), omega (arith, r.range.1, h.range.1));
-      left = subst (λ (b : ℕ). fault_of_held lo hi b (drop (i + 1) held) ≡ None) bound r.others;
-    })
+  pub one_more_held : (new : IdState) → new ≡ holding_id n state → HoldsUpTo lo hi (i + 1) held new
+  one_more_held new is =
+      let bound : max state.bound (n + 1) ≡ n + 1 = omega (arith, next_right.order) in
+      rw is (record {
+        range = h.range;
+        so_far = ap (holding_id n) h.so_far
+            ∙ sym (holding_more (take i held) n (new_ids lo hi))
+            ∙ rw (take_more held i 0 l, e) refl;
+        valid = holding_in_range state n h.valid (omega (arith, next_right.range, h.range));
+        left = rw bound next_right.others;
+      })
 
 -- ---- The skipped ids
 -- The ids of a list without a wrong id are not below `next`.
@@ -210,11 +167,11 @@ allocated_below (i ∷ is) s x (suc k) l e = allocated_below is (holding_id i s)
 pub skips_bound : (lo hi i n : ℕ) (held : List ℕ) (state : IdState) → i < length held → n ≡ get_or held i 0 → HoldsUpTo lo hi i held state →
     state.bound < n → SkipsId lo held
 skips_bound lo hi i n held state l e h above =
-    let low : lo ≤ state.bound = omega (arith, h.range.0, h.valid.bound.0) in
+    let r = next_right lo hi i n held state l e h in
     record {
       skipped = state.bound;
       above = n;
-      between = (low, above);
+      between = (omega (arith, h.range.0, h.valid.bound.0), above);
       listed = subst (Contains held) (sym e) (Contains-get_or held i 0 l);
       not_listed = λ c.
           ⊎_elim
@@ -223,23 +180,19 @@ skips_bound lo hi i n held state l e h above =
           let same = ap (λ (v : IdState). v.bound) h.so_far in
           omega (arith, below, same))
           (λ (b : Contains (drop i held) state.bound).
-          let r = next_right lo hi i n held state l e h in
-          let first : drop i held ≡ n ∷ drop (i + 1) held = drop_more held i 0 l ∙ ap (λ (x : ℕ). x ∷ drop (i + 1) held) (sym e) in
+          let first : drop i held ≡ n ∷ drop (i + 1) held = rw e (drop_more held i 0 l) in
           let d = subst (λ (xs : List ℕ). Contains xs state.bound) first b in
           let right = right_id lo hi n n (drop (i + 1) held) r.range.0 r.range.1 (omega arith) ∙ r.others in
           let low = listed_from lo hi n (n ∷ drop (i + 1) held) state.bound d.0 right d.1 d.2 in
           omega (arith, low, above))
-          (Contains-append_cases (take i held) (drop i held) state.bound
-          (subst (λ (xs : List ℕ). Contains xs state.bound) (sym (take-append-drop i held)) c));
+          (Contains-append_cases (take i held) (drop i held) state.bound (rw take-append-drop c));
     }
 
 pub new_held_state : (old new : IdState) (n : ℕ) (r : Result ℕ Error) (k : ℕ) → r ≡ Ok k → HoldsId old n r new → new ≡ holding_id n old
 unfolding HoldsId
-new_held_state old new n r k is (inl a) = a.1
-new_held_state old new n r k is (inr a) = absurd (cc (is, a.1))
+new_held_state old new n r k is h = grind arith
 
 pub new_held_error : (old new : IdState) (n : ℕ) (r : Result ℕ Error) (e : Error) → r ≡ Err e → HoldsId old n r new →
     (old.bound < n) × (e ≡ OutOfMemory)
 unfolding HoldsId
-new_held_error old new n r e is (inl a) = absurd (cc (is, a.0))
-new_held_error old new n r e is (inr a) = (a.0, cc (is, a.1))
+new_held_error old new n r e is h = grind arith

@@ -1,12 +1,10 @@
 -- The check of the freed ids of a saved id allocator, of which only the first and the last are kept. Only private functions
 -- cite these definitions.
-use Rattle.std.specs.Prelude.{◌≡◌, ℕ, List, [], ◌∷◌, ◌++◌, Option, None, Some, Result, Ok, Err}
+use Rattle.std.specs.Prelude.{◌≡◌, ℕ, ◌<◌, ◌≤◌, List, [], ◌∷◌, ◌++◌, Option, None, Some, IsTrue}
+use Rattle.std.specs.BTreeSet.{contains}
 use Rattle.std.specs.List.Sorted.{IsStrictlySortedBy}
 use Rattle.std.specs.Ordering.{nat_cmp}
-use Rattle.vm_ranges.specs.declared.saved.SavedError.{SavedError}
-use Rattle.vm_ranges.specs.declared.saved.SavedError.TheVariants.{Violated, OutOfMemory}
 use Rattle.vm_ids.specs.declared.saved.read_ids.Ends.{Ends}
-use Rattle.vm_ids.specs.FreedLists.{AreFreedOf, violated_by}
 
 -- The last of the ids after `first`, or `first` if there are none.
 abbrev pub last_of : ℕ → List ℕ → ℕ
@@ -27,8 +25,6 @@ abbrev pub AddsAtEnd : List ℕ → ℕ → Option Ends → Type 0
 AddsAtEnd ids id None = ¬ IsStrictlySortedBy nat_cmp (ids ++ id ∷ [])
 AddsAtEnd ids id (Some ends) = AreEndsOf (Some ends) (ids ++ id ∷ [])
 
--- The result of checking the parts of an id allocator: the first condition that they violate.
-abbrev pub ChecksParts : ℕ → ℕ → Option ℕ → List ℕ → Result (Unit {0}) SavedError → Type 0
-ChecksParts lo hi next freed (Ok _) = AreFreedOf lo hi next freed
-ChecksParts lo hi next freed (Err (Violated c)) = (c ≡ violated_by lo hi next) × ¬ AreFreedOf lo hi next freed
-ChecksParts lo hi next freed (Err OutOfMemory) = ⊥
+-- The ids are at least `lowest` and below `bound`.
+abbrev pub AreWithin : ℕ → ℕ → List ℕ → Type 0
+AreWithin lowest bound ids = (i : ℕ) → IsTrue (contains nat_cmp (record { keys = ids }) i) → (lowest ≤ i) × (i < bound)

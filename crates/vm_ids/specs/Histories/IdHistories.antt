@@ -62,7 +62,6 @@ pub record AreIdsMadeOfFreed (state : IdState) : Type 0 where
   pub hi : ℕ
   pub next : Option ℕ
   pub freed : List ℕ
-  pub word : hi ≤ MAX_ID
   pub made : MakesOfIds lo hi next freed (Ok state)
 
 -- The state of an id allocator that was created of its held ids.

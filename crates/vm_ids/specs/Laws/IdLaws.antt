@@ -1,11 +1,11 @@
 -- Laws of ids that follow only from the definitions.
-use Rattle.std.specs.Prelude.{◌≡◌, ◌≢◌, ℕ, ◌≤◌, ◌⊎◌, ◌↔◌, List, length, Result, Ok, Err}
+use Rattle.std.specs.Prelude.{◌≡◌, ◌≢◌, ℕ, ◌≤◌, ◌⊎◌, ◌↔◌, List, length, Result, Ok}
 use Rattle.std.specs.List.{All, AllPairs, Contains}
 use Rattle.std.specs.List.Sorted.{IsStrictlySortedBy}
 use Rattle.std.specs.Ordering.{nat_cmp}
 use Rattle.vm_ids.specs.Ids.{MAX_ID, IdState, WasEverAllocated, IsHeld, held_count, held_ids, IsIdState, holding_id, MakesIds, AllocatesId, PeeksId, FreesId}
+use Rattle.vm_ids.specs.Histories.IdHistories.{IdCall, IsIdCallFrom}
 use Rattle.vm_ranges.specs.declared.error.Error.{Error}
-use Rattle.vm_ranges.specs.declared.error.Error.TheVariants.{OutOfMemory}
 
 -- `new` has one result for each range.
 abbrev pub MakingIsDetermined : Type 0
@@ -25,20 +25,10 @@ pub record PeekingPredicts : Type 0 where
   pub held : (old new : IdState) (id : ℕ) (answer : Result ℕ Error) →
       PeeksId old (Ok id) → AllocatesId old answer new → (answer ≡ Ok id) × (new ≡ holding_id id old)
 
--- `free_id` has one result and one next state in each state, unless memory runs out.
-abbrev pub FreeingIsDetermined : Type 0
-FreeingIsDetermined =
-    (old new later : IdState) (id : ℕ) (answer other : Result ℕ Error) →
-    answer ≢ Err OutOfMemory → other ≢ Err OutOfMemory →
-    FreesId old id answer new → FreesId old id other later → (answer ≡ other) × (new ≡ later)
-
 -- A new allocator has a valid state, and each call preserves valid states.
 pub record IdStateIsPreserved : Type 0 where
   pub made : (lo hi : ℕ) (state : IdState) → hi ≤ MAX_ID → MakesIds lo hi (Ok state) → IsIdState state
-  pub allocated : (old new : IdState) (answer : Result ℕ Error) →
-      IsIdState old → AllocatesId old answer new → IsIdState new
-  pub freed : (old new : IdState) (id : ℕ) (answer : Result ℕ Error) →
-      IsIdState old → FreesId old id answer new → IsIdState new
+  pub called : (old new : IdState) (call : IdCall) → IsIdState old → IsIdCallFrom old call new → IsIdState new
 
 -- The id is held in the new state, and was allocated at some time. Nothing else changes.
 pub record AddsId (old new : IdState) (id : ℕ) : Type 0 where

@@ -1,6 +1,6 @@
 -- Laws of the calls that allocate a given id, an id of a window, or several ids, and of allocators that are created with
 -- held ids. They follow only from the definitions.
-use Rattle.std.specs.Prelude.{◌≡◌, ◌≢◌, ℕ, ◌<◌, ◌≤◌, nat_lt, List, [], ◌∷◌, ◌++◌, length, Result, Ok, Err}
+use Rattle.std.specs.Prelude.{◌≡◌, ◌≢◌, ℕ, ◌<◌, ◌≤◌, nat_lt, List, [], ◌∷◌, ◌++◌, length, Ok, Err}
 use Rattle.std.specs.List.{filter}
 use Rattle.vm_ids.specs.Ids.{MAX_ID, IdState, IsIdState, MakesIds, AllocatesId, FreesId}
 use Rattle.vm_ids.specs.IdRequests.{free_ids, AllocatesExactId, AllocatesIdIn, AllocatesIds, MakesWithHeld}
@@ -58,26 +58,3 @@ abbrev pub HeldIdsAreAsExact : Type 0
 HeldIdsAreAsExact =
     (lo hi : ℕ) (held : List ℕ) (first made : IdState) → hi ≤ MAX_ID → MakesIds lo hi (Ok first) →
     MakesWithHeld lo hi held (Ok made) → AllocatesExactlyInTurn first held made
-
--- Each of these calls has one result and one next state in each state, unless memory runs out.
-pub record IdRequestsAreDetermined : Type 0 where
-  pub exact : (old new later : IdState) (id : ℕ) (answer other : Result ℕ Error) →
-      answer ≢ Err OutOfMemory → other ≢ Err OutOfMemory →
-      AllocatesExactId old id answer new → AllocatesExactId old id other later → (answer ≡ other) × (new ≡ later)
-  pub within : (old new later : IdState) (first last : ℕ) (answer other : Result ℕ Error) →
-      answer ≢ Err OutOfMemory → other ≢ Err OutOfMemory →
-      AllocatesIdIn old first last answer new → AllocatesIdIn old first last other later → (answer ≡ other) × (new ≡ later)
-  pub several : (old new later : IdState) (count : ℕ) (answer other : Result (List ℕ) Error) →
-      answer ≢ Err OutOfMemory → other ≢ Err OutOfMemory →
-      AllocatesIds old count answer new → AllocatesIds old count other later → (answer ≡ other) × (new ≡ later)
-
--- Each of these calls preserves valid states, and `with_held` makes one.
-pub record IdRequestsPreserveStates : Type 0 where
-  pub exact : (old new : IdState) (id : ℕ) (answer : Result ℕ Error) →
-      IsIdState old → AllocatesExactId old id answer new → IsIdState new
-  pub within : (old new : IdState) (first last : ℕ) (answer : Result ℕ Error) →
-      IsIdState old → AllocatesIdIn old first last answer new → IsIdState new
-  pub several : (old new : IdState) (count : ℕ) (answer : Result (List ℕ) Error) →
-      IsIdState old → AllocatesIds old count answer new → IsIdState new
-  pub made : (lo hi : ℕ) (held : List ℕ) (state : IdState) →
-      hi ≤ MAX_ID → MakesWithHeld lo hi held (Ok state) → IsIdState state

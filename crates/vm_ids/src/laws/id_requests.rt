@@ -4,8 +4,6 @@ ghost use Rattle.vm_ids.specs.Laws.IdRequestLaws.{
   ExactIsAsSingle,
   WindowsOfIds,
   HeldIdsAreAsExact,
-  IdRequestsAreDetermined,
-  IdRequestsPreserveStates,
 };
 
 /// Proves that these calls allocate the ids that calls of `allocate_id` or `allocate_exact` would
@@ -16,12 +14,4 @@ fn requests_are_as_single_calls()
     ensures exact { ExactIsAsSingle }
     ensures windows { WindowsOfIds }
     ensures held { HeldIdsAreAsExact }
-{}
-
-/// Proves that these calls have one result and one next state in each state, unless memory runs out,
-/// and preserve the valid states.
-#[tactic(auto, using(crate::proofs::Ids::IdsInTurn::requests))]
-fn requests_are_determined()
-    ensures determined { IdRequestsAreDetermined }
-    ensures preserved { IdRequestsPreserveStates }
 {}

@@ -1,10 +1,11 @@
 //! Laws of ids that follow from the definitions of the calls.
+ghost use Rattle.vm_ranges.specs.Histories.{CallsAreDetermined};
+ghost use Rattle.vm_ids.specs.Histories.IdHistories.{IsIdCallFrom};
 ghost use Rattle.vm_ids.specs.Laws.IdPartLaws.{WrittenIdsAreRead, PartsDecideIds};
 ghost use Rattle.vm_ids.specs.Laws.IdLaws.{
   MakingIsDetermined,
   AllocatingIsDetermined,
   PeekingPredicts,
-  FreeingIsDetermined,
   IdStateIsPreserved,
   AllocatingAdds,
   FreeingRemoves,
@@ -13,17 +14,17 @@ ghost use Rattle.vm_ids.specs.Laws.IdLaws.{
 };
 
 /// Proves that a call has one result and one next state in each state, unless memory runs out.
-#[tactic(auto, using(crate::proofs::Ids::IdResults::determined))]
+#[tactic(auto, using(crate::proofs::Ids::SameIdCalls::determined))]
 fn calls_are_determined()
     ensures makes { MakingIsDetermined }
     ensures allocates { AllocatingIsDetermined }
     ensures peeks { PeekingPredicts }
-    ensures frees { FreeingIsDetermined }
+    ensures calls { CallsAreDetermined IsIdCallFrom }
 {}
 
 /// Proves that the calls preserve the valid states: the ids ever allocated are the first ids of the
 /// range, and only such ids are allocated.
-#[tactic(auto, using(crate::proofs::Ids::IdResults::kept))]
+#[tactic(auto, using(crate::proofs::Ids::AlongIdHistories::kept))]
 fn id_states_are_preserved()
     ensures { IdStateIsPreserved }
 {}

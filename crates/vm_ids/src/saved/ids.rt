@@ -1,14 +1,14 @@
 //! The saved value of an id allocator.
-ghost use Rattle.std.specs.Prelude.{◌≡◌, IfOk, MatchResult, IsSome, Some, option_map, option_and_then};
+ghost use Rattle.std.specs.Prelude.{◌≡◌, List, ℕ, IfOk, IfSome, IfNone, MatchResult, IsSome, Some, option_map, option_and_then};
 ghost use Rattle.std.specs.List.Sorted.{IsStrictlySortedBy};
 ghost use Rattle.std.specs.Ordering.{nat_cmp};
 ghost use Rattle.serde_json.specs.View.{view, items_view};
 ghost use Rattle.serde_json.specs.Find.{get};
 ghost use Rattle.vm_ranges.specs.declared.saved.SavedError.TheVariants.{OutOfMemory};
-ghost use Rattle.vm_ids.specs.Ids.{IsIdState};
+ghost use Rattle.vm_ids.specs.Ids.{IdState, IsIdState};
 ghost use Rattle.vm_ids.specs.Values.IdValues.{EncodesNext, EncodesList, EncodesIds};
 ghost use Rattle.vm_ids.specs.Checks.FreedChecks.{ends_of};
-ghost use Rattle.vm_ids.specs.Checks.IdChecks.{ids_in, decoded_next, decoded_ids, IdParts};
+ghost use Rattle.vm_ids.specs.Checks.IdChecks.{ids_from, decoded_next, AreDecoded, IdParts};
 ghost use Rattle.vm_ranges.specs.Saving.{Saves, Reads};
 
 use super::read_ids::{Ends, ReadIds, check_parts, ends_with};
@@ -102,8 +102,9 @@ struct CheckedIds<'a> {
 
 /// Decodes and checks the fields of a value. Returns `None` if it does not encode an id allocator.
 fn check_ids(value: &Value) -> Option<CheckedIds<'_>>
-    ensures { option_map (λ c. (c.base, c.next, c.end, items_view c.freed.now.items)) result
-        ≡ decoded_ids (view value.now) }
+    ensures found { IfSome result (λ c. (ids : List ℕ) × AreDecoded (view value.now)
+        (record { range_base = c.base; next_id = c.next; range_end = c.end; freed_ids = ids }) (items_view c.freed.now.items)) }
+    ensures none { IfNone result (¬ ((state : IdState) × EncodesIds (view value.now) state)) }
 {
     if !has_fields(value, 4) {
         return None;
@@ -143,7 +144,7 @@ fn next_in(value: &Value, name: &str) -> Option<Option<u32>>
 /// Returns the first and the last of the items. Returns `None` if they are not 32-bit numbers in
 /// strictly ascending order.
 fn ends_in(list: &[Value]) -> Option<Option<Ends>>
-    ensures { result ≡ option_map ends_of (ids_in (items_view list.now)) }
+    ensures { result ≡ option_map ends_of (ids_from 0 (items_view list.now)) }
 {
     let mut ends = None;
     for item in list {
@@ -155,8 +156,8 @@ fn ends_in(list: &[Value]) -> Option<Option<Ends>>
 
 /// Collects the items, which are 32-bit numbers in strictly ascending order.
 fn collect_ids(alloc: Global, list: &[Value]) -> std::result::Result<ReadIds, SavedError>
-    requires { IsSome (ids_in (items_view list.now)) }
-    ensures { MatchResult result (λ ids. ids_in (items_view list.now) ≡ Some ids)
+    requires { IsSome (ids_from 0 (items_view list.now)) }
+    ensures { MatchResult result (λ ids. ids_from 0 (items_view list.now) ≡ Some ids)
         (λ e. e ≡ OutOfMemory) }
 {
     let mut ids = ReadIds::new(alloc);

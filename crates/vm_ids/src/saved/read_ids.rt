@@ -2,11 +2,10 @@
 //!
 //! A reader adds the ids one by one to the set that becomes that of the allocator. It has no other
 //! list of them. The first and the last id show whether all of them are in the range.
-ghost use Rattle.std.specs.Prelude.{◌≡◌, ℕ, ◌≤◌, ◌<◌, ◌↔◌, List, [], IfOk, IsTrue};
-ghost use Rattle.std.specs.List.{Contains};
+ghost use Rattle.std.specs.Prelude.{◌≡◌, ℕ, ◌↔◌, List, [], Err, IfOk, MatchResult, IsTrue};
 ghost use Rattle.vm_ids.specs.Ids.{IsIdState, IsNext};
-ghost use Rattle.vm_ids.specs.FreedLists.{PushesId, MakesOfIds, is_next};
-ghost use Rattle.vm_ids.specs.Checks.FreedChecks.{AreEndsOf, AddsAtEnd, ChecksParts};
+ghost use Rattle.vm_ids.specs.FreedLists.{AreFreedOf, PushesId, MakesOfIds};
+ghost use Rattle.vm_ids.specs.Checks.FreedChecks.{AreEndsOf, AddsAtEnd, AreWithin};
 
 use crate::id_allocator::{IdAllocator, bound_of};
 use std::alloc::Global;
@@ -124,14 +123,14 @@ pub(super) fn ends_with(ends: Option<Ends>, id: u32) -> Option<Ends>
 
 /// Checks the range, the next id and the freed ids of an id allocator, in this order. Returns the first
 /// condition that they violate as an error. The first and the last of the freed ids decide.
-#[tactic(auto, using(crate::proofs::Ids::FreedParts::parts))]
 pub(super) fn check_parts(
     base: u32,
     next: Option<u32>,
     end: u32,
     ends: Option<Ends>,
 ) -> std::result::Result<(), SavedError>
-    ensures { (ids : List ℕ) → AreEndsOf ends ids → ChecksParts base end next ids result }
+    ensures { (ids : List ℕ) → AreEndsOf ends ids → MatchResult result
+        (λ parts. AreFreedOf base end next ids) (λ error. MakesOfIds base end next ids (Err error)) }
 {
     if base > end {
         return Err(SavedError::Violated(Condition::IdRange));
@@ -147,8 +146,7 @@ pub(super) fn check_parts(
 
 /// Returns `true` if `next` can be the next id of the range from `base` to `end`.
 fn is_next(next: Option<u32>, base: u32, end: u32) -> bool
-    ensures value { result ≡ is_next next base end }
-    ensures valid { IsTrue result ↔ IsNext base end next }
+    ensures { IsTrue result ↔ IsNext base end next }
 {
     match next {
         None => end == u32::MAX,
@@ -157,10 +155,8 @@ fn is_next(next: Option<u32>, base: u32, end: u32) -> bool
 }
 
 /// Returns `true` if all ids between these ends are at least `lowest` and below `bound`.
-#[tactic(auto, using(crate::proofs::Ids::FreedParts::bounds))]
 fn are_within(ends: Option<Ends>, lowest: u64, bound: u64) -> bool
-    ensures { (ids : List ℕ) → AreEndsOf ends ids
-        → IsTrue result ↔ ((i : ℕ) → Contains ids i → (lowest ≤ i) × (i < bound)) }
+    ensures { (ids : List ℕ) → AreEndsOf ends ids → IsTrue result ↔ AreWithin lowest bound ids }
 {
     match ends {
         None => true,

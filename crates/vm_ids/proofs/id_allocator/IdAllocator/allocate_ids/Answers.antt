@@ -1,8 +1,8 @@
-use Rattle.std.proofs.Common.{◌≡◌, ◌≤◌, ◌<◌, ◌++◌, [], ◌∷◌, List, ℕ, length, sym, ap, ◌∙◌, subst, arith, rules, Err}
+use Rattle.std.proofs.Common.{◌≡◌, ◌≤◌, ◌<◌, ◌++◌, [], ◌∷◌, List, ℕ, length, sym, ap, ◌∙◌, arith, rules, Err}
 use Rattle.std.proofs.lemmas.List.{length-append}
 use Rattle.std.specs.Vec.{vec_len, vec_capacity}
 use Rattle.vm_ranges.specs.declared.error.Error.TheVariants.{OutOfMemory}
-use Rattle.vm_ids.specs.Ids.{IdState, holding_id}
+use Rattle.vm_ids.specs.Ids.{holding_id}
 use Rattle.vm_ids.specs.IdRequests.{free_ids, holding_ids}
 use Rattle.vm_ids.proofs.Ids.ExactIds.{not_ok}
 use Rattle.vm_ids.proofs.Ids.FreeIds.{more_free, taken_more, taken_all, holding_more, ids_no_memory, ids_taken}
@@ -22,7 +22,6 @@ loop-init c =
     record {
       parts = ap (λ (xs : List ℕ). xs ++ free_ids c.args.self.now) (sym none);
       state = ap (λ (xs : List ℕ). holding_ids xs c.args.self.now) (sym none);
-      range = c.free_count.ensures.state.range;
       taken = ap length none;
       capacity = c.in_ok-ids.ensures.capacity;
     }
@@ -32,7 +31,7 @@ unreachable-requires c =
     let v = c.loop.invariant in
     let few : length c.loop.ids.items < length (free_ids c.args.self.now) = omega
     (arith, c.loop-test.true, v.taken, c.if-free_count-count.false, c.free_count.ensures.value) in
-    not_ok _ _ c.in_default.is (more_free c.args.self.now c.loop.self c.loop.ids.items c.allocate_id.result v.range v.parts few
+    not_ok _ _ c.in_default.is (more_free c.args.self.now c.loop.self c.loop.ids.items c.allocate_id.result v.parts few
     c.allocate_id.ensures.succeeds)
 
 pub unreachable-requires-in_default-push : goal.unreachable-requires-in_default-push
@@ -47,12 +46,11 @@ loop-preserved c =
     let held : c.allocate_id.new.self ≡ holding_id c.in-Ok.id c.loop.self = c.in-Ok.ensures.held in
     let items : c.push.new.self.items ≡ c.loop.ids.items ++ c.in-Ok.id ∷ [] = c.in-Ok-push.ensures.items in
     record {
-      parts = taken_more c.args.self.now c.loop.self c.allocate_id.new.self c.loop.ids.items c.in-Ok.id v.range v.parts
+      parts = taken_more c.args.self.now c.loop.self c.allocate_id.new.self c.loop.ids.items c.in-Ok.id v.parts
           c.in-Ok.ensures.lowest held
           ∙ ap (λ (xs : List ℕ). xs ++ free_ids c.allocate_id.new.self) (sym items);
       state = held ∙ ap (holding_id c.in-Ok.id) v.state ∙ sym (holding_more c.loop.ids.items c.in-Ok.id c.args.self.now)
           ∙ ap (λ (xs : List ℕ). holding_ids xs c.args.self.now) (sym items);
-      range = subst (λ (s : IdState). s.lo ≤ s.hi) (sym held) v.range;
       taken = let l = ap length items ∙ length-append c.loop.ids.items (c.in-Ok.id ∷ []) in omega (arith, l, v.taken);
       capacity = omega (arith, v.capacity, c.in-Ok-push.ensures.capacity);
     }
@@ -69,6 +67,4 @@ returns-clause-held c = c.loop.invariant.state
 
 pub returns-clause-answer : goal.returns-clause-answer
 returns-clause-answer c =
-    let enough : c.args.count ≤ length (free_ids c.args.self.now) = omega
-    (arith, c.if-free_count-count.false, c.free_count.ensures.value) in
-    ids_taken c.args.self.now c.loop.self c.args.count c.loop.ids.items enough c.loop.invariant.parts (count_taken c) c.loop.invariant.state
+    ids_taken c.args.self.now c.loop.self c.args.count c.loop.ids.items c.loop.invariant.parts (count_taken c) c.loop.invariant.state

@@ -8,7 +8,6 @@ abbrev pub invariant-loop : goal.invariant-loop
 invariant-loop l = record {
   parts : free_ids l.fn.self ≡ l.ids.items ++ free_ids l.self;
   state : l.self ≡ holding_ids l.ids.items l.fn.self;
-  range : l.self.lo ≤ l.self.hi;
   taken : length l.ids.items ≡ l.counter;
   capacity : l.count ≤ vec_capacity l.ids;
 }

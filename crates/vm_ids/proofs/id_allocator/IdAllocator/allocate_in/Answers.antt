@@ -5,5 +5,5 @@ use Rattle.vm_ids.proofs.id_allocator.IdAllocator.allocate_in.Goals as goal
 
 pub returns-in-None-clause-succeeds : goal.returns-in-None-clause-succeeds
 returns-in-None-clause-succeeds c id free low =
-    in_succeeds _ _ c.args.first c.args.last id (Err ResourceNotAvailable)
-    (in_none _ c.args.first c.args.last c.if-last-first.false c.in-None.ensures.none) free low
+    in_succeeds _ _ c.args.first c.args.last (Err ResourceNotAvailable)
+    (in_none _ c.args.first c.args.last c.if-last-first.false c.in-None.ensures.none) id free low

@@ -11,4 +11,4 @@ invariant_of-result c =
     let below = ap (freed_to c.next_back.new.self) c.copied-last_freed.ensures ∙ last_taken _ _ c.next_back.result c.next_back.ensures.steps
     ∙ c.iter-freed_below.ensures.rest in
     rw (c.from.ensures, c.bound_of.ensures, c.held_count.ensures.value)
-    (walk_starts _ _ _ _ _ _ _ c.self.view_is c.self.invariant freed.ordered freed.found c.held_count.ensures.state above below)
+    (walk_starts _ _ _ _ _ _ _ c.self.view_is c.self.invariant freed.ordered c.held_count.ensures.state above below)

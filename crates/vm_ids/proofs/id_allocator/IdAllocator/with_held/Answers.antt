@@ -2,7 +2,7 @@ use Rattle.std.proofs.Common.{◌≡◌, ◌≤◌, List, ℕ, take, Err, refl, 
 use Rattle.std.proofs.lemmas.List.{take_all}
 use Rattle.vm_ids.specs.Ids.{MAX_ID, new_ids}
 use Rattle.vm_ids.specs.IdRequests.{fault_of_held, holding_ids}
-use Rattle.vm_ids.proofs.Ids.IdResults.{id_states_are_preserved}
+use Rattle.vm_ids.proofs.Ids.IdResults.{made_ids}
 use Rattle.vm_ids.proofs.Ids.WithHeld.{
   checked_error,
   checked_right,
@@ -36,7 +36,7 @@ pub loop-id-init : goal.loop-id-init
 loop-id-init c =
     let made = made_state c.args.range_base c.args.range_end c.in_ok-ids.ids c.in_ok-ids.ensures.answer in
     let word : c.args.range_end ≤ MAX_ID = omega (arith, c.ranges.range_end) in
-    let valid = id_states_are_preserved.made c.args.range_base c.args.range_end c.in_ok-ids.ids word c.in_ok-ids.ensures.answer in
+    let valid = made_ids c.args.range_base c.args.range_end c.in_ok-ids.ids word c.in_ok-ids.ensures.answer in
     let right = checked_right (fault_of_held c.args.range_base c.args.range_end c.args.range_base c.args.held.now) c.check_held.result
     c.in_ok-check_held.was c.check_held.ensures in
     none_yet c.args.range_base c.args.range_end c.args.held.now c.in_ok-ids.ids made.0 valid right
@@ -64,8 +64,8 @@ pub loop-id-preserved : goal.loop-id-preserved
 loop-id-preserved c =
     let new = new_held_state c.loop-id.ids c.allocate_new.new.self _ c.allocate_new.result c.in_ok-allocate_new.field-0
     c.in_ok-allocate_new.was c.allocate_new.ensures in
-    one_more_held c.args.range_base c.args.range_end c.loop-id.id-index _ c.args.held.now c.loop-id.ids c.allocate_new.new.self
-    c.loop-id-test.true refl c.loop-id.invariant new
+    one_more_held c.args.range_base c.args.range_end c.loop-id.id-index _ c.args.held.now c.loop-id.ids c.loop-id-test.true refl
+    c.loop-id.invariant c.allocate_new.new.self new
 
 pub returns-clause-answer : goal.returns-clause-answer
 returns-clause-answer c =
