@@ -135,12 +135,18 @@ one_read d f g ds es x y =
     let freed : f.freed_ids ≡ g.freed_ids = same_Some _ _ (sym x.listed ∙ ap (ids_from 0) items ∙ y.listed) in
     λ i. record { range_base = base i; next_id = next i; range_end = end i; freed_ids = freed i }
 
--- The ids of which the ends were kept.
-pub ends_kept : (ds : Items) (ends : Option Ends) → option_map ends_of (ids_from 0 ds) ≡ Some ends →
-    (ids : List ℕ) × (ids_from 0 ds ≡ Some ids) × AreEndsOf ends ids
-ends_kept ds ends e =
-    let m = map_some ends_of (ids_from 0 ds) ends e in
-    (m.0, m.1, (sorted 0 (2 ^ 32) m.0 (ids-encoded 0 ds m.0 m.1).1, sym m.2))
+-- The decoded fields, with the ids of which the ends were kept.
+pub kept_fields : (d : Data) {base end : ℕ} {next : Option ℕ} {ds : Items} {ends : Option Ends} → is_count 4 (field_count d) ≡ true →
+    u32_in (codes "range_base") d ≡ Some base → u32_in (codes "range_end") d ≡ Some end →
+    option_and_then decoded_next (get (codes "next_id") d) ≡ Some next → option_and_then as_array (get (codes "freed_ids") d) ≡ Some ds →
+    option_map ends_of (ids_from 0 ds) ≡ Some ends →
+    (ids : List ℕ) × AreRead d (record { range_base = base; next_id = next; range_end = end; freed_ids = ids }) ds × AreEndsOf ends ids
+kept_fields d {ds = ds} {ends = ends} four base end next freed e =
+    let m = map_some ends_of (ids_from 0 ds) ends e in (
+      m.0,
+      record { four = four; base = base; end = end; next = next; freed_is = freed; listed = m.1 },
+      (sorted 0 (2 ^ 32) m.0 (ids-encoded 0 ds m.0 m.1).1, sym m.2),
+    )
 
 pub ends_refused : (d : Data) (ds : Items) → option_and_then as_array (get (codes "freed_ids") d) ≡ Some ds →
     option_map ends_of (ids_from 0 ds) ≡ None → ¬ ((state : IdState) × EncodesIds d state)
