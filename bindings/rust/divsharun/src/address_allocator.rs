@@ -37,11 +37,8 @@ use core::fmt;
 /// # Ok::<(), Error>(())
 /// ```
 #[derive(PartialEq, Eq, PartialOrd, Ord)]
-#[cfg_attr(
-    feature = "serde",
-    derive(serde::Serialize, serde::Deserialize),
-    serde(transparent)
-)]
+#[cfg_attr(feature = "serde", derive(serde::Serialize, serde::Deserialize))]
+#[cfg_attr(feature = "serde", serde(transparent))]
 pub struct AddressAllocator(pub(crate) proved::AddressAllocator);
 
 impl AddressAllocator {
@@ -65,8 +62,7 @@ impl AddressAllocator {
     /// # Ok::<(), Error>(())
     /// ```
     pub fn new(base: u64, size: u64) -> Result<Self> {
-        let made = proved::AddressAllocator::new(Global, base, size)?;
-        Ok(AddressAllocator(made))
+        Ok(Self(proved::AddressAllocator::new(Global, base, size)?))
     }
 
     /// Creates an allocator like [`new`](Self::new), but returns an error if memory runs out.
@@ -92,8 +88,7 @@ impl AddressAllocator {
     /// # Ok::<(), TryError>(())
     /// ```
     pub fn try_new(base: u64, size: u64) -> TryResult<Self> {
-        let made = proved::AddressAllocator::new(Global, base, size)?;
-        Ok(AddressAllocator(made))
+        Ok(Self(proved::AddressAllocator::new(Global, base, size)?))
     }
 
     /// Creates an allocator for the addresses of a range, such as the window of a bridge. All of them

@@ -20,11 +20,8 @@ use core::fmt;
 /// # Ok::<(), divsharun::Error>(())
 /// ```
 #[derive(Clone, Copy, Debug, PartialEq, Eq)]
-#[cfg_attr(
-    feature = "serde",
-    derive(serde::Serialize, serde::Deserialize),
-    serde(deny_unknown_fields)
-)]
+#[cfg_attr(feature = "serde", derive(serde::Serialize, serde::Deserialize))]
+#[cfg_attr(feature = "serde", serde(deny_unknown_fields))]
 pub struct DeviceSlot {
     /// The id of the device.
     pub id: u32,
@@ -104,11 +101,8 @@ impl DeviceSlot {
 /// # Ok::<(), Error>(())
 /// ```
 #[derive(PartialEq, Eq)]
-#[cfg_attr(
-    feature = "serde",
-    derive(serde::Serialize, serde::Deserialize),
-    serde(transparent)
-)]
+#[cfg_attr(feature = "serde", derive(serde::Serialize, serde::Deserialize))]
+#[cfg_attr(feature = "serde", serde(transparent))]
 pub struct DeviceManager(pub(crate) proved::DeviceManager);
 
 impl DeviceManager {

@@ -18,6 +18,7 @@ use items::{exact, expect_in_order, expect_items, inexact};
 use model::{refused, Model, Scale, WIDTH};
 use std::collections::{BTreeSet, HashSet};
 use std::fmt::{Debug, Display};
+use std::hash::{DefaultHasher, Hash, Hasher};
 use std::ops::Bound::{Excluded, Included, Unbounded};
 
 const BASE: u64 = 1000;
@@ -954,10 +955,10 @@ const REQUESTS: [WrittenRequest; 5] = [
     ),
 ];
 
-/// Checks that different requests are different as keys of a set.
+/// Checks that different requests are different as keys of a set, and have different hashes.
 #[test]
 fn requests_are_written_in_one_line_and_hashed() {
-    let mut seen = HashSet::new();
+    let (mut seen, mut hashes) = (HashSet::new(), HashSet::new());
     for ((size, align, policy), window, text) in REQUESTS {
         let mut request = Constraint::new(size, align, policy).unwrap();
         assert_eq!(request.window(), None);
@@ -971,6 +972,9 @@ fn requests_are_written_in_one_line_and_hashed() {
         let numbers = (request.size(), request.align(), request.policy());
         assert_eq!(numbers, (size, align, policy));
         assert!(seen.insert(request) && !seen.insert(request));
+        let mut hasher = DefaultHasher::new();
+        request.hash(&mut hasher);
+        assert!(hashes.insert(hasher.finish()), "{text}");
     }
 }
 

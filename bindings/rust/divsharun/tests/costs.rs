@@ -60,8 +60,9 @@ const OF_SPACES: [Calls<AddressAllocator>; 18] = [
         space.move_constraint(&moved.unwrap(), exact(at)) == Ok(one(at))
     },
     |space, at| {
-        let moved = space.try_move_range(&one(at), at + 1);
-        space.try_move_constraint(&moved.unwrap(), exact(at)) == Ok(one(at))
+        let in_window = Constraint::new(1, 1, LastMatch).unwrap().within(from(at));
+        let moved = space.try_move_constraint(&one(at), in_window.unwrap());
+        moved == Ok(one(at + 7)) && space.try_move_range(&one(at + 7), at) == Ok(one(at))
     },
     |space, at| {
         let near = |policy| {
@@ -239,7 +240,9 @@ const OF_DEVICES: [Calls<DeviceManager>; 7] = [
     |devices, at| {
         let rest = devices.space().end() - 2 * at;
         let wide = Constraint::new(rest, 1, ExactMatch(2 * at)).unwrap();
-        devices.conflict(wide).is_some() && devices.reserve_constraint(wide).is_err()
+        let window = from(2 * at + 1);
+        devices.conflict(wide.within(window).unwrap()) == Some(Conflict::OutsideWindow(window))
+            && devices.reserve_constraint(wide).is_err()
     },
 ];
 

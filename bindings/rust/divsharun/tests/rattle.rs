@@ -140,6 +140,11 @@ fn maps_and_sets() {
                 expect_same_ends(set.iter(), values.iter(), draw);
                 let (mut copy, _) = until_allowed(|| set.clone(), |_| {});
                 assert!(copy == set && map.clone().is_ok_and(|copy| copy == map));
+                // The chunks of this one have other lengths. The values are inserted in another order.
+                let mut ascending = BTreeSet::new(Global);
+                let mut insert = |value: &u64| ascending.insert(*value).is_ok_and(|is_new| is_new);
+                assert!(values.iter().all(&mut insert));
+                assert!(ascending == set);
                 // The clone has the capacity that `remove` needs.
                 for value in set.iter() {
                     assert_eq!(refusing(1, || copy.remove(value)), (true, 0));
