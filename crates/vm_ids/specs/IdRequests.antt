@@ -113,8 +113,8 @@ pub record SkipsId (lo : ℕ) (held : List ℕ) : Type 0 where
 -- - The error of the first id that is wrong.
 -- - Otherwise the ids are allocated in a new allocator, or the result is OutOfMemory. A list that skips no id needs no
 --   memory.
-unfoldable pub MakesWithHeld : ℕ → ℕ → List ℕ → Result IdState Error → Type 0
-MakesWithHeld lo hi held answer =
+unfoldable pub MakesWithHeldIds : ℕ → ℕ → List ℕ → Result IdState Error → Type 0
+MakesWithHeldIds lo hi held answer =
     IfElse (hi < lo) (answer ≡ Err (InvalidRange lo hi))
     (MatchOption (fault_of_held lo hi lo held)
     ((answer ≡ Ok (holding_ids held (new_ids lo hi))) ⊎ (SkipsId lo held × (answer ≡ Err OutOfMemory)))

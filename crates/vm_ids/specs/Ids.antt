@@ -158,14 +158,14 @@ abbrev pub bound_of : Option ℕ → ℕ → ℕ
 bound_of next hi = unwrap_or next (hi + 1)
 
 -- The ids from lo up to below the bound, without the freed ids.
-unfoldable pub held_of : ℕ → ℕ → BTreeSet ℕ → set.FinSet nat_cmp
-held_of lo bound freed =
+unfoldable pub unfreed_ids : ℕ → ℕ → BTreeSet ℕ → set.FinSet nat_cmp
+unfreed_ids lo bound freed =
     set.difference (set.from_list (range_with_len lo (bound - lo))) (set.from_list freed.keys)
 
 -- The state that the fields of an allocator represent: its range, its next id and its freed ids.
 unfoldable pub ids_of : ℕ → ℕ → Option ℕ → BTreeSet ℕ → IdState
 ids_of lo hi next freed =
-    record { lo = lo; hi = hi; bound = bound_of next hi; held = held_of lo (bound_of next hi) freed }
+    record { lo = lo; hi = hi; bound = bound_of next hi; held = unfreed_ids lo (bound_of next hi) freed }
 
 -- The next id if it is in the range, otherwise the error of `allocate_id`.
 abbrev pub NextId : Option ℕ → ℕ → Result ℕ Error → Type 0

@@ -34,13 +34,6 @@ in_field k d P = found (get k d) P where
 pub field_is : (k : List ℕ) (d v : Data) (P : Data → Type 0) → get k d ≡ Some v → P v → FieldIs k d P
 field_is k d v P e p = rw e p
 
--- Two facts of the same field are true for the same value.
-pub same_field : (k : List ℕ) (d : Data) (P Q : Data → Type 0) → FieldIs k d P → FieldIs k d Q → (v : Data) × P v × Q v
-same_field k d P Q = both (get k d) P Q where
-  both : (o : Option Data) (P Q : Data → Type 0) → MatchOption o ⊥ P → MatchOption o ⊥ Q → (v : Data) × P v × Q v
-  both None P Q h i = absurd h
-  both (Some v) P Q h i = (v, h, i)
-
 -- A fact of a field that follows from another fact of it.
 pub field_map : (k : List ℕ) (d : Data) (P Q : Data → Type 0) → ((v : Data) → P v → Q v) → FieldIs k d P → FieldIs k d Q
 field_map k d P Q f h = let at = in_field k d P h in field_is k d at.0 Q at.1 (f at.0 at.2)

@@ -38,11 +38,6 @@ inserted_here s k = set.contains-insert nat_cmp_total s k k ∙ or_left _ _ (tie
 pub inserted_other : (s : set.FinSet nat_cmp) (k q : ℕ) → IsTrue (set.contains s q) → IsTrue (set.contains (set.insert s k) q)
 inserted_other s k q h = set.contains-insert nat_cmp_total s k q ∙ or_right _ _ h
 
--- A member after an insertion is the inserted number or a former member.
-pub from_inserted : (s : set.FinSet nat_cmp) (k q : ℕ) → IsTrue (set.contains (set.insert s k) q) → (q ≡ k) ⊎ IsTrue (set.contains s q)
-from_inserted s k q h =
-    ⊎_elim (λ e. inl (tied_is q k e)) (λ m. inr m) (or_cases _ _ (sym (set.contains-insert nat_cmp_total s k q) ∙ h))
-
 -- A set contains its other members after a removal.
 pub removed_other : (s : set.FinSet nat_cmp) (k q : ℕ) → (q ≡ k → ⊥) → IsTrue (set.contains s q) → IsTrue (set.contains (set.remove s k) q)
 removed_other s k q ne h =
@@ -57,12 +52,3 @@ from_removed s k q h =
     )
 
 -- Sets after a change.
-
--- A change at k determines if k is a member.
-pub changed_here : (old new : BTreeSet ℕ) (k : ℕ) (b : Bool) → Updates nat_cmp old new k b → contains nat_cmp new k ≡ b
-changed_here old new k b u = u.0 k ∙ ap (λ (t : Bool). cond t b (contains nat_cmp old k)) (tied_here k)
-
--- A change at k does not change if other numbers are members.
-pub changed_other : (old new : BTreeSet ℕ) (k q : ℕ) (b : Bool) → Updates nat_cmp old new k b → (k ≡ q → ⊥) →
-    contains nat_cmp new q ≡ contains nat_cmp old q
-changed_other old new k q b u ne = u.0 q ∙ ap (λ (t : Bool). cond t b (contains nat_cmp old q)) (apart_not_tied k q ne)

@@ -10,10 +10,10 @@ use Rattle.vm_ranges.specs.declared.saved.SavedError.{SavedError}
 use Rattle.vm_ranges.specs.declared.saved.SavedError.TheVariants.{Violated, OutOfMemory}
 use Rattle.vm_ids.specs.declared.saved.read_ids.Ends.{Ends}
 use Rattle.vm_ids.specs.FreedLists.{PushesId}
-use Rattle.vm_ids.specs.Checks.FreedChecks.{last_of, AreEndsOf}
+use Rattle.vm_ids.specs.Checks.FreedChecks.{last_id, AreEndsOf}
 
 -- The last of ids in ascending order is not below the first.
-pub above_first : (first : ℕ) (ids : List ℕ) → IsStrictlySortedBy nat_cmp (first ∷ ids) → first ≤ last_of first ids
+pub above_first : (first : ℕ) (ids : List ℕ) → IsStrictlySortedBy nat_cmp (first ∷ ids) → first ≤ last_id first ids
 unfolding IsStrictlySortedBy
 above_first first [] s = omega arith
 above_first first (id ∷ ids) s = let l = less_is first id s.0.0 in let r = above_first id ids s.1 in omega (arith, l, r)
@@ -23,7 +23,7 @@ all_more : (first id : ℕ) (ids : List ℕ) → AllByRecursion (λ i. nat_cmp f
 all_more first id [] a h = (less first id h, tt)
 all_more first id (i ∷ ids) a h = (a.0, all_more first id ids a.1 h)
 
-pub sorted_more : (first id : ℕ) (ids : List ℕ) → IsStrictlySortedBy nat_cmp (first ∷ ids) → last_of first ids < id →
+pub sorted_more : (first id : ℕ) (ids : List ℕ) → IsStrictlySortedBy nat_cmp (first ∷ ids) → last_id first ids < id →
     IsStrictlySortedBy nat_cmp (first ∷ ids ++ id ∷ [])
 unfolding IsStrictlySortedBy
 sorted_more first id [] s h = ((less first id h, tt), (tt, tt))
@@ -32,16 +32,16 @@ sorted_more first id (i ∷ ids) s h =
     let r = above_first i ids s.1 in
     (all_more first id (i ∷ ids) s.0 (omega (arith, l, r)), sorted_more i id ids s.1 h)
 
-pub above_last : (first id : ℕ) (ids : List ℕ) → IsStrictlySortedBy nat_cmp (first ∷ ids ++ id ∷ []) → last_of first ids < id
+pub above_last : (first id : ℕ) (ids : List ℕ) → IsStrictlySortedBy nat_cmp (first ∷ ids ++ id ∷ []) → last_id first ids < id
 unfolding IsStrictlySortedBy
 above_last first id [] s = less_is first id s.0.0
 above_last first id (i ∷ ids) s = above_last i id ids s.1
 
-pub last_is : (first id : ℕ) (ids : List ℕ) → last_of first (ids ++ id ∷ []) ≡ id
+pub last_is : (first id : ℕ) (ids : List ℕ) → last_id first (ids ++ id ∷ []) ≡ id
 last_is first id [] = refl
 last_is first id (i ∷ ids) = last_is i id ids
 
-insert_last : (first id : ℕ) (ids : List ℕ) → IsStrictlySortedBy nat_cmp (first ∷ ids) → last_of first ids < id →
+insert_last : (first id : ℕ) (ids : List ℕ) → IsStrictlySortedBy nat_cmp (first ∷ ids) → last_id first ids < id →
     insert_key nat_cmp (first ∷ ids) id ≡ first ∷ ids ++ id ∷ []
 unfolding IsStrictlySortedBy
 insert_last first id [] s h =
@@ -64,11 +64,11 @@ first_end id [] a = ((tt, tt), refl)
 first_end id (i ∷ ids) a = absurd (cc (a.1))
 
 -- The last of the ids is the end.
-pub last_end : (ends : Ends) (first : ℕ) (ids : List ℕ) → AreEndsOf (Some ends) (first ∷ ids) → ends.last ≡ last_of first ids
-last_end ends first ids a = ap (λ (e : Ends). e.last) (same_Some ends (record { first = first; last = last_of first ids }) a.1)
+pub last_end : (ends : Ends) (first : ℕ) (ids : List ℕ) → AreEndsOf (Some ends) (first ∷ ids) → ends.last ≡ last_id first ids
+last_end ends first ids a = ap (λ (e : Ends). e.last) (same_Some ends (record { first = first; last = last_id first ids }) a.1)
 
 pub first_of_ends : (ends : Ends) (first : ℕ) (ids : List ℕ) → AreEndsOf (Some ends) (first ∷ ids) → ends.first ≡ first
-first_of_ends ends first ids a = ap (λ (e : Ends). e.first) (same_Some ends (record { first = first; last = last_of first ids }) a.1)
+first_of_ends ends first ids a = ap (λ (e : Ends). e.first) (same_Some ends (record { first = first; last = last_id first ids }) a.1)
 
 pub next_end : (id : ℕ) (ends : Ends) (ids : List ℕ) → AreEndsOf (Some ends) ids → ends.last < id →
     AreEndsOf (Some (record { first = ends.first; last = id })) (ids ++ id ∷ [])

@@ -35,7 +35,7 @@ use Rattle.std.specs.Ordering.{nat_cmp, eq_by_cmp}
 use Rattle.std.specs.Cmp.{nat_cmp_total}
 use Rattle.std.specs.FinSet as set
 use Rattle.vm_ranges.proofs.NumberSets.{inserted_here}
-use Rattle.vm_ids.specs.IdRequests.{free_ids, holding_ids, AllocatesExactId, IsLowestNotHeldIn, AllocatesIdIn, MakesWithHeld}
+use Rattle.vm_ids.specs.IdRequests.{free_ids, holding_ids, AllocatesExactId, IsLowestNotHeldIn, AllocatesIdIn, MakesWithHeldIds}
 use Rattle.vm_ids.proofs.Ids.IdCounts.{tells_apart}
 use Rattle.vm_ids.proofs.Ids.ExactIds.{holding_in_range, exact_state, exact_was_free, exact_unchanged}
 use Rattle.vm_ids.proofs.Ids.LowestIds.{in_lowest, in_state, in_unchanged}
@@ -127,7 +127,7 @@ history_state = history_keeps IsIdCallFrom IsIdState (λ call old new. call_stat
 
 first_state : (first : IdState) → AreIdsMade first ⊎ (AreIdsMadeOfFreed first ⊎ (AreIdsMadeOfHeld first ⊎ AreIdsRead first)) →
     IsIdState first
-unfolding MakesWithHeld MakesIds
+unfolding MakesWithHeldIds MakesIds
 first_state first (inl m) = made_ids m.lo m.hi first m.word m.made
 first_state first (inr (inl m)) =
     is_state first m.lo m.hi m.next (record { keys = m.freed }) (sym m.made.1) m.made.0.parts

@@ -11,7 +11,7 @@ use Rattle.std.specs.BTreeSet.{BTreeSet, contains, IsOrdered}
 use Rattle.std.specs.FinMap.{slice_cmp-IsAntisymmetric}
 use Rattle.std.specs.FinSet as set
 use Rattle.vm_ranges.proofs.RangeOrders.{both_equal}
-use Rattle.vm_ids.specs.Ids.{IdState, IsIdState, held_ids, bound_of, held_of, ids_of, IsNext, AreIds}
+use Rattle.vm_ids.specs.Ids.{IdState, IsIdState, held_ids, bound_of, unfreed_ids, ids_of, IsNext, AreIds}
 use Rattle.vm_ids.specs.Checks.IdQueries.{HaveSameBounds}
 use Rattle.vm_ids.specs.IdOrder.{id_state_cmp, id_state_cmp-total}
 use Rattle.vm_ids.proofs.Ids.IdFields.{is_state}
@@ -74,9 +74,9 @@ same_if_freed {lo} {hi} {lo'} {hi'} {next} {next'} {freed} {freed'} {s} {t} p q 
     let lows : lo ≡ lo' = ap (λ (v : IdState). v.lo) p.is ∙ h.lo ∙ sym (ap (λ (v : IdState). v.lo) q.is) in
     let bounds : bound_of next hi ≡ bound_of next' hi' = ap (λ (v : IdState). v.bound) p.is ∙ h.bound
     ∙ sym (ap (λ (v : IdState). v.bound) q.is) in
-    let one : (i : ℕ) → set.contains s.held i ≡ set.contains (held_of lo (bound_of next hi) freed) i =
+    let one : (i : ℕ) → set.contains s.held i ≡ set.contains (unfreed_ids lo (bound_of next hi) freed) i =
     λ i. ap (λ (v : IdState). set.contains v.held i) (sym p.is) in
-    let two : (i : ℕ) → set.contains t.held i ≡ set.contains (held_of lo' (bound_of next' hi') freed') i =
+    let two : (i : ℕ) → set.contains t.held i ≡ set.contains (unfreed_ids lo' (bound_of next' hi') freed') i =
     λ i. ap (λ (v : IdState). set.contains v.held i) (sym q.is) in (
       λ e.
           let listed : (i : ℕ) → contains nat_cmp freed i ≡ contains nat_cmp freed' i = λ i. ap (list_any (eq_by_cmp nat_cmp i)) e in

@@ -60,7 +60,7 @@ use Rattle.vm_ids.specs.IdRequests.{
   AllocatesIds,
   fault_of_held,
   SkipsId,
-  MakesWithHeld,
+  MakesWithHeldIds,
 }
 use Rattle.vm_ranges.specs.Histories.{EveryCallIsAnswered, EveryListHasHistory}
 use Rattle.vm_ranges.proofs.Histories.{every_list}
@@ -181,8 +181,8 @@ by_fault lo hi held None n = (Ok (holding_ids held (new_ids lo hi)), inl refl, �
 by_fault lo hi held (Some e) n = (Err e, refl, grind arith)
 
 total_makes_with_held : (lo hi : ℕ) (held : List ℕ) →
-    (answer : Result IdState Error) × MakesWithHeld lo hi held answer × (answer ≢ Err OutOfMemory)
-unfolding MakesWithHeld
+    (answer : Result IdState Error) × MakesWithHeldIds lo hi held answer × (answer ≢ Err OutOfMemory)
+unfolding MakesWithHeldIds
 total_makes_with_held lo hi held =
     ⊎_elim
     (λ (no_range : hi < lo). (Err (InvalidRange lo hi), inl (no_range, refl), λ h. absurd (cc h)))

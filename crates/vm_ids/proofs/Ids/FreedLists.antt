@@ -3,7 +3,7 @@ use Rattle.std.proofs.Common.{◌≡◌, ℕ, ◌-◌, Bool, not, sym, ap, ◌�
 use Rattle.std.specs.Ordering.{nat_cmp}
 use Rattle.std.specs.BTreeSet.{BTreeSet, IsOrdered}
 use Rattle.std.specs.FinSet as set
-use Rattle.vm_ids.specs.Ids.{IdState, freed_ids, bound_of, held_of, ids_of, AreIds}
+use Rattle.vm_ids.specs.Ids.{IdState, freed_ids, bound_of, unfreed_ids, ids_of, AreIds}
 use Rattle.vm_ids.proofs.Ids.IdSets.{held_test}
 use Rattle.vm_ids.proofs.Ids.RisingIds.{same_rising}
 use Rattle.vm_ids.proofs.Ids.IdRows.{passed_rise, row_passed}
@@ -14,7 +14,7 @@ pub keys_listed : (state : IdState) (lo hi : ℕ) (next : Option ℕ) (freed : B
 unfolding ids_of
 keys_listed state lo hi next freed e a o =
     let n = bound_of next hi - lo in
-    let out : ℕ → Bool = λ i. not (set.contains (held_of lo (bound_of next hi) freed) i) in
+    let out : ℕ → Bool = λ i. not (set.contains (unfreed_ids lo (bound_of next hi) freed) i) in
     same_rising freed.keys _ o (passed_rise out lo n)
     (λ q. sym (row_passed out lo n q ∙ grind (arith, held_test, a.freed_ids q)))
     ∙ ap (λ (s : IdState). freed_ids s) e

@@ -7,12 +7,12 @@ use Rattle.std.specs.Ordering.{eq_by_cmp}
 use Rattle.vm_ranges.proofs.Items.{less_is}
 use Rattle.vm_ranges.proofs.NumberSets.{tied_here}
 use Rattle.vm_ids.specs.declared.saved.read_ids.Ends.{Ends}
-use Rattle.vm_ids.specs.Checks.FreedChecks.{last_of, AreEndsOf, AreWithin}
+use Rattle.vm_ids.specs.Checks.FreedChecks.{last_id, AreEndsOf, AreWithin}
 use Rattle.vm_ids.proofs.Ids.AddedIds.{last_end, first_of_ends}
 
 -- ---- The bounds of the ids
 first_to_last : (q first : ℕ) (ids : List ℕ) → IsStrictlySortedBy nat_cmp (first ∷ ids) →
-    list_any (eq_by_cmp nat_cmp q) (first ∷ ids) ≡ true → (first ≤ q) × (q ≤ last_of first ids)
+    list_any (eq_by_cmp nat_cmp q) (first ∷ ids) ≡ true → (first ≤ q) × (q ≤ last_id first ids)
 unfolding IsStrictlySortedBy
 first_to_last q first [] s t = grind arith
 first_to_last q first (i ∷ ids) s t =
@@ -21,7 +21,7 @@ first_to_last q first (i ∷ ids) s t =
     ⊎_elim (λ (e : eq_by_cmp nat_cmp q first ≡ true). grind (arith, l, r))
     (λ (m : list_any (eq_by_cmp nat_cmp q) (i ∷ ids) ≡ true). let h = first_to_last q i ids s.1 m in omega (arith, h, l)) (or_cases _ _ t)
 
-last_in : (first : ℕ) (ids : List ℕ) → list_any (eq_by_cmp nat_cmp (last_of first ids)) (first ∷ ids) ≡ true
+last_in : (first : ℕ) (ids : List ℕ) → list_any (eq_by_cmp nat_cmp (last_id first ids)) (first ∷ ids) ≡ true
 last_in first [] = or_left _ _ (tied_here first)
 last_in first (i ∷ ids) = or_right _ _ (last_in i ids)
 
@@ -39,6 +39,6 @@ ends_decide lowest bound ends (first ∷ ids) a =
       λ h i c. let r = first_to_last i first ids a.0 c in omega (arith, f, l, r, h),
       λ w.
           let low = w first (or_left _ _ (tied_here first)) in
-          let high = w (last_of first ids) (last_in first ids) in
+          let high = w (last_id first ids) (last_in first ids) in
           omega (arith, f, l, low, high),
     )

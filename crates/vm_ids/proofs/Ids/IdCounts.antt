@@ -41,7 +41,7 @@ use Rattle.std.specs.Cmp.{nat_cmp_total}
 use Rattle.std.specs.BTreeSet.{BTreeSet, btree_set_len, IsOrdered}
 use Rattle.std.specs.FinSet as set
 use Rattle.vm_ranges.proofs.NumberSets.{tied_here, tied_is, apart_not_tied, same_members, removed_other}
-use Rattle.vm_ids.specs.Ids.{IdState, IsHeld, held_count, bound_of, held_of, ids_of, AreIds}
+use Rattle.vm_ids.specs.Ids.{IdState, IsHeld, held_count, bound_of, unfreed_ids, ids_of, AreIds}
 use Rattle.vm_ids.specs.Laws.IdLaws.{IdCountFindsAll}
 use Rattle.vm_ranges.proofs.Listed.{Differ, listed_is, each_listed}
 use Rattle.vm_ids.proofs.Ids.IdSets.{row_test, inserted_test, removed_test, bound_above}
@@ -118,7 +118,7 @@ allocated_above lo hi next freed a = bound_above lo hi next a.range a.next_id
 
 held_and_freed : (lo hi : ℕ) (next : Option ℕ) (freed : BTreeSet ℕ) → AreIds lo hi next freed → IsOrdered nat_cmp freed →
     held_count (ids_of lo hi next freed) + btree_set_len freed ≡ bound_of next hi - lo
-unfolding ids_of held_of
+unfolding ids_of unfreed_ids
 held_and_freed lo hi next freed a o =
     let n = bound_of next hi - lo in
     let cursor = set.from_list {R = nat_cmp} (range_with_len lo n) in

@@ -5,7 +5,7 @@ use Rattle.std.specs.Ordering.{nat_cmp, eq_by_cmp}
 use Rattle.std.specs.Cmp.{nat_cmp_total, unsigned_tied}
 use Rattle.std.specs.BTreeSet.{BTreeSet, contains}
 use Rattle.std.specs.FinSet as set
-use Rattle.vm_ids.specs.Ids.{IdState, bound_of, held_of, IsNext}
+use Rattle.vm_ids.specs.Ids.{IdState, bound_of, unfreed_ids, IsNext}
 
 -- ---- Tests of a member
 pub row_test : (a n i : ℕ) → list_any (eq_by_cmp nat_cmp i) (range_with_len a n) ≡ (leb a i && ltb i (a + n))
@@ -20,8 +20,8 @@ removed_test s k q = set.contains-remove nat_cmp_total s k q ∙ ap (λ (b : Boo
 
 -- An id is held if it was allocated at some time and is not freed.
 pub held_test : (lo bound : ℕ) (freed : BTreeSet ℕ) (i : ℕ) →
-    set.contains (held_of lo bound freed) i ≡ (leb lo i && (ltb i bound && not (contains nat_cmp freed i)))
-unfolding held_of
+    set.contains (unfreed_ids lo bound freed) i ≡ (leb lo i && (ltb i bound && not (contains nat_cmp freed i)))
+unfolding unfreed_ids
 held_test lo bound freed i =
     rw (
       set.contains-difference nat_cmp_total,

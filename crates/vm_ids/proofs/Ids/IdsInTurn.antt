@@ -73,7 +73,7 @@ use Rattle.vm_ids.specs.IdRequests.{
   AllocatesIdIn,
   AllocatesIds,
   fault_of_held,
-  MakesWithHeld,
+  MakesWithHeldIds,
 }
 use Rattle.vm_ids.specs.Laws.IdRequestLaws.{
   AllocatesInTurn,
@@ -297,8 +297,8 @@ held_in_turn (i ∷ is) lo hi next s v l h b f =
     ((holding_id i s, takes, rest.0), rest.1)
 
 pub held_are_made : (lo hi : ℕ) (held : List ℕ) (first made : IdState) → hi ≤ MAX_ID → MakesIds lo hi (Ok first) →
-    MakesWithHeld lo hi held (Ok made) → AllocatesExactlyInTurn first held made × IsIdState made
-unfolding MakesWithHeld
+    MakesWithHeldIds lo hi held (Ok made) → AllocatesExactlyInTurn first held made × IsIdState made
+unfolding MakesWithHeldIds
 held_are_made lo hi held first made m h a =
     let new : first ≡ new_ids lo hi = (made_state lo hi first h).0 in
     let all : (fault_of_held lo hi lo held ≡ None) × (made ≡ holding_ids held (new_ids lo hi)) = grind arith in

@@ -43,7 +43,7 @@ use Rattle.vm_ranges.specs.declared.saved.SavedError.TheVariants.{Violated, OutO
 use Rattle.vm_ids.specs.declared.saved.read_ids.Ends.{Ends}
 use Rattle.vm_ids.specs.Ids.{IdState, IsIdState, IsNext, AreIds, ids_of}
 use Rattle.vm_ids.specs.FreedLists.{AreFreedOf, MakesOfIds}
-use Rattle.vm_ids.specs.Values.IdValues.{IdFields, EncodesNext, EncodesNumber, EncodesList, EncodesIds}
+use Rattle.vm_ids.specs.Values.IdValues.{IdFields, EncodesNext, EncodesNumber, EncodesNumbers, EncodesIds}
 use Rattle.vm_ids.specs.Checks.FreedChecks.{ends_of, AreEndsOf}
 use Rattle.vm_ids.specs.Checks.IdChecks.{ids_from, decoded_next, AreDecoded, IdParts}
 use Rattle.vm_ids.proofs.Ids.IdSets.{bound_fits}
@@ -91,7 +91,7 @@ are_read d state s =
     let w = s.written in
     let v = s.made.0.parts in
     let next = in_field (codes "next_id") d (λ v. EncodesNext v f.next_id) w.next_id in
-    let freed = in_field (codes "freed_ids") d (λ v. EncodesList v f.freed_ids) w.freed_ids in
+    let freed = in_field (codes "freed_ids") d (λ v. EncodesNumbers v f.freed_ids) w.freed_ids in
     let list = in_list EncodesNumber freed.0 f.freed_ids freed.2 in
     let fits = bound_fits f.range_base f.range_end f.next_id v.next_id in (
       list.0,
@@ -119,7 +119,7 @@ decoded d f freed r v =
         range_base = (u32_in-some (codes "range_base") d f.range_base r.base).0;
         next_id = field_is (codes "next_id") d next.0 (λ v. EncodesNext v f.next_id) next.1 (next-some next.0 f.next_id next.2);
         range_end = (u32_in-some (codes "range_end") d f.range_end r.end).0;
-        freed_ids = field_is (codes "freed_ids") d list.0 (λ v. EncodesList v f.freed_ids) list.1
+        freed_ids = field_is (codes "freed_ids") d list.0 (λ v. EncodesNumbers v f.freed_ids) list.1
             (list_encoded EncodesNumber list.0 freed f.freed_ids list.2 (ids-encoded 0 freed f.freed_ids r.listed).0);
       };
       valid = v;
@@ -198,7 +198,7 @@ encoded_state d state s =
     is_state state f.range_base f.range_end f.next_id (record { keys = f.freed_ids }) (sym s.made.1) s.made.0.parts
 
 pub encodes_ids : (d v w : Data) (state : IdState) (lo hi : ℕ) (next : Option ℕ) (freed : BTreeSet ℕ) → ids_of lo hi next freed ≡ state →
-    IdParts d lo v hi w → EncodesNext v next → EncodesList w freed.keys → AreIds lo hi next freed → IsOrdered nat_cmp freed →
+    IdParts d lo v hi w → EncodesNext v next → EncodesNumbers w freed.keys → AreIds lo hi next freed → IsOrdered nat_cmp freed →
     EncodesIds d state
 encodes_ids d v w state lo hi next freed e p next_encoded freed_encoded i s = record {
   fields = record { range_base = lo; next_id = next; range_end = hi; freed_ids = freed.keys };
@@ -207,7 +207,7 @@ encodes_ids d v w state lo hi next freed e p next_encoded freed_encoded i s = re
     range_base = p.base_is;
     next_id = field_is (codes "next_id") d v (λ x. EncodesNext x next) p.next_is next_encoded;
     range_end = p.end_is;
-    freed_ids = field_is (codes "freed_ids") d w (λ x. EncodesList x freed.keys) p.freed_is freed_encoded;
+    freed_ids = field_is (codes "freed_ids") d w (λ x. EncodesNumbers x freed.keys) p.freed_is freed_encoded;
   };
   made = (record { parts = i; ascending = s }, sym e);
 }

@@ -37,7 +37,7 @@ use Rattle.std.proofs.lemmas.List.Elements.{Contains-get_or, Contains-append_cas
 use Rattle.std.specs.List.{Contains}
 use Rattle.std.specs.Option.{MatchOption}
 use Rattle.vm_ids.specs.Ids.{IdState, IsIdState, MakesIds, new_ids, holding_id}
-use Rattle.vm_ids.specs.IdRequests.{HoldsId, holding_ids, fault_of_held, SkipsId, MakesWithHeld}
+use Rattle.vm_ids.specs.IdRequests.{HoldsId, holding_ids, fault_of_held, SkipsId, MakesWithHeldIds}
 use Rattle.vm_ranges.specs.declared.error.Error.{Error}
 use Rattle.vm_ranges.specs.declared.error.Error.TheVariants.{OutOfRange, ResourceNotAvailable, OutOfMemory}
 use Rattle.vm_ids.proofs.Ids.ExactIds.{holding_in_range}
@@ -96,22 +96,22 @@ pub made_state : (lo hi : ℕ) (state : IdState) → MakesIds lo hi (Ok state) �
 unfolding MakesIds
 made_state lo hi state h = grind arith
 
-pub made_error : (lo hi : ℕ) (held : List ℕ) (e : Error) → MakesIds lo hi (Err e) → MakesWithHeld lo hi held (Err e)
-unfolding MakesIds MakesWithHeld
+pub made_error : (lo hi : ℕ) (held : List ℕ) (e : Error) → MakesIds lo hi (Err e) → MakesWithHeldIds lo hi held (Err e)
+unfolding MakesIds MakesWithHeldIds
 made_error lo hi held e h = grind arith
 
 module _ (lo hi : ℕ) (held : List ℕ) where
-  pub held_refused : (e : Error) → lo ≤ hi → fault_of_held lo hi lo held ≡ Some e → MakesWithHeld lo hi held (Err e)
-  unfolding MakesWithHeld
+  pub held_refused : (e : Error) → lo ≤ hi → fault_of_held lo hi lo held ≡ Some e → MakesWithHeldIds lo hi held (Err e)
+  unfolding MakesWithHeldIds
   held_refused e l f = inr (λ h. omega arith, rw f refl)
 
-  pub held_no_memory : lo ≤ hi → fault_of_held lo hi lo held ≡ None → SkipsId lo held → MakesWithHeld lo hi held (Err OutOfMemory)
-  unfolding MakesWithHeld
+  pub held_no_memory : lo ≤ hi → fault_of_held lo hi lo held ≡ None → SkipsId lo held → MakesWithHeldIds lo hi held (Err OutOfMemory)
+  unfolding MakesWithHeldIds
   held_no_memory l f s = inr (λ h. omega arith, rw f (inr (s, refl)))
 
   pub held_made : (state : IdState) → lo ≤ hi → fault_of_held lo hi lo held ≡ None → state ≡ holding_ids held (new_ids lo hi) →
-      MakesWithHeld lo hi held (Ok state)
-  unfolding MakesWithHeld
+      MakesWithHeldIds lo hi held (Ok state)
+  unfolding MakesWithHeldIds
   held_made state l f e = inr (λ h. omega arith, rw f (inl (ap Ok e)))
 
 -- The ids before the index are allocated, and those that are left have no wrong id.

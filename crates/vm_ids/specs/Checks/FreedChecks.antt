@@ -7,14 +7,14 @@ use Rattle.std.specs.Ordering.{nat_cmp}
 use Rattle.vm_ids.specs.declared.saved.read_ids.Ends.{Ends}
 
 -- The last of the ids after `first`, or `first` if there are none.
-abbrev pub last_of : ℕ → List ℕ → ℕ
-last_of first [] = first
-last_of first (id ∷ ids) = last_of id ids
+abbrev pub last_id : ℕ → List ℕ → ℕ
+last_id first [] = first
+last_id first (id ∷ ids) = last_id id ids
 
 -- The first and the last of the ids, if there are any.
 abbrev pub ends_of : List ℕ → Option Ends
 ends_of [] = None
-ends_of (id ∷ ids) = Some (record { first = id; last = last_of id ids })
+ends_of (id ∷ ids) = Some (record { first = id; last = last_id id ids })
 
 -- The ids are in strictly ascending order, and these are their ends.
 abbrev pub AreEndsOf : Option Ends → List ℕ → Type 0

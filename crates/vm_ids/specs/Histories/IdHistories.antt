@@ -10,7 +10,7 @@ use Rattle.vm_ranges.specs.Histories.{CallOf, IsHistory}
 use Rattle.vm_ids.specs.Values.IdValues.{EncodesIds}
 use Rattle.vm_ids.specs.FreedLists.{MakesOfIds}
 use Rattle.vm_ids.specs.Ids.{MAX_ID, IdState, MakesIds, AllocatesId, FreesId}
-use Rattle.vm_ids.specs.IdRequests.{AllocatesExactId, AllocatesIdIn, AllocatesIds, MakesWithHeld}
+use Rattle.vm_ids.specs.IdRequests.{AllocatesExactId, AllocatesIdIn, AllocatesIds, MakesWithHeldIds}
 
 -- A call without its result. It allocates the lowest id, a given id, an id of a window or several ids, frees an id, or
 -- creates a clone.
@@ -70,7 +70,7 @@ pub record AreIdsMadeOfHeld (state : IdState) : Type 0 where
   pub hi : ℕ
   pub held : List ℕ
   pub word : hi ≤ MAX_ID
-  pub made : MakesWithHeld lo hi held (Ok state)
+  pub made : MakesWithHeldIds lo hi held (Ok state)
 
 -- A state that a saved value encodes.
 pub record AreIdsRead (state : IdState) : Type 0 where

@@ -4,7 +4,7 @@ use Rattle.std.specs.List.{Contains}
 use Rattle.std.specs.FinSet as set
 use Rattle.serde_json.specs.Data.{Data}
 use Rattle.vm_ids.specs.Ids.{IdState, IsHeld, IsLowestNotHeld, IsIdState, MakesIds, AllocatesId, PeeksId}
-use Rattle.vm_ids.specs.IdRequests.{MakesWithHeld}
+use Rattle.vm_ids.specs.IdRequests.{MakesWithHeldIds}
 use Rattle.vm_ranges.specs.Cloning.{Clones}
 use Rattle.vm_ranges.specs.Histories.{EveryCallIsAnswered}
 use Rattle.vm_ids.specs.Values.IdValues.{EncodesIds}
@@ -52,7 +52,7 @@ StatesAreOfIds = (calls : List IdCall) (state : IdState) → AreIdsReached calls
 pub record EveryIdCallIsAnswered : Type 0 where
   pub made : (lo hi : ℕ) → (answer : Result IdState Error) × MakesIds lo hi answer × (answer ≢ Err OutOfMemory)
   pub made_with_held : (lo hi : ℕ) (held : List ℕ) →
-      (answer : Result IdState Error) × MakesWithHeld lo hi held answer × (answer ≢ Err OutOfMemory)
+      (answer : Result IdState Error) × MakesWithHeldIds lo hi held answer × (answer ≢ Err OutOfMemory)
   pub peeked : (state : IdState) → (answer : Result ℕ Error) × PeeksId state answer × (answer ≢ Err OutOfMemory)
   pub called : EveryCallIsAnswered IsIdCallFrom
 

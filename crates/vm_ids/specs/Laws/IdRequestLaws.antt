@@ -3,7 +3,7 @@
 use Rattle.std.specs.Prelude.{◌≡◌, ◌≢◌, ℕ, ◌<◌, ◌≤◌, nat_lt, List, [], ◌∷◌, ◌++◌, length, Ok, Err}
 use Rattle.std.specs.List.{filter}
 use Rattle.vm_ids.specs.Ids.{MAX_ID, IdState, IsIdState, MakesIds, AllocatesId, FreesId}
-use Rattle.vm_ids.specs.IdRequests.{free_ids, AllocatesExactId, AllocatesIdIn, AllocatesIds, MakesWithHeld}
+use Rattle.vm_ids.specs.IdRequests.{free_ids, AllocatesExactId, AllocatesIdIn, AllocatesIds, MakesWithHeldIds}
 use Rattle.vm_ranges.specs.declared.error.Error.{Error}
 use Rattle.vm_ranges.specs.declared.error.Error.TheVariants.{OutOfMemory}
 
@@ -57,4 +57,4 @@ pub record WindowsOfIds : Type 0 where
 abbrev pub HeldIdsAreAsExact : Type 0
 HeldIdsAreAsExact =
     (lo hi : ℕ) (held : List ℕ) (first made : IdState) → hi ≤ MAX_ID → MakesIds lo hi (Ok first) →
-    MakesWithHeld lo hi held (Ok made) → AllocatesExactlyInTurn first held made
+    MakesWithHeldIds lo hi held (Ok made) → AllocatesExactlyInTurn first held made

@@ -24,8 +24,8 @@ abbrev pub EncodesNumber : Data → ℕ → Type 0
 EncodesNumber d n = whole_number d ≡ Some n
 
 -- The value is the list of these whole numbers.
-abbrev pub EncodesList : Data → List ℕ → Type 0
-EncodesList d ns = EncodesListOf EncodesNumber d ns
+abbrev pub EncodesNumbers : Data → List ℕ → Type 0
+EncodesNumbers d ns = EncodesListOf EncodesNumber d ns
 
 -- The value is an object with exactly these four fields.
 pub record HasIdFields (d : Data) (fields : IdFields) : Type 0 where
@@ -33,7 +33,7 @@ pub record HasIdFields (d : Data) (fields : IdFields) : Type 0 where
   pub range_base : number_in (codes "range_base") d ≡ Some fields.range_base
   pub next_id : FieldIs (codes "next_id") d (λ v. EncodesNext v fields.next_id)
   pub range_end : number_in (codes "range_end") d ≡ Some fields.range_end
-  pub freed_ids : FieldIs (codes "freed_ids") d (λ v. EncodesList v fields.freed_ids)
+  pub freed_ids : FieldIs (codes "freed_ids") d (λ v. EncodesNumbers v fields.freed_ids)
 
 -- The value encodes an id allocator with this state: `from_ids` makes the state of its fields.
 pub record EncodesIds (d : Data) (state : IdState) : Type 0 where

@@ -1,7 +1,7 @@
 //! Creates an id allocator of its range and the list of its allocated ids.
 ghost use Rattle.std.specs.Prelude.{◌≡◌, ◌≤◌, MatchOption, Ok, Err, IfOk, IsOk};
 ghost use Rattle.vm_ids.specs.Ids.{IsIdState};
-ghost use Rattle.vm_ids.specs.IdRequests.{MakesWithHeld, SkipsId, fault_of_held};
+ghost use Rattle.vm_ids.specs.IdRequests.{MakesWithHeldIds, SkipsId, fault_of_held};
 
 use super::IdAllocator;
 use std::alloc::Global;
@@ -30,7 +30,7 @@ impl IdAllocator {
             → ¬ SkipsId range_base held.now → IsOk result }
 
         // Each result under its exact condition.
-        ensures answer { MakesWithHeld range_base range_end held.now result }
+        ensures answer { MakesWithHeldIds range_base range_end held.now result }
         ensures state { IfOk result IsIdState }
     {
         let mut ids = IdAllocator::new(alloc, range_base, range_end)?;

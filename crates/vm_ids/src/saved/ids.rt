@@ -6,7 +6,7 @@ ghost use Rattle.serde_json.specs.View.{view, items_view};
 ghost use Rattle.serde_json.specs.Find.{get};
 ghost use Rattle.vm_ranges.specs.declared.saved.SavedError.TheVariants.{OutOfMemory};
 ghost use Rattle.vm_ids.specs.Ids.{IdState, IsIdState};
-ghost use Rattle.vm_ids.specs.Values.IdValues.{EncodesNext, EncodesList, EncodesIds};
+ghost use Rattle.vm_ids.specs.Values.IdValues.{EncodesNext, EncodesNumbers, EncodesIds};
 ghost use Rattle.vm_ids.specs.Checks.FreedChecks.{ends_of};
 ghost use Rattle.vm_ids.specs.Checks.IdChecks.{ids_from, decoded_next, AreDecoded, IdParts};
 ghost use Rattle.vm_ranges.specs.Saving.{Saves, Reads};
@@ -67,7 +67,7 @@ fn encode_next(next: Option<u32>) -> Value
 
 /// Encodes the freed ids as a list, in ascending order.
 fn encode_ids(alloc: Global, ids: &BTreeSet<u32>) -> std::result::Result<Value, AllocError>
-    ensures answer { IfOk result (λ list. EncodesList (view list) ids.now.keys) }
+    ensures answer { IfOk result (λ list. EncodesNumbers (view list) ids.now.keys) }
     ensures ascending { IsStrictlySortedBy nat_cmp ids.now.keys }
 {
     let mut list = Vec::new(alloc);
