@@ -21,14 +21,14 @@ returns-in-Ok-clause-count c = for_request _ _ (λ v. EntersToAllocate c.args.se
     c.allocate_constraint_counted.ensures.count
 
 pub returns-in-Ok-clause-steps : goal.returns-in-Ok-clause-steps
-returns-in-Ok-clause-steps c = for_request _ _ (λ v. IsAllocationCount (height_of c.args.self.now) (state_of c.args.self.now) v c.allocate_constraint_counted.result.0
-    c.allocate_constraint_counted.result.1)
-    c.in-Ok.ensures c.allocate_constraint_counted.ensures.steps
+returns-in-Ok-clause-steps c =
+    for_request _ _ (λ v. IsAllocationCount (height_of c.args.self.now) (state_of c.args.self.now) v c.allocate_constraint_counted.result.0
+    c.allocate_constraint_counted.result.1) c.in-Ok.ensures c.allocate_constraint_counted.ensures.steps
 
 pub returns-in-Ok-clause-search : goal.returns-in-Ok-clause-search
-returns-in-Ok-clause-search c = for_request _ _ (λ v. SearchesGaps (height_of c.args.self.now) (state_of c.args.self.now) v c.allocate_constraint_counted.result.0
-    c.allocate_constraint_counted.result.1)
-    c.in-Ok.ensures c.allocate_constraint_counted.ensures.search
+returns-in-Ok-clause-search c =
+    for_request _ _ (λ v. SearchesGaps (height_of c.args.self.now) (state_of c.args.self.now) v c.allocate_constraint_counted.result.0
+    c.allocate_constraint_counted.result.1) c.in-Ok.ensures c.allocate_constraint_counted.ensures.search
 
 pub returns-in-Ok-clause-search_aligned : goal.returns-in-Ok-clause-search_aligned
 returns-in-Ok-clause-search_aligned c =
