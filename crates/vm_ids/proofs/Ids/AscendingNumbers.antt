@@ -40,7 +40,7 @@ use Rattle.vm_ids.specs.Checks.IdChecks.{ids_from}
 use Rattle.vm_ids.specs.Checks.FreedChecks.{last_of}
 use Rattle.vm_ids.proofs.Ids.AddedIds.{last_is, above_last, sorted_more}
 
-pub some_of : {A : Type 0} (o : Option A) → IsSome o → (a : A) × (o ≡ Some a)
+some_of : {A : Type 0} (o : Option A) → IsSome o → (a : A) × (o ≡ Some a)
 some_of None h = absurd (cc)
 some_of (Some a) h = (a, refl)
 
@@ -95,9 +95,6 @@ module _ (i : ℕ) (vs : List Value) (v : Value) (ids : List ℕ) (l : i < lengt
       (λ (h : n < next_after ids). rw (g, items_from vs i v l e, w, lt-leb (next_after ids) n h) refl)
       (λ (h : next_after ids ≤ n). absurd (not_sorted (with_higher n ids s h)))
       (cases_lt n (next_after ids))
-
-  pub no_id : option_and_then u32_from (whole_number (view v)) ≡ None → ids_from 0 (items_view vs) ≡ None
-  no_id w = rw (g, items_from vs i v l e, w) refl
 
   -- If all items are ids in order, the next one follows those before it.
   pub next_follows : IsSome (ids_from 0 (items_view vs)) → IsStrictlySortedBy nat_cmp ids →

@@ -89,9 +89,6 @@ pub last_taken : (keys rest : List ℕ) (taken : Option (Bor ℕ)) → YieldsLas
 last_taken keys rest None s = sym s.0
 last_taken keys rest (Some id) s = sym s
 
-other_id : (i : ℕ) (freed : Option ℕ) → true ≡ not (option_eq eqb freed (Some i)) → freed ≢ Some i
-other_id i freed t = grind arith
-
 that_id : (i : ℕ) (freed : Option ℕ) → false ≡ not (option_eq eqb freed (Some i)) → freed ≡ Some i
 that_id i freed t = grind arith
 
