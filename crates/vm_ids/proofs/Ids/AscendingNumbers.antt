@@ -40,7 +40,7 @@ use Rattle.vm_ids.specs.Checks.IdChecks.{ids_from}
 use Rattle.vm_ids.specs.Checks.FreedChecks.{last_id}
 use Rattle.vm_ids.proofs.Ids.AddedIds.{last_is, above_last, sorted_more}
 
-pub some_of : {A : Type 0} (o : Option A) → IsSome o → (a : A) × (o ≡ Some a)
+some_of : {A : Type 0} (o : Option A) → IsSome o → (a : A) × (o ≡ Some a)
 some_of None h = absurd (cc)
 some_of (Some a) h = (a, refl)
 
