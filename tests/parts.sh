@@ -30,14 +30,19 @@ quietly() { # command ..: shows the end of its output if it fails
     "$@" > "$log" 2>&1 || { tail -n 60 "$log"; return 1; }
 }
 
-begin() { setsid "$@" > "$scratch/${1##*/}" 2>&1 & beside[$*]=$!; } # command ..: starts it, and does not wait
+begin() { # command or function ..: starts it in its own group, and does not wait
+    set -m
+    (log=$scratch/${1##*/}.log && "$@") > "$scratch/${1##*/}.out" 2>&1 &
+    beside[$*]=$!
+    set +m
+}
 
-ended() { # command ..: runs it, or waits for it if it was begun, and shows its output
+ended() { # command or function ..: runs it, or waits for it if it was begun, and shows its output
     local status=0
     [ -n "${beside[$*]-}" ] || { "$@"; return; }
     wait "${beside[$*]}" || status=$?
     unset "beside[$*]"
-    cat "$scratch/${1##*/}"
+    cat "$scratch/${1##*/}.out"
     return "$status"
 }
 

@@ -1,6 +1,7 @@
 // SPDX-License-Identifier: Apache-2.0 OR BSD-3-Clause
 //! Prints nanoseconds per call for 10 to 10^5 allocated ranges or ids, with a warm and with a cold
-//! cache, by `cargo bench`. Without `--bench`, as in `cargo test`, it runs one short round.
+//! cache, by `cargo bench`. Without `--bench`, as in `cargo test`, it runs one short round. The environment
+//! variable `BENCH_ROUNDS` is the number of the other rounds.
 
 mod workload;
 
@@ -14,9 +15,10 @@ library!(Divsharun, divsharun);
 
 fn main() {
     let is_short = !std::env::args().any(|argument| argument == "--bench");
+    let all = std::env::var("BENCH_ROUNDS").map_or(11, |rounds| rounds.parse().expect("a number"));
     let (counts, rounds): (&[u64], u64) = match is_short {
         true => (&[1_000], 1),
-        false => (&[10, 100, 1_000, 10_000, 100_000], 11),
+        false => (&[10, 100, 1_000, 10_000, 100_000], all),
     };
     let heads: Vec<String> = counts
         .iter()
