@@ -3,12 +3,12 @@
 
 use crate::handle::{non_null, Handle};
 use crate::json::{dvs_text_limits, Read, Reader, TextFault};
-use crate::proved::vm_ranges::NodeState;
 use crate::proved::vm_addresses::{
     AddressAllocator, Error, RangeInclusive, ReadNodes, SavedError, Side, WrittenTree,
 };
-use crate::proved::vm_ids::{IdAllocator, ReadIds};
 use crate::proved::vm_devices::{DeviceManager, DeviceSlot, ReadDevices};
+use crate::proved::vm_ids::{IdAllocator, ReadIds};
+use crate::proved::vm_ranges::NodeState;
 use crate::rattle::Global;
 use crate::status::{
     dvs_status, dvs_status_text, DVS_LIMIT_EXCEEDED, DVS_NOT_A_STATE, DVS_NOT_JSON, DVS_NULL,

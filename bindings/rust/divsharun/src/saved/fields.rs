@@ -5,8 +5,8 @@
 //! the writing of each structure.
 
 use crate::proved::vm_addresses::{AddressAllocator, RangeInclusive, WrittenBlocks, WrittenNode};
-use crate::proved::vm_ids::IdAllocator;
 use crate::proved::vm_devices::{DeviceManager, DeviceSlot, SAVED_VERSION};
+use crate::proved::vm_ids::IdAllocator;
 
 write_fields! {
     RangeInclusive as "RangeInclusive", this: start = this.start(), end = this.end();

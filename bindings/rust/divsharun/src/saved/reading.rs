@@ -3,8 +3,8 @@
 
 use super::conditions::field_and_text;
 use crate::proved::vm_addresses::{AddressAllocator, RangeInclusive, ReadNodes, SavedError, Side};
-use crate::proved::vm_ids::{IdAllocator, ReadIds};
 use crate::proved::vm_devices::{DeviceManager, ReadDevices};
+use crate::proved::vm_ids::{IdAllocator, ReadIds};
 use crate::rattle::Global;
 use crate::{DeviceSlot, NodeState, TryError};
 use core::{fmt, mem};

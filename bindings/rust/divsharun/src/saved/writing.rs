@@ -1,9 +1,9 @@
 // SPDX-License-Identifier: Apache-2.0 OR BSD-3-Clause
 //! Writes objects with serde.
 
-use crate::proved::vm_ranges::NodeState;
 use crate::proved::vm_addresses::{AddressAllocator, WrittenBlocks, WrittenTree};
 use crate::proved::vm_devices::DeviceManager;
+use crate::proved::vm_ranges::NodeState;
 use crate::rattle::Global;
 use crate::TryError;
 use core::fmt;
