@@ -14,7 +14,6 @@ use std::alloc::Global;
 use std::cmp::Ordering;
 use std::marker::Model;
 use vm_addresses::{AddressAllocator, Constraint, RangeInclusive, Result};
-
 pub use vm_ranges::{NodeState, align_down, align_up};
 
 /// The tree of the blocks of a space: an address allocator under the calls of `vm-allocator`.

@@ -10,8 +10,8 @@ use crate::reply::{Reply, device_reply, done_reply, id_reply, range_reply};
 use std::alloc::Global;
 use std::marker::Model;
 use vm_addresses::{AddressAllocator, AllocPolicy, RangeInclusive, Result};
-use vm_ids::IdAllocator;
 use vm_devices::DeviceManager;
+use vm_ids::IdAllocator;
 
 /// The space, the ids and the devices that the lines so far have created.
 #[derive(Drop)]

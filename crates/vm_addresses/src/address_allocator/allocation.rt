@@ -59,14 +59,7 @@ impl AddressAllocator {
         let can_split = self.held_count < SPLIT_LIMIT;
         let mut count = Steps::new();
         let tree = &mut self.tree;
-        let taken = match allocate_in(
-            tree,
-            &self.space,
-            &request,
-            can_split,
-            alloc,
-            &mut count,
-        ) {
+        let taken = match allocate_in(tree, &self.space, &request, can_split, alloc, &mut count) {
             Ok(taken) => taken,
             Err(error) => return (Err(error), count.entered()),
         };

@@ -34,11 +34,10 @@ failed c =
     e.answer (ap state_of e.unchanged)
 
 pub returns-in-Err-clause-answer : goal.returns-in-Err-clause-answer
-returns-in-Err-clause-answer c =
-    (
-      state_again c,
-      inr (refused_by (state_of c.args.self.now) c.args.requests.now c.loop-index.index c.in-Err.error (failed c)),
-    )
+returns-in-Err-clause-answer c = (
+  state_again c,
+  inr (refused_by (state_of c.args.self.now) c.args.requests.now c.loop-index.index c.in-Err.error (failed c)),
+)
 
 pub returns-in-Err-clause-failed : goal.returns-in-Err-clause-failed
 returns-in-Err-clause-failed c = (failed c)
