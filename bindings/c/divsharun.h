@@ -745,7 +745,7 @@ dvs_status dvs_address_allocator_read_within(const char *text, size_t length,
                                              dvs_text_fault *fault);
 
 /*
- * Reads like dvs_address_allocator_read(), and also accepts what the Rust crate
+ * Reads like dvs_address_allocator_read(), and also accepts what the crate
  * vm-allocator 0.1.4 wrote after one of its bugs. The ranges that the text
  * marks as allocated are allocated, and all other addresses are free.
  *

@@ -278,10 +278,14 @@ class File(Tokens):
         return index
 
     def head(self):
-        """Returns the index after the documentation and the attributes of the file."""
+        """Returns the index after the documentation and the attributes of the file. Sections of the documentation
+        are about contracts, so they are removed."""
         index = 0
         while self.tokens[index].text.startswith("//!"):
             index += 1
+        sections = [place for place in range(index) if self.tokens[place].text.startswith("//! # ")]
+        if sections:
+            self.cut(sections[0] - 1, index)
         while self.at(index, "#", "!", "[", "tactic"):
             self.cut(index, self.matching(index + 2))
             index = self.matching(index + 2)

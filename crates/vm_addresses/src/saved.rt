@@ -1,4 +1,4 @@
-//! Saved values of address allocators, and of those that the Rust crate saved.
+//! Saved values of address allocators, and of those that vm-allocator saved.
 //!
 //! A value can be untrusted input, so the whole value is checked before the first allocation.
 mod allocator;

@@ -1,4 +1,4 @@
-//! The errors of calls, with the texts of the Rust crate.
+//! The errors of calls, with the texts of vm-allocator.
 ghost use Rattle.std.specs.Prelude.{◌≡◌};
 ghost use Rattle.std.specs.Prelude.{None};
 ghost use Rattle.vm_ranges.specs.declared.error.Error.TheVariants.{OutOfMemory};

@@ -1,5 +1,24 @@
 //! Ranges of addresses, alignment, requests, errors, states of blocks, and the saved values of
 //! ranges and states.
+//!
+//! # How they are stated
+//!
+//! - The value of a [`RangeInclusive`] is a `Range`, which `IsRange` accepts. That of a [`Constraint`] is a
+//!   `Request`, which `IsRequest` accepts.
+//! - Errors, policies and states are Rust types (`specs.declared`).
+//! - `Histories` defines lists of calls, and their laws, for the crates above.
+//!
+//! # What is proved
+//!
+//! - The exact result of each call, and each error under its condition: `MakesRange`, `MakesConstraint`,
+//!   `AlignsDown`, `AlignsUp`.
+//! - Ranges are ordered and hashed by start and end. `RangesAreSets` relates `overlaps` and `contains` to
+//!   the addresses of ranges.
+//! - A value is read if and only if it encodes a range or a state (`Reads`).
+//!
+//! # What is only tested
+//!
+//! - The texts of errors, and `Debug`.
 #![tactic(auto)]
 
 mod alignment;

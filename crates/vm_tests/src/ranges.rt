@@ -1,6 +1,6 @@
 //! Tests of ranges, constraints, and errors with their texts.
 //!
-//! They guard against texts that differ from those of the Rust crate, and against ends that are off by
+//! They guard against texts that differ from those of vm-allocator, and against ends that are off by
 //! one.
 use crate::fixtures::{ENOUGH, expect_eq, range};
 use std::cmp::Ordering;

@@ -1,7 +1,7 @@
 //! Tests of values that are written and read.
 //!
-//! They guard against a format with another meaning than its documentation, and against a value of the
-//! Rust crate that is not read.
+//! They guard against a format with another meaning than its documentation, and against a value of
+//! vm-allocator that is not read.
 use crate::fixtures::{
     ENOUGH, Reader, block_count, expect_eq, expect_space, fail_from_here, hold, holds_exactly,
     made, parsed, range, reject_each, saved, saved_ids,

@@ -1,4 +1,4 @@
--- The values that encode the held ranges of a space by the keys of nodes. Bugs of the Rust crate vm-allocator 0.1.4 can
+-- The values that encode the held ranges of a space by the keys of nodes. Bugs of vm-allocator 0.1.4 can
 -- lose the tree, leave free neighbours, or leave gaps between keys.
 use Rattle.std.specs.Prelude.{◌≡◌, ℕ, ◌≤◌, length}
 use Rattle.serde_json.specs.Data.{Data}
@@ -9,7 +9,7 @@ use Rattle.vm_addresses.specs.Tree.Blocks.{held_of, AreKeysIn, AreBelowMax}
 use Rattle.vm_addresses.specs.Values.NodeTree.{NodeTree, node_blocks, node_height}
 use Rattle.vm_addresses.specs.Values.TreeValues.{HasNodes}
 
--- The maximum nesting of nodes: no tree that the Rust crate saves is higher.
+-- The maximum nesting of nodes: no tree that vm-allocator saves is higher.
 abbrev pub MAX_NESTING_REPAIRED : ℕ
 MAX_NESTING_REPAIRED = 50
 

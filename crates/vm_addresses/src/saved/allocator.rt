@@ -54,8 +54,7 @@ impl AddressAllocator {
         Self::from_root_value(alloc, &parts.space, parts.root)
     }
 
-    /// Decodes an allocator from a value that the Rust crate saved, and repairs the effects of its
-    /// bugs.
+    /// Decodes an allocator from a value that vm-allocator saved, and repairs the effects of its bugs.
     ///
     /// The keys that are `Allocated` are the allocated ranges, and all other addresses of the space
     /// are free. The tree can have no nodes, gaps between keys, free neighbours, no balance and any

@@ -11,7 +11,7 @@ ghost use Rattle.vm_addresses.specs.Values.KeyValues.{MAX_NESTING_REPAIRED};
 use crate::address_allocator::SPLIT_LIMIT;
 use vm_ranges::{NodeState, RangeInclusive};
 
-/// The maximum nesting of nodes. No tree of the Rust crate is higher.
+/// The maximum nesting of nodes. No tree of vm-allocator is higher.
 pub(super) const MAX_NESTING: u64 = 50;
 
 /// The maximum height of a tree that is read node for node.

@@ -146,8 +146,8 @@ fn add_between(
     ensures unchanged { OnErr result (IsSameSet nat_cmp ids.old ids.new) }
     ensures succeeds { from ≡ to → IsOk result }
 {
-    // From the highest to the lowest: in this order an insert moves few ids in the sets of the Rust crate
-    // that is generated from this source.
+    // From the highest to the lowest: in this order an insert moves few ids in the sets of the plain
+    // modules.
     let mut id = to;
     while id > from {
         id -= 1;

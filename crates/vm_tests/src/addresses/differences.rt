@@ -1,4 +1,4 @@
-//! Guards against the bugs of the Rust crate: the smallest example of each of the first eight rows of
+//! Guards against the bugs of vm-allocator: the smallest example of each of the first eight rows of
 //! docs/DIFFERENCES.md, with the results of this port.
 use super::*;
 

@@ -1,6 +1,6 @@
 //! Tests of address allocators, their ranges and states, as values.
 //!
-//! They guard against a format that differs from that of the Rust crate.
+//! They guard against a format that differs from that of vm-allocator.
 use super::*;
 
 /// The space [16, 19] without allocated ranges.

@@ -1,7 +1,7 @@
 //! Tests of address allocators that are read with repairs.
 //!
-//! They guard against a range that is lost or changed, and against a repair of what no bug of the Rust
-//! crate led to.
+//! They guard against a range that is lost or changed, and against a repair of what no bug of vm-allocator
+//! led to.
 use super::*;
 
 /// The allocator that a value encodes with repairs: the base and the size of the space, and its

@@ -1,4 +1,4 @@
-//! Guards against values of the Rust crate vm-allocator 0.1.4 that are not read. Its feature `serde`
+//! Guards against values of vm-allocator 0.1.4 that are not read. Its feature `serde`
 //! wrote them, including the effects of its bugs. They are texts, because a test cannot read a file.
 use super::repaired::assert_repaired;
 use super::*;

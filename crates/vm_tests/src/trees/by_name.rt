@@ -1,4 +1,4 @@
-//! Tests that the Rust crate has for the nodes of its tree, by the same names. They make calls of an
+//! Tests that vm-allocator has for the nodes of its tree, by the same names. They make calls of an
 //! allocator: a key that is inserted is an allocated range.
 use crate::fixtures::{expect_eq, expect_true, hold, holds_exactly, made, range};
 use std::process::Abort;

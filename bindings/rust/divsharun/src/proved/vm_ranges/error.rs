@@ -1,6 +1,6 @@
 // Written by bindings/erase from crates/vm_ranges/src/error.rt: do not edit.
 
-//! The errors of calls, with the texts of the Rust crate.
+//! The errors of calls, with the texts of vm-allocator.
 
 use crate::proved::vm_ranges::range::RangeInclusive;
 use crate::proved::vm_ranges::state::NodeState;

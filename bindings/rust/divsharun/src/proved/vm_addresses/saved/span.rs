@@ -8,7 +8,7 @@
 use crate::proved::vm_addresses::address_allocator::SPLIT_LIMIT;
 use crate::proved::vm_ranges::{NodeState, RangeInclusive};
 
-/// The maximum nesting of nodes. No tree of the Rust crate is higher.
+/// The maximum nesting of nodes. No tree of vm-allocator is higher.
 pub(super) const MAX_NESTING: u64 = 50;
 
 /// The maximum height of a tree that is read node for node.

@@ -91,8 +91,8 @@ fn add_between(
     from: u32,
     to: u32,
 ) -> core::result::Result<(), AllocFailed<u32>> {
-    // From the highest to the lowest: in this order an insert moves few ids in the sets of the Rust crate
-    // that is generated from this source.
+    // From the highest to the lowest: in this order an insert moves few ids in the sets of the plain
+    // modules.
     let mut id = to;
     while id > from {
         id -= 1;
