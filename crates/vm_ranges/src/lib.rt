@@ -3,8 +3,8 @@
 //!
 //! # How they are stated
 //!
-//! - The value of a [`RangeInclusive`] is a `Range`, which `IsRange` accepts. That of a [`Constraint`] is a
-//!   `Request`, which `IsRequest` accepts.
+//! - The value of a [`RangeInclusive`] is a `Range`, which `IsRange` accepts. The value of a
+//!   [`Constraint`] is a `Request`, which `IsRequest` accepts.
 //! - Errors, policies and states are Rust types (`specs.declared`).
 //! - `Histories` defines lists of calls, and their laws, for the crates above.
 //!

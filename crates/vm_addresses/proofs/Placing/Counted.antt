@@ -120,7 +120,7 @@ module _ (s m : Shape) (can_split : Bool) (n : ℕ) (taken : Taken) (h : IsSpace
   }
 
 -- ---- The result of the call
--- What the contract says of a result.
+-- The clauses of the contract on a result.
 pub record IsAnswered (s m : Shape) (request : Request) (answer : Result Range Error) (count : ℕ) : Type 0 where
   pub allocates : Allocates (state_of s) request answer (state_of m)
   pub filling : (start : ℕ) → FillsGap (state_of s) request start → IsOk answer
@@ -142,7 +142,7 @@ module _ (s m : Shape) (space : Range) (held gaps clear : ℕ) (request : Reques
   state_is : blocks_state space (blocks s) ≡ state_of s
   state_is = ap (λ (v : Range). blocks_state v (blocks s)) h.is_space
 
-  -- What is true for the state of the space is true for that of the tree.
+  -- The state of the space is that of the tree, so facts of one are facts of the other.
   module _ (answer : Result Taken Error) (a : IsAllocation request space (ltb held SPLIT_LIMIT_MIN_HELD) s m answer count) where
     grants_if : state_of m ≡ blocks_state space (blocks m) → Grants (state_of s) request (taken_range answer) (state_of m)
     grants_if e =

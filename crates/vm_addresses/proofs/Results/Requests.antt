@@ -32,7 +32,7 @@ pub request_allocates : (request : Request) (old new : AddressState) (answer : R
 unfolding Allocates ByConstraint
 request_allocates request old new answer v g = inr (λ e. omega (arith, e, v.some), inr (v.aligned, inr (v.start, g)))
 
--- What is true for the constraint that a request makes is true for the request.
+-- A fact of the constraint that a request makes is a fact of the request.
 pub for_request : (request made : Request) (P : Request → Type 0) → MakesConstraint request (Ok made) → P made → P request
 for_request request made P m p = subst P (constraint_made request made m).0 p
 

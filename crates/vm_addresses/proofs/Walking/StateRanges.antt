@@ -8,7 +8,7 @@ use Rattle.vm_addresses.proofs.Blocks.OneList.{held_of-free, held_of-held}
 use Rattle.vm_addresses.proofs.Walking.GapsInTrees.{free_of-free, free_of-held, free_of-last_held, free_of-last_free}
 use Rattle.vm_addresses.proofs.Walking.HeldInTrees.{held_of-last_free, held_of-last_held}
 
--- Of two states, one that is not the other is the one that is left.
+-- A state that is not one of the two is the other.
 other_than_free : (s : NodeState) → s ≢ Free → s ≡ Allocated
 other_than_free Free n = absurd (n refl)
 other_than_free Allocated n = refl

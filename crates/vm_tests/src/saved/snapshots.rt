@@ -242,7 +242,7 @@ fn expect_held(
 }
 
 /// Checks that the text encodes an allocator with this number of allocated ranges, including these
-/// as the first, and that an equal one is read from its own value. That value can have another shape
+/// as the first, and that an equal one is read from its own value. The value can have another shape
 /// than the text.
 fn expect_read(rt: &(impl Abort + AllocGlobal), text: &str, count: u64, first: &[(u64, u64)]) {
     let value = parsed(rt, text);
