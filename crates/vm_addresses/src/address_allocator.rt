@@ -245,8 +245,6 @@ impl AddressAllocator {
         // A request that fills its gap needs no memory, so it succeeds.
         ensures filling { (start : ℕ) → FillsGap (state_of self.old) request start → IsOk result }
 
-        ensures state { IsAddressState (state_of self.new) }
-
         // Each result under its exact condition. The tree is one that the counted call leaves.
         ensures answer { Allocates (state_of self.old) request result (state_of self.new) }
         ensures part { (count : ℕ) × HasParts self.old (Allocating request result count ∷ []) self.new }

@@ -15,7 +15,7 @@
 //!
 //! # What is only tested
 //!
-//! - The exit status of the program, and that its output was flushed.
+//! - The exit status of the program. No clause states that its output was flushed.
 #![tactic(auto)]
 
 mod buffer;

@@ -12,8 +12,8 @@
 //!
 //! - The exact result of each call, and each error under its condition: `MakesRange`, `MakesConstraint`,
 //!   `AlignsDown`, `AlignsUp`.
-//! - Ranges are ordered and hashed by start and end. `RangesAreSets` relates `overlaps` and `contains` to
-//!   the addresses of ranges.
+//! - Ranges are ordered by start, then by end, and two of them write the same bytes to a hasher if and only
+//!   if they are equal. `RangesAreSets` has the laws of `overlaps` and `contains`.
 //! - A value is read if and only if it encodes a range or a state (`Reads`).
 //!
 //! # What is only tested

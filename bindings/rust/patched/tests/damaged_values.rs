@@ -1,6 +1,6 @@
 // SPDX-License-Identifier: Apache-2.0 OR BSD-3-Clause
 //! Guards against a reader of saved objects that accepts what is not valid, rejects what is valid, or
-//! reads another object, and against needless allocations of the proved readers.
+//! reads another object. Guards also against needless allocations of the proved readers.
 //!
 //! The proved strict readers must accept what serde writes. Damaged values are read by serde and by
 //! the proved reader of values, which must accept the same ones, and read the same objects.

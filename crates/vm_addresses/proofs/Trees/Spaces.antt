@@ -1,4 +1,4 @@
--- A tree has one space, and no call changes it.
+-- Trees of the blocks of a space, and the states that they represent.
 use Rattle.std.proofs.Common.{◌≡◌, ℕ, ◌+◌, ◌^◌, ◌<◌, ◌≤◌, List, [], ◌∷◌, length, refl, sym, arith, subst, ap, ◌∙◌, ⊎_elim, Result}
 use Rattle.vm_ranges.specs.Range.{Range, IsRange, address_count, span}
 use Rattle.vm_ranges.specs.declared.state.NodeState.{NodeState}

@@ -43,7 +43,6 @@ impl AddressAllocator {
         alloc: Global,
         request: Constraint,
     ) -> (Result<RangeInclusive>, u64)
-        ensures valid { IsRequest request }
         ensures balanced { IsBalancedTreeOf (state_of self.old) self.old }
         ensures answer { Allocates (state_of self.old) request result.0 (state_of self.new) }
         ensures unchanged { OnErr result.0 (self.new ≡ self.old) }
@@ -52,8 +51,8 @@ impl AddressAllocator {
         ensures filling { (start : ℕ) → FillsGap (state_of self.old) request start → IsOk result.0 }
         ensures count { EntersToAllocate self.old request result.1 }
         ensures steps { IsAllocationCount (height_of self.old) (state_of self.old) request result.0 result.1 }
-        ensures search { SearchesGaps (height_of self.old) (state_of self.old) request result.0 result.1 }
-        ensures search_aligned { SearchesAligned (height_of self.old) (state_of self.old) request result.0 result.1 }
+        ensures search { SearchesGaps (height_of self.old) (state_of self.old) request result.0 result.1
+            × SearchesAligned (height_of self.old) (state_of self.old) request result.0 result.1 }
         ensures state { IsAddressState (state_of self.new) }
     {
         let can_split = self.held_count < SPLIT_LIMIT;

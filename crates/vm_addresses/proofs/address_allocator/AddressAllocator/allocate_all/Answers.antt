@@ -4,11 +4,13 @@ use Rattle.std.specs.Prelude.{List}
 use Rattle.vm_addresses.specs.Address.{AddressState, IsAddressState}
 use Rattle.vm_addresses.specs.Allocator.{state_of}
 use Rattle.vm_addresses.proofs.Counts.TakenParts.{more_allowed, then_allocated}
+use Rattle.vm_addresses.proofs.Results.AddressResults.{allocated_state}
 use Rattle.vm_addresses.proofs.Trees.Spaces.{state_of_tree}
 use Rattle.vm_addresses.specs.Several.{AllocatesEach, FailsAtIndex}
 use Rattle.vm_addresses.proofs.Results.Several.{refused_by, failed_at, all_taken, one_more}
 use Rattle.vm_addresses.proofs.address_allocator.AddressAllocator.allocate_all.Goals as goal
 
+-- The state before the call is valid.
 valid : (c : goal.After-drop-ranges) → IsAddressState (state_of c.args.self.now)
 valid c = rw (← c.self.view_is) (state_of_tree c.self.inside.tree c.self.invariant.tree)
 
@@ -40,7 +42,7 @@ returns-in-Err-clause-answer c = (
 )
 
 pub returns-in-Err-clause-failed : goal.returns-in-Err-clause-failed
-returns-in-Err-clause-failed c = (failed c)
+returns-in-Err-clause-failed c = failed c
 
 pub returns-in-Err-clause-parts : goal.returns-in-Err-clause-parts
 returns-in-Err-clause-parts c =
@@ -50,8 +52,8 @@ returns-in-Err-clause-parts c =
     let failed = then_allocated l.index first l.self c.allocate_constraint.new.self requests c.index-requests-index.result (Err c.in-Err.error)
     l.invariant.parts
     (l.index, c.loop-index-test.true, sym c.index-requests-index.is) c.in-Err.ensures.part in
-    (more_allowed (l.index + 1 + length l.ranges.items) (2 * length requests) first c.free_all.new.allocator requests
-    (c.free_all.ensures.parts (l.index + 1) first requests failed) (omega (arith, l.invariant.many, c.loop-index-test.true)))
+    more_allowed (l.index + 1 + length l.ranges.items) (2 * length requests) first c.free_all.new.allocator requests
+    (c.free_all.ensures.parts (l.index + 1) first requests failed) (omega (arith, l.invariant.many, c.loop-index-test.true))
 
 pub returns-in-Err-clause-state : goal.returns-in-Err-clause-state
 returns-in-Err-clause-state c = subst IsAddressState (sym (state_again c)) (valid c)
@@ -69,7 +71,8 @@ loop-index-preserved c =
       parts = then_allocated i c.args.self.now c.loop-index.self c.allocate_constraint.new.self c.args.requests.now
           c.index-requests-index.result (Ok c.in-Ok.range) c.loop-index.invariant.parts
           (i, c.loop-index-test.true, sym c.index-requests-index.is) c.in-Ok.ensures.part;
-      state = c.in-Ok.ensures.state;
+      state = allocated_state mid new c.index-requests-index.result (Ok c.in-Ok.range) c.loop-index.invariant.state
+          c.in-Ok.ensures.answer;
       many = omega (arith, c.in-Ok-push.ensures.len, c.loop-index.invariant.many);
       room = omega (arith, c.in-Ok-push.ensures.capacity, c.loop-index.invariant.room);
     }
@@ -77,12 +80,11 @@ loop-index-preserved c =
 pub returns-clause-answer : goal.returns-clause-answer
 returns-clause-answer c =
     let l = c.loop-index in
-    (all_taken c.args.requests.now l.index l.ranges.items (state_of c.args.self.now) (state_of l.self)
-    (omega (arith, l.auto.index-end)) l.invariant.each)
+    all_taken c.args.requests.now l.index l.ranges.items (state_of c.args.self.now) (state_of l.self)
+    (omega (arith, l.auto.index-end)) l.invariant.each
 
 pub returns-clause-parts : goal.returns-clause-parts
 returns-clause-parts c =
     let l = c.loop-index in
     let requests = c.args.requests.now in
-    (more_allowed l.index (2 * length requests) c.args.self.now l.self requests l.invariant.parts
-    (omega (arith, l.auto.index-end)))
+    more_allowed l.index (2 * length requests) c.args.self.now l.self requests l.invariant.parts (omega (arith, l.auto.index-end))

@@ -84,10 +84,7 @@ pub returns-in-Err-clause-steps : goal.returns-in-Err-clause-steps
 returns-in-Err-clause-steps c = (refused c).steps
 
 pub returns-in-Err-clause-search : goal.returns-in-Err-clause-search
-returns-in-Err-clause-search c = (refused c).search
-
-pub returns-in-Err-clause-search_aligned : goal.returns-in-Err-clause-search_aligned
-returns-in-Err-clause-search_aligned c = (refused c).search_aligned
+returns-in-Err-clause-search c = ((refused c).search, (refused c).search_aligned)
 
 pub returns-clause-answer : goal.returns-clause-answer
 returns-clause-answer c = (granted c).allocates
@@ -102,7 +99,4 @@ pub returns-clause-steps : goal.returns-clause-steps
 returns-clause-steps c = (granted c).steps
 
 pub returns-clause-search : goal.returns-clause-search
-returns-clause-search c = (granted c).search
-
-pub returns-clause-search_aligned : goal.returns-clause-search_aligned
-returns-clause-search_aligned c = (granted c).search_aligned
+returns-clause-search c = ((granted c).search, (granted c).search_aligned)

@@ -28,10 +28,10 @@ returns-in-Ok-clause-steps c =
 pub returns-in-Ok-clause-search : goal.returns-in-Ok-clause-search
 returns-in-Ok-clause-search c =
     for_request _ _ (λ v. SearchesGaps (height_of c.args.self.now) (state_of c.args.self.now) v c.allocate_constraint_counted.result.0
-    c.allocate_constraint_counted.result.1) c.in-Ok.ensures c.allocate_constraint_counted.ensures.search
+    c.allocate_constraint_counted.result.1) c.in-Ok.ensures c.allocate_constraint_counted.ensures.search.0
 
 pub returns-in-Ok-clause-search_aligned : goal.returns-in-Ok-clause-search_aligned
 returns-in-Ok-clause-search_aligned c =
     for_request _ _ (λ v. SearchesAligned (height_of c.args.self.now) (state_of c.args.self.now) v c.allocate_constraint_counted.result.0
     c.allocate_constraint_counted.result.1)
-    c.in-Ok.ensures c.allocate_constraint_counted.ensures.search_aligned
+    c.in-Ok.ensures c.allocate_constraint_counted.ensures.search.1
