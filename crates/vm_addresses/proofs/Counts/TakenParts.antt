@@ -1,5 +1,5 @@
 -- Lists of parts that grow by one part.
-use Rattle.std.proofs.Common.{◌≡◌, ℕ, ◌+◌, ◌≤◌, List, [], ◌∷◌, ◌++◌, length, refl, sym, arith, subst, Result, Ok, Err}
+use Rattle.std.proofs.Common.{◌≡◌, ℕ, ◌+◌, ◌≤◌, List, [], ◌∷◌, ◌++◌, length, refl, sym, arith, inl, subst, Result, Ok, Err}
 use Rattle.std.specs.Prelude.{OnOk, OnErr}
 use Rattle.std.proofs.lemmas.List.{length-append}
 use Rattle.std.proofs.lemmas.List.Elements.{All-nil, All-cons, All-append}
@@ -35,7 +35,7 @@ more_allowed n m old new requests taken l = record {
 }
 
 pub then_allocated : (n : ℕ) (old mid new : Shape) (requests : List Request) (request : Request) (answer : Result Range Error) →
-    TakesParts n old requests mid → Contains requests request → (count : ℕ) × HasParts mid (Allocating request answer count ∷ []) new →
+    TakesParts n old requests mid → IsPartFor requests (Allocating request answer 0) → (count : ℕ) × HasParts mid (Allocating request answer count ∷ []) new →
     TakesParts (n + 1) old requests new
 then_allocated n old mid new requests request answer taken asked part =
     one_more n old mid new requests (Allocating request answer part.0) taken part.1 asked
@@ -53,7 +53,7 @@ pub allocated_only : (old new : Shape) (request : Request) (answer : Result Rang
     (count : ℕ) × HasParts old (Allocating request answer count ∷ []) new → TakesParts 2 old (request ∷ []) new
 allocated_only old new request answer part =
     more_allowed 1 2 old new (request ∷ [])
-    (then_allocated 0 old old new (request ∷ []) request answer (no_parts 0 old (request ∷ [])) (0, omega arith, refl) part)
+    (then_allocated 0 old old new (request ∷ []) request answer (no_parts 0 old (request ∷ [])) (request, (0, omega arith, refl), inl refl) part)
     (omega arith)
 
 pub freed_only : (old new : Shape) (r : Range) (freed : Result (Unit {0}) Error) →
@@ -66,7 +66,7 @@ pub allocated_and_freed : (old mid new : Shape) (request : Request) (answer : Re
     OnOk freed ((n : ℕ) × HasParts mid (Freeing r n ∷ []) new) → OnErr freed (new ≡ mid) → TakesParts 2 old (request ∷ []) new
 allocated_and_freed old mid new request answer r freed first second same =
     then_freed 1 old mid new (request ∷ []) r freed
-    (then_allocated 0 old old mid (request ∷ []) request answer (no_parts 0 old (request ∷ [])) (0, omega arith, refl) first)
+    (then_allocated 0 old old mid (request ∷ []) request answer (no_parts 0 old (request ∷ [])) (request, (0, omega arith, refl), inl refl) first)
     second same
 
 pub ruleset taken = (no_parts, allocated_only, freed_only, allocated_and_freed)

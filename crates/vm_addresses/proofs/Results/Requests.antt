@@ -1,5 +1,5 @@
 -- From the constraint of a request to its result.
-use Rattle.std.proofs.Common.{◌≡◌, ℕ, Option, refl, sym, ap, arith, inr, Result, Ok, Err, subst}
+use Rattle.std.proofs.Common.{◌≡◌, ℕ, Option, refl, sym, ap, arith, inr, Result, Ok, Err, subst, length}
 use Rattle.vm_ranges.specs.Range.{Range}
 use Rattle.vm_ranges.specs.Request.{Request, IsRequest, ByConstraint, MakesConstraint}
 use Rattle.vm_ranges.specs.declared.error.Error.{Error}
@@ -23,12 +23,12 @@ unfolding MakesConstraint Allocates
 allocates_refused old request x h =
     let made : Result Request Error = Err x in
     let answer : Result Range Error = Err x in
-    constraint_map request (λ e. made ≡ Err e) (λ e. (answer ≡ Err e) × (old ≡ old)) (made ≡ Ok request) (Grants old request (Err x) old)
+    constraint_map request (λ e. made ≡ Err e) (λ e. (answer ≡ Err e) × (old ≡ old)) (made ≡ Ok request) (Grants (length old.held) old request (Err x) old)
     (λ e k. let same : x ≡ e = cc in (ap (λ (v : Error). Err v) same, refl)) (λ k. absurd (cc)) h
 
 -- The result of a valid request is that of `allocate`.
 pub request_allocates : (request : Request) (old new : AddressState) (answer : Result Range Error) → IsRequest request →
-    Grants old request answer new → Allocates old request answer new
+    Grants (length old.held) old request answer new → Allocates old request answer new
 unfolding Allocates ByConstraint
 request_allocates request old new answer v g = inr (λ e. omega (arith, e, v.some), inr (v.aligned, inr (v.start, g)))
 
