@@ -7,7 +7,7 @@ use Rattle.vm_ranges.specs.Request.{Request, ByPolicy, request_for}
 use Rattle.vm_leaf.specs.declared.block.Block.{Block}
 use Rattle.vm_leaf.specs.Block.{free_block}
 use Rattle.vm_leaf.specs.Fit.{HasNoFit, IsFit, IsLowestFit, IsHighestFit}
-use Rattle.vm_addresses.specs.Address.{AddressState, IsClear, holding, releasing}
+use Rattle.vm_addresses.specs.Address.{AddressState, IsAddressState, IsClear, holding, releasing}
 use Rattle.vm_addresses.specs.Answer.{SPLIT_LIMIT_MIN_HELD, Allocates}
 use Rattle.vm_addresses.specs.Windows.{part_in, window_in}
 use Rattle.vm_addresses.specs.declared.address_allocator.moving.BegunMove.{BegunMove}
@@ -52,7 +52,8 @@ pub record IsInLeftGap (old : AddressState) (r gap q : Range) : Type 0 where
 -- The range to come is held beside the range r. So freeing r is left to do.
 pub record IsHeldBeside (old : AddressState) (r : Range) (begun : BegunMove) (mid : AddressState) : Type 0 where
   pub held : mid ≡ holding begun.range old
-  pub clear : IsClear old begun.range.start
+  pub some : begun.range.start ≤ begun.range.end
+  pub clear : (x : ℕ) → IsIn begun.range x → IsClear old x
 
 -- The range to come is r, or lies in the gap that r leaves. If it splits this gap, there is memory for that, and few ranges are held.
 pub record IsToBeHeld (old : AddressState) (r : Range) (begun : BegunMove) (mid : AddressState) : Type 0 where
@@ -63,6 +64,7 @@ pub record IsToBeHeld (old : AddressState) (r : Range) (begun : BegunMove) (mid 
 
 -- A move of the held range r was begun in the state old, and led to the state mid.
 pub record IsBegun (old : AddressState) (r : Range) (begun : BegunMove) (mid : AddressState) : Type 0 where
+  pub state : IsAddressState old
   pub held : Contains old.held r
   pub beside : begun.is_allocated ≡ true → IsHeldBeside old r begun mid
   pub inside : begun.is_allocated ≡ false → IsToBeHeld old r begun mid
@@ -83,16 +85,19 @@ BeginsInside old r gap q (Err e) = IfElse (q.end ≡ MAX) (e ≡ Overflow) ((q �
 abbrev pub part_for : Request → Range → Block
 part_for request gap = free_block (part_in request.window gap)
 
+-- The start in the block that the policy of the request chooses, or None if its range does not fit there.
+abbrev pub FindsStart : Block → Request → Option ℕ → Type 0
+FindsStart b request None =
+    let none : Type 0 = HasNoFit request.size request.align b in
+    ByPolicy request.policy none none (λ start. ¬ IsFit request.size request.align b start)
+FindsStart b request (Some s) =
+    ByPolicy request.policy (IsLowestFit request.size request.align b s) (IsHighestFit request.size request.align b s)
+    (λ start. (s ≡ start) × IsFit request.size request.align b s)
+
 -- The range of the request at the place in the gap that its policy chooses, or None if the gap has no place for it.
 abbrev pub FindsPlaceIn : Range → Request → Option Range → Type 0
-FindsPlaceIn gap request None =
-    let none : Type 0 = HasNoFit request.size request.align (part_for request gap) in
-    ByPolicy request.policy none none (λ start. ¬ IsFit request.size request.align (part_for request gap) start)
-FindsPlaceIn gap request (Some q) =
-    (q ≡ span q.start request.size) × ByPolicy request.policy
-    (IsLowestFit request.size request.align (part_for request gap) q.start)
-    (IsHighestFit request.size request.align (part_for request gap) q.start)
-    (λ start. (q.start ≡ start) × IsFit request.size request.align (part_for request gap) start)
+FindsPlaceIn gap request None = FindsStart (part_for request gap) request None
+FindsPlaceIn gap request (Some q) = (q ≡ span q.start request.size) × FindsStart (part_for request gap) request (Some q.start)
 
 -- The request for the ranges that the policy chooses before q, or None if the window ends there.
 abbrev pub IsForCloser : Range → Request → Range → Option Request → Type 0

@@ -56,6 +56,22 @@ allocated_only old new request answer part =
     (then_allocated 0 old old new (request ∷ []) request answer (no_parts 0 old (request ∷ [])) (request, (0, omega arith, refl), inl refl) part)
     (omega arith)
 
+-- Parts one after the other.
+pub taken_both : (n m : ℕ) (old mid new : Shape) (requests : List Request) → TakesParts n old requests mid → TakesParts m mid requests new →
+    TakesParts (n + m) old requests new
+taken_both n m old mid new requests a b = record {
+  parts = a.parts ++ b.parts;
+  from = history_append HasPart a.parts b.parts old mid new a.from b.from;
+  for_requests = All-append (IsPartFor requests) a.parts b.parts a.for_requests b.for_requests;
+  few = omega (arith, length-append a.parts b.parts, a.few, b.few);
+}
+
+-- An allocation with the policy of the request.
+pub allocated_as : (old new : Shape) (request asked : Request) (answer : Result Range Error) → asked.policy ≡ request.policy →
+    (count : ℕ) × HasParts old (Allocating asked answer count ∷ []) new → TakesParts 1 old (request ∷ []) new
+allocated_as old new request asked answer same part =
+    then_allocated 0 old old new (request ∷ []) asked answer (no_parts 0 old (request ∷ [])) (request, (0, omega arith, refl), inl same) part
+
 pub freed_only : (old new : Shape) (r : Range) (freed : Result (Unit {0}) Error) →
     OnOk freed ((n : ℕ) × HasParts old (Freeing r n ∷ []) new) → OnErr freed (new ≡ old) → TakesParts 1 old [] new
 freed_only old new r freed part same = then_freed 0 old old new [] r freed (no_parts 0 old []) part same

@@ -142,5 +142,3 @@ left_range old r s e valid c a b =
     let last = g.clear e (omega (arith, a.upto, some.0, b.from), omega arith) in
     let space = valid.space in
     omega (arith, a.upto, some.0, b.from, first.0.0, last.0.1, space)
-
-pub ruleset whole = (left_gap, left_range)

@@ -73,7 +73,7 @@ module _ (s : ℕ) (old new : AddressState) (answer : Result Range Error) where
       (given _ _ _ clear (otherwise _ _ _ (clear_not_held n t view z clear) (otherwise _ _ _ (λ o. omega arith) (given _ _ _ inside k.1)))))
       h
 
-  chosen_by : (counted : ℕ) (policy : AllocPolicy) (w : Option Range) (n a : ℕ) → 0 < n → s + n - 1 ≤ MAX → IsChosen (request_in w n a policy) old s →
+  pub chosen_by : (counted : ℕ) (policy : AllocPolicy) (w : Option Range) (n a : ℕ) → 0 < n → s + n - 1 ≤ MAX → IsChosen (request_in w n a policy) old s →
       Grants counted old (request_in w n a policy) answer new → TakesBelowMax counted old n s answer new
   unfolding Grants ByExactPolicy
   chosen_by counted FirstMatch w n a z m c h = by_place _ (request_in w n a FirstMatch) c h

@@ -7,13 +7,15 @@
 ghost use Rattle.std.specs.Prelude.{◌≡◌, ◌≢◌, ℕ, ◌-◌, ◌%◌, ◌<◌, ◌≤◌, ◌⊎◌, [], ◌∷◌, length, true, false, None, Some, Ok, Err, OnErr, IfOk, IfErr, IfSome};
 ghost use Rattle.std.specs.List.{Contains};
 ghost use Rattle.vm_ranges.specs.Cases.{IsTestOf};
-ghost use Rattle.vm_ranges.specs.Range.{Range, Covers, address_count};
+ghost use Rattle.vm_ranges.specs.Range.{Range, IsRange, Covers, address_count};
 ghost use Rattle.vm_ranges.specs.Request.{Request, IsRequest};
 ghost use Rattle.vm_ranges.specs.declared.constraint.AllocPolicy.TheVariants.{ExactMatch};
 ghost use Rattle.vm_addresses.specs.Address.{AddressState, IsAddressState};
 ghost use Rattle.vm_addresses.specs.Answer.{SPLIT_LIMIT_MIN_HELD, Grants};
 ghost use Rattle.vm_addresses.specs.Counts.Parts.{Allocating, HasParts, TakesParts};
 ghost use Rattle.vm_addresses.specs.Allocator.{state_of};
+ghost use Rattle.vm_addresses.specs.Windows.{part_in};
+ghost use Rattle.vm_leaf.specs.Block.{free_block};
 ghost use Rattle.vm_addresses.specs.Moves.{
   request_to,
   replacing,
@@ -24,6 +26,7 @@ ghost use Rattle.vm_addresses.specs.Moves.{
   IsLeftEnd,
   IsBegun,
   BeginsMove,
+  FindsStart,
   FindsPlaceIn,
   IsForCloser,
   BeginsInside,
@@ -161,7 +164,7 @@ impl AddressAllocator {
     ///
     /// Those of [`move_constraint`](Self::move_constraint), in the same order. An error changes nothing, and
     /// leaves the same tree.
-    #[tactic(auto, using(crate::proofs::Moving::Beginning::beginning, crate::proofs::Trees::Spaces::states))]
+    #[tactic(auto, using(crate::proofs::Results::Moves::move_refused, crate::proofs::Counts::TakenParts::taken, crate::proofs::Trees::Spaces::states))]
     pub fn begin_move(
         &mut self,
         alloc: Global,
@@ -223,6 +226,7 @@ impl AddressAllocator {
         key: &RangeInclusive,
         request: Constraint,
     ) -> Result<BegunMove>
+        requires state { IsAddressState (state_of self.old) }
         requires held { Contains (state_of self.old).held key.now }
         requires none { (gap : Range) × IsLeftGap (state_of self.old) key.now gap × FindsPlaceIn gap request None }
         ensures answer { BeginsMove (state_of self.old) key.now request result (state_of self.new) }
@@ -247,9 +251,11 @@ impl AddressAllocator {
         range: RangeInclusive,
         request: Constraint,
     ) -> Result<BegunMove>
+        requires state { IsAddressState (state_of self.old) }
         requires held { Contains (state_of self.old).held key.now }
         requires gap { IsLeftGap (state_of self.old) key.now gap.now }
         requires place { FindsPlaceIn gap.now request (Some range) }
+        requires valid { IsRequest request }
         ensures answer { BeginsMove (state_of self.old) key.now request result (state_of self.new) }
         ensures unchanged { OnErr result (self.new ≡ self.old) }
         ensures parts { TakesParts 1 self.old (request ∷ []) self.new }
@@ -298,7 +304,6 @@ impl AddressAllocator {
 
     /// Allocates the range of a request, beside a range that will be freed. So this range does not count for
     /// the limit of splits.
-    #[tactic(auto, using(crate::proofs::Moving::Beginning::beside))]
     fn allocate_beside(&mut self, alloc: Global, request: Constraint) -> Result<RangeInclusive>
         requires { 0 < length (state_of self.old).held }
         ensures valid { IsRequest request }
@@ -311,7 +316,7 @@ impl AddressAllocator {
     }
 
     /// Frees `key`, and allocates `range` in the gap that it leaves.
-    #[tactic(auto, using(crate::proofs::Moving::Finishing::replacing))]
+    #[tactic(auto, using(crate::proofs::Counts::TakenParts::taken))]
     fn replace(
         &mut self,
         alloc: Global,
@@ -338,7 +343,6 @@ impl AddressAllocator {
     }
 
     /// Returns the gap that an allocated range leaves when it is freed.
-    #[tactic(auto, using(crate::proofs::Moving::LeftGaps::whole))]
     fn gap_left_by(&self, key: &RangeInclusive) -> RangeInclusive
         requires state { IsAddressState (state_of self.now) }
         requires held { Contains (state_of self.now).held key.now }
@@ -383,24 +387,44 @@ impl AddressAllocator {
 /// no place for it.
 #[tactic(auto, using(crate::proofs::Moving::Places::finding))]
 fn place_in(gap: &RangeInclusive, request: Constraint) -> Option<RangeInclusive>
-    ensures { FindsPlaceIn gap.now request result }
+    ensures found { FindsPlaceIn gap.now request result }
+    ensures valid { IsRequest request }
 {
-    let (low, high) = match request.window() {
+    let (low, high) = ends_in(gap, request.window());
+    let start = start_between(low, high, request)?;
+    Some(RangeInclusive::between(start, start + (request.size() - 1)))
+}
+
+/// Returns the ends of the part of a gap that lies in the window. If there is none, the first is above the
+/// second.
+fn ends_in(gap: &RangeInclusive, window: Option<RangeInclusive>) -> (u64, u64)
+    ensures ends { part_in window gap.now ≡ record { start = result.0; end = result.1 } }
+    ensures range { IsRange gap.now.start gap.now.end }
+{
+    match window {
         None => (gap.start(), gap.end()),
         Some(window) => (window.start().max(gap.start()), window.end().min(gap.end())),
-    };
+    }
+}
+
+/// Returns the start that the policy of a request chooses between two addresses, or `None` if its range does
+/// not fit there.
+#[tactic(auto, using(crate::proofs::Moving::Places::starting))]
+fn start_between(low: u64, high: u64, request: Constraint) -> Option<u64>
+    ensures found { FindsStart (free_block (record { start = low; end = high })) request result }
+    ensures valid { IsRequest request }
+{
     let size = request.size();
-    let start = match request.policy() {
-        AllocPolicy::FirstMatch => lowest_fit(low, high, size, request.align())?,
-        AllocPolicy::LastMatch => highest_fit(low, high, size, request.align())?,
+    match request.policy() {
+        AllocPolicy::FirstMatch => lowest_fit(low, high, size, request.align()),
+        AllocPolicy::LastMatch => highest_fit(low, high, size, request.align()),
         AllocPolicy::ExactMatch(start) => {
             if start < low || high < start || high - start < size - 1 {
                 return None;
             }
-            start
+            Some(start)
         }
-    };
-    Some(RangeInclusive::between(start, start + (size - 1)))
+    }
 }
 
 /// Returns the request for the ranges that the policy chooses before `range`, or `None` if the window ends
@@ -430,7 +454,8 @@ fn closer_than(
 
 /// Returns `true` if a request is for exactly this range: at its start, and as long.
 fn asks_for(range: &RangeInclusive, request: Constraint) -> bool
-    ensures { IsTestOf result ((request.policy ≡ ExactMatch range.now.start) × (request.size ≡ address_count range.now)) }
+    ensures asks { IsTestOf result ((request.policy ≡ ExactMatch range.now.start) × (request.size ≡ address_count range.now)) }
+    ensures valid { IsRequest request }
 {
-    request.policy() == AllocPolicy::ExactMatch(range.start()) && request.size() == range.len()
+    request.size() == range.len() && request.policy() == AllocPolicy::ExactMatch(range.start())
 }
