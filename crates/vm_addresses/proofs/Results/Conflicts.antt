@@ -1,7 +1,7 @@
 -- The conflict of a request.
 use Rattle.std.proofs.Common.{◌≡◌, ◌↔◌, ℕ, ◌+◌, ◌-◌, ◌%◌, ◌<◌, ◌≤◌, nat_eq, cond, Bool, true, false, List, [], ◌∷◌, Option, Some, None, Ok, Err, refl, sym, ap, ◌∙◌, arith, inl, inr, ⊎_elim, subst}
 use Rattle.std.specs.List.{Contains}
-use Rattle.std.proofs.lemmas.Bool.{cases_eq, eq-eqb, ne_eqb, eqb-eq}
+use Rattle.std.proofs.lemmas.Bool.{cases_eq, eq-eqb, ne_eqb}
 use Rattle.vm_ranges.specs.Cases.{Unless}
 use Rattle.vm_ranges.specs.Range.{Range, MAX, IsIn, Overlaps, Covers, span, address_count}
 use Rattle.vm_ranges.specs.Request.{Request, ByPolicy, IsStartAligned, IsRequest}
@@ -121,13 +121,12 @@ whole_conflict state request w answer valid low high = same_conflict state reque
 none_removed : (lo hi : ℕ) (r w : Range) (hs : List Range) → AreInOrder lo hs hi → r.start < lo → without_range r (meeting w hs) ≡ meeting w hs
 none_removed lo hi r w [] s l = refl
 none_removed lo hi r w (x ∷ xs) s l =
-    let rest = none_removed (x.end + 1) hi r w xs s.4 (omega (arith, l, s.0, s.1)) in
-    let apart = ne_eqb r.start x.start (λ e. omega (arith, e, l, s.0)) in
-    by_test (meets w x) refl
+    by_test (ne_eqb r.start x.start (λ e. omega (arith, e, l, s.0))) (none_removed (x.end + 1) hi r w xs s.4 (omega (arith, l, s.0, s.1))) (meets w x)
   where
-    by_test : (b : Bool) → b ≡ meets w x → without_range r (cond b (x ∷ meeting w xs) (meeting w xs)) ≡ cond b (x ∷ meeting w xs) (meeting w xs)
-    by_test true e = rw apart (ap (λ (v : List Range). x ∷ v) rest)
-    by_test false e = rest
+    by_test : nat_eq r.start x.start ≡ false → without_range r (meeting w xs) ≡ meeting w xs → (b : Bool) →
+        without_range r (cond b (x ∷ meeting w xs) (meeting w xs)) ≡ cond b (x ∷ meeting w xs) (meeting w xs)
+    by_test apart rest true = rw apart (ap (λ (v : List Range). x ∷ v) rest)
+    by_test apart rest false = rest
 
 -- Freeing a range removes it from the ranges in the way.
 pub meeting_without : (lo hi : ℕ) (r w : Range) (hs : List Range) → AreInOrder lo hs hi → meeting w (without_range r hs) ≡ without_range r (meeting w hs)
@@ -136,16 +135,16 @@ meeting_without lo hi r w (x ∷ xs) s =
     ⊎_elim
     (λ (d : r.start ≡ x.start).
     let e = eq-eqb r.start x.start d in
-    rw e (by_same e (meets w x)))
+    rw e (by_same d e (meets w x)))
     (λ (d : r.start ≡ x.start → ⊥).
     let e = ne_eqb r.start x.start d in
     let rest = meeting_without (x.end + 1) hi r w xs s.4 in
     rw e (by_other e rest (meets w x)))
     (cases_eq r.start x.start)
   where
-    by_same : nat_eq r.start x.start ≡ true → (b : Bool) → meeting w xs ≡ without_range r (cond b (x ∷ meeting w xs) (meeting w xs))
-    by_same e true = rw e refl
-    by_same e false = sym (none_removed (x.end + 1) hi r w xs s.4 (omega (arith, eqb-eq r.start x.start e, s.1)))
+    by_same : r.start ≡ x.start → nat_eq r.start x.start ≡ true → (b : Bool) → meeting w xs ≡ without_range r (cond b (x ∷ meeting w xs) (meeting w xs))
+    by_same d e true = rw e refl
+    by_same d e false = sym (none_removed (x.end + 1) hi r w xs s.4 (omega (arith, d, s.1)))
 
     by_other : nat_eq r.start x.start ≡ false → meeting w (without_range r xs) ≡ without_range r (meeting w xs) → (b : Bool) →
         cond b (x ∷ meeting w (without_range r xs)) (meeting w (without_range r xs)) ≡ without_range r (cond b (x ∷ meeting w xs) (meeting w xs))
@@ -179,6 +178,11 @@ pub ends_past : (w : Range) (s n : ℕ) → 0 < n → w.end ≤ MAX → MAX < s 
 unfolding Covers
 ends_past w s n z l m c = omega (arith, l, m, (c (s + n - 1) (omega (arith, m), omega arith)).1)
 
-pub ruleset looking = (ends_past)
+pub past_conflict : (space : Range) (request : Request) (t : ℕ) → request.policy ≡ ExactMatch t → 0 < request.size → space.end ≤ MAX →
+    MAX < t + request.size - 1 → LooksAt space request (Err (Some (OutsideSpace space)))
+unfolding IsConflict IsConflictOf
+past_conflict space request t e z l m = λ held. rw e (inl (ends_past space t request.size z l m, refl))
+
+pub ruleset looking = (past_conflict)
 
 pub ruleset conflicts = (conflict_decides)

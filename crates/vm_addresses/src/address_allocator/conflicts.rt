@@ -1,9 +1,10 @@
 //! The reason why the range of a request is not free.
 ghost use Rattle.std.specs.Prelude.{◌≡◌};
 ghost use Rattle.std.specs.List.{Contains};
+ghost use Rattle.vm_ranges.specs.Request.{IsRequest};
 ghost use Rattle.vm_addresses.specs.Address.{releasing, without_range};
 ghost use Rattle.vm_addresses.specs.Allocator.{state_of};
-ghost use Rattle.vm_addresses.specs.Conflicts.{IsConflict, IsMoveConflict, IsWindowConflict, ConflictDecides, LooksAt, first_of};
+ghost use Rattle.vm_addresses.specs.Conflicts.{IsConflict, IsMoveConflict, IsWindowConflict, ConflictDecides, LooksAt, with_first};
 ghost use Rattle.vm_addresses.specs.Queries.{meeting};
 
 use super::AddressAllocator;
@@ -59,32 +60,34 @@ impl AddressAllocator {
         }
         match range_of(&self.space, request) {
             Err(conflict) => conflict,
-            Ok(range) => Some(Conflict::Allocated(self.first_beside(key, &range)?)),
+            Ok(range) => self.conflict_beside(key, &range),
         }
     }
 
-    /// Returns the lowest allocated range other than `key` that has an address in common with `range`, or `None`
-    /// if there is none.
-    fn first_beside(&self, key: &RangeInclusive, range: &RangeInclusive) -> Option<RangeInclusive>
-        ensures { result ≡ first_of (without_range key.now (meeting range.now (state_of self.now).held)) }
+    /// Returns the lowest allocated range other than `key` that has an address in common with `range`.
+    fn conflict_beside(&self, key: &RangeInclusive, range: &RangeInclusive) -> Option<Conflict>
+        ensures { result ≡ with_first (without_range key.now (meeting range.now (state_of self.now).held)) }
     {
         let mut ranges = self.held_ranges_in(range);
         let first = ranges.next()?;
         if first.start() == key.start() {
-            return ranges.next();
+            return Some(Conflict::Allocated(ranges.next()?));
         }
-        Some(first)
+        Some(Conflict::Allocated(first))
     }
 }
 
 /// Returns the range of an `ExactMatch` request, or the conflict if it does not depend on allocated ranges.
-#[tactic(auto, using(crate::proofs::Results::Conflicts::looking), unfolding(crate::specs::Conflicts::IsConflict, crate::specs::Conflicts::IsConflictOf))]
+#[tactic(auto, unfolding(crate::specs::Conflicts::IsConflict, crate::specs::Conflicts::IsConflictOf))]
 fn range_of(
     space: &RangeInclusive,
     request: Constraint,
 ) -> Result<RangeInclusive, Option<Conflict>>
-    ensures { LooksAt space.now request result }
+    ensures looks { LooksAt space.now request result }
+    ensures valid { IsRequest request }
 {
+    // Proof: `end` gives the facts of a range.
+    let _end = space.end();
     let AllocPolicy::ExactMatch(start) = request.policy() else {
         return Err(window_conflict(space, request));
     };
