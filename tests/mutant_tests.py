@@ -7,8 +7,7 @@ No clause excludes these mutants. The first line of a patch names the change, an
 
     count_rule: TEXT     tests/count_rule or error_rule, with a part of its output. The mutant of error_rule
                          compiles
-    test: NAME[, RUN]    a test, with its crate, as plain Rust in SCRATCH. RUN is `counted`: its allocations are
-                         counted
+    test: NAME           a test, with its crate, as plain Rust in SCRATCH
     memory: TEXT         divsharun/tests/memory.rs, with a part of its output. It counts the allocations of
                          calls, and makes each fail in turn
 
@@ -17,24 +16,20 @@ import glob
 import json
 import os
 import pathlib
-import re
 import shutil
 import subprocess
 import sys
 
 TOP = os.path.dirname(os.path.dirname(os.path.abspath(__file__)))
 PROJECT, SCRATCH = (os.path.abspath(argument) for argument in sys.argv[1:3])
-COPY, LIBRARY = (os.path.join(SCRATCH, name) for name in ("project", "refuse.so"))
+COPY = os.path.join(SCRATCH, "project")
 BOX_COUNT, DIVSHARUN = (os.path.join(SCRATCH, "rust", name) for name in ("box_count", "divsharun"))
 # A backtrace would take longer than the test.
 ENVIRONMENT = dict(os.environ, CARGO_TARGET_DIR=os.path.join(SCRATCH, "target"), RUST_BACKTRACE="0")
-FIXTURES = pathlib.Path(PROJECT, "crates/vm_tests/src/fixtures.rt").read_text("utf-8")
-COUNT = re.search(r" COUNT_ALLOCATION: usize = ([\d_]+);", FIXTURES)[1].replace("_", "")
 
 
-def run(*command, folder=BOX_COUNT, **variables):
-    environment = {**ENVIRONMENT, **variables}
-    return subprocess.run(command, cwd=folder, env=environment, text=True, capture_output=True, check=False)
+def run(*command, folder=BOX_COUNT):
+    return subprocess.run(command, cwd=folder, env=ENVIRONMENT, text=True, capture_output=True, check=False)
 
 
 def erased(folder, *options):
@@ -66,10 +61,9 @@ def program():
     return next(message["executable"] for message in map(json.loads, lines) if message.get("executable"))
 
 
-def passes(tests, name, how=""):
-    """Returns `true` if a test passes, with its allocations counted if `how` is `counted`."""
-    variables = {"": {}, "counted": {"COUNT": COUNT, "LD_PRELOAD": LIBRARY}}[how]
-    done = run(tests, "--exact", f"proved::{name}", "--test-threads=1", **variables)
+def passes(tests, name):
+    """Returns `true` if a test passes."""
+    done = run(tests, "--exact", f"proved::{name}")
     return done.returncode == 0 and ("1 passed" in done.stdout or sys.exit(f"there is no test {name}"))
 
 
@@ -82,7 +76,7 @@ def memory_test():
 
 def is_noticed(check, rest):
     if check == "test":
-        return not passes(program(), *rest.split(", "))
+        return not passes(program(), rest)
     if check == "memory":
         done = memory_test()
         return done.returncode == 101 and rest in done.stdout + done.stderr
@@ -95,14 +89,12 @@ def is_noticed(check, rest):
 def main():
     bindings, folder = (os.path.join(PROJECT, name) for name in ("bindings/rust", "tests"))
     shutil.copytree(bindings, os.path.dirname(BOX_COUNT), ignore=shutil.ignore_patterns("target"))
-    cc = [os.environ.get("CC", "cc"), "-O2", "-shared", "-fPIC"]
-    subprocess.run([*cc, "-o", LIBRARY, os.path.join(folder, "refuse.c"), "-ldl"], check=True)
     patches = [*map(os.path.abspath, sys.argv[3:])] or sorted(glob.glob(os.path.join(folder, "mutants/*.patch")))
     checks = {patch: pathlib.Path(patch).read_text("utf-8").split("\n")[1].split(": ", 1) for patch in patches}
     copy_sources()
     tests = program()
     wrong = [f"{rest} fails without a mutant" for check, rest in sorted(map(tuple, checks.values()))
-             if check == "test" and not passes(tests, *rest.split(", "))]
+             if check == "test" and not passes(tests, rest)]
     if any(check == "memory" for check, _ in checks.values()) and memory_test().returncode:
         wrong.append("memory.rs fails without a mutant")
     for patch, (check, rest) in checks.items():

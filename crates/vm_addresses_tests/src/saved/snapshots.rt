@@ -223,9 +223,6 @@ const EVERY_SECOND_FREED: &str =
 "right":null,"height":1},"right":{"key":{"start":1999292,"end":2097151},"node_state":"Free","left":null,
 "right":null,"height":1},"height":2},"height":4},"height":5},"height":7}}}"#;
 
-/// The ids 5 to 23: seven allocated, then 6 and 9 freed.
-const IDS: &str = r#"{"range_base":5,"next_id":12,"range_end":23,"freed_ids":[6,9]}"#;
-
 /// Checks that this number of ranges is allocated, including these as the first. `text` is the text
 /// that was read.
 fn expect_held(
@@ -287,15 +284,4 @@ fn faults_of_the_other_crate(rt: HostRuntime) {
     ] {
         assert_repaired(&rt, text, want);
     }
-}
-
-#[test]
-fn ids_of_the_other_crate(rt: HostRuntime) {
-    let value = parsed(&rt, IDS);
-    let ids = IdAllocator::from_value(rt.alloc(), &value).expect(&rt, IDS);
-    for id in 0..32 {
-        let held = [5, 7, 8, 10, 11].contains(&id);
-        expect_eq(&rt, &ids.is_allocated(id), &held, &id);
-    }
-    assert!(rt; saved_ids(&rt, &ids) == value);
 }

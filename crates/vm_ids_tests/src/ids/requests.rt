@@ -2,7 +2,7 @@
 //!
 //! They guard against skipped ids that are lost, and against a call that allocates memory without need.
 use super::*;
-use crate::fixtures::{ENOUGH, count_allocations, expect_allocations};
+use crate::fixtures::ENOUGH;
 use Request::{Exact, Left, Plain, Several, Window};
 
 /// A request with its expected result.
@@ -57,32 +57,6 @@ fn ids_by_number_and_window(rt: HostRuntime) {
         )),
     ];
     request_all(&rt, &mut made(&rt, 5, 23), requests);
-}
-
-/// The allocations of each call: none for an id up to the next one, one for a list, and none for a new
-/// allocator whose ids skip none.
-#[test]
-fn allocations_of_requests(rt: HostRuntime) {
-    let mut ids = made(&rt, 5, 23);
-    replay(&rt, &mut ids, &[TakeAll(5, 8), Free(6, Id(6))]);
-    count_allocations(rt.alloc());
-    let requests = &[
-        Exact(6, Id(6)),
-        Exact(9, Id(9)),
-        Window(5, 10, Id(10)),
-        Exact(9, NotAvailable),
-        Exact(24, OutOfRange(24)),
-    ];
-    request_all(&rt, &mut ids, requests);
-    expect_allocations(rt.alloc(), 0);
-    count_allocations(rt.alloc());
-    request_all(&rt, &mut ids, &[Several(&[11, 12, 13])]);
-    expect_allocations(rt.alloc(), 1);
-    count_allocations(rt.alloc());
-    let first = IdAllocator::with_held(rt.alloc(), 5, 23, &[5, 6, 7]);
-    expect_allocations(rt.alloc(), 0);
-    let next = first.expect(&rt, ENOUGH).next_id();
-    expect_eq(&rt, &next, &Some(8), &"the first three ids");
 }
 
 #[test]

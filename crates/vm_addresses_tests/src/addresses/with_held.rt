@@ -1,9 +1,8 @@
 //! Tests of allocators that are created with allocated ranges.
 //!
-//! They guard against a call that allocates before it has checked its ranges, and against more leaves
-//! and nodes than the tree needs.
+//! They guard against a call that allocates before it has checked its ranges.
 use super::*;
-use crate::fixtures::{ENOUGH, count_allocations, expect_allocations, fail_from_here, range};
+use crate::fixtures::{fail_from_here, range};
 use vm_allocator::ListError;
 
 /// A space by its base and its size, two ranges, and the error of creating it with these allocated: the
@@ -39,40 +38,4 @@ fn refused_without_memory(rt: HostRuntime) {
         Err(failure) => failure == ListError::from(Error::OutOfMemory),
     };
     expect_true(&rt, is_true, &"two are held");
-}
-
-/// Returns a number of even addresses from 0, each as a range.
-fn even_addresses(rt: &(impl Abort + AllocGlobal), number: u64) -> Vec<RangeInclusive> {
-    let mut list = Vec::with_capacity(rt.alloc(), number as usize).expect(rt, ENOUGH);
-    for index in 0..number {
-        let start = index.saturating_mul(2);
-        let pushed = list.push(range(rt, start, start));
-        assert!(rt; pushed.is_ok());
-    }
-    list
-}
-
-/// Creates allocators in which each even address is allocated. Their blocks are in the fewest leaves of
-/// 32, with one node less than leaves, at the minimum height.
-#[test]
-fn created_in_leaves(rt: HostRuntime) {
-    // The number of ranges, of which each makes two blocks, the number of leaves and nodes, and the height.
-    for (number, allocations, height) in [
-        (0, 1, 1),
-        (16, 1, 1),
-        (17, 3, 2),
-        (48, 5, 3),
-        (64, 7, 3),
-        (65, 9, 4),
-    ] {
-        let held = even_addresses(&rt, number);
-        let size = number.saturating_mul(2).max(1);
-        count_allocations(rt.alloc());
-        let answer = AddressAllocator::with_held(rt.alloc(), 0, size, &held);
-        expect_allocations(rt.alloc(), allocations);
-        let space = answer.expect(&rt, ENOUGH);
-        let counts = (space.height(), space.held_count(), space.gap_count());
-        let gaps = number.max(1);
-        expect_eq(&rt, &counts, &(height, number, gaps), &number);
-    }
 }

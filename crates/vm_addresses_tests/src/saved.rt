@@ -3,17 +3,16 @@
 //! They guard against a format with another meaning than its documentation, and against a value of
 //! vm-allocator that is not read.
 use crate::fixtures::{
-    ENOUGH, Reader, block_count, expect_eq, expect_space, fail_from_here, hold, holds_exactly,
-    made, parsed, range, reject_each, saved, saved_ids,
+    ENOUGH, block_count, expect_eq, expect_space, fail_from_here, hold, holds_exactly, items, made,
+    parsed, range, saved,
 };
 use serde_json::Value;
 use std::fmt::Debug;
 use std::process::Abort;
 use vm_allocator::allocation_engine::NodeState;
-use vm_allocator::{AddressAllocator, IdAllocator, RangeInclusive, ValueError};
+use vm_allocator::{AddressAllocator, RangeInclusive, ValueError};
 
 mod allocators;
-mod ids;
 mod repaired;
 mod snapshots;
 mod without_memory;

@@ -6,9 +6,11 @@ use crate::fixtures::{expect_eq, expect_true, fail_from_here, parsed, saved_ids}
 use Call::{Allocate, Count, Fields, Free, Holds, Peek, TakeAll};
 use Expected::{AlreadyReleased, Id, NeverAllocated, NotAvailable, OutOfRange, Overflow};
 use std::process::Abort;
-use vm_allocator::{Error, IdAllocator, Result};
+use vm_ids::IdAllocator;
+use vm_ranges::{Error, Result};
 
 mod requests;
+mod saved;
 
 /// Allocates ids, and checks that they are those from `first` to `last`.
 fn take_all(rt: &impl Abort, ids: &mut IdAllocator, first: u32, last: u32) {

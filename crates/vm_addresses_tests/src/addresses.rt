@@ -14,7 +14,6 @@ use vm_allocator::{AddressAllocator, AllocPolicy, Constraint, Error, RangeInclus
 
 mod differences;
 mod ends;
-mod requests;
 mod several;
 mod with_held;
 mod without_memory;
