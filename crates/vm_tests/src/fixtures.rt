@@ -107,9 +107,12 @@ pub(crate) fn expect_refused(
     );
 }
 
-/// Replaces the part at a path of a value.
-pub(crate) fn put(rt: &impl Abort, value: &mut Value, place: &str, part: Value) {
-    *value.pointer_mut(place).expect(rt, "it has the place") = part;
+/// Replaces the part at a path of a value, and returns the old part.
+pub(crate) fn put(rt: &impl Abort, value: &mut Value, place: &str, part: Value) -> Value {
+    let there = value.pointer_mut(place).expect(rt, "it has the place");
+    let old = there.take();
+    *there = part;
+    old
 }
 
 /// Returns nested copies of a node. Each has one address as its key and the copy before it at

@@ -143,16 +143,9 @@ fn reject_with(rt: &(impl Abort + AllocGlobal), part: Value, inner: &str) {
     for (number, place) in PLACES.iter().enumerate() {
         put(rt, &mut values, place, deep);
         reject_by_all(rt, items(rt, &values).get(number), place);
-        deep = taken(rt, &mut values, place);
+        deep = put(rt, &mut values, place, Value::Null);
     }
     take_apart(deep, inner);
-}
-
-/// Removes the part at a path from a value.
-fn taken(rt: &impl Abort, value: &mut Value, place: &str) -> Value {
-    let there = value.pointer_mut(place).expect(rt, "it has the place");
-    assert!(rt; !there.is_null(), "{place}");
-    there.take()
 }
 
 /// Drops a deep value level by level.
