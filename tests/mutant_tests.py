@@ -7,34 +7,29 @@ No clause excludes these mutants. The first line of a patch names the change, an
 
     count_rule: TEXT     tests/count_rule or error_rule, with a part of its output. The mutant of error_rule
                          compiles
-    test: NAME[, RUN]    a test, with its crate, as plain Rust in SCRATCH. RUN is `counted`: its allocations are
-                         counted
     memory: TEXT         divsharun/tests/memory.rs, with a part of its output. It counts the allocations of
                          calls, and makes each fail in turn
+    calls: TEXT          divsharun/tests/calls.rs in the same way
 
 The exit status is 1 if a check does not notice a mutant, or if a test fails without one."""
 import glob
-import json
 import os
 import pathlib
-import re
 import shutil
 import subprocess
 import sys
 
 TOP = os.path.dirname(os.path.dirname(os.path.abspath(__file__)))
 PROJECT, SCRATCH = (os.path.abspath(argument) for argument in sys.argv[1:3])
-COPY, LIBRARY = (os.path.join(SCRATCH, name) for name in ("project", "refuse.so"))
+COPY = os.path.join(SCRATCH, "project")
 BOX_COUNT, DIVSHARUN = (os.path.join(SCRATCH, "rust", name) for name in ("box_count", "divsharun"))
+TESTS = ("memory", "calls")
 # A backtrace would take longer than the test.
 ENVIRONMENT = dict(os.environ, CARGO_TARGET_DIR=os.path.join(SCRATCH, "target"), RUST_BACKTRACE="0")
-FIXTURES = pathlib.Path(PROJECT, "crates/vm_tests/src/fixtures.rt").read_text("utf-8")
-COUNT = re.search(r" COUNT_ALLOCATION: usize = ([\d_]+);", FIXTURES)[1].replace("_", "")
 
 
-def run(*command, folder=BOX_COUNT, **variables):
-    environment = {**ENVIRONMENT, **variables}
-    return subprocess.run(command, cwd=folder, env=environment, text=True, capture_output=True, check=False)
+def run(*command, folder=BOX_COUNT):
+    return subprocess.run(command, cwd=folder, env=ENVIRONMENT, text=True, capture_output=True, check=False)
 
 
 def erased(folder, *options):
@@ -51,43 +46,27 @@ def copy_sources():
     shutil.copy(os.path.join(PROJECT, "crates.txt"), COPY)
 
 
-def built(*command):
-    """Erases the copy of the sources, and returns the output of a command of cargo."""
+def check_compiles():
+    """Erases the copy of the sources with their tests, and ends if it does not compile."""
     erased(BOX_COUNT, "--tests")
-    done = run("cargo", *command, "--lib", "-q", "--offline", "--message-format=json")
+    done = run("cargo", "check", "--lib", "-q", "--offline")
     if done.returncode:
         sys.exit(f"not built:\n{(done.stdout + done.stderr)[-2000:]}")
-    return done.stdout
 
 
-def program():
-    """Returns the program of all tests."""
-    lines = built("test", "--no-run", "--profile=dev", "--config=profile.dev.debug=0").splitlines()
-    return next(message["executable"] for message in map(json.loads, lines) if message.get("executable"))
-
-
-def passes(tests, name, how=""):
-    """Returns `true` if a test passes, with its allocations counted if `how` is `counted`."""
-    variables = {"": {}, "counted": {"COUNT": COUNT, "LD_PRELOAD": LIBRARY}}[how]
-    done = run(tests, "--exact", f"proved::{name}", "--test-threads=1", **variables)
-    return done.returncode == 0 and ("1 passed" in done.stdout or sys.exit(f"there is no test {name}"))
-
-
-def memory_test():
-    """Runs divsharun/tests/memory.rs over the copy of the sources."""
+def rust_test(name):
+    """Runs a test of divsharun over the copy of the sources."""
     erased(DIVSHARUN)
     without_registry = ["--offline", "--config=../without_registry/config.toml"]
-    return run("cargo", "test", "-q", *without_registry, "--test=memory", folder=DIVSHARUN)
+    return run("cargo", "test", "-q", *without_registry, f"--test={name}", folder=DIVSHARUN)
 
 
 def is_noticed(check, rest):
-    if check == "test":
-        return not passes(program(), *rest.split(", "))
-    if check == "memory":
-        done = memory_test()
+    if check in TESTS:
+        done = rust_test(check)
         return done.returncode == 101 and rest in done.stdout + done.stderr
     if check == "error_rule":
-        built("check")
+        check_compiles()
     done = run(os.path.join(TOP, "tests", check), COPY)
     return done.returncode == 1 and rest in done.stdout + done.stderr
 
@@ -95,16 +74,11 @@ def is_noticed(check, rest):
 def main():
     bindings, folder = (os.path.join(PROJECT, name) for name in ("bindings/rust", "tests"))
     shutil.copytree(bindings, os.path.dirname(BOX_COUNT), ignore=shutil.ignore_patterns("target"))
-    cc = [os.environ.get("CC", "cc"), "-O2", "-shared", "-fPIC"]
-    subprocess.run([*cc, "-o", LIBRARY, os.path.join(folder, "refuse.c"), "-ldl"], check=True)
     patches = [*map(os.path.abspath, sys.argv[3:])] or sorted(glob.glob(os.path.join(folder, "mutants/*.patch")))
     checks = {patch: pathlib.Path(patch).read_text("utf-8").split("\n")[1].split(": ", 1) for patch in patches}
     copy_sources()
-    tests = program()
-    wrong = [f"{rest} fails without a mutant" for check, rest in sorted(map(tuple, checks.values()))
-             if check == "test" and not passes(tests, *rest.split(", "))]
-    if any(check == "memory" for check, _ in checks.values()) and memory_test().returncode:
-        wrong.append("memory.rs fails without a mutant")
+    used = {check for check, _ in checks.values()}
+    wrong = [f"{test}.rs fails without a mutant" for test in TESTS if test in used and rust_test(test).returncode]
     for patch, (check, rest) in checks.items():
         copy_sources()
         subprocess.run(["git", "apply", patch], cwd=COPY, check=True)

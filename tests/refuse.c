@@ -1,11 +1,8 @@
 /*
- * Makes allocations of a program fail or counts them, so that tests see what
- * a call allocates. LD_PRELOAD loads it before the C library.
+ * Makes allocations of a program fail. LD_PRELOAD loads it before the C
+ * library.
  * - REFUSE_AFTER=SIZE fails each allocation after the first one of SIZE bytes.
  * - REFUSED=FILE: each failed allocation adds one byte to FILE.
- * - COUNT=SIZE: an allocation of SIZE bytes starts a count of the allocations
- *   of its thread, because Rust's test harness allocates in another one. One of
- *   SIZE + 1 + N bytes ends the program if the count is not N. N is at most 98.
  */
 #define _GNU_SOURCE
 #include <dlfcn.h>
@@ -14,8 +11,6 @@
 #include <stdlib.h>
 #include <unistd.h>
 
-static __thread unsigned long counted
-    __attribute__((tls_model("initial-exec")));
 static int last_was_met;
 
 static int is_after_the_last(size_t size) {
@@ -25,20 +20,7 @@ static int is_after_the_last(size_t size) {
     return 0;
 }
 
-static void count(size_t size) {
-    const char *request = getenv("COUNT");
-    if (!request) return;
-    unsigned long least = strtoul(request, NULL, 10);
-    if (size < least || size > least + 99) {
-        counted++;
-        return;
-    }
-    if (size > least && counted != size - least - 1) abort();
-    counted = 0;
-}
-
 static int is_refused(size_t size) {
-    count(size);
     if (!is_after_the_last(size)) return 0;
     const char *told = getenv("REFUSED");
     if (told) {

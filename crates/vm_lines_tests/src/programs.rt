@@ -232,47 +232,33 @@ fn expect_rows(rt: &impl Abort, alloc: Global, name: &str, rows: &[(&str, &str)]
     expect_program(rt, alloc, open, rows, name);
 }
 
-#[test]
-fn programs_of_the_language(rt: HostRuntime) {
-    expect_rows(&rt, rt.alloc(), "empty-input", &[]);
-    expect_rows(&rt, rt.alloc(), "line-grammar", LINE_GRAMMAR);
-    expect_rows(&rt, rt.alloc(), "words-and-numbers", WORDS_AND_NUMBERS);
-    expect_rows(&rt, rt.alloc(), "numbers-of-32-bits", NUMBERS_OF_32_BITS);
-}
+/// The tables of the language, of spaces, errors, ids and devices, by name.
+const PROGRAMS: [(&str, Rows); 18] = [
+    ("empty-input", &[]),
+    ("line-grammar", LINE_GRAMMAR),
+    ("words-and-numbers", WORDS_AND_NUMBERS),
+    ("numbers-of-32-bits", NUMBERS_OF_32_BITS),
+    ("first-program", FIRST_PROGRAM),
+    ("full-space", FULL_SPACE),
+    ("places-of-a-start", PLACES_OF_A_START),
+    ("all-policies", ALL_POLICIES),
+    ("refusals-in-order", ERRORS_IN_ORDER),
+    ("program-refusals", PROGRAM_ERRORS),
+    ("program-ids", PROGRAM_IDS),
+    ("refusals-of-ids", ERRORS_OF_IDS),
+    ("held-ids", HELD_IDS),
+    ("space-beside-ids", SPACE_BESIDE_IDS),
+    ("program-devices", PROGRAM_DEVICES),
+    ("refusals-of-devices", ERRORS_OF_DEVICES),
+    ("words-on-devices", WORDS_ON_DEVICES),
+    ("manager-beside-others", MANAGER_BESIDE_OTHERS),
+];
 
 #[test]
-fn programs_on_a_space(rt: HostRuntime) {
-    expect_rows(&rt, rt.alloc(), "first-program", FIRST_PROGRAM);
-    expect_rows(&rt, rt.alloc(), "full-space", FULL_SPACE);
-    expect_rows(&rt, rt.alloc(), "places-of-a-start", PLACES_OF_A_START);
-    expect_rows(&rt, rt.alloc(), "all-policies", ALL_POLICIES);
-}
-
-#[test]
-fn programs_of_errors(rt: HostRuntime) {
-    expect_rows(&rt, rt.alloc(), "refusals-in-order", ERRORS_IN_ORDER);
-    expect_rows(&rt, rt.alloc(), "program-refusals", PROGRAM_ERRORS);
-}
-
-#[test]
-fn programs_on_ids(rt: HostRuntime) {
-    expect_rows(&rt, rt.alloc(), "program-ids", PROGRAM_IDS);
-    expect_rows(&rt, rt.alloc(), "refusals-of-ids", ERRORS_OF_IDS);
-    expect_rows(&rt, rt.alloc(), "held-ids", HELD_IDS);
-    expect_rows(&rt, rt.alloc(), "space-beside-ids", SPACE_BESIDE_IDS);
-}
-
-#[test]
-fn programs_on_devices(rt: HostRuntime) {
-    expect_rows(&rt, rt.alloc(), "program-devices", PROGRAM_DEVICES);
-    expect_rows(&rt, rt.alloc(), "refusals-of-devices", ERRORS_OF_DEVICES);
-    expect_rows(&rt, rt.alloc(), "words-on-devices", WORDS_ON_DEVICES);
-    expect_rows(
-        &rt,
-        rt.alloc(),
-        "manager-beside-others",
-        MANAGER_BESIDE_OTHERS,
-    );
+fn each_program(rt: HostRuntime) {
+    for (name, rows) in PROGRAMS {
+        expect_rows(&rt, rt.alloc(), name, rows);
+    }
 }
 
 /// Checks that a line can begin and end at each byte of a piece.
@@ -347,7 +333,12 @@ fn each_read_fails(rt: HostRuntime) {
             assert_eq!(rt; outcome.reads, bad_read as u64, "reads after {fault:?}");
             assert_eq!(rt; outcome.sink.flushes, 0, "flushes after {fault:?}");
             let prefix = &whole[..bad_read - 1];
-            let ended = prefix.iter().filter(|byte| **byte == b'\n').count();
+            let mut ended = 0usize;
+            for byte in prefix {
+                if *byte == b'\n' {
+                    ended = ended.saturating_add(1);
+                }
+            }
             expect_answers(
                 &rt,
                 outcome.sink.text.as_slice(),

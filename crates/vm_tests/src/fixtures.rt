@@ -4,16 +4,12 @@ use std::alloc::Global;
 use std::fmt::Debug;
 use std::process::Abort;
 use vm_allocator::allocation_engine::NodeState;
-use vm_allocator::{AddressAllocator, AllocPolicy, IdAllocator, RangeInclusive, ValueError};
+use vm_allocator::{AddressAllocator, IdAllocator, RangeInclusive, ValueError};
 use vm_devices::DeviceManager;
 
 /// The number of bytes that `fail_from_here` allocates. Nothing else allocates this number.
-/// tests/refused_memory reads it here, and the one below.
+/// tests/refused_memory reads it here.
 const LAST_ALLOCATION: usize = 1_000_003;
-
-/// The number of bytes that `count_allocations` allocates. `expect_allocations` allocates one more,
-/// and one for each expected allocation. tests/mutant_tests.py reads it here too.
-const COUNT_ALLOCATION: usize = 1_000_100;
 
 /// The message if memory runs out.
 pub(crate) const ENOUGH: &str = "there is enough memory";
@@ -38,59 +34,9 @@ pub(crate) fn fail_from_here(alloc: Global) {
     let _ = Vec::<u8>::with_capacity(alloc, LAST_ALLOCATION);
 }
 
-/// Allocates, whether that fails or not. tests/refused_memory counts the allocations after this.
-pub(crate) fn count_allocations(alloc: Global) {
-    let _ = Vec::<u8>::with_capacity(alloc, COUNT_ALLOCATION);
-}
-
-/// Allocates, whether that fails or not. tests/refused_memory checks the number of counted
-/// allocations.
-pub(crate) fn expect_allocations(alloc: Global, number: usize) {
-    let size = COUNT_ALLOCATION.saturating_add(number).saturating_add(1);
-    let _ = Vec::<u8>::with_capacity(alloc, size);
-}
-
 /// Creates the allocator of a space.
 pub(crate) fn made(rt: &(impl Abort + AllocGlobal), base: u64, size: u64) -> AddressAllocator {
     AddressAllocator::new(rt.alloc(), base, size).expect(rt, ENOUGH)
-}
-
-/// Clones an allocator.
-pub(crate) fn cloned(
-    rt: &(impl Abort + AllocGlobal),
-    space: &AddressAllocator,
-) -> AddressAllocator {
-    space.try_clone(rt.alloc()).expect(rt, ENOUGH)
-}
-
-/// Returns `true` if exactly these ranges are allocated.
-pub(crate) fn holds_exactly(space: &AddressAllocator, ranges: &[(u64, u64)]) -> bool {
-    let mut held = space.held_ranges();
-    if held.len() != ranges.len() {
-        return false;
-    }
-    for range in ranges {
-        match held.next() {
-            Some(next) if (next.start(), next.end()) == *range => {}
-            _ => return false,
-        }
-    }
-    held.next().is_none()
-}
-
-/// Returns `true` if exactly these ranges are the gaps.
-pub(crate) fn gaps_exactly(space: &AddressAllocator, ranges: &[(u64, u64)]) -> bool {
-    let mut gaps = space.gaps();
-    if gaps.len() != ranges.len() {
-        return false;
-    }
-    for range in ranges {
-        match gaps.next() {
-            Some(next) if (next.start(), next.end()) == *range => {}
-            _ => return false,
-        }
-    }
-    gaps.next().is_none()
 }
 
 /// Parses the value of a text.
@@ -103,46 +49,9 @@ pub(crate) fn items<'a>(rt: &impl Abort, list: &'a Value) -> &'a [Value] {
     list.as_array().expect(rt, "it is a list").as_slice()
 }
 
-/// Returns the text of a value.
-pub(crate) fn text_of(rt: &(impl Abort + AllocGlobal), value: &Value) -> String {
-    value.to_string(rt.alloc()).expect(rt, ENOUGH)
-}
-
 /// Returns the saved value of an allocator, with one object for each block.
 pub(crate) fn saved(rt: &(impl Abort + AllocGlobal), space: &AddressAllocator) -> Value {
     space.to_value(rt.alloc()).expect(rt, ENOUGH)
-}
-
-/// Allocates a range that is free.
-pub(crate) fn hold(
-    rt: &(impl Abort + AllocGlobal),
-    space: &mut AddressAllocator,
-    start: u64,
-    size: u64,
-) {
-    let answer = space.allocate(rt.alloc(), size, 1, AllocPolicy::ExactMatch(start));
-    assert!(rt; answer.is_ok());
-}
-
-/// Returns the allocator of [0, 4095] in which the even addresses up to 30 are allocated. Its 32 blocks
-/// fill one leaf.
-pub(crate) fn full_leaf(rt: &(impl Abort + AllocGlobal)) -> AddressAllocator {
-    let mut space = made(rt, 0, 0x1000);
-    for number in 0..16u64 {
-        hold(rt, &mut space, number.saturating_mul(2), 1);
-    }
-    space
-}
-
-/// Returns the number of blocks in the tree of an allocator.
-pub(crate) fn block_count(rt: &(impl Abort + AllocGlobal), space: &AddressAllocator) -> usize {
-    let text = text_of(rt, &saved(rt, space));
-    text.as_str().match_indices("node_state").count()
-}
-
-/// Returns the saved value of an id allocator.
-pub(crate) fn saved_ids(rt: &(impl Abort + AllocGlobal), ids: &IdAllocator) -> Value {
-    ids.to_value(rt.alloc()).expect(rt, ENOUGH)
 }
 
 /// Checks that the result is an allocator that is equal to this one.
@@ -198,16 +107,12 @@ pub(crate) fn expect_refused(
     );
 }
 
-/// Checks that this reader rejects each value of the list.
-pub(crate) fn reject_each(rt: &(impl Abort + AllocGlobal), reader: Reader, list: &Value) {
-    for (number, value) in items(rt, list).iter().enumerate() {
-        expect_refused(rt, reader, value, &number);
-    }
-}
-
-/// Replaces the part at a path of a value.
-pub(crate) fn put(rt: &impl Abort, value: &mut Value, place: &str, part: Value) {
-    *value.pointer_mut(place).expect(rt, "it has the place") = part;
+/// Replaces the part at a path of a value, and returns the old part.
+pub(crate) fn put(rt: &impl Abort, value: &mut Value, place: &str, part: Value) -> Value {
+    let there = value.pointer_mut(place).expect(rt, "it has the place");
+    let old = there.take();
+    *there = part;
+    old
 }
 
 /// Returns nested copies of a node. Each has one address as its key and the copy before it at

@@ -1,32 +1,23 @@
-//! Tests of `vm_allocator` and `vm_devices` through their public calls.
+//! Tests of `vm_devices` through its public calls, and of values and callers of all libraries.
+//! `vm_addresses_tests` and `vm_ids_tests` have the others.
 //!
 //! They guard against what no clause excludes:
 //! - a call that returns `OutOfMemory` although memory is available.
-//! - a call that allocates without need.
+//! - a call that allocates although it needs no memory.
 //! - a call that takes too long.
 //! - a definition whose meaning is not that of its words.
 #![tactic(auto)]
 
 #[cfg(test)]
-mod addresses;
-#[cfg(test)]
-mod alignment;
-#[cfg(test)]
 mod devices;
 #[cfg(test)]
-mod fixtures;
+mod fields;
 #[cfg(test)]
-mod ids;
+mod fixtures;
 #[cfg(test)]
 mod many;
 #[cfg(test)]
 mod plugging;
-#[cfg(test)]
-mod ranges;
-#[cfg(test)]
-mod saved;
-#[cfg(test)]
-mod trees;
 #[cfg(test)]
 mod uses;
 #[cfg(test)]

@@ -1,0 +1,108 @@
+//! Tests of the calls that allocate a given id, an id of a window, or several ids.
+//!
+//! They guard against skipped ids that are lost, and against a call that allocates memory without need.
+use super::*;
+use crate::fixtures::ENOUGH;
+use Request::{Exact, Left, Plain, Several, Window};
+
+/// A request with its expected result.
+#[derive(Clone, Copy)]
+enum Request {
+    Exact(u32, Expected),
+    Window(u32, u32, Expected),
+    /// Allocates as many ids as are listed, or none if the list is empty.
+    Several(&'static [u32]),
+    /// Checks the number of free ids.
+    Left(u64),
+    Plain(Call),
+}
+
+/// Makes the requests in turn.
+fn request_all(rt: &(impl Abort + AllocGlobal), ids: &mut IdAllocator, requests: &[Request]) {
+    for request in requests {
+        match *request {
+            Exact(id, want) => expect_eq(rt, &ids.allocate_exact(id), &want.answer(), &id),
+            Window(first, last, want) => {
+                let answer = ids.allocate_in(first, last);
+                expect_eq(rt, &answer, &want.answer(), &(first, last));
+            }
+            Several(want) => {
+                let list = ids.allocate_ids(rt.alloc(), want.len()).expect(rt, ENOUGH);
+                expect_true(rt, list.as_slice() == want, &want);
+            }
+            Left(want) => expect_eq(rt, &ids.free_count(), &want, &"free"),
+            Plain(call) => replay(rt, ids, &[call]),
+        }
+    }
+}
+
+#[test]
+fn ids_by_number_and_window(rt: HostRuntime) {
+    let requests = &[
+        Left(19),
+        Exact(4, OutOfRange(4)),
+        // The ids below it are freed ids afterwards.
+        Exact(8, Id(8)),
+        Plain(Fields(r#"{"range_base":5,"next_id":9,"range_end":23,"freed_ids":[5,6,7]}"#)),
+        Exact(8, NotAvailable),
+        Left(18),
+        Window(6, 8, Id(6)),
+        Window(8, 12, Id(9)),
+        Window(23, HIGH, Id(23)),
+        Window(0, 4, NotAvailable),
+        Several(&[5, 7, 10, 11]),
+        Left(11),
+        Plain(Fields(
+            r#"{"range_base":5,"next_id":24,"range_end":23,"freed_ids":[12,13,14,15,16,17,18,19,20,21,22]}"#,
+        )),
+    ];
+    request_all(&rt, &mut made(&rt, 5, 23), requests);
+}
+
+#[test]
+fn requests_without_memory(rt: HostRuntime) {
+    let mut ids = made(&rt, 5, 90);
+    let calls = &[TakeAll(5, 8), Free(6, Id(6)), Free(7, Id(7))];
+    replay(&rt, &mut ids, calls);
+    let requests = &[
+        Left(84),
+        Exact(7, Id(7)),
+        Exact(7, NotAvailable),
+        Exact(4, OutOfRange(4)),
+        Exact(9, Id(9)),
+        Window(7, 9, NotAvailable),
+        Window(5, 7, Id(6)),
+        Window(0, 23, Id(10)),
+        Left(80),
+    ];
+    fail_from_here(rt.alloc());
+    request_all(&rt, &mut ids, requests);
+    // An id that skips others allocates memory. Its result shows whether the run is without memory.
+    let answer = ids.allocate_exact(89);
+    let is_true = match &answer {
+        Ok(id) => *id == 89 && ids.free_count() == 79,
+        Err(Error::OutOfMemory) => ids.free_count() == 80,
+        Err(_) => false,
+    };
+    expect_true(&rt, is_true, &answer);
+}
+
+#[test]
+fn several_ids_without_memory(rt: HostRuntime) {
+    let mut ids = made(&rt, 5, 9);
+    replay(&rt, &mut ids, &[TakeAll(5, 6)]);
+    fail_from_here(rt.alloc());
+    let too_many = ids.allocate_ids(rt.alloc(), 4).err();
+    let want = Some(Error::ResourceNotAvailable);
+    expect_eq(&rt, &too_many, &want, &"too many");
+    request_all(&rt, &mut ids, &[Several(&[])]);
+    let wrong = IdAllocator::with_held(rt.alloc(), 5, 9, &[7, 7]).err();
+    expect_eq(&rt, &wrong, &want, &"a wrong id");
+    // A list allocates memory. Its result shows whether the run is without memory.
+    let is_true = match ids.allocate_ids(rt.alloc(), 2) {
+        Ok(list) => list.as_slice() == [7, 8].as_slice() && ids.free_count() == 1,
+        Err(Error::OutOfMemory) => ids.free_count() == 3,
+        Err(_) => false,
+    };
+    expect_true(&rt, is_true, &"all or none");
+}
