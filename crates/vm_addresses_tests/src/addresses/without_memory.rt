@@ -126,7 +126,7 @@ fn refused(rt: HostRuntime) {
         (ExactIn(2, 1, 6, (6, 6)), Held(6, 7)),
         (Free(4, 5), NotAvailable),
         (Move(4, 5, 8), NotAvailable),
-        (Move(6, 7, 5), NotAvailable),
+        (Move(6, 7, 15), NotAvailable),
         (Move(6, 7, 6), Range(6, 7)),
         (Free(6, 6), NotAvailable),
         (Free(16, 17), NotAvailable),
