@@ -42,7 +42,7 @@
 //! Results differ where that crate has bugs. `docs/DIFFERENCES.md` in the repository lists each
 //! difference. These items are new:
 //!
-//! - [`DeviceManager`];
+//! - [`DeviceManager`] and [`IdRequest`];
 //! - of an [`IdAllocator`]: [`with_held`](IdAllocator::with_held),
 //!   [`allocate_exact`](IdAllocator::allocate_exact), [`allocate_in`](IdAllocator::allocate_in),
 //!   [`allocate_ids`](IdAllocator::allocate_ids), [`peek_id`](IdAllocator::peek_id),
@@ -260,6 +260,7 @@ pub use error::{Error, ListError, Result, TryError};
 pub use id_allocator::{HeldIds, IdAllocator};
 pub use layout::{Block, Blocks, Layout};
 pub use node_state::NodeState;
+pub use proved::vm_ids::IdRequest;
 pub use range::{ParseRangeError, RangeInclusive};
 #[cfg(feature = "serde")]
 pub use saved::{Saved, Strict};
