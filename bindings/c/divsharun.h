@@ -64,8 +64,8 @@
  *
  * Calls on one id or device take logarithmic time too. If such a call makes the list
  * of freed ids or of devices longer, it can also move the list, in linear time.
- * dvs_id_allocate_exact() and dvs_id_allocate_in() add each id that they skip to the
- * freed ones. Counts, dvs_longest_gap() and the ends of a space or of a range of ids
+ * dvs_id_allocate_exact(), dvs_id_allocate_in() and dvs_device_reserve_with_id() add each
+ * id that they skip to the freed ones. Counts, dvs_longest_gap() and the ends of a space or of a range of ids
  * take constant time. Allocating an array takes the time of each request or id. All
  * other calls take time at most linear in the size of the object, the array or the
  * text.
@@ -992,6 +992,18 @@ dvs_status dvs_device_reserve(dvs_device_manager *manager, const dvs_request *re
                               dvs_device *device, dvs_refusal *refusal);
 
 /*
+ * Reserves a device like dvs_device_reserve(), with the lowest free id from
+ * `first_id` to `last_id`, both included: exactly this id if both are equal.
+ *
+ * Errors: those of dvs_device_reserve(), with those of dvs_id_allocate_in() instead
+ * of those of dvs_id_allocate().
+ */
+DVS_WARN_UNUSED
+dvs_status dvs_device_reserve_with_id(dvs_device_manager *manager, uint32_t first_id,
+                                      uint32_t last_id, const dvs_request *request,
+                                      dvs_device *device, dvs_refusal *refusal);
+
+/*
  * Writes to `conflict` why the range of a DVS_EXACT request is not free, like
  * dvs_range_conflict(). The ids do not matter.
  */
@@ -1039,6 +1051,23 @@ dvs_status dvs_device_visit(const dvs_device_manager *manager, dvs_device_visito
 /* Creates a copy of the manager, like dvs_address_allocator_copy(). */
 DVS_WARN_UNUSED
 dvs_status dvs_device_manager_copy(const dvs_device_manager *manager, dvs_device_manager **copied);
+
+/*
+ * Creates a copy of the manager's allocator of addresses, for the calls that read
+ * one. An allocator inside a manager is no object, because a call could change it.
+ * dvs_device_manager_space(), dvs_device_manager_ids() and dvs_device_conflict()
+ * need no copy. Destroy it with dvs_address_allocator_destroy().
+ *
+ * Errors: DVS_NULL, DVS_OUT_OF_MEMORY.
+ */
+DVS_WARN_UNUSED
+dvs_status dvs_device_manager_copy_addresses(const dvs_device_manager *manager,
+                                             dvs_address_allocator **copied);
+
+/* Creates a copy of the manager's allocator of ids, like dvs_device_manager_copy_addresses(). */
+DVS_WARN_UNUSED
+dvs_status dvs_device_manager_copy_ids(const dvs_device_manager *manager,
+                                       dvs_id_allocator **copied);
 
 /*
  * Writes to `are_equal` whether both managers have the same space, the same devices

@@ -351,6 +351,11 @@ class address_allocator : public space_owner {
     error make(uint64_t base, uint64_t size) noexcept {
         return create([=](object **out) { return dvs_address_allocator_new(base, size, out); });
     }
+    /* Replaces the object by a copy of the allocator of a manager, for the calls that read one. */
+    error make_copy_of(const dvs_device_manager *manager) noexcept {
+        return create(
+            [=](object **out) { return dvs_device_manager_copy_addresses(manager, out); });
+    }
     error make_with_held(uint64_t base, uint64_t size, const std::vector<dvs_range> &held,
                          std::size_t *failed = nullptr, dvs_refusal *refusal = nullptr) noexcept {
         return create([&](object **out) {
@@ -493,6 +498,9 @@ class id_allocator
         return create(
             [=](object **out) { return dvs_id_allocator_new(first, last, out, refusal); });
     }
+    error make_copy_of(const dvs_device_manager *manager) noexcept {
+        return create([=](object **out) { return dvs_device_manager_copy_ids(manager, out); });
+    }
     error make_with_held(uint32_t first, uint32_t last, const std::vector<uint32_t> &held,
                          dvs_refusal *refusal = nullptr) noexcept {
         return create([&](object **out) {
@@ -559,6 +567,11 @@ class device_manager : public owner<dvs_device_manager, dvs_device_manager_destr
                   dvs_refusal *refusal = nullptr) noexcept {
         const dvs_request one = asked.for_call();
         return code(dvs_device_reserve(get(), &one, &device, refusal));
+    }
+    error reserve_with_id(uint32_t first_id, uint32_t last_id, const request &asked,
+                          dvs_device &device, dvs_refusal *refusal = nullptr) noexcept {
+        const dvs_request one = asked.for_call();
+        return code(dvs_device_reserve_with_id(get(), first_id, last_id, &one, &device, refusal));
     }
     error conflict(const request &asked, dvs_refusal &found) const noexcept {
         const dvs_request one = asked.for_call();

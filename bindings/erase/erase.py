@@ -26,6 +26,7 @@ FOLDERS = {
     "std::alloc": ("crate::rattle", {"AllocError", "AllocFailed", "Global"}),
     "std::cmp": ("core::cmp", {"Ordering"}),
     "std::collections": ("crate::rattle", {"BTreeMap", "BTreeSet"}),
+    "std::collections::btree_map": ("crate::rattle::btree_map", {"Iter"}),
     "std::collections::btree_set": ("crate::rattle::btree_set", {"Iter"}),
     "std::io": ("std::io", {"Read", "Write"}),
     "std::marker": (None, {"Model"}),
@@ -57,8 +58,8 @@ ASSOCIATED = {
     "u64::MAX", "u64::from", "u8x16::from_slice", "u8x16::splat",
 }
 # Methods of types of other crates. Each was compared with the method of Rust.
-METHODS = set("""and_then as_array as_object as_slice as_str as_u64 checked_add checked_mul checked_sub clone cmp contains
-    copied copy_from_slice copy_within enumerate first first_chunk flush get get_mut ilog2 insert into
+METHODS = set("""and_then as_array as_object as_slice as_str as_u64 checked_add checked_mul clone cmp contains
+    copied copy_from_slice copy_within enumerate first first_chunk flush get ilog2 insert into
     is_ascii_digit is_empty is_none is_null is_power_of_two is_some iter last len max min next
     next_back ok ok_or pop pop_first push range read remove rotate_left saturating_add saturating_sub
     simd_eq split_at split_first split_last take to_bitmask trailing_zeros unwrap write_all""".split())

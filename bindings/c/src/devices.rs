@@ -2,11 +2,12 @@
 //! The device manager: an id and a range for each device.
 
 use crate::handle::{found, Handle};
-use crate::ids::write_range;
+use crate::ids::{dvs_id_allocator, write_range};
 use crate::objects::{calls, functions, object_calls, visits};
 use crate::proved::vm_addresses::{AllocPolicy, Constraint, Error};
 use crate::proved::vm_devices::{DeviceManager, DeviceSlot};
-use crate::ranges::space_of;
+use crate::proved::vm_ids::IdRequest;
+use crate::ranges::{dvs_address_allocator, space_of};
 use crate::rattle::Global;
 use crate::requests::refused;
 use crate::texts::{read_devices, save_devices};
@@ -47,31 +48,35 @@ fn reserve(
     reserved
         .map(Into::into)
         .map_err(|error| match Constraint::new(size, alignment, policy) {
-            Ok(request) => refused_device(manager, request, error, wants_details),
+            Ok(request) => {
+                refused_device(manager, IdRequest::Lowest, request, error, wants_details)
+            }
             Err(_) => error.into(),
         })
 }
 
 fn reserve_request(
     manager: &mut DeviceManager,
+    id: IdRequest,
     request: Constraint,
     wants_details: bool,
 ) -> Result<dvs_device, CallError> {
-    let reserved = manager.reserve_constraint(Global, request);
+    let reserved = manager.reserve_with_id(Global, id, request);
     reserved
         .map(Into::into)
-        .map_err(|error| refused_device(manager, request, error, wants_details))
+        .map_err(|error| refused_device(manager, id, request, error, wants_details))
 }
 
-/// Returns the error of a refused device. If all ids are allocated, no range is in the way.
+/// Returns the error of a refused device. If there is no id for it, no range is in the way.
 #[cold]
 fn refused_device(
     manager: &DeviceManager,
+    id: IdRequest,
     request: Constraint,
     error: Error,
     wants_details: bool,
 ) -> CallError {
-    let wants_details = wants_details && manager.ids().peek_id().is_ok();
+    let wants_details = wants_details && manager.ids().peek(id).is_ok();
     refused(manager.addresses(), request, error, wants_details)
 }
 
@@ -120,14 +125,27 @@ calls! {
     }
     with_request dvs_device_reserve(manager: dvs_device_manager; request)
         -> device: dvs_device [refusal] {
-        reserve_request(manager, request, refusal.is_some())
+        reserve_request(manager, IdRequest::Lowest, request, refusal.is_some())
+    }
+    with_request dvs_device_reserve_with_id(
+        manager: dvs_device_manager, first_id: u32, last_id: u32; request
+    ) -> device: dvs_device [refusal] {
+        reserve_request(manager, IdRequest::LowestIn(first_id, last_id), request, refusal.is_some())
     }
     with_conflict dvs_device_conflict(manager: dvs_device_manager; request)
         -> conflict: dvs_refusal {
-        manager.conflict(request)
+        manager.addresses().conflict(request)
     }
     with_ref dvs_device_manager_ids(manager: dvs_device_manager, first: Out<u32>) -> last: u32 {
         write_range(manager.ids(), first)
+    }
+    with_ref dvs_device_manager_copy_addresses(manager: dvs_device_manager)
+        -> copied: *mut dvs_address_allocator {
+        Handle::new(manager.addresses().try_clone(Global)?)
+    }
+    with_ref dvs_device_manager_copy_ids(manager: dvs_device_manager)
+        -> copied: *mut dvs_id_allocator {
+        Handle::new(manager.ids().try_clone(Global)?)
     }
 }
 

@@ -22,8 +22,8 @@ enum {
     ID, ID_IN, IDS, ID_EXACT, FREE_ID, DESTROY_IDS,
     PEEK, IS_ID_HELD, ID_COUNT, FREE_COUNT, ID_ENDS, EQUAL_IDS, COPY_IDS, SAVE_IDS, VISIT_IDS,
 
-    RESERVE_FIRST, RESERVE_LAST, RESERVE_EXACT, RESERVE, RELEASE, DESTROY_MANAGER,
-    DEVICE_SLOT, DEVICE_AT, DEVICE_COUNT, DEVICE_SPACE, DEVICE_IDS, DEVICE_CONFLICT, EQUAL_MANAGERS, COPY_MANAGER, SAVE_MANAGER,
+    RESERVE_FIRST, RESERVE_LAST, RESERVE_EXACT, RESERVE, RESERVE_WITH_ID, RELEASE, DESTROY_MANAGER,
+    DEVICE_SLOT, DEVICE_AT, DEVICE_COUNT, DEVICE_SPACE, DEVICE_IDS, DEVICE_CONFLICT, COPY_ADDRESSES, COPY_DEVICE_IDS, EQUAL_MANAGERS, COPY_MANAGER, SAVE_MANAGER,
     VISIT_DEVICES,
     CALLS
 };
@@ -39,6 +39,11 @@ static const struct group {
     {ID, ID_EXACT, PEEK, VISIT_IDS, RESERVE_FIRST},
     {RESERVE_FIRST, RELEASE, DEVICE_SLOT, VISIT_DEVICES, CALLS},
 };
+
+/* Whether a query creates a copy of an allocator of a manager. */
+static inline bool copies_part(int call) {
+    return call == COPY_ADDRESSES || call == COPY_DEVICE_IDS;
+}
 
 /* Ranges, requests and ids that are invalid. The second id is also below the first. An array has
  * two members. */
@@ -198,6 +203,8 @@ static dvs_status make_call(int call, void *object, const uint64_t *n) {
         CASE(RESERVE_EXACT,
              dvs_device_reserve_exact(manager, n[0], n[1], n[2], to_device, REFUSAL));
         CASE(RESERVE, dvs_device_reserve(manager, given.request, to_device, REFUSAL));
+        CASE(RESERVE_WITH_ID,
+             dvs_device_reserve_with_id(manager, first, last, given.request, to_device, REFUSAL));
         CASE(RELEASE, dvs_device_release(manager, first, REFUSAL));
         CASE(DESTROY_MANAGER, dvs_device_manager_destroy(manager));
         CASE(DEVICE_SLOT, dvs_device_slot(seen_manager, first, to, REFUSAL));
@@ -206,6 +213,8 @@ static dvs_status make_call(int call, void *object, const uint64_t *n) {
         CASE(DEVICE_SPACE, dvs_device_manager_space(seen_manager, to));
         CASE(DEVICE_IDS, dvs_device_manager_ids(seen_manager, to_id, to_last));
         CASE(DEVICE_CONFLICT, dvs_device_conflict(seen_manager, given.request, to_conflict));
+        CASE(COPY_ADDRESSES, dvs_device_manager_copy_addresses(seen_manager, to_space));
+        CASE(COPY_DEVICE_IDS, dvs_device_manager_copy_ids(seen_manager, to_ids));
         CASE(EQUAL_MANAGERS, dvs_device_manager_equal(seen_manager, other_manager, to_flag));
         CASE(COPY_MANAGER, dvs_device_manager_copy(seen_manager, to_manager));
         CASE(SAVE_MANAGER, dvs_device_manager_save(seen_manager, to_text, to_length));

@@ -112,6 +112,8 @@ static const struct row rows[] = {
     {"copy a space", COPY_SPACE, 0, {0}, 4},
     {"copy ids", COPY_IDS, 1, {0}, 2},
     {"copy a manager", COPY_MANAGER, 2, {0}, 4},
+    {"copy the space of a manager", COPY_ADDRESSES, 2, {0}, 2},
+    {"copy the ids of a manager", COPY_DEVICE_IDS, 2, {0}, 1},
     {"save a space", SAVE_SPACE, 0, {0}, 2},
     {"save ids", SAVE_IDS, 1, {0}, 1},
     {"save a manager", SAVE_MANAGER, 2, {0}, 2},
@@ -131,6 +133,7 @@ static const struct row rows[] = {
     {"reserve last", RESERVE_LAST, 2, {4, 8}, 2},
     {"reserve exactly", RESERVE_EXACT, 2, {4, 1, 50}, 2},
     {"reserve in a window", RESERVE, 2, {0}, 2},
+    {"reserve with an id", RESERVE_WITH_ID, 2, {999, 1000}, 8},
     {"read a manager", MANAGER_WITHIN, 2, {0}, 9},
 };
 
@@ -266,7 +269,8 @@ static void do_without_memory(void) {
 
         if (call < group->done || group->queries <= call)
             call_without_memory(call, group_of(call), zeros, DVS_NULL);
-        if (group->queries <= call && call != group->visits - 2 && call != group->visits - 1)
+        if (group->queries <= call && call != group->visits - 2 && call != group->visits - 1 &&
+            !copies_part(call))
             call_without_memory(call, group_of(call), zeros, DVS_OK);
     }
 }

@@ -205,6 +205,16 @@ static void reserve_in_windows() {
     CHECK(dvs::cause_of(refusal) == dvs::cause::outside_space && is_range(refusal.other, 0, 63));
     CHECK(!devices.reserve({{8, 8, 0, DVS_FIRST, nullptr}}, device) && device.id == 6);
     CHECK(list(devices, &dvs::device_manager::devices).size() == 2 && is_range(device.range, 0, 7));
+
+    dvs::address_allocator space;
+    dvs::id_allocator ids;
+    CHECK(devices.reserve_with_id(6, 6, request::first(8, 8), device, &refusal) ==
+          dvs::code(DVS_RESOURCE_NOT_AVAILABLE));
+    CHECK(!devices.release(5));
+    CHECK(!devices.reserve_with_id(5, 5, request::last(8, 8), device) && device.id == 5);
+    CHECK(!space.make_copy_of(devices.get()) && ranges_of(space).size() == 2);
+    CHECK(is_range(ranges_of(space)[1], 56, 63));
+    CHECK(!ids.make_copy_of(devices.get()) && list(ids, &dvs::id_allocator::ids).size() == 2);
 }
 
 static void save() {

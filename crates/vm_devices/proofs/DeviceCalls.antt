@@ -1,5 +1,28 @@
 -- The results of the calls of a manager, case by case, and the results that follow from those of its parts.
-use Rattle.std.proofs.Common.{◌≡◌, ℕ, ◌≤◌, arith, refl, sym, ap, ⊎_elim, subst, Some, None, Result, Ok, Err, ◌%◌, inl, inr, ◌⊎◌, Option, MatchOption, IfSome}
+use Rattle.std.proofs.Common.{
+  ◌≡◌,
+  ℕ,
+  ◌≤◌,
+  arith,
+  refl,
+  sym,
+  ap,
+  ◌∙◌,
+  ⊎_elim,
+  subst,
+  Some,
+  None,
+  Result,
+  Ok,
+  Err,
+  ◌%◌,
+  inl,
+  inr,
+  ◌⊎◌,
+  Option,
+  MatchOption,
+  IfSome,
+}
 use Rattle.std.proofs.lemmas.Bool.{both_ways}
 use Rattle.std.specs.List.{Contains}
 use Rattle.std.specs.Ordering.{nat_cmp}
@@ -8,11 +31,27 @@ use Rattle.std.specs.FinSet as set
 use Rattle.vm_ranges.specs.Range.{Range, MAX, Covers, address_count}
 use Rattle.vm_addresses.specs.Address.{AddressState, holding, releasing}
 use Rattle.vm_addresses.specs.Answer.{Makes, IsChosen, Allocates, Frees}
-use Rattle.vm_ids.specs.Ids.{MAX_ID, IdState, IsHeld, MakesIds, new_ids, IsLowestNotHeld, ByLowestNotHeld, AllocatesId, holding_id, PeeksId, releasing_id}
+use Rattle.std.specs.Cmp.{nat_cmp_total}
+use Rattle.vm_ids.specs.Ids.{MAX_ID, IdState, IsHeld, IsNotHeld, MakesIds, new_ids, holding_id, releasing_id}
+use Rattle.vm_ids.specs.IdRequests.{Peeks}
+use Rattle.vm_ids.specs.declared.id_request.IdRequest.{IdRequest}
+use Rattle.vm_ids.proofs.Ids.PeekedIds.{peeked_not_held, lowest_peeked, allocated_or_memory}
 use Rattle.vm_ranges.specs.declared.error.Error.{Error}
 use Rattle.vm_addresses.proofs.Results.AddressResults.{made_is, state_is_preserved, freeing_undoes}
-use Rattle.vm_ids.proofs.Ids.IdResults.{made_ids, peeking_predicts}
-use Rattle.vm_devices.specs.Devices.{DeviceState, IsDeviceState, MakesManager, IsDevice, with_device, without_device, Pairs, Reserves, Releases, devices_of}
+use Rattle.vm_ids.proofs.Ids.IdResults.{made_ids}
+use Rattle.vm_devices.specs.Devices.{
+  DeviceState,
+  IsDeviceState,
+  MakesManager,
+  IsDevice,
+  with_device,
+  without_device,
+  Reserves,
+  ReservesFor,
+  Releases,
+  devices_of,
+}
+use Rattle.vm_devices.proofs.Tables.{get_with, get_without}
 use Rattle.vm_ranges.specs.Request.{Request, MakesConstraint}
 use Rattle.vm_ranges.specs.declared.error.Error.TheVariants.{NeverAllocated, OutOfMemory}
 use Rattle.vm_addresses.proofs.Callers.{given, allocated_chosen, request_fits, request_inside}
@@ -23,72 +62,86 @@ use Rattle.vm_addresses.proofs.Results.Requests.{allocates_refused}
 use Rattle.vm_addresses.proofs.Results.EveryAddressCall.{every_call}
 
 -- ---- A reservation
--- A reserved device has the lowest id that was not held, and a range that the request allocates: as long as asked,
--- aligned and in the window, at the place that the policy chooses.
-pub record IsReserved (old : DeviceState) (request : Request) (slot : DeviceSlot) (new : DeviceState) : Type 0 where
-  pub lowest : IsLowestNotHeld old.ids slot.id
+-- A reserved device has a range that the request allocates: as long as asked, aligned and in the window, at the place that the
+-- policy chooses.
+pub record IsPlaced (old : DeviceState) (request : Request) (slot : DeviceSlot) (new : DeviceState) : Type 0 where
   pub given : Allocates old.space request (Ok slot.range) (holding slot.range old.space)
   pub left : new ≡ with_device slot.id slot.range old
   pub fits : (address_count slot.range ≡ request.size) × (slot.range.start % request.align ≡ 0)
   pub inside : IfSome request.window (λ w. Covers w slot.range)
   pub chosen : IsChosen request old.space slot.range.start
 
--- The lowest id that is not held is the id that is allocated.
-gets_lowest : (old : DeviceState) (id : ℕ) → IsLowestNotHeld old.ids id → AllocatesId old.ids (Ok id) (holding_id id old.ids)
-unfolding AllocatesId ByLowestNotHeld
-gets_lowest old id lowest = inl (id, lowest, (refl, refl))
+-- It also has the id that was requested.
+pub record IsReserved (old : DeviceState) (which : IdRequest) (request : Request) (slot : DeviceSlot) (new : DeviceState) : Type 0 where
+  pub peeked : Peeks old.ids which (Ok slot.id)
+  pub placed : IsPlaced old request slot new
+
+-- A successful reservation for an id is a device with this id and a range for the request.
+pub placed_device : (old new : DeviceState) (request : Request) (id : ℕ) (slot : DeviceSlot) →
+    ReservesFor old request (Ok id) (Ok slot) new → IsPlaced old request slot new
+placed_device old new request id slot (Err e, space, a, p) = absurd (cc (p.0))
+placed_device old new request id slot (Ok r, space, a, inr p) = absurd (cc (p.0))
+placed_device old new request id slot (Ok r, space, a, inl p) =
+    let same : slot ≡ record { id = id; range = r } = cc (p.0) in
+    rw same (record {
+      given = subst (Allocates old.space request (Ok r)) (given old.space space request r a).left a;
+      left = p.1;
+      fits = request_fits old.space space request (Ok r) a;
+      inside = request_inside old.space space request (Ok r) a;
+      chosen = allocated_chosen old.space space request (Ok r) a;
+    })
+
+placed_id : (old new : DeviceState) (request : Request) (id : ℕ) (slot : DeviceSlot) → ReservesFor old request (Ok id) (Ok slot) new →
+    slot.id ≡ id
+placed_id old new request id slot (Err e, space, a, p) = absurd (cc (p.0))
+placed_id old new request id slot (Ok r, space, a, inr p) = absurd (cc (p.0))
+placed_id old new request id slot (Ok r, space, a, inl p) = let same : slot ≡ record { id = id; range = r } = cc (p.0) in
+    ap (λ (s : DeviceSlot). s.id) same
+
+-- A reservation for an id that fails changes nothing.
+pub placing_unchanged : (old new : DeviceState) (request : Request) (id : Result ℕ Error) (e : Error) →
+    ReservesFor old request id (Err e) new → new ≡ old
+placing_unchanged old new request (Err f) e h = h.1
+placing_unchanged old new request (Ok id) e (Err f, space, a, p) = p.1
+placing_unchanged old new request (Ok id) e (Ok r, space, a, inl p) = absurd (cc (p.0))
+placing_unchanged old new request (Ok id) e (Ok r, space, a, inr p) = p.1
 
 -- Either an error that changes nothing, or a reserved device.
-abbrev pub IsRefusedOrReserved : DeviceState → Request → Result DeviceSlot Error → DeviceState → Type 0
-IsRefusedOrReserved old request answer new =
+abbrev pub IsRefusedOrReserved : DeviceState → IdRequest → Request → Result DeviceSlot Error → DeviceState → Type 0
+IsRefusedOrReserved old which request answer new =
     ((e : Error) × (answer ≡ Err e) × (new ≡ old))
-    ⊎ ((slot : DeviceSlot) × (answer ≡ Ok slot) × IsReserved old request slot new)
-
--- The results for the id and the range give the result of the reservation.
-paired_outcome : (old new : DeviceState) (space : AddressState) (request : Request) (id : ℕ) (given : Result Range Error)
-    (answer : Result DeviceSlot Error) →
-    IsLowestNotHeld old.ids id → Allocates old.space request given space → Pairs old id given answer new →
-    IsRefusedOrReserved old request answer new
-paired_outcome old new space request id (Err e) answer lowest a p = inl (e, p.0, p.1)
-paired_outcome old new space request id (Ok r) answer lowest a p =
-    ⊎_elim
-    (λ t.
-    inr (
-      record { id = id; range = r },
-      t.0,
-      record {
-        lowest = lowest;
-        given = subst (Allocates old.space request (Ok r)) (given old.space space request r a).left a;
-        left = t.1;
-        fits = request_fits old.space space request (Ok r) a;
-        inside = request_inside old.space space request (Ok r) a;
-        chosen = allocated_chosen old.space space request (Ok r) a;
-      },
-    ))
-    (λ m. inl (OutOfMemory, m.0, m.1))
-    p
+    ⊎ ((slot : DeviceSlot) × (answer ≡ Ok slot) × IsReserved old which request slot new)
 
 -- A reservation is an error that changes nothing, or a reserved device.
-pub reserving_outcome : (old new : DeviceState) (request : Request) (answer : Result DeviceSlot Error) → Reserves old request answer new →
-    IsRefusedOrReserved old request answer new
-unfolding Reserves ByLowestNotHeld
-reserving_outcome old new request answer (inl h) =
-    paired_outcome old new h.2.1 request h.0 h.2.0 answer h.1 h.2.2 h.2.3
-reserving_outcome old new request answer (inr (all, inl h)) = inl (_, h.1.0, h.1.1)
-reserving_outcome old new request answer (inr (all, inr h)) = inl (_, h.1.0, h.1.1)
+pub reserving_outcome : (old new : DeviceState) (which : IdRequest) (request : Request) (answer : Result DeviceSlot Error) →
+    Reserves old which request answer new → IsRefusedOrReserved old which request answer new
+unfolding Reserves
+reserving_outcome old new which request (Err e) h = inl (e, refl, placing_unchanged old new request h.0 e h.2)
+reserving_outcome old new which request (Ok slot) (Err e, p, h) = absurd (cc (h.0))
+reserving_outcome old new which request (Ok slot) (Ok id, p, h) =
+    inr (
+      slot,
+      refl,
+      record {
+        peeked = subst (λ (i : ℕ). Peeks old.ids which (Ok i)) (sym (placed_id old new request id slot h)) p;
+        placed = placed_device old new request id slot h;
+      },
+    )
 
 -- A successful reservation is a reserved device.
-pub reserved_device : (old new : DeviceState) (request : Request) (slot : DeviceSlot) → Reserves old request (Ok slot) new →
-    IsReserved old request slot new
-reserved_device old new request slot h =
+pub reserved_device : (old new : DeviceState) (which : IdRequest) (request : Request) (slot : DeviceSlot) →
+    Reserves old which request (Ok slot) new → IsReserved old which request slot new
+reserved_device old new which request slot h =
     ⊎_elim
     (λ r. absurd (cc (r.1)))
-    (λ d. let same : d.0 ≡ slot = cc (d.1) in subst (λ (s : DeviceSlot). IsReserved old request s new) same d.2)
-    (reserving_outcome old new request (Ok slot) h)
+    (λ d. let same : d.0 ≡ slot = cc (d.1) in subst (λ (s : DeviceSlot). IsReserved old which request s new) same d.2)
+    (reserving_outcome old new which request (Ok slot) h)
 
 -- A reservation that fails changes nothing.
-pub reserving_unchanged : (old new : DeviceState) (request : Request) (e : Error) → Reserves old request (Err e) new → new ≡ old
-reserving_unchanged old new request e h = ⊎_elim (λ r. r.2) (λ d. absurd (cc (d.1))) (reserving_outcome old new request (Err e) h)
+pub reserving_unchanged : (old new : DeviceState) (which : IdRequest) (request : Request) (e : Error) →
+    Reserves old which request (Err e) new → new ≡ old
+unfolding Reserves
+reserving_unchanged old new which request e h = placing_unchanged old new request h.0 e h.2
 
 -- ---- A release
 -- Either an error that changes nothing, or a released device.
@@ -114,16 +167,17 @@ releasing_outcome old new id answer h = released_outcome old new id answer (map.
 
 -- ---- Each call preserves the pairs
 -- The state after a reservation is valid.
-pub reserved_state : (old new : DeviceState) (request : Request) (answer : Result DeviceSlot Error) → IsDeviceState old →
-    Reserves old request answer new → IsDeviceState new
-reserved_state old new request answer i h =
+pub reserved_state : (old new : DeviceState) (which : IdRequest) (request : Request) (answer : Result DeviceSlot Error) →
+    IsDeviceState old → Reserves old which request answer new → IsDeviceState new
+reserved_state old new which request answer i h =
     ⊎_elim
     (λ r. subst IsDeviceState (sym r.2) i)
     (λ d.
     let slot = d.0 in
     let made = d.2 in
-    subst IsDeviceState (sym made.left) (state_with old slot.id slot.range request i (gets_lowest old slot.id made.lowest) made.given))
-    (reserving_outcome old new request answer h)
+    subst IsDeviceState (sym made.placed.left)
+    (state_with old slot.id slot.range request i (peeked_not_held old.ids which (Ok slot.id) made.peeked) made.placed.given))
+    (reserving_outcome old new which request answer h)
 
 -- The state after a release is valid.
 pub released_state : (old new : DeviceState) (id : ℕ) (answer : Result (Unit {0}) Error) → IsDeviceState old → Releases old id answer new →
@@ -190,53 +244,69 @@ made_state lo hi base size state id word (Ok ids, Ok space, m, n, h) =
     (rw same (no_devices lo hi base size ids space id word m n), ap (λ (s : DeviceState). s.devices) same)
 
 -- ---- Reserving
--- If no id is free, the error of `peek_id` is returned.
-pub id_refused : (old new : DeviceState) (request : Request) (e : Error) → PeeksId old.ids (Err e) → new ≡ old →
-    Reserves old request (Err e) new
-unfolding Reserves PeeksId ByLowestNotHeld
-id_refused old new request e p same = grind arith
+module _ (old new : DeviceState) (which : IdRequest) (request : Request) where
+  -- If there is no id, its error is returned.
+  pub id_refused : (e : Error) → Peeks old.ids which (Err e) → new ≡ old → Reserves old which request (Err e) new
+  unfolding Reserves
+  id_refused e p same = (Err e, p, (refl, same))
 
--- `peek_id` returned an id, and a range was requested.
-pub id_peeked : (old new : DeviceState) (request : Request) (id : ℕ) (space : AddressState) (given : Result Range Error)
-    (answer : Result DeviceSlot Error) →
-    PeeksId old.ids (Ok id) → Allocates old.space request given space → Pairs old id given answer new → Reserves old request answer new
-unfolding Reserves PeeksId ByLowestNotHeld
-id_peeked old new request id space given answer (inl h) a p =
-    let same : id ≡ h.0 = cc (h.2) in inl (h.0, h.1, (given, space, a, subst (λ (i : ℕ). Pairs old i given answer new) same p))
-id_peeked old new request id space given answer (inr (all, inl h)) a p = absurd (cc (h.1))
-id_peeked old new request id space given answer (inr (all, inr h)) a p = absurd (cc (h.1))
+  -- If there is an id, the result is that for the id.
+  pub id_peeked : (id : ℕ) (answer : Result DeviceSlot Error) → Peeks old.ids which (Ok id) → ReservesFor old request (Ok id) answer new →
+      Reserves old which request answer new
+  unfolding Reserves
+  id_peeked id answer p h = (Ok id, p, h)
 
 -- If the request is not valid, its error is returned.
-pub request_refused : (old : DeviceState) (request : Request) (id : ℕ) (e : Error) → PeeksId old.ids (Ok id) →
-    MakesConstraint request (Err e) → Reserves old request (Err e) old
-request_refused old request id e p m = id_peeked old old request id old.space (Err e) (Err e) p (allocates_refused old.space request e m)
-    (refl, refl)
+pub request_refused : (old : DeviceState) (which : IdRequest) (request : Request) (id : ℕ) (e : Error) → Peeks old.ids which (Ok id) →
+    MakesConstraint request (Err e) → Reserves old which request (Err e) old
+request_refused old which request id e p m =
+    id_peeked old old which request id (Err e) p (Err e, old.space, allocates_refused old.space request e m, (refl, refl))
 
-pub ruleset reserves = (id_refused, request_refused, constraint_made, reserved_device, reserved_state, reserving_unchanged)
+pub ruleset reserves = (
+  id_refused,
+  id_peeked,
+  request_refused,
+  constraint_made,
+  placed_device,
+  placing_unchanged,
+  lowest_peeked,
+  peeked_not_held,
+)
+
+-- A device that is inserted and removed leaves the table.
+pub entry_undone : (devices with_it left : map.FinMap nat_cmp Range) (id : ℕ) (r : Range) → map.get devices id ≡ None →
+    with_it ≡ map.insert devices id r → left ≡ map.remove with_it id → left ≡ devices
+entry_undone devices with_it left id r n e f =
+    f ∙ ap (λ (m : map.FinMap nat_cmp Range). map.remove m id) e
+    ∙ map.same_map nat_cmp_total map.nat_cmp-IsAntisymmetric (map.remove (map.insert devices id r) id) devices
+    (λ q. grind (arith, get_without (map.insert devices id r) id q, get_with devices id r q, n))
+
+pub ruleset enters = (entry_undone, allocated_or_memory)
 
 module _ (old : DeviceState) (request : Request) (id : ℕ) (r : Range) (mid : AddressState) (i : IsDeviceState old)
-    (p : PeeksId old.ids (Ok id))
     (a : Allocates old.space request (Ok r) mid) (ids : IdState) (space : AddressState) (slots : map.FinMap nat_cmp Range) where
-  -- The predicted id and the range are entered.
-  module _ (taken : Result ℕ Error) (t : AllocatesId old.ids taken ids) (f : space ≡ mid) (e : slots ≡ map.insert old.devices id r) where
-    pub entered : Reserves old request (Ok (record { id = id; range = r })) (devices_of ids space slots)
-    entered =
-        id_peeked old (devices_of ids space slots) request id mid (Ok r) _ p a
-        (inl (refl, cc ((peeking_predicts.held old.ids ids id taken p t).1, (given old.space mid request r a).left, e, f)))
+  -- The id and the range are entered.
+  module _ (t : ids ≡ holding_id id old.ids) (f : space ≡ mid) (e : slots ≡ map.insert old.devices id r) where
+    pub entered : ReservesFor old request (Ok id) (Ok (record { id = id; range = r })) (devices_of ids space slots)
+    entered = (Ok r, mid, a, inl (refl, cc (t, (given old.space mid request r a).left, e, f)))
 
     -- The state with the new device is valid.
-    pub entered_state : IsDeviceState (devices_of ids space slots)
-    entered_state = reserved_state old _ request _ i entered
+    pub entered_state : IsNotHeld old.ids id → IsDeviceState (devices_of ids space slots)
+    entered_state n =
+        let left = (given old.space mid request r a).left in
+        let whole : devices_of ids space slots ≡ with_device id r old = cc (t, left, e, f) in
+        subst IsDeviceState (sym whole)
+        (state_with old id r request i n (subst (Allocates old.space request (Ok r)) left a))
 
   -- The range is freed again.
-  module _ (answer : Result (Unit {0}) Error) (f : Frees mid r answer space) (e : slots ≡ old.devices) (same : ids ≡ old.ids) where
+  module _ (answer : Result (Unit {0}) Error) (f : Frees mid r answer space) (same : (ids ≡ old.ids) × (slots ≡ old.devices)) where
     -- The state is the one before the call.
     left_as_it_was : devices_of ids space slots ≡ old
-    left_as_it_was = rw (same, (freeing_undoes old.space mid space request r answer i.space a f).1, e) refl
+    left_as_it_was = rw (same.0, (freeing_undoes old.space mid space request r answer i.space a f).1, same.1) refl
 
-    -- If the entry cannot be inserted, the call returns OutOfMemory.
-    pub undone : Reserves old request (Err OutOfMemory) (devices_of ids space slots)
-    undone = id_peeked old (devices_of ids space slots) request id mid (Ok r) _ p a (inr (refl, left_as_it_was))
+    -- If the device cannot be entered, the call returns OutOfMemory.
+    pub undone : ReservesFor old request (Ok id) (Err OutOfMemory) (devices_of ids space slots)
+    undone = (Ok r, mid, a, inr (refl, left_as_it_was))
 
     -- The state after an undone reservation is valid.
     pub undone_state : IsDeviceState (devices_of ids space slots)

@@ -11,7 +11,6 @@ use Rattle.vm_devices.specs.declared.device_slot.DeviceSlot.{DeviceSlot}
 use Rattle.vm_devices.specs.Devices.{DeviceState, IsDevice, IsDeviceState}
 use Rattle.vm_ranges.proofs.Clones.{cloning_keeps}
 use Rattle.vm_ranges.proofs.Histories.{history_keeps}
-use Rattle.vm_ranges.specs.Request.{Request}
 use Rattle.vm_ranges.specs.declared.error.Error.{Error}
 use Rattle.vm_devices.specs.Histories.{
   Reserve,
@@ -29,13 +28,13 @@ use Rattle.vm_devices.specs.Histories.{
 use Rattle.vm_devices.specs.Laws.{DevicesAreValid}
 use Rattle.vm_devices.proofs.Tables.{with_cases, without_is}
 use Rattle.vm_devices.proofs.Pairs.{id_held}
-use Rattle.vm_devices.proofs.DeviceCalls.{made_state, IsReserved, reserving_outcome, releasing_outcome, reserved_state, released_state}
+use Rattle.vm_devices.proofs.DeviceCalls.{made_state, IsPlaced, reserving_outcome, releasing_outcome, reserved_state, released_state}
 use Rattle.vm_devices.proofs.SavedManagers.{encoded_state}
 
 -- ---- Every reached state is valid
 -- Each call leaves a valid state.
 call_state : (call : DeviceCall) (old new : DeviceState) → IsDeviceState old → IsDeviceCallFrom old call new → IsDeviceState new
-call_state (Reserve request, answer) old new i h = reserved_state old new request answer i h
+call_state (Reserve which request, answer) old new i h = reserved_state old new which request answer i h
 call_state (Release id, answer) old new i h = released_state old new id answer i h
 call_state (Clone, answer) old new i h = subst IsDeviceState (sym (cloning_keeps old new answer h.0 h.1)) i
 
@@ -57,12 +56,12 @@ reserved_later : (call : DeviceCall) (calls : List DeviceCall) (id : ℕ) (r : R
     WasReserved (call ∷ calls) id r
 reserved_later call calls id r g =
     let c = g.call in
-    record { request = g.request; call = (suc c.0, omega (arith, c.1), c.2); aligned = g.aligned; long = g.long; inside = g.inside }
+    record { which = g.which; request = g.request; call = (suc c.0, omega (arith, c.1), c.2); aligned = g.aligned; long = g.long; inside = g.inside }
 
 -- A device after a call was a device before it, or the call reserved it.
 call_reserves : (old new : DeviceState) (call : DeviceCall) (calls : List DeviceCall) (id : ℕ) (r : Range) → IsDeviceCallFrom old call new →
     IsDevice new id r → IsDevice old id r ⊎ WasReserved (call ∷ calls) id r
-call_reserves old new (Reserve request, answer) calls id r h d =
+call_reserves old new (Reserve which request, answer) calls id r h d =
     ⊎_elim
     (λ refused. inl (rw refused.2 at d))
     (λ made.
@@ -70,18 +69,19 @@ call_reserves old new (Reserve request, answer) calls id r h d =
     ⊎_elim
     (λ same.
     let is : slot ≡ record { id = id; range = r } = λ k. record { id = sym same.0 k; range = sym same.1 k } in
-    let m = subst (λ (s : DeviceSlot). IsReserved old request s new) is made.2 in
-    let call_of : Request → Result DeviceSlot Error → DeviceCall = λ q x. (Reserve q, x) in
+    let m = subst (λ (s : DeviceSlot). IsPlaced old request s new) is made.2.placed in
+    let call_of : Result DeviceSlot Error → DeviceCall = λ x. (Reserve which request, x) in
     inr (record {
+      which = which;
       request = request;
-      call = (0, omega arith, ap (call_of request) (made.1 ∙ ap (λ (s : DeviceSlot). Ok s) is));
+      call = (0, omega arith, ap call_of (made.1 ∙ ap (λ (s : DeviceSlot). Ok s) is));
       aligned = m.fits.1;
       long = (given old.space (holding r old.space) request r m.given).long;
       inside = m.inside;
     }))
     (λ before. inl before)
-    (with_cases old.devices slot.id slot.range id r (rw made.2.left at d)))
-    (reserving_outcome old new request answer h)
+    (with_cases old.devices slot.id slot.range id r (rw made.2.placed.left at d)))
+    (reserving_outcome old new which request answer h)
 call_reserves old new (Release q, answer) calls id r h d =
     inl (⊎_elim (λ refused. rw refused.2 at d) (λ left. (without_is old.devices q id r (rw left.3 at d)).1)
     (releasing_outcome old new q answer h))

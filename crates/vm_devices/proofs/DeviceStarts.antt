@@ -7,12 +7,12 @@ use Rattle.vm_ranges.specs.Range.{Range, Overlaps, IsIn}
 use Rattle.vm_ranges.specs.Request.{Request}
 use Rattle.vm_addresses.specs.Address.{AddressState, IsAddressState}
 use Rattle.vm_addresses.specs.Answer.{Allocates}
-use Rattle.vm_ids.specs.Ids.{IdState, IsHeld, IsLowestNotHeld, ByLowestNotHeld, PeeksId}
+use Rattle.vm_ids.specs.Ids.{IsNotHeld}
 use Rattle.vm_addresses.proofs.Results.AddressResults.{adds_range, state_is_preserved, lie_apart}
 use Rattle.vm_addresses.proofs.Callers.{range_was_free}
 use Rattle.vm_devices.specs.Devices.{DeviceState, IsDevice, IsDeviceState}
 use Rattle.vm_devices.proofs.Tables.{absent}
-use Rattle.vm_devices.specs.Checks.{IsNew, StartsAt}
+use Rattle.vm_devices.specs.Checks.{IsOnlyStart, StartsAt}
 use Rattle.vm_addresses.specs.Queries.{IsHeldAt}
 use Rattle.vm_devices.specs.Queries.{DeviceAt}
 
@@ -32,24 +32,20 @@ pub devices_start_apart : (state : DeviceState) (j k : ℕ) (q r : Range) → Is
 devices_start_apart state j k q r i a b e =
     i.pairs.once j k r (a ∙ ap Some (one_start state.space i.space q r (i.pairs.held j q a) (i.pairs.held k r b) e)) b
 
--- The id that `peek_id` returns is not held.
-lowest_not_held : (ids : IdState) (id : ℕ) → PeeksId ids (Ok id) → ¬ IsHeld ids id
-unfolding PeeksId ByLowestNotHeld IsLowestNotHeld
-lowest_not_held ids id p k = grind arith
+-- An id that is not held has no device.
+pub no_device_of : (old : DeviceState) (id : ℕ) → IsDeviceState old → IsNotHeld old.ids id → map.get old.devices id ≡ None
+no_device_of old id i n = absent (map.get old.devices id) (λ q e. n.1 ((i.pairs.ids id).1 (subst IsSome (sym e) refl)))
 
--- A new device has a new id and a new start.
-pub new_device : (old : DeviceState) (mid : AddressState) (request : Request) (id : ℕ) (r : Range) → IsDeviceState old →
-    PeeksId old.ids (Ok id) → Allocates old.space request (Ok r) mid → IsNew old.devices id r.start
-new_device old mid request id r i p a = record {
-  id_is_new = absent (map.get old.devices id) (λ q e. lowest_not_held old.ids id p ((i.pairs.ids id).1 (subst IsSome (sym e) refl)));
-  start_is_new = λ other h.
-      let f = map_some (λ (q : Range). q.start) (map.get old.devices other) r.start h in
-      let held = i.pairs.held other f.0 f.1 in
-      let added = adds_range old.space mid request r i.space a in
-      let one = one_start mid (state_is_preserved.allocated old.space mid request (Ok r) i.space a) f.0 r ((added.held f.0).1 (inl held))
-      ((added.held r).1 (inr refl)) f.2 in
-      range_was_free old.space mid request r a (subst (Contains old.space.held) one held);
-}
+-- No device starts where a new range starts.
+pub new_start : (old : DeviceState) (mid : AddressState) (request : Request) (id : ℕ) (r : Range) → IsDeviceState old →
+    Allocates old.space request (Ok r) mid → IsOnlyStart old.devices id r.start
+new_start old mid request id r i a other h =
+    let f = map_some (λ (q : Range). q.start) (map.get old.devices other) r.start h in
+    let held = i.pairs.held other f.0 f.1 in
+    let added = adds_range old.space mid request r i.space a in
+    let one = one_start mid (state_is_preserved.allocated old.space mid request (Ok r) i.space a) f.0 r ((added.held f.0).1 (inl held))
+    ((added.held r).1 (inr refl)) f.2 in
+    absurd (range_was_free old.space mid request r a (subst (Contains old.space.held) one held))
 
 -- No held range contains the address.
 pub no_range_at : (state : DeviceState) (x : ℕ) → IsDeviceState state → IsHeldAt state.space x None → DeviceAt state x None

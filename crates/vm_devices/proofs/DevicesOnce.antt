@@ -1,5 +1,5 @@
 -- A call of a manager has one result, if memory suffices.
-use Rattle.std.proofs.Common.{◌≡◌, ◌≢◌, ℕ, sym, ap, ◌∙◌, arith, ⊎_elim, Result, Ok, Err}
+use Rattle.std.proofs.Common.{◌≡◌, ◌≢◌, ℕ, sym, ap, ◌∙◌, arith, ⊎_elim, subst, Result, Ok, Err}
 use Rattle.vm_ranges.specs.Range.{Range}
 use Rattle.vm_ranges.specs.Request.{Request}
 use Rattle.vm_addresses.specs.Address.{AddressState}
@@ -7,9 +7,11 @@ use Rattle.vm_ids.specs.Ids.{IdState}
 use Rattle.vm_ranges.specs.declared.error.Error.{Error}
 use Rattle.vm_ranges.specs.declared.error.Error.TheVariants.{OutOfMemory}
 use Rattle.vm_addresses.proofs.Results.InMemory.{placed_once, made_once}
-use Rattle.vm_ids.proofs.Ids.IdResults.{making_is_determined, by_same_lowest}
+use Rattle.vm_ids.specs.declared.id_request.IdRequest.{IdRequest}
+use Rattle.vm_ids.proofs.Ids.IdResults.{making_is_determined}
+use Rattle.vm_ids.proofs.Ids.PeekedIds.{peeks_once}
 use Rattle.vm_devices.specs.declared.device_slot.DeviceSlot.{DeviceSlot}
-use Rattle.vm_devices.specs.Devices.{DeviceState, made_devices, MakesManager, Pairs, Reserves, Releases}
+use Rattle.vm_devices.specs.Devices.{DeviceState, made_devices, MakesManager, Pairs, Reserves, ReservesFor, Releases}
 use Rattle.vm_ranges.specs.Histories.{ErrorsChangeNothing, CallsAreDetermined, SameCallsSameResults}
 use Rattle.vm_ranges.proofs.Clones.{cloning_keeps, clones_once}
 use Rattle.vm_ranges.proofs.Histories.{same_results}
@@ -49,16 +51,23 @@ module _ (old new later : DeviceState) (id : ℕ) (answer other : Result DeviceS
       let one = same (λ e. p (rw e at a).0) (λ e. q (rw e at b).0) in
       pairs_same again (rw one at a) b
 
+-- A reservation for an id has one result and one next state.
+once_for : (old new later : DeviceState) (request : Request) (id : Result ℕ Error) (answer other : Result DeviceSlot Error) →
+    answer ≢ Err OutOfMemory → other ≢ Err OutOfMemory →
+    ReservesFor old request id answer new → ReservesFor old request id other later → (answer ≡ other) × (new ≡ later)
+once_for old new later request (Err e) answer other p q u v = (u.0 ∙ sym v.0, u.1 ∙ sym v.1)
+once_for old new later request (Ok id) answer other p q u v =
+    pairs_once old new later id answer other p q u.0 v.0 (λ x y. (placed_once old.space u.1 v.1 request u.0 v.0 x y u.2 v.2).0) u.3 v.3
+
 -- A reservation has one result and one next state.
-reserved_once : (old new later : DeviceState) (request : Request) (answer other : Result DeviceSlot Error) → answer ≢ Err OutOfMemory →
-    other ≢ Err OutOfMemory →
-    Reserves old request answer new → Reserves old request other later → (answer ≡ other) × (new ≡ later)
+reserved_once : (old new later : DeviceState) (which : IdRequest) (request : Request) (answer other : Result DeviceSlot Error) →
+    answer ≢ Err OutOfMemory → other ≢ Err OutOfMemory →
+    Reserves old which request answer new → Reserves old which request other later → (answer ≡ other) × (new ≡ later)
 unfolding Reserves
-reserved_once old new later request answer other p q a b =
-    by_same_lowest old.ids _ _ _ _ ((answer ≡ other) × (new ≡ later)) a b
-    (λ id u v. pairs_once old new later id answer other p q u.0 v.0 (λ x y. (placed_once old.space u.1 v.1 request u.0 v.0 x y u.2 v.2).0)
-    u.3 v.3)
-    (λ e u v. (u.0 ∙ sym v.0, u.1 ∙ sym v.1))
+reserved_once old new later which request answer other p q a b =
+    let same = peeks_once old.ids which a.0 b.0 a.1 b.1 in
+    once_for old new later request b.0 answer other p q
+    (subst (λ (id : Result ℕ Error). ReservesFor old request id answer new) same a.2) b.2
 
 -- A release has one result and one next state.
 released_once : (old new later : DeviceState) (id : ℕ) (answer other : Result (Unit {0}) Error) → answer ≢ Err OutOfMemory →
@@ -69,7 +78,7 @@ released_once old new later id answer other p q a b = grind arith
 
 -- Each call has one result and one next state.
 call_once : CallsAreDetermined IsDeviceCallFrom
-call_once old new later (Reserve request) x y p q a b = reserved_once old new later request x y p q a b
+call_once old new later (Reserve which request) x y p q a b = reserved_once old new later which request x y p q a b
 call_once old new later (Release id) x y p q a b = released_once old new later id x y p q a b
 call_once old new later Clone x y p q a b = clones_once old new later x y p q a b
 
@@ -84,7 +93,7 @@ same_device_results = same_results IsDeviceCallFrom call_once
 -- ---- An error changes nothing
 -- A call that returns an error leaves the same state.
 pub errors_change_nothing : ErrorsChangeNothing IsDeviceCallFrom
-errors_change_nothing old new (Reserve request) e h = reserving_unchanged old new request e h
+errors_change_nothing old new (Reserve which request) e h = reserving_unchanged old new which request e h
 errors_change_nothing old new (Release id) e h = ⊎_elim (λ refused. refused.2) (λ left. absurd (cc (left.2)))
     (releasing_outcome old new id (Err e) h)
 errors_change_nothing old new Clone e h = cloning_keeps old new (Err e) h.0 h.1

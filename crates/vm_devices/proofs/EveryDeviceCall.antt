@@ -5,19 +5,19 @@ use Rattle.vm_ranges.specs.Range.{Range}
 use Rattle.vm_ranges.specs.Request.{Request}
 use Rattle.vm_addresses.specs.Address.{AddressState}
 use Rattle.vm_addresses.specs.Answer.{Allocates}
-use Rattle.vm_ids.specs.Ids.{IdState, PeeksId}
+use Rattle.vm_ids.specs.Ids.{IdState}
+use Rattle.vm_ids.specs.declared.id_request.IdRequest.{IdRequest}
 use Rattle.vm_ranges.specs.declared.error.Error.{Error}
 use Rattle.vm_ranges.specs.declared.error.Error.TheVariants.{NeverAllocated, OutOfMemory}
 use Rattle.vm_addresses.specs.Histories.AddressHistories.{Allocate}
 use Rattle.vm_addresses.proofs.Results.EveryAddressCall.{every_call}
 use Rattle.vm_ids.proofs.Ids.EveryIdCall.{every_call as every_id_call}
 use Rattle.vm_devices.specs.declared.device_slot.DeviceSlot.{DeviceSlot}
-use Rattle.vm_devices.specs.Devices.{DeviceState, made_devices, with_device, without_device, MakesManager, Reserves, Releases}
+use Rattle.vm_devices.specs.Devices.{DeviceState, made_devices, with_device, without_device, MakesManager, Reserves, ReservesFor, Releases}
 use Rattle.vm_devices.specs.Histories.{Reserve, Release, Clone, IsDeviceCallFrom}
 use Rattle.vm_devices.specs.Laws.{EveryDeviceCallIsAnswered}
 use Rattle.vm_ranges.specs.Histories.{EveryCallIsAnswered, EveryListHasHistory}
 use Rattle.vm_ranges.proofs.Histories.{every_list}
-use Rattle.vm_devices.proofs.DeviceCalls.{id_refused, id_peeked}
 
 -- ---- Creating
 -- Creating runs out of memory only if the ids or the space do.
@@ -34,39 +34,33 @@ total_makes lo hi base size =
     (made_devices ids.0 space.0, (ids.0, space.0, ids.1, space.1, refl), made_plainly ids.0 space.0 ids.2 space.2)
 
 -- ---- Reserving
--- The request has a result other than OutOfMemory, and a next state.
-abbrev IsAnswered : DeviceState → Request → Type 0
-IsAnswered old request =
-    (answer : Result DeviceSlot Error) × (new : DeviceState) × Reserves old request answer new × (answer ≢ Err OutOfMemory)
+-- A reservation for an id has a result other than OutOfMemory, and a next state.
+abbrev IsAnswered : DeviceState → Request → Result ℕ Error → Type 0
+IsAnswered old request id =
+    (answer : Result DeviceSlot Error) × (new : DeviceState) × ReservesFor old request id answer new × (answer ≢ Err OutOfMemory)
 
--- A reservation has a result if its id and its range have one.
-with_id : (old : DeviceState) (request : Request) (id : ℕ) (given : Result Range Error) (space : AddressState) → PeeksId old.ids (Ok id) →
-    Allocates old.space request given space → given ≢ Err OutOfMemory → IsAnswered old request
-with_id old request id (Err e) space p a plain = (
-  Err e,
-  old,
-  id_peeked old old request id space (Err e) (Err e) p a (refl, refl),
-  λ h. let same : e
-      ≡ OutOfMemory = cc (h) in plain (ap (λ (v : Error). Err v) same),
-)
-with_id old request id (Ok r) space p a plain = (
-  Ok (record { id = id; range = r }),
-  with_device id r old,
-  id_peeked old (with_device id r old) request id space (Ok r) _ p a
-      (inl (refl, refl)),
-  λ h. cc (h),
-)
+-- A reservation has a result if its range has one.
+with_range : (old : DeviceState) (request : Request) (id : ℕ) (given : Result Range Error) (space : AddressState) →
+    Allocates old.space request given space → given ≢ Err OutOfMemory → IsAnswered old request (Ok id)
+with_range old request id (Err e) space a plain =
+    (Err e, old, (Err e, space, a, (refl, refl)), λ h. let same : e ≡ OutOfMemory = cc (h) in plain (ap (λ (v : Error). Err v) same))
+with_range old request id (Ok r) space a plain =
+    (Ok (record { id = id; range = r }), with_device id r old, (Ok r, space, a, inl (refl, refl)), λ h. cc (h))
 
--- A reservation has a result, whatever `peek_id` returns.
-by_peeking : (old : DeviceState) (request : Request) (peeked : Result ℕ Error) → PeeksId old.ids peeked → peeked ≢ Err OutOfMemory →
-    IsAnswered old request
-by_peeking old request (Err e) p plain =
-    (Err e, old, id_refused old old request e p refl, λ h. let same : e ≡ OutOfMemory = cc (h) in plain (ap (λ (v : Error). Err v) same))
-by_peeking old request (Ok id) p plain = let a = every_call.called old.space (Allocate request) in with_id old request id a.0 a.1 p a.2 a.3
+-- A reservation has a result if its id has one.
+with_id : (old : DeviceState) (request : Request) (id : Result ℕ Error) → id ≢ Err OutOfMemory → IsAnswered old request id
+with_id old request (Err e) plain =
+    (Err e, old, (refl, refl), λ h. let same : e ≡ OutOfMemory = cc (h) in plain (ap (λ (v : Error). Err v) same))
+with_id old request (Ok id) plain = let a = every_call.called old.space (Allocate request) in with_range old request id a.0 a.1 a.2 a.3
 
 -- Each reservation has a result other than OutOfMemory.
-total_reserves : (old : DeviceState) (request : Request) → IsAnswered old request
-total_reserves old request = let p = every_id_call.peeked old.ids in by_peeking old request p.0 p.1 p.2
+total_reserves : (old : DeviceState) (which : IdRequest) (request : Request) →
+    (answer : Result DeviceSlot Error) × (new : DeviceState) × Reserves old which request answer new × (answer ≢ Err OutOfMemory)
+unfolding Reserves
+total_reserves old which request =
+    let p = every_id_call.peeked old.ids which in
+    let a = with_id old request p.0 p.2 in
+    (a.0, a.1, (p.0, p.1, a.2), a.3)
 
 -- ---- Releasing
 -- Each release has a result, whatever entry the id has.
@@ -78,7 +72,7 @@ total_releases_at old id (Some r) e = (Ok tt, without_device id r old, rw e (inl
 
 -- Each call has a result and a next state.
 total_call : EveryCallIsAnswered IsDeviceCallFrom
-total_call old (Reserve request) = total_reserves old request
+total_call old (Reserve which request) = total_reserves old which request
 total_call old (Release id) = total_releases_at old id (map.get old.devices id) refl
 total_call old Clone = (Ok old, old, (inl refl, refl), λ h. cc (h))
 

@@ -15,4 +15,3 @@ pub mod NestedManagers
 pub mod PairedDevices
 pub mod DeviceStarts
 pub mod DeviceQueries
-pub mod Slots

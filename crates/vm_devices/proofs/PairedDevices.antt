@@ -45,7 +45,7 @@ use Rattle.vm_addresses.specs.Address.{AddressState, IsAddressState}
 use Rattle.vm_ids.specs.Ids.{IdState, IsHeld, held_count}
 use Rattle.vm_ids.proofs.Ids.RisingIds.{entries_of_sorted}
 use Rattle.vm_devices.specs.declared.device_slot.DeviceSlot.{DeviceSlot}
-use Rattle.vm_devices.specs.Checks.{StartsAt, IsNew}
+use Rattle.vm_devices.specs.Checks.{StartsAt, IsOnlyStart}
 use Rattle.vm_devices.specs.Listed.{entries_of, HaveAscendingIds, listed_state, AreDevicesOf}
 use Rattle.vm_devices.specs.Queries.{entry_of}
 use Rattle.vm_devices.specs.SavedChecks.{CanBeInserted}
@@ -152,9 +152,9 @@ module _ (ids : IdState) (space : AddressState) (ds : List DeviceSlot) (s : Have
     id_is_new : map.get table d.id ≡ None
     id_is_new = absent (map.get table d.id) (λ r h. let b = (before d.id r h).1 in omega (arith, b))
 
-    -- The id and the start of a device that can be inserted are new.
-    pub is_new : CanBeInserted ids space table d → IsNew table d.id d.range.start
-    is_new can = record { id_is_new = id_is_new; start_is_new = can.start_is_new }
+    -- The start of a device that can be inserted is new.
+    pub is_new : CanBeInserted ids space table d → IsOnlyStart table d.id d.range.start
+    is_new can other s = absurd (can.start_is_new other s)
 
     -- If the devices are those of the manager, each can be inserted.
     pub all_can_be_inserted : IsAddressState space → AreDevicesOf ids space ds → CanBeInserted ids space table d

@@ -6,24 +6,25 @@ use Rattle.vm_addresses.specs.Address.{holding, releasing}
 use Rattle.vm_ranges.specs.Request.{Request}
 use Rattle.vm_addresses.specs.Answer.{Allocates, Frees}
 use Rattle.vm_addresses.specs.Laws.AddressLaws.{AddsRange, RemovesRange}
-use Rattle.vm_ids.specs.Ids.{IsHeld, AllocatesId, FreesId, holding_id, releasing_id}
-use Rattle.vm_ids.specs.Laws.IdLaws.{AddsId, RemovesId}
+use Rattle.vm_ids.specs.Ids.{IsHeld, IsNotHeld, FreesId, releasing_id}
+use Rattle.vm_ids.specs.Laws.IdLaws.{RemovesId}
 use Rattle.vm_addresses.proofs.Results.AddressResults.{adds_range, removes_range, state_is_preserved}
-use Rattle.vm_ids.proofs.Ids.IdResults.{allocated_ids, freed_ids_state, allocating_adds, freeing_removes}
+use Rattle.vm_ids.proofs.Ids.IdResults.{freed_ids_state, freeing_removes}
+use Rattle.vm_ids.proofs.Ids.IdSets.{inserted_test}
+use Rattle.vm_ids.proofs.Ids.ExactIds.{holding_in_range}
 use Rattle.vm_addresses.proofs.Callers.{range_was_free, frees_held}
-use Rattle.vm_ids.proofs.Callers.{id_was_free}
 use Rattle.vm_devices.specs.Devices.{DeviceState, IsDevice, ArePaired, IsDeviceState, with_device, without_device}
 use Rattle.vm_devices.proofs.Tables.{get_with, get_without, with_here, with_cases, without_is}
 
 module _ (old : DeviceState) (id : ℕ) (r : Range) where
   -- ---- A reserved device, whose id and range were not held
   -- With a new device, all devices are still paired.
-  pairs_with : ArePaired old → ¬ IsHeld old.ids id → AddsId old.ids (holding_id id old.ids) id → ¬ Contains old.space.held r →
-      AddsRange old.space (holding r old.space) r → ArePaired (with_device id r old)
-  pairs_with p free a clear s = record {
+  pairs_with : ArePaired old → ¬ IsHeld old.ids id → ¬ Contains old.space.held r → AddsRange old.space (holding r old.space) r →
+      ArePaired (with_device id r old)
+  pairs_with p free clear s = record {
     ids = λ q. (
-      λ h. grind (arith, get_with old.devices id r q, (p.ids q).0, (a.held q).0 h),
-      λ k. (a.held q).1 (grind (arith, get_with old.devices id r q, (p.ids q).1, k)),
+      λ h. grind (arith, get_with old.devices id r q, (p.ids q).0, inserted_test old.ids.held id q, h),
+      λ k. grind (arith, get_with old.devices id r q, (p.ids q).1, inserted_test old.ids.held id q, k),
     );
     held = λ q t d. (s.held t).1 (⊎_elim (λ k. inr k.1) (λ k. inl (p.held q t k)) (with_cases old.devices id r q t d));
     owned = λ t c.
@@ -44,14 +45,13 @@ module _ (old : DeviceState) (id : ℕ) (r : Range) where
   }
 
   -- With a new device, the state is still valid.
-  pub state_with : (request : Request) → IsDeviceState old → AllocatesId old.ids (Ok id) (holding_id id old.ids) →
+  pub state_with : (request : Request) → IsDeviceState old → IsNotHeld old.ids id →
       Allocates old.space request (Ok r) (holding r old.space) → IsDeviceState (with_device id r old)
-  state_with request i a s = record {
-    ids = allocated_ids old.ids (holding_id id old.ids) (Ok id) i.ids a;
+  state_with request i n s = record {
+    ids = holding_in_range old.ids id i.ids n.0;
     space = state_is_preserved.allocated old.space (holding r old.space) request (Ok r) i.space s;
-    pairs = pairs_with i.pairs (id_was_free old.ids (holding_id id old.ids) (Ok id) a)
-        (allocating_adds old.ids (holding_id id old.ids) id i.ids a)
-        (range_was_free old.space (holding r old.space) request r s) (adds_range old.space (holding r old.space) request r i.space s);
+    pairs = pairs_with i.pairs n.1 (range_was_free old.space (holding r old.space) request r s)
+        (adds_range old.space (holding r old.space) request r i.space s);
   }
 
   -- ---- A released device

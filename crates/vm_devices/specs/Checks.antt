@@ -1,5 +1,5 @@
 -- The tables of the devices by id and by start, and a part of equality. Only private functions cite these definitions.
-use Rattle.std.specs.Prelude.{◌≡◌, ◌↔◌, ℕ, Some, None, option_map}
+use Rattle.std.specs.Prelude.{◌≡◌, ◌↔◌, ℕ, Some, option_map}
 use Rattle.std.specs.Ordering.{nat_cmp}
 use Rattle.std.specs.BTreeMap.{BTreeMap}
 use Rattle.std.specs.BTreeMap as tree
@@ -15,10 +15,9 @@ StartsAt devices id start = option_map (λ r. r.start) (map.get devices id) ≡ 
 pub record AreIdsByStart (devices : map.FinMap nat_cmp Range) (ids : BTreeMap ℕ ℕ) : Type 0 where
   pub at : (start id : ℕ) → (tree.get nat_cmp ids start ≡ Some id) ↔ StartsAt devices id start
 
--- No device has the id, and no range of a device starts at `start`.
-pub record IsNew (devices : map.FinMap nat_cmp Range) (id start : ℕ) : Type 0 where
-  pub id_is_new : map.get devices id ≡ None
-  pub start_is_new : (other : ℕ) → ¬ StartsAt devices other start
+-- No range of another device starts at `start`.
+abbrev pub IsOnlyStart : map.FinMap nat_cmp Range → ℕ → ℕ → Type 0
+IsOnlyStart devices id start = (other : ℕ) → StartsAt devices other start → other ≡ id
 
 -- The managers have equal allocators.
 abbrev pub HaveSameAllocators : DeviceState → DeviceState → Type 0

@@ -8,7 +8,9 @@ use Rattle.vm_ranges.specs.Range.{Range, range_code}
 use Rattle.vm_addresses.specs.Address.{AddressState, address_state_code, IsAddressState, holding, releasing}
 use Rattle.vm_ranges.specs.Request.{Request}
 use Rattle.vm_addresses.specs.Answer.{Allocates, Makes}
-use Rattle.vm_ids.specs.Ids.{IdState, id_state_code, IsHeld, IsIdState, MakesIds, ByLowestNotHeld, holding_id, releasing_id}
+use Rattle.vm_ids.specs.Ids.{IdState, id_state_code, IsHeld, IsIdState, MakesIds, holding_id, releasing_id}
+use Rattle.vm_ids.specs.IdRequests.{Peeks}
+use Rattle.vm_ids.specs.declared.id_request.IdRequest.{IdRequest}
 use Rattle.vm_ranges.specs.declared.error.Error.{Error}
 use Rattle.vm_ranges.specs.declared.error.Error.TheVariants.{NeverAllocated, OutOfMemory}
 use Rattle.vm_devices.specs.declared.device_slot.DeviceSlot.{DeviceSlot}
@@ -87,15 +89,17 @@ Pairs old id (Ok r) answer new =
     ((answer ≡ Ok (record { id = id; range = r })) × (new ≡ with_device id r old))
     ⊎ ((answer ≡ Err OutOfMemory) × (new ≡ old))
 
--- The result of `reserve`: the lowest id that is not held and the range of the request become a device. The error of
--- the id is first, and an error changes nothing.
-unfoldable pub Reserves : DeviceState → Request → Result DeviceSlot Error → DeviceState → Type 0
-Reserves old request answer new =
-    ByLowestNotHeld old.ids
-    (λ id.
+-- The result of a reservation with this id, or with the error that there is no id. An error changes nothing.
+abbrev pub ReservesFor : DeviceState → Request → Result ℕ Error → Result DeviceSlot Error → DeviceState → Type 0
+ReservesFor old request (Err e) answer new = (answer ≡ Err e) × (new ≡ old)
+ReservesFor old request (Ok id) answer new =
     (given : Result Range Error) × (space : AddressState)
-    × Allocates old.space request given space × Pairs old id given answer new)
-    (λ e. (answer ≡ Err e) × (new ≡ old))
+    × Allocates old.space request given space × Pairs old id given answer new
+
+-- The result of `reserve_with_id`: the id of the first request and the range of the second become a device. The error of
+-- the id is first, and an error changes nothing.
+unfoldable pub Reserves : DeviceState → IdRequest → Request → Result DeviceSlot Error → DeviceState → Type 0
+Reserves old which request answer new = (id : Result ℕ Error) × Peeks old.ids which id × ReservesFor old request id answer new
 
 -- The result of `release`: NeverAllocated if no device has the id. Otherwise the id and the range are freed, or the
 -- result is OutOfMemory and nothing changes.

@@ -9,20 +9,22 @@ use Rattle.vm_ranges.specs.Cloning.{Clones}
 use Rattle.vm_ranges.specs.Histories.{CallOf, IsHistory}
 use Rattle.vm_addresses.specs.Address.{AddressState, IsAddressState}
 use Rattle.vm_ids.specs.Ids.{MAX_ID, IdState, IsIdState}
+use Rattle.vm_ids.specs.declared.id_request.IdRequest.{IdRequest}
 use Rattle.vm_devices.specs.declared.device_slot.DeviceSlot.{DeviceSlot}
 use Rattle.vm_devices.specs.Devices.{DeviceState, IsDevice, MakesManager, Reserves, Releases}
 use Rattle.vm_devices.specs.Listed.{MakesOfDevices}
 use Rattle.vm_devices.specs.Saved.{EncodesManager}
 
--- A call without its result: a reservation by a request, a release by an id, or the creation of a clone.
+-- A call without its result: a reservation by a request for the id and one for the range, a release by an id, or the
+-- creation of a clone.
 pub data DeviceAsked : Type 0 where
-  Reserve : Request → DeviceAsked
+  Reserve : IdRequest → Request → DeviceAsked
   Release : ℕ → DeviceAsked
   Clone : DeviceAsked
 
 -- The type of the value that a call returns: a device, nothing, or the state of a clone.
 abbrev pub DeviceValue : DeviceAsked → Type 0
-DeviceValue (Reserve request) = DeviceSlot
+DeviceValue (Reserve which request) = DeviceSlot
 DeviceValue (Release id) = Unit {0}
 DeviceValue Clone = DeviceState
 
@@ -33,7 +35,7 @@ DeviceCall = CallOf DeviceValue
 -- In the state old the call has its result, and leaves the state new. After a clone is made, new is the state of the
 -- clone.
 abbrev pub IsDeviceCallFrom : DeviceState → DeviceCall → DeviceState → Type 0
-IsDeviceCallFrom old (Reserve request, answer) new = Reserves old request answer new
+IsDeviceCallFrom old (Reserve which request, answer) new = Reserves old which request answer new
 IsDeviceCallFrom old (Release id, answer) new = Releases old id answer new
 IsDeviceCallFrom old (Clone, answer) new = Clones old answer × (new ≡ result_unwrap_or answer old)
 
@@ -79,8 +81,9 @@ pub record AreDevicesReached (calls : List DeviceCall) (state : DeviceState) : T
 -- A call reserved the range for the id: with the requested length, at a multiple of the requested alignment, and in the
 -- window of the request, if it has one.
 pub record WasReserved (calls : List DeviceCall) (id : ℕ) (r : Range) : Type 0 where
+  pub which : IdRequest
   pub request : Request
-  pub call : Contains calls (Reserve request, Ok (record { id = id; range = r }))
+  pub call : Contains calls (Reserve which request, Ok (record { id = id; range = r }))
   pub aligned : r.start % request.align ≡ 0
   pub long : r ≡ span r.start request.size
   pub inside : IfSome request.window (λ window. Covers window r)

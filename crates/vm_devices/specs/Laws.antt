@@ -12,6 +12,8 @@ use Rattle.vm_ranges.specs.Histories.{EveryCallIsAnswered, CallsAreDetermined}
 use Rattle.vm_ranges.specs.Texts.{IsTextOf, Parses}
 use Rattle.vm_addresses.specs.Answer.{SPLIT_LIMIT_MIN_HELD}
 use Rattle.vm_ids.specs.Ids.{IsOfRange, held_count, held_ids}
+use Rattle.vm_ids.specs.declared.id_request.IdRequest.{IdRequest}
+use Rattle.vm_ids.specs.declared.id_request.IdRequest.TheVariants.{Lowest, Exact}
 use Rattle.vm_ranges.specs.declared.error.Error.{Error}
 use Rattle.vm_ranges.specs.declared.error.Error.TheVariants.{Overflow, OutOfMemory}
 use Rattle.vm_ranges.specs.declared.saved.SavedError.{SavedError}
@@ -42,23 +44,27 @@ abbrev pub IsLimit : DeviceState → Result DeviceSlot Error → Type 0
 IsLimit old answer =
     (answer ≡ Err OutOfMemory) ⊎ ((SPLIT_LIMIT_MIN_HELD ≤ length old.space.held) × (answer ≡ Err Overflow))
 
--- If a device was just reserved and released, the same request reserves it again, with the same id and range, unless memory
+-- If a device was just reserved and released, the same requests reserve it again, with the same id and range, unless memory
 -- runs out.
 abbrev pub ReservedAgain : Type 0
 ReservedAgain =
-    (old mid new later : DeviceState) (request : Request) (slot : DeviceSlot)
+    (old mid new later : DeviceState) (which : IdRequest) (request : Request) (slot : DeviceSlot)
     (released : Result (Unit {0}) Error) (answer : Result DeviceSlot Error) → IsDeviceState old →
-    Reserves old request (Ok slot) mid → Releases mid slot.id released new → released ≢ Err OutOfMemory →
-    Reserves new request answer later → (answer ≡ Ok slot) ⊎ (answer ≡ Err OutOfMemory)
+    Reserves old which request (Ok slot) mid → Releases mid slot.id released new → released ≢ Err OutOfMemory →
+    Reserves new which request answer later → (answer ≡ Ok slot) ⊎ (answer ≡ Err OutOfMemory)
 
--- The range of a released device can be reserved at once, by its start.
-abbrev pub RangeIsReservedAgain : Type 0
-RangeIsReservedAgain =
-    (old new later : DeviceState) (id : ℕ) (r : Range)
-    (released : Result (Unit {0}) Error) (answer : Result DeviceSlot Error) → IsDeviceState old →
-    IsDevice old id r → Releases old id released new → released ≢ Err OutOfMemory →
-    Reserves new (request_for (address_count r) 1 (ExactMatch r.start)) answer later →
-    ((some : ℕ) × (answer ≡ Ok (record { id = some; range = r }))) ⊎ IsLimit new answer
+-- The range of a released device can be reserved at once, by its start: with the lowest id, and with the same id.
+pub record RangeIsReservedAgain : Type 0 where
+  pub lowest : (old new later : DeviceState) (id : ℕ) (r : Range)
+      (released : Result (Unit {0}) Error) (answer : Result DeviceSlot Error) → IsDeviceState old →
+      IsDevice old id r → Releases old id released new → released ≢ Err OutOfMemory →
+      Reserves new Lowest (request_for (address_count r) 1 (ExactMatch r.start)) answer later →
+      ((some : ℕ) × (answer ≡ Ok (record { id = some; range = r }))) ⊎ IsLimit new answer
+  pub exact : (old new later : DeviceState) (id : ℕ) (r : Range)
+      (released : Result (Unit {0}) Error) (answer : Result DeviceSlot Error) → IsDeviceState old →
+      IsDevice old id r → Releases old id released new → released ≢ Err OutOfMemory →
+      Reserves new (Exact id) (request_for (address_count r) 1 (ExactMatch r.start)) answer later →
+      (answer ≡ Ok (record { id = id; range = r })) ⊎ IsLimit new answer
 
 -- A call has one result and one next state in each state, if memory suffices.
 pub record DevicesDecide : Type 0 where

@@ -6,5 +6,4 @@ pub mod Saved
 pub mod SavedChecks
 pub mod Queries
 pub mod Checks
-pub mod Slots
 pub mod Listed

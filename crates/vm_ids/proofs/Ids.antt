@@ -20,6 +20,7 @@ pub mod FreedParts
 pub mod WrittenIds
 pub mod ExactIds
 pub mod LowestIds
+pub mod PeekedIds
 pub mod FreeIds
 pub mod WithHeld
 pub mod IdsInTurn

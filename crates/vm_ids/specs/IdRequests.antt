@@ -29,7 +29,9 @@ use Rattle.std.specs.FinSet as set
 use Rattle.vm_ranges.specs.Cases.{IfElse, Unless}
 use Rattle.vm_ranges.specs.declared.error.Error.{Error}
 use Rattle.vm_ranges.specs.declared.error.Error.TheVariants.{Overflow, OutOfRange, ResourceNotAvailable, InvalidRange, OutOfMemory}
-use Rattle.vm_ids.specs.Ids.{MAX_ID, IdState, IsOfRange, IsHeld, IsNotHeld, new_ids, holding_id}
+use Rattle.vm_ids.specs.Ids.{MAX_ID, IdState, IsOfRange, IsHeld, IsNotHeld, PeeksId, new_ids, holding_id}
+use Rattle.vm_ids.specs.declared.id_request.IdRequest.{IdRequest}
+use Rattle.vm_ids.specs.declared.id_request.IdRequest.TheVariants.{Lowest, LowestIn, Exact}
 
 -- The ids of the range that are not held, in ascending order.
 abbrev pub free_ids : IdState → List ℕ
@@ -80,6 +82,17 @@ AllocatesIdIn old first last answer new =
     IfElse (last < first) (refused (InvalidRange first last)) (
     (IsNoneNotHeldIn first last old × refused ResourceNotAvailable)
     ⊎ ((i : ℕ) × IsLowestNotHeldIn first last old i × HoldsId old i answer new))
+
+-- The result of `peek`: the result of `peek_id`, or that of `allocate_in` or `allocate_exact` if memory suffices.
+unfoldable pub Peeks : IdState → IdRequest → Result ℕ Error → Type 0
+Peeks state Lowest answer = PeeksId state answer
+Peeks state (LowestIn first last) answer =
+    IfElse (last < first) (answer ≡ Err (InvalidRange first last)) (
+    (IsNoneNotHeldIn first last state × (answer ≡ Err ResourceNotAvailable))
+    ⊎ ((i : ℕ) × IsLowestNotHeldIn first last state i × (answer ≡ Ok i)))
+Peeks state (Exact i) answer =
+    Unless (IsOfRange state i) (answer ≡ Err (OutOfRange i)) (
+    IfElse (IsHeld state i) (answer ≡ Err ResourceNotAvailable) (answer ≡ Ok i))
 
 -- The result of `allocate_ids`. An error changes nothing. If fewer than `count` ids are free, the error is the one of
 -- `allocate_id` if all ids are held. Otherwise the `count` lowest free ids are allocated, or the result is OutOfMemory.

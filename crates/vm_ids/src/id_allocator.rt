@@ -32,6 +32,7 @@ mod comparing;
 mod exact;
 mod freed_ids;
 mod held_ids;
+mod peek;
 mod several;
 mod with_held;
 

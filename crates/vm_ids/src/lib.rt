@@ -20,8 +20,10 @@
 #![tactic(auto)]
 
 mod id_allocator;
+mod id_request;
 mod laws;
 mod saved;
 
 pub use id_allocator::{FreedIds, HeldIds, IdAllocator};
+pub use id_request::IdRequest;
 pub use saved::ReadIds;

@@ -4,7 +4,7 @@ use crate::error::TryResult;
 use crate::proved::vm_devices as proved;
 use crate::rattle::Global;
 use crate::traits::{allocator, iterate, DebugList};
-use crate::{AllocPolicy, Conflict, Constraint, RangeInclusive, Result};
+use crate::{AllocPolicy, Conflict, Constraint, IdRequest, RangeInclusive, Result};
 use core::fmt;
 
 /// The resources of a device: an id and a range of addresses.
@@ -279,6 +279,72 @@ impl DeviceManager {
         Ok(DeviceSlot::of(slot))
     }
 
+    /// Reserves like [`reserve_constraint`](Self::reserve_constraint), with the id of another request
+    /// instead of the lowest free one.
+    ///
+    /// # Errors
+    ///
+    /// An error leaves ids, ranges and devices unchanged. In this order:
+    /// - The error of [`allocate_id`](crate::IdAllocator::allocate_id),
+    ///   [`allocate_in`](crate::IdAllocator::allocate_in) or
+    ///   [`allocate_exact`](crate::IdAllocator::allocate_exact) for the id.
+    /// - The error of
+    ///   [`AddressAllocator::allocate_constraint`](crate::AddressAllocator::allocate_constraint) for the
+    ///   range.
+    ///
+    /// # Example
+    ///
+    /// ```rust
+    /// use divsharun::{AllocPolicy, Constraint, DeviceManager, Error, IdRequest};
+    ///
+    /// let mut devices = DeviceManager::new(0, 31, 0xd000_0000, 0x1000_0000)?;
+    /// let bar = Constraint::new(0x1000, 0x1000, AllocPolicy::FirstMatch)?;
+    /// assert_eq!(devices.reserve_with_id(IdRequest::Exact(9), bar)?.id, 9);
+    /// assert_eq!(devices.reserve_with_id(IdRequest::LowestIn(8, 15), bar)?.id, 8);
+    /// assert_eq!(devices.reserve_with_id(IdRequest::Lowest, bar)?.id, 0);
+    ///
+    /// let again = devices.reserve_with_id(IdRequest::Exact(9), bar);
+    /// assert_eq!(again, Err(Error::ResourceNotAvailable));
+    /// # Ok::<(), Error>(())
+    /// ```
+    pub fn reserve_with_id(&mut self, id: IdRequest, request: Constraint) -> Result<DeviceSlot> {
+        let slot = self.0.reserve_with_id(Global, id, request.0)?;
+        Ok(DeviceSlot::of(slot))
+    }
+
+    /// Reserves like [`reserve_with_id`](Self::reserve_with_id), but returns an error if memory runs
+    /// out.
+    ///
+    /// # Errors
+    ///
+    /// An error leaves ids, ranges and devices unchanged. In this order:
+    /// - `Refused` with the error of `reserve_with_id`.
+    /// - `OutOfMemory` if memory for a node, for the table of devices or for the set of freed ids runs
+    ///   out.
+    ///
+    /// # Example
+    ///
+    /// ```rust
+    /// use divsharun::{AllocPolicy, Constraint, DeviceManager, Error, IdRequest, TryError};
+    ///
+    /// let mut devices = DeviceManager::try_new(0, 31, 0xd000_0000, 0x1000_0000)?;
+    /// let bar = Constraint::new(0x1000, 0x1000, AllocPolicy::LastMatch)?;
+    /// assert_eq!(devices.try_reserve_with_id(IdRequest::Exact(31), bar)?.id, 31);
+    /// assert_eq!(
+    ///     devices.try_reserve_with_id(IdRequest::Exact(32), bar),
+    ///     Err(TryError::Refused(Error::OutOfRange(32)))
+    /// );
+    /// # Ok::<(), TryError>(())
+    /// ```
+    pub fn try_reserve_with_id(
+        &mut self,
+        id: IdRequest,
+        request: Constraint,
+    ) -> TryResult<DeviceSlot> {
+        let slot = self.0.reserve_with_id(Global, id, request.0)?;
+        Ok(DeviceSlot::of(slot))
+    }
+
     /// Returns the reason why the range of an `ExactMatch` request is not free, like
     /// [`AddressAllocator::conflict`](crate::AddressAllocator::conflict). The ids do not matter.
     ///
@@ -297,7 +363,8 @@ impl DeviceManager {
     /// ```
     #[must_use]
     pub fn conflict(&self, request: Constraint) -> Option<Conflict> {
-        self.0.conflict(request.0).map(Into::into)
+        let found = self.0.addresses().conflict(request.0);
+        found.map(Into::into)
     }
 
     /// Releases a device: frees its id and its range.

@@ -42,7 +42,7 @@
 //! Results differ where that crate has bugs. `docs/DIFFERENCES.md` in the repository lists each
 //! difference. These items are new:
 //!
-//! - [`DeviceManager`];
+//! - [`DeviceManager`] and [`IdRequest`];
 //! - of an [`IdAllocator`]: [`with_held`](IdAllocator::with_held),
 //!   [`allocate_exact`](IdAllocator::allocate_exact), [`allocate_in`](IdAllocator::allocate_in),
 //!   [`allocate_ids`](IdAllocator::allocate_ids), [`peek_id`](IdAllocator::peek_id),
@@ -98,7 +98,7 @@
 //! search for a range visit more gaps. A walk within a range takes time of the order of log k, plus the
 //! number of ranges and gaps in it. Calls on one id or device take logarithmic time. If such a call makes
 //! the list of freed ids or of devices longer, it can also move the list, in linear time.
-//! `allocate_exact` and `allocate_in` add each id that they skip to the freed ones. Counts, ends,
+//! `allocate_exact`, `allocate_in` and `reserve_with_id` add each id that they skip to the freed ones. Counts, ends,
 //! `height` and `longest_gap` take constant time. Other calls of allocators and managers take at most
 //! linear time.
 //!
@@ -260,6 +260,7 @@ pub use error::{Error, ListError, Result, TryError};
 pub use id_allocator::{HeldIds, IdAllocator};
 pub use layout::{Block, Blocks, Layout};
 pub use node_state::NodeState;
+pub use proved::vm_ids::IdRequest;
 pub use range::{ParseRangeError, RangeInclusive};
 #[cfg(feature = "serde")]
 pub use saved::{Saved, Strict};

@@ -12,8 +12,8 @@ mod refusing;
 
 use divsharun::AllocPolicy::{ExactMatch, FirstMatch, LastMatch};
 use divsharun::{
-    AddressAllocator, Constraint, DeviceManager, DeviceSlot, Error, IdAllocator, ListError,
-    RangeInclusive, Result, TryError,
+    AddressAllocator, Constraint, DeviceManager, DeviceSlot, Error, IdAllocator, IdRequest,
+    ListError, RangeInclusive, Result, TryError,
 };
 use draw::Draw;
 use model::{refused, Ids, Model, Scale};
@@ -415,7 +415,7 @@ impl Beside for Manager {
     fn change(&mut self, is_freed: bool, draw: &mut Draw) {
         let (id, request) = (id_near(&self.ids, draw), request_near(&self.model, draw));
         let (size, align, policy) = (request.size(), request.align(), request.policy());
-        let form = draw.below(4);
+        let form = draw.below(6);
         let devices = &mut self.devices;
         if is_freed {
             let range = self.slots.remove(&id);
@@ -429,17 +429,30 @@ impl Beside for Manager {
             return;
         }
         let is_whole = request.window().is_none();
+        let which = match form {
+            4 => IdRequest::Exact(id),
+            5 => IdRequest::LowestIn(id, id_near(&self.ids, draw)),
+            _ => IdRequest::Lowest,
+        };
         let answer = match form {
             0 if is_whole => devices.reserve(size, align, policy),
             1 if is_whole => tried(devices, draw, |to| to.try_reserve(size, align, policy)),
             2 => tried(devices, draw, |to| to.try_reserve_constraint(request)),
-            _ => devices.reserve_constraint(request),
+            3 => devices.reserve_constraint(request),
+            _ if draw.below(2) == 0 => devices.reserve_with_id(which, request),
+            _ => tried(devices, draw, |to| to.try_reserve_with_id(which, request)),
+        };
+        let mut ids = self.ids.clone();
+        let id = match which {
+            IdRequest::Lowest => ids.allocate(),
+            IdRequest::LowestIn(low, high) => ids.allocate_in(low, high),
+            IdRequest::Exact(id) => ids.allocate_exact(id),
         };
         let range = |id| Ok((id, self.model.allocate(request)?));
-        let want = self.ids.peek().and_then(range);
+        let want = id.and_then(range);
         assert_eq!(answer, want.map(|(id, range)| DeviceSlot { id, range }));
         if let Ok((id, range)) = want {
-            assert_eq!(self.ids.allocate(), Ok(id));
+            self.ids = ids;
             self.model.hold(range);
             self.slots.insert(id, range);
         }

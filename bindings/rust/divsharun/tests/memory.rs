@@ -9,7 +9,7 @@ mod refusing;
 
 use divsharun::{
     AddressAllocator, AllocPolicy, Conflict, Constraint, DeviceManager, Error, Gaps, GapsIn,
-    HeldRanges, HeldRangesIn, IdAllocator, ListError, RangeInclusive, TryError,
+    HeldRanges, HeldRangesIn, IdAllocator, IdRequest, ListError, RangeInclusive, TryError,
 };
 use refusing::{blocks, peak_of, refusing};
 use std::array::from_fn;
@@ -141,7 +141,7 @@ const TRIED: [(u64, TriedCall); 39] = [
 
 /// Calls that end the process, each with the number of its allocations on [`full_leaf`]. A set or a
 /// map allocates one block for a few ids or devices.
-const ENDED: [(u64, EndedCall); 23] = [
+const ENDED: [(u64, EndedCall); 24] = [
     (1, |_| assert!(AddressAllocator::new(0, 64).is_ok())),
     (1, |_| drop(AddressAllocator::over(both()[0]))),
     (1, |space| drop(space.clone())),
@@ -190,6 +190,10 @@ const ENDED: [(u64, EndedCall); 23] = [
     (4, |_| {
         let request = in_the_middle(1, FirstMatch);
         reserve_and_release(|devices| devices.reserve_constraint(request).is_ok())
+    }),
+    (4, |_| {
+        let (id, request) = (IdRequest::Lowest, in_the_middle(1, FirstMatch));
+        reserve_and_release(|devices| devices.reserve_with_id(id, request).is_ok())
     }),
     (1 + 2 + 1 + 2, |_| {
         let mut devices = DeviceManager::new(0, 0, 0, 64).expect("a manager");
@@ -365,11 +369,15 @@ fn objects_stay_the_same() {
         devices.try_release(0)
     });
     assert_eq!(devices.device_count(), 0);
-    let mut devices = DeviceManager::new(0, 1, 0, 64).expect("a manager");
+    let mut devices = DeviceManager::new(0, 9, 0, 64).expect("a manager");
     unchanged_until_allowed(&mut devices, DeviceManager::clone, |devices| {
         devices.try_reserve_constraint(in_the_middle(1, LastMatch))
     });
     assert_eq!(devices.slot(0).map(|range| range.start()), Some(37));
+    unchanged_until_allowed(&mut devices, DeviceManager::clone, |devices| {
+        devices.try_reserve_with_id(IdRequest::LowestIn(5, 9), request(1, LastMatch))
+    });
+    assert_eq!(devices.slot(5).map(|range| range.start()), Some(63));
 }
 
 /// Makes a call with its first allocation failing, then with its second, until it succeeds. An error

@@ -9,7 +9,7 @@ ghost use Rattle.vm_devices.specs.Manager.{device_state};
 ghost use Rattle.vm_devices.specs.Queries.{device_state_cmp, device_state_cmp-total};
 
 use super::DeviceManager;
-use super::slots::Devices;
+use super::device_table::Devices;
 
 impl PartialEq for DeviceManager {
     ghost eq = { eq_by_cmp (on device_state device_state_cmp) };

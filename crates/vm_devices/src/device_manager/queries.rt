@@ -1,14 +1,13 @@
 //! Queries of the devices: an iterator, their number, the device at an address, and both
 //! allocators.
 ghost use Rattle.std.specs.Prelude.{◌≡◌};
-ghost use Rattle.vm_addresses.specs.Conflicts.{IsConflict, ConflictDecides};
 ghost use Rattle.vm_devices.specs.Manager.{device_state};
 ghost use Rattle.vm_devices.specs.Queries.{device_list, device_count, DeviceAt};
 
 use super::DeviceManager;
-use super::slots::Devices;
+use super::device_table::Devices;
 use crate::device_slot::DeviceSlot;
-use vm_addresses::{AddressAllocator, Conflict, Constraint};
+use vm_addresses::AddressAllocator;
 use vm_ids::IdAllocator;
 
 impl DeviceManager {
@@ -18,7 +17,7 @@ impl DeviceManager {
     pub fn devices(&self) -> Devices<'_>
         ensures { result ≡ device_list (device_state self.now) }
     {
-        self.slots.iter(self.device_count())
+        self.slots.iter()
     }
 
     /// Returns the number of devices.
@@ -42,25 +41,14 @@ impl DeviceManager {
         Some(DeviceSlot { id, range })
     }
 
-    /// Returns the reason why the range of an `ExactMatch` request is not free, like
-    /// `AddressAllocator::conflict`. The ids do not matter.
-    ///
-    /// It descends one path of the tree for each end of the range and does not allocate.
-    pub fn conflict(&self, request: Constraint) -> Option<Conflict>
-        ensures value { IsConflict (device_state self.now).space request result }
-        ensures decides { ConflictDecides (device_state self.now).space request result }
-    {
-        self.mmio_allocator.conflict(request)
-    }
-
-    /// Returns the allocator of the addresses, to look at.
+    /// Returns the allocator of the addresses, to read.
     pub fn addresses(&self) -> &AddressAllocator
         ensures { result.now ≡ self.now.addresses }
     {
         &self.mmio_allocator
     }
 
-    /// Returns the allocator of the ids, to look at.
+    /// Returns the allocator of the ids, to read.
     pub fn ids(&self) -> &IdAllocator
         ensures { result.now ≡ self.now.ids }
     {

@@ -48,7 +48,10 @@ use Rattle.vm_ids.specs.Ids.{
   PeeksId,
   FreesId,
 }
+use Rattle.vm_ids.specs.declared.id_request.IdRequest.{IdRequest}
+use Rattle.vm_ids.specs.declared.id_request.IdRequest.TheVariants.{Lowest, LowestIn, Exact}
 use Rattle.vm_ids.specs.IdRequests.{
+  Peeks,
   free_ids,
   holding_ids,
   HoldsId,
@@ -159,6 +162,12 @@ total_within old first last =
     (lowest_or_none (IsNotHeldIn first last old) (decided_within first last old) (last + 1)))
     (cases_lt last first)
 
+total_peeks_for : (state : IdState) (request : IdRequest) → (answer : Result ℕ Error) × Peeks state request answer × (answer ≢ Err OutOfMemory)
+unfolding Peeks AllocatesIdIn AllocatesExactId HoldsId
+total_peeks_for state Lowest = total_peeks state
+total_peeks_for state (LowestIn first last) = let a = total_within state first last in (a.0, grind (arith, a.2, a.3), a.3)
+total_peeks_for state (Exact id) = let a = total_exact state id in (a.0, grind (arith, a.2, a.3), a.3)
+
 several_of : IdState → ℕ → Result (List ℕ) Error × IdState
 several_of old count =
     if ltb (length (free_ids old)) count then (Err (none_free old), old) else
@@ -199,7 +208,7 @@ total_call old (Free id) = total_frees old id
 total_call old Clone = (Ok old, old, (inl refl, refl), λ h. absurd (cc h))
 
 pub every_call : EveryIdCallIsAnswered
-every_call = record { made = total_makes; made_with_held = total_makes_with_held; peeked = total_peeks; called = total_call }
+every_call = record { made = total_makes; made_with_held = total_makes_with_held; peeked = total_peeks_for; called = total_call }
 
 -- ---- Each list of calls has a history
 pub every_list_of_ids : EveryListHasHistory IsIdCallFrom

@@ -7,11 +7,8 @@ use Rattle.std.proofs.Common.{
   ◌≤◌,
   ◌⊎◌,
   false,
-  refl,
   ap,
   arith,
-  inl,
-  inr,
   max,
   List,
   [],
@@ -23,6 +20,7 @@ use Rattle.std.proofs.Common.{
   IfSome,
   IfNone,
   Result,
+  Ok,
   Err,
   IfOk,
   IsOk,
@@ -35,10 +33,10 @@ use Rattle.std.specs.Option.{option_copied, MatchOption}
 use Rattle.std.specs.declared.ops.Bound.TheVariants.{Included}
 use Rattle.std.specs.BTreeSet.{BTreeSet, contains, IsKeyRangeOf}
 use Rattle.vm_ids.specs.Ids.{IdState, holding_id, bound_of, ids_of, AreIds}
-use Rattle.vm_ids.specs.IdRequests.{HoldsId, AllocatesExactId, IsNotHeldIn, IsLowestNotHeldIn, IsNoneNotHeldIn, AllocatesIdIn}
+use Rattle.vm_ids.specs.declared.id_request.IdRequest.TheVariants.{LowestIn}
+use Rattle.vm_ids.specs.IdRequests.{Peeks, HoldsId, AllocatesExactId, IsNotHeldIn, IsLowestNotHeldIn, IsNoneNotHeldIn, AllocatesIdIn}
 use Rattle.vm_ids.specs.Checks.FreedBetween.{IsLowestBetween}
 use Rattle.vm_ranges.specs.declared.error.Error.{Error}
-use Rattle.vm_ranges.specs.declared.error.Error.TheVariants.{InvalidRange, ResourceNotAvailable}
 use Rattle.vm_ids.proofs.Ids.IdSets.{held_test, bound_fits, bound_above}
 
 module _ (state : IdState) (lo hi first last : ℕ) (next : Option ℕ) (freed : BTreeSet ℕ) (e : ids_of lo hi next freed ≡ state) where
@@ -97,21 +95,15 @@ first_none first last ids r rest (Some x) p e s h = rw e tt
 first_none first last ids r rest None p e s h = rw e (λ j a b. h.5 s.0 j (not_above first j a, not_above j last b))
 
 -- ---- The cases of `allocate_in`
-pub in_refused : (old : IdState) (first last : ℕ) → last < first → AllocatesIdIn old first last (Err (InvalidRange first last)) old
-unfolding AllocatesIdIn
-in_refused old first last l = inl (l, (refl, refl))
+pub in_refused : (old : IdState) (first last : ℕ) (e : Error) → Peeks old (LowestIn first last) (Err e) →
+    AllocatesIdIn old first last (Err e) old
+unfolding AllocatesIdIn Peeks
+in_refused old first last e p = grind arith
 
-pub in_none : (old : IdState) (first last : ℕ) → first ≤ last → IsNoneNotHeldIn first last old →
-    AllocatesIdIn old first last (Err ResourceNotAvailable) old
-unfolding AllocatesIdIn
-in_none old first last l none = inr (λ h. omega arith, inl (none, (refl, refl)))
-
-pub in_found : (old new : IdState) (first last i : ℕ) (r : Result ℕ Error) → first ≤ last → IsLowestNotHeldIn first last old i →
+pub in_found : (old new : IdState) (first last i : ℕ) (r : Result ℕ Error) → Peeks old (LowestIn first last) (Ok i) →
     AllocatesExactId old i r new → AllocatesIdIn old first last r new
-unfolding AllocatesIdIn IsLowestNotHeldIn AllocatesExactId
-in_found old new first last i r l f h =
-    let exact : HoldsId old i r new = grind (arith, f.0) in
-    inr (λ k. omega arith, inr (i, f, exact))
+unfolding AllocatesIdIn IsLowestNotHeldIn AllocatesExactId Peeks
+in_found old new first last i r p h = grind arith
 
 -- ---- Facts of each result
 module _ (old new : IdState) (first last : ℕ) (r : Result ℕ Error) (h : AllocatesIdIn old first last r new) where
@@ -131,4 +123,4 @@ module _ (old new : IdState) (first last : ℕ) (r : Result ℕ Error) (h : Allo
   unfolding AllocatesIdIn HoldsId
   in_unchanged = grind arith
 
-pub ruleset within = (in_refused, in_none, in_found, in_lowest, in_state, in_succeeds, in_unchanged)
+pub ruleset within = (in_refused, in_found, in_lowest, in_state, in_succeeds, in_unchanged)

@@ -3,8 +3,9 @@ use Rattle.std.specs.Prelude.{◌≡◌, ◌≢◌, ℕ, ◌↔◌, List, [], �
 use Rattle.std.specs.List.{Contains}
 use Rattle.std.specs.FinSet as set
 use Rattle.serde_json.specs.Data.{Data}
-use Rattle.vm_ids.specs.Ids.{IdState, IsHeld, IsLowestNotHeld, IsIdState, MakesIds, AllocatesId, PeeksId}
-use Rattle.vm_ids.specs.IdRequests.{MakesWithHeldIds}
+use Rattle.vm_ids.specs.Ids.{IdState, IsHeld, IsLowestNotHeld, IsIdState, MakesIds, AllocatesId}
+use Rattle.vm_ids.specs.IdRequests.{Peeks, MakesWithHeldIds}
+use Rattle.vm_ids.specs.declared.id_request.IdRequest.{IdRequest}
 use Rattle.vm_ranges.specs.Cloning.{Clones}
 use Rattle.vm_ranges.specs.Histories.{EveryCallIsAnswered}
 use Rattle.vm_ids.specs.Values.IdValues.{EncodesIds}
@@ -53,7 +54,8 @@ pub record EveryIdCallIsAnswered : Type 0 where
   pub made : (lo hi : ℕ) → (answer : Result IdState Error) × MakesIds lo hi answer × (answer ≢ Err OutOfMemory)
   pub made_with_held : (lo hi : ℕ) (held : List ℕ) →
       (answer : Result IdState Error) × MakesWithHeldIds lo hi held answer × (answer ≢ Err OutOfMemory)
-  pub peeked : (state : IdState) → (answer : Result ℕ Error) × PeeksId state answer × (answer ≢ Err OutOfMemory)
+  pub peeked : (state : IdState) (request : IdRequest) →
+      (answer : Result ℕ Error) × Peeks state request answer × (answer ≢ Err OutOfMemory)
   pub called : EveryCallIsAnswered IsIdCallFrom
 
 -- A clone of a reached allocator is reached, and has the state of its original.

@@ -1,9 +1,11 @@
 -- Laws of the calls that allocate a given id, an id of a window, or several ids, and of allocators that are created with
 -- held ids. They follow only from the definitions.
-use Rattle.std.specs.Prelude.{◌≡◌, ◌≢◌, ℕ, ◌<◌, ◌≤◌, nat_lt, List, [], ◌∷◌, ◌++◌, length, Ok, Err}
+use Rattle.std.specs.Prelude.{◌≡◌, ◌≢◌, ℕ, ◌<◌, ◌≤◌, ◌⊎◌, nat_lt, List, [], ◌∷◌, ◌++◌, length, Result, Ok, Err}
 use Rattle.std.specs.List.{filter}
 use Rattle.vm_ids.specs.Ids.{MAX_ID, IdState, IsIdState, MakesIds, AllocatesId, FreesId}
-use Rattle.vm_ids.specs.IdRequests.{free_ids, AllocatesExactId, AllocatesIdIn, AllocatesIds, MakesWithHeldIds}
+use Rattle.vm_ids.specs.IdRequests.{free_ids, Peeks, AllocatesExactId, AllocatesIdIn, AllocatesIds, MakesWithHeldIds}
+use Rattle.vm_ids.specs.declared.id_request.IdRequest.{IdRequest}
+use Rattle.vm_ids.specs.declared.id_request.IdRequest.TheVariants.{Lowest, LowestIn, Exact}
 use Rattle.vm_ranges.specs.declared.error.Error.{Error}
 use Rattle.vm_ranges.specs.declared.error.Error.TheVariants.{OutOfMemory}
 
@@ -58,3 +60,15 @@ abbrev pub HeldIdsAreAsExact : Type 0
 HeldIdsAreAsExact =
     (lo hi : ℕ) (held : List ℕ) (first made : IdState) → hi ≤ MAX_ID → MakesIds lo hi (Ok first) →
     MakesWithHeldIds lo hi held (Ok made) → AllocatesExactlyInTurn first held made
+
+-- The result of the call for a request.
+abbrev pub AllocatesFor : IdState → IdRequest → Result ℕ Error → IdState → Type 0
+AllocatesFor old Lowest answer new = AllocatesId old answer new
+AllocatesFor old (LowestIn first last) answer new = AllocatesIdIn old first last answer new
+AllocatesFor old (Exact id) answer new = AllocatesExactId old id answer new
+
+-- `peek` returns the result of the call for the request, unless memory runs out.
+abbrev pub PeekedIsAllocated : Type 0
+PeekedIsAllocated =
+    (old new : IdState) (request : IdRequest) (peeked answer : Result ℕ Error) → Peeks old request peeked →
+    AllocatesFor old request answer new → (answer ≡ peeked) ⊎ (answer ≡ Err OutOfMemory)

@@ -94,18 +94,13 @@ impl IdAllocator {
         // Each result under its exact condition.
         ensures answer { AllocatesIdIn self.old first last result self.new }
     {
-        if last < first {
-            return Err(Error::InvalidRange(first.into(), last.into()));
-        }
-        match self.lowest_in(first, last) {
-            None => Err(Error::ResourceNotAvailable),
-            Some(id) => self.allocate_exact(id),
-        }
+        let id = self.peek_in(first, last)?;
+        self.allocate_exact(id)
     }
 
     /// Returns the lowest id from `first` to `last` that is in the range and free.
     #[tactic(auto, using(crate::proofs::Ids::LowestIds::finds))]
-    fn lowest_in(&self, first: u32, last: u32) -> Option<u32>
+    pub(super) fn lowest_in(&self, first: u32, last: u32) -> Option<u32>
         requires { first ≤ last }
         ensures found { IfSome result (λ id. IsLowestNotHeldIn first last self.now id) }
         ensures none { IfNone result (IsNoneNotHeldIn first last self.now) }

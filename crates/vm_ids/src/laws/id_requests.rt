@@ -4,6 +4,7 @@ ghost use Rattle.vm_ids.specs.Laws.IdRequestLaws.{
   ExactIsAsSingle,
   WindowsOfIds,
   HeldIdsAreAsExact,
+  PeekedIsAllocated,
 };
 
 /// Proves that these calls allocate the ids that calls of `allocate_id` or `allocate_exact` would
@@ -14,4 +15,10 @@ fn requests_are_as_single_calls()
     ensures exact { ExactIsAsSingle }
     ensures windows { WindowsOfIds }
     ensures held { HeldIdsAreAsExact }
+{}
+
+/// Proves that `peek` returns the result of the call for the request, unless memory runs out.
+#[tactic(auto, using(crate::proofs::Ids::PeekedIds::predicts))]
+fn peeked_ids_are_allocated()
+    ensures { PeekedIsAllocated }
 {}

@@ -13,7 +13,7 @@ pub mod simd;
 mod vec;
 
 pub use boxed::Box;
-pub use collections::{btree_set, BTreeMap, BTreeSet};
+pub use collections::{btree_map, btree_set, BTreeMap, BTreeSet};
 pub use vec::Vec;
 
 /// The allocator. It stands for Rust's global allocator, and has no state.

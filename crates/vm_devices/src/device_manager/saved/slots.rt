@@ -7,7 +7,7 @@ ghost use Rattle.vm_devices.specs.Saved.{EncodesDevice, EncodesList, ReadsInPart
 ghost use Rattle.vm_devices.specs.SavedChecks.{decoded_device, EncodesDevices, DeviceParts};
 
 use super::read_devices::ReadDevices;
-use crate::device_manager::slots::Devices;
+use crate::device_manager::device_table::Devices;
 use crate::device_slot::DeviceSlot;
 use serde_json::{Value, json};
 use std::alloc::{AllocError, Global};

@@ -5,22 +5,19 @@
 //! Ids, ranges and the table of devices change together or not at all. Calls that can fail are
 //! first. The calls after them, and the call that undoes an allocation, always succeed.
 
-use crate::proved::vm_addresses::{
-    AddressAllocator, AllocPolicy, Constraint, Error, RangeInclusive, Result,
-};
-use crate::proved::vm_devices::device_slot::DeviceSlot;
+use crate::proved::vm_addresses::{AddressAllocator, Error, RangeInclusive, Result};
 use crate::proved::vm_ids::IdAllocator;
 use crate::rattle::Global;
 
 mod comparing;
 mod device_table;
 mod queries;
+mod reserving;
 mod saved;
-mod slots;
 
 use self::device_table::DeviceTable;
+pub use self::device_table::Devices;
 pub use self::saved::read_devices::{ReadDevices, SAVED_VERSION};
-pub use self::slots::Devices;
 
 /// Reserves an id and a range of addresses for each device, both or neither.
 ///
@@ -74,51 +71,6 @@ impl DeviceManager {
         })
     }
 
-    /// Reserves the lowest free id and `size` free addresses for a new device, and returns both.
-    ///
-    /// The addresses start at a multiple of `align`, and `policy` chooses them as in
-    /// `AddressAllocator::allocate`.
-    ///
-    /// # Errors
-    ///
-    /// An error leaves ids, ranges and devices unchanged, and each error but the last one the same tree. In
-    /// this order:
-    /// - `Overflow` if all ids are allocated and their range ends at `u32::MAX`.
-    /// - `ResourceNotAvailable` if all ids are allocated and their range ends below `u32::MAX`.
-    /// - The errors of `AddressAllocator::allocate`, in the order of its documentation.
-    /// - `OutOfMemory` if an allocation for the table of devices fails. The range is freed again, and the
-    ///   tree of [`addresses`](Self::addresses) can have another shape. Then its height and its later
-    ///   counts can differ.
-    pub fn reserve(
-        &mut self,
-        alloc: Global,
-        size: u64,
-        align: u64,
-        policy: AllocPolicy,
-    ) -> Result<DeviceSlot> {
-        let id = self.id_allocator.peek_id()?;
-        let request = Constraint::new(size, align, policy)?;
-        self.reserve_range(alloc, id, request)
-    }
-
-    /// Reserves an id and a range like [`reserve`](Self::reserve), for a request that was made before.
-    /// If the request has a window, the range lies in the window.
-    ///
-    /// # Errors
-    ///
-    /// An error leaves ids, ranges and devices unchanged, and each error but the last one the same tree. In
-    /// this order:
-    /// - `Overflow` if all ids are allocated and their range ends at `u32::MAX`.
-    /// - `ResourceNotAvailable` if all ids are allocated and their range ends below `u32::MAX`.
-    /// - The errors of `AddressAllocator::allocate_constraint`, in the order of its documentation.
-    /// - `OutOfMemory` if an allocation for the table of devices fails, as by
-    ///   [`reserve`](Self::reserve).
-    pub fn reserve_constraint(&mut self, alloc: Global, request: Constraint) -> Result<DeviceSlot> {
-        let ids = &self.id_allocator;
-        let id = ids.peek_id()?;
-        self.reserve_range(alloc, id, request)
-    }
-
     /// Releases a device: frees its id and its range.
     ///
     /// # Errors
@@ -142,19 +94,5 @@ impl DeviceManager {
     /// It does not allocate.
     pub fn slot(&self, id: u32) -> Option<RangeInclusive> {
         self.slots.get(id)
-    }
-
-    /// Makes a device of the lowest free id and of a range for the request. An error leaves ids, ranges
-    /// and devices unchanged.
-    fn reserve_range(&mut self, alloc: Global, id: u32, request: Constraint) -> Result<DeviceSlot> {
-        let range = self.mmio_allocator.allocate_constraint(alloc, request)?;
-        if let Err(refused) = self.slots.insert(alloc, id, range) {
-            // Freeing an allocated range always succeeds.
-            let _ = self.mmio_allocator.free(&range);
-            return Err(refused.into());
-        }
-        // `peek_id` returned this id, so this succeeds.
-        let _ = self.id_allocator.allocate_id();
-        Ok(DeviceSlot { id, range })
     }
 }

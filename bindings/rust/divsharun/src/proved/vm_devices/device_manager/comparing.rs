@@ -2,7 +2,7 @@
 
 //! Equality of managers.
 
-use super::slots::Devices;
+use super::device_table::Devices;
 use super::DeviceManager;
 
 impl PartialEq for DeviceManager {

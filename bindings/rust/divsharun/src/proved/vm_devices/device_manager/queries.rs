@@ -3,9 +3,9 @@
 //! Queries of the devices: an iterator, their number, the device at an address, and both
 //! allocators.
 
-use super::slots::Devices;
+use super::device_table::Devices;
 use super::DeviceManager;
-use crate::proved::vm_addresses::{AddressAllocator, Conflict, Constraint};
+use crate::proved::vm_addresses::AddressAllocator;
 use crate::proved::vm_devices::device_slot::DeviceSlot;
 use crate::proved::vm_ids::IdAllocator;
 
@@ -14,7 +14,7 @@ impl DeviceManager {
     ///
     /// It does not allocate.
     pub fn devices(&self) -> Devices<'_> {
-        self.slots.iter(self.device_count())
+        self.slots.iter()
     }
 
     /// Returns the number of devices.
@@ -33,20 +33,12 @@ impl DeviceManager {
         Some(DeviceSlot { id, range })
     }
 
-    /// Returns the reason why the range of an `ExactMatch` request is not free, like
-    /// `AddressAllocator::conflict`. The ids do not matter.
-    ///
-    /// It descends one path of the tree for each end of the range and does not allocate.
-    pub fn conflict(&self, request: Constraint) -> Option<Conflict> {
-        self.mmio_allocator.conflict(request)
-    }
-
-    /// Returns the allocator of the addresses, to look at.
+    /// Returns the allocator of the addresses, to read.
     pub fn addresses(&self) -> &AddressAllocator {
         &self.mmio_allocator
     }
 
-    /// Returns the allocator of the ids, to look at.
+    /// Returns the allocator of the ids, to read.
     pub fn ids(&self) -> &IdAllocator {
         &self.id_allocator
     }

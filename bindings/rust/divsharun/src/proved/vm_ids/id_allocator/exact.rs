@@ -54,17 +54,12 @@ impl IdAllocator {
     /// - `ResourceNotAvailable` if no id from `first` to `last` is in the range and free.
     /// - `OutOfMemory` if an allocation of memory fails.
     pub fn allocate_in(&mut self, first: u32, last: u32) -> Result<u32> {
-        if last < first {
-            return Err(Error::InvalidRange(first.into(), last.into()));
-        }
-        match self.lowest_in(first, last) {
-            None => Err(Error::ResourceNotAvailable),
-            Some(id) => self.allocate_exact(id),
-        }
+        let id = self.peek_in(first, last)?;
+        self.allocate_exact(id)
     }
 
     /// Returns the lowest id from `first` to `last` that is in the range and free.
-    fn lowest_in(&self, first: u32, last: u32) -> Option<u32> {
+    pub(super) fn lowest_in(&self, first: u32, last: u32) -> Option<u32> {
         // A freed id is below all ids that were never allocated.
         if let Some(freed) = first_between(&self.freed_ids, first, last) {
             return Some(freed);

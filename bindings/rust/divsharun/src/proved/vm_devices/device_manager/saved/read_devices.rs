@@ -105,12 +105,10 @@ fn pair_devices(
     }
     let mut table = DeviceTable::new(alloc);
     for device in devices {
-        // The table has a slot for each id between the lowest and the highest, so a device is
-        // checked before it is inserted.
         if !can_be_inserted(ids, space, &table, device) {
             return Err(SavedError::Violated(Condition::Devices));
         }
-        table.insert(alloc, device.id, device.range)?;
+        table.insert(device.id, device.range)?;
     }
     Ok(table)
 }
