@@ -211,7 +211,7 @@ impl Tree {
         &mut self,
         start: u64,
         search: &Search,
-        spare: Option<Spare>,
+        spare: &mut Option<Spare>,
         alloc: Global,
         count: &mut Steps,
     ) -> Result<Taken, Refusal>
@@ -221,7 +221,7 @@ impl Tree {
         requires count { count.old ≡ 0 }
         ensures answer { AllocatesExact search.now start (blocks self.old) (blocks self.new) result }
         ensures unchanged { OnErr result (self.new ≡ self.old) }
-        ensures memory { spare ≢ None → IfErr result (λ refusal. ¬ IsOutOfMemory refusal) }
+        ensures memory { spare.old ≢ None → IfErr result (λ refusal. ¬ IsOutOfMemory refusal) }
         ensures count { count.new ≡ nodes_to_address start self.old }
         ensures path { IsPathLength self.old count.new }
     {

@@ -235,8 +235,11 @@ module _ (old : AddressState) (r gap : Range) (valid : IsAddressState old) (held
     away_first answer new h =
         ⊎_elim
         (λ u. inl ((λ t q. u.0 t (was_place t q)), (u.1.0, ap (λ (v : Result Range Error). released_then old r v) u.1.0)))
-        (λ u. inr (u.0, (still_place old r gap valid held left w n a u.0 z u.1.0, λ t q. u.1.1 t (was_place t q)),
-        settles u.0 answer new u.1.0 (no_fit u.0) u.2))
+        (λ u. inr (
+          u.0,
+          (still_place old r gap valid held left w n a u.0 z u.1.0, λ t q. u.1.1 t (was_place t q)),
+          settles u.0 answer new u.1.0 (no_fit u.0) u.2,
+        ))
         h
 
     pub away_last : (answer : Result Range Error) (new : AddressState) → Grants counted old (request_in w n a LastMatch) answer new →
@@ -245,8 +248,11 @@ module _ (old : AddressState) (r gap : Range) (valid : IsAddressState old) (held
     away_last answer new h =
         ⊎_elim
         (λ u. inl ((λ t q. u.0 t (was_place t q)), (u.1.0, ap (λ (v : Result Range Error). released_then old r v) u.1.0)))
-        (λ u. inr (u.0, (still_place old r gap valid held left w n a u.0 z u.1.0, λ t q. u.1.1 t (was_place t q)),
-        settles u.0 answer new u.1.0 (no_fit u.0) u.2))
+        (λ u. inr (
+          u.0,
+          (still_place old r gap valid held left w n a u.0 z u.1.0, λ t q. u.1.1 t (was_place t q)),
+          settles u.0 answer new u.1.0 (no_fit u.0) u.2,
+        ))
         h
 
   -- ---- A start that is no fit
@@ -279,16 +285,31 @@ module _ (old : AddressState) (r gap : Range) (valid : IsAddressState old) (held
         (held_contains old.held (span t n) c) apart) in
         let was_held : Contains freed.held (span t n) → Contains old.held (span t n) = λ c. contains_held old.held (span t n)
         (held_without r (span t n) old.held (held_contains freed.held (span t n) c)) in
-        ⊎_elim (λ k. inl (k.0, refused _ k.1)) (λ k. inr (k.0,
-        ⊎_elim (λ k. inl (k.0, refused _ k.1)) (λ k. inr (k.0,
-        ⊎_elim (λ k. inl (k.0, refused _ k.1)) (λ k. inr (k.0,
-        ⊎_elim (λ k. inl (now_held k.0, refused _ k.1)) (λ k. inr ((λ c. k.0 (was_held c)),
-        ⊎_elim (λ k. inl ((λ c. k.0 (was_clear c)), refused _ k.1)) (λ c. inr (is_clear c.0,
-        ⊎_elim (λ k. inl (k.0, refused _ k.1)) (λ k. inr (k.0,
-        ⊎_elim (λ u. absurd (u.0 t (place_of old c.0)))
-        (λ u. inr (u.0, (u.1.0, still_place old r gap valid held left w n a u.0 z u.1.1),
-        settles u.0 answer new u.1.1 (subst (λ (v : ℕ). ¬ Fits v) (sym u.1.0) nofit) u.2)) k.1))
-        c.1)) k.1)) k.1)) k.1)) k.1)) h
+        ⊎_elim (λ k. inl (k.0, refused _ k.1)) (λ k. inr (
+          k.0,
+          ⊎_elim (λ k. inl (k.0, refused _ k.1)) (λ k. inr (
+            k.0,
+            ⊎_elim (λ k. inl (k.0, refused _ k.1)) (λ k. inr (
+              k.0,
+              ⊎_elim (λ k. inl (now_held k.0, refused _ k.1)) (λ k. inr (
+                (λ c. k.0 (was_held c)),
+                ⊎_elim (λ k. inl ((λ c. k.0 (was_clear c)), refused _ k.1)) (λ c. inr (
+                  is_clear c.0,
+                  ⊎_elim (λ k. inl (k.0, refused _ k.1)) (λ k. inr (
+                    k.0,
+                    ⊎_elim (λ u. absurd (u.0 t (place_of old c.0)))
+                        (λ u. inr (
+                          u.0,
+                          (u.1.0, still_place old r gap valid held left w n a u.0 z u.1.1),
+                          settles u.0 answer new u.1.1 (subst (λ (v : ℕ). ¬ Fits v) (sym u.1.0) nofit) u.2,
+                        )) k.1,
+                  ))
+                      c.1,
+                )) k.1,
+              )) k.1,
+            )) k.1,
+          )) k.1,
+        )) h
 
     -- A request for exactly the range, which is not in the window.
     pub asked_exact : (t ≡ r.start) × (n ≡ address_count r) → Grants counted freed (request_in w n a (ExactMatch t)) (Err ResourceNotAvailable) freed
@@ -297,11 +318,23 @@ module _ (old : AddressState) (r gap : Range) (valid : IsAddressState old) (held
         let below = held_below old r valid held in
         let is : r ≡ span t n = same_range r (span t n) (omega (arith, same.0)) (omega (arith, same.0, same.1, below.0)) in
         ⊎_elim
-        (λ i. inr ((λ e. omega (arith, e, same.0, below.0, below.1)), inr (i, inr ((λ o. omega (arith, o, same.0, same.1, below.0, below.1)), inr (
-          (λ c. not_held_without old.space.start old.space.end r (span t n) old.held valid.in_order (held_contains freed.held (span t n) c) is),
-          inl ((λ c. none_holds old.held t ((was_clear c) t (omega arith) (omega (arith, z))).1
-              (held_address old.held r t (held_contains old.held r held) (omega (arith, same.0), omega (arith, same.0, below.0)))), (refl, refl)),
-        )))))
+        (λ i. inr (
+          (λ e. omega (arith, e, same.0, below.0, below.1)),
+          inr (
+            i,
+            inr (
+              (λ o. omega (arith, o, same.0, same.1, below.0, below.1)),
+              inr (
+                (λ c. not_held_without old.space.start old.space.end r (span t n) old.held valid.in_order (held_contains freed.held (span t n) c) is),
+                inl (
+                  (λ c. none_holds old.held t ((was_clear c) t (omega arith) (omega (arith, z))).1
+                      (held_address old.held r t (held_contains old.held r held) (omega (arith, same.0), omega (arith, same.0, below.0)))),
+                  (refl, refl),
+                ),
+              ),
+            ),
+          ),
+        ))
         (λ out. inr ((λ e. omega (arith, e, same.0, below.0, below.1)), inl (out, (refl, refl))))
         (decided_in (within w freed).space t)
 

@@ -72,13 +72,22 @@ grants_at counted (ExactMatch t) w n a s old new answer z m c h =
     ⊎_elim (λ l. l.1) (λ l. absurd (l.0 (omega (arith, e, at)))) h in
     ⊎_elim
     (λ (e : t ≡ MAX). inl (e, refused (omega (arith, e, m, z, at))))
-    (λ (ne : t ≡ MAX → ⊥). inr (ne, inr ((clear t (omega arith) (omega (arith, z))).0, inr ((λ o. omega (arith, o, m, at)), inr (
-      clear_not_held n t (within w old) z clear,
+    (λ (ne : t ≡ MAX → ⊥). inr (
+      ne,
       inr (
-        clear,
-        ⊎_elim (λ (e : t + n - 1 ≡ MAX). inl (e, refused e)) (λ (k : t + n - 1 ≡ MAX → ⊥). inr (k, inr (s, c, h))) (cases_eq (t + n - 1) MAX),
+        (clear t (omega arith) (omega (arith, z))).0,
+        inr (
+          (λ o. omega (arith, o, m, at)),
+          inr (
+            clear_not_held n t (within w old) z clear,
+            inr (
+              clear,
+              ⊎_elim (λ (e : t + n - 1 ≡ MAX). inl (e, refused e)) (λ (k : t + n - 1 ≡ MAX → ⊥). inr (k, inr (s, c, h))) (cases_eq (t + n - 1) MAX),
+            ),
+          ),
+        ),
       ),
-    )))))
+    ))
     (cases_eq t MAX)
 
 -- ---- A move that begins in the gap
@@ -97,17 +106,26 @@ module _ (old : AddressState) (r gap q : Range) (held : Contains old.held r) (le
       let less = length_without r old.held (held_contains old.held r held) in
       ⊎_elim
       (λ k. inl (k.0, (ap (λ (v : Error). Err v) k.1, refl)))
-      (λ k. inr (k.0, inr (part_splits old r gap q left from some upto k.1.0, ⊎_elim
-      (λ l. inl (omega (arith, l.0, less), (ap (λ (v : Error). Err v) l.1, refl)))
-      (λ l. inr ((λ m. l.0 (omega (arith, m, less))), inr (ap (λ (v : Error). Err v) l.1, refl)))
-      k.1.1)))
+      (λ k. inr (
+        k.0,
+        inr (
+          part_splits old r gap q left from some upto k.1.0,
+          ⊎_elim
+              (λ l. inl (omega (arith, l.0, less), (ap (λ (v : Error). Err v) l.1, refl)))
+              (λ l. inr ((λ m. l.0 (omega (arith, m, less))), inr (ap (λ (v : Error). Err v) l.1, refl)))
+              k.1.1,
+        ),
+      ))
       h
 
   pub succeeds : (begun : BegunMove) → BeginsInside old r gap q (Ok begun) → Settles (Ok q)
   unfolding AllocatesAt
   succeeds begun h =
       let less = length_without r old.held (held_contains old.held r held) in
-      inr ((λ e. omega (arith, e, h.0)), ⊎_elim
-      (λ (e : q ≡ gap). inl (subst (λ (v : Range). ¬ SplitsGap (releasing r old) v) (sym e) (gap_is_filled old r gap left), (refl, refl)))
-      (λ (n : ¬ (q ≡ gap)). inr (part_splits old r gap q left from some upto n, inr ((λ m. omega (arith, m, less, h.4 n)), inl (refl, refl))))
-      (decided_same q gap))
+      inr (
+        (λ e. omega (arith, e, h.0)),
+        ⊎_elim
+            (λ (e : q ≡ gap). inl (subst (λ (v : Range). ¬ SplitsGap (releasing r old) v) (sym e) (gap_is_filled old r gap left), (refl, refl)))
+            (λ (n : ¬ (q ≡ gap)). inr (part_splits old r gap q left from some upto n, inr ((λ m. omega (arith, m, less, h.4 n)), inl (refl, refl))))
+            (decided_same q gap),
+      )

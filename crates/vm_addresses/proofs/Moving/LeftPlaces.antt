@@ -165,8 +165,11 @@ module _ (old : AddressState) (r gap : Range) (valid : IsAddressState old) (held
       (e, ap (λ (v : Result Range Error). released_then old r v) e) in
       ⊎_elim
       (λ k. inl (λ s. k.0 (beside_splits n t z clear apart s), taken k.1.0))
-      (λ k. inr (still_splits q k.0, ⊎_elim
-      (λ l. inl (l.0, refused _ l.1.0))
-      (λ l. inr (l.0, ⊎_elim (λ m. inl (taken m.0)) (λ m. inr (refused _ m.0)) l.1))
-      k.1))
+      (λ k. inr (
+        still_splits q k.0,
+        ⊎_elim
+            (λ l. inl (l.0, refused _ l.1.0))
+            (λ l. inr (l.0, ⊎_elim (λ m. inl (taken m.0)) (λ m. inr (refused _ m.0)) l.1))
+            k.1,
+      ))
       h

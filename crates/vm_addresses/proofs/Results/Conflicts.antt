@@ -164,8 +164,11 @@ first_in_the_way state space r q request answer valid e held looks is =
 
 pub not_by_held : (state : AddressState) (space r : Range) (request : Request) (answer : Option Conflict) → space ≡ state.space →
     Contains state.held r → LooksAt space request (Err answer) → IsMoveConflict state r request answer
-not_by_held state space r request answer e held looks = inr (held, subst
-    (λ (v : Range). IsConflict (record { space = v; held = without_range r state.held }) request answer) e (looks (without_range r state.held)))
+not_by_held state space r request answer e held looks = inr (
+  held,
+  subst
+      (λ (v : Range). IsConflict (record { space = v; held = without_range r state.held }) request answer) e (looks (without_range r state.held)),
+)
 
 pub no_move_conflict : (state : AddressState) (r : Range) (request : Request) → ¬ Contains state.held r → IsMoveConflict state r request None
 no_move_conflict state r request none = inl (none, refl)

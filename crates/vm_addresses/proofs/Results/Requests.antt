@@ -38,7 +38,6 @@ pub request_allocates : (request : Request) (old new : AddressState) (answer : R
 unfolding Allocates
 request_allocates request old new answer v g = allocates_of (length old.held) request old new answer v g
 
-
 -- A fact of the constraint that a request makes is a fact of the request.
 pub for_request : (request made : Request) (P : Request → Type 0) → MakesConstraint request (Ok made) → P made → P request
 for_request request made P m p = subst P (constraint_made request made m).0 p

@@ -64,7 +64,7 @@ impl AddressAllocator {
     #[inline(always)]
     pub(super) fn allocate_with(
         &mut self,
-        spare: Option<Spare>,
+        mut spare: Option<Spare>,
         alloc: Global,
         request: Constraint,
         can_split: bool,
@@ -84,7 +84,9 @@ impl AddressAllocator {
     {
         let mut count = Steps::new();
         let (tree, space) = (&mut self.tree, &self.space);
-        let taken = match allocate_in(tree, space, &request, can_split, spare, alloc, &mut count) {
+        let taken = match allocate_in(
+            tree, space, &request, can_split, &mut spare, alloc, &mut count,
+        ) {
             Ok(taken) => taken,
             Err(error) => return (Err(error), count.entered()),
         };
@@ -103,7 +105,7 @@ fn allocate_in(
     space: &RangeInclusive,
     constraint: &Constraint,
     can_split: bool,
-    spare: Option<Spare>,
+    spare: &mut Option<Spare>,
     alloc: Global,
     count: &mut Steps,
 ) -> Result<Taken>
@@ -113,7 +115,7 @@ fn allocate_in(
     ensures low { IsBlockTree tree.old }
     ensures valid { IsRequest constraint.now }
     ensures answer { IsAllocation constraint.now space.now can_split tree.old tree.new result count.new }
-    ensures memory { (start : ℕ) → constraint.now.policy ≡ ExactMatch start → spare ≢ None
+    ensures memory { (start : ℕ) → constraint.now.policy ≡ ExactMatch start → spare.old ≢ None
         → result ≢ Err Error.OutOfMemory }
 {
     // Proof: `height` gives the bounds of the tree.
@@ -142,7 +144,7 @@ fn allocate_exact(
     space: &RangeInclusive,
     start: u64,
     search: &Search,
-    spare: Option<Spare>,
+    spare: &mut Option<Spare>,
     alloc: Global,
     count: &mut Steps,
 ) -> Result<Taken>
@@ -151,7 +153,7 @@ fn allocate_exact(
     requires low { IsBlockTree tree.old }
     requires search { IsSearch search.now }
     requires count { count.old ≡ 0 }
-    ensures memory { spare ≢ None → result ≢ Err Error.OutOfMemory }
+    ensures memory { spare.old ≢ None → result ≢ Err Error.OutOfMemory }
     ensures answer { (request : Request) → IsRequest request → request.policy ≡ ExactMatch start
         → IsSearchOf request space.now search.now
         → IsAllocation request space.now search.now.can_split tree.old tree.new result count.new }
@@ -167,7 +169,10 @@ fn allocate_exact(
         return Err(Error::Overflow);
     };
     let range = RangeInclusive::between(start, last);
-    with_error(tree.allocate_exact(start, search, spare, alloc, count), &range)
+    with_error(
+        tree.allocate_exact(start, search, spare, alloc, count),
+        &range,
+    )
 }
 
 /// Returns the search of a request in a space.

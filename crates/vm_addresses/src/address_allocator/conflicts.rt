@@ -79,10 +79,7 @@ impl AddressAllocator {
 
 /// Returns the range of an `ExactMatch` request, or the conflict if it does not depend on allocated ranges.
 #[tactic(auto, unfolding(crate::specs::Conflicts::IsConflict, crate::specs::Conflicts::IsConflictOf))]
-fn range_of(
-    space: &RangeInclusive,
-    request: Constraint,
-) -> Result<RangeInclusive, Option<Conflict>>
+fn range_of(space: &RangeInclusive, request: Constraint) -> Result<RangeInclusive, Option<Conflict>>
     ensures looks { LooksAt space.now request result }
     ensures valid { IsRequest request }
 {

@@ -73,7 +73,7 @@ pub(crate) fn exact_in_leaf(
     lone: bool,
     start: u64,
     search: &Search,
-    spare: Option<Spare>,
+    spare: &mut Option<Spare>,
     alloc: Global,
 ) -> Result<Taken, Refusal>
     requires search { IsSearch search.now }
@@ -83,7 +83,7 @@ pub(crate) fn exact_in_leaf(
     ensures answer { AllocatesExact search.now start
         (blocks (side tree.old)) (blocks (side tree.new)) result }
     ensures left { LeavesLeaf lone result tree.old tree.new }
-    ensures memory { spare ≢ None → IfErr result (λ refusal. ¬ IsOutOfMemory refusal) }
+    ensures memory { spare.old ≢ None → IfErr result (λ refusal. ¬ IsOutOfMemory refusal) }
 {
     let place = exact_place(leaf_of(tree), start, search)?;
     allocate_at(tree, lone, place, search, spare, alloc)
@@ -96,7 +96,7 @@ fn exact_below(
     node: &mut Node,
     start: u64,
     search: &Search,
-    spare: Option<Spare>,
+    spare: &mut Option<Spare>,
     alloc: Global,
     count: &mut Steps,
 ) -> Result<Taken, Refusal>
@@ -105,7 +105,7 @@ fn exact_below(
     requires tree { IsSubtree node.old }
     requires count_fits { count.old + nodes_to_address start node.old ≤ MAX + 1 }
     ensures answer { AllocatesExact search.now start (blocks node.old) (blocks node.new) result }
-    ensures memory { spare ≢ None → IfErr result (λ refusal. ¬ IsOutOfMemory refusal) }
+    ensures memory { spare.old ≢ None → IfErr result (λ refusal. ¬ IsOutOfMemory refusal) }
     ensures change { GrowsBelowIfOk result node.old node.new }
     ensures count { count.new + 1 ≡ count.old + nodes_to_address start node.old }
 {
@@ -122,7 +122,7 @@ pub(crate) fn exact_at(
     tree: &mut Link,
     start: u64,
     search: &Search,
-    spare: Option<Spare>,
+    spare: &mut Option<Spare>,
     alloc: Global,
     count: &mut Steps,
 ) -> Result<Taken, Refusal>
@@ -132,7 +132,7 @@ pub(crate) fn exact_at(
     requires count_fits { count.old + nodes_to_address start (side tree.old) ≤ MAX }
     ensures answer { AllocatesExact search.now start
         (blocks (side tree.old)) (blocks (side tree.new)) result }
-    ensures memory { spare ≢ None → IfErr result (λ refusal. ¬ IsOutOfMemory refusal) }
+    ensures memory { spare.old ≢ None → IfErr result (λ refusal. ¬ IsOutOfMemory refusal) }
     ensures change { GrowsIfOk result (side tree.old) (side tree.new) }
     ensures summed { IsSummed tree.new }
     ensures count { count.new ≡ count.old + nodes_to_address start (side tree.old) }

@@ -204,7 +204,7 @@ fn halve(mut lower: Box<Leaf>, place: &Place, mut upper: Box<Leaf>, spare: Box<N
 fn split_leaf(
     tree: &mut Link,
     place: Place,
-    spare: Option<Spare>,
+    spare: &mut Option<Spare>,
     alloc: Global,
 ) -> Result<(), AllocError>
     requires leaf { height_of (side tree.old) < 2 }
@@ -216,9 +216,9 @@ fn split_leaf(
     ensures grows { IfOk result (λ _. Grows (side tree.old) (side tree.new) × IsSummed tree.new
         × (2 ≤ height_of (side tree.new))) }
     ensures unchanged { OnErr result (tree.new ≡ tree.old) }
-    ensures spare { spare ≢ None → IsOk result }
+    ensures spare { spare.old ≢ None → IsOk result }
 {
-    let spare = spare_or_new(spare, place.range, alloc)?;
+    let spare = spare_or_new(spare.take(), place.range, alloc)?;
     let lower = into_leaf(mem::replace(tree, Link::Hole));
     *tree = halve(lower, &place, spare.leaf, spare.node);
     Ok(())
@@ -234,7 +234,7 @@ pub(super) fn allocate_at(
     lone: bool,
     place: Place,
     search: &Search,
-    spare: Option<Spare>,
+    spare: &mut Option<Spare>,
     alloc: Global,
 ) -> Result<Taken, Refusal>
     requires leaf { height_of (side tree.old) < 2 }
@@ -243,7 +243,7 @@ pub(super) fn allocate_at(
     ensures answer { SettlesAt search.now
         (in_list (blocks (side tree.old)) place) (blocks (side tree.new)) result }
     ensures left { LeavesLeaf lone result tree.old tree.new }
-    ensures memory { spare ≢ None → IfErr result (λ refusal. ¬ IsOutOfMemory refusal) }
+    ensures memory { spare.old ≢ None → IfErr result (λ refusal. ¬ IsOutOfMemory refusal) }
 {
     if let Some(refusal) = refusal_of(&place, search) {
         return Err(refusal);
