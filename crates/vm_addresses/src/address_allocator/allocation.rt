@@ -56,7 +56,7 @@ impl AddressAllocator {
         ensures state { IsAddressState (state_of self.new) }
     {
         let can_split = self.held_count < SPLIT_LIMIT;
-        self.allocate_with(None, alloc, request, can_split)
+        self.allocate_with(&mut None, alloc, request, can_split)
     }
 
     /// Allocates like [`allocate_constraint_counted`](Self::allocate_constraint_counted). It splits gaps only
@@ -64,7 +64,7 @@ impl AddressAllocator {
     #[inline(always)]
     pub(super) fn allocate_with(
         &mut self,
-        mut spare: Option<Spare>,
+        spare: &mut Option<Spare>,
         alloc: Global,
         request: Constraint,
         can_split: bool,
@@ -73,7 +73,7 @@ impl AddressAllocator {
         ensures valid { IsRequest request }
         ensures grants { (counted : ℕ) → IsTestOf can_split (counted < SPLIT_LIMIT_MIN_HELD)
             → Grants counted (state_of self.old) request result.0 (state_of self.new) }
-        ensures memory { (start : ℕ) → request.policy ≡ ExactMatch start → spare ≢ None
+        ensures memory { (start : ℕ) → request.policy ≡ ExactMatch start → spare.old ≢ None
             → result.0 ≢ Err Error.OutOfMemory }
         ensures unchanged { OnErr result.0 (self.new ≡ self.old) }
         ensures count { EntersToAllocate self.old request result.1
@@ -84,9 +84,7 @@ impl AddressAllocator {
     {
         let mut count = Steps::new();
         let (tree, space) = (&mut self.tree, &self.space);
-        let taken = match allocate_in(
-            tree, space, &request, can_split, &mut spare, alloc, &mut count,
-        ) {
+        let taken = match allocate_in(tree, space, &request, can_split, spare, alloc, &mut count) {
             Ok(taken) => taken,
             Err(error) => return (Err(error), count.entered()),
         };

@@ -189,7 +189,7 @@ impl AddressAllocator {
 
     /// Finishes a move of `key` that was begun.
     #[tactic(auto, using(crate::proofs::Moving::Finishing::finishing))]
-    pub fn finish_move(&mut self, alloc: Global, key: &RangeInclusive, begun: BegunMove)
+    pub fn finish_move(&mut self, alloc: Global, key: &RangeInclusive, mut begun: BegunMove)
         requires { (old : AddressState) × IsBegun old key.now begun (state_of self.old) }
         ensures moved { (old : AddressState) → IsBegun old key.now begun (state_of self.old)
             → state_of self.new ≡ replacing key.now begun.range old }
@@ -201,7 +201,7 @@ impl AddressAllocator {
             return;
         }
         if begun.range != *key {
-            self.replace(alloc, key, begun.range, begun.spare);
+            self.replace(alloc, key, begun.range, &mut begun.spare);
         }
     }
 
@@ -313,7 +313,7 @@ impl AddressAllocator {
         ensures part { (count : ℕ) × HasParts self.old (Allocating request result count ∷ []) self.new }
     {
         let can_split = self.held_count <= SPLIT_LIMIT;
-        self.allocate_with(None, alloc, request, can_split).0
+        self.allocate_with(&mut None, alloc, request, can_split).0
     }
 
     /// Frees `key`, and allocates `range` in the gap that it leaves.
@@ -323,11 +323,11 @@ impl AddressAllocator {
         alloc: Global,
         key: &RangeInclusive,
         range: RangeInclusive,
-        spare: Option<Spare>,
+        spare: &mut Option<Spare>,
     )
         requires held { Contains (state_of self.old).held key.now }
         requires inside { (gap : Range) × IsInLeftGap (state_of self.old) key.now gap range
-            × (range ≢ gap → (spare ≢ None) × (length (state_of self.old).held ≤ SPLIT_LIMIT_MIN_HELD)) }
+            × (range ≢ gap → (spare.old ≢ None) × (length (state_of self.old).held ≤ SPLIT_LIMIT_MIN_HELD)) }
         ensures moved { state_of self.new ≡ replacing key.now range (state_of self.old) }
         ensures parts { (request : Request) → TakesParts 2 self.old (request ∷ []) self.new }
     {

@@ -145,7 +145,7 @@ impl Tree {
         &mut self,
         start: u64,
         search: &Search,
-        spare: Option<Spare>,
+        spare: &mut Option<Spare>,
         alloc: Global,
         count: &mut Steps,
     ) -> Result<Taken, Refusal> {

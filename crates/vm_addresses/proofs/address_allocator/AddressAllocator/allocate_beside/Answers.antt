@@ -1,6 +1,10 @@
-use Rattle.std.proofs.Common.{◌≡◌, ◌-◌, ◌<◌, ◌≤◌, ℕ, length, leb, arith, ⊎_elim}
+use Rattle.std.proofs.Common.{◌≡◌, ◌-◌, ◌<◌, ◌≤◌, ℕ, length, leb, arith, ⊎_elim, Result}
 use Rattle.std.proofs.lemmas.Bool.{cases_lt, le-leb, lt-leb}
 use Rattle.vm_ranges.specs.Cases.{IsTestOf}
+use Rattle.vm_ranges.specs.Range.{Range}
+use Rattle.vm_ranges.specs.Request.{Request}
+use Rattle.vm_ranges.specs.declared.error.Error.{Error}
+use Rattle.vm_addresses.specs.Address.{AddressState}
 use Rattle.vm_addresses.specs.Allocator.{state_of}
 use Rattle.vm_addresses.specs.Answer.{SPLIT_LIMIT_MIN_HELD, Grants}
 use Rattle.vm_addresses.proofs.Counts.PartCounts.{part_of}
@@ -15,19 +19,23 @@ limit_tested held n e z =
     (λ (l : held ≤ SPLIT_LIMIT_MIN_HELD). rw (le-leb held SPLIT_LIMIT_MIN_HELD l) (omega (arith, l, e, z)))
     (cases_lt SPLIT_LIMIT_MIN_HELD held)
 
-granted : (c : goal.After-allocate_with) →
-    Grants (length (state_of c.args.self.now).held - 1) (state_of c.args.self.now) c.args.request c.allocate_with.result.0
-    (state_of c.allocate_with.new.self)
-granted c = c.allocate_with.ensures.grants (length (state_of c.args.self.now).held - 1)
-    (limit_tested c.self.inside.held_count (length (state_of c.args.self.now).held) (rw (← c.self.view_is) c.self.invariant.held_count) c.requires)
+granted : (held : ℕ) (old new : AddressState) (request : Request) (answer : Result Range Error) → held ≡ length old.held → 0 < length old.held →
+    ((counted : ℕ) → IsTestOf (leb held SPLIT_LIMIT_MIN_HELD) (counted < SPLIT_LIMIT_MIN_HELD) → Grants counted old request answer new) →
+    Grants (length old.held - 1) old request answer new
+granted held old new request answer e some h = h (length old.held - 1) (limit_tested held (length old.held) e some)
 
 pub returns-clause-grants : goal.returns-clause-grants
-returns-clause-grants c = granted c
+returns-clause-grants c =
+    granted c.self.inside.held_count (state_of c.args.self.now) (state_of c.allocate_with.new.self) c.args.request c.allocate_with.result.0
+    (rw (← c.self.view_is) c.self.invariant.held_count) c.requires c.allocate_with.ensures.grants
 
 pub returns-clause-part : goal.returns-clause-part
 returns-clause-part c =
     let h = c.allocate_with.ensures in
-    let counted = length (state_of c.args.self.now).held - 1 in
+    let old = state_of c.args.self.now in
+    let new = state_of c.allocate_with.new.self in
+    let counted = length old.held - 1 in
     part_of counted c.args.self.now c.allocate_with.new.self c.args.request c.allocate_with.result.0 c.allocate_with.result.1 h.tree.0
-    (allocates_of counted c.args.request (state_of c.args.self.now) (state_of c.allocate_with.new.self) c.allocate_with.result.0 h.valid
-    (granted c)) h.unchanged h.count.0 h.count.1
+    (allocates_of counted c.args.request old new c.allocate_with.result.0 h.valid
+    (granted c.self.inside.held_count old new c.args.request c.allocate_with.result.0 (rw (← c.self.view_is) c.self.invariant.held_count)
+    c.requires h.grants)) h.unchanged h.count.0 h.count.1

@@ -31,7 +31,7 @@ impl AddressAllocator {
         request: Constraint,
     ) -> (Result<RangeInclusive>, u64) {
         let can_split = self.held_count < SPLIT_LIMIT;
-        self.allocate_with(None, alloc, request, can_split)
+        self.allocate_with(&mut None, alloc, request, can_split)
     }
 
     /// Allocates like [`allocate_constraint_counted`](Self::allocate_constraint_counted). It splits gaps only
@@ -39,7 +39,7 @@ impl AddressAllocator {
     #[inline(always)]
     pub(super) fn allocate_with(
         &mut self,
-        spare: Option<Spare>,
+        spare: &mut Option<Spare>,
         alloc: Global,
         request: Constraint,
         can_split: bool,
@@ -64,7 +64,7 @@ fn allocate_in(
     space: &RangeInclusive,
     constraint: &Constraint,
     can_split: bool,
-    spare: Option<Spare>,
+    spare: &mut Option<Spare>,
     alloc: Global,
     count: &mut Steps,
 ) -> Result<Taken> {
@@ -91,7 +91,7 @@ fn allocate_exact(
     space: &RangeInclusive,
     start: u64,
     search: &Search,
-    spare: Option<Spare>,
+    spare: &mut Option<Spare>,
     alloc: Global,
     count: &mut Steps,
 ) -> Result<Taken> {

@@ -126,7 +126,7 @@ impl AddressAllocator {
         &mut self,
         alloc: Global,
         key: &RangeInclusive,
-        begun: BegunMove,
+        mut begun: BegunMove,
     ) {
         if begun.is_allocated {
             // An allocated range is always freed.
@@ -134,7 +134,7 @@ impl AddressAllocator {
             return;
         }
         if begun.range != *key {
-            self.replace(alloc, key, begun.range, begun.spare);
+            self.replace(alloc, key, begun.range, &mut begun.spare);
         }
     }
 
@@ -214,7 +214,7 @@ impl AddressAllocator {
     /// the limit of splits.
     fn allocate_beside(&mut self, alloc: Global, request: Constraint) -> Result<RangeInclusive> {
         let can_split = self.held_count <= SPLIT_LIMIT;
-        self.allocate_with(None, alloc, request, can_split).0
+        self.allocate_with(&mut None, alloc, request, can_split).0
     }
 
     /// Frees `key`, and allocates `range` in the gap that it leaves.
@@ -223,7 +223,7 @@ impl AddressAllocator {
         alloc: Global,
         key: &RangeInclusive,
         range: RangeInclusive,
-        spare: Option<Spare>,
+        spare: &mut Option<Spare>,
     ) {
         // An allocated range is always freed.
         let _ = self.free(key);

@@ -53,7 +53,7 @@ pub(in crate::proved::vm_tree) fn exact_in_leaf(
     lone: bool,
     start: u64,
     search: &Search,
-    spare: Option<Spare>,
+    spare: &mut Option<Spare>,
     alloc: Global,
 ) -> Result<Taken, Refusal> {
     let place = exact_place(leaf_of(tree), start, search)?;
@@ -65,7 +65,7 @@ fn exact_below(
     node: &mut Node,
     start: u64,
     search: &Search,
-    spare: Option<Spare>,
+    spare: &mut Option<Spare>,
     alloc: Global,
     count: &mut Steps,
 ) -> Result<Taken, Refusal> {
@@ -80,7 +80,7 @@ pub(in crate::proved::vm_tree) fn exact_at(
     tree: &mut Link,
     start: u64,
     search: &Search,
-    spare: Option<Spare>,
+    spare: &mut Option<Spare>,
     alloc: Global,
     count: &mut Steps,
 ) -> Result<Taken, Refusal> {

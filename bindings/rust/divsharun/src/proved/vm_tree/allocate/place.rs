@@ -163,10 +163,10 @@ fn halve(mut lower: Box<Leaf>, place: &Place, mut upper: Box<Leaf>, spare: Box<N
 fn split_leaf(
     tree: &mut Link,
     place: Place,
-    spare: Option<Spare>,
+    spare: &mut Option<Spare>,
     alloc: Global,
 ) -> Result<(), AllocError> {
-    let spare = spare_or_new(spare, place.range, alloc)?;
+    let spare = spare_or_new(spare.take(), place.range, alloc)?;
     let lower = into_leaf(mem::replace(tree, Link::Hole));
     *tree = halve(lower, &place, spare.leaf, spare.node);
     Ok(())
@@ -181,7 +181,7 @@ pub(super) fn allocate_at(
     lone: bool,
     place: Place,
     search: &Search,
-    spare: Option<Spare>,
+    spare: &mut Option<Spare>,
     alloc: Global,
 ) -> Result<Taken, Refusal> {
     if let Some(refusal) = refusal_of(&place, search) {
