@@ -1,11 +1,13 @@
 -- The parts of a reservation.
-use Rattle.std.proofs.Common.{◌≡◌, ℕ, [], ◌∷◌, refl, sym, inl, inr, subst, Result, Ok, Err}
+use Rattle.std.proofs.Common.{◌≡◌, ℕ, ◌+◌, ◌≤◌, [], ◌∷◌, ◌++◌, refl, sym, inl, inr, subst, arith, Result, Ok, Err}
+use Rattle.std.proofs.lemmas.List.{length-append}
+use Rattle.std.proofs.lemmas.List.Elements.{All-append}
 use Rattle.std.specs.Prelude.{OnOk, OnErr}
 use Rattle.vm_ranges.specs.Range.{Range}
 use Rattle.vm_ranges.specs.Request.{Request}
 use Rattle.vm_ranges.specs.declared.error.Error.{Error}
 use Rattle.vm_ranges.specs.declared.error.Error.TheVariants.{OutOfMemory}
-use Rattle.vm_addresses.specs.Counts.Parts.{Allocating, Freeing, HasPart, HasParts, TakesParts}
+use Rattle.vm_addresses.specs.Counts.Parts.{Part, Allocating, Freeing, HasPart, HasParts, IsPartFor, TakesParts}
 use Rattle.vm_ranges.proofs.Histories.{history_append}
 use Rattle.vm_addresses.proofs.Counts.TakenParts.{no_parts, allocated_only, allocated_and_freed}
 use Rattle.vm_tree.specs.Shape.{Shape}
@@ -52,3 +54,31 @@ range_kept old new request answer slot part = record {
   parts = allocated_only old.addresses new.addresses request answer part;
   same = tt;
 }
+
+-- ---- A move
+-- Parts and the parts after them.
+pub then_parts : (n m k : ℕ) (old mid new : Shape) (request : Request) → TakesParts n old (request ∷ []) mid →
+    TakesParts m mid (request ∷ []) new → n + m ≤ k → TakesParts k old (request ∷ []) new
+then_parts n m k old mid new request first second l = record {
+  parts = first.parts ++ second.parts;
+  from = history_append HasPart first.parts second.parts old mid new first.from second.from;
+  for_requests = All-append (IsPartFor (request ∷ [])) first.parts second.parts first.for_requests second.for_requests;
+  few = let long = length-append first.parts second.parts in omega (arith, long, first.few, second.few, l);
+}
+
+-- A free is a part for all requests.
+for_all_requests : (request : Request) (part : Part) → IsPartFor [] part → IsPartFor (request ∷ []) part
+for_all_requests request (Allocating asked answer n) p = absurd (omega (arith, p.1.1))
+for_all_requests request (Freeing r n) p = tt
+
+-- Frees and the parts before them.
+pub then_freed_parts : (n m k : ℕ) (old mid new : Shape) (request : Request) → TakesParts n old (request ∷ []) mid →
+    TakesParts m mid [] new → n + m ≤ k → TakesParts k old (request ∷ []) new
+then_freed_parts n m k old mid new request first second l =
+    let more : TakesParts m mid (request ∷ []) new = record {
+      parts = second.parts;
+      from = second.from;
+      for_requests = λ i d b. for_all_requests request _ (second.for_requests i d b);
+      few = second.few;
+    } in
+    then_parts n m k old mid new request first more l
