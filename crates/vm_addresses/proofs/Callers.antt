@@ -85,7 +85,7 @@ given old new request r h =
       left = t.1 ∙ ap (λ (v : Range). holding v old) e;
     })
     (λ x. absurd (cc (x.1)))
-    (given_or_refused old (span s request.size) (Ok r) new k.1.3))
+    (given_or_refused _ old (span s request.size) (Ok r) new k.1.3))
     (allocates_outcome old new (Ok r) request h)
 
 -- An allocated range has the requested length, and starts at a multiple of the alignment.
@@ -200,7 +200,7 @@ released_clear old r i h x low high =
 abbrev pub IsSplitError : AddressState → Result Range Error → Type 0
 IsSplitError old answer = (answer ≡ Err OutOfMemory) ⊎ ((SPLIT_LIMIT_MIN_HELD ≤ length old.held) × (answer ≡ Err Overflow))
 
-at_place : (old new : AddressState) (r : Range) (answer : Result Range Error) → AllocatesAt old r answer new →
+at_place : (old new : AddressState) (r : Range) (answer : Result Range Error) → AllocatesAt (length old.held) old r answer new →
     (answer ≡ Ok r) ⊎ IsSplitError old answer
 unfolding AllocatesAt
 at_place old new r answer (inl k) = inl k.1.0

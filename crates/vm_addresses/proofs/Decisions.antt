@@ -7,7 +7,6 @@ use Rattle.vm_ranges.specs.Request.{Request}
 use Rattle.vm_addresses.specs.Address.{AddressState, IsClear, AreClear, IsPlace, SplitsGap}
 use Rattle.vm_ranges.specs.declared.constraint.AllocPolicy.{AllocPolicy}
 use Rattle.vm_ranges.specs.declared.constraint.AllocPolicy.TheVariants.{FirstMatch, LastMatch, ExactMatch}
-use Rattle.vm_addresses.specs.Moves.{IsFor}
 use Rattle.vm_ranges.proofs.Decisions.{Decided, decided_both, decided_if, decided_below, decided_up_to, decided_row, decided_in, decided_same}
 use Rattle.vm_addresses.proofs.Blocks.PlainWords.{IsHeldAddress, IsHeld, contains_held, held_contains, all_miss, none_holds}
 
@@ -69,33 +68,6 @@ decided_held hs r = decided_if (IsHeld hs r) (Contains hs r) (contains_held hs r
 decided_three : (P Q R : Type 0) → Decided P → Decided Q → Decided R → Decided (P × Q × R)
 decided_three P Q R p q r = decided_if (P × (Q × R)) (P × Q × R) (λ h. (h.0, h.1.0, h.1.1)) (λ h. (h.0, (h.1, h.2)))
     (decided_both _ _ p (decided_both _ _ q r))
-
--- Whether a request is for exactly a range.
-decided_policy : (policy : AllocPolicy) (t : ℕ) → Decided (policy ≡ ExactMatch t)
-decided_policy FirstMatch t = inr (λ e. absurd (cc e))
-decided_policy LastMatch t = inr (λ e. absurd (cc e))
-decided_policy (ExactMatch s) t = ⊎_elim (λ (e : s ≡ t). inl (ap (λ (v : ℕ). ExactMatch v) e)) (λ (n : s ≡ t → ⊥). inr (λ e. n (cc e)))
-    (cases_eq s t)
-
-decided_cover : (window : Option Range) (r : Range) → Decided (IfSome window (λ w. Covers w r))
-unfolding Covers
-decided_cover None r = inl tt
-decided_cover (Some w) r =
-    ⊎_elim
-    (λ (empty : r.end < r.start). inl (λ x i. absurd (omega (arith, empty, i.0, i.1))))
-    (λ (some : r.start ≤ r.end).
-    decided_if ((w.start ≤ r.start) × (r.end ≤ w.end)) (Covers w r)
-    (λ h x i. (omega (arith, h.0, i.0), omega (arith, h.1, i.1)))
-    (λ c. ((c r.start (omega arith, some)).0, (c r.end (some, omega arith)).1))
-    (decided_both _ _ (decided_up_to w.start r.start) (decided_up_to r.end w.end)))
-    (cases_lt r.end r.start)
-
-pub decided_for : (r : Range) (request : Request) → Decided (IsFor r request)
-unfolding IsFor
-decided_for r request =
-    decided_if ((request.policy ≡ ExactMatch r.start) × (request.size ≡ address_count r) × IfSome request.window (λ w. Covers w r))
-    (IsFor r request) (λ h. h) (λ h. h)
-    (decided_three _ _ _ (decided_policy request.policy r.start) (cases_eq request.size (address_count r)) (decided_cover request.window r))
 
 -- Whether two numbers are the ends of a range.
 pub decided_range : (start end : ℕ) → Decided (IsRange start end)

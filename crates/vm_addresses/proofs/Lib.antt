@@ -2,6 +2,7 @@ pub mod Blocks
 pub mod Choosing
 pub mod Comparing
 pub mod Counts
+pub mod Moving
 pub mod Placing
 pub mod Reading
 pub mod Results

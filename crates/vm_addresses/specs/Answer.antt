@@ -63,21 +63,22 @@ ByPlace request state refused takes =
 abbrev pub SPLIT_LIMIT_MIN_HELD : ℕ
 SPLIT_LIMIT_MIN_HELD = 6_293_134_512
 
--- The result for the range r. An error changes nothing. The first condition that is true decides:
+-- The result for the range r, if `counted` ranges count for the limit of splits. An error changes nothing. The first condition that
+-- is true decides:
 --
 -- | condition | result |
 -- |---|---|
 -- | r fills its gap | r is allocated |
--- | SPLIT_LIMIT_MIN_HELD or more ranges are held | Overflow |
+-- | SPLIT_LIMIT_MIN_HELD or more ranges count | Overflow |
 -- | none of these | r is allocated, or OutOfMemory |
-unfoldable pub AllocatesAt : AddressState → Range → Result Range Error → AddressState → Type 0
-AllocatesAt old r answer new =
+unfoldable pub AllocatesAt : ℕ → AddressState → Range → Result Range Error → AddressState → Type 0
+AllocatesAt counted old r answer new =
     let taken : Type 0 = (answer ≡ Ok r) × (new ≡ holding r old) in
     let refused : Error → Type 0 = λ e. (answer ≡ Err e) × (new ≡ old) in
     Unless (SplitsGap old r) taken (
-    IfElse (SPLIT_LIMIT_MIN_HELD ≤ length old.held) (refused Overflow) (taken ⊎ refused OutOfMemory))
+    IfElse (SPLIT_LIMIT_MIN_HELD ≤ counted) (refused Overflow) (taken ⊎ refused OutOfMemory))
 
--- The result of a valid request. An error changes nothing. The first condition that is true decides:
+-- The result of a valid request, if `counted` ranges count for the limit of splits. An error changes nothing. The first condition that is true decides:
 --
 -- | condition | result |
 -- |---|---|
@@ -85,15 +86,19 @@ AllocatesAt old r answer new =
 -- | there is no place in the window | ResourceNotAvailable |
 -- | the range at the chosen place ends at MAX | Overflow |
 -- | none of these | that of `AllocatesAt` for the range at the chosen place |
-unfoldable pub Grants : AddressState → Request → Result Range Error → AddressState → Type 0
-Grants old request answer new =
+unfoldable pub Grants : ℕ → AddressState → Request → Result Range Error → AddressState → Type 0
+Grants counted old request answer new =
     let refused : Error → Type 0 = λ e. (answer ≡ Err e) × (new ≡ old) in
-    ByExactPolicy request old refused (ByPlace request old refused (λ r. AllocatesAt old r answer new))
+    ByExactPolicy request old refused (ByPlace request old refused (λ r. AllocatesAt counted old r answer new))
 
--- The result of `allocate`: the error of an invalid request, or the result of `Grants`. An error changes nothing.
+-- The error of an invalid request, or the result of `Grants`. An error changes nothing.
+abbrev pub AllocatesOf : ℕ → AddressState → Request → Result Range Error → AddressState → Type 0
+AllocatesOf counted old request answer new =
+    ByConstraint request (λ e. (answer ≡ Err e) × (new ≡ old)) (Grants counted old request answer new)
+
+-- The result of `allocate`: that of `AllocatesOf` if each held range counts.
 unfoldable pub Allocates : AddressState → Request → Result Range Error → AddressState → Type 0
-Allocates old request answer new =
-    ByConstraint request (λ e. (answer ≡ Err e) × (new ≡ old)) (Grants old request answer new)
+Allocates old request answer new = AllocatesOf (length old.held) old request answer new
 
 -- The request is valid, its chosen place s ends below MAX, and its range fills its gap.
 pub record FillsGap (state : AddressState) (request : Request) (s : ℕ) : Type 0 where

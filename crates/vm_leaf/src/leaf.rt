@@ -17,6 +17,7 @@ mod rest;
 mod summary;
 mod walk;
 
+pub use self::fits::{highest_fit, lowest_fit};
 pub use self::rest::Rest;
 pub use self::summary::Summary;
 pub use self::walk::Blocks;

@@ -23,4 +23,4 @@ mod block;
 mod leaf;
 
 pub use block::Block;
-pub use leaf::{Blocks, CAPACITY, Fit, Leaf, MIN_BLOCKS, Rest, Summary};
+pub use leaf::{Blocks, CAPACITY, Fit, Leaf, MIN_BLOCKS, Rest, Summary, highest_fit, lowest_fit};

@@ -87,6 +87,14 @@ SettlesAt search place new (Err PastMax) = (range_at search place).end ≡ MAX
 SettlesAt search place new (Err (OutOfMemory e)) = IsSplitAt search place × (search.can_split ≡ true)
 SettlesAt search place new (Err CannotSplit) = IsSplitAt search place × (search.can_split ≡ false)
 
+-- The refusal is OutOfMemory.
+abbrev pub IsOutOfMemory : Refusal → Type 0
+IsOutOfMemory NoPlace = ⊥
+IsOutOfMemory Held = ⊥
+IsOutOfMemory PastMax = ⊥
+IsOutOfMemory (OutOfMemory e) = Unit {0}
+IsOutOfMemory CannotSplit = ⊥
+
 -- The place of the search that is closest to the end is allocated, or its error is returned. NoPlace if there is no place.
 abbrev pub AllocatesFit : End → Search → List Block → List Block → Result Taken Refusal → Type 0
 AllocatesFit end search old new answer =

@@ -10,7 +10,7 @@ ghost use Rattle.vm_tree.specs.NodeCounts.{may_fit_in};
 
 pub(crate) mod exact;
 pub(crate) mod fit;
-mod place;
+pub(crate) mod place;
 
 use crate::link::{Link, summary};
 use crate::search::{Refusal, Search, Taken};

@@ -48,6 +48,7 @@ mod steps;
 mod tree;
 mod walk;
 
+pub use allocate::place::Spare;
 pub use end::End;
 pub use search::{Refusal, Search, Taken};
 pub use steps::Steps;

@@ -2,11 +2,11 @@
 //!
 //! A tree that is one leaf stores no summary, because a search of the leaf is as fast without it. All other
 //! calls pass the root to the recursive functions of this crate.
-ghost use Rattle.std.specs.Prelude.{◌≡◌, ◌≢◌, true, Err, OnErr, ◌+◌, ◌*◌, ◌<◌, ◌≤◌, ◌∷◌, [], ◌++◌, length, IfOk, MatchOption, OnSome, ◌^◌};
+ghost use Rattle.std.specs.Prelude.{◌≡◌, ◌≢◌, true, None, Err, OnErr, IfErr, ◌+◌, ◌*◌, ◌<◌, ◌≤◌, ◌∷◌, [], ◌++◌, length, IfOk, MatchOption, OnSome, ◌^◌};
 ghost use Rattle.vm_ranges.specs.Range.{IsIn, at_address};
 ghost use Rattle.vm_leaf.specs.Block.{free_block};
 ghost use Rattle.vm_leaf.specs.Blocks.{longest_gap};
-ghost use Rattle.vm_tree.specs.Allocation.{window_of, IsSearch, AllocatesExact, AllocatesFit};
+ghost use Rattle.vm_tree.specs.Allocation.{window_of, IsSearch, AllocatesExact, AllocatesFit, IsOutOfMemory};
 ghost use Rattle.vm_tree.specs.Building.{AreInOrder, blocks_between, IsBuiltTree, TOO_MANY_BLOCKS};
 ghost use Rattle.vm_tree.specs.Frees.{FreesBlock, Holds};
 ghost use Rattle.vm_tree.specs.GapSearch.{IsSearchCount, gaps_without_place};
@@ -20,6 +20,7 @@ ghost use Rattle.vm_tree.specs.Walks.{meeting_blocks};
 
 use crate::allocate::exact::{exact_at, exact_in_leaf};
 use crate::allocate::fit::{fit_at, fit_in_leaf};
+use crate::allocate::place::Spare;
 use crate::allocate::{count_place, fits};
 use crate::build::build_tree;
 use crate::change::free_summary;
@@ -200,7 +201,8 @@ impl Tree {
     /// It returns `Held` if exactly this range is allocated, and otherwise `NoPlace` if the range is not in a
     /// gap and in the window. It returns `PastMax` if the range ends at `u64::MAX`, `CannotSplit` if gaps cannot be
     /// split, and `OutOfMemory` if an allocation fails. An error changes nothing. A range that fills its gap
-    /// allocates no memory, and any other range allocates nothing or one leaf and one node.
+    /// allocates no memory, and any other range allocates nothing or one leaf and one node. It takes these from
+    /// `spare` if there is one, and then allocates nothing.
     ///
     /// `start` must be in the space and in the window, and the range must end at most at `u64::MAX`. The search
     /// must be valid, `count` must be at 0, and `can_split` must be `false` from height 48 on.
@@ -209,6 +211,7 @@ impl Tree {
         &mut self,
         start: u64,
         search: &Search,
+        spare: Option<Spare>,
         alloc: Global,
         count: &mut Steps,
     ) -> Result<Taken, Refusal>
@@ -218,6 +221,7 @@ impl Tree {
         requires count { count.old ≡ 0 }
         ensures answer { AllocatesExact search.now start (blocks self.old) (blocks self.new) result }
         ensures unchanged { OnErr result (self.new ≡ self.old) }
+        ensures memory { spare ≢ None → IfErr result (λ refusal. ¬ IsOutOfMemory refusal) }
         ensures count { count.new ≡ nodes_to_address start self.old }
         ensures path { IsPathLength self.old count.new }
     {
@@ -226,13 +230,13 @@ impl Tree {
             Link::Hole => unreachable!(),
             Link::Leaf { .. } => {
                 count.enter();
-                exact_in_leaf(&mut self.root, true, start, search, alloc)
+                exact_in_leaf(&mut self.root, true, start, search, spare, alloc)
             }
             Link::Fork { node: _node, .. } => {
                 // Proof: a node that is read has two children.
                 let _open: &Node = _node;
                 let _at = _open.at;
-                exact_at(&mut self.root, start, search, alloc, count)
+                exact_at(&mut self.root, start, search, spare, alloc, count)
             }
         }
     }

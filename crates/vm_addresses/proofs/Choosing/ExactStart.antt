@@ -27,9 +27,9 @@ use Rattle.vm_addresses.proofs.Placing.TakenRanges.{starts_after, in_block}
 abbrev pub named : ℕ → ℕ → ℕ → Request
 named n a t = request_for n a (ExactMatch t)
 
-pub exact_at_max : (st : AddressState) (n a t : ℕ) → t ≡ MAX → Grants st (named n a t) (Err Overflow) st
+pub exact_at_max : (counted : ℕ) (st : AddressState) (n a t : ℕ) → t ≡ MAX → Grants counted st (named n a t) (Err Overflow) st
 unfolding Grants ByExactPolicy ByStart
-exact_at_max st n a t e = inl (e, (refl, refl))
+exact_at_max counted st n a t e = inl (e, (refl, refl))
 
 pub all_missed : (p : NodeState) (lo hi x : ℕ) (bs : List Block) → Tiles p lo bs hi → All (λ b. ¬ IsIn b.key x) bs → lo ≤ x → x ≤ hi → ⊥
 all_missed p lo hi x [] t m l o = omega arith
@@ -38,10 +38,10 @@ all_missed p lo hi x (b ∷ bs) t m l o =
     (λ (g : x ≤ b.key.end). All-head (λ c. ¬ IsIn c.key x) b bs m (omega (arith, t.0), g)) (cases_lt b.key.end x)
 
 -- An address that is in no block is outside the space.
-pub exact_outside : (sp : Range) (bs : List Block) (n a t : ℕ) → t < MAX → TilesSpace sp bs → All (λ b. ¬ IsIn b.key t) bs →
-    Grants (blocks_state sp bs) (named n a t) (Err ResourceNotAvailable) (blocks_state sp bs)
+pub exact_outside : (counted : ℕ) (sp : Range) (bs : List Block) (n a t : ℕ) → t < MAX → TilesSpace sp bs → All (λ b. ¬ IsIn b.key t) bs →
+    Grants counted (blocks_state sp bs) (named n a t) (Err ResourceNotAvailable) (blocks_state sp bs)
 unfolding Grants ByExactPolicy ByStart TilesSpace
-exact_outside sp bs n a t m q h = inr (λ e. omega arith, inl (λ i. all_missed Allocated sp.start sp.end t bs q h i.0 i.1, (refl, refl)))
+exact_outside counted sp bs n a t m q h = inr (λ e. omega arith, inl (λ i. all_missed Allocated sp.start sp.end t bs q h i.0 i.1, (refl, refl)))
 
 -- The range of a held block is held.
 held_block : (r : Range) (b : Block) (xs ys : List Block) → b.key ≡ r → b.state ≡ Allocated → IsHeld (held_of (xs ++ b ∷ ys)) r
@@ -73,30 +73,30 @@ pub as_cut : (sp : Range) (bs : List Block) (b : Block) (n t : ℕ) (w : IsWithi
 unfolding TilesSpace
 as_cut sp bs b n t w = subst (λ (v : List Block). Tiles Allocated sp.start v sp.end) w.cut w.tiles
 
-pub exact_over : (sp : Range) (bs : List Block) (b : Block) (n a t : ℕ) → IsWithin sp bs b n t → MAX < t + n - 1 →
-    Grants (blocks_state sp bs) (named n a t) (Err Overflow) (blocks_state sp bs)
+pub exact_over : (counted : ℕ) (sp : Range) (bs : List Block) (b : Block) (n a t : ℕ) → IsWithin sp bs b n t → MAX < t + n - 1 →
+    Grants counted (blocks_state sp bs) (named n a t) (Err Overflow) (blocks_state sp bs)
 unfolding Grants ByExactPolicy ByStart
-exact_over sp bs b n a t w o =
+exact_over counted sp bs b n a t w o =
     let i = in_space Allocated sp.start sp.end t b w.before w.after (as_cut sp bs b n t w) w.start in
     inr (λ e. omega (arith, w.below), inr ((i.0, i.1), inl (o, (refl, refl))))
 
 -- The first three errors do not apply.
-past : (sp : Range) (bs : List Block) (b : Block) (n a t : ℕ) (new : AddressState) (answer : Result Range Error) → IsWithin sp bs b n t →
+past : (counted : ℕ) (sp : Range) (bs : List Block) (b : Block) (n a t : ℕ) (new : AddressState) (answer : Result Range Error) → IsWithin sp bs b n t →
     t + n - 1 ≤ MAX → ¬ IsHeld (held_of bs) (span t n) →
     Unless (AreClear n (blocks_state sp bs) t) ((answer ≡ Err ResourceNotAvailable) × (new ≡ blocks_state sp bs))
     (IfElse (t + n - 1 ≡ MAX) ((answer ≡ Err Overflow) × (new ≡ blocks_state sp bs))
     (ByPlace (named n a t) (blocks_state sp bs) (λ e. (answer ≡ Err e) × (new ≡ blocks_state sp bs))
-    (λ r. AllocatesAt (blocks_state sp bs) r answer new))) → Grants (blocks_state sp bs) (named n a t) answer new
+    (λ r. AllocatesAt counted (blocks_state sp bs) r answer new))) → Grants counted (blocks_state sp bs) (named n a t) answer new
 unfolding Grants ByExactPolicy ByStart
-past sp bs b n a t new answer w o d h =
+past counted sp bs b n a t new answer w o d h =
     let i = in_space Allocated sp.start sp.end t b w.before w.after (as_cut sp bs b n t w) w.start in
     inr (λ e. omega (arith, w.below), inr ((i.0, i.1), inr (λ e. omega arith, inr (λ c. d (held_contains (held_of bs) (span t n) c), h))))
 
-pub exact_held : (sp : Range) (bs : List Block) (b : Block) (n a t : ℕ) → IsWithin sp bs b n t → t + n - 1 ≤ MAX → b.state ≡ Allocated →
+pub exact_held : (counted : ℕ) (sp : Range) (bs : List Block) (b : Block) (n a t : ℕ) → IsWithin sp bs b n t → t + n - 1 ≤ MAX → b.state ≡ Allocated →
     b.key.start ≡ t → b.key.end ≡ t + n - 1 →
-    Grants (blocks_state sp bs) (named n a t) (Err (InvalidStateTransition b.key Allocated)) (blocks_state sp bs)
+    Grants counted (blocks_state sp bs) (named n a t) (Err (InvalidStateTransition b.key Allocated)) (blocks_state sp bs)
 unfolding Grants ByExactPolicy ByStart
-exact_held sp bs b n a t w o s f g =
+exact_held counted sp bs b n a t w o s f g =
     let i = in_space Allocated sp.start sp.end t b w.before w.after (as_cut sp bs b n t w) w.start in
     let key : b.key ≡ span t n = same_range b.key (span t n) f g in
     let h : IsHeld (held_of bs) (span t n) = subst (λ (v : List Block). IsHeld (held_of v) (span t n)) (sym w.cut)
@@ -175,37 +175,37 @@ free_not_held sp bs b n t w f h =
     let c = free_is_clear Allocated sp.start sp.end t t t bs w.tiles row (omega arith) (omega arith) in
     c.2 (held_address (held_of bs) (span t n) t h (omega arith, omega arith))
 
-pub exact_other : (sp : Range) (bs : List Block) (b : Block) (n a t : ℕ) → IsWithin sp bs b n t → t + n - 1 ≤ MAX → b.state ≡ Allocated →
+pub exact_other : (counted : ℕ) (sp : Range) (bs : List Block) (b : Block) (n a t : ℕ) → IsWithin sp bs b n t → t + n - 1 ≤ MAX → b.state ≡ Allocated →
     ¬ ((b.key.start ≡ t) × (b.key.end ≡ t + n - 1)) →
-    Grants (blocks_state sp bs) (named n a t) (Err ResourceNotAvailable) (blocks_state sp bs)
-exact_other sp bs b n a t w o s d =
+    Grants counted (blocks_state sp bs) (named n a t) (Err ResourceNotAvailable) (blocks_state sp bs)
+exact_other counted sp bs b n a t w o s d =
     let z = w.some in
-    past sp bs b n a t (blocks_state sp bs) (Err ResourceNotAvailable) w o
+    past _ sp bs b n a t (blocks_state sp bs) (Err ResourceNotAvailable) w o
     (λ h.
     let same : b.key ≡ span t n = same_block_held Allocated sp.start sp.end t (span t n) b w.before w.after (as_cut sp bs b n t w) s w.start
     (subst (λ (v : List Block). IsHeld (held_of v) (span t n)) w.cut h) (omega arith, omega arith) in
     d (ap (λ (r : Range). r.start) same, ap (λ (r : Range). r.end) same))
     (inl (λ c. let k = clear_in_block sp bs b n t w c in let bad = sym s ∙ k.0 in cc, (refl, refl)))
 
-pub exact_short : (sp : Range) (bs : List Block) (b : Block) (n a t : ℕ) → IsWithin sp bs b n t → t + n - 1 ≤ MAX → b.state ≡ Free →
-    b.key.end < t + n - 1 → Grants (blocks_state sp bs) (named n a t) (Err ResourceNotAvailable) (blocks_state sp bs)
-exact_short sp bs b n a t w o s d =
-    past sp bs b n a t (blocks_state sp bs) (Err ResourceNotAvailable) w o (free_not_held sp bs b n t w s)
+pub exact_short : (counted : ℕ) (sp : Range) (bs : List Block) (b : Block) (n a t : ℕ) → IsWithin sp bs b n t → t + n - 1 ≤ MAX → b.state ≡ Free →
+    b.key.end < t + n - 1 → Grants counted (blocks_state sp bs) (named n a t) (Err ResourceNotAvailable) (blocks_state sp bs)
+exact_short counted sp bs b n a t w o s d =
+    past _ sp bs b n a t (blocks_state sp bs) (Err ResourceNotAvailable) w o (free_not_held sp bs b n t w s)
     (inl (λ c. let k = clear_in_block sp bs b n t w c in omega (arith, k.1), (refl, refl)))
 
-pub exact_at_end : (sp : Range) (bs : List Block) (b : Block) (n a t : ℕ) → IsWithin sp bs b n t → b.state ≡ Free → t + n - 1 ≤ b.key.end →
-    t + n - 1 ≡ MAX → Grants (blocks_state sp bs) (named n a t) (Err Overflow) (blocks_state sp bs)
-exact_at_end sp bs b n a t w s l m =
-    past sp bs b n a t (blocks_state sp bs) (Err Overflow) w (omega arith) (free_not_held sp bs b n t w s)
+pub exact_at_end : (counted : ℕ) (sp : Range) (bs : List Block) (b : Block) (n a t : ℕ) → IsWithin sp bs b n t → b.state ≡ Free → t + n - 1 ≤ b.key.end →
+    t + n - 1 ≡ MAX → Grants counted (blocks_state sp bs) (named n a t) (Err Overflow) (blocks_state sp bs)
+exact_at_end counted sp bs b n a t w s l m =
+    past _ sp bs b n a t (blocks_state sp bs) (Err Overflow) w (omega arith) (free_not_held sp bs b n t w s)
     (inr (block_clear sp bs b n t w s l, inl (m, (refl, refl))))
 
-pub exact_taken : (sp : Range) (bs : List Block) (b : Block) (n a t : ℕ) (new : AddressState) (answer : Result Range Error) →
+pub exact_taken : (counted : ℕ) (sp : Range) (bs : List Block) (b : Block) (n a t : ℕ) (new : AddressState) (answer : Result Range Error) →
     IsWithin sp bs b n t → b.state ≡ Free → t + n - 1 ≤ b.key.end → t + n - 1 < MAX → t % a ≡ 0 →
-    AllocatesAt (blocks_state sp bs) (span t n) answer new → Grants (blocks_state sp bs) (named n a t) answer new
+    AllocatesAt counted (blocks_state sp bs) (span t n) answer new → Grants counted (blocks_state sp bs) (named n a t) answer new
 unfolding ByPlace IsChosen IsPlace
-exact_taken sp bs b n a t new answer w s l m d g =
+exact_taken counted sp bs b n a t new answer w s l m d g =
     let c = block_clear sp bs b n t w s l in
-    past sp bs b n a t new answer w (omega arith) (free_not_held sp bs b n t w s)
+    past _ sp bs b n a t new answer w (omega arith) (free_not_held sp bs b n t w s)
     (inr (c, inr (λ e. omega arith, inr (t, (refl, (d, c)), inr (λ e. omega arith, g)))))
 
 -- The start of the request is a multiple of its alignment.

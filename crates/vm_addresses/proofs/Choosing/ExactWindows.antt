@@ -24,20 +24,20 @@ module _ (w : Range) (n a t : ℕ) (old : AddressState) (z : 0 < n) (i : IsIn w 
   unfolding IsPlace
   place_in p = (p.0, clear_in p.1)
 
-  narrow_place : (new : AddressState) (answer : Result Range Error) →
-      ByPlace (named n a t) old (λ e. (answer ≡ Err e) × (new ≡ old)) (λ r. AllocatesAt old r answer new) →
-      ByPlace (named_in w n a t) old (λ e. (answer ≡ Err e) × (new ≡ old)) (λ r. AllocatesAt old r answer new)
+  narrow_place : (counted : ℕ) (new : AddressState) (answer : Result Range Error) →
+      ByPlace (named n a t) old (λ e. (answer ≡ Err e) × (new ≡ old)) (λ r. AllocatesAt counted old r answer new) →
+      ByPlace (named_in w n a t) old (λ e. (answer ≡ Err e) × (new ≡ old)) (λ r. AllocatesAt counted old r answer new)
   unfolding ByPlace IsChosen
-  narrow_place new answer h =
+  narrow_place counted new answer h =
       ⊎_elim
       (λ u. inl (λ s p. u.0 s (place_anywhere (Some w) n a s old p), u.1))
       (λ u. inr (u.0, (u.1.0, subst (IsPlace n a (within (Some w) old)) (sym u.1.0) (place_in (subst (IsPlace n a old) u.1.0 u.1.1))), u.2))
       h
 
-  pub narrow_grants : (new : AddressState) (answer : Result Range Error) → Grants old (named n a t) answer new →
-      Grants old (named_in w n a t) answer new
+  pub narrow_grants : (counted : ℕ) (new : AddressState) (answer : Result Range Error) → Grants counted old (named n a t) answer new →
+      Grants counted old (named_in w n a t) answer new
   unfolding Grants ByExactPolicy ByStart
-  narrow_grants new answer h =
+  narrow_grants counted new answer h =
       ⊎_elim (λ l. inl l) (λ r. inr (
         r.0,
         ⊎_elim (λ l. inl (λ j. l.0 (omega (arith, j.0), omega (arith, j.1)), l.1)) (λ r. inr (
@@ -48,7 +48,7 @@ module _ (w : Range) (n a t : ℕ) (old : AddressState) (z : 0 < n) (i : IsIn w 
               r.0,
               ⊎_elim (λ l. inl (λ c. l.0 (λ x m o. clear_anywhere (Some w) old x (c x m o)), l.1)) (λ r. inr (
                 clear_in r.0,
-                ⊎_elim (λ l. inl l) (λ r. inr (r.0, narrow_place new answer r.1)) r.1,
+                ⊎_elim (λ l. inl l) (λ r. inr (r.0, narrow_place _ new answer r.1)) r.1,
               )) r.1,
             )) r.1,
           )) r.1,

@@ -12,13 +12,13 @@ use Rattle.vm_ranges.specs.declared.constraint.AllocPolicy.TheVariants.{FirstMat
 use Rattle.vm_tree.specs.Fibonacci.{fibonacci, fibonacci_pair}
 use Rattle.vm_tree.specs.Shape.{Shape, blocks, height_of}
 use Rattle.vm_addresses.specs.Address.{AddressState, holding, without_range}
-use Rattle.vm_addresses.specs.Answer.{Allocates, Frees}
+use Rattle.vm_addresses.specs.Answer.{AllocatesOf, Allocates, Frees}
 use Rattle.vm_addresses.specs.Counts.Parts.{Part, Allocating, Freeing, HasPart, HasParts, EntersAtMost}
 use Rattle.vm_addresses.specs.Counts.Steps.{EntersToAllocate, IsAllocationCount, IsFreeCount, max_entered}
 use Rattle.vm_addresses.specs.Tree.BalancedTree.{IsBalancedTreeOf}
 use Rattle.vm_addresses.specs.Laws.CountLaws.{PartsEnterFew}
 use Rattle.vm_addresses.specs.Allocator.{state_of}
-use Rattle.vm_addresses.proofs.Results.Outcomes.{allocates_outcome, given_or_refused}
+use Rattle.vm_addresses.proofs.Results.Outcomes.{outcome_of, given_or_refused}
 use Rattle.vm_addresses.proofs.Trees.CountedTrees.{length_with}
 
 -- ---- The number of held ranges after a part
@@ -26,17 +26,17 @@ length_without : (r : Range) (hs : List Range) → length (without_range r hs) �
 length_without r [] = omega arith
 length_without r (h ∷ hs) = grind (arith, length_without r hs)
 
-held_after_allocation : (old new : AddressState) (request : Request) (answer : Result Range Error) → Allocates old request answer new →
-    length new.held ≤ length old.held + 1
-held_after_allocation old new request answer a =
+held_after_allocation : (counted : ℕ) (old new : AddressState) (request : Request) (answer : Result Range Error) →
+    AllocatesOf counted old request answer new → length new.held ≤ length old.held + 1
+held_after_allocation counted old new request answer a =
     ⊎_elim
     (λ r. omega (arith, ap (λ (v : AddressState). length v.held) r.2))
     (λ t.
     ⊎_elim
     (λ g. omega (arith, ap (λ (v : AddressState). length v.held) g.1, length_with (span t.1.0 request.size) old.held))
     (λ r. omega (arith, ap (λ (v : AddressState). length v.held) r.2))
-    (given_or_refused old (span t.1.0 request.size) answer new t.1.3))
-    (allocates_outcome old new answer request a)
+    (given_or_refused _ old (span t.1.0 request.size) answer new t.1.3))
+    (outcome_of old new answer counted request a)
 
 held_after_free : (old new : AddressState) (r : Range) (answer : Result (Unit {0}) Error) → Frees old r answer new →
     length new.held ≤ length old.held + 1
@@ -48,7 +48,7 @@ held_after_free old new r answer f =
     f
 
 held_after : (old new : Shape) (part : Part) → HasPart old part new → length (state_of new).held ≤ length (state_of old).held + 1
-held_after old new (Allocating request answer count) p = held_after_allocation (state_of old) (state_of new) request answer p.1
+held_after old new (Allocating request answer count) p = held_after_allocation p.1.0 (state_of old) (state_of new) request answer p.1.1
 held_after old new (Freeing r count) p = held_after_free (state_of old) (state_of new) r (Ok tt) p.1
 
 -- ---- The nodes that each part enters
@@ -103,14 +103,21 @@ parts_enter_few n old new requests taken =
     few_entered (length (state_of old).held + n) old new taken.parts taken.from (omega (arith, taken.few))
 
 -- ---- One part
+pub part_of : (counted : ℕ) (old new : Shape) (request : Request) (answer : Result Range Error) (count : ℕ) →
+    IsBalancedTreeOf (state_of old) old → AllocatesOf counted (state_of old) request answer (state_of new) → OnErr answer (new ≡ old) →
+    EntersToAllocate old request count → IsAllocationCount (height_of old) (state_of old) request answer count →
+    (n : ℕ) × HasParts old (Allocating request answer n ∷ []) new
+part_of counted old new request answer count b a same enters most =
+    let part : HasPart old (Allocating request answer count) new = (b, (counted, a), enters, most, same) in
+    let parts : HasParts old (Allocating request answer count ∷ []) new = (new, part, refl) in
+    (count, parts)
+
 pub allocation_part : (old new : Shape) (request : Request) (answer : Result Range Error) (count : ℕ) →
     IsBalancedTreeOf (state_of old) old → Allocates (state_of old) request answer (state_of new) → OnErr answer (new ≡ old) →
     EntersToAllocate old request count → IsAllocationCount (height_of old) (state_of old) request answer count →
     (n : ℕ) × HasParts old (Allocating request answer n ∷ []) new
-allocation_part old new request answer count b a same enters most =
-    let part : HasPart old (Allocating request answer count) new = (b, a, enters, most, same) in
-    let parts : HasParts old (Allocating request answer count ∷ []) new = (new, part, refl) in
-    (count, parts)
+unfolding Allocates
+allocation_part old new request answer count b a = part_of (length (state_of old).held) old new request answer count b a
 
 pub free_part : (old new : Shape) (r : Range) (answer : Result (Unit {0}) Error) (count : ℕ) →
     OnOk answer (IsBalancedTreeOf (state_of old) old) →

@@ -1,5 +1,5 @@
 -- Lists of parts that grow by one part.
-use Rattle.std.proofs.Common.{◌≡◌, ℕ, ◌+◌, ◌≤◌, List, [], ◌∷◌, ◌++◌, length, refl, sym, arith, subst, Result, Ok, Err}
+use Rattle.std.proofs.Common.{◌≡◌, ℕ, ◌+◌, ◌≤◌, List, [], ◌∷◌, ◌++◌, length, refl, sym, arith, inl, subst, Result, Ok, Err}
 use Rattle.std.specs.Prelude.{OnOk, OnErr}
 use Rattle.std.proofs.lemmas.List.{length-append}
 use Rattle.std.proofs.lemmas.List.Elements.{All-nil, All-cons, All-append}
@@ -35,7 +35,7 @@ more_allowed n m old new requests taken l = record {
 }
 
 pub then_allocated : (n : ℕ) (old mid new : Shape) (requests : List Request) (request : Request) (answer : Result Range Error) →
-    TakesParts n old requests mid → Contains requests request → (count : ℕ) × HasParts mid (Allocating request answer count ∷ []) new →
+    TakesParts n old requests mid → IsPartFor requests (Allocating request answer 0) → (count : ℕ) × HasParts mid (Allocating request answer count ∷ []) new →
     TakesParts (n + 1) old requests new
 then_allocated n old mid new requests request answer taken asked part =
     one_more n old mid new requests (Allocating request answer part.0) taken part.1 asked
@@ -53,8 +53,24 @@ pub allocated_only : (old new : Shape) (request : Request) (answer : Result Rang
     (count : ℕ) × HasParts old (Allocating request answer count ∷ []) new → TakesParts 2 old (request ∷ []) new
 allocated_only old new request answer part =
     more_allowed 1 2 old new (request ∷ [])
-    (then_allocated 0 old old new (request ∷ []) request answer (no_parts 0 old (request ∷ [])) (0, omega arith, refl) part)
+    (then_allocated 0 old old new (request ∷ []) request answer (no_parts 0 old (request ∷ [])) (request, (0, omega arith, refl), inl refl) part)
     (omega arith)
+
+-- Parts one after the other.
+pub taken_both : (n m : ℕ) (old mid new : Shape) (requests : List Request) → TakesParts n old requests mid → TakesParts m mid requests new →
+    TakesParts (n + m) old requests new
+taken_both n m old mid new requests a b = record {
+  parts = a.parts ++ b.parts;
+  from = history_append HasPart a.parts b.parts old mid new a.from b.from;
+  for_requests = All-append (IsPartFor requests) a.parts b.parts a.for_requests b.for_requests;
+  few = omega (arith, length-append a.parts b.parts, a.few, b.few);
+}
+
+-- An allocation with the policy of the request.
+pub allocated_as : (old new : Shape) (request asked : Request) (answer : Result Range Error) → asked.policy ≡ request.policy →
+    (count : ℕ) × HasParts old (Allocating asked answer count ∷ []) new → TakesParts 1 old (request ∷ []) new
+allocated_as old new request asked answer same part =
+    then_allocated 0 old old new (request ∷ []) asked answer (no_parts 0 old (request ∷ [])) (request, (0, omega arith, refl), inl same) part
 
 pub freed_only : (old new : Shape) (r : Range) (freed : Result (Unit {0}) Error) →
     OnOk freed ((n : ℕ) × HasParts old (Freeing r n ∷ []) new) → OnErr freed (new ≡ old) → TakesParts 1 old [] new
@@ -66,7 +82,7 @@ pub allocated_and_freed : (old mid new : Shape) (request : Request) (answer : Re
     OnOk freed ((n : ℕ) × HasParts mid (Freeing r n ∷ []) new) → OnErr freed (new ≡ mid) → TakesParts 2 old (request ∷ []) new
 allocated_and_freed old mid new request answer r freed first second same =
     then_freed 1 old mid new (request ∷ []) r freed
-    (then_allocated 0 old old mid (request ∷ []) request answer (no_parts 0 old (request ∷ [])) (0, omega arith, refl) first)
+    (then_allocated 0 old old mid (request ∷ []) request answer (no_parts 0 old (request ∷ [])) (request, (0, omega arith, refl), inl refl) first)
     second same
 
 pub ruleset taken = (no_parts, allocated_only, freed_only, allocated_and_freed)

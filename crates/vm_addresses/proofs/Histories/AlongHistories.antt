@@ -2,7 +2,7 @@
 use Rattle.std.proofs.Common.{◌≡◌, ◌⊎◌, ◌↔◌, List, [], ◌∷◌, suc, refl, sym, ap, ◌∙◌, arith, inl, inr, ⊎_elim, subst, zip, Result, Ok, Err}
 use Rattle.std.specs.List.{Contains}
 use Rattle.vm_ranges.specs.Range.{Range, span}
-use Rattle.vm_addresses.specs.Address.{AddressState, IsPlace, IsAddressState}
+use Rattle.vm_addresses.specs.Address.{AddressState, IsPlace, IsAddressState, releasing}
 use Rattle.vm_ranges.specs.Request.{Request}
 use Rattle.vm_addresses.specs.Answer.{Allocates, Frees}
 use Rattle.vm_addresses.specs.Several.{AllocatesEach, AllocatesAll}
@@ -169,7 +169,7 @@ call_gives old new (MoveTo q request, answer) calls r s h =
     ⊎_elim
     (λ (k : IsHeld old.held r). inl k)
     (λ (p : IsNewPlace old q request answer r). inr
-    (given_here old p.mid request r (MoveTo q request, answer) calls (refl, p.given) p.allocated))
+    (given_here (releasing q old) p.mid request r (MoveTo q request, answer) calls (refl, p.given) p.allocated))
     (move_gives old new q request answer r s h)
 call_gives old new (Clone, answer) calls r s h =
     let P : AddressState → Type 0 = λ v. IsHeld v.held r in

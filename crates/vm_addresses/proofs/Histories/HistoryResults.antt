@@ -1,5 +1,5 @@
 -- The results of the calls of a history.
-use Rattle.std.proofs.Common.{◌≡◌, ◌≢◌, ℕ, ◌+◌, ◌-◌, ◌<◌, arith, sym, ap, ◌∙◌, ◌⊎◌, inl, inr, ⊎_elim, subst, Option, Result, Ok, Err}
+use Rattle.std.proofs.Common.{◌≡◌, ◌≢◌, ℕ, ◌+◌, ◌-◌, ◌<◌, arith, sym, ap, ◌∙◌, ◌⊎◌, inl, inr, ⊎_elim, subst, Option, Result, Ok, Err, length}
 use Rattle.std.proofs.lemmas.Bool.{cases_eq}
 use Rattle.vm_ranges.specs.Range.{Range, MAX, IsIn, span}
 use Rattle.vm_addresses.specs.Address.{AddressState, IsPlace, IsLowestPlace, IsHighestPlace, IsAddressState}
@@ -32,7 +32,7 @@ allocated_chosen request old new r h =
     (λ l. absurd (cc (l.1)))
     (λ k.
     let s = k.1.0 in
-    let e : r ≡ span s request.size = given_is old (span s request.size) r new k.1.3 in
+    let e : r ≡ span s request.size = given_is _ old (span s request.size) r new k.1.3 in
     let start : s ≡ r.start = ap (λ (v : Range). v.start) (sym e) in
     (subst (IsChosen request old) start k.1.1, e ∙ ap (λ (s : ℕ). span s request.size) start))
     (allocates_outcome old new (Ok r) request h)
@@ -83,52 +83,52 @@ invalid request old new answer e h m =
 -- The result of a valid request, and the next state.
 module _ (request : Request) (old new : AddressState) (answer : Result Range Error) (sense : IsRequest request)
     (h : Allocates old request answer new) where
-  chosen_taken : (s : ℕ) → IsChosen request old s → s + request.size - 1 < MAX → AllocatesAt old (span s request.size) answer new
+  chosen_taken : (s : ℕ) → IsChosen request old s → s + request.size - 1 < MAX → AllocatesAt (length old.held) old (span s request.size) answer new
   chosen_taken s c l = otherwise _ _ _ (λ k. omega arith) (allocates_chosen request s old new answer sense (omega arith) c h)
 
   chosen_at_max : (s : ℕ) → IsChosen request old s → s + request.size - 1 ≡ MAX → answer ≡ Err Overflow
   chosen_at_max s c e = ⊎_elim (λ k. k.1.0) (λ k. absurd (k.0 e)) (allocates_chosen request s old new answer sense (omega arith) c h)
 
-none_by_place : (request : Request) (old new : AddressState) (answer : Result Range Error) →
+none_by_place : (counted : ℕ) (request : Request) (old new : AddressState) (answer : Result Range Error) →
     ((s : ℕ) → ¬ IsPlace request.size request.align (within request.window old) s) →
-    ByPlace request old (λ e. (answer ≡ Err e) × (new ≡ old)) (λ r. AllocatesAt old r answer new) → answer ≡ Err ResourceNotAvailable
+    ByPlace request old (λ e. (answer ≡ Err e) × (new ≡ old)) (λ r. AllocatesAt counted old r answer new) → answer ≡ Err ResourceNotAvailable
 unfolding ByPlace
-none_by_place request old new answer none h = ⊎_elim (λ l. l.1.0) (λ k. absurd (none k.0 (place_in_window request k.0 old k.1))) h
+none_by_place counted request old new answer none h = ⊎_elim (λ l. l.1.0) (λ k. absurd (none k.0 (place_in_window request k.0 old k.1))) h
 
-none_grants : (policy : AllocPolicy) (w : Option Range) (n a : ℕ) (old new : AddressState) (answer : Result Range Error) →
+none_grants : (counted : ℕ) (policy : AllocPolicy) (w : Option Range) (n a : ℕ) (old new : AddressState) (answer : Result Range Error) →
     (policy ≡ FirstMatch) ⊎ (policy ≡ LastMatch) → ((s : ℕ) → ¬ IsPlace n a (within w old) s) →
-    Grants old (request_in w n a policy) answer new → answer ≡ Err ResourceNotAvailable
+    Grants counted old (request_in w n a policy) answer new → answer ≡ Err ResourceNotAvailable
 unfolding Grants ByExactPolicy
-none_grants FirstMatch w n a old new answer p none h = none_by_place (request_in w n a FirstMatch) old new answer none h
-none_grants LastMatch w n a old new answer p none h = none_by_place (request_in w n a LastMatch) old new answer none h
-none_grants (ExactMatch t) w n a old new answer p none h = ⊎_elim (λ e. absurd (cc e)) (λ e. absurd (cc e)) p
+none_grants counted FirstMatch w n a old new answer p none h = none_by_place _ (request_in w n a FirstMatch) old new answer none h
+none_grants counted LastMatch w n a old new answer p none h = none_by_place _ (request_in w n a LastMatch) old new answer none h
+none_grants counted (ExactMatch t) w n a old new answer p none h = ⊎_elim (λ e. absurd (cc e)) (λ e. absurd (cc e)) p
 
 -- If there is a place, an error is due to memory, the limit of splits or the end of the range.
-taken_not_lacking : (old new : AddressState) (r : Range) (answer : Result Range Error) → AllocatesAt old r answer new →
+taken_not_lacking : (counted : ℕ) (old new : AddressState) (r : Range) (answer : Result Range Error) → AllocatesAt counted old r answer new →
     answer ≢ Err ResourceNotAvailable
 unfolding AllocatesAt
-taken_not_lacking old new r answer (inl k) e = cc (k.1.0, e)
-taken_not_lacking old new r answer (inr (s, inl k)) e = cc (k.1.0, e)
-taken_not_lacking old new r answer (inr (s, inr (few, inl k))) e = cc (k.0, e)
-taken_not_lacking old new r answer (inr (s, inr (few, inr k))) e = cc (k.0, e)
+taken_not_lacking counted old new r answer (inl k) e = cc (k.1.0, e)
+taken_not_lacking counted old new r answer (inr (s, inl k)) e = cc (k.1.0, e)
+taken_not_lacking counted old new r answer (inr (s, inr (few, inl k))) e = cc (k.0, e)
+taken_not_lacking counted old new r answer (inr (s, inr (few, inr k))) e = cc (k.0, e)
 
-some_by_place : (request : Request) (old new : AddressState) (answer : Result Range Error) (s : ℕ) →
+some_by_place : (counted : ℕ) (request : Request) (old new : AddressState) (answer : Result Range Error) (s : ℕ) →
     IsPlace request.size request.align (within request.window old) s →
-    ByPlace request old (λ e. (answer ≡ Err e) × (new ≡ old)) (λ r. AllocatesAt old r answer new) → answer ≢ Err ResourceNotAvailable
+    ByPlace request old (λ e. (answer ≡ Err e) × (new ≡ old)) (λ r. AllocatesAt counted old r answer new) → answer ≢ Err ResourceNotAvailable
 unfolding ByPlace
-some_by_place request old new answer s place h e =
+some_by_place counted request old new answer s place h e =
     ⊎_elim
     (λ l. absurd (l.0 s place))
-    (λ k. ⊎_elim (λ o. cc (o.1.0, e)) (λ o. taken_not_lacking old new (span k.0 request.size) answer o.1 e) k.2)
+    (λ k. ⊎_elim (λ o. cc (o.1.0, e)) (λ o. taken_not_lacking _ old new (span k.0 request.size) answer o.1 e) k.2)
     h
 
-some_grants : (policy : AllocPolicy) (w : Option Range) (n a : ℕ) (old new : AddressState) (answer : Result Range Error) →
+some_grants : (counted : ℕ) (policy : AllocPolicy) (w : Option Range) (n a : ℕ) (old new : AddressState) (answer : Result Range Error) →
     (policy ≡ FirstMatch) ⊎ (policy ≡ LastMatch) → (s : ℕ) → IsPlace n a (within w old) s →
-    Grants old (request_in w n a policy) answer new → answer ≢ Err ResourceNotAvailable
+    Grants counted old (request_in w n a policy) answer new → answer ≢ Err ResourceNotAvailable
 unfolding Grants ByExactPolicy
-some_grants FirstMatch w n a old new answer p s place h = some_by_place (request_in w n a FirstMatch) old new answer s place h
-some_grants LastMatch w n a old new answer p s place h = some_by_place (request_in w n a LastMatch) old new answer s place h
-some_grants (ExactMatch t) w n a old new answer p s place h = ⊎_elim (λ e. absurd (cc e)) (λ e. absurd (cc e)) p
+some_grants counted FirstMatch w n a old new answer p s place h = some_by_place _ (request_in w n a FirstMatch) old new answer s place h
+some_grants counted LastMatch w n a old new answer p s place h = some_by_place _ (request_in w n a LastMatch) old new answer s place h
+some_grants counted (ExactMatch t) w n a old new answer p s place h = ⊎_elim (λ e. absurd (cc e)) (λ e. absurd (cc e)) p
 
 -- The errors of an exact request for the n addresses starting at t, in order.
 exact_errors : (w : Option Range) (old new : AddressState) (answer : Result Range Error) (t n : ℕ) (Rest : Type 0) → IsAddressState old →
@@ -157,13 +157,13 @@ exact_errors w old new answer t n Rest state some h =
           (cases_eq t MAX);
     }
 
-exact_grants : (policy : AllocPolicy) (w : Option Range) (n a t : ℕ) (old new : AddressState) (answer : Result Range Error) →
-    IsAddressState old → 0 < n → policy ≡ ExactMatch t → Grants old (request_in w n a policy) answer new →
+exact_grants : (counted : ℕ) (policy : AllocPolicy) (w : Option Range) (n a t : ℕ) (old new : AddressState) (answer : Result Range Error) →
+    IsAddressState old → 0 < n → policy ≡ ExactMatch t → Grants counted old (request_in w n a policy) answer new →
     FailsInOrder (within w old) t n answer
 unfolding Grants ByExactPolicy
-exact_grants policy w n a t old new answer state some p h =
-    let g : Grants old (request_in w n a (ExactMatch t)) answer new = subst
-    (λ (v : AllocPolicy). Grants old (request_in w n a v) answer new) p h in
+exact_grants counted policy w n a t old new answer state some p h =
+    let g : Grants counted old (request_in w n a (ExactMatch t)) answer new = subst
+    (λ (v : AllocPolicy). Grants counted old (request_in w n a v) answer new) p h in
     exact_errors w old new answer t n _ state some g
 
 pub answered : (request : Request) (old new : AddressState) (answer : Result Range Error) → IsAddressState old →
@@ -176,9 +176,9 @@ answered request old new answer state h =
           record {
             taken = chosen_taken request old new answer sense h;
             at_max = chosen_at_max request old new answer sense h;
-            no_place = λ p none. none_grants request.policy request.window request.size request.align old new answer p none grants;
-            only_there = λ p s place. some_grants request.policy request.window request.size request.align old new answer p s place grants;
-            named = λ t p. exact_grants request.policy request.window request.size request.align t old new answer state sense.some p grants;
+            no_place = λ p none. none_grants _ request.policy request.window request.size request.align old new answer p none grants;
+            only_there = λ p s place. some_grants _ request.policy request.window request.size request.align old new answer p s place grants;
+            named = λ t p. exact_grants _ request.policy request.window request.size request.align t old new answer state sense.some p grants;
           };
       given = λ r e. allocated_chosen request old new r (subst (λ (v : Result Range Error). Allocates old request v new) e h);
     }
@@ -187,12 +187,12 @@ pub places_answer : PlacesAnswer
 places_answer old new request answer h = answered request old.state new answer (reached_state old) h
 
 -- ---- An error changes nothing
-takes_refused : (old new : AddressState) (r : Range) (e : Error) → AllocatesAt old r (Err e) new → new ≡ old
-takes_refused old new r e h = ⊎_elim (λ l. absurd (cc (l.0))) (λ k. k.2) (given_or_refused old r (Err e) new h)
+takes_refused : (counted : ℕ) (old new : AddressState) (r : Range) (e : Error) → AllocatesAt counted old r (Err e) new → new ≡ old
+takes_refused counted old new r e h = ⊎_elim (λ l. absurd (cc (l.0))) (λ k. k.2) (given_or_refused _ old r (Err e) new h)
 
 allocation_refused : (request : Request) (old new : AddressState) (e : Error) → Allocates old request (Err e) new → new ≡ old
 allocation_refused request old new e h =
-    ⊎_elim (λ l. l.2) (λ k. takes_refused old new (span k.1.0 request.size) e k.1.3) (allocates_outcome old new (Err e) request h)
+    ⊎_elim (λ l. l.2) (λ k. takes_refused _ old new (span k.1.0 request.size) e k.1.3) (allocates_outcome old new (Err e) request h)
 
 release_refused : (old new : AddressState) (r : Range) (e : Error) → Frees old r (Err e) new → new ≡ old
 unfolding Frees

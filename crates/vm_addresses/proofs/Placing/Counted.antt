@@ -27,11 +27,9 @@ use Rattle.std.proofs.Common.{
   Result,
   Ok,
   Err,
-  IsOk,
   length-append,
-  ltb,
 }
-use Rattle.std.proofs.lemmas.Bool.{cases_lt, lt-ltb, le-ltb}
+use Rattle.std.proofs.lemmas.Bool.{cases_lt, le-ltb}
 use Rattle.vm_ranges.specs.Cases.{IsTestOf}
 use Rattle.vm_ranges.specs.Range.{Range, MAX, address_count}
 use Rattle.vm_ranges.specs.Request.{Request, IsRequest}
@@ -43,7 +41,7 @@ use Rattle.vm_tree.specs.Allocation.{range_at}
 use Rattle.vm_tree.specs.Shape.{Shape, blocks, height_of}
 use Rattle.vm_tree.specs.declared.search.Taken.{Taken}
 use Rattle.vm_addresses.specs.Address.{AddressState, IsAddressState, holding}
-use Rattle.vm_addresses.specs.Answer.{SPLIT_LIMIT_MIN_HELD, Allocates, FillsGap, Grants}
+use Rattle.vm_addresses.specs.Answer.{SPLIT_LIMIT_MIN_HELD, Grants}
 use Rattle.vm_addresses.specs.Tree.Allocation.{taken_range, Takes, IsAllocation}
 use Rattle.vm_addresses.specs.Tree.CountedTrees.{IsCountedTree}
 use Rattle.vm_addresses.specs.Tree.Blocks.{TilesSpace, IsBlocksOf, held_of, blocks_state}
@@ -58,8 +56,6 @@ use Rattle.vm_addresses.specs.Counts.GapSearch.{SearchesGaps, SearchesAligned}
 use Rattle.vm_addresses.specs.Counts.NodeCounts.{nodes_of_request}
 use Rattle.vm_addresses.specs.Counts.Steps.{EntersToAllocate, IsAllocationCount, IsGrantCount}
 use Rattle.vm_addresses.proofs.Counts.Allocating.{entered_if_valid, valid_count}
-use Rattle.vm_addresses.proofs.Results.Filling.{allocates_filling}
-use Rattle.vm_addresses.proofs.Results.Requests.{request_allocates}
 
 -- ---- The number of parts
 one_part : (k r : Range) → r.start ≤ k.start → k.end ≤ r.end → length (parts k r) ≡ 1
@@ -73,7 +69,7 @@ not_split k r n =
 
 -- ---- A range that was taken
 module _ (s m : Shape) (can_split : Bool) (n : ℕ) (taken : Taken) (h : IsSpaceTree s)
-    (few : IsTestOf can_split (length (held_of (blocks s)) < SPLIT_LIMIT_MIN_HELD)) (z : 0 < n)
+    (few : can_split ≡ true → length (held_of (blocks s)) ≤ SPLIT_LIMIT_MIN_HELD) (z : 0 < n)
     (t : Takes can_split n (blocks s) (blocks m) taken) where
   abbrev range : Range
   range = range_at t.search t.range.place
@@ -102,7 +98,7 @@ module _ (s m : Shape) (can_split : Bool) (n : ℕ) (taken : Taken) (h : IsSpace
 
   few_split : (c : Bool) → can_split ≡ c → length (blocks m) < 2 ^ 49
   few_split true e =
-      let k : length (held_of (blocks s)) < SPLIT_LIMIT_MIN_HELD = rw e at few in
+      let k = few e in
       let b = few_blocks (holding range (state_of s)) (blocks m) holds_range in
       let l = length_with range (held_of (blocks s)) in
       omega arith
@@ -121,41 +117,33 @@ module _ (s m : Shape) (can_split : Bool) (n : ℕ) (taken : Taken) (h : IsSpace
 
 -- ---- The result of the call
 -- The clauses of the contract on a result.
-pub record IsAnswered (s m : Shape) (request : Request) (answer : Result Range Error) (count : ℕ) : Type 0 where
-  pub allocates : Allocates (state_of s) request answer (state_of m)
-  pub filling : (start : ℕ) → FillsGap (state_of s) request start → IsOk answer
+pub record IsAnswered (s m : Shape) (can_split : Bool) (request : Request) (answer : Result Range Error) (count : ℕ) : Type 0 where
+  pub grants : (counted : ℕ) → IsTestOf can_split (counted < SPLIT_LIMIT_MIN_HELD) → Grants counted (state_of s) request answer (state_of m)
   pub enters : EntersToAllocate s request count
   pub steps : IsAllocationCount (height_of s) (state_of s) request answer count
   pub search : SearchesGaps (height_of s) (state_of s) request answer count
   pub search_aligned : SearchesAligned (height_of s) (state_of s) request answer count
 
-limit_tested : (held : ℕ) (bs : List Block) → held ≡ length (held_of bs) →
-    IsTestOf (ltb held SPLIT_LIMIT_MIN_HELD) (length (held_of bs) < SPLIT_LIMIT_MIN_HELD)
-limit_tested held bs e =
-    ⊎_elim
-    (λ (l : held < SPLIT_LIMIT_MIN_HELD). rw (lt-ltb held SPLIT_LIMIT_MIN_HELD l) (omega arith))
-    (λ (l : SPLIT_LIMIT_MIN_HELD ≤ held). rw (le-ltb held SPLIT_LIMIT_MIN_HELD l) (λ k. omega arith))
-    (cases_lt held SPLIT_LIMIT_MIN_HELD)
-
-module _ (s m : Shape) (space : Range) (held gaps clear : ℕ) (request : Request) (count : ℕ)
+module _ (s m : Shape) (space : Range) (held gaps clear : ℕ) (can_split : Bool) (request : Request) (count : ℕ)
     (h : IsCountedTree s space held gaps clear) where
   state_is : blocks_state space (blocks s) ≡ state_of s
   state_is = ap (λ (v : Range). blocks_state v (blocks s)) h.is_space
 
   -- The state of the space is that of the tree, so facts of one are facts of the other.
-  module _ (answer : Result Taken Error) (a : IsAllocation request space (ltb held SPLIT_LIMIT_MIN_HELD) s m answer count) where
-    grants_if : state_of m ≡ blocks_state space (blocks m) → Grants (state_of s) request (taken_range answer) (state_of m)
-    grants_if e =
-        let g = subst (λ (v : AddressState). Grants v request (taken_range answer) (blocks_state space (blocks m))) state_is a.granted in
-        subst (λ (v : AddressState). Grants (state_of s) request (taken_range answer) v) (sym e) g
+  module _ (answer : Result Taken Error) (a : IsAllocation request space can_split s m answer count) where
+    grants_if : (counted : ℕ) → IsTestOf can_split (counted < SPLIT_LIMIT_MIN_HELD) → state_of m ≡ blocks_state space (blocks m) →
+        Grants counted (state_of s) request (taken_range answer) (state_of m)
+    grants_if counted few e =
+        let g = subst (λ (v : AddressState). Grants counted v request (taken_range answer) (blocks_state space (blocks m))) state_is
+        (a.granted counted few) in
+        subst (λ (v : AddressState). Grants counted (state_of s) request (taken_range answer) v) (sym e) g
 
-    pub answered : IsRequest request → state_of m ≡ blocks_state space (blocks m) → IsAnswered s m request (taken_range answer) count
+    pub answered : IsRequest request → state_of m ≡ blocks_state space (blocks m) →
+        IsAnswered s m can_split request (taken_range answer) count
     answered v e =
-        let all = request_allocates request (state_of s) (state_of m) (taken_range answer) v (grants_if e) in
         let near = subst (λ (v : AddressState). SearchesAligned (height_of s) v request (taken_range answer) count) state_is a.search in
         record {
-          allocates = all;
-          filling = λ t f. allocates_filling (state_of s) (state_of m) request t (taken_range answer) all f;
+          grants = λ counted few. grants_if counted few e;
           enters = entered_if_valid s request count v
               (subst (λ (v : Range). count ≡ nodes_of_request request v s) h.is_space a.exact);
           steps = valid_count (height_of s) (state_of s) request (taken_range answer) count v
@@ -165,18 +153,18 @@ module _ (s m : Shape) (space : Range) (held gaps clear : ℕ) (request : Reques
         }
 
   -- ---- An error
-  module _ (e : Error) (a : IsAllocation request space (ltb held SPLIT_LIMIT_MIN_HELD) s m (Err e) count) where
-    pub refused_answer : IsRequest request → IsAnswered s m request (Err e) count
+  module _ (e : Error) (a : IsAllocation request space can_split s m (Err e) count) where
+    pub refused_answer : IsRequest request → IsAnswered s m can_split request (Err e) count
     refused_answer v = answered (Err e) a v (rw a.unchanged (sym state_is))
 
     pub refused_state : IsAddressState (state_of m)
     refused_state = rw a.unchanged (state_of_tree s h.tree)
 
   -- ---- A range
-  module _ (taken : Taken) (z : 0 < request.size)
-      (a : IsAllocation request space (ltb held SPLIT_LIMIT_MIN_HELD) s m (Ok taken) count) where
+  module _ (taken : Taken) (few : can_split ≡ true → length (held_of (blocks s)) ≤ SPLIT_LIMIT_MIN_HELD) (z : 0 < request.size)
+      (a : IsAllocation request space can_split s m (Ok taken) count) where
     one : TakesOne s m taken.range taken.added
-    one = takes_one s m (ltb held SPLIT_LIMIT_MIN_HELD) request.size taken h.tree (limit_tested held (blocks s) h.held_count) z a.taken
+    one = takes_one s m can_split request.size taken h.tree few z a.taken
 
     length_is : request.size ≡ address_count taken.range
     length_is = let e = a.taken.range.at.range in rw e (omega (arith, z, a.taken.size))
@@ -197,6 +185,6 @@ module _ (s m : Shape) (space : Range) (held gaps clear : ℕ) (request : Reques
     pub granted_state : IsAddressState (state_of m)
     granted_state = state_of_tree m (taken_new taken.added request.size refl refl).tree
 
-    pub granted_answer : IsRequest request → IsAnswered s m request (Ok taken.range) count
+    pub granted_answer : IsRequest request → IsAnswered s m can_split request (Ok taken.range) count
     granted_answer v = answered (Ok taken) a v
         (ap (λ (v : Range). blocks_state v (blocks m)) (sym (taken_new taken.added request.size refl refl).is_space))

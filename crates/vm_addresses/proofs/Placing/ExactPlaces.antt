@@ -77,10 +77,10 @@ FitsWindow None n t state = Unit {0}
 FitsWindow (Some w) n t state = IsIn w t × (AreClear n state t → t + n ≤ w.end + 1)
 
 -- The result without a window is the result in a window that the range fits.
-transferred : (w : Option Range) (n a t : ℕ) (old new : AddressState) (answer : Result Range Error) → 0 < n → FitsWindow w n t old →
-    Grants old (named n a t) answer new → Grants old (request_in w n a (ExactMatch t)) answer new
-transferred None n a t old new answer z f h = h
-transferred (Some w) n a t old new answer z f h = narrow_grants w n a t old z f.0 f.1 new answer h
+transferred : (counted : ℕ) (w : Option Range) (n a t : ℕ) (old new : AddressState) (answer : Result Range Error) → 0 < n → FitsWindow w n t old →
+    Grants counted old (named n a t) answer new → Grants counted old (request_in w n a (ExactMatch t)) answer new
+transferred counted None n a t old new answer z f h = h
+transferred counted (Some w) n a t old new answer z f h = narrow_grants w n a t old z f.0 f.1 _ new answer h
 
 -- The window of the search is that of the request. Without a window, it has all of the space.
 abbrev IsWindowOf : Option Range → Range → Search → Type 0
@@ -92,11 +92,11 @@ as_window None sp search e = (omega (arith, ap (λ (r : Range). r.start) e), ome
 as_window (Some w) sp search e = (ap (λ (r : Range). r.start) e, ap (λ (r : Range). r.end) e)
 
 -- A gap of which the part in the window ends before the range.
-beyond : (w : Range) (n a t : ℕ) (sp : Range) (bs : List Block) (b : Block) → IsWithin sp bs b n t → b.state ≡ Free → IsIn w t →
+beyond : (counted : ℕ) (w : Range) (n a t : ℕ) (sp : Range) (bs : List Block) (b : Block) → IsWithin sp bs b n t → b.state ≡ Free → IsIn w t →
     t + n - 1 ≤ MAX → w.end < t + n - 1 →
-    Grants (blocks_state sp bs) (request_in (Some w) n a (ExactMatch t)) (Err ResourceNotAvailable) (blocks_state sp bs)
+    Grants counted (blocks_state sp bs) (request_in (Some w) n a (ExactMatch t)) (Err ResourceNotAvailable) (blocks_state sp bs)
 unfolding Grants ByExactPolicy ByStart
-beyond w n a t sp bs b x f i m o =
+beyond counted w n a t sp bs b x f i m o =
     let z = x.some in
     let j = in_space Allocated sp.start sp.end t b x.before x.after (as_cut sp bs b n t x) x.start in
     inr (
@@ -116,7 +116,7 @@ beyond w n a t sp bs b x f i m o =
 module _ (sp : Range) (old : List Block) (tiles : TilesSpace sp old) (search : Search) (t a : ℕ) (w : Option Range) (z : 0 < search.size)
     (m : t < MAX) (upto : t + search.size - 1 ≤ MAX) (d : t % a ≡ 0)
     (within : (search.low ≤ t) × (t ≤ search.high)) (is : IsWindowOf w sp search)
-    (few : IsTestOf search.can_split (length (held_of old) < SPLIT_LIMIT_MIN_HELD)) where
+    (counted : ℕ) (few : IsTestOf search.can_split (counted < SPLIT_LIMIT_MIN_HELD)) where
   abbrev n : ℕ
   n = search.size
 
@@ -134,32 +134,32 @@ module _ (sp : Range) (old : List Block) (tiles : TilesSpace sp old) (search : S
 
     -- The range is not clear, so the window does not matter.
     if_not_clear : (AreClear search.size (blocks_state sp old) t → ⊥) → (answer : Result Range Error) (new : AddressState) →
-        Grants (blocks_state sp old) (named search.size a t) answer new →
-        Grants (blocks_state sp old) (request_in w search.size a (ExactMatch t)) answer new
-    if_not_clear c answer new h = transferred w search.size a t (blocks_state sp old) new answer z (fits w is (λ k. absurd (c k))) h
+        Grants counted (blocks_state sp old) (named search.size a t) answer new →
+        Grants counted (blocks_state sp old) (request_in w search.size a (ExactMatch t)) answer new
+    if_not_clear c answer new h = transferred _ w search.size a t (blocks_state sp old) new answer z (fits w is (λ k. absurd (c k))) h
 
     if_in_window : t + search.size - 1 ≤ search.high → (answer : Result Range Error) (new : AddressState) →
-        Grants (blocks_state sp old) (named search.size a t) answer new →
-        Grants (blocks_state sp old) (request_in w search.size a (ExactMatch t)) answer new
-    if_in_window c answer new h = transferred w search.size a t (blocks_state sp old) new answer z (fits w is (λ k. omega arith)) h
+        Grants counted (blocks_state sp old) (named search.size a t) answer new →
+        Grants counted (blocks_state sp old) (request_in w search.size a (ExactMatch t)) answer new
+    if_in_window c answer new h = transferred _ w search.size a t (blocks_state sp old) new answer z (fits w is (λ k. omega arith)) h
 
     held_is : b.state ≡ Allocated → AreClear search.size (blocks_state sp old) t → ⊥
     held_is e c = let k = clear_in_block sp old b search.size t here c in let bad = sym e ∙ k.0 in cc
 
     held_grants : b.state ≡ Allocated → (new : List Block) (answer : Result Taken Refusal) → OnErr answer (new ≡ old) →
         IfElse (b.key ≡ span t search.size) (answer ≡ Err Held) (answer ≡ Err NoPlace) →
-        Grants (blocks_state sp old) (request_in w search.size a (ExactMatch t)) (taken_range (with_error (span t search.size) answer))
+        Grants counted (blocks_state sp old) (request_in w search.size a (ExactMatch t)) (taken_range (with_error (span t search.size) answer))
         (blocks_state sp new)
     held_grants e new answer u h =
         ⊎_elim
         (λ l.
         let u2 : new ≡ old = subst (λ (v : Result Taken Refusal). OnErr v (new ≡ old)) l.1 u in
         rw (l.1, u2, ← l.0) (if_not_clear (held_is e) (Err (InvalidStateTransition b.key Allocated)) (blocks_state sp old)
-        (exact_held sp old b search.size a t here upto e (ap (λ (r : Range). r.start) l.0) (ap (λ (r : Range). r.end) l.0))))
+        (exact_held _ sp old b search.size a t here upto e (ap (λ (r : Range). r.start) l.0) (ap (λ (r : Range). r.end) l.0))))
         (λ l.
         let u2 : new ≡ old = subst (λ (v : Result Taken Refusal). OnErr v (new ≡ old)) l.1 u in
         rw (l.1, u2) (if_not_clear (held_is e) (Err ResourceNotAvailable) (blocks_state sp old)
-        (exact_other sp old b search.size a t here upto e (λ k. l.0 (same_range b.key (span t search.size) k.0 k.1)))))
+        (exact_other _ sp old b search.size a t here upto e (λ k. l.0 (same_range b.key (span t search.size) k.0 k.1)))))
         h
 
     free_is : b.state ≡ Free → b ≡ free_block b.key
@@ -171,24 +171,24 @@ module _ (sp : Range) (old : List Block) (tiles : TilesSpace sp old) (search : S
     module _ (e : b.state ≡ Free) where
       short_grants : (w : Option Range) → IsWindowOf w sp search →
           ((b.key.end < t + search.size - 1) →
-          Grants (blocks_state sp old) (request_in w search.size a (ExactMatch t)) (Err ResourceNotAvailable) (blocks_state sp old)) →
+          Grants counted (blocks_state sp old) (request_in w search.size a (ExactMatch t)) (Err ResourceNotAvailable) (blocks_state sp old)) →
           t + search.size - 1 ≤ b.key.end → search.high < t + search.size - 1 →
-          Grants (blocks_state sp old) (request_in w search.size a (ExactMatch t)) (Err ResourceNotAvailable) (blocks_state sp old)
+          Grants counted (blocks_state sp old) (request_in w search.size a (ExactMatch t)) (Err ResourceNotAvailable) (blocks_state sp old)
       unfolding here
       short_grants None i f l o =
           let j = in_space Allocated sp.start sp.end b.key.end b lower upper (as_cut sp old b search.size t here)
           (omega (arith, cut.inside.0, cut.inside.1), omega arith) in
           absurd (omega (arith, i.1, j.1))
-      short_grants (Some v) i f l o = beyond v search.size a t sp old b here e (omega (arith, within.0, i.0), omega (arith, within.1, i.1))
+      short_grants (Some v) i f l o = beyond _ v search.size a t sp old b here e (omega (arith, within.0, i.0), omega (arith, within.1, i.1))
           upto (omega (arith, i.1))
 
       none_grants : (b.key.end < t + search.size - 1) ⊎ (search.high < t + search.size - 1) →
-          Grants (blocks_state sp old) (request_in w search.size a (ExactMatch t)) (Err ResourceNotAvailable) (blocks_state sp old)
+          Grants counted (blocks_state sp old) (request_in w search.size a (ExactMatch t)) (Err ResourceNotAvailable) (blocks_state sp old)
       none_grants h =
           let short : b.key.end < t + search.size - 1 →
-          Grants (blocks_state sp old) (request_in w search.size a (ExactMatch t)) (Err ResourceNotAvailable) (blocks_state sp old) = λ o.
+          Grants counted (blocks_state sp old) (request_in w search.size a (ExactMatch t)) (Err ResourceNotAvailable) (blocks_state sp old) = λ o.
           if_not_clear (λ c. let k = clear_in_block sp old b search.size t here c in omega (arith, k.1)) (Err ResourceNotAvailable)
-          (blocks_state sp old) (exact_short sp old b search.size a t here upto e o) in
+          (blocks_state sp old) (exact_short _ sp old b search.size a t here upto e o) in
           ⊎_elim
           (λ (o : b.key.end < t + search.size - 1). short o)
           (λ (o : search.high < t + search.size - 1).
@@ -204,30 +204,30 @@ module _ (sp : Range) (old : List Block) (tiles : TilesSpace sp old) (search : S
         in_gap = (cut.inside.0, omega arith)
 
         taken_grants : (answer : Result Range Error) (new : AddressState) → t + search.size - 1 < MAX →
-            AllocatesAt (blocks_state sp old) (span t search.size) answer new →
-            Grants (blocks_state sp old) (request_in w search.size a (ExactMatch t)) answer new
-        taken_grants answer new k h = if_in_window o answer new (exact_taken sp old b search.size a t new answer here e l k d h)
+            AllocatesAt counted (blocks_state sp old) (span t search.size) answer new →
+            Grants counted (blocks_state sp old) (request_in w search.size a (ExactMatch t)) answer new
+        taken_grants answer new k h = if_in_window o answer new (exact_taken _ sp old b search.size a t new answer here e l k d h)
 
         place_grants : (new : List Block) (answer : Result Taken Refusal) → OnErr answer (new ≡ old) → SettlesAt search place new answer →
-            Grants (blocks_state sp old) (request_in w search.size a (ExactMatch t)) (taken_range (with_error (span t search.size) answer))
+            Grants counted (blocks_state sp old) (request_in w search.size a (ExactMatch t)) (taken_range (with_error (span t search.size) answer))
             (blocks_state sp new)
         place_grants new (Ok taken) u h = taken_grants (Ok taken.range) (blocks_state sp new) h.below
-            (allocated sp old tiles search z place is_cut in_gap few new taken h)
+            (allocated sp old tiles search z place is_cut in_gap counted few new taken h)
         place_grants new (Err NoPlace) u h = absurd h
         place_grants new (Err Held) u h = absurd h
         place_grants new (Err PastMax) u h = rw u
-            (if_in_window o (Err Overflow) (blocks_state sp old) (exact_at_end sp old b search.size a t here e l h))
+            (if_in_window o (Err Overflow) (blocks_state sp old) (exact_at_end _ sp old b search.size a t here e l h))
         place_grants new (Err (NoMemory e)) u h = rw u
             (taken_grants (Err OutOfMemory) (blocks_state sp old) h.0.below
-            (no_memory sp old tiles search z place is_cut in_gap few h.0 h.1))
+            (no_memory sp old tiles search z place is_cut in_gap counted few h.0 h.1))
         place_grants new (Err CannotSplit) u h = rw u
             (taken_grants (Err Overflow) (blocks_state sp old) h.0.below
-            (cannot_split sp old tiles search z place is_cut in_gap few h.0 h.1))
+            (cannot_split sp old tiles search z place is_cut in_gap counted few h.0 h.1))
 
       free_grants : (new : List Block) (answer : Result Taken Refusal) → OnErr answer (new ≡ old)
           → IfElse ((b.key.end < t + search.size - 1) ⊎ (search.high < t + search.size - 1)) (answer ≡ Err NoPlace)
           (SettlesAt search place new answer)
-          → Grants (blocks_state sp old) (request_in w search.size a (ExactMatch t)) (taken_range (with_error (span t search.size) answer))
+          → Grants counted (blocks_state sp old) (request_in w search.size a (ExactMatch t)) (taken_range (with_error (span t search.size) answer))
           (blocks_state sp new)
       free_grants new answer u h =
           ⊎_elim
@@ -244,27 +244,27 @@ module _ (sp : Range) (old : List Block) (tiles : TilesSpace sp old) (search : S
 
   settled_in : (lower : List Block) (b : Block) (upper : List Block) (s : NodeState) → s ≡ b.state → IsBlockAt t old lower b upper →
       (new : List Block) (answer : Result Taken Refusal) → OnErr answer (new ≡ old) → SettlesIn search t lower s b.key upper new answer →
-      Grants (blocks_state sp old) (request_in w search.size a (ExactMatch t)) (taken_range (with_error (span t search.size) answer))
+      Grants counted (blocks_state sp old) (request_in w search.size a (ExactMatch t)) (taken_range (with_error (span t search.size) answer))
       (blocks_state sp new)
   settled_in lower b upper Allocated e cut new answer u h = held_grants lower b upper cut (sym e) new answer u h
   settled_in lower b upper Free e cut new answer u h = free_grants lower b upper cut (sym e) new answer u h
 
   exact_settles : (new : List Block) (answer : Result Taken Refusal) → OnErr answer (new ≡ old) → AllocatesExact search t old new answer →
-      Grants (blocks_state sp old) (request_in w search.size a (ExactMatch t)) (taken_range (with_error (span t search.size) answer))
+      Grants counted (blocks_state sp old) (request_in w search.size a (ExactMatch t)) (taken_range (with_error (span t search.size) answer))
       (blocks_state sp new)
   exact_settles new answer u h = settled_in h.lower h.block h.upper h.block.state refl h.at new answer u h.settles
 
 pub exact_grants : (sp : Range) (old : List Block) → TilesSpace sp old → (request : Request) (search : Search) → IsRequest request →
-    IsSearchOf request sp search → IsTestOf search.can_split (length (held_of old) < SPLIT_LIMIT_MIN_HELD)
-    → (t : ℕ) → request.policy ≡ ExactMatch t → t < MAX → t + search.size - 1 ≤ MAX → (search.low ≤ t) × (t ≤ search.high)
+    IsSearchOf request sp search → (counted : ℕ) → IsTestOf search.can_split (counted < SPLIT_LIMIT_MIN_HELD) →
+    (t : ℕ) → request.policy ≡ ExactMatch t → t < MAX → t + search.size - 1 ≤ MAX → (search.low ≤ t) × (t ≤ search.high)
     → (new : List Block) (answer : Result Taken Refusal) → OnErr answer (new ≡ old) → AllocatesExact search t old new answer →
-    Grants (blocks_state sp old) request (taken_range (with_error (span t search.size) answer)) (blocks_state sp new)
-exact_grants sp old tiles request search r is few t p m upto i new answer u h =
+    Grants counted (blocks_state sp old) request (taken_range (with_error (span t search.size) answer)) (blocks_state sp new)
+exact_grants sp old tiles request search r is counted few t p m upto i new answer u h =
     let z : 0 < search.size = omega (arith, r.some, is.size) in
     let d : t % request.align ≡ 0 = aligned_if request.align t request.policy p r.start in
-    let g = exact_settles sp old tiles search t request.align request.window z m upto d i (as_window request.window sp search is.window) few
-    new answer u h in
-    subst (λ (v : Request). Grants (blocks_state sp old) v (taken_range (with_error (span t search.size) answer)) (blocks_state sp new))
+    let g = exact_settles sp old tiles search t request.align request.window z m upto d i (as_window request.window sp search is.window) counted
+    few new answer u h in
+    subst (λ (v : Request). Grants counted (blocks_state sp old) v (taken_range (with_error (span t search.size) answer)) (blocks_state sp new))
     (with_policy request (ExactMatch t) p)
-    (subst (λ (n : ℕ). Grants (blocks_state sp old) (request_in request.window n request.align (ExactMatch t))
+    (subst (λ (n : ℕ). Grants counted (blocks_state sp old) (request_in request.window n request.align (ExactMatch t))
     (taken_range (with_error (span t search.size) answer)) (blocks_state sp new)) is.size g)

@@ -89,9 +89,9 @@ module _ (sp : Range) (old : List Block) (tiles : TilesSpace sp old) (search : S
   splits_at g = needs_split sp old place.lower place.upper (free_block place.key) (range_at search place) tiles cut refl taken_from g
 
   -- The result at the place.
-  module _ (few : IsTestOf search.can_split (length (held_of old) < SPLIT_LIMIT_MIN_HELD)) where
+  module _ (counted : ℕ) (few : IsTestOf search.can_split (counted < SPLIT_LIMIT_MIN_HELD)) where
     pub allocated : (new : List Block) (taken : Taken) → IsTakenAt search place new taken →
-        AllocatesAt (blocks_state sp old) (range_at search place) (Ok taken.range) (blocks_state sp new)
+        AllocatesAt counted (blocks_state sp old) (range_at search place) (Ok taken.range) (blocks_state sp new)
     unfolding AllocatesAt
     allocated new taken h =
         let answer : Result Range Error = Ok taken.range in
@@ -99,7 +99,7 @@ module _ (sp : Range) (old : List Block) (tiles : TilesSpace sp old) (search : S
         × (blocks_state sp new ≡ holding (range_at search place) (blocks_state sp old)) =
         (ap (λ (r : Range). Ok r) h.range, taken_state new taken h) in
         let split : NeedsSplit place.key (range_at search place) →
-        AllocatesAt (blocks_state sp old) (range_at search place) answer (blocks_state sp new) =
+        AllocatesAt counted (blocks_state sp old) (range_at search place) answer (blocks_state sp new) =
         λ n. inr (splits n, inr (λ many. let limit = few_if search.can_split _ few (h.low n) in omega (arith, many, limit), inl both)) in
         ⊎_elim
         (λ (l : place.key.start < (range_at search place).start). split (inl l))
@@ -112,7 +112,7 @@ module _ (sp : Range) (old : List Block) (tiles : TilesSpace sp old) (search : S
         (cases_lt place.key.start (range_at search place).start)
 
     pub no_memory : IsSplitAt search place → search.can_split ≡ true →
-        AllocatesAt (blocks_state sp old) (range_at search place) (Err OutOfMemory) (blocks_state sp old)
+        AllocatesAt counted (blocks_state sp old) (range_at search place) (Err OutOfMemory) (blocks_state sp old)
     unfolding AllocatesAt
     no_memory h e = inr (
       splits h.splits,
@@ -121,7 +121,7 @@ module _ (sp : Range) (old : List Block) (tiles : TilesSpace sp old) (search : S
     )
 
     pub cannot_split : IsSplitAt search place → search.can_split ≡ false →
-        AllocatesAt (blocks_state sp old) (range_at search place) (Err Overflow) (blocks_state sp old)
+        AllocatesAt counted (blocks_state sp old) (range_at search place) (Err Overflow) (blocks_state sp old)
     unfolding AllocatesAt
     cannot_split h e = inr (splits h.splits, inl (many_if search.can_split _ few e, (refl, refl)))
 
@@ -129,17 +129,17 @@ module _ (sp : Range) (old : List Block) (tiles : TilesSpace sp old) (search : S
     module _ (request : Request) (same : request.size ≡ search.size) (policy : IsNotExact request.policy)
         (chosen : IsChosen request (blocks_state sp old) place.start) where
       at_range : (answer : Result Range Error) (new : AddressState) → (range_at search place).end < MAX →
-          AllocatesAt (blocks_state sp old) (range_at search place) answer new → Grants (blocks_state sp old) request answer new
+          AllocatesAt counted (blocks_state sp old) (range_at search place) answer new → Grants counted (blocks_state sp old) request answer new
       at_range answer new below h =
-          chosen_grants request (blocks_state sp old) policy place.start new answer chosen (omega (arith, same))
-          (subst (λ (n : ℕ). AllocatesAt (blocks_state sp old) (span place.start n) answer new) (sym same) h)
+          chosen_grants request (blocks_state sp old) policy _ place.start new answer chosen (omega (arith, same))
+          (subst (λ (n : ℕ). AllocatesAt counted (blocks_state sp old) (span place.start n) answer new) (sym same) h)
 
       pub settled : (r : Range) (new : List Block) (answer : Result Taken Refusal) → OnErr answer (new ≡ old) →
-          SettlesAt search place new answer → Grants (blocks_state sp old) request (taken_range (with_error r answer)) (blocks_state sp new)
+          SettlesAt search place new answer → Grants counted (blocks_state sp old) request (taken_range (with_error r answer)) (blocks_state sp new)
       settled r new (Ok taken) u h = at_range (Ok taken.range) (blocks_state sp new) h.below (allocated new taken h)
       settled r new (Err NoPlace) u h = absurd h
       settled r new (Err Held) u h = absurd h
-      settled r new (Err PastMax) u h = rw u (over_grants request (blocks_state sp old) policy place.start chosen (omega (arith, same, h)))
+      settled r new (Err PastMax) u h = rw u (over_grants request (blocks_state sp old) policy _ place.start chosen (omega (arith, same, h)))
       settled r new (Err (NoMemory e)) u h = rw u (at_range (Err OutOfMemory) (blocks_state sp old) h.0.below (no_memory h.0 h.1))
       settled r new (Err CannotSplit) u h = rw u (at_range (Err Overflow) (blocks_state sp old) h.0.below (cannot_split h.0 h.1))
 
@@ -157,21 +157,20 @@ policy_of First = FirstMatch
 policy_of Last = LastMatch
 
 module _ (sp : Range) (old : List Block) (tiles : TilesSpace sp old) (request : Request) (search : Search) (valid : IsRequest request)
-    (is : IsSearchOf request sp search)
-    (few : IsTestOf search.can_split (length (held_of old) < SPLIT_LIMIT_MIN_HELD)) where
+    (is : IsSearchOf request sp search) where
   some : 0 < search.size
   some = omega (arith, valid.some, is.size)
 
   seen : within (Some (window_of search)) (blocks_state sp old) ≡ within request.window (blocks_state sp old)
   seen = seen_by request.window sp (held_of old) search is.window
 
-  none_granted : (r : Range) (new : List Block) (answer : Result Taken Refusal) → IsNotExact request.policy → OnErr answer (new ≡ old) →
+  none_granted : (counted : ℕ) (r : Range) (new : List Block) (answer : Result Taken Refusal) → IsNotExact request.policy → OnErr answer (new ≡ old) →
       HasNoPlace search old → answer ≡ Err NoPlace →
-      Grants (blocks_state sp old) request (taken_range (with_error r answer)) (blocks_state sp new)
-  none_granted r new answer policy u none e =
+      Grants counted (blocks_state sp old) request (taken_range (with_error r answer)) (blocks_state sp new)
+  none_granted counted r new answer policy u none e =
       let u2 : new ≡ old = subst (λ (v : Result Taken Refusal). OnErr v (new ≡ old)) e u in
       let p = no_place_in (window_of search) search.size search.alignment (blocks_state sp old) old (as_blocks sp old tiles) some none in
-      rw (e, u2) (none_grants request (blocks_state sp old) policy (rw (← seen, ← is.size, ← is.align) p))
+      rw (e, u2) (none_grants request (blocks_state sp old) policy _ (rw (← seen, ← is.size, ← is.align) p))
 
   fit_in_gap : (place : ListPlace) → IsFit search.size search.alignment (cut_to (window_of search) (free_block place.key)) place.start →
       (place.key.start ≤ place.start) × (place.start + search.size ≤ place.key.end + 1)
@@ -194,13 +193,13 @@ module _ (sp : Range) (old : List Block) (tiles : TilesSpace sp old) (request : 
       place.lower place.upper (free_block place.key) place.start s.cut s.none s.fit in
       (fit_in_gap place s.fit.0, highest_chosen request place.start (blocks_state sp old) policy (rw (← seen, ← is.size, ← is.align) l))
 
-  pub fit_grants : (end : End) (r : Range) (new : List Block) (answer : Result Taken Refusal) → request.policy ≡ policy_of end →
+  pub fit_grants : (counted : ℕ) → IsTestOf search.can_split (counted < SPLIT_LIMIT_MIN_HELD) → (end : End) (r : Range) (new : List Block) (answer : Result Taken Refusal) → request.policy ≡ policy_of end →
       OnErr answer (new ≡ old) → AllocatesFit end search old new answer →
-      Grants (blocks_state sp old) request (taken_range (with_error r answer)) (blocks_state sp new)
-  fit_grants end r new answer policy u h =
+      Grants counted (blocks_state sp old) request (taken_range (with_error r answer)) (blocks_state sp new)
+  fit_grants counted few end r new answer policy u h =
       ⊎_elim
-      (λ n. none_granted r new answer (not_exact end policy) u n.0 n.1)
+      (λ n. none_granted _ r new answer (not_exact end policy) u n.0 n.1)
       (λ s.
       let k = place_chosen end policy s.0 s.1 in
-      settled sp old tiles search some s.0 s.1.cut k.0 few request (sym is.size) (not_exact end policy) k.1 r new answer u s.2)
+      settled sp old tiles search some s.0 s.1.cut k.0 counted few request (sym is.size) (not_exact end policy) k.1 r new answer u s.2)
       h

@@ -91,14 +91,13 @@ held_blocks_are [] = refl
 held_blocks_are (b ∷ bs) = one_of b.state b.key (held_blocks bs) (held_of bs) (held_blocks_are bs)
 
 -- A tree in which gaps are split is low.
-pub low_if_few : (s : Shape) (can_split : Bool) → IsBlockTree s → IsTestOf can_split (length (held_of (blocks s)) < SPLIT_LIMIT_MIN_HELD) →
-    can_split ≡ true → height_of s < 48
-low_if_few s true h t e =
+pub low_if_few : (s : Shape) (can_split : Bool) → IsBlockTree s →
+    (can_split ≡ true → length (held_of (blocks s)) ≤ SPLIT_LIMIT_MIN_HELD) → can_split ≡ true → height_of s < 48
+low_if_few s can_split h t e =
     ⊎_elim
     (λ (l : height_of s < 48). l)
-    (λ (l : 48 ≤ height_of s). absurd (omega (arith, high_tree_held s h.tree h.run l, held_blocks_are (blocks s), t)))
+    (λ (l : 48 ≤ height_of s). absurd (omega (arith, high_tree_held s h.tree h.run l, held_blocks_are (blocks s), t e)))
     (cases_lt (height_of s) 48)
-low_if_few s false h t e = absurd (cc e)
 
 -- ---- The meaning of a refusal and of a range
 -- The place is in a gap of the list, and the range of the search lies in this gap.
@@ -157,7 +156,6 @@ upto_end Last h n count p = p
 
 module _ (sp : Range) (old new : Shape) (tiles : TilesSpace sp (blocks old)) (range : sp.start ≤ sp.end) (tree : IsBlockTree old)
     (request : Request) (search : Search) (valid : IsRequest request) (is : IsSearchOf request sp search)
-    (few : IsTestOf search.can_split (length (held_of (blocks old)) < SPLIT_LIMIT_MIN_HELD))
     (searched : IsSearch search) (r : Range) (found : Result Taken Refusal) (u : OnErr found (new ≡ old)) (count : ℕ) where
   abbrev bounds : Type 0
   bounds = IsSearchCount (window_of search) search.size search.alignment
@@ -179,7 +177,8 @@ module _ (sp : Range) (old new : Shape) (tiles : TilesSpace sp (blocks old)) (ra
       IfOk (with_error r found) (λ taken. Takes search.can_split request.size (blocks old) (blocks new) taken)
   takes_none e = rw e tt
 
-  all_of : Grants (blocks_state sp (blocks old)) request (taken_range (with_error r found)) (blocks_state sp (blocks new)) →
+  all_of : ((counted : ℕ) → IsTestOf search.can_split (counted < SPLIT_LIMIT_MIN_HELD) →
+      Grants counted (blocks_state sp (blocks old)) request (taken_range (with_error r found)) (blocks_state sp (blocks new))) →
       IfOk (with_error r found) (λ taken. Takes search.can_split request.size (blocks old) (blocks new) taken)
       → count ≡ nodes_of_request request sp old →
       IsGrantCount (height_of old) (blocks_state sp (blocks old)) request (taken_range (with_error r found)) count
@@ -208,7 +207,8 @@ module _ (sp : Range) (old new : Shape) (tiles : TilesSpace sp (blocks old)) (ra
     pub fit_allocation : IsAllocation request sp search.can_split old new (with_error r found) count
     fit_allocation =
         all_of
-        (fit_grants sp (blocks old) tiles request search valid is few end r (blocks new) found policy (blocks_unchanged old new found u) h)
+        (λ counted few. fit_grants sp (blocks old) tiles request search valid is counted few end r (blocks new) found policy
+        (blocks_unchanged old new found u) h)
         (⊎_elim (λ n. takes_none n.1) (λ s. settled_takes search request.size (blocks old) (blocks new) r s.0 found is.size
         (place_of s.0 s.1) s.2) h)
         fit_exact
@@ -220,7 +220,7 @@ module _ (sp : Range) (old new : Shape) (tiles : TilesSpace sp (blocks old)) (ra
         (subst (AllocatesFit end search (blocks old) (blocks new)) (no_place_if r found e) h)))))
       where
         place_of : (place : ListPlace) → IsClosestPlace end search (blocks old) place → IsPlaceOf search (blocks old) place
-        place_of place s = let k = place_chosen sp (blocks old) tiles request search valid is few end policy place s in record
+        place_of place s = let k = place_chosen sp (blocks old) tiles request search valid is end policy place s in record
             { cut = s.cut; in_gap = k.0 }
 
 -- ---- The named place
@@ -267,10 +267,10 @@ module _ (sp : Range) (old : Shape) (request : Request) (search : Search) (t : �
   some_entered count i m u e = rw (policy, ← is.window, ← is.size, looked_for seen search.size t i m u) e
 
   -- An error before the search.
-  refused : (can_split : Bool) (e : Error) → Grants (blocks_state sp (blocks old)) request (Err e) (blocks_state sp (blocks old)) →
+  refused : (can_split : Bool) (e : Error) → ((counted : ℕ) → Grants counted (blocks_state sp (blocks old)) request (Err e) (blocks_state sp (blocks old))) →
       0 ≡ nodes_of_request request sp old → IsAllocation request sp can_split old old (Err e) 0
   refused can_split e g c = record {
-    granted = g;
+    granted = λ counted few. g counted;
     taken = tt;
     unchanged = refl;
     exact = c;
@@ -278,46 +278,45 @@ module _ (sp : Range) (old : Shape) (request : Request) (search : Search) (t : �
     search = exact_searches request t (height_of old) (blocks_state sp (blocks old)) (Err e) 0 policy;
   }
 
-  by_start : (e : Error) →
-      Grants (blocks_state sp (blocks old)) (request_in request.window request.size request.align (ExactMatch t)) (Err e)
-      (blocks_state sp (blocks old)) → Grants (blocks_state sp (blocks old)) request (Err e) (blocks_state sp (blocks old))
-  by_start e g = subst (λ (v : Request). Grants (blocks_state sp (blocks old)) v (Err e) (blocks_state sp (blocks old)))
+  by_start : (counted : ℕ) (e : Error) →
+      Grants counted (blocks_state sp (blocks old)) (request_in request.window request.size request.align (ExactMatch t)) (Err e)
+      (blocks_state sp (blocks old)) → Grants counted (blocks_state sp (blocks old)) request (Err e) (blocks_state sp (blocks old))
+  by_start counted e g = subst (λ (v : Request). Grants counted (blocks_state sp (blocks old)) v (Err e) (blocks_state sp (blocks old)))
       (with_policy request (ExactMatch t) policy) g
 
-  at_max_grants : t ≡ MAX →
-      Grants (blocks_state sp (blocks old)) (request_in request.window request.size request.align (ExactMatch t)) (Err Overflow)
+  at_max_grants : (counted : ℕ) → t ≡ MAX →
+      Grants counted (blocks_state sp (blocks old)) (request_in request.window request.size request.align (ExactMatch t)) (Err Overflow)
       (blocks_state sp (blocks old))
   unfolding Grants ByExactPolicy ByStart
-  at_max_grants e = inl (e, (refl, refl))
+  at_max_grants counted e = inl (e, (refl, refl))
 
-  outside_grants : t < MAX → (IsIn (part_in request.window sp) t → ⊥) →
-      Grants (blocks_state sp (blocks old)) (request_in request.window request.size request.align (ExactMatch t)) (Err ResourceNotAvailable)
+  outside_grants : (counted : ℕ) → t < MAX → (IsIn (part_in request.window sp) t → ⊥) →
+      Grants counted (blocks_state sp (blocks old)) (request_in request.window request.size request.align (ExactMatch t)) (Err ResourceNotAvailable)
       (blocks_state sp (blocks old))
   unfolding Grants ByExactPolicy ByStart
-  outside_grants m out = inr (λ e. omega arith, inl (out, (refl, refl)))
+  outside_grants counted m out = inr (λ e. omega arith, inl (out, (refl, refl)))
 
-  over_grants : t < MAX → IsIn (part_in request.window sp) t → MAX < t + request.size - 1 →
-      Grants (blocks_state sp (blocks old)) (request_in request.window request.size request.align (ExactMatch t)) (Err Overflow)
+  over_grants : (counted : ℕ) → t < MAX → IsIn (part_in request.window sp) t → MAX < t + request.size - 1 →
+      Grants counted (blocks_state sp (blocks old)) (request_in request.window request.size request.align (ExactMatch t)) (Err Overflow)
       (blocks_state sp (blocks old))
   unfolding Grants ByExactPolicy ByStart
-  over_grants m i o = inr (λ e. omega arith, inr (i, inl (o, (refl, refl))))
+  over_grants counted m i o = inr (λ e. omega arith, inr (i, inl (o, (refl, refl))))
 
   pub exact_at_max : (can_split : Bool) → t ≡ MAX → IsAllocation request sp can_split old old (Err Overflow) 0
-  exact_at_max can_split e = refused can_split Overflow (by_start Overflow (at_max_grants e)) (none_entered (λ i m u. omega (arith, e, m)))
+  exact_at_max can_split e = refused can_split Overflow (λ counted. by_start counted Overflow (at_max_grants counted e)) (none_entered (λ i m u. omega (arith, e, m)))
 
   pub exact_outside : (can_split : Bool) → t < MAX → (IsIn seen t → ⊥) →
       IsAllocation request sp can_split old old (Err ResourceNotAvailable) 0
-  exact_outside can_split m out = refused can_split ResourceNotAvailable (by_start ResourceNotAvailable (outside_grants m (not_seen out)))
+  exact_outside can_split m out = refused can_split ResourceNotAvailable (λ counted. by_start counted ResourceNotAvailable (outside_grants counted m (not_seen out)))
       (none_entered (λ i m u. out i))
 
   pub exact_over : (can_split : Bool) → t < MAX → IsIn seen t → MAX < t + (search.size - 1) →
       IsAllocation request sp can_split old old (Err Overflow) 0
   exact_over can_split m i o = refused can_split Overflow
-      (by_start Overflow (over_grants m (as_seen i) (omega (arith, o, is.size, valid.some)))) (none_entered (λ i m u. omega (arith, u, o)))
+      (λ counted. by_start counted Overflow (over_grants counted m (as_seen i) (omega (arith, o, is.size, valid.some)))) (none_entered (λ i m u. omega (arith, u, o)))
 
 module _ (sp : Range) (old new : Shape) (tiles : TilesSpace sp (blocks old)) (request : Request) (search : Search) (t : ℕ)
     (valid : IsRequest request) (is : IsSearchOf request sp search) (policy : request.policy ≡ ExactMatch t)
-    (few : IsTestOf search.can_split (length (held_of (blocks old)) < SPLIT_LIMIT_MIN_HELD))
     (found : Result Taken Refusal) (u : OnErr found (new ≡ old)) (count : ℕ) (h : AllocatesExact search t (blocks old) (blocks new) found)
     (m : t < MAX) (i : IsIn (common (window_of search) sp) t) (upto : t + search.size ≤ MAX + 1) where
   abbrev range : Range
@@ -354,7 +353,7 @@ module _ (sp : Range) (old new : Shape) (tiles : TilesSpace sp (blocks old)) (re
   pub exact_allocation : count ≡ nodes_to_address t old → IsPathLength old count →
       IsAllocation request sp search.can_split old new (with_error range found) count
   exact_allocation exact path = record {
-    granted = exact_grants sp (blocks old) tiles request search valid is few t policy m (omega arith)
+    granted = λ counted few. exact_grants sp (blocks old) tiles request search valid is counted few t policy m (omega arith)
         (omega (arith, i.0), omega (arith, i.1)) (blocks new) found (blocks_unchanged old new found u) h;
     taken = taken_by h.block.state refl h.settles;
     unchanged = unchanged_if range old new found u;

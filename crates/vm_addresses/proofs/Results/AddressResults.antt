@@ -35,18 +35,18 @@ pub record IsAllocation (old : AddressState) (request : Request) (answer : Resul
   pub given : answer ≡ Ok (span from request.size)
   pub left : new ≡ holding (span from request.size) old
 
-taken_outcome : (request : Request) (old new : AddressState) (answer : Result Range Error) → 0 < request.size →
-    IsTaken request old answer new → IsRefused old answer new ⊎ IsAllocation old request answer new
-taken_outcome request old new answer some t =
+taken_outcome : (counted : ℕ) (request : Request) (old new : AddressState) (answer : Result Range Error) → 0 < request.size →
+    IsTaken counted request old answer new → IsRefused old answer new ⊎ IsAllocation old request answer new
+taken_outcome counted request old new answer some t =
     ⊎_elim
     (λ g. inr (record { from = t.0; some = some; place = chosen_place request t.0 old t.1; not_max = t.2; given = g.0; left = g.1 }))
     (λ l. inl l)
-    (given_or_refused old (span t.0 request.size) answer new t.3)
+    (given_or_refused _ old (span t.0 request.size) answer new t.3)
 
 pub outcome : (request : Request) (old new : AddressState) (answer : Result Range Error) → Allocates old request answer new →
     IsRefused old answer new ⊎ IsAllocation old request answer new
 outcome request old new answer h =
-    ⊎_elim (λ l. inl l) (λ k. taken_outcome request old new answer k.0.some k.1) (allocates_outcome old new answer request h)
+    ⊎_elim (λ l. inl l) (λ k. taken_outcome _ request old new answer k.0.some k.1) (allocates_outcome old new answer request h)
 
 -- A success is an allocation.
 pub gets : (request : Request) (old new : AddressState) (r : Range) → Allocates old request (Ok r) new → IsAllocation old request (Ok r) new
@@ -87,17 +87,17 @@ allocated_state old new request answer i h =
     (λ (g : IsAllocation old request answer new). given_state old new request answer g i)
     (outcome request old new answer h)
 
-pub granted_state : (old new : AddressState) (request : Request) (answer : Result Range Error) → IsRequest request → IsAddressState old →
-    Grants old request answer new → IsAddressState new
-granted_state old new request answer r i h =
+pub granted_state : (counted : ℕ) (old new : AddressState) (request : Request) (answer : Result Range Error) → IsRequest request → IsAddressState old →
+    Grants counted old request answer new → IsAddressState new
+granted_state counted old new request answer r i h =
     ⊎_elim
     (λ (l : IsRefused old answer new). subst IsAddressState (sym l.2) i)
-    (λ (t : IsTaken request old answer new).
+    (λ (t : IsTaken counted request old answer new).
     ⊎_elim
     (λ (l : IsRefused old answer new). subst IsAddressState (sym l.2) i)
     (λ (g : IsAllocation old request answer new). given_state old new request answer g i)
-    (taken_outcome request old new answer r.some t))
-    (grants_outcome old new answer request h)
+    (taken_outcome _ request old new answer r.some t))
+    (grants_outcome old new answer _ request h)
 
 pub ruleset granted = (granted_state)
 

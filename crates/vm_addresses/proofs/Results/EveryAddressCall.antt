@@ -44,7 +44,7 @@ use Rattle.vm_addresses.specs.Held.{first_fault, BySpace, MakesHeld, MakesWithHe
 use Rattle.vm_tree.specs.Building.{TOO_MANY_BLOCKS}
 use Rattle.vm_addresses.specs.Tree.Blocks.{blocks_of}
 use Rattle.vm_addresses.specs.Several.{RefusesOne, AllocatesAll}
-use Rattle.vm_addresses.specs.Moves.{IsFor, MovesRange}
+use Rattle.vm_addresses.specs.Moves.{MovesRange}
 use Rattle.vm_addresses.specs.Holes.{holes_after, last_range_end, wrong_index, MakesWithFree}
 use Rattle.vm_addresses.specs.Histories.AddressHistories.{Allocate, AllocateAll, Free, MoveTo, Clone, IsCallFrom}
 use Rattle.vm_addresses.specs.Laws.HistoryLaws.{EveryAddressCallIsAnswered}
@@ -65,8 +65,8 @@ use Rattle.vm_ranges.specs.declared.constraint.AllocPolicy.{AllocPolicy}
 use Rattle.vm_ranges.specs.declared.constraint.AllocPolicy.TheVariants.{FirstMatch, LastMatch, ExactMatch}
 use Rattle.vm_ranges.proofs.Decisions.{Decided, decided_below, decided_up_to, decided_alignment, decided_start, lowest_or_none, highest_or_none}
 use Rattle.vm_addresses.proofs.Trees.HeldTrees.{first_fault_known}
-use Rattle.vm_addresses.proofs.Results.Moves.{move_refused, move_stays}
-use Rattle.vm_addresses.proofs.Decisions.{decided_all_clear, decided_split, decided_place, decided_inside, decided_held, decided_for, decided_range}
+use Rattle.vm_addresses.proofs.Results.Moves.{move_refused}
+use Rattle.vm_addresses.proofs.Decisions.{decided_all_clear, decided_split, decided_place, decided_inside, decided_held, decided_range}
 
 -- ---- A result of a relation, by deciding its conditions
 -- The relation is true for some result other than OutOfMemory and some next state.
@@ -91,11 +91,11 @@ total_unless old C P Q (inl y) p q = let k = q y in (k.0, k.1, inr (y, k.2), k.3
 total_unless old C P Q (inr n) p q = (p.0, p.1, inl (n, p.2), p.3)
 
 -- ---- Each request has a result
-taken : (old : AddressState) (r : Range) → IsTotal (AllocatesAt old r)
+taken : (counted : ℕ) (old : AddressState) (r : Range) → IsTotal (AllocatesAt counted old r)
 unfolding AllocatesAt
-taken old r =
+taken counted old r =
     total_unless old _ (IsGiven old r) _ (decided_split old r) (Ok r, holding r old, (refl, refl), λ h. absurd (cc h)) (λ _.
-    total_if old _ (Refuses old Overflow) _ (decided_up_to SPLIT_LIMIT_MIN_HELD (length old.held)) (refusal old Overflow (λ e. cc e)) (λ _.
+    total_if old _ (Refuses old Overflow) _ (decided_up_to SPLIT_LIMIT_MIN_HELD counted) (refusal old Overflow (λ e. cc e)) (λ _.
     (Ok r, holding r old, inl (refl, refl), λ h. absurd (cc h))))
 
 -- Either there is no place in the window, or the policy chooses a place.
@@ -130,13 +130,13 @@ exact_choice_of : (w : Option Range) (n a t : ℕ) (old : AddressState) → IsPl
 unfolding IsChosen
 exact_choice_of w n a t old p = inr (t, (refl, p))
 
-total_place : (request : Request) (old : AddressState) → HasChoice request old →
-    IsTotal (λ answer new. ByPlace request old (λ e. Refuses old e answer new) (λ r. AllocatesAt old r answer new))
+total_place : (counted : ℕ) (request : Request) (old : AddressState) → HasChoice request old →
+    IsTotal (λ answer new. ByPlace request old (λ e. Refuses old e answer new) (λ r. AllocatesAt counted old r answer new))
 unfolding ByPlace
-total_place request old (inl none) = (Err ResourceNotAvailable, old, inl (none, (refl, refl)), λ h. absurd (cc h))
-total_place request old (inr (s, chosen)) =
-    let last = total_if old (s + request.size - 1 ≡ MAX) (Refuses old Overflow) (AllocatesAt old (span s request.size))
-    (cases_eq (s + request.size - 1) MAX) (refusal old Overflow (λ e. cc e)) (λ n. taken old (span s request.size)) in
+total_place counted request old (inl none) = (Err ResourceNotAvailable, old, inl (none, (refl, refl)), λ h. absurd (cc h))
+total_place counted request old (inr (s, chosen)) =
+    let last = total_if old (s + request.size - 1 ≡ MAX) (Refuses old Overflow) (AllocatesAt counted old (span s request.size))
+    (cases_eq (s + request.size - 1) MAX) (refusal old Overflow (λ e. cc e)) (λ n. taken _ old (span s request.size)) in
     (last.0, last.1, inr (s, chosen, last.2), last.3)
 
 total_start : (t n : ℕ) (old view : AddressState) (Rest : Result Range Error → AddressState → Type 0) → (AreClear n view t → IsTotal Rest) →
@@ -152,14 +152,14 @@ total_start t n old view Rest rest =
     (λ clear.
     total_if old _ (Refuses old Overflow) Rest (cases_eq (t + n - 1) MAX) (refusal old Overflow (λ e. cc e)) (λ _. rest clear))))))
 
-total_grants : (policy : AllocPolicy) (w : Option Range) (n a : ℕ) (old : AddressState) → 0 < n → IsStartAligned a policy →
-    IsTotal (Grants old (request_in w n a policy))
+total_grants : (counted : ℕ) (policy : AllocPolicy) (w : Option Range) (n a : ℕ) (old : AddressState) → 0 < n → IsStartAligned a policy →
+    IsTotal (Grants counted old (request_in w n a policy))
 unfolding Grants ByExactPolicy IsStartAligned IsPlace
-total_grants FirstMatch w n a old some aligned = total_place (request_in w n a FirstMatch) old (lowest_choice w n a old some)
-total_grants LastMatch w n a old some aligned = total_place (request_in w n a LastMatch) old (highest_choice w n a old some)
-total_grants (ExactMatch t) w n a old some aligned =
+total_grants counted FirstMatch w n a old some aligned = total_place _ (request_in w n a FirstMatch) old (lowest_choice w n a old some)
+total_grants counted LastMatch w n a old some aligned = total_place _ (request_in w n a LastMatch) old (highest_choice w n a old some)
+total_grants counted (ExactMatch t) w n a old some aligned =
     total_start t n old (within w old) _
-    (λ clear. total_place (request_in w n a (ExactMatch t)) old (exact_choice_of w n a t old (aligned, clear)))
+    (λ clear. total_place _ (request_in w n a (ExactMatch t)) old (exact_choice_of w n a t old (aligned, clear)))
 
 total_allocates : (old : AddressState) (request : Request) → IsTotal (Allocates old request)
 unfolding Allocates ByConstraint
@@ -168,7 +168,7 @@ total_allocates old request =
     total_unless old _ (Refuses old InvalidAlignment) _ (decided_alignment request.align) (refusal old InvalidAlignment (λ e. cc e)) (λ _.
     total_unless old _ (Refuses old UnalignedAddress) _ (decided_start request.align request.policy)
     (refusal old UnalignedAddress (λ e. cc e)) (λ aligned.
-    total_grants request.policy request.window request.size request.align old (omega (arith, some)) aligned)))
+    total_grants _ request.policy request.window request.size request.align old (omega (arith, some)) aligned)))
 
 -- ---- Freeing a range, moving a range and creating an allocator have a result
 total_frees : (old : AddressState) (r : Range) →
@@ -180,24 +180,20 @@ total_frees old r =
     (λ (not_held : Contains old.held r → ⊥). (Err ResourceNotAvailable, old, inr (not_held, (refl, refl)), λ h. absurd (cc h)))
     (decided_held old.held r)
 
--- A move for another range has the result of its allocation.
+-- A move of a held range has the result of its allocation.
 moved_by : (old mid : AddressState) (r : Range) (request : Request) (answer : Result Range Error) → Contains old.held r →
-    ¬ IsFor r request → Allocates old request answer mid → (new : AddressState) × MovesRange old r request answer new
+    Allocates (releasing r old) request answer mid → (new : AddressState) × MovesRange old r request answer new
 unfolding MovesRange
-moved_by old mid r request (Ok q) c n a = (releasing r mid, inr (c, inr (n, (mid, a, refl))))
-moved_by old mid r request (Err e) c n a = (old, inr (c, inr (n, (mid, a, refl))))
+moved_by old mid r request (Ok q) c a = (mid, inr (c, (mid, a, refl)))
+moved_by old mid r request (Err e) c a = (old, inr (c, (mid, a, refl)))
 
 total_moves : (old : AddressState) (r : Range) (request : Request) → IsTotal (MovesRange old r request)
 total_moves old r request =
     ⊎_elim
     (λ (held : Contains old.held r).
-    ⊎_elim
-    (λ (same : IsFor r request). (Ok r, old, move_stays old r request held same, λ h. absurd (cc h)))
-    (λ (other : ¬ IsFor r request).
-    let a = total_allocates old request in
-    let m = moved_by old a.1 r request a.0 held other a.2 in
+    let a = total_allocates (releasing r old) request in
+    let m = moved_by old a.1 r request a.0 held a.2 in
     (a.0, m.0, m.1, a.3))
-    (decided_for r request))
     (λ (none : ¬ Contains old.held r). (Err ResourceNotAvailable, old, move_refused old r request none, λ h. absurd (cc h)))
     (decided_held old.held r)
 

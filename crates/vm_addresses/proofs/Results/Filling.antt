@@ -1,5 +1,5 @@
 -- An allocation that fills its gap succeeds, and so does freeing a held range.
-use Rattle.std.proofs.Common.{◌≡◌, ℕ, ◌+◌, ◌-◌, ◌<◌, ◌≤◌, arith, refl, inl, ⊎_elim, subst, Option, Result, Err, IsOk}
+use Rattle.std.proofs.Common.{◌≡◌, ℕ, ◌+◌, ◌-◌, ◌<◌, ◌≤◌, arith, refl, inl, ⊎_elim, subst, Option, Result, Err, IsOk, length}
 use Rattle.std.specs.List.{Contains}
 use Rattle.vm_ranges.specs.Cases.{IfElse, Unless}
 use Rattle.vm_ranges.specs.Range.{Range, MAX, IsIn, span}
@@ -44,26 +44,26 @@ clear_not_held n t state z c h =
     (held_address state.held (span t n) t (held_contains state.held (span t n) h) (omega arith, omega arith))
 
 -- The range at s is allocated, or Overflow if it ends at MAX.
-abbrev pub TakesBelowMax : AddressState → ℕ → ℕ → Result Range Error → AddressState → Type 0
-TakesBelowMax old n s answer new = IfElse (s + n - 1 ≡ MAX) ((answer ≡ Err Overflow) × (new ≡ old)) (AllocatesAt old (span s n) answer new)
+abbrev pub TakesBelowMax : ℕ → AddressState → ℕ → ℕ → Result Range Error → AddressState → Type 0
+TakesBelowMax counted old n s answer new = IfElse (s + n - 1 ≡ MAX) ((answer ≡ Err Overflow) × (new ≡ old)) (AllocatesAt counted old (span s n) answer new)
 
 -- The result of a request whose chosen place is s.
 module _ (s : ℕ) (old new : AddressState) (answer : Result Range Error) where
-  by_place : (request : Request) → IsChosen request old s →
-      ByPlace request old (λ e. (answer ≡ Err e) × (new ≡ old)) (λ r. AllocatesAt old r answer new) →
-      TakesBelowMax old request.size s answer new
+  by_place : (counted : ℕ) (request : Request) → IsChosen request old s →
+      ByPlace request old (λ e. (answer ≡ Err e) × (new ≡ old)) (λ r. AllocatesAt counted old r answer new) →
+      TakesBelowMax counted old request.size s answer new
   unfolding ByPlace
-  by_place request c h =
+  by_place counted request c h =
       ⊎_elim
       (λ u. absurd (u.0 s (place_in_window request s old c)))
-      (λ u. subst (λ (v : ℕ). TakesBelowMax old request.size v answer new) (chosen_once request u.0 s old u.1 c) u.2)
+      (λ u. subst (λ (v : ℕ). TakesBelowMax counted old request.size v answer new) (chosen_once request u.0 s old u.1 c) u.2)
       h
 
   -- A clear start passes every test except possibly the last.
-  start_chosen : (t n : ℕ) (view : AddressState) (P : Type 0) → 0 < n → t + n - 1 ≤ MAX → s ≡ t → AreClear n view t →
-      (P → TakesBelowMax old n s answer new) → ByStart t n view (λ e. (answer ≡ Err e) × (new ≡ old)) P → TakesBelowMax old n s answer new
+  start_chosen : (counted : ℕ) (t n : ℕ) (view : AddressState) (P : Type 0) → 0 < n → t + n - 1 ≤ MAX → s ≡ t → AreClear n view t →
+      (P → TakesBelowMax counted old n s answer new) → ByStart t n view (λ e. (answer ≡ Err e) × (new ≡ old)) P → TakesBelowMax counted old n s answer new
   unfolding ByStart
-  start_chosen t n view P z m e clear rest h =
+  start_chosen counted t n view P z m e clear rest h =
       let inside : IsIn view.space t = (clear t (omega arith) (omega arith)).0 in
       ⊎_elim
       (λ k. inl (omega (arith, k.0), k.1))
@@ -73,29 +73,29 @@ module _ (s : ℕ) (old new : AddressState) (answer : Result Range Error) where
       (given _ _ _ clear (otherwise _ _ _ (clear_not_held n t view z clear) (otherwise _ _ _ (λ o. omega arith) (given _ _ _ inside k.1)))))
       h
 
-  chosen_by : (policy : AllocPolicy) (w : Option Range) (n a : ℕ) → 0 < n → s + n - 1 ≤ MAX → IsChosen (request_in w n a policy) old s →
-      Grants old (request_in w n a policy) answer new → TakesBelowMax old n s answer new
+  pub chosen_by : (counted : ℕ) (policy : AllocPolicy) (w : Option Range) (n a : ℕ) → 0 < n → s + n - 1 ≤ MAX → IsChosen (request_in w n a policy) old s →
+      Grants counted old (request_in w n a policy) answer new → TakesBelowMax counted old n s answer new
   unfolding Grants ByExactPolicy
-  chosen_by FirstMatch w n a z m c h = by_place (request_in w n a FirstMatch) c h
-  chosen_by LastMatch w n a z m c h = by_place (request_in w n a LastMatch) c h
-  chosen_by (ExactMatch t) w n a z m c h =
+  chosen_by counted FirstMatch w n a z m c h = by_place _ (request_in w n a FirstMatch) c h
+  chosen_by counted LastMatch w n a z m c h = by_place _ (request_in w n a LastMatch) c h
+  chosen_by counted (ExactMatch t) w n a z m c h =
       let request = request_in w n a (ExactMatch t) in
       let e : s ≡ t = exact_start w n a s t old c in
       let clear : AreClear n (within w old) t = subst (AreClear n (within w old)) e
       (place_clear n a s (within w old) (place_in_window request s old c)) in
-      start_chosen t n (within w old) _ z (omega arith) e clear (by_place request c) h
+      start_chosen _ t n (within w old) _ z (omega arith) e clear (by_place _ request c) h
 
 -- The result of a valid request is that of `Grants`.
 pub request_grants : (request : Request) (old new : AddressState) (answer : Result Range Error) → IsRequest request →
-    Allocates old request answer new → Grants old request answer new
+    Allocates old request answer new → Grants (length old.held) old request answer new
 unfolding Allocates ByConstraint
 request_grants request old new answer r h = given _ _ _ r.start
     (given _ _ _ r.aligned (otherwise _ _ _ (λ k. let z = r.some in omega arith) h))
 
 -- The chosen place of a valid request is allocated, or Overflow if its range ends at MAX.
 pub allocates_chosen : (request : Request) (s : ℕ) (old new : AddressState) (answer : Result Range Error) → IsRequest request →
-    s + request.size - 1 ≤ MAX → IsChosen request old s → Allocates old request answer new → TakesBelowMax old request.size s answer new
-allocates_chosen request s old new answer r m c h = chosen_by s old new answer request.policy request.window request.size request.align
+    s + request.size - 1 ≤ MAX → IsChosen request old s → Allocates old request answer new → TakesBelowMax (length old.held) old request.size s answer new
+allocates_chosen request s old new answer r m c h = chosen_by s old new answer _ request.policy request.window request.size request.align
     r.some m c (request_grants request old new answer r h)
 
 -- A valid request makes a constraint.

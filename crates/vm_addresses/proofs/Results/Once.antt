@@ -71,28 +71,28 @@ module _ (old new later : AddressState) (answer other : Result Range Error) wher
   given_once : (r : Range) → (answer ≡ Ok r) × (new ≡ holding r old) → (other ≡ Ok r) × (later ≡ holding r old) → Agree
   given_once r a b = inl (a.0 ∙ sym b.0, a.1 ∙ sym b.1)
 
-  takes_once : (r : Range) → AllocatesAt old r answer new → AllocatesAt old r other later → Agree
+  takes_once : (counted : ℕ) (r : Range) → AllocatesAt counted old r answer new → AllocatesAt counted old r other later → Agree
   unfolding AllocatesAt
-  takes_once r p q =
+  takes_once counted r p q =
       both_unless _ _ _ _ _ Agree (given_once r)
       (both _ _ _ _ _ Agree (refused_once Overflow)
       (λ a b. ⊎_elim (λ g. ⊎_elim (given_once r g) (λ m. inr (inr m.0)) b) (λ m. inr (inl m.0)) a)) p q
 
-  place_once : (request : Request) → ByPlace request old (Refused old answer new) (λ r. AllocatesAt old r answer new) →
-      ByPlace request old (Refused old other later) (λ r. AllocatesAt old r other later) → Agree
+  place_once : (counted : ℕ) (request : Request) → ByPlace request old (Refused old answer new) (λ r. AllocatesAt counted old r answer new) →
+      ByPlace request old (Refused old other later) (λ r. AllocatesAt counted old r other later) → Agree
   unfolding ByPlace
-  place_once request p q =
+  place_once counted request p q =
       let n = request.size in
       ⊎_elim
       (λ u. ⊎_elim (λ v. refused_once ResourceNotAvailable u.1 v.1) (λ v. absurd (u.0 v.0 (place_in_window request v.0 old v.1))) q)
       (λ u. ⊎_elim (λ v. absurd (v.0 u.0 (place_in_window request u.0 old u.1)))
       (λ v.
       let e : v.0 ≡ u.0 = chosen_once request v.0 u.0 old v.1 u.1 in
-      let w : IfElse (u.0 + n - 1 ≡ MAX) (Refused old other later Overflow) (AllocatesAt old (span u.0 n) other later) = subst
-      (λ (s : ℕ). IfElse (s + n - 1 ≡ MAX) (Refused old other later Overflow) (AllocatesAt old (span s n) other later)) e v.2 in
-      both (u.0 + n - 1 ≡ MAX) (Refused old answer new Overflow) (AllocatesAt old (span u.0 n) answer new)
-      (Refused old other later Overflow) (AllocatesAt old (span u.0 n) other later) Agree
-      (refused_once Overflow) (takes_once (span u.0 n)) u.2 w)
+      let w : IfElse (u.0 + n - 1 ≡ MAX) (Refused old other later Overflow) (AllocatesAt counted old (span u.0 n) other later) = subst
+      (λ (s : ℕ). IfElse (s + n - 1 ≡ MAX) (Refused old other later Overflow) (AllocatesAt counted old (span s n) other later)) e v.2 in
+      both (u.0 + n - 1 ≡ MAX) (Refused old answer new Overflow) (AllocatesAt counted old (span u.0 n) answer new)
+      (Refused old other later Overflow) (AllocatesAt counted old (span u.0 n) other later) Agree
+      (refused_once Overflow) (takes_once _ (span u.0 n)) u.2 w)
       q)
       p
 
@@ -107,19 +107,19 @@ module _ (old new later : AddressState) (answer other : Result Range Error) wher
       (both_unless _ _ _ _ _ Agree (refused_once _)
       (both _ _ _ _ _ Agree (refused_once _) rest)))))
 
-  grants_by : (policy : AllocPolicy) (w : Option Range) (n a : ℕ) → Grants old (request_in w n a policy) answer new →
-      Grants old (request_in w n a policy) other later → Agree
+  grants_by : (counted : ℕ) (policy : AllocPolicy) (w : Option Range) (n a : ℕ) → Grants counted old (request_in w n a policy) answer new →
+      Grants counted old (request_in w n a policy) other later → Agree
   unfolding Grants ByExactPolicy
-  grants_by FirstMatch w n a p q = place_once (request_in w n a FirstMatch) p q
-  grants_by LastMatch w n a p q = place_once (request_in w n a LastMatch) p q
-  grants_by (ExactMatch t) w n a p q = start_once t n (within w old) _ _ (place_once (request_in w n a (ExactMatch t))) p q
+  grants_by counted FirstMatch w n a p q = place_once _ (request_in w n a FirstMatch) p q
+  grants_by counted LastMatch w n a p q = place_once _ (request_in w n a LastMatch) p q
+  grants_by counted (ExactMatch t) w n a p q = start_once t n (within w old) _ _ (place_once _ (request_in w n a (ExactMatch t))) p q
 
   request_once : (request : Request) → Allocates old request answer new → Allocates old request other later → Agree
   unfolding Allocates ByConstraint
   request_once request p q =
       both _ _ _ _ _ Agree (refused_once _)
       (both_unless _ _ _ _ _ Agree (refused_once _)
-      (both_unless _ _ _ _ _ Agree (refused_once _) (grants_by request.policy request.window request.size request.align))) p q
+      (both_unless _ _ _ _ _ Agree (refused_once _) (grants_by _ request.policy request.window request.size request.align))) p q
 
 pub allocates_once : AllocatesOnce
 allocates_once old new later request answer other = request_once old new later answer other request

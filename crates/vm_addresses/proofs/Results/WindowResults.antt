@@ -1,5 +1,5 @@
 -- Requests with a window beside the same requests without a window.
-use Rattle.std.proofs.Common.{◌≡◌, ℕ, ◌+◌, ◌-◌, ◌<◌, ◌≤◌, ◌⊎◌, Option, Some, None, refl, sym, ap, arith, inr, ⊎_elim, subst, Result, Ok, Err}
+use Rattle.std.proofs.Common.{◌≡◌, ℕ, ◌+◌, ◌-◌, ◌<◌, ◌≤◌, ◌⊎◌, Option, Some, None, refl, sym, ap, arith, inr, ⊎_elim, subst, Result, Ok, Err, length}
 use Rattle.vm_ranges.specs.Cases.{IfElse}
 use Rattle.vm_ranges.specs.Range.{Range, MAX, Covers, span}
 use Rattle.vm_ranges.specs.Request.{Request, ByConstraint}
@@ -30,14 +30,14 @@ same_space w old p q =
     ap (λ (v : Range). record old { space = v }) (same_range (common w old.space) old.space (omega (arith, p)) (omega (arith, q)))
 
 -- The result of a request that sees the state as the view.
-module _ (old new : AddressState) (answer : Result Range Error) (n a : ℕ) where
+module _ (counted : ℕ) (old new : AddressState) (answer : Result Range Error) (n a : ℕ) where
   abbrev AsChosen : (AddressState → ℕ → Type 0) → AddressState → Type 0
   AsChosen chosen view =
       (((s : ℕ) → ¬ IsPlace n a view s) × ((answer ≡ Err ResourceNotAvailable) × (new ≡ old)))
-      ⊎ ((s : ℕ) × chosen view s × IfElse (s + n - 1 ≡ MAX) ((answer ≡ Err Overflow) × (new ≡ old)) (AllocatesAt old (span s n) answer new))
+      ⊎ ((s : ℕ) × chosen view s × IfElse (s + n - 1 ≡ MAX) ((answer ≡ Err Overflow) × (new ≡ old)) (AllocatesAt counted old (span s n) answer new))
 
-  same_view : (policy : AllocPolicy) (u v : Option Range) → within u old ≡ within v old → Grants old (request_in u n a policy) answer new →
-      Grants old (request_in v n a policy) answer new
+  same_view : (policy : AllocPolicy) (u v : Option Range) → within u old ≡ within v old → Grants counted old (request_in u n a policy) answer new →
+      Grants counted old (request_in v n a policy) answer new
   unfolding Grants ByExactPolicy ByPlace IsChosen
   same_view FirstMatch u v e h = subst (AsChosen (λ view s. IsLowestPlace n a view s)) e h
   same_view LastMatch u v e h = subst (AsChosen (λ view s. IsHighestPlace n a view s)) e h
@@ -47,8 +47,8 @@ module _ (old new : AddressState) (answer : Result Range Error) (n a : ℕ) wher
 
 -- A request with another window, by its results if it is valid.
 other_window : (old new : AddressState) (answer : Result Range Error) (request : Request) (u v : Option Range)
-    → (Grants old (request_in u request.size request.align request.policy) answer new →
-    Grants old (request_in v request.size request.align request.policy) answer new)
+    → (Grants (length old.held) old (request_in u request.size request.align request.policy) answer new →
+    Grants (length old.held) old (request_in v request.size request.align request.policy) answer new)
     → Allocates old (request_in u request.size request.align request.policy) answer new →
     Allocates old (request_in v request.size request.align request.policy) answer new
 unfolding Allocates ByConstraint
@@ -60,9 +60,9 @@ pub whole_window : WholeWindowIsNone
 whole_window old new request w answer p q =
     let e = same_space w old p q in (
       other_window old new answer request (Some w) None
-          (same_view old new answer request.size request.align request.policy (Some w) None e),
+          (same_view (length old.held) old new answer request.size request.align request.policy (Some w) None e),
       other_window old new answer request None (Some w)
-          (same_view old new answer request.size request.align request.policy None (Some w) (sym e)),
+          (same_view (length old.held) old new answer request.size request.align request.policy None (Some w) (sym e)),
     )
 
 -- ---- A range that lies in the window
@@ -77,37 +77,37 @@ module _ (w : Range) (n a : ℕ) (old new : AddressState) (r : Range) (z : 0 < n
   lies : (s : ℕ) → r ≡ span s n → LiesIn w n s
   lies s e = covered w n s z (subst (Covers w) e c)
 
-  kept_place : (policy : AllocPolicy) →
+  kept_place : (counted : ℕ) (policy : AllocPolicy) →
       ((s : ℕ) → LiesIn w n s → IsChosen (request_in None n a policy) old s → IsChosen (request_in (Some w) n a policy) old s)
-      → ByPlace (request_in None n a policy) old (λ e. (Ok r ≡ Err e) × (new ≡ old)) (λ p. AllocatesAt old p (Ok r) new) →
-      ByPlace (request_in (Some w) n a policy) old (λ e. (Ok r ≡ Err e) × (new ≡ old)) (λ p. AllocatesAt old p (Ok r) new)
+      → ByPlace (request_in None n a policy) old (λ e. (Ok r ≡ Err e) × (new ≡ old)) (λ p. AllocatesAt counted old p (Ok r) new) →
+      ByPlace (request_in (Some w) n a policy) old (λ e. (Ok r ≡ Err e) × (new ≡ old)) (λ p. AllocatesAt counted old p (Ok r) new)
   unfolding ByPlace
-  kept_place policy f h =
+  kept_place counted policy f h =
       ⊎_elim
       (λ l. absurd (cc (l.1.0)))
       (λ k.
       ⊎_elim
       (λ o. absurd (cc (o.1.0)))
-      (λ o. inr (k.0, f k.0 (lies k.0 (given_is old (span k.0 n) r new o.1)) k.1, inr o))
+      (λ o. inr (k.0, f k.0 (lies k.0 (given_is _ old (span k.0 n) r new o.1)) k.1, inr o))
       k.2)
       h
 
-  kept : (policy : AllocPolicy) → IsChosen (request_in None n a policy) old r.start → r ≡ span r.start n →
-      Grants old (request_in None n a policy) (Ok r) new → Grants old (request_in (Some w) n a policy) (Ok r) new
+  kept : (counted : ℕ) (policy : AllocPolicy) → IsChosen (request_in None n a policy) old r.start → r ≡ span r.start n →
+      Grants counted old (request_in None n a policy) (Ok r) new → Grants counted old (request_in (Some w) n a policy) (Ok r) new
   unfolding Grants ByExactPolicy IsChosen IsLowestPlace IsHighestPlace
-  kept FirstMatch chosen long h = kept_place FirstMatch
+  kept counted FirstMatch chosen long h = kept_place _ FirstMatch
       (λ s i l. (place_lying w n a old z s i l.0, λ t p. l.1 t (place_anywhere (Some w) n a t old p))) h
-  kept LastMatch chosen long h = kept_place LastMatch
+  kept counted LastMatch chosen long h = kept_place _ LastMatch
       (λ s i l. (place_lying w n a old z s i l.0, λ t p. l.1 t (place_anywhere (Some w) n a t old p))) h
-  kept (ExactMatch t) chosen long h =
+  kept counted (ExactMatch t) chosen long h =
       let i = lies r.start long in
-      narrow_grants w n a t old z (omega (arith, i.0, chosen.0), omega (arith, i.1, chosen.0)) (λ clear. omega (arith, i.1, chosen.0)) new
+      narrow_grants w n a t old z (omega (arith, i.0, chosen.0), omega (arith, i.1, chosen.0)) (λ clear. omega (arith, i.1, chosen.0)) _ new
       (Ok r) h
 
 pub kept_in_window : KeptInWindow
 kept_in_window old new request w r h c =
     let g = given old new (anywhere request) r h in
     other_window old new (Ok r) request None (Some w)
-    (λ k. kept w request.size request.align old new r g.some c request.policy g.chosen g.long k) h
+    (λ k. kept w request.size request.align old new r g.some c _ request.policy g.chosen g.long k) h
 
 pub ruleset windows = (inside, whole_window, kept_in_window)

@@ -1,12 +1,13 @@
 -- Calls that are made of several allocations and frees, and the nodes that these parts enter.
-use Rattle.std.specs.Prelude.{◌≡◌, ℕ, ◌*◌, ◌≤◌, List, length, Result, Ok, OnErr}
+use Rattle.std.specs.Prelude.{◌≡◌, ℕ, ◌*◌, ◌≤◌, ◌⊎◌, List, length, Result, Ok, OnErr}
 use Rattle.std.specs.List.{All, Contains}
 use Rattle.vm_ranges.specs.Histories.{IsHistory}
 use Rattle.vm_ranges.specs.Range.{Range}
 use Rattle.vm_ranges.specs.Request.{Request}
+use Rattle.vm_ranges.specs.declared.constraint.AllocPolicy.TheVariants.{ExactMatch}
 use Rattle.vm_ranges.specs.declared.error.Error.{Error}
 use Rattle.vm_tree.specs.Shape.{Shape, height_of}
-use Rattle.vm_addresses.specs.Answer.{Allocates, Frees}
+use Rattle.vm_addresses.specs.Answer.{AllocatesOf, Frees}
 use Rattle.vm_addresses.specs.Counts.Steps.{EntersToAllocate, IsAllocationCount, IsFreeCount, max_entered}
 use Rattle.vm_addresses.specs.Tree.BalancedTree.{IsBalancedTreeOf}
 use Rattle.vm_addresses.specs.Allocator.{state_of}
@@ -16,10 +17,11 @@ pub data Part : Type 0 where
   Allocating : Request → Result Range Error → ℕ → Part
   Freeing : Range → ℕ → Part
 
--- The part has its result and its count in the balanced tree old, and leaves the tree new. An error leaves the same tree.
+-- The part has its result and its count in the balanced tree old, and leaves the tree new. An error leaves the same tree. A range that
+-- will be freed need not count for the limit of splits.
 abbrev pub HasPart : Shape → Part → Shape → Type 0
 HasPart old (Allocating request answer count) new =
-    IsBalancedTreeOf (state_of old) old × Allocates (state_of old) request answer (state_of new)
+    IsBalancedTreeOf (state_of old) old × ((counted : ℕ) × AllocatesOf counted (state_of old) request answer (state_of new))
     × EntersToAllocate old request count × IsAllocationCount (height_of old) (state_of old) request answer count
     × OnErr answer (new ≡ old)
 HasPart old (Freeing r count) new =
@@ -29,12 +31,13 @@ HasPart old (Freeing r count) new =
 abbrev pub HasParts : Shape → List Part → Shape → Type 0
 HasParts = IsHistory HasPart
 
--- The part is a free, or an allocation for one of the requests.
+-- The part is a free, or an allocation with the policy of one of the requests or at a start.
 abbrev pub IsPartFor : List Request → Part → Type 0
-IsPartFor requests (Allocating request answer count) = Contains requests request
+IsPartFor requests (Allocating request answer count) =
+    (asked : Request) × Contains requests asked × ((request.policy ≡ asked.policy) ⊎ ((start : ℕ) × (request.policy ≡ ExactMatch start)))
 IsPartFor requests (Freeing r count) = Unit {0}
 
--- The tree new comes from the tree old by at most n parts: frees, and allocations for the requests.
+-- The tree new comes from the tree old by at most n parts: frees, and allocations that are parts for the requests.
 pub record TakesParts (n : ℕ) (old : Shape) (requests : List Request) (new : Shape) : Type 0 where
   pub parts : List Part
   pub from : HasParts old parts new

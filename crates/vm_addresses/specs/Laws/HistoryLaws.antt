@@ -1,5 +1,5 @@
 -- Laws of every history of an address allocator that was made or read.
-use Rattle.std.specs.Prelude.{◌≡◌, ◌≢◌, ℕ, ◌+◌, ◌-◌, ◌<◌, ◌≤◌, ◌⊎◌, ◌↔◌, List, [], ◌∷◌, ◌++◌, Result, Ok, Err}
+use Rattle.std.specs.Prelude.{◌≡◌, ◌≢◌, ℕ, ◌+◌, ◌-◌, ◌<◌, ◌≤◌, ◌⊎◌, ◌↔◌, List, [], ◌∷◌, ◌++◌, length, Result, Ok, Err}
 use Rattle.std.specs.List.{Contains}
 use Rattle.std.specs.List.Sorted.{IsPermutation}
 use Rattle.serde_json.specs.Data.{Data}
@@ -63,7 +63,7 @@ pub record FailsInOrder (old : AddressState) (t n : ℕ) (answer : Result Range 
 pub record IsAnsweredByPlaces (old : AddressState) (request : Request)
     (answer : Result Range Error) (new : AddressState) : Type 0 where
   pub taken : (s : ℕ) → IsChosen request old s → s + request.size - 1 < MAX →
-      AllocatesAt old (span s request.size) answer new
+      AllocatesAt (length old.held) old (span s request.size) answer new
   pub at_max : (s : ℕ) → IsChosen request old s → s + request.size - 1 ≡ MAX → answer ≡ Err Overflow
   pub no_place : (request.policy ≡ FirstMatch) ⊎ (request.policy ≡ LastMatch) →
       ((s : ℕ) → ¬ IsPlace request.size request.align (within request.window old) s) → answer ≡ Err ResourceNotAvailable

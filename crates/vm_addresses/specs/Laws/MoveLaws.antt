@@ -1,10 +1,10 @@
 -- Laws of moves of held ranges.
-use Rattle.std.specs.Prelude.{◌≡◌, ◌↔◌, ◌%◌, [], ◌∷◌, Ok, IfSome}
+use Rattle.std.specs.Prelude.{◌≡◌, ◌↔◌, ℕ, ◌%◌, [], ◌∷◌, Ok, IfSome}
 use Rattle.std.specs.List.{Contains}
-use Rattle.vm_ranges.specs.Range.{Range, Covers, address_count}
-use Rattle.vm_ranges.specs.Request.{Request, IsRequest}
-use Rattle.vm_addresses.specs.Address.{AddressState, AreClear}
-use Rattle.vm_addresses.specs.Moves.{IsFor, MovesRange}
+use Rattle.vm_ranges.specs.Range.{Range, IsIn, Covers, address_count}
+use Rattle.vm_ranges.specs.Request.{Request}
+use Rattle.vm_addresses.specs.Address.{AddressState, IsClear}
+use Rattle.vm_addresses.specs.Moves.{MovesRange}
 use Rattle.vm_addresses.specs.Histories.AddressHistories.{Allocate, Free, IsHistoryFrom, Reached}
 
 -- The range is as long as requested, starts at a multiple of the requested alignment, and lies in the window of the request.
@@ -16,19 +16,18 @@ pub record IsAsRequested (request : Request) (r : Range) : Type 0 where
 -- A moved range is held, and is as requested.
 abbrev pub MovedIsHeld : Type 0
 MovedIsHeld =
-    (old : Reached) (new : AddressState) (r q : Range) (request : Request) → IsRequest request →
-    MovesRange old.state r request (Ok q) new → Contains new.held q × IsAsRequested request q
+    (old new : AddressState) (r q : Range) (request : Request) →
+    MovesRange old r request (Ok q) new → Contains new.held q × IsAsRequested request q
 
--- The addresses that a range had before it was moved are clear, unless the request was for exactly this range.
+-- Each address that a moved range had only before the move is clear.
 abbrev pub OldPlaceIsClear : Type 0
 OldPlaceIsClear =
     (old : Reached) (new : AddressState) (r q : Range) (request : Request) →
-    MovesRange old.state r request (Ok q) new → ¬ IsFor r request → AreClear (address_count r) new r.start
+    MovesRange old.state r request (Ok q) new → (x : ℕ) → IsIn r x → ¬ IsIn q x → IsClear new x
 
--- A successful move, by a request that is not for exactly the range, is the allocation for the request and the freeing of the
--- range. Its result is that of the allocation, and it leads to the state that both calls lead to.
+-- A successful move is the freeing of the range and then the allocation for the request. Its result is that of the
+-- allocation, and it leads to the state that both calls lead to.
 abbrev pub MoveIsTwoCalls : Type 0
 MoveIsTwoCalls =
-    (old new : AddressState) (r q : Range) (request : Request) → ¬ IsFor r request →
-    MovesRange old r request (Ok q) new ↔
-    (Contains old.held r × IsHistoryFrom old ((Allocate request, Ok q) ∷ (Free r, Ok tt) ∷ []) new)
+    (old new : AddressState) (r q : Range) (request : Request) →
+    MovesRange old r request (Ok q) new ↔ IsHistoryFrom old ((Free r, Ok tt) ∷ (Allocate request, Ok q) ∷ []) new

@@ -1,5 +1,6 @@
 -- The allocation for a request in the tree of a space.
-use Rattle.std.specs.Prelude.{◌≡◌, ℕ, ◌+◌, ◌≤◌, List, Bool, Result, Ok, Err, OnErr, IfOk}
+use Rattle.std.specs.Prelude.{◌≡◌, ℕ, ◌+◌, ◌<◌, ◌≤◌, List, Bool, Result, Ok, Err, OnErr, IfOk}
+use Rattle.vm_ranges.specs.Cases.{IsTestOf}
 use Rattle.vm_ranges.specs.Range.{Range}
 use Rattle.vm_ranges.specs.Request.{Request}
 use Rattle.vm_ranges.specs.declared.error.Error.{Error}
@@ -12,7 +13,7 @@ use Rattle.vm_tree.specs.declared.search.Search.{Search}
 use Rattle.vm_tree.specs.declared.search.Taken.{Taken}
 use Rattle.vm_tree.specs.declared.search.Refusal.{Refusal}
 use Rattle.vm_tree.specs.declared.search.Refusal.TheVariants.{NoPlace, Held, PastMax, OutOfMemory as NoMemory, CannotSplit}
-use Rattle.vm_addresses.specs.Answer.{Grants}
+use Rattle.vm_addresses.specs.Answer.{SPLIT_LIMIT_MIN_HELD, Grants}
 use Rattle.vm_addresses.specs.Counts.GapSearch.{SearchesAligned}
 use Rattle.vm_addresses.specs.Counts.NodeCounts.{nodes_of_request}
 use Rattle.vm_addresses.specs.Counts.Steps.{IsGrantCount}
@@ -57,10 +58,12 @@ pub record Takes (can_split : Bool) (n : ℕ) (old new : List Block) (taken : Ta
   pub split : search.can_split ≡ can_split
   pub range : TakesRange search old new taken
 
--- All about the result of a request: the range, the tree, and the nodes that were entered.
+-- All about the result of a request: the range, the tree, and the nodes that were entered. Gaps are split if fewer ranges than the
+-- limit count.
 pub record IsAllocation (request : Request) (space : Range) (can_split : Bool) (old new : Shape) (answer : Result Taken Error)
     (count : ℕ) : Type 0 where
-  pub granted : Grants (blocks_state space (blocks old)) request (taken_range answer) (blocks_state space (blocks new))
+  pub granted : (counted : ℕ) → IsTestOf can_split (counted < SPLIT_LIMIT_MIN_HELD) →
+      Grants counted (blocks_state space (blocks old)) request (taken_range answer) (blocks_state space (blocks new))
   pub taken : IfOk answer (λ taken. Takes can_split request.size (blocks old) (blocks new) taken)
   pub unchanged : OnErr answer (new ≡ old)
   pub exact : count ≡ nodes_of_request request space old

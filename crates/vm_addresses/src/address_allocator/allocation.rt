@@ -1,5 +1,5 @@
 //! Allocates the range of a request.
-ghost use Rattle.std.specs.Prelude.{◌≡◌, ℕ, ◌<◌, OnErr, IsOk, length};
+ghost use Rattle.std.specs.Prelude.{◌≡◌, ◌≢◌, ℕ, ◌<◌, ◌≤◌, true, None, Err, OnErr, IsOk, length};
 ghost use Rattle.vm_ranges.specs.Cases.{IsTestOf};
 ghost use Rattle.vm_ranges.specs.Request.{Request, IsRequest};
 ghost use Rattle.vm_ranges.specs.declared.constraint.AllocPolicy.TheVariants.{ExactMatch};
@@ -7,7 +7,7 @@ ghost use Rattle.vm_tree.specs.Allocation.{IsSearch};
 ghost use Rattle.vm_tree.specs.Roots.{IsBlockTree};
 ghost use Rattle.vm_tree.specs.Shape.{blocks, height_of};
 ghost use Rattle.vm_addresses.specs.Address.{IsAddressState};
-ghost use Rattle.vm_addresses.specs.Answer.{SPLIT_LIMIT_MIN_HELD, Allocates, FillsGap};
+ghost use Rattle.vm_addresses.specs.Answer.{SPLIT_LIMIT_MIN_HELD, Grants, Allocates, FillsGap};
 ghost use Rattle.vm_addresses.specs.Counts.GapSearch.{SearchesGaps, SearchesAligned};
 ghost use Rattle.vm_addresses.specs.Counts.Steps.{EntersToAllocate, IsAllocationCount};
 ghost use Rattle.vm_addresses.specs.Tree.BalancedTree.{IsBalancedTreeOf};
@@ -18,7 +18,7 @@ ghost use Rattle.vm_addresses.specs.Allocator.{state_of};
 use super::AddressAllocator;
 use std::alloc::Global;
 use vm_ranges::{AllocPolicy, Constraint, Error, NodeState, RangeInclusive, Result};
-use vm_tree::{End, Refusal, Search, Steps, Taken, Tree};
+use vm_tree::{End, Refusal, Search, Spare, Steps, Taken, Tree};
 
 /// If this many ranges are allocated, no gap is split. So no tree gets too high.
 pub(crate) const SPLIT_LIMIT: u64 = 6_293_134_512;
@@ -56,9 +56,35 @@ impl AddressAllocator {
         ensures state { IsAddressState (state_of self.new) }
     {
         let can_split = self.held_count < SPLIT_LIMIT;
+        self.allocate_with(None, alloc, request, can_split)
+    }
+
+    /// Allocates like [`allocate_constraint_counted`](Self::allocate_constraint_counted). It splits gaps only
+    /// if `can_split`. For `ExactMatch` it allocates no memory if there is a `spare`.
+    #[inline(always)]
+    pub(super) fn allocate_with(
+        &mut self,
+        spare: Option<Spare>,
+        alloc: Global,
+        request: Constraint,
+        can_split: bool,
+    ) -> (Result<RangeInclusive>, u64)
+        requires few { can_split ≡ true → length (state_of self.old).held ≤ SPLIT_LIMIT_MIN_HELD }
+        ensures valid { IsRequest request }
+        ensures grants { (counted : ℕ) → IsTestOf can_split (counted < SPLIT_LIMIT_MIN_HELD)
+            → Grants counted (state_of self.old) request result.0 (state_of self.new) }
+        ensures memory { (start : ℕ) → request.policy ≡ ExactMatch start → spare ≢ None
+            → result.0 ≢ Err Error.OutOfMemory }
+        ensures unchanged { OnErr result.0 (self.new ≡ self.old) }
+        ensures count { EntersToAllocate self.old request result.1
+            × IsAllocationCount (height_of self.old) (state_of self.old) request result.0 result.1 }
+        ensures search { SearchesGaps (height_of self.old) (state_of self.old) request result.0 result.1
+            × SearchesAligned (height_of self.old) (state_of self.old) request result.0 result.1 }
+        ensures tree { IsBalancedTreeOf (state_of self.old) self.old × IsAddressState (state_of self.new) }
+    {
         let mut count = Steps::new();
-        let tree = &mut self.tree;
-        let taken = match allocate_in(tree, &self.space, &request, can_split, alloc, &mut count) {
+        let (tree, space) = (&mut self.tree, &self.space);
+        let taken = match allocate_in(tree, space, &request, can_split, spare, alloc, &mut count) {
             Ok(taken) => taken,
             Err(error) => return (Err(error), count.entered()),
         };
@@ -77,15 +103,18 @@ fn allocate_in(
     space: &RangeInclusive,
     constraint: &Constraint,
     can_split: bool,
+    spare: Option<Spare>,
     alloc: Global,
     count: &mut Steps,
 ) -> Result<Taken>
     requires tiling { IsTiling space.now (blocks tree.old) }
-    requires few { IsTestOf can_split (length (held_of (blocks tree.old)) < SPLIT_LIMIT_MIN_HELD) }
+    requires few { can_split ≡ true → length (held_of (blocks tree.old)) ≤ SPLIT_LIMIT_MIN_HELD }
     requires count { count.old ≡ 0 }
     ensures low { IsBlockTree tree.old }
     ensures valid { IsRequest constraint.now }
     ensures answer { IsAllocation constraint.now space.now can_split tree.old tree.new result count.new }
+    ensures memory { (start : ℕ) → constraint.now.policy ≡ ExactMatch start → spare ≢ None
+        → result ≢ Err Error.OutOfMemory }
 {
     // Proof: `height` gives the bounds of the tree.
     let _height = tree.height();
@@ -94,7 +123,7 @@ fn allocate_in(
         AllocPolicy::FirstMatch => End::First,
         AllocPolicy::LastMatch => End::Last,
         AllocPolicy::ExactMatch(start) => {
-            return allocate_exact(tree, space, start, &search, alloc, count);
+            return allocate_exact(tree, space, start, &search, spare, alloc, count);
         }
     };
     with_error(tree.allocate_fit(end, &search, alloc, count), space)
@@ -113,15 +142,17 @@ fn allocate_exact(
     space: &RangeInclusive,
     start: u64,
     search: &Search,
+    spare: Option<Spare>,
     alloc: Global,
     count: &mut Steps,
 ) -> Result<Taken>
     requires tiling { IsTiling space.now (blocks tree.old) }
-    requires few { IsTestOf search.now.can_split (length (held_of (blocks tree.old)) < SPLIT_LIMIT_MIN_HELD) }
+    requires few { search.now.can_split ≡ true → length (held_of (blocks tree.old)) ≤ SPLIT_LIMIT_MIN_HELD }
     requires low { IsBlockTree tree.old }
     requires search { IsSearch search.now }
     requires count { count.old ≡ 0 }
-    ensures { (request : Request) → IsRequest request → request.policy ≡ ExactMatch start
+    ensures memory { spare ≢ None → result ≢ Err Error.OutOfMemory }
+    ensures answer { (request : Request) → IsRequest request → request.policy ≡ ExactMatch start
         → IsSearchOf request space.now search.now
         → IsAllocation request space.now search.now.can_split tree.old tree.new result count.new }
 {
@@ -136,7 +167,7 @@ fn allocate_exact(
         return Err(Error::Overflow);
     };
     let range = RangeInclusive::between(start, last);
-    with_error(tree.allocate_exact(start, search, alloc, count), &range)
+    with_error(tree.allocate_exact(start, search, spare, alloc, count), &range)
 }
 
 /// Returns the search of a request in a space.

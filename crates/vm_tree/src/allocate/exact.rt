@@ -1,14 +1,14 @@
 //! The allocation of a range that starts at a given address.
-ghost use Rattle.std.specs.Prelude.{◌≡◌, ◌+◌, ◌<◌, ◌≤◌};
+ghost use Rattle.std.specs.Prelude.{◌≡◌, ◌≢◌, ◌+◌, ◌<◌, ◌≤◌, None, IfErr, IfSome};
 ghost use Rattle.vm_ranges.specs.Range.{MAX};
 ghost use Rattle.vm_tree.specs.Shape.{blocks, height_of};
 ghost use Rattle.vm_tree.specs.Links.{side, IsSummed};
 ghost use Rattle.vm_tree.specs.Growth.{IsSubtree, IsChild, GrowsIfOk, GrowsBelowIfOk, CanTakeFrom, LeavesLeaf};
-ghost use Rattle.vm_tree.specs.Allocation.{IsSearch, AllocatesExact};
+ghost use Rattle.vm_tree.specs.Allocation.{IsSearch, AllocatesExact, IsOutOfMemory};
 ghost use Rattle.vm_tree.specs.NodeCounts.{nodes_to_address};
 ghost use Rattle.vm_tree.specs.Placing.{IsStartIn, RefusesIn, FindsExactPlace};
 
-use super::place::{Place, allocate_at, leaf_of};
+use super::place::{Place, Spare, allocate_at, leaf_of};
 use crate::change::update;
 use crate::link::{Link, Node};
 use crate::search::{Refusal, Search, Taken};
@@ -23,7 +23,8 @@ use vm_ranges::{NodeState, RangeInclusive};
 #[tactic(auto, using(crate::proofs::Allocating::refusing))]
 fn refusal_in(block: &Block, range: &RangeInclusive, search: &Search) -> Option<Refusal>
     requires { range.now.end + 1 ≡ range.now.start + search.now.size }
-    ensures { RefusesIn search.now range.now.start block.now result }
+    ensures refuses { RefusesIn search.now range.now.start block.now result }
+    ensures memory { IfSome result (λ refusal. ¬ IsOutOfMemory refusal) }
 {
     let end = range.end();
     match block.state {
@@ -49,7 +50,8 @@ fn refusal_in(block: &Block, range: &RangeInclusive, search: &Search) -> Option<
 fn exact_place(leaf: &Leaf, start: u64, search: &Search) -> Result<Place, Refusal>
     requires search { IsSearch search.now }
     requires start { IsStartIn search.now start leaf.now }
-    ensures { FindsExactPlace search.now start leaf.now result }
+    ensures place { FindsExactPlace search.now start leaf.now result }
+    ensures memory { IfErr result (λ refusal. ¬ IsOutOfMemory refusal) }
 {
     // Proof: `len` gives the facts of a leaf.
     let _len = leaf.len();
@@ -71,6 +73,7 @@ pub(crate) fn exact_in_leaf(
     lone: bool,
     start: u64,
     search: &Search,
+    spare: Option<Spare>,
     alloc: Global,
 ) -> Result<Taken, Refusal>
     requires search { IsSearch search.now }
@@ -80,9 +83,10 @@ pub(crate) fn exact_in_leaf(
     ensures answer { AllocatesExact search.now start
         (blocks (side tree.old)) (blocks (side tree.new)) result }
     ensures left { LeavesLeaf lone result tree.old tree.new }
+    ensures memory { spare ≢ None → IfErr result (λ refusal. ¬ IsOutOfMemory refusal) }
 {
     let place = exact_place(leaf_of(tree), start, search)?;
-    allocate_at(tree, lone, place, search, alloc)
+    allocate_at(tree, lone, place, search, spare, alloc)
 }
 
 /// Allocates the range of a search that starts at `start` below a node.
@@ -92,6 +96,7 @@ fn exact_below(
     node: &mut Node,
     start: u64,
     search: &Search,
+    spare: Option<Spare>,
     alloc: Global,
     count: &mut Steps,
 ) -> Result<Taken, Refusal>
@@ -100,13 +105,14 @@ fn exact_below(
     requires tree { IsSubtree node.old }
     requires count_fits { count.old + nodes_to_address start node.old ≤ MAX + 1 }
     ensures answer { AllocatesExact search.now start (blocks node.old) (blocks node.new) result }
+    ensures memory { spare ≢ None → IfErr result (λ refusal. ¬ IsOutOfMemory refusal) }
     ensures change { GrowsBelowIfOk result node.old node.new }
     ensures count { count.new + 1 ≡ count.old + nodes_to_address start node.old }
 {
     if start < node.at {
-        return exact_at(&mut node.left, start, search, alloc, count);
+        return exact_at(&mut node.left, start, search, spare, alloc, count);
     }
-    exact_at(&mut node.right, start, search, alloc, count)
+    exact_at(&mut node.right, start, search, spare, alloc, count)
 }
 
 /// Allocates the range of a search that starts at `start`, and updates what is stored beside the link.
@@ -116,6 +122,7 @@ pub(crate) fn exact_at(
     tree: &mut Link,
     start: u64,
     search: &Search,
+    spare: Option<Spare>,
     alloc: Global,
     count: &mut Steps,
 ) -> Result<Taken, Refusal>
@@ -125,6 +132,7 @@ pub(crate) fn exact_at(
     requires count_fits { count.old + nodes_to_address start (side tree.old) ≤ MAX }
     ensures answer { AllocatesExact search.now start
         (blocks (side tree.old)) (blocks (side tree.new)) result }
+    ensures memory { spare ≢ None → IfErr result (λ refusal. ¬ IsOutOfMemory refusal) }
     ensures change { GrowsIfOk result (side tree.old) (side tree.new) }
     ensures summed { IsSummed tree.new }
     ensures count { count.new ≡ count.old + nodes_to_address start (side tree.old) }
@@ -133,10 +141,10 @@ pub(crate) fn exact_at(
     match tree {
         // A hole is filled before the call returns.
         Link::Hole => unreachable!(),
-        Link::Leaf { .. } => exact_in_leaf(tree, false, start, search, alloc),
+        Link::Leaf { .. } => exact_in_leaf(tree, false, start, search, spare, alloc),
         Link::Fork { node, .. } => {
             let node: &mut Node = node;
-            let mut answer = exact_below(node, start, search, alloc, count);
+            let mut answer = exact_below(node, start, search, spare, alloc, count);
             if let Ok(taken) = &mut answer {
                 taken.change = update(tree, taken.change);
             }

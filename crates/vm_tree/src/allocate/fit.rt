@@ -71,7 +71,7 @@ pub(crate) fn fit_in_leaf(
 {
     match place_in(leaf_of(tree), end, search) {
         None => Err(Refusal::NoPlace),
-        Some(place) => allocate_at(tree, lone, place, search, alloc),
+        Some(place) => allocate_at(tree, lone, place, search, None, alloc),
     }
 }
 

@@ -1,11 +1,11 @@
 //! The allocation of a range at a place in a leaf, which may split the leaf in two.
-ghost use Rattle.std.specs.Prelude.{◌≡◌, ◌+◌, ◌<◌, ◌≤◌, length, OnErr, IfOk, MatchBool};
+ghost use Rattle.std.specs.Prelude.{◌≡◌, ◌+◌, ◌<◌, ◌≤◌, ◌≢◌, length, None, OnErr, IfErr, IfOk, IsOk, MatchBool};
 ghost use Rattle.vm_leaf.specs.Blocks.{IsTakenFrom};
 ghost use Rattle.vm_leaf.specs.Rest.{IsRest, added_by};
 ghost use Rattle.vm_tree.specs.Shape.{Tip, blocks, height_of};
 ghost use Rattle.vm_tree.specs.Links.{side, IsSummed};
 ghost use Rattle.vm_tree.specs.Growth.{Grows, CanTakeFrom, IsTakenLeaf, LeavesLeaf};
-ghost use Rattle.vm_tree.specs.Allocation.{SettlesAt};
+ghost use Rattle.vm_tree.specs.Allocation.{SettlesAt, IsOutOfMemory};
 ghost use Rattle.vm_tree.specs.Placing.{in_list, with_place, IsLeafPlace, IsPlaceFor, RefusesPlace};
 
 use crate::change::Change;
@@ -140,20 +140,43 @@ fn take(tree: &mut Link, lone: bool, place: &Place) -> Change
     }
 }
 
-/// Allocates a box for a leaf and one for a node.
-fn spare_boxes(place: &Place, alloc: Global) -> Result<(Box<Leaf>, Box<Node>), AllocError> {
-    let block = Block {
-        key: place.range,
-        state: NodeState::Allocated,
-    };
-    let leaf = Box::new(alloc, Leaf::single(block))?;
-    let empty = Node {
-        at: 0,
-        left: Link::Hole,
-        right: Link::Hole,
-    };
-    let node = Box::new(alloc, empty)?;
-    Ok((leaf, node))
+/// The memory for the split of a leaf: a leaf and a node.
+#[derive(Debug, Drop)]
+pub struct Spare {
+    leaf: Box<Leaf>,
+    node: Box<Node>,
+}
+
+impl Spare {
+    /// Allocates a leaf and a node. The leaf has one block, of `range`.
+    pub fn new(alloc: Global, range: RangeInclusive) -> Result<Spare, AllocError> {
+        let block = Block {
+            key: range,
+            state: NodeState::Allocated,
+        };
+        let leaf = Box::new(alloc, Leaf::single(block))?;
+        let empty = Node {
+            at: 0,
+            left: Link::Hole,
+            right: Link::Hole,
+        };
+        let node = Box::new(alloc, empty)?;
+        Ok(Spare { leaf, node })
+    }
+}
+
+/// Returns the memory for the split of a leaf: `spare`, or new memory if there is none.
+fn spare_or_new(
+    spare: Option<Spare>,
+    range: RangeInclusive,
+    alloc: Global,
+) -> Result<Spare, AllocError>
+    ensures { spare ≢ None → IsOk result }
+{
+    match spare {
+        Some(spare) => Ok(spare),
+        None => Spare::new(alloc, range),
+    }
 }
 
 /// Allocates the range of a place in a leaf that has no room for it, which is split in two. Returns the
@@ -178,7 +201,12 @@ fn halve(mut lower: Box<Leaf>, place: &Place, mut upper: Box<Leaf>, spare: Box<N
 ///
 /// All memory is allocated before the first change.
 #[inline(never)]
-fn split_leaf(tree: &mut Link, place: Place, alloc: Global) -> Result<(), AllocError>
+fn split_leaf(
+    tree: &mut Link,
+    place: Place,
+    spare: Option<Spare>,
+    alloc: Global,
+) -> Result<(), AllocError>
     requires leaf { height_of (side tree.old) < 2 }
     requires some { 0 < length (blocks (side tree.old)) }
     requires place { IsLeafPlace (blocks (side tree.old)) place }
@@ -188,15 +216,17 @@ fn split_leaf(tree: &mut Link, place: Place, alloc: Global) -> Result<(), AllocE
     ensures grows { IfOk result (λ _. Grows (side tree.old) (side tree.new) × IsSummed tree.new
         × (2 ≤ height_of (side tree.new))) }
     ensures unchanged { OnErr result (tree.new ≡ tree.old) }
+    ensures spare { spare ≢ None → IsOk result }
 {
-    let (upper, node) = spare_boxes(&place, alloc)?;
+    let spare = spare_or_new(spare, place.range, alloc)?;
     let lower = into_leaf(mem::replace(tree, Link::Hole));
-    *tree = halve(lower, &place, upper, node);
+    *tree = halve(lower, &place, spare.leaf, spare.node);
     Ok(())
 }
 
 /// Allocates the range of a place in a leaf, which may become a node with two leaves. Unless the leaf is the
-/// whole tree (`lone`), it updates what is stored beside the link.
+/// whole tree (`lone`), it updates what is stored beside the link. It allocates no memory if there is a
+/// `spare`.
 #[inline(always)]
 #[tactic(auto, using(crate::proofs::AllocatedLeaves::placing))]
 pub(super) fn allocate_at(
@@ -204,6 +234,7 @@ pub(super) fn allocate_at(
     lone: bool,
     place: Place,
     search: &Search,
+    spare: Option<Spare>,
     alloc: Global,
 ) -> Result<Taken, Refusal>
     requires leaf { height_of (side tree.old) < 2 }
@@ -212,6 +243,7 @@ pub(super) fn allocate_at(
     ensures answer { SettlesAt search.now
         (in_list (blocks (side tree.old)) place) (blocks (side tree.new)) result }
     ensures left { LeavesLeaf lone result tree.old tree.new }
+    ensures memory { spare ≢ None → IfErr result (λ refusal. ¬ IsOutOfMemory refusal) }
 {
     if let Some(refusal) = refusal_of(&place, search) {
         return Err(refusal);
@@ -225,7 +257,7 @@ pub(super) fn allocate_at(
             change,
         });
     }
-    split_leaf(tree, place, alloc)?;
+    split_leaf(tree, place, spare, alloc)?;
     Ok(Taken {
         range,
         added,

@@ -1,8 +1,8 @@
-use Rattle.std.proofs.Common.{◌≡◌, sym, subst, arith}
+use Rattle.std.proofs.Common.{◌≡◌, ◌<◌, subst, arith}
 use Rattle.vm_ranges.specs.Request.{Request}
 use Rattle.vm_addresses.specs.Allocator.{state_of}
-use Rattle.vm_addresses.specs.Moves.{IsFor, request_to, MovesRange}
-use Rattle.vm_addresses.proofs.Results.Moves.{start_is_valid, own_start, made_to, move_to_fits}
+use Rattle.vm_addresses.specs.Moves.{request_to, MovesRange}
+use Rattle.vm_addresses.proofs.Results.Moves.{start_is_valid, made_to, move_to_fits}
 use Rattle.vm_addresses.proofs.address_allocator.AddressAllocator.move_range.Goals as goal
 
 -- The request is the one to the start.
@@ -23,7 +23,3 @@ pub returns-clause-fits : goal.returns-clause-fits
 returns-clause-fits c =
     move_to_fits (state_of c.args.self.now) (state_of c.move_constraint.new.self) c.args.key.now c.args.start c.move_constraint.result
     (returns-clause-answer c)
-
-pub returns-clause-stays : goal.returns-clause-stays
-returns-clause-stays c = λ held e.
-    c.move_constraint.ensures.stays held (subst (IsFor c.args.key.now) (sym (made c)) (own_start c.args.key.now c.args.start e))

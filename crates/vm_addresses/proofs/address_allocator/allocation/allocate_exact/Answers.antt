@@ -5,13 +5,13 @@ use Rattle.vm_tree.specs.Shape.{blocks}
 use Rattle.vm_addresses.proofs.Placing.Requests.{exact_at_max, exact_outside, exact_over, exact_allocation, start_in}
 use Rattle.vm_addresses.proofs.address_allocator.allocation.allocate_exact.Goals as goal
 
-pub returns-then-start-eq18446744073709551615 : goal.returns-then-start-eq18446744073709551615
-returns-then-start-eq18446744073709551615 c = λ request valid policy is.
+pub returns-then-start-eq18446744073709551615-clause-answer : goal.returns-then-start-eq18446744073709551615-clause-answer
+returns-then-start-eq18446744073709551615-clause-answer c = λ request valid policy is.
     rw c.requires.count (exact_at_max c.args.space.now c.args.tree.now request c.args.search.now c.args.start valid is policy
     c.args.search.now.can_split c.if-start-eq18446744073709551615.true)
 
-pub returns-then-start-from : goal.returns-then-start-from
-returns-then-start-from c = λ request valid policy is.
+pub returns-then-start-from-clause-answer : goal.returns-then-start-from-clause-answer
+returns-then-start-from-clause-answer c = λ request valid policy is.
     let below = c.if-start-eq18446744073709551615.false in
     let fits = c.ranges.start.fits in
     rw c.requires.count (exact_outside c.args.space.now c.args.tree.now request c.args.search.now c.args.start valid is policy
@@ -19,8 +19,8 @@ returns-then-start-from c = λ request valid policy is.
     (λ i. ⊎_elim (λ (l : c.args.start < c.max-from.result). omega (arith, i.0, l, c.max-from.ensures, c.start.ensures.value))
     (λ r. omega (arith, i.1, r.1, c.min-to.ensures, c.end.ensures.value)) c.then-start-from.either))
 
-pub returns-in_default : goal.returns-in_default
-returns-in_default c = λ request valid policy is.
+pub returns-in_default-clause-answer : goal.returns-in_default-clause-answer
+returns-in_default-clause-answer c = λ request valid policy is.
     let below = c.if-start-eq18446744073709551615.false in
     let fits = c.ranges.start.fits in
     let over = c.in_default.ensures in
@@ -41,8 +41,8 @@ allocate_exact-requires-clause-start c =
     (omega (arith, from, c.max-from.ensures, c.start.ensures.value)) (omega (arith, to, c.min-to.ensures, c.end.ensures.value))
     (omega (arith, from, c.max-from.ensures)) (omega (arith, to, c.min-to.ensures)) (omega (arith, fits.0, some))
 
-pub returns : goal.returns
-returns c = λ request valid policy is.
+pub returns-clause-answer : goal.returns-clause-answer
+returns-clause-answer c = λ request valid policy is.
     let fits = c.in-Some.ensures in
     let some = c.requires.search.some in
     let below = c.if-start-eq18446744073709551615.false in
@@ -52,7 +52,7 @@ returns c = λ request valid policy is.
     let h = c.allocate_exact.ensures in
     rw (c.with_error.ensures, range)
     (exact_allocation c.args.space.now c.args.tree.now c.allocate_exact.new.self c.requires.tiling.tiles request c.args.search.now
-    c.args.start valid is policy c.requires.few c.allocate_exact.result h.unchanged c.allocate_exact.new.count h.answer (omega arith) (
+    c.args.start valid is policy c.allocate_exact.result h.unchanged c.allocate_exact.new.count h.answer (omega arith) (
       omega (arith, c.if-start-from.false, c.max-from.ensures, c.start.ensures.value),
       omega
           (arith, c.if-to-start.false, c.min-to.ensures, c.end.ensures.value),

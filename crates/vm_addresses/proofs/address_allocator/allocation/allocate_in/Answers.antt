@@ -1,8 +1,5 @@
-use Rattle.std.proofs.Common.{◌≡◌, ◌<◌, length, sym}
-use Rattle.vm_ranges.specs.Cases.{IsTestOf}
+use Rattle.std.proofs.Common.{◌≡◌, sym}
 use Rattle.vm_tree.specs.Shape.{blocks}
-use Rattle.vm_addresses.specs.Answer.{SPLIT_LIMIT_MIN_HELD}
-use Rattle.vm_addresses.specs.Tree.Blocks.{held_of}
 use Rattle.vm_addresses.proofs.Placing.Requests.{fit_allocation}
 use Rattle.vm_addresses.proofs.Placing.Places.{policy_of}
 use Rattle.vm_addresses.proofs.Trees.Ends.{space_range}
@@ -13,13 +10,11 @@ pub returns-clause-answer : goal.returns-clause-answer
 returns-clause-answer c =
     let s = c.search_of-search.ensures in
     let tree = c.height-height.ensures.tree in
-    let few : IsTestOf c.search_of-search.result.can_split (length (held_of (blocks c.args.tree.now)) < SPLIT_LIMIT_MIN_HELD) = rw s.split
-    c.requires.few in
     let h = c.allocate_fit.ensures in
     let policy : c.args.constraint.now.policy ≡ policy_of c.match-policy.end = elim c.match-policy.branch
     [ in-FirstMatch w ↦ rw w.end-is (sym w.in-FirstMatch.ensures) | in-LastMatch w ↦ rw w.end-is (sym w.in-LastMatch.ensures) ] in
     let range = space_range c.args.space.now (blocks c.args.tree.now) c.requires.tiling.tiles tree.run.some in
     rw (c.with_error.ensures, ← s.split)
     (fit_allocation c.args.space.now c.args.tree.now c.allocate_fit.new.self c.requires.tiling.tiles range tree c.args.constraint.now
-    c.search_of-search.result s.request s.search few s.valid c.args.space.now c.allocate_fit.result h.unchanged c.allocate_fit.new.count
+    c.search_of-search.result s.request s.search s.valid c.args.space.now c.allocate_fit.result h.unchanged c.allocate_fit.new.count
     c.match-policy.end policy h.answer h.count h.bounds h.path)

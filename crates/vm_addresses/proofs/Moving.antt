@@ -1,0 +1,6 @@
+pub mod LeftGaps
+pub mod LeftPlaces
+pub mod Inside
+pub mod Beginning
+pub mod Finishing
+pub mod Places
