@@ -1,4 +1,4 @@
-use Rattle.std.proofs.Common.{◌≡◌, arith, sym, ap, ◌∙◌, subst, Ok, Err, IfSome, rules}
+use Rattle.std.proofs.Common.{◌≡◌, [], ◌∷◌, sym, ap, ◌∙◌, subst, Ok, Err, IfSome, rules}
 use Rattle.std.specs.FinMap as map
 use Rattle.vm_ranges.specs.Range.{Range, Covers}
 use Rattle.vm_ranges.specs.declared.error.Error.TheVariants.{OutOfMemory}
@@ -16,7 +16,8 @@ use Rattle.vm_devices.proofs.DeviceMoves.{
   move_cancelled,
   move_finished,
 }
-use Rattle.vm_devices.proofs.DeviceParts.{then_parts, then_freed_parts}
+use Rattle.vm_addresses.proofs.Counts.TakenParts.{taken_both}
+use Rattle.vm_devices.proofs.DeviceParts.{cancelled_parts}
 use Rattle.vm_devices.proofs.device_manager.DeviceManager.move_constraint.Goals as goal
 
 pub returns-in_err-begun-clause-answer : goal.returns-in_err-begun-clause-answer
@@ -52,7 +53,7 @@ returns-in-Err-clause-unchanged c =
 pub returns-in-Err-clause-parts : goal.returns-in-Err-clause-parts
 returns-in-Err-clause-parts c =
     rw (← c.self.view_is)
-    (then_freed_parts 1 1 3 _ c.begin_move.new.self _ c.args.request c.in_ok-begun.ensures.parts c.cancel_move.ensures.parts (omega arith))
+    (cancelled_parts _ c.begin_move.new.self _ c.args.request c.in_ok-begun.ensures.parts c.cancel_move.ensures.parts)
 
 pub returns-in-Err-clause-state : goal.returns-in-Err-clause-state
 returns-in-Err-clause-state c = invariant_of-self-in-Err c
@@ -88,8 +89,7 @@ returns-clause-inside c =
 pub returns-clause-parts : goal.returns-clause-parts
 returns-clause-parts c =
     rw (← c.self.view_is)
-    (then_parts 1 2 3 _ c.begin_move.new.self _ c.args.request c.in_ok-begun.ensures.parts (c.finish_move.ensures.parts c.args.request)
-    (omega arith))
+    (taken_both 1 2 _ c.begin_move.new.self _ (c.args.request ∷ []) c.in_ok-begun.ensures.parts (c.finish_move.ensures.parts c.args.request))
 
 pub returns-clause-state : goal.returns-clause-state
 returns-clause-state c = invariant_of-self-2 c
