@@ -13,4 +13,4 @@ pub use vm_addresses::{
     Error, ListError, RangeInclusive, Ranges, RangesIn, ReadNodes, Result, SavedError, Side,
     ValueError, WrittenBlocks, WrittenNode, WrittenTree,
 };
-pub use vm_ids::{FreedIds, HeldIds, IdAllocator, ReadIds};
+pub use vm_ids::{FreedIds, HeldIds, IdAllocator, IdRequest, ReadIds};

@@ -15,6 +15,7 @@ use Rattle.vm_ids.proofs.Ids.SameIdCalls.{id_calls_are_determined}
 use Rattle.vm_ids.specs.Histories.IdHistories.{Free as FreeId}
 use Rattle.vm_lines.specs.Commands.{command_of}
 use Rattle.vm_lines.specs.Lines.{newline}
+use Rattle.vm_ids.specs.declared.id_request.IdRequest.TheVariants.{Lowest}
 use Rattle.vm_devices.specs.Devices.{DeviceState}
 use Rattle.vm_devices.specs.Histories.{Reserve, Release}
 use Rattle.vm_devices.proofs.DevicesOnce.{devices_decide}
@@ -139,7 +140,7 @@ does_once (Manager id_lo id_hi base size) old m n x y p q a b =
     (same_outcome done_reply x y a.0 b.0 a.2 b.2 e, a.3 ∙ ap (with_devices old) e ∙ sym b.3)
 does_once (Device size alignment) old m n x y p q a b =
     on_devices_once old m n x y _ _ (λ state later after u v.
-    let same = devices_decide.called state later after (Reserve (request_for size alignment FirstMatch)) u.0 v.0
+    let same = devices_decide.called state later after (Reserve Lowest (request_for size alignment FirstMatch)) u.0 v.0
     (not_memory device_reply x u.0 refl u.2 p) (not_memory device_reply y v.0 refl v.2 q) u.1 v.1 in
     (same_outcome device_reply x y u.0 v.0 u.2 v.2 same.0, same.1)) a b
 does_once (Undevice id) old m n x y p q a b =

@@ -12,6 +12,7 @@ use Rattle.vm_lines.specs.Commands.{command_of}
 use Rattle.vm_lines.specs.Laws.{HasReply, HasText, AreAnsweredInMemory}
 use Rattle.vm_lines.specs.Lines.{newline}
 use Rattle.vm_devices.specs.declared.device_slot.DeviceSlot.{DeviceSlot}
+use Rattle.vm_ids.specs.declared.id_request.IdRequest.TheVariants.{Lowest}
 use Rattle.vm_devices.specs.Devices.{DeviceState}
 use Rattle.vm_devices.specs.Histories.{Reserve, Release}
 use Rattle.vm_devices.proofs.EveryDeviceCall.{every_device_call}
@@ -139,7 +140,7 @@ does_replied (Manager id_lo id_hi base size) old =
     (done_reply h.0, with_devices old h.0, (h.0, h.1, refl, refl), plain_done h.0 h.2)
 does_replied (Device size alignment) old =
     on_devices old _ (λ state. replied device_reply plain_device _
-    (every_device_call.called state (Reserve (request_for size alignment FirstMatch))))
+    (every_device_call.called state (Reserve Lowest (request_for size alignment FirstMatch))))
 does_replied (Undevice id) old =
     on_devices old _ (λ state. replied done_reply plain_done _ (every_device_call.called state (Release id)))
 

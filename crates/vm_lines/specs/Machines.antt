@@ -11,6 +11,7 @@ use Rattle.vm_ids.specs.Ids.{IdState, id_state_code, IsHeld, MakesIds, Allocates
 use Rattle.vm_ranges.specs.declared.constraint.AllocPolicy.TheVariants.{FirstMatch, LastMatch, ExactMatch}
 use Rattle.vm_ranges.specs.declared.error.Error.{Error}
 use Rattle.vm_ranges.specs.declared.error.Error.TheVariants.{InvalidRange}
+use Rattle.vm_ids.specs.declared.id_request.IdRequest.TheVariants.{Lowest}
 use Rattle.vm_devices.specs.declared.device_slot.DeviceSlot.{DeviceSlot}
 use Rattle.vm_devices.specs.Devices.{DeviceState, device_state_code, MakesManager, Reserves, Releases as ReleasesDevice}
 use Rattle.vm_lines.specs.Replies.{done_reply, range_reply, id_reply, device_reply}
@@ -128,7 +129,7 @@ Does old (Manager id_lo id_hi base size) reply new =
 Does old (Device size alignment) reply new =
     OnDevices old reply new (λ state later.
     (answer : Result DeviceSlot Error)
-    × Reserves state (request_for size alignment FirstMatch) answer later
+    × Reserves state Lowest (request_for size alignment FirstMatch) answer later
     × (reply ≡ device_reply answer))
 Does old (Undevice id) reply new =
     OnDevices old reply new (λ state later.

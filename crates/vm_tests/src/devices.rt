@@ -2,12 +2,12 @@
 //!
 //! They guard against a device with an id or a range, but not both.
 use crate::fixtures::{ENOUGH, expect_eq, expect_true};
-use Call::{Exact, First, FirstIn, Last, LookUp, Release};
+use Call::{Exact, First, FirstIn, Last, LookUp, Release, WithId};
 use Expected::{Device, Gone, Held, NeverAllocated, NoSize, NotAvailable, Overflow, Unaligned};
 use std::alloc::Global;
 use std::process::Abort;
 use vm_allocator::allocation_engine::NodeState::Allocated;
-use vm_allocator::{AllocPolicy, Constraint, Error, RangeInclusive, Result};
+use vm_allocator::{AllocPolicy, Constraint, Error, IdRequest, RangeInclusive, Result};
 use vm_devices::DeviceManager;
 
 mod saved;
@@ -24,6 +24,8 @@ enum Call {
     Exact(u64, u64, u64),
     /// Reserves like `First`, in a window by its first and its last address.
     FirstIn(u64, u64, (u64, u64)),
+    /// Reserves with the lowest id from a first to a last one, and the lowest range of a size.
+    WithId(u32, u32, u64),
     /// Releases the device with an id.
     Release(u32),
     /// Looks up the device with an id.
@@ -80,6 +82,9 @@ impl Call {
                 let first = (size, align, AllocPolicy::FirstMatch);
                 return reserve_in(devices, alloc, first, window);
             }
+            WithId(first, last, size) => {
+                return reserve_with_id(devices, alloc, IdRequest::LowestIn(first, last), size);
+            }
             First(size, align) => (size, align, AllocPolicy::FirstMatch),
             Last(size, align) => (size, align, AllocPolicy::LastMatch),
             Exact(size, align, start) => (size, align, AllocPolicy::ExactMatch(start)),
@@ -100,6 +105,13 @@ fn reserve_in(
     let window = RangeInclusive::new(window.0, window.1)?;
     let request = Constraint::new(size, align, policy)?.within(window);
     let slot = devices.reserve_constraint(alloc, request)?;
+    Ok(Some((slot.id, slot.range.start(), slot.range.end())))
+}
+
+/// Reserves a device with an id of a request.
+fn reserve_with_id(devices: &mut DeviceManager, alloc: Global, id: IdRequest, size: u64) -> Answer {
+    let request = Constraint::new(size, 1, AllocPolicy::FirstMatch)?;
+    let slot = devices.reserve_with_id(alloc, id, request)?;
     Ok(Some((slot.id, slot.range.start(), slot.range.end())))
 }
 
@@ -180,6 +192,8 @@ fn both_or_neither(rt: HostRuntime) {
         (Release(4), NeverAllocated(4)),
         (Release(3), Gone),
         (First(1, 1), Device(3, 0, 0)),
+        (WithId(8, 9, 1), Device(8, 1, 1)),
+        (WithId(8, 8, 1), NotAvailable),
     ];
     replay_in(&rt, (3, 9), 0, 4, full);
 }

@@ -98,7 +98,7 @@
 //! search for a range visit more gaps. A walk within a range takes time of the order of log k, plus the
 //! number of ranges and gaps in it. Calls on one id or device take logarithmic time. If such a call makes
 //! the list of freed ids or of devices longer, it can also move the list, in linear time.
-//! `allocate_exact` and `allocate_in` add each id that they skip to the freed ones. Counts, ends,
+//! `allocate_exact`, `allocate_in` and `reserve_with_id` add each id that they skip to the freed ones. Counts, ends,
 //! `height` and `longest_gap` take constant time. Other calls of allocators and managers take at most
 //! linear time.
 //!

@@ -26,7 +26,8 @@ fn expect_one(rt: &impl Abort, devices: &DeviceManager) {
     let exact = Constraint::new(8, 1, AllocPolicy::ExactMatch(0x17FF));
     let request = exact.expect(rt, "it is a request");
     let conflict = Some(Conflict::Allocated(range(rt, 0x1000, 0x17FF)));
-    expect_eq(rt, &devices.conflict(request), &conflict, &request);
+    let addresses = devices.addresses();
+    expect_eq(rt, &addresses.conflict(request), &conflict, &request);
 }
 
 /// Frees an id for the first time, which allocates. Its result shows whether the run is without
