@@ -998,6 +998,19 @@ dvs_status dvs_device_reserve_with_id(dvs_device_manager *manager, uint32_t firs
                                       dvs_device *device, dvs_refusal *refusal);
 
 /*
+ * Moves the device with this id to the place of a request, and writes its range there
+ * to `range`. It keeps its id. The range can overlap the one before.
+ *
+ * Errors, in order:
+ * - Those of dvs_range_allocate() from DVS_INVALID_POLICY to DVS_INVALID_RANGE.
+ * - DVS_NEVER_ALLOCATED, with the id, if no device has it.
+ * - The other errors of dvs_range_move_request(), in the same order.
+ */
+DVS_WARN_UNUSED
+dvs_status dvs_device_move(dvs_device_manager *manager, uint32_t id, const dvs_request *request,
+                           dvs_range *range, dvs_refusal *refusal);
+
+/*
  * Writes to `conflict` why the range of a DVS_EXACT request is not free, like
  * dvs_range_conflict(). The ids do not matter.
  */

@@ -80,6 +80,18 @@ fn refused_device(
     refused(manager.addresses(), request, error, wants_details)
 }
 
+fn move_device(
+    manager: &mut DeviceManager,
+    id: u32,
+    request: Constraint,
+    wants_details: bool,
+) -> Result<dvs_range, CallError> {
+    let moved = manager.move_constraint(Global, id, request);
+    moved
+        .map(Into::into)
+        .map_err(|error| refused(manager.addresses(), request, error, wants_details))
+}
+
 functions! {
     dvs_device_manager_new(first_id: u32, last_id: u32, base: u64, size: u64)
         -> *mut dvs_device_manager [refusal] {
@@ -131,6 +143,10 @@ calls! {
         manager: dvs_device_manager, first_id: u32, last_id: u32; request
     ) -> device: dvs_device [refusal] {
         reserve_request(manager, IdRequest::LowestIn(first_id, last_id), request, refusal.is_some())
+    }
+    with_request dvs_device_move(manager: dvs_device_manager, id: u32; request)
+        -> range: dvs_range [refusal] {
+        move_device(manager, id, request, refusal.is_some())
     }
     with_conflict dvs_device_conflict(manager: dvs_device_manager; request)
         -> conflict: dvs_refusal {

@@ -76,13 +76,9 @@ impl Model {
 
     /// Moves an allocated range, and returns the range that is allocated instead.
     pub fn move_to(&mut self, number: usize, request: Constraint) -> Result<RangeInclusive> {
-        let key = self.held[number];
-        let is_for_key = (request.policy(), request.size()) == (ExactMatch(key.start()), key.len())
-            && request.window().is_none_or(|window| window.contains(&key));
-        let range = match is_for_key {
-            true => key,
-            false => self.allocate(request)?,
-        };
+        let mut rest = self.clone();
+        rest.held.remove(number);
+        let range = rest.allocate(request)?;
         self.held[number] = range;
         Ok(range)
     }

@@ -10,6 +10,7 @@ mod rest;
 mod summary;
 mod walk;
 
+pub(in crate::proved) use self::fits::{highest_fit, lowest_fit};
 pub(in crate::proved) use self::rest::Rest;
 pub(in crate::proved) use self::summary::Summary;
 pub(in crate::proved) use self::walk::Blocks;

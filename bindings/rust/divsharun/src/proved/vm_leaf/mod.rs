@@ -6,4 +6,6 @@ mod block;
 mod leaf;
 
 pub(in crate::proved) use block::Block;
-pub(in crate::proved) use leaf::{Blocks, Fit, Leaf, Rest, Summary, CAPACITY, MIN_BLOCKS};
+pub(in crate::proved) use leaf::{
+    highest_fit, lowest_fit, Blocks, Fit, Leaf, Rest, Summary, CAPACITY, MIN_BLOCKS,
+};

@@ -6,7 +6,7 @@
 
 pub(in crate::proved::vm_tree) mod exact;
 pub(in crate::proved::vm_tree) mod fit;
-mod place;
+pub(in crate::proved::vm_tree) mod place;
 
 use crate::proved::vm_tree::link::{summary, Link};
 use crate::proved::vm_tree::search::{Refusal, Search, Taken};

@@ -20,6 +20,7 @@ mod steps;
 mod tree;
 mod walk;
 
+pub(in crate::proved) use allocate::place::Spare;
 pub(in crate::proved) use end::End;
 pub(in crate::proved) use search::{Refusal, Search, Taken};
 pub(in crate::proved) use steps::Steps;

@@ -9,6 +9,7 @@ use crate::proved::vm_leaf::{Block, Leaf};
 use crate::proved::vm_ranges::{NodeState, RangeInclusive};
 use crate::proved::vm_tree::allocate::exact::{exact_at, exact_in_leaf};
 use crate::proved::vm_tree::allocate::fit::{fit_at, fit_in_leaf};
+use crate::proved::vm_tree::allocate::place::Spare;
 use crate::proved::vm_tree::allocate::{count_place, fits};
 use crate::proved::vm_tree::build::build_tree;
 use crate::proved::vm_tree::change::free_summary;
@@ -135,7 +136,8 @@ impl Tree {
     /// It returns `Held` if exactly this range is allocated, and otherwise `NoPlace` if the range is not in a
     /// gap and in the window. It returns `PastMax` if the range ends at `u64::MAX`, `CannotSplit` if gaps cannot be
     /// split, and `OutOfMemory` if an allocation fails. An error changes nothing. A range that fills its gap
-    /// allocates no memory, and any other range allocates nothing or one leaf and one node.
+    /// allocates no memory, and any other range allocates nothing or one leaf and one node. It takes these from
+    /// `spare` if there is one, and then allocates nothing.
     ///
     /// `start` must be in the space and in the window, and the range must end at most at `u64::MAX`. The search
     /// must be valid, `count` must be at 0, and `can_split` must be `false` from height 48 on.
@@ -143,6 +145,7 @@ impl Tree {
         &mut self,
         start: u64,
         search: &Search,
+        spare: Option<Spare>,
         alloc: Global,
         count: &mut Steps,
     ) -> Result<Taken, Refusal> {
@@ -151,9 +154,11 @@ impl Tree {
             Link::Hole => unreachable!(),
             Link::Leaf { .. } => {
                 count.enter();
-                exact_in_leaf(&mut self.root, true, start, search, alloc)
+                exact_in_leaf(&mut self.root, true, start, search, spare, alloc)
             }
-            Link::Fork { node: _node, .. } => exact_at(&mut self.root, start, search, alloc, count),
+            Link::Fork { node: _node, .. } => {
+                exact_at(&mut self.root, start, search, spare, alloc, count)
+            }
         }
     }
 

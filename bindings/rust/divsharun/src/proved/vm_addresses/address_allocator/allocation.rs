@@ -4,7 +4,7 @@
 
 use super::AddressAllocator;
 use crate::proved::vm_ranges::{AllocPolicy, Constraint, Error, NodeState, RangeInclusive, Result};
-use crate::proved::vm_tree::{End, Refusal, Search, Steps, Taken, Tree};
+use crate::proved::vm_tree::{End, Refusal, Search, Spare, Steps, Taken, Tree};
 use crate::rattle::Global;
 
 /// If this many ranges are allocated, no gap is split. So no tree gets too high.
@@ -31,9 +31,22 @@ impl AddressAllocator {
         request: Constraint,
     ) -> (Result<RangeInclusive>, u64) {
         let can_split = self.held_count < SPLIT_LIMIT;
+        self.allocate_with(None, alloc, request, can_split)
+    }
+
+    /// Allocates like [`allocate_constraint_counted`](Self::allocate_constraint_counted). It splits gaps only
+    /// if `can_split`. For `ExactMatch` it allocates no memory if there is a `spare`.
+    #[inline(always)]
+    pub(super) fn allocate_with(
+        &mut self,
+        spare: Option<Spare>,
+        alloc: Global,
+        request: Constraint,
+        can_split: bool,
+    ) -> (Result<RangeInclusive>, u64) {
         let mut count = Steps::new();
-        let tree = &mut self.tree;
-        let taken = match allocate_in(tree, &self.space, &request, can_split, alloc, &mut count) {
+        let (tree, space) = (&mut self.tree, &self.space);
+        let taken = match allocate_in(tree, space, &request, can_split, spare, alloc, &mut count) {
             Ok(taken) => taken,
             Err(error) => return (Err(error), count.entered()),
         };
@@ -51,6 +64,7 @@ fn allocate_in(
     space: &RangeInclusive,
     constraint: &Constraint,
     can_split: bool,
+    spare: Option<Spare>,
     alloc: Global,
     count: &mut Steps,
 ) -> Result<Taken> {
@@ -59,7 +73,7 @@ fn allocate_in(
         AllocPolicy::FirstMatch => End::First,
         AllocPolicy::LastMatch => End::Last,
         AllocPolicy::ExactMatch(start) => {
-            return allocate_exact(tree, space, start, &search, alloc, count);
+            return allocate_exact(tree, space, start, &search, spare, alloc, count);
         }
     };
     with_error(tree.allocate_fit(end, &search, alloc, count), space)
@@ -77,6 +91,7 @@ fn allocate_exact(
     space: &RangeInclusive,
     start: u64,
     search: &Search,
+    spare: Option<Spare>,
     alloc: Global,
     count: &mut Steps,
 ) -> Result<Taken> {
@@ -91,7 +106,10 @@ fn allocate_exact(
         return Err(Error::Overflow);
     };
     let range = RangeInclusive::between(start, last);
-    with_error(tree.allocate_exact(start, search, alloc, count), &range)
+    with_error(
+        tree.allocate_exact(start, search, spare, alloc, count),
+        &range,
+    )
 }
 
 /// Returns the search of a request in a space.

@@ -2,7 +2,7 @@
 
 //! The allocation of a range that starts at a given address.
 
-use super::place::{allocate_at, leaf_of, Place};
+use super::place::{allocate_at, leaf_of, Place, Spare};
 use crate::proved::vm_leaf::{Block, Leaf};
 use crate::proved::vm_ranges::{NodeState, RangeInclusive};
 use crate::proved::vm_tree::change::update;
@@ -53,10 +53,11 @@ pub(in crate::proved::vm_tree) fn exact_in_leaf(
     lone: bool,
     start: u64,
     search: &Search,
+    spare: Option<Spare>,
     alloc: Global,
 ) -> Result<Taken, Refusal> {
     let place = exact_place(leaf_of(tree), start, search)?;
-    allocate_at(tree, lone, place, search, alloc)
+    allocate_at(tree, lone, place, search, spare, alloc)
 }
 
 /// Allocates the range of a search that starts at `start` below a node.
@@ -64,13 +65,14 @@ fn exact_below(
     node: &mut Node,
     start: u64,
     search: &Search,
+    spare: Option<Spare>,
     alloc: Global,
     count: &mut Steps,
 ) -> Result<Taken, Refusal> {
     if start < node.at {
-        return exact_at(&mut node.left, start, search, alloc, count);
+        return exact_at(&mut node.left, start, search, spare, alloc, count);
     }
-    exact_at(&mut node.right, start, search, alloc, count)
+    exact_at(&mut node.right, start, search, spare, alloc, count)
 }
 
 /// Allocates the range of a search that starts at `start`, and updates what is stored beside the link.
@@ -78,6 +80,7 @@ pub(in crate::proved::vm_tree) fn exact_at(
     tree: &mut Link,
     start: u64,
     search: &Search,
+    spare: Option<Spare>,
     alloc: Global,
     count: &mut Steps,
 ) -> Result<Taken, Refusal> {
@@ -85,10 +88,10 @@ pub(in crate::proved::vm_tree) fn exact_at(
     match tree {
         // A hole is filled before the call returns.
         Link::Hole => unreachable!(),
-        Link::Leaf { .. } => exact_in_leaf(tree, false, start, search, alloc),
+        Link::Leaf { .. } => exact_in_leaf(tree, false, start, search, spare, alloc),
         Link::Fork { node, .. } => {
             let node: &mut Node = node;
-            let mut answer = exact_below(node, start, search, alloc, count);
+            let mut answer = exact_below(node, start, search, spare, alloc, count);
             if let Ok(taken) = &mut answer {
                 taken.change = update(tree, taken.change);
             }

@@ -46,7 +46,7 @@ pub(in crate::proved::vm_tree) fn fit_in_leaf(
 ) -> Result<Taken, Refusal> {
     match place_in(leaf_of(tree), end, search) {
         None => Err(Refusal::NoPlace),
-        Some(place) => allocate_at(tree, lone, place, search, alloc),
+        Some(place) => allocate_at(tree, lone, place, search, None, alloc),
     }
 }
 

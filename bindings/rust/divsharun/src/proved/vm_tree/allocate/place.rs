@@ -106,20 +106,44 @@ fn take(tree: &mut Link, lone: bool, place: &Place) -> Change {
     }
 }
 
-/// Allocates a box for a leaf and one for a node.
-fn spare_boxes(place: &Place, alloc: Global) -> Result<(Box<Leaf>, Box<Node>), AllocError> {
-    let block = Block {
-        key: place.range,
-        state: NodeState::Allocated,
-    };
-    let leaf = Box::new(alloc, Leaf::single(block))?;
-    let empty = Node {
-        at: 0,
-        left: Link::Hole,
-        right: Link::Hole,
-    };
-    let node = Box::new(alloc, empty)?;
-    Ok((leaf, node))
+/// The memory for the split of a leaf: a leaf and a node.
+#[derive(Debug)]
+pub(in crate::proved) struct Spare {
+    leaf: Box<Leaf>,
+    node: Box<Node>,
+}
+
+impl Spare {
+    /// Allocates a leaf and a node. The leaf has one block, of `range`.
+    pub(in crate::proved) fn new(
+        alloc: Global,
+        range: RangeInclusive,
+    ) -> Result<Spare, AllocError> {
+        let block = Block {
+            key: range,
+            state: NodeState::Allocated,
+        };
+        let leaf = Box::new(alloc, Leaf::single(block))?;
+        let empty = Node {
+            at: 0,
+            left: Link::Hole,
+            right: Link::Hole,
+        };
+        let node = Box::new(alloc, empty)?;
+        Ok(Spare { leaf, node })
+    }
+}
+
+/// Returns the memory for the split of a leaf: `spare`, or new memory if there is none.
+fn spare_or_new(
+    spare: Option<Spare>,
+    range: RangeInclusive,
+    alloc: Global,
+) -> Result<Spare, AllocError> {
+    match spare {
+        Some(spare) => Ok(spare),
+        None => Spare::new(alloc, range),
+    }
 }
 
 /// Allocates the range of a place in a leaf that has no room for it, which is split in two. Returns the
@@ -136,21 +160,28 @@ fn halve(mut lower: Box<Leaf>, place: &Place, mut upper: Box<Leaf>, spare: Box<N
 ///
 /// All memory is allocated before the first change.
 #[inline(never)]
-fn split_leaf(tree: &mut Link, place: Place, alloc: Global) -> Result<(), AllocError> {
-    let (upper, node) = spare_boxes(&place, alloc)?;
+fn split_leaf(
+    tree: &mut Link,
+    place: Place,
+    spare: Option<Spare>,
+    alloc: Global,
+) -> Result<(), AllocError> {
+    let spare = spare_or_new(spare, place.range, alloc)?;
     let lower = into_leaf(mem::replace(tree, Link::Hole));
-    *tree = halve(lower, &place, upper, node);
+    *tree = halve(lower, &place, spare.leaf, spare.node);
     Ok(())
 }
 
 /// Allocates the range of a place in a leaf, which may become a node with two leaves. Unless the leaf is the
-/// whole tree (`lone`), it updates what is stored beside the link.
+/// whole tree (`lone`), it updates what is stored beside the link. It allocates no memory if there is a
+/// `spare`.
 #[inline(always)]
 pub(super) fn allocate_at(
     tree: &mut Link,
     lone: bool,
     place: Place,
     search: &Search,
+    spare: Option<Spare>,
     alloc: Global,
 ) -> Result<Taken, Refusal> {
     if let Some(refusal) = refusal_of(&place, search) {
@@ -165,7 +196,7 @@ pub(super) fn allocate_at(
             change,
         });
     }
-    split_leaf(tree, place, alloc)?;
+    split_leaf(tree, place, spare, alloc)?;
     Ok(Taken {
         range,
         added,
