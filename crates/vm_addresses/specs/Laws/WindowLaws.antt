@@ -2,7 +2,7 @@
 use Rattle.std.specs.Prelude.{◌≤◌, ◌↔◌, Option, Some, None, Result, Ok}
 use Rattle.vm_ranges.specs.Range.{Range, Covers}
 use Rattle.vm_ranges.specs.Request.{Request}
-use Rattle.vm_addresses.specs.Address.{AddressState}
+use Rattle.vm_addresses.specs.Address.{AddressState, IsAddressState}
 use Rattle.vm_addresses.specs.Answer.{Allocates}
 use Rattle.vm_ranges.specs.declared.error.Error.{Error}
 use Rattle.vm_addresses.specs.declared.address_allocator.conflicts.Conflict.{Conflict}
@@ -32,7 +32,7 @@ WholeWindowIsNone =
 -- A window that contains the space changes no conflict.
 abbrev pub WholeWindowKeepsConflicts : Type 0
 WholeWindowKeepsConflicts =
-    (state : AddressState) (request : Request) (window : Range) (answer : Option Conflict) →
+    (state : AddressState) (request : Request) (window : Range) (answer : Option Conflict) → IsAddressState state →
     window.start ≤ state.space.start → state.space.end ≤ window.end →
     IsConflict state (in_window window request) answer ↔ IsConflict state (anywhere request) answer
 

@@ -1,4 +1,4 @@
-use Rattle.std.proofs.Common.{◌≡◌, ◌+◌, ◌*◌, ◌∙◌, length, take, sym, ap, subst, arith, inr, Ok, Err}
+use Rattle.std.proofs.Common.{◌≡◌, ◌+◌, ◌*◌, ◌∙◌, length, take, sym, ap, subst, arith, inr, Ok, Err, inl, refl}
 use Rattle.vm_ranges.specs.Range.{Range}
 use Rattle.std.specs.Prelude.{List}
 use Rattle.vm_addresses.specs.Address.{AddressState, IsAddressState}
@@ -51,7 +51,7 @@ returns-in-Err-clause-parts c =
     let first = c.args.self.now in
     let failed = then_allocated l.index first l.self c.allocate_constraint.new.self requests c.index-requests-index.result (Err c.in-Err.error)
     l.invariant.parts
-    (l.index, c.loop-index-test.true, sym c.index-requests-index.is) c.in-Err.ensures.part in
+    (c.index-requests-index.result, (l.index, c.loop-index-test.true, sym c.index-requests-index.is), inl refl) c.in-Err.ensures.part in
     more_allowed (l.index + 1 + length l.ranges.items) (2 * length requests) first c.free_all.new.allocator requests
     (c.free_all.ensures.parts (l.index + 1) first requests failed) (omega (arith, l.invariant.many, c.loop-index-test.true))
 
@@ -70,7 +70,7 @@ loop-index-preserved c =
       each = subst (λ (v : List Range). AllocatesEach first (take (i + 1) c.args.requests.now) v new) (sym c.in-Ok-push.ensures.items) each;
       parts = then_allocated i c.args.self.now c.loop-index.self c.allocate_constraint.new.self c.args.requests.now
           c.index-requests-index.result (Ok c.in-Ok.range) c.loop-index.invariant.parts
-          (i, c.loop-index-test.true, sym c.index-requests-index.is) c.in-Ok.ensures.part;
+          (c.index-requests-index.result, (i, c.loop-index-test.true, sym c.index-requests-index.is), inl refl) c.in-Ok.ensures.part;
       state = allocated_state mid new c.index-requests-index.result (Ok c.in-Ok.range) c.loop-index.invariant.state
           c.in-Ok.ensures.answer;
       many = omega (arith, c.in-Ok-push.ensures.len, c.loop-index.invariant.many);
