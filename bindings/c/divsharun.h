@@ -65,8 +65,8 @@
  * Calls on one id or device take logarithmic time too. If such a call makes the list
  * of freed ids or of devices longer, it can also move the list, in linear time.
  * dvs_id_allocate_exact(), dvs_id_allocate_in() and dvs_device_reserve_with_id() add each
- * id that they skip to the freed ones. Counts, dvs_longest_gap() and the ends of a space or of a range of ids
- * take constant time. Allocating an array takes the time of each request or id. All
+ * id that they skip to the freed ones. Counts, dvs_longest_gap() and the ends of a space or of a
+ * range of ids take constant time. Allocating an array takes the time of each request or id. All
  * other calls take time at most linear in the size of the object, the array or the
  * text.
  *

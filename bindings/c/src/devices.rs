@@ -9,7 +9,7 @@ use crate::proved::vm_devices::{DeviceManager, DeviceSlot};
 use crate::proved::vm_ids::IdRequest;
 use crate::ranges::{dvs_address_allocator, space_of};
 use crate::rattle::Global;
-use crate::requests::refused;
+use crate::requests::{in_the_way, refused};
 use crate::texts::{read_devices, save_devices};
 use crate::{dvs_range, dvs_refusal, CallError, Out};
 use core::ffi::{c_int, c_void};
@@ -80,6 +80,7 @@ fn refused_device(
     refused(manager.addresses(), request, error, wants_details)
 }
 
+/// Moves a device. Its own range is not in the way.
 fn move_device(
     manager: &mut DeviceManager,
     id: u32,
@@ -89,7 +90,15 @@ fn move_device(
     let moved = manager.move_constraint(Global, id, request);
     moved
         .map(Into::into)
-        .map_err(|error| refused(manager.addresses(), request, error, wants_details))
+        .map_err(|error| match (&error, request.policy(), manager.slot(id)) {
+            (Error::ResourceNotAvailable, AllocPolicy::ExactMatch(start), Some(key))
+                if wants_details =>
+            {
+                let conflict = manager.addresses().move_conflict(&key, request);
+                CallError::NotAvailable(in_the_way(start, request, conflict))
+            }
+            _ => error.into(),
+        })
 }
 
 functions! {
