@@ -96,10 +96,13 @@ impl DeviceTable {
     {
         let start = range.start();
         self.ids_by_start.insert(start, id)?;
-        let Ok(before) = self.slots.insert(id, range) else {
-            // Only a new device can fail, and its start is new.
-            self.ids_by_start.remove(&start);
-            return Err(AllocError);
+        let before = match self.slots.insert(id, range) {
+            Ok(before) => before,
+            Err(failed) => {
+                // Only a new device can fail, and its start is new.
+                self.ids_by_start.remove(&start);
+                return Err(failed.into());
+            }
         };
         if let Some(left) = before {
             if left.start() != start {
