@@ -183,8 +183,8 @@ typedef struct dvs_range {
 typedef struct dvs_refusal {
     /*
      * DVS_INVALID_RANGE, DVS_OVERLAP: the range. DVS_INVALID_STATE_TRANSITION: the
-     * allocated range. With a cause: the requested range, or 0 to 0 if it would end
-     * past UINT64_MAX.
+     * allocated range. With a cause: the requested range, or 0 to 0 if it has no given
+     * start or would end past UINT64_MAX.
      */
     dvs_range range;
     /* DVS_OVERLAP: the existing range. With a cause: the range that the cause names. */
@@ -196,7 +196,7 @@ typedef struct dvs_refusal {
      * DVS_RESOURCE_NOT_AVAILABLE: the id, if the call was given one.
      */
     uint32_t id;
-    /* DVS_RESOURCE_NOT_AVAILABLE: why the range at a given start is not available. */
+    /* DVS_RESOURCE_NOT_AVAILABLE: why the range is not available. */
     uint32_t cause;
 } dvs_refusal;
 
@@ -207,13 +207,17 @@ typedef struct dvs_refusal {
  */
 enum {
     /*
-     * There is no cause. The call has no conflict, another error, no given start or no
-     * free id, or the range to move is not allocated.
+     * There is no cause. The call has no conflict, another error or no free id, it has no
+     * given start and a window with addresses of the space, or the range to move is not
+     * allocated.
      */
     DVS_CAUSE_NONE = 0,
     /* An address is allocated. `other` is the lowest allocated range that has one. */
     DVS_CAUSE_ALLOCATED = 1,
-    /* An address is outside the space. `other` is the space. */
+    /*
+     * An address is outside the space. `other` is the space. Without a given start, all
+     * addresses of the window are outside it.
+     */
     DVS_CAUSE_OUTSIDE_SPACE = 2,
     /* An address is outside the window of the request. `other` is the window. */
     DVS_CAUSE_OUTSIDE_WINDOW = 3,
@@ -512,7 +516,9 @@ dvs_status dvs_address_allocator_allocate_all(dvs_address_allocator *allocator,
 /*
  * Writes to `conflict` why the range of a DVS_EXACT request is not free: the cause, the
  * requested range and the one that the cause names, as in a refusal. If the range is
- * free, and for the other policies, the cause is DVS_CAUSE_NONE.
+ * free, the cause is DVS_CAUSE_NONE. For the other policies it is
+ * DVS_CAUSE_OUTSIDE_SPACE if the window and the space have no address in common, and
+ * otherwise DVS_CAUSE_NONE.
  *
  * Errors: those of dvs_range_allocate() from DVS_INVALID_POLICY to DVS_INVALID_RANGE.
  */
@@ -533,15 +539,15 @@ dvs_status dvs_range_free(dvs_address_allocator *allocator, dvs_range range, dvs
 /*
  * Moves an allocated range to the place of `request`, and writes the range there to
  * `moved`. A guest does this when it programs a BAR, and a monitor when it resizes one.
- * It allocates a range for the request, and then frees `range`. So the addresses of
- * `range` do not count as free. A DVS_EXACT request for exactly `range`, with `range` in
- * its window, succeeds and changes nothing.
+ * It frees `range` and allocates a range for the request, or changes nothing. So the
+ * new range can overlap `range`.
  *
  * Errors, in order:
  * - Those of dvs_range_allocate() from DVS_INVALID_POLICY to DVS_INVALID_RANGE.
  * - DVS_INVALID_RANGE if `range` is not a valid range.
  * - DVS_RESOURCE_NOT_AVAILABLE if exactly this range is not allocated.
- * - The other errors of dvs_range_allocate(), in the same order.
+ * - The other errors of dvs_range_allocate() if `range` is free, in the same order. The
+ *   refusal never names `range`.
  */
 DVS_WARN_UNUSED
 dvs_status dvs_range_move_request(dvs_address_allocator *allocator, dvs_range range,
@@ -552,7 +558,7 @@ dvs_status dvs_range_move_request(dvs_address_allocator *allocator, dvs_range ra
  * Moves an allocated range to `start`, and writes the range there to `moved`. This
  * is dvs_range_move_request() for as many addresses at `start`, at alignment 1 and
  * without a window. So it does not check the alignment and the window of the first
- * request. A move of a range to its own start succeeds and changes nothing.
+ * request.
  *
  * Errors, in order:
  * - DVS_INVALID_RANGE if `range` is not a valid range.
@@ -561,11 +567,11 @@ dvs_status dvs_range_move_request(dvs_address_allocator *allocator, dvs_range ra
  * - DVS_RESOURCE_NOT_AVAILABLE, with a cause, if `start` is outside the space.
  * - DVS_OVERFLOW if the new range would end past UINT64_MAX.
  * - DVS_INVALID_STATE_TRANSITION, with the new range, if exactly that range is
- *   already allocated.
+ *   already allocated, and is not `range`.
  * - DVS_RESOURCE_NOT_AVAILABLE, with a cause, if an address of the new range is
- *   allocated, also if it is one of `range`, or is outside the space.
+ *   allocated to another range than `range`, or is outside the space.
  * - DVS_OVERFLOW if the new range ends at UINT64_MAX, or if it fills only a part of
- *   its gap and at least 6,293,134,512 ranges are allocated.
+ *   its gap and more than 6,293,134,512 ranges are allocated.
  * - DVS_OUT_OF_MEMORY.
  */
 DVS_WARN_UNUSED

@@ -162,7 +162,7 @@ pub(crate) fn with_conflict<T>(
     let asked = non_null(request)?;
     with_ref(handle, out, |object| {
         let request = asked.constraint()?;
-        let details = |found| in_the_way(asked.start, request, Some(found));
+        let details = |found| in_the_way(request, Some(found));
         Ok(conflict(object, request).map_or(dvs_refusal::default(), details))
     })
 }

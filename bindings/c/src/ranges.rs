@@ -7,7 +7,7 @@ use crate::proved::vm_addresses::{
     AddressAllocator, AllocPolicy, Constraint, RangeInclusive, Result as Answer,
 };
 use crate::rattle::Global;
-use crate::requests::refused;
+use crate::requests::{refused, refused_by};
 use crate::texts::{read_space, save_space};
 use crate::{dvs_range, dvs_refusal, CallError};
 use core::ffi::{c_int, c_void};
@@ -60,7 +60,7 @@ fn move_by(
     let moved = space.move_constraint(Global, range, request);
     moved.map(Into::into).map_err(|error| {
         let wants_details = wants_details && space.holds(range);
-        refused(space, request, error, wants_details)
+        refused_by(|| space.move_conflict(range, request), request, error, wants_details)
     })
 }
 

@@ -51,8 +51,8 @@ impl dvs_request<'_> {
     }
 }
 
-/// Returns the error of a refused request. If the range at the start that it names is not available,
-/// and the caller wants details, the error has the cause.
+/// Returns the error of a refused request. If its range is not available, and the caller wants details,
+/// the error has the cause.
 #[cold]
 #[inline(never)]
 pub(crate) fn refused(
@@ -61,21 +61,31 @@ pub(crate) fn refused(
     error: Error,
     wants_details: bool,
 ) -> CallError {
-    match (&error, request.policy()) {
-        (Error::ResourceNotAvailable, AllocPolicy::ExactMatch(start)) if wants_details => {
-            CallError::NotAvailable(in_the_way(start, request, space.conflict(request)))
-        }
-        _ => error.into(),
+    refused_by(|| space.conflict(request), request, error, wants_details)
+}
+
+/// Returns the error of a refused request, like [`refused`], with the conflict that a call returns.
+pub(crate) fn refused_by(
+    conflict: impl FnOnce() -> Option<Conflict>,
+    request: Constraint,
+    error: Error,
+    wants_details: bool,
+) -> CallError {
+    if error != Error::ResourceNotAvailable || !wants_details {
+        return error.into();
+    }
+    match (conflict(), request.policy()) {
+        (None, AllocPolicy::FirstMatch | AllocPolicy::LastMatch) => error.into(),
+        (conflict, _) => CallError::NotAvailable(in_the_way(request, conflict)),
     }
 }
 
-/// Returns the details of a request for a start at which its range is not available.
-pub(crate) fn in_the_way(
-    start: u64,
-    request: Constraint,
-    conflict: Option<Conflict>,
-) -> dvs_refusal {
-    let range = RangeInclusive::from_start_len(start, request.size());
+/// Returns the details of a request whose range is not available.
+pub(crate) fn in_the_way(request: Constraint, conflict: Option<Conflict>) -> dvs_refusal {
+    let range = match request.policy() {
+        AllocPolicy::ExactMatch(start) => RangeInclusive::from_start_len(start, request.size()).ok(),
+        _ => None,
+    };
     let (cause, other) = match conflict {
         Some(Conflict::OutsideSpace(space)) => (DVS_CAUSE_OUTSIDE_SPACE, space.into()),
         Some(Conflict::OutsideWindow(window)) => (DVS_CAUSE_OUTSIDE_WINDOW, window.into()),

@@ -98,8 +98,13 @@ static struct outcome searched(const struct model *model, const dvs_request *req
             (request->policy != DVS_LAST || found.status != DVS_OK))
             found = place;
     }
-    return found.status != DVS_OK && request->policy == DVS_EXACT ? blocked(model, request, window)
-                                                                  : found;
+    if (found.status != DVS_OK && request->policy == DVS_EXACT)
+        return blocked(model, request, window);
+    if (window.end < BASE || BASE + WIDTH <= window.start) {
+        found.cause = DVS_CAUSE_OUTSIDE_SPACE;
+        found.other = range_of(BASE, BASE + WIDTH - 1);
+    }
+    return found;
 }
 
 static dvs_request random_request(dvs_range *window) {
@@ -177,15 +182,13 @@ static void move(dvs_address_allocator *space, struct model *model, dvs_request 
 
         *request = plain;
     }
-    if (is_held(model, from))
+    if (is_held(model, from)) {
+        put(model, from.start, size, false);
         outcome = searched(model, request);
-    if (is_held(model, from) && request->policy == DVS_EXACT && request->start == from.start &&
-        request->size == size &&
-        (request->window == NULL ||
-         (request->window->start <= from.start && from.end <= request->window->end))) {
-        const struct outcome stays = GETS(from.start, from.end);
-
-        outcome = stays;
+        if (outcome.status == DVS_OK)
+            put(model, outcome.range.start, request->size, true);
+        else
+            put(model, from.start, size, true);
     }
     prepare();
     CHECK(has_outcome(&outcome,
@@ -193,10 +196,6 @@ static void move(dvs_address_allocator *space, struct model *model, dvs_request 
                                                       &results.device.range, &refusal)
                                      : dvs_range_move_request(space, from, request,
                                                               &results.device.range, &refusal))));
-    if (outcome.status == DVS_OK) {
-        put(model, from.start, size, false);
-        put(model, outcome.range.start, request->size, true);
-    }
 }
 
 /* The ranges that a visit meets, or the ids and devices, as ranges. */
@@ -255,7 +254,7 @@ static void query_space(const dvs_address_allocator *space, const struct model *
     CHECK((dvs_range_at(space, range.end, &at) == DVS_OK) == model->taken[range.end - BASE]);
     CHECK((dvs_gap_at(space, range.end, &at) == DVS_OK) != model->taken[range.end - BASE]);
     CHECK(dvs_range_conflict(space, &request, &conflict) == DVS_OK);
-    if (outcome.status == DVS_OK || request.policy != DVS_EXACT)
+    if (outcome.status == DVS_OK)
         CHECK(memcmp(&conflict, &none, sizeof none) == 0);
     else if (outcome.status == DVS_RESOURCE_NOT_AVAILABLE)
         CHECK(conflict.cause == outcome.cause && conflict.other.start == outcome.other.start);

@@ -78,13 +78,13 @@ static const struct row in_gaps[] = {
 
 static const struct row at_ends[] = {
     /* No address of the space. */
-    {DVS_FIRST, 1, 1, 0, {0, 0xfff}, NO_PLACE},
-    {DVS_LAST, 1, 1, 0, {0x2000, TOP - 1}, NO_PLACE},
+    {DVS_FIRST, 1, 1, 0, {0, 0xfff}, BLOCKED(OUTSIDE_SPACE)},
+    {DVS_LAST, 1, 1, 0, {0x2000, TOP - 1}, BLOCKED(OUTSIDE_SPACE)},
     {DVS_EXACT, 1, 1, 0x1000, {0, 0xfff}, BLOCKED(OUTSIDE_WINDOW)},
     {DVS_EXACT, 1, 1, 0xf00, {0, 0xfff}, BLOCKED(OUTSIDE_SPACE)},
     {DVS_EXACT, 1, 1, 0x2000, {0x2000, TOP}, BLOCKED(OUTSIDE_SPACE)},
-    {DVS_FIRST, 1, 1, 0, {0, 0}, NO_PLACE},
-    {DVS_LAST, 1, 1, 0, {TOP, TOP}, NO_PLACE},
+    {DVS_FIRST, 1, 1, 0, {0, 0}, BLOCKED(OUTSIDE_SPACE)},
+    {DVS_LAST, 1, 1, 0, {TOP, TOP}, BLOCKED(OUTSIDE_SPACE)},
     /* The space or a part of it, and addresses outside it. */
     {DVS_FIRST, 0x10, 1, 0, {0, 0x2fff}, GETS(0x1000, 0x100f)},
     {DVS_LAST, 0x10, 1, 0, {0, 0x2fff}, GETS(0x1ff0, 0x1fff)},
@@ -240,10 +240,16 @@ static const struct {
     {HELD, {DVS_EXACT, UNIT + 1, 8 * UNIT, AT(128), {AT(128), AT(129)}, GETS(AT(128), AT(129))}},
     {HELD, {DVS_EXACT, UNIT + 1, 8 * UNIT, AT(128), {AT(128), AT(129) - 1},
             IN_THE_WAY(AT(128), AT(129), OUTSIDE_WINDOW, AT(128), AT(129) - 1)}},
-    {HELD, {DVS_EXACT, 2 * UNIT, 1, AT(3), {0, TOP}, IN_THE_WAY(AT(3), AT(5) - 1, ALLOCATED, AT(4), AT(6) - 1)}},
-    /* To its own place. */
+    /* Over its own addresses. */
+    {HELD, {DVS_EXACT, 2 * UNIT, 1, AT(3), {0, TOP}, GETS(AT(3), AT(5) - 1)}},
+    {HELD, {DVS_EXACT, 8 * UNIT, 1, AT(4), {0, TOP}, GETS(AT(4), AT(12) - 1)}},
+    {HELD, {DVS_EXACT, UNIT, 1, AT(4), {0, TOP}, GETS(AT(4), AT(5) - 1)}},
+    {HELD, {DVS_FIRST, 256 * UNIT - 1, 1, 0, {0, TOP}, GETS(AT(0), AT(256) - 2)}},
+    {HELD, {DVS_LAST, UNIT, UNIT, 0, HELD, GETS(AT(5), AT(6) - 1)}},
     {HELD, {DVS_EXACT, 2 * UNIT, 1, AT(4), HELD, GETS(AT(4), AT(6) - 1)}},
-    {HELD, {DVS_EXACT, 2 * UNIT, 1, AT(4), {AT(4), AT(5)}, TELLS(DVS_INVALID_STATE_TRANSITION, AT(4), AT(6) - 1)}},
+    {HELD, {DVS_EXACT, 2 * UNIT, 1, AT(4), {AT(4), AT(5)},
+            IN_THE_WAY(AT(4), AT(6) - 1, OUTSIDE_WINDOW, AT(4), AT(5))}},
+    {HELD, {DVS_FIRST, 1, 1, 0, {0, 9}, IN_THE_WAY(0, 0, OUTSIDE_SPACE, AT(0), AT(256) - 1)}},
     /* Errors of the request, then of the range, then of the new range. */
     {{2, 1}, {DVS_EXACT + 1, 0, 1, TOP, {9, 8}, FAILS(DVS_INVALID_POLICY)}},
     {{2, 1}, {DVS_EXACT, 1, 1, TOP, {9, 8}, TELLS(DVS_INVALID_RANGE, 9, 8)}},
@@ -261,7 +267,7 @@ static struct outcome outcome_of(const struct row *row, dvs_range space) {
 
     if (all.cause == DVS_CAUSE_NONE)
         return all;
-    if (row->start <= TOP - (row->size - 1))
+    if (row->policy == DVS_EXACT && row->start <= TOP - (row->size - 1))
         all.range = range_of(row->start, row->start + (row->size - 1));
     while (all.cause == DVS_CAUSE_ALLOCATED && i-- > 0)
         if (all.range.start <= held[i].end && held[i].start <= all.range.end)
@@ -332,15 +338,27 @@ static dvs_status allocate_list(void *object, const dvs_request *request) {
     return status;
 }
 
-/* Moves the last range of `held`, and moves it back. */
-static dvs_status move_one(void *object, const dvs_request *request) {
-    static const dvs_request back = {0x100, 1, 0x1800, DVS_EXACT, NULL};
-    dvs_address_allocator *space = (dvs_address_allocator *)object;
-    dvs_range *range = &results.device.range, moved;
-    dvs_status status = dvs_range_move_request(space, held[1], request, range, &refusal);
+/* Checks the move of the last range of `held` beside its freeing and an allocation. */
+static void check_move(const dvs_address_allocator *space, const dvs_request *request) {
+    dvs_address_allocator *moved, *changed;
+    dvs_range ranges[2] = {{0, 0}, {0, 0}};
+    dvs_refusal refusals[2];
+    dvs_status status;
+    bool are_equal;
 
-    CHECK(status != DVS_OK || dvs_range_move_request(space, *range, &back, &moved, NULL) == DVS_OK);
-    return status;
+    memset(refusals, 0, sizeof refusals);
+    CHECK(dvs_address_allocator_copy(space, &moved) == DVS_OK);
+    CHECK(dvs_address_allocator_copy(space, &changed) == DVS_OK);
+    CHECK(dvs_range_free(changed, held[1], NULL) == DVS_OK);
+    status = dvs_range_allocate(changed, request, &ranges[0], &refusals[0]);
+    CHECK(dvs_range_move_request(moved, held[1], request, &ranges[1], &refusals[1]) == status);
+    CHECK(memcmp(&ranges[0], &ranges[1], sizeof ranges[0]) == 0);
+    CHECK(memcmp(&refusals[0], &refusals[1], sizeof refusals[0]) == 0);
+    CHECK(dvs_address_allocator_equal(moved, status == DVS_OK ? changed : space, &are_equal) ==
+          DVS_OK);
+    CHECK(are_equal);
+    dvs_address_allocator_destroy(moved);
+    dvs_address_allocator_destroy(changed);
 }
 
 static dvs_status reserve_one(void *object, const dvs_request *request) {
@@ -407,7 +425,7 @@ static void check_rows(dvs_range all, uint32_t held_count, const struct row *row
         check_conflict(&request, &outcome, all, space, NULL);
         check_conflict(&request, &outcome, all, NULL, manager);
         if (held_count == 2)
-            check_call(&rows[i], all, move_one, space);
+            check_move(space, &request);
         check_call(&rows[i], all, allocate_one, space);
         check_call(&rows[i], all, allocate_list, space);
         check_call(&rows[i], all, reserve_one, manager);

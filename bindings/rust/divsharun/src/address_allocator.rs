@@ -430,13 +430,15 @@ impl AddressAllocator {
         Ok(RangeInclusive(range))
     }
 
-    /// Returns the reason why the range of an `ExactMatch` request is not free. Returns `None` if the
-    /// range is free, and for the other policies.
+    /// Returns the reason why the range of an `ExactMatch` request is not free, or `None` if it is free.
     ///
     /// It returns the first of these reasons:
     /// - [`OutsideSpace`](Conflict::OutsideSpace) if the range is not in the space.
     /// - [`OutsideWindow`](Conflict::OutsideWindow) if it is not in the window of the request.
     /// - [`Allocated`](Conflict::Allocated) if an allocated range has an address in common with it.
+    ///
+    /// For the other policies it returns `OutsideSpace` if the window and the space have no address in
+    /// common, and otherwise `None`.
     ///
     /// # Example
     ///
@@ -458,19 +460,44 @@ impl AddressAllocator {
         self.0.conflict(request.0).map(Into::into)
     }
 
+    /// Returns the reason why the range of an `ExactMatch` request is not free if `key` is free, like
+    /// [`conflict`](Self::conflict). So `key` is never the reason. Returns `None` if exactly `key` is not
+    /// allocated.
+    ///
+    /// # Example
+    ///
+    /// ```rust
+    /// use divsharun::{AddressAllocator, AllocPolicy, Conflict, Constraint};
+    ///
+    /// let mut mmio = AddressAllocator::new(0xd000_0000, 0x1000_0000)?;
+    /// let bar = mmio.allocate(0x4000, 0x4000, AllocPolicy::FirstMatch)?;
+    /// let next = mmio.allocate(0x4000, 0x4000, AllocPolicy::FirstMatch)?;
+    ///
+    /// let larger = Constraint::new(0x8000, 0x8000, AllocPolicy::ExactMatch(bar.start()))?;
+    /// assert_eq!(mmio.move_conflict(&bar, larger), Some(Conflict::Allocated(next)));
+    /// mmio.free(&next)?;
+    /// assert_eq!(mmio.move_conflict(&bar, larger), None);
+    /// assert_eq!(mmio.move_constraint(&bar, larger)?.len(), 0x8000);
+    /// # Ok::<(), divsharun::Error>(())
+    /// ```
+    #[must_use]
+    pub fn move_conflict(&self, key: &RangeInclusive, request: Constraint) -> Option<Conflict> {
+        self.0.move_conflict(&key.0, request.0).map(Into::into)
+    }
+
     /// Moves an allocated range to the place of a request, and returns the range there. A guest does
     /// this when it programs a BAR, and a monitor when it resizes one.
     ///
-    /// It allocates a range for the request like [`allocate_constraint`](Self::allocate_constraint), and
-    /// then frees `key`. So the addresses of `key` do not count as free. An `ExactMatch` request for
-    /// exactly `key`, with `key` in its window, succeeds and changes nothing.
+    /// It frees `key` and allocates a range for the request like
+    /// [`allocate_constraint`](Self::allocate_constraint), or changes nothing. So the range can overlap
+    /// `key`.
     ///
     /// # Errors
     ///
     /// An error changes nothing. In this order:
     /// - `ResourceNotAvailable` if exactly `key` is not allocated.
     /// - `Overflow`, `ResourceNotAvailable` or `InvalidStateTransition`, if `allocate_constraint` returns
-    ///   that error.
+    ///   that error when `key` is free.
     ///
     /// # Example
     ///
@@ -489,9 +516,10 @@ impl AddressAllocator {
     /// let above = bar(0x4000, AllocPolicy::ExactMatch(0x1_0000_0000))?;
     /// assert_eq!(mmio.move_constraint(&moved, above), Err(Error::ResourceNotAvailable));
     ///
-    /// // The monitor resizes it.
-    /// let larger = mmio.move_constraint(&moved, bar(0x1_0000, AllocPolicy::FirstMatch)?)?;
-    /// assert!(mmio.held_ranges().eq([larger]));
+    /// // The monitor makes it longer in place.
+    /// let larger = bar(0x1_0000, AllocPolicy::ExactMatch(moved.start()))?;
+    /// assert_eq!(mmio.move_constraint(&moved, larger)?.end(), 0xd800_ffff);
+    /// assert_eq!(mmio.held_count(), 1);
     /// # Ok::<(), Error>(())
     /// ```
     #[doc(alias = "resize")]
@@ -541,8 +569,7 @@ impl AddressAllocator {
     /// Moves an allocated range to another start, and returns the range there.
     ///
     /// This is [`move_constraint`](Self::move_constraint) for as many addresses at `start`, at alignment
-    /// 1 and without a window. So it does not check the alignment and the window of the first request,
-    /// and the new range cannot overlap `key`. A move to the start of `key` succeeds and changes nothing.
+    /// 1 and without a window. So it does not check the alignment and the window of the first request.
     ///
     /// # Errors
     ///
@@ -551,12 +578,11 @@ impl AddressAllocator {
     /// - `Overflow` if `start` is `u64::MAX`.
     /// - `ResourceNotAvailable` if `start` is outside the space.
     /// - `Overflow` if the new range would end past `u64::MAX`.
-    /// - `InvalidStateTransition` if exactly the new range is already allocated.
-    /// - `ResourceNotAvailable` if an address of the new range is not free. The addresses of `key` count as
-    ///   allocated.
+    /// - `InvalidStateTransition` if exactly the new range is already allocated, and is not `key`.
+    /// - `ResourceNotAvailable` if an address of the new range is allocated to another range than `key`.
     /// - `Overflow` if the new range ends at `u64::MAX`.
-    /// - `Overflow` if the new range fills only a part of its gap and the number of allocated ranges is at
-    ///   the limit of [`allocate`](Self::allocate).
+    /// - `Overflow` if the new range fills only a part of its gap, and without `key` the number of allocated
+    ///   ranges is at the limit of [`allocate`](Self::allocate).
     ///
     /// # Example
     ///
@@ -569,8 +595,10 @@ impl AddressAllocator {
     /// assert_eq!((moved.start(), moved.len()), (0xd800_0000, 0x4000));
     /// assert!(!mmio.holds(&bar));
     ///
-    /// // The new range would overlap the old one.
-    /// assert_eq!(mmio.move_range(&moved, 0xd800_2000), Err(Error::ResourceNotAvailable));
+    /// // The new range can overlap the old one, but no other range.
+    /// let moved = mmio.move_range(&moved, 0xd800_2000)?;
+    /// let next = mmio.allocate(0x2000, 0x2000, AllocPolicy::ExactMatch(0xd800_0000))?;
+    /// assert_eq!(mmio.move_range(&moved, next.start()), Err(Error::ResourceNotAvailable));
     /// # Ok::<(), Error>(())
     /// ```
     pub fn move_range(&mut self, key: &RangeInclusive, start: u64) -> Result<RangeInclusive> {

@@ -3,7 +3,7 @@ use crate::pad::pad;
 use crate::RangeInclusive;
 use core::fmt;
 
-/// The reason why the range of an `ExactMatch` request is not free.
+/// The reason why the range of a request is not free.
 ///
 /// [`AddressAllocator::conflict`](crate::AddressAllocator::conflict) and
 /// [`DeviceManager::conflict`](crate::DeviceManager::conflict) return it.
@@ -45,7 +45,7 @@ use core::fmt;
 #[derive(Clone, Copy, Debug, PartialEq, Eq, Hash)]
 #[non_exhaustive]
 pub enum Conflict {
-    /// The range is not in the space. This is the space.
+    /// The range is not in the space, or no range in the window is. This is the space.
     OutsideSpace(RangeInclusive),
     /// The range is in the space and not in the window of the request. This is the window.
     OutsideWindow(RangeInclusive),

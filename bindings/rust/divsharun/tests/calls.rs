@@ -51,8 +51,11 @@ fn move_range(
     let held = model.held[number];
     let mut tried = space.clone();
     let request = Constraint::new(held.len(), 1, AllocPolicy::ExactMatch(to)).unwrap();
+    let conflict = model.move_conflict(number, request);
     let want = scale.answer(model.move_to(number, request));
     let (held, to) = (scale.range(held), to << scale.0);
+    let far = scale.request(request);
+    assert_eq!(space.move_conflict(&held, far), conflict.map(|found| scale.conflict(found)));
     assert_eq!(space.move_range(&held, to), want);
     assert_eq!(refused(tried.try_move_range(&held, to)), want);
     assert_eq!(tried, *space);

@@ -330,6 +330,10 @@ impl Beside for Space {
         let conflict = space.conflict(scale.request(request));
         let want = model.conflict(request);
         assert_eq!(conflict, want.map(|want| scale.conflict(want)), "{request}");
+        let conflict = space.move_conflict(&scale.range(key), scale.request(request));
+        let number = model.held.binary_search(&key);
+        let want = number.ok().and_then(|number| model.move_conflict(number, request));
+        assert_eq!(conflict, want.map(|want| scale.conflict(want)), "{key} to {request}");
         let has = |range: &RangeInclusive| range.contains_address(key.end());
         let at = key.end() << scale.0;
         assert_eq!(space.held_at(at), far(model.held.iter().copied().find(has)));

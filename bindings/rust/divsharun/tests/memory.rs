@@ -99,7 +99,7 @@ const TRIED: [(u64, TriedCall); 39] = [
         named.map(drop)
     }),
     (2, |space| space.try_move_range(&both()[0], 4).map(drop)),
-    (0, |space| refused(space.try_move_range(&both()[0], 17))),
+    (0, |space| refused(space.try_move_range(&both()[0], both()[1].start()))),
     (2, |space| {
         let request = in_the_middle(4, LastMatch);
         space.try_move_constraint(&both()[0], request).map(drop)

@@ -287,16 +287,17 @@ const MOVES: &[((u64, u64), Row)] = &[
     ((32, 39), ((0, 61), (8, 8, LastMatch), Ok(48))),
     ((32, 39), ((42, 61), (4, 8, LastMatch), Ok(56))),
     ((32, 39), ((40, MAX), (16, 16, ExactMatch(64)), Ok(64))),
-    // The addresses of the range do not count as free.
-    ((32, 39), ((0, MAX), (40, 1, FirstMatch), Ok(40))),
-    ((32, 39), ((0, MAX), (41, 1, LastMatch), NONE)),
-    ((32, 39), ((0, MAX), (8, 1, ExactMatch(33)), NONE)),
-    ((32, 39), ((0, MAX), (4, 1, ExactMatch(32)), NONE)),
+    // The addresses of the range count as free.
+    ((32, 39), ((0, MAX), (64, 1, FirstMatch), Ok(16))),
+    ((32, 39), ((0, MAX), (65, 1, LastMatch), NONE)),
+    ((32, 39), ((0, MAX), (8, 1, ExactMatch(33)), Ok(33))),
+    ((32, 39), ((0, MAX), (4, 1, ExactMatch(32)), Ok(32))),
+    ((32, 39), ((0, MAX), (24, 8, ExactMatch(24)), Ok(24))),
     // To its own place.
     ((32, 39), ((0, MAX), (8, 8, ExactMatch(32)), Ok(32))),
     ((32, 39), ((32, 39), (8, 8, ExactMatch(32)), Ok(32))),
     ((32, 39), ((33, MAX), (8, 8, ExactMatch(32)), NONE)),
-    ((32, 39), ((0, 38), (8, 8, ExactMatch(32)), Err(IS_HELD))),
+    ((32, 39), ((0, 38), (8, 8, ExactMatch(32)), NONE)),
     // Outside the window, and outside the space.
     ((32, 39), ((0, 61), (8, 8, ExactMatch(56)), NONE)),
     ((32, 39), ((0, MAX), (8, 8, ExactMatch(80)), NONE)),

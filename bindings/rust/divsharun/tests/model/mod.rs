@@ -74,25 +74,32 @@ impl Model {
         RangeInclusive::new(start, end)
     }
 
-    /// Moves an allocated range, and returns the range that is allocated instead.
+    /// Frees a range and allocates one for the request, or changes nothing.
     pub fn move_to(&mut self, number: usize, request: Constraint) -> Result<RangeInclusive> {
-        let mut rest = self.clone();
-        rest.held.remove(number);
-        let range = rest.allocate(request)?;
-        self.held[number] = range;
-        Ok(range)
+        let key = self.held.remove(number);
+        let answer = self.allocate(request);
+        self.held.insert(number, *answer.as_ref().unwrap_or(&key));
+        answer
     }
 
-    /// Returns the reason why the range of an `ExactMatch` is not free.
+    /// Returns the conflict of a request if a range is free.
+    pub fn move_conflict(&self, number: usize, request: Constraint) -> Option<Conflict> {
+        let mut without = self.clone();
+        without.held.remove(number);
+        without.conflict(request)
+    }
+
+    /// Returns the reason why the range of a request is not free.
     pub fn conflict(&self, request: Constraint) -> Option<Conflict> {
+        let space = RangeInclusive::from_start_len(self.base, self.width).unwrap();
         let ExactMatch(start) = request.policy() else {
-            return None;
+            let is_outside = |window: RangeInclusive| !window.overlaps(&space);
+            return (request.window().is_some_and(is_outside)).then_some(Conflict::OutsideSpace(space));
         };
         let (first, base) = (u128::from(start), u128::from(self.base));
         let last = first + u128::from(request.size() - 1);
         if first < base || base + u128::from(self.width - 1) < last {
-            let space = RangeInclusive::from_start_len(self.base, self.width);
-            return space.ok().map(Conflict::OutsideSpace);
+            return Some(Conflict::OutsideSpace(space));
         }
         if !(is_in_window(first, request) && is_in_window(last, request)) {
             return request.window().map(Conflict::OutsideWindow);
