@@ -9,7 +9,7 @@ use crate::proved::vm_devices::{DeviceManager, DeviceSlot};
 use crate::proved::vm_ids::IdRequest;
 use crate::ranges::{dvs_address_allocator, space_of};
 use crate::rattle::Global;
-use crate::requests::{in_the_way, refused};
+use crate::requests::{refused, refused_by};
 use crate::texts::{read_devices, save_devices};
 use crate::{dvs_range, dvs_refusal, CallError, Out};
 use core::ffi::{c_int, c_void};
@@ -90,14 +90,12 @@ fn move_device(
     let moved = manager.move_constraint(Global, id, request);
     moved
         .map(Into::into)
-        .map_err(|error| match (&error, request.policy(), manager.slot(id)) {
-            (Error::ResourceNotAvailable, AllocPolicy::ExactMatch(start), Some(key))
-                if wants_details =>
-            {
-                let conflict = manager.addresses().move_conflict(&key, request);
-                CallError::NotAvailable(in_the_way(start, request, conflict))
+        .map_err(|error| match manager.slot(id) {
+            Some(range) => {
+                let conflict = || manager.addresses().move_conflict(&range, request);
+                refused_by(conflict, request, error, wants_details)
             }
-            _ => error.into(),
+            None => error.into(),
         })
 }
 
