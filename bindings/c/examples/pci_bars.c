@@ -63,6 +63,18 @@ static void program_bar(dvs_address_allocator *mmio, dvs_request bar, uint64_t s
         printf("not moved to %#" PRIx64 ": %s\n", start, dvs_status_text(status));
 }
 
+/* Makes a BAR twice as long, in place. It stays unchanged if another range is in the way. */
+static void double_bar(dvs_address_allocator *mmio, dvs_range *range) {
+    const uint64_t size = 2 * (range->end - range->start + 1);
+    const dvs_request longer = {size, size, range->start, DVS_EXACT, NULL};
+    dvs_refusal refusal;
+
+    if (dvs_range_move_request(mmio, *range, &longer, range, &refusal) == DVS_OK)
+        print_range("longer", *range);
+    else if (refusal.cause == DVS_CAUSE_ALLOCATED)
+        print_range("in the way", refusal.other);
+}
+
 /* Returns a saved and restored copy of the allocator, as after a migration. */
 static dvs_address_allocator *restored(const dvs_address_allocator *mmio) {
     dvs_address_allocator *copy;
@@ -120,6 +132,7 @@ int main(void) {
     program_bar(mmio, graphics[0], 0xd0000800, &bars[0]);
     program_bar(mmio, graphics[0], 0x200000000, &bars[0]);
     program_bar(mmio, graphics[0], 0xd0000000, &bars[0]);
+    double_bar(mmio, &bars[0]);
 
     copy = restored(mmio);
     dvs_address_allocator_destroy(mmio);

@@ -106,11 +106,16 @@ impl Resources {
         Ok(())
     }
 
-    /// Makes a BAR of a device larger or smaller. The BAR stays unchanged if no range fits.
+    /// Makes a BAR of a device larger or smaller, in place if that is possible. The BAR stays unchanged if no
+    /// range fits.
     fn resize_bar(&mut self, device: &mut PciDevice, index: usize, kind: Bar) -> Result<()> {
-        let request = kind.request(AllocPolicy::FirstMatch)?;
         let bar = &mut device.bars[index];
-        *bar = self.addresses.move_constraint(bar, request)?;
+        let in_place = kind.request(AllocPolicy::ExactMatch(bar.start()));
+        let policy = match in_place.map(|request| self.addresses.move_conflict(bar, request)) {
+            Ok(None) => AllocPolicy::ExactMatch(bar.start()),
+            _ => AllocPolicy::FirstMatch,
+        };
+        *bar = self.addresses.move_constraint(bar, kind.request(policy)?)?;
         device.kinds[index] = kind;
         Ok(())
     }
@@ -123,6 +128,14 @@ impl Resources {
         // A slot is free, so this succeeds.
         let slot = self.memory_slots.allocate_id()?;
         Ok(MemoryModule { slot, range })
+    }
+
+    /// Unplugs the end of a memory module, so that `size` bytes are left.
+    fn shrink_memory(&mut self, module: &mut MemoryModule, size: u64) -> Result<()> {
+        let policy = AllocPolicy::ExactMatch(module.range.start());
+        let request = Constraint::new(size, 128 * MIB, policy)?;
+        module.range = self.addresses.move_constraint(&module.range, request)?;
+        Ok(())
     }
 
     /// Frees everything that a memory module has.
@@ -265,7 +278,7 @@ fn are_apart(devices: &[PciDevice]) -> bool {
 fn main() -> Result<()> {
     let shared = Shared(Arc::new(Mutex::new(Resources::new()?)));
     let card = plug_cards(&shared)?;
-    let memory = shared.with(|resources| resources.plug_memory(128 * GIB, 8 * GIB))?;
+    let mut memory = shared.with(|resources| resources.plug_memory(128 * GIB, 8 * GIB))?;
     println!("memory: {} in slot {}", memory.range, memory.slot);
     let twice = shared.with(|resources| resources.plug_memory(128 * GIB, 8 * GIB));
     assert!(matches!(twice, Err(Error::InvalidStateTransition(range, _)) if range == memory.range));
@@ -281,6 +294,10 @@ fn main() -> Result<()> {
         Ok(())
     })?;
 
+    // The guest gives back the upper half of the first module, and then the other one fits.
+    shared.with(|resources| resources.shrink_memory(&mut memory, 4 * GIB))?;
+    let other = shared.with(|resources| resources.plug_memory(start, size))?;
+
     let mut devices = plug_by_two_threads(&shared)?;
     devices.push(card);
     println!("{} devices, apart: {}", devices.len(), are_apart(&devices));
@@ -290,7 +307,9 @@ fn main() -> Result<()> {
     for device in &devices {
         restored.unplug(device)?;
     }
-    restored.unplug_memory(&memory)?;
+    for module in [&memory, &other] {
+        restored.unplug_memory(module)?;
+    }
     // Everything is free now, except what `new` allocated.
     assert_eq!(restored.addresses, Resources::new()?.addresses);
     println!("restored and emptied, then:");

@@ -62,8 +62,9 @@ fn moved_bar(space: &mut AddressAllocator) -> Result<()> {
     assert!(space.holds(&moved) && !space.holds(&bar));
     assert_eq!(space.conflict(programmed), Some(Conflict::Allocated(moved)));
 
-    let resized = space.move_constraint(&moved, request(MIB, AllocPolicy::FirstMatch)?)?;
-    assert!(space.holds(&resized) && !space.holds(&moved));
+    // It grows in place, because the addresses behind it are free.
+    let resized = space.move_constraint(&moved, request(MIB, AllocPolicy::ExactMatch(moved.start()))?)?;
+    assert_eq!((resized.start(), resized.len()), (moved.start(), MIB));
     Ok(())
 }
 

@@ -205,11 +205,12 @@ impl AddressAllocator {
         }
     }
 
-    /// Cancels a move of `key` that was begun. The tree can have another shape than before it.
+    /// Cancels a move that was begun. The tree can have another shape than before it.
     #[tactic(auto, using(crate::proofs::Moving::Finishing::cancelling))]
-    pub fn cancel_move(&mut self, key: &RangeInclusive, begun: BegunMove)
-        requires { (old : AddressState) × IsBegun old key.now begun (state_of self.old) }
-        ensures same { (old : AddressState) → IsBegun old key.now begun (state_of self.old) → state_of self.new ≡ old }
+    pub fn cancel_move(&mut self, begun: BegunMove)
+        requires { (old : AddressState) × (r : Range) × IsBegun old r begun (state_of self.old) }
+        ensures same { (old : AddressState) (r : Range) → IsBegun old r begun (state_of self.old)
+            → state_of self.new ≡ old }
         ensures parts { TakesParts 1 self.old [] self.new }
     {
         if begun.is_allocated {

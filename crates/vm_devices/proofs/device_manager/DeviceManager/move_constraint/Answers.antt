@@ -41,14 +41,14 @@ pub invariant_of-self-in-Err : goal.invariant_of-self-in-Err
 invariant_of-self-in-Err c =
     let old : DeviceState = devices_of c.self.inside.id_allocator (state_of c.self.inside.mmio_allocator) c.self.inside.slots in
     subst IsDeviceState
-    (sym (move_cancelled old _ _ (c.cancel_move.ensures.same _ c.in_ok-begun.ensures.answer.1) c.in-Err.ensures.err))
+    (sym (move_cancelled old _ _ (c.cancel_move.ensures.same _ _ c.in_ok-begun.ensures.answer.1) c.in-Err.ensures.err))
     c.self.invariant
 
 pub returns-in-Err-clause-unchanged : goal.returns-in-Err-clause-unchanged
 returns-in-Err-clause-unchanged c =
     let old : DeviceState = devices_of c.self.inside.id_allocator (state_of c.self.inside.mmio_allocator) c.self.inside.slots in
     rw (← c.self.view_is)
-    (move_cancelled old _ _ (c.cancel_move.ensures.same _ c.in_ok-begun.ensures.answer.1) c.in-Err.ensures.err)
+    (move_cancelled old _ _ (c.cancel_move.ensures.same _ _ c.in_ok-begun.ensures.answer.1) c.in-Err.ensures.err)
 
 pub returns-in-Err-clause-parts : goal.returns-in-Err-clause-parts
 returns-in-Err-clause-parts c =
@@ -65,7 +65,7 @@ returns-in-Err-clause-answer c =
     let device = ap (λ (v : DevicesInTree). map.get v.devices c.args.id) c.self.view_is ∙ sym c.in-Some.ensures.value in
     rw (← c.self.view_is, is)
     (move_undone old _ c.args.id c.in-Some.before device c.args.request c.in_ok-begun.begun.range _ c.in_ok-begun.ensures.answer.0
-    (move_cancelled old _ _ (c.cancel_move.ensures.same _ c.in_ok-begun.ensures.answer.1) c.in-Err.ensures.err))
+    (move_cancelled old _ _ (c.cancel_move.ensures.same _ _ c.in_ok-begun.ensures.answer.1) c.in-Err.ensures.err))
 
 pub invariant_of-self-2 : goal.invariant_of-self-2
 invariant_of-self-2 c =

@@ -138,8 +138,8 @@ impl AddressAllocator {
         }
     }
 
-    /// Cancels a move of `key` that was begun. The tree can have another shape than before it.
-    pub(in crate::proved) fn cancel_move(&mut self, key: &RangeInclusive, begun: BegunMove) {
+    /// Cancels a move that was begun. The tree can have another shape than before it.
+    pub(in crate::proved) fn cancel_move(&mut self, begun: BegunMove) {
         if begun.is_allocated {
             // An allocated range is always freed.
             let _ = self.free(&begun.range);
