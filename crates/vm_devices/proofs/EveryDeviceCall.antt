@@ -13,7 +13,19 @@ use Rattle.vm_addresses.specs.Histories.AddressHistories.{Allocate, MoveTo}
 use Rattle.vm_addresses.proofs.Results.EveryAddressCall.{every_call}
 use Rattle.vm_ids.proofs.Ids.EveryIdCall.{every_call as every_id_call}
 use Rattle.vm_devices.specs.declared.device_slot.DeviceSlot.{DeviceSlot}
-use Rattle.vm_devices.specs.Devices.{DeviceState, made_devices, with_device, without_device, with_range, MakesManager, Reserves, ReservesFor, Releases, Replaces, MovesDevice}
+use Rattle.vm_devices.specs.Devices.{
+  DeviceState,
+  made_devices,
+  with_device,
+  without_device,
+  with_range,
+  MakesManager,
+  Reserves,
+  ReservesFor,
+  Releases,
+  Replaces,
+  MovesDevice,
+}
 use Rattle.vm_devices.specs.Histories.{Reserve, Release, Move, Clone, IsDeviceCallFrom}
 use Rattle.vm_devices.specs.Laws.{EveryDeviceCallIsAnswered}
 use Rattle.vm_ranges.specs.Histories.{EveryCallIsAnswered, EveryListHasHistory}
