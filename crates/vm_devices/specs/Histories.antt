@@ -15,8 +15,8 @@ use Rattle.vm_devices.specs.Devices.{DeviceState, IsDevice, MakesManager, Reserv
 use Rattle.vm_devices.specs.Listed.{MakesOfDevices}
 use Rattle.vm_devices.specs.Saved.{EncodesManager}
 
--- A call without its result: a reservation by a request for the id and one for the range, a release by an id, a
--- move of a device by its id and a request, or the creation of a clone.
+-- A call without its result. It reserves a device for two requests, releases or moves the device with an id, or creates a
+-- clone.
 pub data DeviceAsked : Type 0 where
   Reserve : IdRequest → Request → DeviceAsked
   Release : ℕ → DeviceAsked
