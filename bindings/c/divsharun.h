@@ -65,8 +65,8 @@
  * Calls on one id or device take logarithmic time too. If such a call makes the list
  * of freed ids or of devices longer, it can also move the list, in linear time.
  * dvs_id_allocate_exact(), dvs_id_allocate_in() and dvs_device_reserve_with_id() add each
- * id that they skip to the freed ones. Counts, dvs_longest_gap() and the ends of a space or of a range of ids
- * take constant time. Allocating an array takes the time of each request or id. All
+ * id that they skip to the freed ones. Counts, dvs_longest_gap() and the ends of a space or of a
+ * range of ids take constant time. Allocating an array takes the time of each request or id. All
  * other calls take time at most linear in the size of the object, the array or the
  * text.
  *
@@ -1002,6 +1002,19 @@ DVS_WARN_UNUSED
 dvs_status dvs_device_reserve_with_id(dvs_device_manager *manager, uint32_t first_id,
                                       uint32_t last_id, const dvs_request *request,
                                       dvs_device *device, dvs_refusal *refusal);
+
+/*
+ * Moves the device with this id to the place of a request, and writes its range there
+ * to `range`. It keeps its id. The range can overlap the one before.
+ *
+ * Errors, in order:
+ * - Those of dvs_range_allocate() from DVS_INVALID_POLICY to DVS_INVALID_RANGE.
+ * - DVS_NEVER_ALLOCATED, with the id, if no device has it.
+ * - The other errors of dvs_range_move_request(), in the same order.
+ */
+DVS_WARN_UNUSED
+dvs_status dvs_device_move(dvs_device_manager *manager, uint32_t id, const dvs_request *request,
+                           dvs_range *range, dvs_refusal *refusal);
 
 /*
  * Writes to `conflict` why the range of a DVS_EXACT request is not free, like

@@ -573,6 +573,11 @@ class device_manager : public owner<dvs_device_manager, dvs_device_manager_destr
         const dvs_request one = asked.for_call();
         return code(dvs_device_reserve_with_id(get(), first_id, last_id, &one, &device, refusal));
     }
+    error move(uint32_t id, const request &asked, dvs_range &range,
+               dvs_refusal *refusal = nullptr) noexcept {
+        const dvs_request one = asked.for_call();
+        return code(dvs_device_move(get(), id, &one, &range, refusal));
+    }
     error conflict(const request &asked, dvs_refusal &found) const noexcept {
         const dvs_request one = asked.for_call();
         return code(dvs_device_conflict(get(), &one, &found));

@@ -9,7 +9,7 @@ use crate::proved::vm_devices::{DeviceManager, DeviceSlot};
 use crate::proved::vm_ids::IdRequest;
 use crate::ranges::{dvs_address_allocator, space_of};
 use crate::rattle::Global;
-use crate::requests::refused;
+use crate::requests::{refused, refused_by};
 use crate::texts::{read_devices, save_devices};
 use crate::{dvs_range, dvs_refusal, CallError, Out};
 use core::ffi::{c_int, c_void};
@@ -80,6 +80,25 @@ fn refused_device(
     refused(manager.addresses(), request, error, wants_details)
 }
 
+/// Moves a device. Its own range is not in the way.
+fn move_device(
+    manager: &mut DeviceManager,
+    id: u32,
+    request: Constraint,
+    wants_details: bool,
+) -> Result<dvs_range, CallError> {
+    let moved = manager.move_constraint(Global, id, request);
+    moved
+        .map(Into::into)
+        .map_err(|error| match manager.slot(id) {
+            Some(range) => {
+                let conflict = || manager.addresses().move_conflict(&range, request);
+                refused_by(conflict, request, error, wants_details)
+            }
+            None => error.into(),
+        })
+}
+
 functions! {
     dvs_device_manager_new(first_id: u32, last_id: u32, base: u64, size: u64)
         -> *mut dvs_device_manager [refusal] {
@@ -131,6 +150,10 @@ calls! {
         manager: dvs_device_manager, first_id: u32, last_id: u32; request
     ) -> device: dvs_device [refusal] {
         reserve_request(manager, IdRequest::LowestIn(first_id, last_id), request, refusal.is_some())
+    }
+    with_request dvs_device_move(manager: dvs_device_manager, id: u32; request)
+        -> range: dvs_range [refusal] {
+        move_device(manager, id, request, refusal.is_some())
     }
     with_conflict dvs_device_conflict(manager: dvs_device_manager; request)
         -> conflict: dvs_refusal {

@@ -60,7 +60,12 @@ fn move_by(
     let moved = space.move_constraint(Global, range, request);
     moved.map(Into::into).map_err(|error| {
         let wants_details = wants_details && space.holds(range);
-        refused_by(|| space.move_conflict(range, request), request, error, wants_details)
+        refused_by(
+            || space.move_conflict(range, request),
+            request,
+            error,
+            wants_details,
+        )
     })
 }
 

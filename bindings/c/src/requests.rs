@@ -83,7 +83,9 @@ pub(crate) fn refused_by(
 /// Returns the details of a request whose range is not available.
 pub(crate) fn in_the_way(request: Constraint, conflict: Option<Conflict>) -> dvs_refusal {
     let range = match request.policy() {
-        AllocPolicy::ExactMatch(start) => RangeInclusive::from_start_len(start, request.size()).ok(),
+        AllocPolicy::ExactMatch(start) => {
+            RangeInclusive::from_start_len(start, request.size()).ok()
+        }
         _ => None,
     };
     let (cause, other) = match conflict {

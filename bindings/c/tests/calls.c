@@ -273,6 +273,7 @@ static const struct step of_given_ids[] = {
 static const struct step on_devices[] = {
     {RESERVE, {0}, FAILS(DVS_INVALID_POLICY)},
     {RESERVE_WITH_ID, {9, 3}, FAILS(DVS_INVALID_POLICY)},
+    {MOVE_DEVICE, {9}, FAILS(DVS_INVALID_POLICY)},
     {DEVICE_CONFLICT, {0}, ENDS(DVS_INVALID_POLICY)},
     {RESERVE_FIRST, {0x100, 0x100}, GETS_DEVICE(1, 0x1000, 0x10ff)},
     {RESERVE_LAST, {0x100, 0x100}, GETS_DEVICE(2, 0x1f00, 0x1fff)},
@@ -429,9 +430,10 @@ static void reserve_many_devices(uint32_t first) {
     destroy(2, manager);
 }
 
-/* Reserves devices with given ids, and reads copies of the allocators. */
+/* Reserves devices with given ids, moves one, and reads copies of the allocators. */
 static void reserve_given_ids(void) {
-    static const dvs_request one = {8, 8, 0, DVS_FIRST, NULL}, held = {8, 1, 4, DVS_EXACT, NULL};
+    static const dvs_request one = {8, 8, 0, DVS_FIRST, NULL}, held = {8, 1, 4, DVS_EXACT, NULL},
+                             last = {16, 16, 0, DVS_LAST, NULL};
     dvs_device_manager *manager;
     dvs_address_allocator *space;
     dvs_id_allocator *ids;
@@ -452,6 +454,19 @@ static void reserve_given_ids(void) {
     CHECK(refusal.cause == DVS_CAUSE_ALLOCATED && is_range(refusal.other, 0, 7));
     CHECK(dvs_device_reserve_with_id(manager, 7, UINT32_MAX, &one, &device, NULL) == DVS_OK);
     CHECK(device.id == 8 && is_range(device.range, 8, 15));
+    CHECK(dvs_device_move(manager, 8, &held, &device.range, &refusal) ==
+          DVS_RESOURCE_NOT_AVAILABLE);
+    CHECK(refusal.cause == DVS_CAUSE_ALLOCATED && is_range(refusal.other, 0, 7));
+    CHECK(dvs_device_move(manager, 9, &held, &device.range, &refusal) == DVS_NEVER_ALLOCATED);
+    CHECK(refusal.id == 9);
+    CHECK(dvs_device_move(manager, 7, &held, &device.range, &refusal) ==
+          DVS_RESOURCE_NOT_AVAILABLE);
+    CHECK(dvs_device_move(manager, 8, &last, &device.range, NULL) == DVS_OK);
+    CHECK(is_range(device.range, 48, 63));
+    CHECK(dvs_device_slot(manager, 8, &device.range, NULL) == DVS_OK);
+    CHECK(is_range(device.range, 48, 63));
+    CHECK(dvs_device_move(manager, 7, &held, &device.range, NULL) == DVS_OK);
+    CHECK(is_range(device.range, 4, 11));
     CHECK(dvs_device_manager_copy_addresses(manager, &space) == DVS_OK);
     CHECK(dvs_range_count(space, &count) == DVS_OK && count == 2);
     CHECK(dvs_device_manager_copy_ids(manager, &ids) == DVS_OK);

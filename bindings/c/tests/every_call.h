@@ -22,7 +22,7 @@ enum {
     ID, ID_IN, IDS, ID_EXACT, FREE_ID, DESTROY_IDS,
     PEEK, IS_ID_HELD, ID_COUNT, FREE_COUNT, ID_ENDS, EQUAL_IDS, COPY_IDS, SAVE_IDS, VISIT_IDS,
 
-    RESERVE_FIRST, RESERVE_LAST, RESERVE_EXACT, RESERVE, RESERVE_WITH_ID, RELEASE, DESTROY_MANAGER,
+    RESERVE_FIRST, RESERVE_LAST, RESERVE_EXACT, RESERVE, RESERVE_WITH_ID, MOVE_DEVICE, RELEASE, DESTROY_MANAGER,
     DEVICE_SLOT, DEVICE_AT, DEVICE_COUNT, DEVICE_SPACE, DEVICE_IDS, DEVICE_CONFLICT, COPY_ADDRESSES, COPY_DEVICE_IDS, EQUAL_MANAGERS, COPY_MANAGER, SAVE_MANAGER,
     VISIT_DEVICES,
     CALLS
@@ -205,6 +205,7 @@ static dvs_status make_call(int call, void *object, const uint64_t *n) {
         CASE(RESERVE, dvs_device_reserve(manager, given.request, to_device, REFUSAL));
         CASE(RESERVE_WITH_ID,
              dvs_device_reserve_with_id(manager, first, last, given.request, to_device, REFUSAL));
+        CASE(MOVE_DEVICE, dvs_device_move(manager, first, given.request, to, REFUSAL));
         CASE(RELEASE, dvs_device_release(manager, first, REFUSAL));
         CASE(DESTROY_MANAGER, dvs_device_manager_destroy(manager));
         CASE(DEVICE_SLOT, dvs_device_slot(seen_manager, first, to, REFUSAL));

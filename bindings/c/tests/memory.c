@@ -133,6 +133,7 @@ static const struct row rows[] = {
     {"reserve last", RESERVE_LAST, 2, {4, 8}, 2},
     {"reserve exactly", RESERVE_EXACT, 2, {4, 1, 50}, 2},
     {"reserve in a window", RESERVE, 2, {0}, 2},
+    {"move a device", MOVE_DEVICE, 2, {9}, 2},
     {"reserve with an id", RESERVE_WITH_ID, 2, {999, 1000}, 8},
     {"read a manager", MANAGER_WITHIN, 2, {0}, 9},
 };

@@ -212,6 +212,10 @@ static void reserve_in_windows() {
           dvs::code(DVS_RESOURCE_NOT_AVAILABLE));
     CHECK(!devices.release(5));
     CHECK(!devices.reserve_with_id(5, 5, request::last(8, 8), device) && device.id == 5);
+    dvs_range moved;
+    CHECK(devices.move(9, request::first(8, 8), moved) == dvs::code(DVS_NEVER_ALLOCATED));
+    CHECK(!devices.move(5, request::exact(16, 8, 48), moved) && is_range(moved, 48, 63));
+    CHECK(!devices.move(5, request::last(8, 8), moved));
     CHECK(!space.make_copy_of(devices.get()) && ranges_of(space).size() == 2);
     CHECK(is_range(ranges_of(space)[1], 56, 63));
     CHECK(!ids.make_copy_of(devices.get()) && list(ids, &dvs::id_allocator::ids).size() == 2);

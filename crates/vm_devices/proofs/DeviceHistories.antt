@@ -3,18 +3,21 @@ use Rattle.std.proofs.Common.{◌≡◌, ◌≢◌, ℕ, ◌<◌, ◌⊎◌, Lis
 use Rattle.std.specs.Ordering.{nat_cmp}
 use Rattle.std.specs.FinMap as map
 use Rattle.vm_ranges.specs.Range.{Range, MAX, Overlaps, Covers}
-use Rattle.vm_addresses.specs.Address.{holding}
+use Rattle.vm_addresses.specs.Address.{holding, releasing}
 use Rattle.vm_ids.specs.Ids.{IsOfRange}
 use Rattle.vm_addresses.proofs.Results.AddressResults.{lie_apart}
-use Rattle.vm_addresses.proofs.Callers.{given}
+use Rattle.vm_addresses.proofs.Callers.{given, request_fits, request_inside}
+use Rattle.vm_addresses.proofs.Histories.MoveSteps.{moved_parts}
+use Rattle.vm_ranges.specs.Request.{Request}
 use Rattle.vm_devices.specs.declared.device_slot.DeviceSlot.{DeviceSlot}
-use Rattle.vm_devices.specs.Devices.{DeviceState, IsDevice, IsDeviceState}
+use Rattle.vm_devices.specs.Devices.{DeviceState, IsDevice, IsDeviceState, MovesDevice}
 use Rattle.vm_ranges.proofs.Clones.{cloning_keeps}
 use Rattle.vm_ranges.proofs.Histories.{history_keeps}
 use Rattle.vm_ranges.specs.declared.error.Error.{Error}
 use Rattle.vm_devices.specs.Histories.{
   Reserve,
   Release,
+  Move,
   Clone,
   DeviceCall,
   IsDeviceCallFrom,
@@ -29,6 +32,7 @@ use Rattle.vm_devices.specs.Laws.{DevicesAreValid}
 use Rattle.vm_devices.proofs.Tables.{with_cases, without_is}
 use Rattle.vm_devices.proofs.Pairs.{id_held}
 use Rattle.vm_devices.proofs.DeviceCalls.{made_state, IsPlaced, reserving_outcome, releasing_outcome, reserved_state, released_state}
+use Rattle.vm_devices.proofs.DeviceMoves.{moving_outcome, moving_state, moved_device}
 use Rattle.vm_devices.proofs.SavedManagers.{encoded_state}
 
 -- ---- Every reached state is valid
@@ -36,6 +40,7 @@ use Rattle.vm_devices.proofs.SavedManagers.{encoded_state}
 call_state : (call : DeviceCall) (old new : DeviceState) → IsDeviceState old → IsDeviceCallFrom old call new → IsDeviceState new
 call_state (Reserve which request, answer) old new i h = reserved_state old new which request answer i h
 call_state (Release id, answer) old new i h = released_state old new id answer i h
+call_state (Move id request, answer) old new i h = moving_state old new id request answer i h
 call_state (Clone, answer) old new i h = subst IsDeviceState (sym (cloning_keeps old new answer h.0 h.1)) i
 
 -- Each first state of a history is valid.
@@ -55,10 +60,31 @@ reached_state calls old r = history_keeps IsDeviceCallFrom IsDeviceState call_st
 reserved_later : (call : DeviceCall) (calls : List DeviceCall) (id : ℕ) (r : Range) → WasReserved calls id r →
     WasReserved (call ∷ calls) id r
 reserved_later call calls id r g =
-    let c = g.call in
-    record { which = g.which; request = g.request; call = (suc c.0, omega (arith, c.1), c.2); aligned = g.aligned; long = g.long; inside = g.inside }
+    record {
+      request = g.request;
+      call = ⊎_elim (λ c. inl (c.0, (suc c.1.0, omega (arith, c.1.1), c.1.2))) (λ c. inr (suc c.0, omega (arith, c.1), c.2)) g.call;
+      aligned = g.aligned;
+      long = g.long;
+      inside = g.inside;
+    }
 
--- A device after a call was a device before it, or the call reserved it.
+-- A move to the range is one of the calls.
+moved_by : (old new : DeviceState) (q : ℕ) (request : Request) (answer : Result Range Error) (calls : List DeviceCall) (id : ℕ)
+    (r : Range) → MovesDevice old q request answer new → q ≡ id → answer ≡ Ok r → WasReserved ((Move q request, answer) ∷ calls) id r
+moved_by old new q request answer calls id r h same is =
+    let move : ℕ → Result Range Error → DeviceCall = λ i x. (Move i request, x) in
+    let m = moved_device old new q request r (subst (λ (x : Result Range Error). MovesDevice old q request x new) is h) in
+    let s = moved_parts old.space m.space m.before r request m.move in
+    let fits = request_fits (releasing m.before old.space) m.space request (Ok r) s.allocated in
+    record {
+      request = request;
+      call = inr (0, omega arith, ap (λ (i : ℕ). move i answer) same ∙ ap (move id) is);
+      aligned = fits.1;
+      long = (given (releasing m.before old.space) m.space request r s.allocated).long;
+      inside = request_inside (releasing m.before old.space) m.space request (Ok r) s.allocated;
+    }
+
+-- A device after a call was a device before it, or the call reserved it or moved it.
 call_reserves : (old new : DeviceState) (call : DeviceCall) (calls : List DeviceCall) (id : ℕ) (r : Range) → IsDeviceCallFrom old call new →
     IsDevice new id r → IsDevice old id r ⊎ WasReserved (call ∷ calls) id r
 call_reserves old new (Reserve which request, answer) calls id r h d =
@@ -72,9 +98,8 @@ call_reserves old new (Reserve which request, answer) calls id r h d =
     let m = subst (λ (s : DeviceSlot). IsPlaced old request s new) is made.2.placed in
     let call_of : Result DeviceSlot Error → DeviceCall = λ x. (Reserve which request, x) in
     inr (record {
-      which = which;
       request = request;
-      call = (0, omega arith, ap call_of (made.1 ∙ ap (λ (s : DeviceSlot). Ok s) is));
+      call = inl (which, (0, omega arith, ap call_of (made.1 ∙ ap (λ (s : DeviceSlot). Ok s) is)));
       aligned = m.fits.1;
       long = (given old.space (holding r old.space) request r m.given).long;
       inside = m.inside;
@@ -85,6 +110,17 @@ call_reserves old new (Reserve which request, answer) calls id r h d =
 call_reserves old new (Release q, answer) calls id r h d =
     inl (⊎_elim (λ refused. rw refused.2 at d) (λ left. (without_is old.devices q id r (rw left.3 at d)).1)
     (releasing_outcome old new q answer h))
+call_reserves old new (Move q request, answer) calls id r h d =
+    ⊎_elim
+    (λ refused. inl (rw refused.2 at d))
+    (λ moved.
+    let p = moved.0 in
+    let m = moved.2 in
+    ⊎_elim
+    (λ same. inr (moved_by old new q request answer calls id r h (sym same.0) (moved.1 ∙ ap (λ (v : Range). Ok v) (sym same.1))))
+    (λ before. inl before)
+    (with_cases old.devices q p id r (rw m.left at d)))
+    (moving_outcome old new q request answer h)
 call_reserves old new (Clone, answer) calls id r h d = inl (rw (cloning_keeps old new answer h.0 h.1) at d)
 
 -- A device after a history was there before it, or was reserved by it.

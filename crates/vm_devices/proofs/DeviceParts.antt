@@ -1,13 +1,13 @@
 -- The parts of a reservation.
-use Rattle.std.proofs.Common.{◌≡◌, ℕ, [], ◌∷◌, refl, sym, inl, inr, subst, Result, Ok, Err}
+use Rattle.std.proofs.Common.{◌≡◌, ℕ, [], ◌∷◌, refl, sym, inl, inr, subst, arith, Result, Ok, Err}
 use Rattle.std.specs.Prelude.{OnOk, OnErr}
 use Rattle.vm_ranges.specs.Range.{Range}
 use Rattle.vm_ranges.specs.Request.{Request}
 use Rattle.vm_ranges.specs.declared.error.Error.{Error}
 use Rattle.vm_ranges.specs.declared.error.Error.TheVariants.{OutOfMemory}
-use Rattle.vm_addresses.specs.Counts.Parts.{Allocating, Freeing, HasPart, HasParts, TakesParts}
+use Rattle.vm_addresses.specs.Counts.Parts.{Part, Allocating, Freeing, HasPart, HasParts, IsPartFor, TakesParts}
 use Rattle.vm_ranges.proofs.Histories.{history_append}
-use Rattle.vm_addresses.proofs.Counts.TakenParts.{no_parts, allocated_only, allocated_and_freed}
+use Rattle.vm_addresses.proofs.Counts.TakenParts.{no_parts, more_allowed, taken_both, allocated_only, allocated_and_freed}
 use Rattle.vm_tree.specs.Shape.{Shape}
 use Rattle.vm_devices.specs.Manager.{DevicesInTree, GivesBack, ReservesInParts}
 use Rattle.vm_devices.specs.declared.device_slot.DeviceSlot.{DeviceSlot}
@@ -52,3 +52,21 @@ range_kept old new request answer slot part = record {
   parts = allocated_only old.addresses new.addresses request answer part;
   same = tt;
 }
+
+-- ---- A move that is cancelled
+-- A free is a part for all requests.
+for_all_requests : (request : Request) (part : Part) → IsPartFor [] part → IsPartFor (request ∷ []) part
+for_all_requests request (Allocating asked answer n) p = absurd (omega (arith, p.1.1))
+for_all_requests request (Freeing r n) p = tt
+
+-- The parts that begin a move, and those that cancel it.
+pub cancelled_parts : (old mid new : Shape) (request : Request) → TakesParts 1 old (request ∷ []) mid → TakesParts 1 mid [] new →
+    TakesParts 3 old (request ∷ []) new
+cancelled_parts old mid new request first second =
+    let more : TakesParts 1 mid (request ∷ []) new = record {
+      parts = second.parts;
+      from = second.from;
+      for_requests = λ i d b. for_all_requests request _ (second.for_requests i d b);
+      few = second.few;
+    } in
+    more_allowed 2 3 old new (request ∷ []) (taken_both 1 1 old mid new (request ∷ []) first more) (omega arith)

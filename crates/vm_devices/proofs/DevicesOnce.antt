@@ -1,22 +1,26 @@
 -- A call of a manager has one result, if memory suffices.
-use Rattle.std.proofs.Common.{◌≡◌, ◌≢◌, ℕ, sym, ap, ◌∙◌, arith, ⊎_elim, subst, Result, Ok, Err}
+use Rattle.std.proofs.Common.{◌≡◌, ◌≢◌, ℕ, sym, ap, ◌∙◌, arith, inl, inr, ◌⊎◌, ⊎_elim, subst, Option, Some, None, MatchOption, Result, Ok, Err}
 use Rattle.vm_ranges.specs.Range.{Range}
 use Rattle.vm_ranges.specs.Request.{Request}
 use Rattle.vm_addresses.specs.Address.{AddressState}
 use Rattle.vm_ids.specs.Ids.{IdState}
 use Rattle.vm_ranges.specs.declared.error.Error.{Error}
-use Rattle.vm_ranges.specs.declared.error.Error.TheVariants.{OutOfMemory}
+use Rattle.vm_ranges.specs.declared.error.Error.TheVariants.{NeverAllocated, OutOfMemory}
+use Rattle.vm_addresses.specs.Moves.{MovesRange}
+use Rattle.vm_addresses.proofs.Histories.MoveSteps.{moves_once}
 use Rattle.vm_addresses.proofs.Results.InMemory.{placed_once, made_once}
 use Rattle.vm_ids.specs.declared.id_request.IdRequest.{IdRequest}
 use Rattle.vm_ids.proofs.Ids.IdResults.{making_is_determined}
 use Rattle.vm_ids.proofs.Ids.PeekedIds.{peeks_once}
 use Rattle.vm_devices.specs.declared.device_slot.DeviceSlot.{DeviceSlot}
-use Rattle.vm_devices.specs.Devices.{DeviceState, made_devices, MakesManager, Pairs, Reserves, ReservesFor, Releases}
+use Rattle.vm_devices.specs.Devices.{DeviceState, made_devices, MakesManager, Pairs, Reserves, ReservesFor, Releases, Replaces, MovesDevice}
 use Rattle.vm_ranges.specs.Histories.{ErrorsChangeNothing, CallsAreDetermined, SameCallsSameResults}
 use Rattle.vm_ranges.proofs.Clones.{cloning_keeps, clones_once}
 use Rattle.vm_ranges.proofs.Histories.{same_results}
-use Rattle.vm_devices.specs.Histories.{Reserve, Release, Clone, IsDeviceCallFrom}
+use Rattle.vm_devices.specs.Histories.{Reserve, Release, Move, Clone, IsDeviceCallFrom}
 use Rattle.vm_devices.specs.Laws.{DevicesDecide}
+use Rattle.std.specs.FinMap as map
+use Rattle.vm_devices.proofs.DeviceMoves.{moving_unchanged}
 use Rattle.vm_devices.proofs.DeviceCalls.{reserving_unchanged, releasing_outcome}
 
 -- Creating has one result if that for the space has.
@@ -76,10 +80,45 @@ released_once : (old new later : DeviceState) (id : ℕ) (answer other : Result 
 unfolding Releases
 released_once old new later id answer other p q a b = grind arith
 
+-- A move has one result and one next state.
+replaced_same : (old new later : DeviceState) (id : ℕ) (q : Range) (given : Result Range Error) (answer other : Result Range Error) →
+    answer ≢ Err OutOfMemory → other ≢ Err OutOfMemory →
+    Replaces old id q given answer new → Replaces old id q given other later → (answer ≡ other) × (new ≡ later)
+replaced_same old new later id q given answer other p s a b = grind arith
+
+replaced_once : (old new later : DeviceState) (id : ℕ) (q : Range) (given again : Result Range Error) (answer other : Result Range Error) →
+    answer ≢ Err OutOfMemory → other ≢ Err OutOfMemory →
+    (given ≡ again) ⊎ (given ≡ Err OutOfMemory) ⊎ (again ≡ Err OutOfMemory) →
+    Replaces old id q given answer new → Replaces old id q again other later → (answer ≡ other) × (new ≡ later)
+replaced_once old new later id q given again answer other p s (inl same) a b =
+    replaced_same old new later id q again answer other p s (subst (λ (v : Result Range Error). Replaces old id q v answer new) same a) b
+replaced_once old new later id q given again answer other p s (inr (inl e)) a b = absurd (p (rw e at a).0)
+replaced_once old new later id q given again answer other p s (inr (inr e)) a b = absurd (s (rw e at b).0)
+
+moved_at_once : (old new later : DeviceState) (id : ℕ) (request : Request) (answer other : Result Range Error) (at : Option Range) →
+    answer ≢ Err OutOfMemory → other ≢ Err OutOfMemory →
+    MatchOption at ((answer ≡ Err (NeverAllocated id)) × (new ≡ old))
+    (λ q. (given : Result Range Error) × (space : AddressState) × MovesRange old.space q request given space × Replaces old id q given answer new) →
+    MatchOption at ((other ≡ Err (NeverAllocated id)) × (later ≡ old))
+    (λ q. (given : Result Range Error) × (space : AddressState) × MovesRange old.space q request given space × Replaces old id q given other later) →
+    (answer ≡ other) × (new ≡ later)
+moved_at_once old new later id request answer other None p s a b = (a.0 ∙ sym b.0, a.1 ∙ sym b.1)
+moved_at_once old new later id request answer other (Some q) p s a b =
+    replaced_once old new later id q a.0 b.0 answer other p s
+    (⊎_elim (λ k. inl k.0) (λ k. inr k) (moves_once old.space a.1 b.1 q request a.0 b.0 a.2 b.2)) a.3 b.3
+
+moved_once : (old new later : DeviceState) (id : ℕ) (request : Request) (answer other : Result Range Error) → answer ≢ Err OutOfMemory →
+    other ≢ Err OutOfMemory → MovesDevice old id request answer new → MovesDevice old id request other later →
+    (answer ≡ other) × (new ≡ later)
+unfolding MovesDevice
+moved_once old new later id request answer other p s a b =
+    moved_at_once old new later id request answer other (map.get old.devices id) p s a b
+
 -- Each call has one result and one next state.
 call_once : CallsAreDetermined IsDeviceCallFrom
 call_once old new later (Reserve which request) x y p q a b = reserved_once old new later which request x y p q a b
 call_once old new later (Release id) x y p q a b = released_once old new later id x y p q a b
+call_once old new later (Move id request) x y p q a b = moved_once old new later id request x y p q a b
 call_once old new later Clone x y p q a b = clones_once old new later x y p q a b
 
 -- Each call has one result and one next state, if memory suffices.
@@ -96,6 +135,7 @@ pub errors_change_nothing : ErrorsChangeNothing IsDeviceCallFrom
 errors_change_nothing old new (Reserve which request) e h = reserving_unchanged old new which request e h
 errors_change_nothing old new (Release id) e h = ⊎_elim (λ refused. refused.2) (λ left. absurd (cc (left.2)))
     (releasing_outcome old new id (Err e) h)
+errors_change_nothing old new (Move id request) e h = moving_unchanged old new id request e h
 errors_change_nothing old new Clone e h = cloning_keeps old new (Err e) h.0 h.1
 
 pub ruleset decides = (devices_decide, same_device_results, errors_change_nothing)

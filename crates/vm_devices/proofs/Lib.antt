@@ -2,6 +2,7 @@ pub mod Tables
 pub mod Pairs
 pub mod DeviceHistories
 pub mod DeviceParts
+pub mod DeviceMoves
 pub mod DevicesAgain
 pub mod DevicesOnce
 pub mod EveryDeviceCall

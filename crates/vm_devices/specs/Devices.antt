@@ -8,6 +8,7 @@ use Rattle.vm_ranges.specs.Range.{Range, range_code}
 use Rattle.vm_addresses.specs.Address.{AddressState, address_state_code, IsAddressState, holding, releasing}
 use Rattle.vm_ranges.specs.Request.{Request}
 use Rattle.vm_addresses.specs.Answer.{Allocates, Makes}
+use Rattle.vm_addresses.specs.Moves.{MovesRange, replacing}
 use Rattle.vm_ids.specs.Ids.{IdState, id_state_code, IsHeld, IsIdState, MakesIds, holding_id, releasing_id}
 use Rattle.vm_ids.specs.IdRequests.{Peeks}
 use Rattle.vm_ids.specs.declared.id_request.IdRequest.{IdRequest}
@@ -69,6 +70,15 @@ without_device id r state =
       devices = map.remove state.devices id;
     }
 
+-- The state after the device with this id moves from the range q to the range r.
+abbrev pub with_range : ℕ → Range → Range → DeviceState → DeviceState
+with_range id q r state =
+    record {
+      ids = state.ids;
+      space = replacing q r state.space;
+      devices = map.insert state.devices id r;
+    }
+
 -- The state without devices, if both allocators are created. Otherwise the first error, and the ids are first.
 abbrev pub made_devices : Result IdState Error → Result AddressState Error → Result DeviceState Error
 made_devices (Err e) space = Err e
@@ -110,3 +120,21 @@ Releases old id answer new =
     (λ r.
     ((answer ≡ Ok tt) × (new ≡ without_device id r old))
     ⊎ ((answer ≡ Err OutOfMemory) × (new ≡ old)))
+
+-- The device with the range q gets the range that it moves to, or the result is OutOfMemory. If it cannot move, the result is the
+-- error of the move. An error changes nothing.
+abbrev pub Replaces : DeviceState → ℕ → Range → Result Range Error → Result Range Error → DeviceState → Type 0
+Replaces old id q (Err e) answer new = (answer ≡ Err e) × (new ≡ old)
+Replaces old id q (Ok r) answer new =
+    ((answer ≡ Ok r) × (new ≡ with_range id q r old))
+    ⊎ ((answer ≡ Err OutOfMemory) × (new ≡ old))
+
+-- The result of `move_constraint`: NeverAllocated if no device has the id. Otherwise the range of the device moves, or the
+-- result is OutOfMemory. An error changes nothing.
+unfoldable pub MovesDevice : DeviceState → ℕ → Request → Result Range Error → DeviceState → Type 0
+MovesDevice old id request answer new =
+    MatchOption (map.get old.devices id)
+    ((answer ≡ Err (NeverAllocated id)) × (new ≡ old))
+    (λ q.
+    (given : Result Range Error) × (space : AddressState)
+    × MovesRange old.space q request given space × Replaces old id q given answer new)

@@ -11,21 +11,23 @@ use Rattle.vm_addresses.specs.Address.{AddressState, IsAddressState}
 use Rattle.vm_ids.specs.Ids.{MAX_ID, IdState, IsIdState}
 use Rattle.vm_ids.specs.declared.id_request.IdRequest.{IdRequest}
 use Rattle.vm_devices.specs.declared.device_slot.DeviceSlot.{DeviceSlot}
-use Rattle.vm_devices.specs.Devices.{DeviceState, IsDevice, MakesManager, Reserves, Releases}
+use Rattle.vm_devices.specs.Devices.{DeviceState, IsDevice, MakesManager, Reserves, Releases, MovesDevice}
 use Rattle.vm_devices.specs.Listed.{MakesOfDevices}
 use Rattle.vm_devices.specs.Saved.{EncodesManager}
 
--- A call without its result: a reservation by a request for the id and one for the range, a release by an id, or the
--- creation of a clone.
+-- A call without its result. It reserves a device for two requests, releases or moves the device with an id, or creates a
+-- clone.
 pub data DeviceAsked : Type 0 where
   Reserve : IdRequest → Request → DeviceAsked
   Release : ℕ → DeviceAsked
+  Move : ℕ → Request → DeviceAsked
   Clone : DeviceAsked
 
--- The type of the value that a call returns: a device, nothing, or the state of a clone.
+-- The type of the value that a call returns: a device, nothing, a range, or the state of a clone.
 abbrev pub DeviceValue : DeviceAsked → Type 0
 DeviceValue (Reserve which request) = DeviceSlot
 DeviceValue (Release id) = Unit {0}
+DeviceValue (Move id request) = Range
 DeviceValue Clone = DeviceState
 
 -- A call with its result.
@@ -37,6 +39,7 @@ DeviceCall = CallOf DeviceValue
 abbrev pub IsDeviceCallFrom : DeviceState → DeviceCall → DeviceState → Type 0
 IsDeviceCallFrom old (Reserve which request, answer) new = Reserves old which request answer new
 IsDeviceCallFrom old (Release id, answer) new = Releases old id answer new
+IsDeviceCallFrom old (Move id request, answer) new = MovesDevice old id request answer new
 IsDeviceCallFrom old (Clone, answer) new = Clones old answer × (new ≡ result_unwrap_or answer old)
 
 -- The calls lead from the state old to the state new: each begins in the state that the call before it left.
@@ -78,12 +81,12 @@ pub record AreDevicesReached (calls : List DeviceCall) (state : DeviceState) : T
   pub begins : IsManagerMade first ⊎ BeginsWithDevices first
   pub history : IsDeviceHistoryFrom first calls state
 
--- A call reserved the range for the id: with the requested length, at a multiple of the requested alignment, and in the
--- window of the request, if it has one.
+-- A call reserved the range for the id, or moved the device to it: with the requested length, at a multiple of the requested
+-- alignment, and in the window of the request, if it has one.
 pub record WasReserved (calls : List DeviceCall) (id : ℕ) (r : Range) : Type 0 where
-  pub which : IdRequest
   pub request : Request
-  pub call : Contains calls (Reserve which request, Ok (record { id = id; range = r }))
+  pub call : ((which : IdRequest) × Contains calls (Reserve which request, Ok (record { id = id; range = r })))
+      ⊎ Contains calls (Move id request, Ok r)
   pub aligned : r.start % request.align ≡ 0
   pub long : r ≡ span r.start request.size
   pub inside : IfSome request.window (λ window. Covers window r)

@@ -23,6 +23,7 @@ use vm_ids::IdAllocator;
 
 mod comparing;
 mod device_table;
+mod moving;
 mod queries;
 mod reserving;
 mod saved;

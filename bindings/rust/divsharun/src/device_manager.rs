@@ -367,6 +367,68 @@ impl DeviceManager {
         found.map(Into::into)
     }
 
+    /// Moves a device to the place of a request, and returns its range there. It keeps its id. The
+    /// range can overlap the one before.
+    ///
+    /// # Errors
+    ///
+    /// An error leaves ids, ranges and devices unchanged. In this order:
+    /// - `NeverAllocated(id)` if no device has this id.
+    /// - The error of
+    ///   [`AddressAllocator::move_constraint`](crate::AddressAllocator::move_constraint) for its range.
+    ///
+    /// # Example
+    ///
+    /// ```rust
+    /// use divsharun::{AllocPolicy, Constraint, DeviceManager, Error};
+    ///
+    /// let mut devices = DeviceManager::new(1, 31, 0xfe00_0000, 0x20_0000)?;
+    /// let net = devices.reserve(0x4000, 0x4000, AllocPolicy::FirstMatch)?;
+    /// // The guest programs its BAR.
+    /// let bar = Constraint::new(0x4000, 0x4000, AllocPolicy::ExactMatch(0xfe10_0000))?;
+    /// let moved = devices.move_constraint(net.id, bar)?;
+    /// assert_eq!((moved.start(), devices.slot(net.id)), (0xfe10_0000, Some(moved)));
+    /// assert_eq!(devices.move_constraint(2, bar), Err(Error::NeverAllocated(2)));
+    /// # Ok::<(), Error>(())
+    /// ```
+    pub fn move_constraint(&mut self, id: u32, request: Constraint) -> Result<RangeInclusive> {
+        let moved = self.0.move_constraint(Global, id, request.0)?;
+        Ok(RangeInclusive(moved))
+    }
+
+    /// Moves a device like [`move_constraint`](Self::move_constraint), but returns an error if memory
+    /// runs out.
+    ///
+    /// # Errors
+    ///
+    /// An error leaves ids, ranges and devices unchanged. In this order:
+    /// - `Refused` with the error of `move_constraint`.
+    /// - `OutOfMemory` if memory for a node or for the table of devices runs out.
+    ///
+    /// # Example
+    ///
+    /// ```rust
+    /// use divsharun::{AllocPolicy, Constraint, DeviceManager, Error, TryError};
+    ///
+    /// let mut devices = DeviceManager::try_new(1, 31, 0xfe00_0000, 0x8000)?;
+    /// let net = devices.try_reserve(0x4000, 0x4000, AllocPolicy::FirstMatch)?;
+    /// let longer = Constraint::new(0x8000, 0x4000, AllocPolicy::FirstMatch)?;
+    /// assert_eq!(devices.try_move_constraint(net.id, longer)?.len(), 0x8000);
+    /// assert_eq!(
+    ///     devices.try_move_constraint(2, longer),
+    ///     Err(TryError::Refused(Error::NeverAllocated(2)))
+    /// );
+    /// # Ok::<(), TryError>(())
+    /// ```
+    pub fn try_move_constraint(
+        &mut self,
+        id: u32,
+        request: Constraint,
+    ) -> TryResult<RangeInclusive> {
+        let moved = self.0.move_constraint(Global, id, request.0)?;
+        Ok(RangeInclusive(moved))
+    }
+
     /// Releases a device: frees its id and its range.
     ///
     /// # Errors

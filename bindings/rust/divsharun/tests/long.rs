@@ -415,7 +415,7 @@ impl Beside for Manager {
     fn change(&mut self, is_freed: bool, draw: &mut Draw) {
         let (id, request) = (id_near(&self.ids, draw), request_near(&self.model, draw));
         let (size, align, policy) = (request.size(), request.align(), request.policy());
-        let form = draw.below(6);
+        let form = draw.below(8);
         let devices = &mut self.devices;
         if is_freed {
             let range = self.slots.remove(&id);
@@ -426,6 +426,26 @@ impl Beside for Manager {
             assert_eq!(answer, range.map(drop).ok_or(Error::NeverAllocated(id)));
             self.model.held.retain(|held| Some(*held) != range);
             assert_eq!(self.ids.release(id).is_ok(), range.is_some());
+            return;
+        }
+        if form > 5 {
+            let range = self
+                .slots
+                .get(&id)
+                .copied()
+                .ok_or(Error::NeverAllocated(id));
+            let place = |range| self.model.held.iter().position(|held| *held == range);
+            let mut model = self.model.clone();
+            let want = range.and_then(|range| model.move_to(place(range).unwrap(), request));
+            let answer = match form {
+                6 => devices.move_constraint(id, request),
+                _ => tried(devices, draw, |to| to.try_move_constraint(id, request)),
+            };
+            assert_eq!(answer, want, "{id} {request}");
+            if let Ok(range) = want {
+                self.model = model;
+                self.slots.insert(id, range);
+            }
             return;
         }
         let is_whole = request.window().is_none();

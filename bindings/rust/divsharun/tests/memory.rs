@@ -378,6 +378,10 @@ fn objects_stay_the_same() {
         devices.try_reserve_with_id(IdRequest::LowestIn(5, 9), request(1, LastMatch))
     });
     assert_eq!(devices.slot(5).map(|range| range.start()), Some(63));
+    unchanged_until_allowed(&mut devices, DeviceManager::clone, |devices| {
+        devices.try_move_constraint(5, request(2, FirstMatch))
+    });
+    assert_eq!(devices.slot(5).map(|range| range.start()), Some(0));
 }
 
 /// Makes a call with its first allocation failing, then with its second, until it succeeds. An error

@@ -11,6 +11,7 @@ use crate::rattle::Global;
 
 mod comparing;
 mod device_table;
+mod moving;
 mod queries;
 mod reserving;
 mod saved;

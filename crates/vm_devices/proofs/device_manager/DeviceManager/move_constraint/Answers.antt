@@ -1,0 +1,104 @@
+use Rattle.std.proofs.Common.{◌≡◌, [], ◌∷◌, sym, ap, ◌∙◌, subst, Err, IfSome, rules}
+use Rattle.std.specs.FinMap as map
+use Rattle.vm_ranges.specs.Range.{Range, Covers}
+use Rattle.vm_ranges.specs.declared.error.Error.TheVariants.{OutOfMemory}
+use Rattle.vm_addresses.specs.Allocator.{state_of}
+use Rattle.vm_devices.specs.Devices.{DeviceState, IsDeviceState, devices_of}
+use Rattle.vm_devices.specs.Manager.{DevicesInTree}
+use Rattle.vm_devices.proofs.DeviceMoves.{
+  moved_start,
+  moved_state,
+  move_refused,
+  move_undone,
+  device_moved,
+  moved_fits,
+  moved_inside,
+  move_cancelled,
+  move_finished,
+}
+use Rattle.vm_addresses.proofs.Counts.TakenParts.{taken_both}
+use Rattle.vm_devices.proofs.DeviceParts.{cancelled_parts}
+use Rattle.vm_devices.proofs.device_manager.DeviceManager.move_constraint.Goals as goal
+
+pub returns-in_err-begun-clause-answer : goal.returns-in_err-begun-clause-answer
+returns-in_err-begun-clause-answer c =
+    let e = c.in_err-begun.field-0.0 in
+    let is : c.from_residual.result ≡ Err e = search rules in
+    let device = ap (λ (v : DevicesInTree). map.get v.devices c.args.id) c.self.view_is ∙ sym c.in-Some.ensures.value in
+    let same = ap (λ a. devices_of c.self.inside.id_allocator (state_of a) c.self.inside.slots) c.in_err-begun.ensures.unchanged in
+    rw (← c.self.view_is, is)
+    (move_refused _ _ c.args.id c.in-Some.before device c.args.request e
+    (rw c.in_err-begun.ensures.unchanged at c.in_err-begun.ensures.answer) same)
+
+pub insert-requires : goal.insert-requires
+insert-requires c =
+    let device = ap (λ (v : DevicesInTree). map.get v.devices c.args.id) c.self.view_is ∙ sym c.in-Some.ensures.value in
+    rw c.range-range.ensures
+    (moved_start _ c.self.invariant c.args.id c.in-Some.before device c.args.request c.in_ok-begun.begun.range _
+    c.in_ok-begun.ensures.answer.0)
+
+pub invariant_of-self-in-Err : goal.invariant_of-self-in-Err
+invariant_of-self-in-Err c =
+    let old : DeviceState = devices_of c.self.inside.id_allocator (state_of c.self.inside.mmio_allocator) c.self.inside.slots in
+    subst IsDeviceState
+    (sym (move_cancelled old _ _ (c.cancel_move.ensures.same _ _ c.in_ok-begun.ensures.answer.1) c.in-Err.ensures.err))
+    c.self.invariant
+
+pub returns-in-Err-clause-unchanged : goal.returns-in-Err-clause-unchanged
+returns-in-Err-clause-unchanged c =
+    let old : DeviceState = devices_of c.self.inside.id_allocator (state_of c.self.inside.mmio_allocator) c.self.inside.slots in
+    rw (← c.self.view_is)
+    (move_cancelled old _ _ (c.cancel_move.ensures.same _ _ c.in_ok-begun.ensures.answer.1) c.in-Err.ensures.err)
+
+pub returns-in-Err-clause-parts : goal.returns-in-Err-clause-parts
+returns-in-Err-clause-parts c =
+    rw (← c.self.view_is)
+    (cancelled_parts _ c.begin_move.new.self _ c.args.request c.in_ok-begun.ensures.parts c.cancel_move.ensures.parts)
+
+pub returns-in-Err-clause-state : goal.returns-in-Err-clause-state
+returns-in-Err-clause-state c = invariant_of-self-in-Err c
+
+pub returns-in-Err-clause-answer : goal.returns-in-Err-clause-answer
+returns-in-Err-clause-answer c =
+    let is : c.into.result ≡ OutOfMemory = search rules in
+    let old : DeviceState = devices_of c.self.inside.id_allocator (state_of c.self.inside.mmio_allocator) c.self.inside.slots in
+    let device = ap (λ (v : DevicesInTree). map.get v.devices c.args.id) c.self.view_is ∙ sym c.in-Some.ensures.value in
+    rw (← c.self.view_is, is)
+    (move_undone old _ c.args.id c.in-Some.before device c.args.request c.in_ok-begun.begun.range _ c.in_ok-begun.ensures.answer.0
+    (move_cancelled old _ _ (c.cancel_move.ensures.same _ _ c.in_ok-begun.ensures.answer.1) c.in-Err.ensures.err))
+
+pub invariant_of-self-2 : goal.invariant_of-self-2
+invariant_of-self-2 c =
+    let old : DeviceState = devices_of c.self.inside.id_allocator (state_of c.self.inside.mmio_allocator) c.self.inside.slots in
+    let device = ap (λ (v : DevicesInTree). map.get v.devices c.args.id) c.self.view_is ∙ sym c.in-Some.ensures.value in
+    subst IsDeviceState
+    (sym (move_finished old c.args.id c.in-Some.before c.in_ok-begun.begun.range _ _
+    (c.finish_move.ensures.moved _ c.in_ok-begun.ensures.answer.1) (rw c.range-range.ensures at c.in_default-insert.ensures.inserted)))
+    (moved_state old c.self.invariant c.args.id c.in-Some.before device c.args.request c.in_ok-begun.begun.range _
+    c.in_ok-begun.ensures.answer.0)
+
+pub returns-clause-fits : goal.returns-clause-fits
+returns-clause-fits c =
+    rw c.range-range.ensures (moved_fits _ _ c.in-Some.before c.in_ok-begun.begun.range c.args.request c.in_ok-begun.ensures.answer.0)
+
+pub returns-clause-inside : goal.returns-clause-inside
+returns-clause-inside c =
+    subst (λ (v : Range). IfSome c.args.request.window (λ w. Covers w v)) (sym c.range-range.ensures)
+    (moved_inside _ _ c.in-Some.before c.in_ok-begun.begun.range c.args.request c.in_ok-begun.ensures.answer.0)
+
+pub returns-clause-parts : goal.returns-clause-parts
+returns-clause-parts c =
+    rw (← c.self.view_is)
+    (taken_both 1 2 _ c.begin_move.new.self _ (c.args.request ∷ []) c.in_ok-begun.ensures.parts (c.finish_move.ensures.parts c.args.request))
+
+pub returns-clause-state : goal.returns-clause-state
+returns-clause-state c = invariant_of-self-2 c
+
+pub returns-clause-answer : goal.returns-clause-answer
+returns-clause-answer c =
+    let old : DeviceState = devices_of c.self.inside.id_allocator (state_of c.self.inside.mmio_allocator) c.self.inside.slots in
+    let device = ap (λ (v : DevicesInTree). map.get v.devices c.args.id) c.self.view_is ∙ sym c.in-Some.ensures.value in
+    rw (← c.self.view_is, c.range-range.ensures)
+    (device_moved old _ c.args.id c.in-Some.before device c.args.request c.in_ok-begun.begun.range _ c.in_ok-begun.ensures.answer.0
+    (move_finished old c.args.id c.in-Some.before c.in_ok-begun.begun.range _ _
+    (c.finish_move.ensures.moved _ c.in_ok-begun.ensures.answer.1) (rw c.range-range.ensures at c.in_default-insert.ensures.inserted)))
