@@ -1,2 +1,5 @@
 pub mod Parts
 pub mod Cuts
+pub mod Descents
+pub mod Middles
+pub mod Homes

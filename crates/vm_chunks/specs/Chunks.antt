@@ -1,6 +1,6 @@
 -- Chunks of a descending list, with a bound for each.
-use Rattle.std.specs.Prelude.{◌≡◌, ℕ, ◌<◌, ◌≤◌, List, [], ◌∷◌, length, slice_index_or}
-use Rattle.std.specs.List.{flat_map}
+use Rattle.std.specs.Prelude.{◌≡◌, ℕ, ◌<◌, ◌≤◌, List, [], ◌∷◌, ◌++◌, ◌+◌, ◌⊎◌, length, slice_index_or, slice_set, take, drop}
+use Rattle.std.specs.List.{flat_map, insert, remove}
 
 -- One more than the highest key.
 abbrev pub TOP : ℕ
@@ -15,19 +15,45 @@ abbrev pub Descends : {X : Type 0} → (X → ℕ) → ℕ → ℕ → List X �
 Descends key b hi [] = Unit {0}
 Descends key b hi (x ∷ xs) = (b ≤ key x) × (key x < hi) × Descends key b (key x) xs
 
--- Each chunk descends from its bound on, and below the bound before it, or below hi. The last bound is 0.
+-- The bounds descend from hi to 0, and each chunk descends from its bound on, and below the one before.
 abbrev pub AreBounded : {X : Type 0} → (X → ℕ) → ℕ → List (List X) → List ℕ → Type 0
 AreBounded key hi [] [] = hi ≡ 0
 AreBounded key hi [] (b ∷ bs) = ⊥
 AreBounded key hi (c ∷ cs) [] = ⊥
-AreBounded key hi (c ∷ cs) (b ∷ bs) = Descends key b hi c × AreBounded key b cs bs
+AreBounded key hi (c ∷ cs) (b ∷ bs) = (b < hi) × Descends key b hi c × AreBounded key b cs bs
 
 -- The chunks are bounded, or there is none.
 abbrev pub AreAllBounded : {X : Type 0} → (X → ℕ) → List (List X) → List ℕ → Type 0
 AreAllBounded key [] bs = bs ≡ []
 AreAllBounded key (c ∷ cs) bs = AreBounded key TOP (c ∷ cs) bs
 
+-- Each chunk but those from `at` up to below `end` has an entry.
+abbrev pub AreFilledBut : {X : Type 0} → ℕ → ℕ → List (List X) → Type 0
+AreFilledBut {X} at end cs =
+    (k : ℕ) (d : List X) → k < length cs → (at ≤ k → end ≤ k) → 0 < length (slice_index_or cs k d)
+
 -- The chunks are bounded, and none is empty unless it is the only one.
 pub record AreChunks {X : Type 0} (key : X → ℕ) (cs : List (List X)) (bs : List ℕ) : Type 0 where
   pub bounded : AreAllBounded key cs bs
-  pub filled : (k : ℕ) (d : List X) → 2 ≤ length cs → k < length cs → 0 < length (slice_index_or cs k d)
+  pub filled : 2 ≤ length cs → AreFilledBut 0 0 cs
+
+-- The bounds before `at` are above t, and the others are not.
+pub record IsPlace (t at : ℕ) (bs : List ℕ) : Type 0 where
+  pub bound : at ≤ length bs
+  pub above : (k : ℕ) (d : ℕ) → k < at → t < slice_index_or bs k d
+  pub below : (k : ℕ) (d : ℕ) → at ≤ k → k < length bs → slice_index_or bs k d ≤ t
+
+-- The chunk `at` in two: the entries from `kept` on are in a chunk after it.
+abbrev pub split_chunk : {X : Type 0} → ℕ → ℕ → List (List X) → List (List X)
+split_chunk at kept cs =
+    insert (slice_set cs at (take kept (slice_index_or cs at []))) (at + 1) (drop kept (slice_index_or cs at []))
+
+-- The chunk `at` and the one after it in one.
+abbrev pub joined_chunks : {X : Type 0} → ℕ → List (List X) → List (List X)
+joined_chunks at cs = slice_set (remove cs (at + 1)) at (slice_index_or cs at [] ++ slice_index_or cs (at + 1) [])
+
+-- Two chunks were joined, or both have entries and nothing changed.
+abbrev pub IsJoinedOr : {X : Type 0} → ℕ → List (List X) → List ℕ → List (List X) → List ℕ → Type 0
+IsJoinedOr at cs bs cs' bs' =
+    ((cs' ≡ joined_chunks at cs) × (bs' ≡ remove bs at))
+    ⊎ ((0 < length (slice_index_or cs at [])) × (0 < length (slice_index_or cs (at + 1) [])) × (cs' ≡ cs) × (bs' ≡ bs))

@@ -5,6 +5,9 @@ ghost use Rattle.std.specs.Prelude.{◌≡◌, ℕ, ◌<◌, ◌≤◌, length, 
 ghost use Rattle.vm_chunks.specs.Entries.{IsDescendingBy};
 
 mod chunk;
+mod chunks;
+
+pub use chunks::Chunks;
 
 /// An entry with a key.
 pub trait Entry: Copy {
