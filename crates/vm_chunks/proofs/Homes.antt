@@ -124,6 +124,11 @@ module _ {X : Type 0} (key : X → ℕ) where
     home_at [] bs i r n h p = absurd (omega (arith, n))
     home_at (c ∷ cs) bs i r n h p = home TOP (c ∷ cs) bs i r h p.bound p.above p.below
 
+  -- There is a bound for each chunk.
+  pub same_lengths : (cs : List (List X)) (bs : List ℕ) → AreAllBounded key cs bs → length bs ≡ length cs
+  same_lengths [] bs r = ap length r
+  same_lengths (c ∷ cs) bs r = same_length TOP (c ∷ cs) bs r
+
   module _ (cs : List (List X)) (bs : List ℕ) (r : AreAllBounded key cs bs) where
     -- The chunks are bounded if there are any.
     pub bounded : 0 < length cs → AreBounded key TOP cs bs
@@ -134,17 +139,18 @@ module _ {X : Type 0} (key : X → ℕ) where
         some (c ∷ cs) r n = r
 
     module _ (t i : ℕ) (h : t < TOP) (p : IsPlace t i bs) where
+      -- A key that belongs past the chunks is in no chunk, because there is none.
+      pub none_there : length cs ≤ i → cs ≡ []
+      none_there l =
+          elim (cases_lt 0 (length cs)) [
+            | inl n ↦ (let m = home_at t cs bs i r n h p in absurd (let w = m.within in omega arith))
+            | inr n ↦ nil_from_length cs (omega arith)
+          ]
+
       -- Past the chunks there is no entry with the key.
       pub none_past : length cs ≤ i → None ≡ entry_at key t (entries_of cs)
       unfolding entry_at
-      none_past l =
-          elim (cases_lt 0 (length cs)) [
-            | inl n ↦ (let m = home_at t cs bs i r n h p in absurd (let w = m.within in omega arith))
-            | inr n ↦ subst (λ (cs : List (List X)). None ≡ entry_at key t (entries_of cs)) (sym (nil_from_length cs (omega arith))) none_in
-          ]
-        where
-          none_in : None ≡ entry_at key t []
-          none_in = refl
+      none_past l = ap (λ (cs : List (List X)). entry_at key t (entries_of cs)) (sym (none_there l))
 
       module _ (d : List X) (n : i < length cs) where
         -- The keys of the chunk descend.

@@ -3,3 +3,4 @@ pub mod Cuts
 pub mod Descents
 pub mod Middles
 pub mod Homes
+pub mod Divisions

@@ -1,6 +1,6 @@
 -- Chunks of a descending list, with a bound for each.
-use Rattle.std.specs.Prelude.{◌≡◌, ℕ, ◌<◌, ◌≤◌, List, [], ◌∷◌, ◌++◌, ◌+◌, ◌⊎◌, length, slice_index_or, slice_set, take, drop}
-use Rattle.std.specs.List.{flat_map, insert, remove}
+use Rattle.std.specs.Prelude.{◌≡◌, ◌≢◌, ℕ, ◌<◌, ◌≤◌, List, [], ◌∷◌, ◌++◌, ◌+◌, ◌⊎◌, length, slice_index_or, slice_set, take, drop}
+use Rattle.std.specs.List.{flat_map, insert, remove, All}
 
 -- One more than the highest key.
 abbrev pub TOP : ℕ
@@ -27,15 +27,14 @@ abbrev pub AreAllBounded : {X : Type 0} → (X → ℕ) → List (List X) → Li
 AreAllBounded key [] bs = bs ≡ []
 AreAllBounded key (c ∷ cs) bs = AreBounded key TOP (c ∷ cs) bs
 
--- Each chunk but those from `at` up to below `end` has an entry.
-abbrev pub AreFilledBut : {X : Type 0} → ℕ → ℕ → List (List X) → Type 0
-AreFilledBut {X} at end cs =
-    (k : ℕ) (d : List X) → k < length cs → (at ≤ k → end ≤ k) → 0 < length (slice_index_or cs k d)
+-- Each chunk has an entry, except maybe the one at `at`.
+abbrev pub AreFilledBut : {X : Type 0} → ℕ → List (List X) → Type 0
+AreFilledBut {X} at cs = (k : ℕ) (d : List X) → k < length cs → k ≢ at → 0 < length (slice_index_or cs k d)
 
 -- The chunks are bounded, and none is empty unless it is the only one.
 pub record AreChunks {X : Type 0} (key : X → ℕ) (cs : List (List X)) (bs : List ℕ) : Type 0 where
   pub bounded : AreAllBounded key cs bs
-  pub filled : 2 ≤ length cs → AreFilledBut 0 0 cs
+  pub filled : 2 ≤ length cs → All (λ c. 0 < length c) cs
 
 -- The bounds before `at` are above t, and the others are not.
 pub record IsPlace (t at : ℕ) (bs : List ℕ) : Type 0 where

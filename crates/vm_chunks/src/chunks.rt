@@ -2,7 +2,7 @@
 ghost use Rattle.std.specs.Prelude.{◌≡◌, ℕ, ◌<◌, ◌≤◌, ◌+◌, ◌++◌, ◌-◌, ◌∷◌, [], length, slice_index_or, option_to_list, None, IfOk, OnOk, OnErr};
 ghost use Rattle.std.specs.List.{insert};
 ghost use Rattle.vm_chunks.specs.Entries.{IsDescendingBy, with_entry, without, entry_at};
-ghost use Rattle.vm_chunks.specs.Chunks.{entries_of, AreChunks, IsPlace, split_chunk, IsJoinedOr};
+ghost use Rattle.vm_chunks.specs.Chunks.{entries_of, AreAllBounded, AreFilledBut, AreChunks, IsPlace, split_chunk, IsJoinedOr};
 
 use crate::Entry;
 use crate::chunk::{Chunk, MAX_ENTRIES};
@@ -111,6 +111,51 @@ fn join<E: Entry>(chunks: &mut Vec<Chunk<E>>, bounds: &mut Vec<u64>, at: usize)
     }
 }
 
+/// Makes room for a key in the only chunk that can have it, and returns the index of that chunk. It changes no
+/// entry.
+fn make_room<E: Entry>(
+    alloc: Global,
+    chunks: &mut Vec<Chunk<E>>,
+    bounds: &mut Vec<u64>,
+    key: u64,
+) -> Result<usize, AllocError>
+    requires chunks { AreChunks E.key_of chunks.old.items bounds.old.items }
+    ensures same { entries_of chunks.new.items ≡ entries_of chunks.old.items }
+    ensures chunks { AreChunks E.key_of chunks.new.items bounds.new.items }
+    ensures place { IfOk result (λ i. IsPlace key i bounds.new.items) }
+    ensures within { IfOk result (λ i. i < length chunks.new.items) }
+    ensures room { IfOk result (λ i. length (slice_index_or chunks.new.items i []) < 64) }
+{
+    let at = bounds_above(bounds.as_slice(), key);
+    if at >= chunks.len() {
+        begin(alloc, chunks, bounds)?;
+        return Ok(0);
+    }
+    let len = chunks[at].len();
+    if len < MAX_ENTRIES {
+        return Ok(at);
+    }
+    let bound = split(alloc, chunks, bounds, at, MAX_ENTRIES / 2)?;
+    if key < bound {
+        return Ok(at + 1);
+    }
+    Ok(at)
+}
+
+/// Joins a chunk with one next to it if it is small. It changes no entry, and does not allocate.
+fn mend<E: Entry>(chunks: &mut Vec<Chunk<E>>, bounds: &mut Vec<u64>, at: usize)
+    requires within { at < length chunks.old.items }
+    requires bounded { AreAllBounded E.key_of chunks.old.items bounds.old.items }
+    requires filled { 2 ≤ length chunks.old.items → AreFilledBut at chunks.old.items }
+    ensures same { entries_of chunks.new.items ≡ entries_of chunks.old.items }
+    ensures chunks { AreChunks E.key_of chunks.new.items bounds.new.items }
+{
+    let last = chunks.len() - 1;
+    if last > 0 {
+        join(chunks, bounds, at.min(last - 1));
+    }
+}
+
 impl<E: Entry> Chunks<E> {
     /// Creates an empty list. It does not allocate.
     pub fn new(alloc: Global) -> Self
@@ -131,5 +176,48 @@ impl<E: Entry> Chunks<E> {
             Some(chunk) => chunk.get(key),
             None => None,
         }
+    }
+
+    /// Inserts an entry with a new key. An error changes nothing.
+    pub fn insert(&mut self, alloc: Global, entry: E) -> Result<(), AllocError>
+        requires { entry_at E.key_of (E.key_of entry) self.old ≡ None }
+        ensures inserted { OnOk result (self.new ≡ with_entry E.key_of entry self.old) }
+        ensures unchanged { OnErr result (self.new ≡ self.old) }
+    {
+        let at = make_room(alloc, &mut self.chunks, &mut self.bounds, entry.key())?;
+        let chunk = &mut self.chunks[at];
+        chunk.insert(entry);
+        Ok(())
+    }
+
+    /// Removes the entry with this key, and returns it. It does not allocate.
+    pub fn remove(&mut self, key: u64) -> Option<E>
+        ensures entry { result ≡ entry_at E.key_of key self.old }
+        ensures rest { self.new ≡ without E.key_of key self.old }
+    {
+        let at = bounds_above(self.bounds.as_slice(), key);
+        if at >= self.chunks.len() {
+            return None;
+        }
+        let chunk = &mut self.chunks[at];
+        let entry = chunk.remove(key);
+        mend(&mut self.chunks, &mut self.bounds, at);
+        entry
+    }
+
+    /// Removes and returns the entry with the lowest key. It does not allocate.
+    pub fn pop_lowest(&mut self) -> Option<E>
+        ensures { self.old ≡ self.new ++ option_to_list result }
+    {
+        let count = self.chunks.len();
+        if count == 0 {
+            return None;
+        }
+        let chunk = &mut self.chunks[count - 1];
+        let entry = chunk.pop();
+        if chunk.len() == 0 {
+            mend(&mut self.chunks, &mut self.bounds, count - 1);
+        }
+        entry
     }
 }
