@@ -2,12 +2,14 @@
 use Rattle.std.proofs.Common.{◌≡◌, ◌≢◌, ℕ, zero, suc, ◌+◌, ◌-◌, ◌<◌, ◌≤◌, List, [], ◌∷◌, ◌++◌, length, get_or, set, take, drop, arith, sym, ap, ◌∙◌, subst, refl, inl, inr, ◌⊎◌}
 use Rattle.std.specs.List.{flat_map, insert, remove, All}
 use Rattle.std.proofs.lemmas.Bool.{cases_lt, cases_eq}
-use Rattle.std.proofs.lemmas.List.{append_assoc, append-nil, take-append-drop, length-append, length-set, length-drop, length-take-le, get_or_default, nil_from_length, get_or-set_same, get_or-set_other}
+use Rattle.std.proofs.lemmas.List.{append_assoc, append-nil, take-append-drop, length-append, length-set, length-drop, length-take-le, get_or_default, nil_from_length, drop_all, get_or-set_same, get_or-set_other}
 use Rattle.std.proofs.lemmas.List.Elements.{All-append, All-cons, All-set, All-take, All-drop}
 use Rattle.std.proofs.lemmas.List.Edits.{length-insert, length-remove, get_or-insert_below, get_or-insert_at, get_or-insert_above, get_or-remove_below, get_or-remove_above}
 use Rattle.vm_chunks.specs.Chunks.{TOP, entries_of, Descends, AreBounded, AreAllBounded, AreFilledBut, AreChunks, IsPlace, split_chunk, joined_chunks, IsJoinedOr}
-use Rattle.vm_chunks.proofs.Descents.{joined, keys_within}
-use Rattle.vm_chunks.proofs.Homes.{bounded}
+use Rattle.vm_chunks.specs.Entries.{above, below, with_entry, without}
+use Rattle.vm_chunks.proofs.Descents.{joined, first_part, with_descends, without_descends}
+use Rattle.vm_chunks.proofs.Middles.{with_in, without_in}
+use Rattle.vm_chunks.proofs.Homes.{bounded, changes, chunk_descends, home_at, parts, set_parts}
 
 -- Without its empty chunk, the list is that of the two joined.
 joined_at : {X : Type 0} → ℕ → ℕ → List (List X) → List (List X)
@@ -124,7 +126,7 @@ module _ {X : Type 0} (key : X → ℕ) where
   whole (c ∷ cs) bs r = r
 
   -- All chunks have entries after one of them became one that has.
-  all_set : (cs : List (List X)) (i : ℕ) (c : List X) → (2 ≤ length cs → All (λ c. 0 < length c) cs) → i < length cs → 0 < length c →
+  pub all_set : (cs : List (List X)) (i : ℕ) (c : List X) → (2 ≤ length cs → All (λ c. 0 < length c) cs) → i < length cs → 0 < length c →
       All (λ c. 0 < length c) (set cs i c)
   all_set cs i c f l p =
       elim (cases_lt 1 (length cs)) [
@@ -273,3 +275,81 @@ module _ {X : Type 0} (key : X → ℕ) where
     unfolding joined_at
     mend_same cs' bs' (inl x) = ap (λ (cs' : List (List X)). entries_of cs') x.0 ∙ entries_joined cs j (j + 1) refl l
     mend_same cs' bs' (inr x) = ap (λ (cs' : List (List X)). entries_of cs') x.2
+
+  module _ (cs : List (List X)) (bs : List ℕ) (r : AreAllBounded key cs bs) (t i : ℕ) (h : t < TOP) (p : IsPlace t i bs)
+      (l : i < length cs) (d : List X) where
+    -- The chunk without an entry descends between its bounds.
+    pub taken_bounded : AreAllBounded key (set cs i (without key t (get_or cs i d))) bs
+    taken_bounded =
+        let b = bounded key cs bs r (omega (arith, l)) in
+        let m = home_at key t cs bs i r (omega (arith, l)) h p in
+        whole (set cs i (without key t (get_or cs i d))) bs
+        (changes key TOP cs bs i 0 (without key t (get_or cs i d)) b l
+        (without_descends key (get_or bs i 0) (get_or (TOP ∷ bs) i 0) t (get_or cs i d)
+        (chunk_descends key TOP cs bs i 0 d b l) (m.from 0) (m.upto 0)))
+
+    -- The list without the entry.
+    pub taken_entries : entries_of (set cs i (without key t (get_or cs i d))) ≡ without key t (entries_of cs)
+    taken_entries =
+        let m = home_at key t cs bs i r (omega (arith, l)) h p in
+        set_parts cs i (without key t (get_or cs i d)) l
+        ∙ sym (without_in key t (entries_of (take i cs)) (get_or cs i d) (entries_of (drop (suc i) cs)) m.higher m.lower)
+        ∙ ap (λ l. without key t l) (sym (parts cs i d l))
+
+  -- The other chunks keep their entries.
+  pub others_filled : (cs : List (List X)) (i : ℕ) (c : List X) → (2 ≤ length cs → All (λ c. 0 < length c) cs) →
+      2 ≤ length (set cs i c) → AreFilledBut i (set cs i c)
+  others_filled cs i c f q k d w n =
+      let s = length-set cs i c in
+      subst (λ (c : List X). 0 < length c) (sym (get_or-set_other cs i k c d n)) (f (omega arith) k d (omega arith))
+
+  module _ (cs : List (List X)) (bs : List ℕ) (r : AreChunks key cs bs) (e : X) (i : ℕ) (h : key e < TOP) (p : IsPlace (key e) i bs)
+      (l : i < length cs) (d : List X) where
+    -- The chunks with a further entry.
+    pub put_is : AreChunks key (set cs i (with_entry key e (get_or cs i d))) bs
+    unfolding with_entry
+    put_is =
+        let b = bounded key cs bs r.bounded (omega (arith, l)) in
+        let m = home_at key (key e) cs bs i r.bounded (omega (arith, l)) h p in
+        let c = with_entry key e (get_or cs i d) in
+        record {
+          bounded = whole (set cs i c) bs
+              (changes key TOP cs bs i 0 c b l
+              (with_descends key (get_or bs i 0) (get_or (TOP ∷ bs) i 0) e (get_or cs i d)
+              (chunk_descends key TOP cs bs i 0 d b l) (m.from 0) (m.upto 0)));
+          filled = λ _. all_set cs i c r.filled l (with_some (get_or cs i d));
+        }
+      where
+        with_some : (xs : List X) → 0 < length (with_entry key e xs)
+        with_some xs = let n = length-append (above key (key e) xs) (e ∷ below key (key e) xs) in omega (arith, n)
+
+    -- The list with the entry.
+    pub put_entries : entries_of (set cs i (with_entry key e (get_or cs i d))) ≡ with_entry key e (entries_of cs)
+    put_entries =
+        let m = home_at key (key e) cs bs i r.bounded (omega (arith, l)) h p in
+        set_parts cs i (with_entry key e (get_or cs i d)) l
+        ∙ sym (with_in key e (entries_of (take i cs)) (get_or cs i d) (entries_of (drop (suc i) cs)) m.higher m.lower)
+        ∙ ap (λ l. with_entry key e l) (sym (parts cs i d l))
+
+  module _ (cs : List (List X)) (bs : List ℕ) (r : AreAllBounded key cs bs) (i : ℕ) (l : i + 1 ≡ length cs) (c rest d : List X)
+      (e : get_or cs i d ≡ c ++ rest) where
+    -- The last chunk without its last entries descends between its bounds.
+    pub popped_bounded : AreAllBounded key (set cs i c) bs
+    popped_bounded =
+        let b = bounded key cs bs r (omega (arith, l)) in
+        whole (set cs i c) bs
+        (changes key TOP cs bs i 0 c b (omega (arith, l))
+        (first_part key (get_or bs i 0) (get_or (TOP ∷ bs) i 0) c rest
+        (subst (Descends key (get_or bs i 0) (get_or (TOP ∷ bs) i 0)) e (chunk_descends key TOP cs bs i 0 d b (omega (arith, l))))))
+
+    -- These entries were the last.
+    pub popped_entries : entries_of cs ≡ entries_of (set cs i c) ++ rest
+    popped_entries =
+        let past : drop (suc i) cs ≡ [] = drop_all (suc i) cs (omega arith) in
+        let none : entries_of (drop (suc i) cs) ≡ [] = ap (λ (cs : List (List X)). entries_of cs) past in
+        let f = entries_of (take i cs) in
+        let a : entries_of cs ≡ f ++ (c ++ rest) =
+        parts cs i d (omega arith) ∙ ap (λ l. f ++ (get_or cs i d ++ l)) none ∙ ap (λ l. f ++ l) (append-nil (get_or cs i d) ∙ e) in
+        let b : entries_of (set cs i c) ≡ f ++ c =
+        set_parts cs i c (omega arith) ∙ ap (λ l. f ++ (c ++ l)) none ∙ ap (λ l. f ++ l) (append-nil c) in
+        a ∙ sym (append_assoc f c rest) ∙ ap (λ l. l ++ rest) (sym b)

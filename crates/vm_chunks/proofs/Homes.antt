@@ -4,7 +4,7 @@ use Rattle.std.specs.List.{flat_map, insert, remove, All}
 use Rattle.std.proofs.lemmas.Bool.{cases_lt}
 use Rattle.std.proofs.lemmas.List.{append_assoc, append-nil, length-set, nil_from_length, get_or-set_same, get_or-set_other}
 use Rattle.std.proofs.lemmas.List.Elements.{All-nil, All-append, All-weaker}
-use Rattle.vm_chunks.specs.Entries.{IsDescendingBy, entry_at}
+use Rattle.vm_chunks.specs.Entries.{IsDescendingBy, above, below, without, entry_at}
 use Rattle.vm_chunks.specs.Chunks.{TOP, entries_of, Descends, AreBounded, AreAllBounded, AreFilledBut, AreChunks, IsPlace}
 use Rattle.vm_chunks.proofs.Descents.{descends_by, keys_within, joined, higher_end}
 use Rattle.vm_chunks.proofs.Middles.{entry_in}
@@ -151,6 +151,13 @@ module _ {X : Type 0} (key : X → ℕ) where
       pub none_past : length cs ≤ i → None ≡ entry_at key t (entries_of cs)
       unfolding entry_at
       none_past l = ap (λ (cs : List (List X)). entry_at key t (entries_of cs)) (sym (none_there l))
+
+      -- Nor is one taken out there.
+      pub without_past : length cs ≤ i → entries_of cs ≡ without key t (entries_of cs)
+      unfolding without above below
+      without_past l =
+          ap (λ (cs : List (List X)). entries_of cs) (none_there l)
+          ∙ ap (λ (cs : List (List X)). without key t (entries_of cs)) (sym (none_there l))
 
       module _ (d : List X) (n : i < length cs) where
         -- The keys of the chunk descend.
