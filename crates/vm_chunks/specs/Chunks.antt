@@ -56,3 +56,11 @@ abbrev pub IsJoinedOr : {X : Type 0} → ℕ → List (List X) → List ℕ → 
 IsJoinedOr at cs bs cs' bs' =
     ((cs' ≡ joined_chunks at cs) × (bs' ≡ remove bs at))
     ⊎ ((0 < length (slice_index_or cs at [])) × (0 < length (slice_index_or cs (at + 1) [])) × (cs' ≡ cs) × (bs' ≡ bs))
+
+-- The entries that an iterator has left: of the highest chunk, of those not begun, and of the lowest.
+abbrev pub left_in : {X : Type 0} → List X → List (List X) → List X → List X
+left_in highest cs lowest = highest ++ (entries_of cs ++ lowest)
+
+-- An entry is left at this end, or none at all.
+abbrev pub IsBegun : {X : Type 0} → List X → List (List X) → List X → Type 0
+IsBegun here cs there = length here ≡ 0 → (cs ≡ []) × (there ≡ [])

@@ -1,6 +1,6 @@
 //! A chunk: at most 64 entries, with memory for 64. Only creating it can fail.
-ghost use Rattle.std.specs.Prelude.{◌≡◌, ℕ, ◌<◌, ◌≤◌, ◌+◌, ◌++◌, [], length, take, drop, slice_index_or, option_to_list, None, IfOk, OnErr, vec_capacity};
-ghost use Rattle.vm_chunks.specs.Entries.{IsDescendingBy, with_entry, without, entry_at};
+ghost use Rattle.std.specs.Prelude.{◌≡◌, ℕ, ◌<◌, ◌≤◌, ◌+◌, ◌++◌, [], length, take, drop, slice_index_or, option_to_list, None, IsSome, IfOk, OnErr, vec_capacity};
+ghost use Rattle.vm_chunks.specs.Entries.{IsDescendingBy, with_entry, without, entry_at, at_or_above};
 
 use crate::{Entry, place};
 use std::alloc::{AllocError, Global};
@@ -64,6 +64,33 @@ impl<E: Entry> Chunk<E> {
             }
         }
         None
+    }
+
+    /// Returns the entry with the lowest key that is at least this one, if there is one.
+    pub fn at_or_above(&self, key: u64) -> Option<E>
+        requires { IsDescendingBy E.key_of self.now }
+        ensures { result ≡ at_or_above E.key_of key self.now }
+    {
+        let entries = self.entries.as_slice();
+        let count = if key == 0 {
+            entries.len()
+        } else {
+            place(entries, key - 1)
+        };
+        if count == 0 {
+            return None;
+        }
+        Some(entries[count - 1])
+    }
+
+    /// Replaces the entry with the key of this one. It does not allocate.
+    pub fn set(&mut self, entry: E)
+        requires order { IsDescendingBy E.key_of self.old }
+        requires known { IsSome (entry_at E.key_of (E.key_of entry) self.old) }
+        ensures { self.new ≡ with_entry E.key_of entry self.old }
+    {
+        let at = place(self.entries.as_slice(), entry.key());
+        self.entries[at] = entry;
     }
 
     /// Inserts an entry with a new key. It does not allocate.

@@ -1,11 +1,12 @@
 //! A descending list of entries in chunks.
-ghost use Rattle.std.specs.Prelude.{◌≡◌, ℕ, ◌<◌, ◌≤◌, ◌+◌, ◌++◌, ◌-◌, ◌∷◌, [], length, slice_index_or, option_to_list, None, IfOk, OnOk, OnErr};
+ghost use Rattle.std.specs.Prelude.{◌≡◌, ℕ, ◌<◌, ◌≤◌, ◌+◌, ◌++◌, ◌-◌, ◌∷◌, [], length, slice_index_or, option_to_list, None, IsSome, reverse, IfOk, OnOk, OnErr};
 ghost use Rattle.std.specs.List.{insert};
-ghost use Rattle.vm_chunks.specs.Entries.{IsDescendingBy, with_entry, without, entry_at};
+ghost use Rattle.vm_chunks.specs.Entries.{IsDescendingBy, with_entry, without, entry_at, at_or_above};
 ghost use Rattle.vm_chunks.specs.Chunks.{entries_of, AreAllBounded, AreFilledBut, AreChunks, IsPlace, split_chunk, IsJoinedOr};
 
 use crate::Entry;
 use crate::chunk::{Chunk, MAX_ENTRIES};
+use crate::iter::Iter;
 use std::alloc::{AllocError, Global};
 use std::marker::Model;
 
@@ -178,6 +179,32 @@ impl<E: Entry> Chunks<E> {
         }
     }
 
+    /// Returns the entry with the lowest key that is at least this one, if there is one. It takes logarithmic
+    /// time.
+    pub fn at_or_above(&self, key: u64) -> Option<E>
+        ensures { result ≡ at_or_above E.key_of key self.now }
+    {
+        let at = bounds_above(self.bounds.as_slice(), key);
+        if at >= self.chunks.len() {
+            return None;
+        }
+        let entry = self.chunks[at].at_or_above(key);
+        if entry.is_none() && at > 0 {
+            return self.chunks[at - 1].at_or_above(key);
+        }
+        entry
+    }
+
+    /// Replaces the entry with the key of this one. It does not allocate.
+    pub fn set(&mut self, entry: E)
+        requires { IsSome (entry_at E.key_of (E.key_of entry) self.old) }
+        ensures { self.new ≡ with_entry E.key_of entry self.old }
+    {
+        let at = bounds_above(self.bounds.as_slice(), entry.key());
+        let chunk = &mut self.chunks[at];
+        chunk.set(entry);
+    }
+
     /// Inserts an entry with a new key. An error changes nothing.
     pub fn insert(&mut self, alloc: Global, entry: E) -> Result<(), AllocError>
         requires { entry_at E.key_of (E.key_of entry) self.old ≡ None }
@@ -188,6 +215,16 @@ impl<E: Entry> Chunks<E> {
         let chunk = &mut self.chunks[at];
         chunk.insert(entry);
         Ok(())
+    }
+
+    /// Returns an iterator over the entries in ascending order of their keys. It does not allocate.
+    pub fn iter(&self) -> Iter<'_, E>
+        ensures { result ≡ reverse self.now }
+    {
+        match self.chunks.as_slice().split_last() {
+            Some((chunk, others)) => Iter::of_chunks(others, chunk),
+            None => Iter::none(),
+        }
     }
 
     /// Removes the entry with this key, and returns it. It does not allocate.

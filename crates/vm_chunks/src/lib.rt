@@ -6,8 +6,10 @@ ghost use Rattle.vm_chunks.specs.Entries.{IsDescendingBy};
 
 mod chunk;
 mod chunks;
+mod iter;
 
 pub use chunks::Chunks;
+pub use iter::Iter;
 
 /// An entry with a key.
 pub trait Entry: Copy {
