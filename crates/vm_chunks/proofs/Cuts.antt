@@ -1,10 +1,10 @@
 -- Where a key divides a descending list.
-use Rattle.std.proofs.Common.{◌≡◌, ℕ, zero, suc, ◌+◌, ◌-◌, ◌<◌, ◌≤◌, Bool, true, false, not, List, [], ◌∷◌, ◌++◌, length, get_or, take, drop, nat_lt, nat_eq, arith, sym, ap, ◌∙◌, subst, refl, inl, inr, Option, Some, None, cond}
-use Rattle.std.specs.Option.{is_some}
+use Rattle.std.proofs.Common.{◌≡◌, ℕ, zero, suc, ◌+◌, ◌-◌, ◌<◌, ◌≤◌, Bool, true, false, not, List, [], ◌∷◌, ◌++◌, length, get_or, set, take, drop, reverse, nat_lt, nat_le, nat_eq, arith, sym, ap, ◌∙◌, subst, refl, inl, inr, Option, Some, None, cond}
+use Rattle.std.specs.Option.{is_some, IsSome}
 use Rattle.std.specs.List.{filter, find, insert, remove}
-use Rattle.std.proofs.lemmas.List.{take-append-drop}
-use Rattle.std.proofs.lemmas.Bool.{cases_lt, cond-true, cond-false, lt-ltb, le-ltb, eq-eqb, ne_eqb, cases_Bool, eqb-true, true≢false}
-use Rattle.vm_chunks.specs.Entries.{IsDescendingBy, above, below, with_entry, without, entry_at}
+use Rattle.std.proofs.lemmas.List.{take-append-drop, length-reverse, get_or-reverse, get_or_default, set_split}
+use Rattle.std.proofs.lemmas.Bool.{cases_lt, cond-true, cond-false, lt-ltb, le-ltb, le-leb, lt-leb, cases_eq, eq-eqb, ne_eqb, cases_Bool, eqb-true, true≢false}
+use Rattle.vm_chunks.specs.Entries.{IsDescendingBy, above, below, with_entry, without, entry_at, at_or_above}
 
 -- If only the first p elements pass a test, they are those that it keeps.
 pub filter_first : {X : Type 0} (test : X → Bool) (xs : List X) (p : ℕ) →
@@ -114,6 +114,66 @@ module _ {X : Type 0} (key : X → ℕ) (t : ℕ) (xs : List X) (p : ℕ)
           | inr q ↦ (let e : k ≡ p = omega arith in let g : key (get_or xs k d) ≡ t = ap (λ i. key (get_or xs i d)) e ∙ sym (ap key (is d)) ∙ s in le-ltb _ _ (omega arith))
         ])
         (λ k d h w. let f = down p k d (omega arith) w in let g : key (get_or xs p d) ≡ t = sym (ap key (is d)) ∙ s in lt-ltb _ _ (omega arith))
+
+  module _ (down : IsDescendingBy key xs) (some : IsSome (entry_at key t xs)) where
+    -- An entry with the key is at p.
+    pub known_key : (d : X) → key (get_or xs p d) ≡ t
+    known_key d =
+        elim (cases_eq (key (get_or xs p d)) t) [
+          | inl q ↦ q
+          | inr q ↦ absurd (known_not (λ e l s. q (ap key (get_or_default xs p d e l) ∙ s)))
+        ]
+      where
+        known_not : ((e : X) → p < length xs → key (get_or xs p e) ≡ t → ⊥) → ⊥
+        known_not n = true≢false (sym some ∙ ap is_some (none_at down n))
+
+    pub known_within : p < length xs
+    known_within =
+        elim (cases_lt p (length xs)) [
+          | inl q ↦ q
+          | inr q ↦ absurd (true≢false (sym some ∙ ap is_some (none_at down (λ d l s. omega arith))))
+        ]
+
+    -- A change at p puts an entry in place of the one with its key.
+    pub sets_at : (e : X) → key e ≡ t → set xs p e ≡ above key t xs ++ e ∷ below key t xs
+    sets_at e s =
+        let l = known_within in
+        let f = above_is in
+        let g = below_after (get_or xs p e) l (λ d. get_or_default xs p e d l) (known_key e) down in
+        set_split xs p e l ∙ ap (λ l. l ++ e ∷ drop (suc p) xs) (sym f) ∙ ap (λ l. above key t xs ++ e ∷ l) (sym g)
+
+-- The entry with the lowest key from t on is the last of those that have such keys.
+module _ {X : Type 0} (key : X → ℕ) (t : ℕ) (xs : List X) (q : ℕ) (l : q ≤ length xs)
+    (a : (k : ℕ) (d : X) → k < q → t ≤ key (get_or xs k d))
+    (b : (k : ℕ) (d : X) → q ≤ k → k < length xs → key (get_or xs k d) < t) where
+  past_fails : (k : ℕ) (d : X) → k < length xs - q → k < length (reverse xs) → nat_le t (key (get_or (reverse xs) k d)) ≡ false
+  past_fails k d h w =
+      let n = length-reverse xs in
+      ap (λ x. nat_le t (key x)) (get_or-reverse xs k d (omega arith)) ∙ lt-leb _ _ (b (length xs - 1 - k) d (omega arith) (omega arith))
+
+  pub none_from : q ≡ 0 → None ≡ at_or_above key t xs
+  unfolding at_or_above
+  none_from e =
+      let n = length-reverse xs in
+      sym (find_none (λ x. nat_le t (key x)) (reverse xs) (λ k d w. past_fails k d (omega arith) w))
+
+  pub found_from : 0 < q → (x : X) → ((d : X) → x ≡ get_or xs (q - 1) d) → Some x ≡ at_or_above key t xs
+  unfolding at_or_above
+  found_from h x is =
+      let n = length-reverse xs in
+      let s : length xs - 1 - (length xs - q) ≡ q - 1 = omega arith in
+      let f = a (q - 1) x (omega arith) in
+      let e = ap key (is x) in
+      sym (find_first (λ x. nat_le t (key x)) (reverse xs) (length xs - q) x past_fails (omega arith)
+      (λ d. is d ∙ ap (λ i. get_or xs i d) (sym s) ∙ sym (get_or-reverse xs (length xs - q) d (omega arith))) (le-leb _ _ (omega arith)))
+
+-- A change at the place of a known key.
+pub sets : {X : Type 0} (key : X → ℕ) (e : X) (xs : List X) (p : ℕ) →
+    ((k : ℕ) (d : X) → k < p → key e < key (get_or xs k d)) →
+    ((k : ℕ) (d : X) → p ≤ k → k < length xs → key (get_or xs k d) ≤ key e) →
+    IsDescendingBy key xs → IsSome (entry_at key (key e) xs) → set xs p e ≡ with_entry key e xs
+unfolding with_entry
+sets key e xs p a b down some = sets_at key (key e) xs p a b down some e refl
 
 -- An insert at p puts the entry at its place.
 pub inserts : {X : Type 0} (key : X → ℕ) (e : X) (xs : List X) (p : ℕ) →

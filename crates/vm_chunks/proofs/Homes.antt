@@ -1,13 +1,14 @@
 -- The only chunk that can have a key, and changes of it.
 use Rattle.std.proofs.Common.{◌≡◌, ℕ, zero, suc, ◌+◌, ◌-◌, ◌<◌, ◌≤◌, List, [], ◌∷◌, ◌++◌, length, get_or, set, take, drop, arith, sym, ap, ◌∙◌, subst, refl, inl, inr, None}
 use Rattle.std.specs.List.{flat_map, insert, remove, All}
-use Rattle.std.proofs.lemmas.Bool.{cases_lt}
-use Rattle.std.proofs.lemmas.List.{append_assoc, append-nil, length-set, nil_from_length, get_or-set_same, get_or-set_other}
+use Rattle.std.specs.Option.{is_some, option_or, IsSome}
+use Rattle.std.proofs.lemmas.Bool.{cases_lt, true≢false}
+use Rattle.std.proofs.lemmas.List.{append_assoc, append-nil, length-append, get_or-append-add, take_more, flat_map_more, length-set, nil_from_length, get_or-set_same, get_or-set_other}
 use Rattle.std.proofs.lemmas.List.Elements.{All-nil, All-append, All-weaker}
-use Rattle.vm_chunks.specs.Entries.{IsDescendingBy, above, below, without, entry_at}
+use Rattle.vm_chunks.specs.Entries.{IsDescendingBy, above, below, without, entry_at, at_or_above}
 use Rattle.vm_chunks.specs.Chunks.{TOP, entries_of, Descends, AreBounded, AreAllBounded, AreFilledBut, AreChunks, IsPlace}
 use Rattle.vm_chunks.proofs.Descents.{descends_by, keys_within, joined, higher_end}
-use Rattle.vm_chunks.proofs.Middles.{entry_in}
+use Rattle.vm_chunks.proofs.Middles.{entry_in, from_in, from_last}
 
 -- The entries are those before a chunk, its own, and those after it.
 pub parts : {X : Type 0} (cs : List (List X)) (i : ℕ) (d : List X) → i < length cs →
@@ -172,3 +173,45 @@ module _ {X : Type 0} (key : X → ℕ) where
             let m = home_at t cs bs i r (omega (arith, n)) h p in
             sym (ap (λ l. entry_at key t l) (parts cs i d n)
             ∙ entry_in key t (entries_of (take i cs)) (get_or cs i d) (entries_of (drop (suc i) cs)) m.higher m.lower)
+
+        -- The entry with the lowest key from t on is in the chunk, or before it.
+        pub from_home : option_or (at_or_above key t (get_or cs i d)) (at_or_above key t (entries_of (take i cs))) ≡ at_or_above key t (entries_of cs)
+        from_home =
+            let m = home_at t cs bs i r (omega (arith, n)) h p in
+            sym (ap (λ l. at_or_above key t l) (parts cs i d n)
+            ∙ from_in key t (entries_of (take i cs)) (get_or cs i d) (entries_of (drop (suc i) cs)) m.lower)
+
+        -- Before it, it is in the chunk before it.
+        pub from_before : 0 < i → 0 < length (get_or cs (i - 1) d) →
+            at_or_above key t (get_or cs (i - 1) d) ≡ at_or_above key t (entries_of (take i cs))
+        from_before f some =
+            let m = home_at t cs bs i r (omega (arith, n)) h p in
+            let c = get_or cs (i - 1) d in
+            let pre = entries_of (take (i - 1) cs) in
+            let s : i ≡ i - 1 + 1 = omega arith in
+            let e : entries_of (take i cs) ≡ pre ++ c =
+            ap (λ i. entries_of (take i cs)) s ∙ ap (λ (cs : List (List X)). entries_of cs) (take_more cs (i - 1) d (omega arith))
+            ∙ sym (flat_map_more (λ c. c) [] (take (i - 1) cs) c) in
+            let q = length-append pre c in
+            let high : All (λ x. t < key x) (pre ++ c) = subst (λ (l : List X). All (λ x. t < key x) l) e m.higher in
+            sym (ap (λ l. at_or_above key t l) e
+            ∙ from_last key t pre c some (λ k d w. subst (λ x. t < key x) (get_or-append-add pre c k d) (high (length pre + k) d (omega arith))))
+
+        -- The chunk before a home descends.
+        pub before_descends : 0 < i → IsDescendingBy key (get_or cs (i - 1) d)
+        before_descends f =
+            descends_by key (get_or bs (i - 1) 0) (get_or (TOP ∷ bs) (i - 1) 0) (get_or cs (i - 1) d)
+            (chunk_descends TOP cs bs (i - 1) 0 d (bounded (omega (arith, n))) (omega arith))
+
+      -- If an entry has the key, there is a home.
+      pub known_home : IsSome (entry_at key t (entries_of cs)) → i < length cs
+      known_home some =
+          elim (cases_lt i (length cs)) [
+            | inl q ↦ q
+            | inr q ↦ absurd (true≢false (sym some ∙ ap is_some (sym (none_past q))))
+          ]
+
+      -- Past the chunks there is no entry from the key on.
+      pub none_from_past : length cs ≤ i → None ≡ at_or_above key t (entries_of cs)
+      unfolding at_or_above
+      none_from_past l = ap (λ (cs : List (List X)). at_or_above key t (entries_of cs)) (sym (none_there l))

@@ -1,12 +1,12 @@
 -- Calls on a list whose middle part alone can have the key.
-use Rattle.std.proofs.Common.{◌≡◌, ℕ, zero, suc, ◌+◌, ◌<◌, ◌≤◌, Bool, true, false, List, [], ◌∷◌, ◌++◌, length, get_or, nat_lt, nat_eq, arith, sym, ap, ◌∙◌, refl, Option, Some, None}
+use Rattle.std.proofs.Common.{◌≡◌, ℕ, zero, suc, ◌+◌, ◌<◌, ◌≤◌, Bool, true, false, List, [], ◌∷◌, ◌++◌, length, get_or, reverse, nat_lt, nat_le, nat_eq, arith, sym, ap, subst, ◌-◌, ◌∙◌, refl, Option, Some, None}
 use Rattle.std.specs.List.{filter, find, All}
 use Rattle.std.specs.Option.{option_or}
-use Rattle.std.proofs.lemmas.Bool.{cond-true, cond-false, lt-ltb, le-ltb, ne_eqb}
-use Rattle.std.proofs.lemmas.List.{append_assoc, append-nil}
+use Rattle.std.proofs.lemmas.Bool.{cond-true, cond-false, lt-ltb, le-ltb, le-leb, lt-leb, ne_eqb}
+use Rattle.std.proofs.lemmas.List.{append_assoc, append-nil, reverse-append, length-reverse, get_or-reverse}
 use Rattle.std.proofs.lemmas.List.Elements.{All-head, All-tail, All-weaker, filter-append}
 use Rattle.std.proofs.lemmas.List.Folds.{find-append}
-use Rattle.vm_chunks.specs.Entries.{above, below, with_entry, without, entry_at}
+use Rattle.vm_chunks.specs.Entries.{above, below, with_entry, without, entry_at, at_or_above}
 
 -- A test that each element passes keeps all.
 pub filter_all : {X : Type 0} (test : X → Bool) (xs : List X) → All (λ x. test x ≡ true) xs → filter test xs ≡ xs
@@ -89,3 +89,41 @@ with_in key e pre c post high low =
     ∙ ap (λ l. (pre ++ above key (key e) c) ++ e ∷ l) (below_in key (key e) pre c post high low)
     ∙ append_assoc pre (above key (key e) c) (e ∷ (below key (key e) c ++ post))
     ∙ ap (λ l. pre ++ l) (sym (append_assoc (above key (key e) c) (e ∷ below key (key e) c) post))
+
+All-reverse : {X : Type 0} (P : X → Type 0) (xs : List X) → All P xs → All P (reverse xs)
+All-reverse P xs a k d w =
+    let n = length-reverse xs in
+    subst P (sym (get_or-reverse xs k d (omega arith))) (a (length xs - 1 - k) d (omega arith))
+
+first_passes : {X : Type 0} (test : X → Bool) (xs : List X) (o : Option X) → 0 < length xs → All (λ x. test x ≡ true) xs →
+    option_or (find test xs) o ≡ find test xs
+first_passes test [] o l a = absurd (omega (arith, l))
+first_passes test (x ∷ xs) o l a =
+    let e = cond-true (test x) (Some x) (find test xs) (All-head (λ x. test x ≡ true) x xs a) in
+    ap (λ r. option_or r o) e ∙ sym e
+
+-- The lowest entry from the key on is in the middle part, or before it.
+pub from_in : {X : Type 0} (key : X → ℕ) (t : ℕ) (pre c post : List X) → All (λ x. key x < t) post →
+    at_or_above key t (pre ++ (c ++ post)) ≡ option_or (at_or_above key t c) (at_or_above key t pre)
+unfolding at_or_above
+from_in key t pre c post low =
+    let test : _ → Bool = λ x. nat_le t (key x) in
+    ap (λ l. find test l) (reverse-append pre (c ++ post) ∙ ap (λ l. l ++ reverse pre) (reverse-append c post))
+    ∙ find-append test (reverse post ++ reverse c) (reverse pre)
+    ∙ ap (λ o. option_or o (find test (reverse pre)))
+      (find-append test (reverse post) (reverse c)
+      ∙ ap (λ o. option_or o (find test (reverse c)))
+        (find_fails test (reverse post) (All-weaker (λ x. key x < t) (λ x. test x ≡ false) (λ x h. lt-leb _ _ h) (reverse post)
+        (All-reverse (λ x. key x < t) post low))))
+
+-- It is in the last part if that has entries, all with such keys.
+pub from_last : {X : Type 0} (key : X → ℕ) (t : ℕ) (pre c : List X) → 0 < length c → All (λ x. t < key x) c →
+    at_or_above key t (pre ++ c) ≡ at_or_above key t c
+unfolding at_or_above
+from_last key t pre c l high =
+    let test : _ → Bool = λ x. nat_le t (key x) in
+    let n = length-reverse c in
+    ap (λ l. find test l) (reverse-append pre c)
+    ∙ find-append test (reverse c) (reverse pre)
+    ∙ first_passes test (reverse c) (find test (reverse pre)) (omega arith)
+      (All-weaker (λ x. t < key x) (λ x. test x ≡ true) (λ x h. le-leb _ _ (omega (arith, h))) (reverse c) (All-reverse (λ x. t < key x) c high))

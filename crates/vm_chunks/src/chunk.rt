@@ -2,7 +2,7 @@
 ghost use Rattle.std.specs.Prelude.{◌≡◌, ℕ, ◌<◌, ◌≤◌, ◌+◌, ◌++◌, [], length, take, drop, slice_index_or, option_to_list, None, IsSome, IfOk, OnErr, vec_capacity};
 ghost use Rattle.vm_chunks.specs.Entries.{IsDescendingBy, with_entry, without, entry_at, at_or_above};
 
-use crate::{Entry, place};
+use crate::{Entry, count_from, place};
 use std::alloc::{AllocError, Global};
 use std::marker::Model;
 
@@ -71,16 +71,11 @@ impl<E: Entry> Chunk<E> {
         requires { IsDescendingBy E.key_of self.now }
         ensures { result ≡ at_or_above E.key_of key self.now }
     {
-        let entries = self.entries.as_slice();
-        let count = if key == 0 {
-            entries.len()
-        } else {
-            place(entries, key - 1)
-        };
+        let count = count_from(self.entries.as_slice(), key);
         if count == 0 {
             return None;
         }
-        Some(entries[count - 1])
+        Some(self.entries[count - 1])
     }
 
     /// Replaces the entry with the key of this one. It does not allocate.

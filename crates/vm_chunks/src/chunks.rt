@@ -188,11 +188,11 @@ impl<E: Entry> Chunks<E> {
         if at >= self.chunks.len() {
             return None;
         }
-        let entry = self.chunks[at].at_or_above(key);
-        if entry.is_none() && at > 0 {
-            return self.chunks[at - 1].at_or_above(key);
+        match self.chunks[at].at_or_above(key) {
+            Some(entry) => Some(entry),
+            None if at == 0 => None,
+            None => self.chunks[at - 1].at_or_above(key),
         }
-        entry
     }
 
     /// Replaces the entry with the key of this one. It does not allocate.

@@ -29,3 +29,13 @@ fn place<E: Entry>(entries: &[E], key: u64) -> usize
 {
     entries.partition_point(|entry| entry.key() > key)
 }
+
+/// Returns the number of entries whose keys are at least this one.
+fn count_from<E: Entry>(entries: &[E], key: u64) -> usize
+    requires { IsDescendingBy E.key_of entries.now }
+    ensures bound { result ≤ length entries.now }
+    ensures from { (k : ℕ) (d : E) → k < result → key ≤ E.key_of (slice_index_or entries.now k d) }
+    ensures below { (k : ℕ) (d : E) → result ≤ k → k < length entries.now → E.key_of (slice_index_or entries.now k d) < key }
+{
+    entries.partition_point(|entry| entry.key() >= key)
+}
