@@ -125,6 +125,11 @@ module _ {X : Type 0} (key : X → ℕ) where
     home_at [] bs i r n h p = absurd (omega (arith, n))
     home_at (c ∷ cs) bs i r n h p = home TOP (c ∷ cs) bs i r h p.bound p.above p.below
 
+  -- Before the first chunk there is no entry.
+  pub none_before_first : (t : ℕ) (cs : List (List X)) (i : ℕ) → i ≡ 0 → None ≡ at_or_above key t (entries_of (take i cs))
+  unfolding at_or_above
+  none_before_first t cs i e = ap (λ i. at_or_above key t (entries_of (take i cs))) (sym e)
+
   -- There is a bound for each chunk.
   pub same_lengths : (cs : List (List X)) (bs : List ℕ) → AreAllBounded key cs bs → length bs ≡ length cs
   same_lengths [] bs r = ap length r
