@@ -36,6 +36,17 @@ impl<E: Entry> Chunk<E> {
         Ok(Chunk { entries })
     }
 
+    /// Returns a copy. It allocates once.
+    pub fn try_clone(&self, alloc: Global) -> Result<Self, AllocError>
+        ensures { IfOk result (λ chunk. chunk ≡ self.now) }
+    {
+        let mut entries = Vec::with_capacity(alloc, MAX_ENTRIES)?;
+        let Ok(()) = entries.extend_from_slice(self.entries.as_slice()) else {
+            unreachable!()
+        };
+        Ok(Chunk { entries })
+    }
+
     /// Returns the entries.
     pub fn as_slice(&self) -> &[E]
         ensures value { result.now ≡ self.now }

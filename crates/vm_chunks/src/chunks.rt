@@ -39,6 +39,17 @@ fn bounds_above(bounds: &[u64], key: u64) -> usize
     bounds.partition_point(|bound| *bound > key)
 }
 
+/// Returns copies of the chunks.
+fn clone_chunks<E: Entry>(alloc: Global, chunks: &[Chunk<E>]) -> Result<Vec<Chunk<E>>, AllocError>
+    ensures { IfOk result (λ copies. copies.items ≡ chunks.now) }
+{
+    let mut copies = Vec::with_capacity(alloc, chunks.len())?;
+    for i in 0..chunks.len() {
+        copies.push(chunks[i].try_clone(alloc)?)?;
+    }
+    Ok(copies)
+}
+
 /// Creates the first chunk, which is empty. An error changes nothing.
 fn begin<E: Entry>(
     alloc: Global,
@@ -166,6 +177,15 @@ impl<E: Entry> Chunks<E> {
             chunks: Vec::new(alloc),
             bounds: Vec::new(alloc),
         }
+    }
+
+    /// Returns a copy. It allocates for each chunk.
+    pub fn try_clone(&self, alloc: Global) -> Result<Self, AllocError>
+        ensures { IfOk result (λ copy. copy ≡ self.now) }
+    {
+        let chunks = clone_chunks(alloc, self.chunks.as_slice())?;
+        let bounds = self.bounds.clone()?;
+        Ok(Chunks { chunks, bounds })
     }
 
     /// Returns the entry with this key, if there is one. It takes logarithmic time.
