@@ -1,5 +1,43 @@
--- Where a key divides a descending list.
-use Rattle.std.proofs.Common.{◌≡◌, ℕ, zero, suc, ◌+◌, ◌-◌, ◌<◌, ◌≤◌, Bool, true, false, not, List, [], ◌∷◌, ◌++◌, length, get_or, set, take, drop, reverse, nat_lt, nat_le, nat_eq, arith, sym, ap, ◌∙◌, subst, refl, inl, inr, Option, Some, None, cond}
+-- A key divides a descending list.
+use Rattle.std.proofs.Common.{
+  ◌≡◌,
+  ℕ,
+  zero,
+  suc,
+  ◌+◌,
+  ◌-◌,
+  ◌<◌,
+  ◌≤◌,
+  Bool,
+  true,
+  false,
+  not,
+  List,
+  [],
+  ◌∷◌,
+  ◌++◌,
+  length,
+  get_or,
+  set,
+  take,
+  drop,
+  reverse,
+  nat_lt,
+  nat_le,
+  nat_eq,
+  arith,
+  sym,
+  ap,
+  ◌∙◌,
+  subst,
+  refl,
+  inl,
+  inr,
+  Option,
+  Some,
+  None,
+  cond,
+}
 use Rattle.std.specs.Option.{is_some, IsSome}
 use Rattle.std.specs.List.{filter, find, insert, remove}
 use Rattle.std.proofs.lemmas.List.{take-append-drop, length-reverse, get_or-reverse, get_or_default, set_split}
@@ -79,12 +117,12 @@ module _ {X : Type 0} (key : X → ℕ) (t : ℕ) (xs : List X) (p : ℕ)
   below_is e = filter_last (λ x. nat_lt (key x) t) xs p
       (λ k d h w. let f = a k d h in le-ltb _ _ (omega arith))
       (λ k d h w.
-        let f = b k d h w in
-        let n = none_passes (λ x. nat_eq (key x) t) xs e k d w in
-        elim (cases_lt (key (get_or xs k d)) t) [
-          | inl q ↦ lt-ltb _ _ q
-          | inr q ↦ absurd (true≢false (sym (eq-eqb (key (get_or xs k d)) t (omega arith)) ∙ n))
-        ])
+      let f = b k d h w in
+      let n = none_passes (λ x. nat_eq (key x) t) xs e k d w in
+      elim (cases_lt (key (get_or xs k d)) t) [
+        | inl q ↦ lt-ltb _ _ q
+        | inr q ↦ absurd (true≢false (sym (eq-eqb (key (get_or xs k d)) t (omega arith)) ∙ n))
+      ])
 
   -- No entry has the key t if the one at p has another.
   pub none_at : IsDescendingBy key xs → ((d : X) → p < length xs → key (get_or xs p d) ≡ t → ⊥) → entry_at key t xs ≡ None
@@ -111,7 +149,9 @@ module _ {X : Type 0} (key : X → ℕ) (t : ℕ) (xs : List X) (p : ℕ)
     below_after down = filter_last (λ x. nat_lt (key x) t) xs (suc p)
         (λ k d h w. elim (cases_lt k p) [
           | inl q ↦ (let f = a k d q in le-ltb _ _ (omega arith))
-          | inr q ↦ (let e : k ≡ p = omega arith in let g : key (get_or xs k d) ≡ t = ap (λ i. key (get_or xs i d)) e ∙ sym (ap key (is d)) ∙ s in le-ltb _ _ (omega arith))
+          | inr q ↦ (
+              let e : k ≡ p = omega arith in
+              let g : key (get_or xs k d) ≡ t = ap (λ i. key (get_or xs i d)) e ∙ sym (ap key (is d)) ∙ s in le-ltb _ _ (omega arith))
         ])
         (λ k d h w. let f = down p k d (omega arith) w in let g : key (get_or xs p d) ≡ t = sym (ap key (is d)) ∙ s in lt-ltb _ _ (omega arith))
 
@@ -134,7 +174,7 @@ module _ {X : Type 0} (key : X → ℕ) (t : ℕ) (xs : List X) (p : ℕ)
           | inr q ↦ absurd (true≢false (sym some ∙ ap is_some (none_at down (λ d l s. omega arith))))
         ]
 
-    -- A change at p puts an entry in place of the one with its key.
+    -- A change at p replaces the entry with its key.
     pub sets_at : (e : X) → key e ≡ t → set xs p e ≡ above key t xs ++ e ∷ below key t xs
     sets_at e s =
         let l = known_within in

@@ -1,5 +1,34 @@
 -- Descending lists within bounds.
-use Rattle.std.proofs.Common.{◌≡◌, ℕ, zero, suc, ◌+◌, ◌-◌, ◌<◌, ◌≤◌, Bool, true, false, List, [], ◌∷◌, ◌++◌, length, get_or, take, drop, nat_lt, arith, sym, ap, ◌∙◌, subst, refl, inl, inr}
+use Rattle.std.proofs.Common.{
+  ◌≡◌,
+  ℕ,
+  zero,
+  suc,
+  ◌+◌,
+  ◌-◌,
+  ◌<◌,
+  ◌≤◌,
+  Bool,
+  true,
+  false,
+  List,
+  [],
+  ◌∷◌,
+  ◌++◌,
+  length,
+  get_or,
+  take,
+  drop,
+  nat_lt,
+  arith,
+  sym,
+  ap,
+  ◌∙◌,
+  subst,
+  refl,
+  inl,
+  inr,
+}
 use Rattle.std.specs.List.{filter, All}
 use Rattle.std.proofs.lemmas.Bool.{cases_Bool, cond-true, cond-false, ltb-true}
 use Rattle.std.proofs.lemmas.List.Elements.{All-head, All-tail, All-weaker, filter_passes}
@@ -39,7 +68,7 @@ module _ {X : Type 0} (key : X → ℕ) where
   first_part b hi [] ys r = tt
   first_part b hi (x ∷ xs) ys r = (r.0, r.1, first_part b (key x) xs ys r.2)
 
-  -- What a test keeps descends.
+  -- The entries that pass a test descend.
   pub kept : (b hi : ℕ) (test : X → Bool) (xs : List X) → Descends key b hi xs → Descends key b hi (filter test xs)
   kept b hi test [] r = tt
   kept b hi test (x ∷ xs) r =

@@ -1,12 +1,72 @@
 -- Chunks that are split and joined.
-use Rattle.std.proofs.Common.{◌≡◌, ◌≢◌, ℕ, zero, suc, ◌+◌, ◌-◌, ◌<◌, ◌≤◌, List, [], ◌∷◌, ◌++◌, length, get_or, set, take, drop, arith, sym, ap, ◌∙◌, subst, refl, inl, inr, ◌⊎◌}
+use Rattle.std.proofs.Common.{
+  ◌≡◌,
+  ◌≢◌,
+  ℕ,
+  zero,
+  suc,
+  ◌+◌,
+  ◌-◌,
+  ◌<◌,
+  ◌≤◌,
+  List,
+  [],
+  ◌∷◌,
+  ◌++◌,
+  length,
+  get_or,
+  set,
+  take,
+  drop,
+  arith,
+  sym,
+  ap,
+  ◌∙◌,
+  subst,
+  refl,
+  inl,
+  inr,
+  ◌⊎◌,
+}
 use Rattle.std.specs.List.{flat_map, insert, remove, All}
 use Rattle.std.proofs.lemmas.Bool.{cases_lt, cases_eq}
-use Rattle.std.proofs.lemmas.List.{append_assoc, append-nil, take-append-drop, length-append, length-set, length-drop, length-take-le, get_or_default, nil_from_length, drop_all, get_or-set_same, get_or-set_other}
+use Rattle.std.proofs.lemmas.List.{
+  append_assoc,
+  append-nil,
+  take-append-drop,
+  length-append,
+  length-set,
+  length-drop,
+  length-take-le,
+  get_or_default,
+  nil_from_length,
+  drop_all,
+  get_or-set_same,
+  get_or-set_other,
+}
 use Rattle.std.proofs.lemmas.List.Elements.{All-append, All-cons, All-set, All-take, All-drop}
-use Rattle.std.proofs.lemmas.List.Edits.{length-insert, length-remove, get_or-insert_below, get_or-insert_at, get_or-insert_above, get_or-remove_below, get_or-remove_above}
-use Rattle.vm_chunks.specs.Chunks.{TOP, entries_of, Descends, AreBounded, AreAllBounded, AreFilledBut, AreChunks, IsPlace, split_chunk, joined_chunks, IsJoinedOr}
-use Rattle.vm_chunks.specs.Entries.{above, below, with_entry, without}
+use Rattle.std.proofs.lemmas.List.Edits.{
+  length-insert,
+  length-remove,
+  get_or-insert_below,
+  get_or-insert_at,
+  get_or-insert_above,
+  get_or-remove_below,
+  get_or-remove_above,
+}
+use Rattle.vm_chunks.specs.Chunks.{
+  TOP,
+  entries_of,
+  Descends,
+  AreBounded,
+  AreAllBounded,
+  AreFilledBut,
+  AreChunks,
+  split_chunk,
+  joined_chunks,
+  IsJoinedOr,
+}
+use Rattle.vm_chunks.specs.Entries.{above, below, with_entry, without, IsPlace}
 use Rattle.vm_chunks.proofs.Descents.{joined, first_part, with_descends, without_descends}
 use Rattle.vm_chunks.proofs.Middles.{with_in, without_in}
 use Rattle.vm_chunks.proofs.Homes.{bounded, changes, chunk_descends, home_at, parts, set_parts}
@@ -78,7 +138,7 @@ module _ {X : Type 0} (key : X → ℕ) where
       }
   cuts b m hi (suc (suc k)) (x ∷ y ∷ xs) r s l e =
       let c = cuts b m (key x) (suc k) (y ∷ xs) r.2 (omega arith) (omega (arith, l))
-          (λ d. let n : suc (suc k) - 1 ≡ suc (suc k - 1) = omega arith in e d ∙ ap (λ n. key (get_or (x ∷ y ∷ xs) n d)) n) in
+      (λ d. let n : suc (suc k) - 1 ≡ suc (suc k - 1) = omega arith in e d ∙ ap (λ n. key (get_or (x ∷ y ∷ xs) n d)) n) in
       let u = c.under in
       record {
         first = (omega arith, r.1, c.first);
@@ -177,7 +237,7 @@ module _ {X : Type 0} (key : X → ℕ) where
         ap length (get_or-insert_at (set cs i c) (i + 1) (drop kept (get_or cs i [])) [] (omega arith)) ∙ length-drop kept (get_or cs i [])
 
   -- The place of a key among the bounds after a split.
-  pub place_lower : (t i m : ℕ) (bs : List ℕ) → IsPlace t i bs → t < m → IsPlace t (i + 1) (insert bs i m)
+  pub place_lower : (t i m : ℕ) (bs : List ℕ) → IsPlace (λ b. b) t i bs → t < m → IsPlace (λ b. b) t (i + 1) (insert bs i m)
   place_lower t i m bs p h =
       let n = length-insert bs i m p.bound in
       let w = p.bound in
@@ -192,7 +252,7 @@ module _ {X : Type 0} (key : X → ℕ) where
             rw (s, get_or-insert_above bs i m d (k - 1) (omega arith) p.bound) (p.below (k - 1) d (omega arith) (omega arith));
       }
 
-  pub place_upper : (t i m : ℕ) (bs : List ℕ) → IsPlace t i bs → m ≤ t → IsPlace t i (insert bs i m)
+  pub place_upper : (t i m : ℕ) (bs : List ℕ) → IsPlace (λ b. b) t i bs → m ≤ t → IsPlace (λ b. b) t i (insert bs i m)
   place_upper t i m bs p h =
       let n = length-insert bs i m p.bound in
       let w = p.bound in
@@ -211,7 +271,7 @@ module _ {X : Type 0} (key : X → ℕ) where
   pub first_chunk : AreChunks key ([] ∷ []) (0 ∷ [])
   first_chunk = record { bounded = (omega arith, tt, refl); filled = λ q. absurd (omega (arith, q)) }
 
-  pub first_place : (t : ℕ) → IsPlace t 0 (0 ∷ [])
+  pub first_place : (t : ℕ) → IsPlace (λ b. b) t 0 (0 ∷ [])
   first_place t = record { bound = omega arith; above = λ k d q. absurd (omega (arith, q)); below = below }
     where
       below : (k : ℕ) (d : ℕ) → 0 ≤ k → k < 1 → get_or (0 ∷ []) k d ≤ t
@@ -235,10 +295,11 @@ module _ {X : Type 0} (key : X → ℕ) where
         let P : List X → Type 0 = λ c. 0 < length c in
         elim (cases_lt k j) [
           | inl q ↦ subst P (sym (get_or-set_other (remove cs (j + 1)) j k (a ++ b) d (λ e. omega arith)
-              ∙ get_or-remove_below cs (j + 1) d k (omega arith) l)) (f k d (omega arith) (λ e. elim near [ | inl x ↦ omega arith | inr x ↦ omega arith ]))
+              ∙ get_or-remove_below cs (j + 1) d k (omega arith) l)) (f k d (omega arith) (λ e. elim near [ inl x ↦ omega arith | inr x ↦ omega arith ]))
           | inr q ↦ elim (cases_lt j k) [
             | inl p ↦ subst P (sym (get_or-set_other (remove cs (j + 1)) j k (a ++ b) d (λ e. omega arith)
-                ∙ get_or-remove_above cs (j + 1) d k (omega arith) l)) (f (k + 1) d (omega arith) (λ e. elim near [ | inl x ↦ omega arith | inr x ↦ omega arith ]))
+                ∙ get_or-remove_above cs (j + 1) d k (omega arith) l))
+                (f (k + 1) d (omega arith) (λ e. elim near [ inl x ↦ omega arith | inr x ↦ omega arith ]))
             | inr p ↦ (
                 let i : k ≡ j = omega arith in
                 let both : 0 < length (a ++ b) = elim near [
@@ -264,8 +325,12 @@ module _ {X : Type 0} (key : X → ℕ) where
           bounded = r;
           filled = λ _ k d w. elim (cases_eq k at) [
             | inl q ↦ elim near [
-              | inl y ↦ (let s : k ≡ j = q ∙ y in subst (λ (c : List X). 0 < length c) (get_or_default cs j [] d (omega (arith, l)) ∙ ap (λ k. get_or cs k d) (sym s)) x.0)
-              | inr y ↦ (let s : k ≡ j + 1 = q ∙ y in subst (λ (c : List X). 0 < length c) (get_or_default cs (j + 1) [] d l ∙ ap (λ k. get_or cs k d) (sym s)) x.1)
+              | inl y ↦ (
+                  let s : k ≡ j = q ∙ y in
+                  subst (λ (c : List X). 0 < length c) (get_or_default cs j [] d (omega (arith, l)) ∙ ap (λ k. get_or cs k d) (sym s)) x.0)
+              | inr y ↦ (
+                  let s : k ≡ j + 1 = q ∙ y in
+                  subst (λ (c : List X). 0 < length c) (get_or_default cs (j + 1) [] d l ∙ ap (λ k. get_or cs k d) (sym s)) x.1)
             ]
             | inr q ↦ f k d w q
           ];
@@ -276,7 +341,7 @@ module _ {X : Type 0} (key : X → ℕ) where
     mend_same cs' bs' (inl x) = ap (λ (cs' : List (List X)). entries_of cs') x.0 ∙ entries_joined cs j (j + 1) refl l
     mend_same cs' bs' (inr x) = ap (λ (cs' : List (List X)). entries_of cs') x.2
 
-  module _ (cs : List (List X)) (bs : List ℕ) (r : AreAllBounded key cs bs) (t i : ℕ) (h : t < TOP) (p : IsPlace t i bs)
+  module _ (cs : List (List X)) (bs : List ℕ) (r : AreAllBounded key cs bs) (t i : ℕ) (h : t < TOP) (p : IsPlace (λ b. b) t i bs)
       (l : i < length cs) (d : List X) where
     -- The chunk without an entry descends between its bounds.
     pub taken_bounded : AreAllBounded key (set cs i (without key t (get_or cs i d))) bs
@@ -303,7 +368,7 @@ module _ {X : Type 0} (key : X → ℕ) where
       let s = length-set cs i c in
       subst (λ (c : List X). 0 < length c) (sym (get_or-set_other cs i k c d n)) (f (omega arith) k d (omega arith))
 
-  module _ (cs : List (List X)) (bs : List ℕ) (r : AreChunks key cs bs) (e : X) (i : ℕ) (h : key e < TOP) (p : IsPlace (key e) i bs)
+  module _ (cs : List (List X)) (bs : List ℕ) (r : AreChunks key cs bs) (e : X) (i : ℕ) (h : key e < TOP) (p : IsPlace (λ b. b) (key e) i bs)
       (l : i < length cs) (d : List X) where
     -- The chunks with a further entry.
     pub put_is : AreChunks key (set cs i (with_entry key e (get_or cs i d))) bs

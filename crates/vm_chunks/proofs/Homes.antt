@@ -1,12 +1,50 @@
 -- The only chunk that can have a key, and changes of it.
-use Rattle.std.proofs.Common.{◌≡◌, ℕ, zero, suc, ◌+◌, ◌-◌, ◌<◌, ◌≤◌, List, [], ◌∷◌, ◌++◌, length, get_or, set, take, drop, arith, sym, ap, ◌∙◌, subst, refl, inl, inr, None}
+use Rattle.std.proofs.Common.{
+  ◌≡◌,
+  ℕ,
+  zero,
+  suc,
+  ◌+◌,
+  ◌-◌,
+  ◌<◌,
+  ◌≤◌,
+  List,
+  [],
+  ◌∷◌,
+  ◌++◌,
+  length,
+  get_or,
+  set,
+  take,
+  drop,
+  arith,
+  sym,
+  ap,
+  ◌∙◌,
+  subst,
+  refl,
+  inl,
+  inr,
+  None,
+}
 use Rattle.std.specs.List.{flat_map, insert, remove, All}
 use Rattle.std.specs.Option.{is_some, option_or, IsSome}
 use Rattle.std.proofs.lemmas.Bool.{cases_lt, true≢false}
-use Rattle.std.proofs.lemmas.List.{append_assoc, append-nil, length-append, get_or-append-add, take_more, flat_map_more, length-set, nil_from_length, get_or-set_same, get_or-set_other}
+use Rattle.std.proofs.lemmas.List.{
+  append_assoc,
+  append-nil,
+  length-append,
+  get_or-append-add,
+  take_more,
+  flat_map_more,
+  length-set,
+  nil_from_length,
+  get_or-set_same,
+  get_or-set_other,
+}
 use Rattle.std.proofs.lemmas.List.Elements.{All-nil, All-append, All-weaker}
-use Rattle.vm_chunks.specs.Entries.{IsDescendingBy, above, below, without, entry_at, at_or_above}
-use Rattle.vm_chunks.specs.Chunks.{TOP, entries_of, Descends, AreBounded, AreAllBounded, AreFilledBut, AreChunks, IsPlace}
+use Rattle.vm_chunks.specs.Entries.{IsDescendingBy, above, below, without, entry_at, at_or_above, IsPlace}
+use Rattle.vm_chunks.specs.Chunks.{TOP, entries_of, Descends, AreBounded, AreAllBounded, AreFilledBut, AreChunks}
 use Rattle.vm_chunks.proofs.Descents.{descends_by, keys_within, joined, higher_end}
 use Rattle.vm_chunks.proofs.Middles.{entry_in, from_in, from_last}
 
@@ -109,7 +147,7 @@ module _ {X : Type 0} (key : X → ℕ) where
     home hi (c ∷ cs) (b ∷ bs) (suc i) r h l f g =
         let high : t < b = f 0 0 (omega arith) in
         let s = home b cs bs i r.2 high (omega (arith, l)) (λ k d q. f (suc k) d (omega (arith, q)))
-            (λ k d q w. g (suc k) d (omega (arith, q)) (omega (arith, w))) in
+        (λ k d q w. g (suc k) d (omega (arith, q)) (omega (arith, w))) in
         record {
           within = omega (arith, s.within);
           higher = All-append (λ x. t < key x) c (entries_of (take i cs))
@@ -120,7 +158,7 @@ module _ {X : Type 0} (key : X → ℕ) where
         }
 
     -- The place among the bounds is that of the only chunk that can have the key.
-    pub home_at : (cs : List (List X)) (bs : List ℕ) (i : ℕ) → AreAllBounded key cs bs → 0 < length cs → t < TOP → IsPlace t i bs →
+    pub home_at : (cs : List (List X)) (bs : List ℕ) (i : ℕ) → AreAllBounded key cs bs → 0 < length cs → t < TOP → IsPlace (λ b. b) t i bs →
         IsHome t TOP cs bs i
     home_at [] bs i r n h p = absurd (omega (arith, n))
     home_at (c ∷ cs) bs i r n h p = home TOP (c ∷ cs) bs i r h p.bound p.above p.below
@@ -144,7 +182,7 @@ module _ {X : Type 0} (key : X → ℕ) where
         some [] r n = absurd (omega (arith, n))
         some (c ∷ cs) r n = r
 
-    module _ (t i : ℕ) (h : t < TOP) (p : IsPlace t i bs) where
+    module _ (t i : ℕ) (h : t < TOP) (p : IsPlace (λ b. b) t i bs) where
       -- A key that belongs past the chunks is in no chunk, because there is none.
       pub none_there : length cs ≤ i → cs ≡ []
       none_there l =

@@ -1,5 +1,36 @@
 -- Calls on a list whose middle part alone can have the key.
-use Rattle.std.proofs.Common.{◌≡◌, ℕ, zero, suc, ◌+◌, ◌<◌, ◌≤◌, Bool, true, false, List, [], ◌∷◌, ◌++◌, length, get_or, reverse, nat_lt, nat_le, nat_eq, arith, sym, ap, subst, ◌-◌, ◌∙◌, refl, Option, Some, None}
+use Rattle.std.proofs.Common.{
+  ◌≡◌,
+  ℕ,
+  zero,
+  suc,
+  ◌+◌,
+  ◌<◌,
+  ◌≤◌,
+  Bool,
+  true,
+  false,
+  List,
+  [],
+  ◌∷◌,
+  ◌++◌,
+  length,
+  get_or,
+  reverse,
+  nat_lt,
+  nat_le,
+  nat_eq,
+  arith,
+  sym,
+  ap,
+  subst,
+  ◌-◌,
+  ◌∙◌,
+  refl,
+  Option,
+  Some,
+  None,
+}
 use Rattle.std.specs.List.{filter, find, All}
 use Rattle.std.specs.Option.{option_or}
 use Rattle.std.proofs.lemmas.Bool.{cond-true, cond-false, lt-ltb, le-ltb, le-leb, lt-leb, ne_eqb}
@@ -42,10 +73,10 @@ module _ {X : Type 0} (key : X → ℕ) (t : ℕ) (pre c post : List X)
       let test : X → Bool = λ x. nat_eq (key x) t in
       find-append test pre (c ++ post)
       ∙ ap (λ o. option_or o (find test (c ++ post)))
-        (find_fails test pre (All-weaker (λ x. t < key x) (λ x. test x ≡ false) (λ x h. ne_eqb _ _ (λ e. omega arith)) pre high))
+      (find_fails test pre (All-weaker (λ x. t < key x) (λ x. test x ≡ false) (λ x h. ne_eqb _ _ (λ e. omega arith)) pre high))
       ∙ find-append test c post
       ∙ ap (λ o. option_or (find test c) o)
-        (find_fails test post (All-weaker (λ x. key x < t) (λ x. test x ≡ false) (λ x h. ne_eqb _ _ (λ e. omega arith)) post low))
+      (find_fails test post (All-weaker (λ x. key x < t) (λ x. test x ≡ false) (λ x h. ne_eqb _ _ (λ e. omega arith)) post low))
       ∙ or_none (find test c)
 
   above_in : above key t (pre ++ (c ++ post)) ≡ pre ++ above key t c
@@ -54,10 +85,10 @@ module _ {X : Type 0} (key : X → ℕ) (t : ℕ) (pre c post : List X)
       let test : X → Bool = λ x. nat_lt t (key x) in
       filter-append test pre (c ++ post)
       ∙ ap (λ l. l ++ filter test (c ++ post))
-        (filter_all test pre (All-weaker (λ x. t < key x) (λ x. test x ≡ true) (λ x h. lt-ltb _ _ h) pre high))
+      (filter_all test pre (All-weaker (λ x. t < key x) (λ x. test x ≡ true) (λ x h. lt-ltb _ _ h) pre high))
       ∙ ap (λ l. pre ++ l) (filter-append test c post
       ∙ ap (λ l. filter test c ++ l)
-        (filter_none test post (All-weaker (λ x. key x < t) (λ x. test x ≡ false) (λ x h. le-ltb _ _ (omega (arith, h))) post low))
+      (filter_none test post (All-weaker (λ x. key x < t) (λ x. test x ≡ false) (λ x h. le-ltb _ _ (omega (arith, h))) post low))
       ∙ append-nil (filter test c))
 
   below_in : below key t (pre ++ (c ++ post)) ≡ below key t c ++ post
@@ -66,10 +97,10 @@ module _ {X : Type 0} (key : X → ℕ) (t : ℕ) (pre c post : List X)
       let test : X → Bool = λ x. nat_lt (key x) t in
       filter-append test pre (c ++ post)
       ∙ ap (λ l. l ++ filter test (c ++ post))
-        (filter_none test pre (All-weaker (λ x. t < key x) (λ x. test x ≡ false) (λ x h. le-ltb _ _ (omega (arith, h))) pre high))
+      (filter_none test pre (All-weaker (λ x. t < key x) (λ x. test x ≡ false) (λ x h. le-ltb _ _ (omega (arith, h))) pre high))
       ∙ filter-append test c post
       ∙ ap (λ l. filter test c ++ l)
-        (filter_all test post (All-weaker (λ x. key x < t) (λ x. test x ≡ true) (λ x h. lt-ltb _ _ h) post low))
+      (filter_all test post (All-weaker (λ x. key x < t) (λ x. test x ≡ true) (λ x h. lt-ltb _ _ h) post low))
 
   -- An entry is taken out of the middle part.
   pub without_in : without key t (pre ++ (c ++ post)) ≡ pre ++ (without key t c ++ post)
@@ -111,10 +142,10 @@ from_in key t pre c post low =
     ap (λ l. find test l) (reverse-append pre (c ++ post) ∙ ap (λ l. l ++ reverse pre) (reverse-append c post))
     ∙ find-append test (reverse post ++ reverse c) (reverse pre)
     ∙ ap (λ o. option_or o (find test (reverse pre)))
-      (find-append test (reverse post) (reverse c)
-      ∙ ap (λ o. option_or o (find test (reverse c)))
-        (find_fails test (reverse post) (All-weaker (λ x. key x < t) (λ x. test x ≡ false) (λ x h. lt-leb _ _ h) (reverse post)
-        (All-reverse (λ x. key x < t) post low))))
+    (find-append test (reverse post) (reverse c)
+    ∙ ap (λ o. option_or o (find test (reverse c)))
+    (find_fails test (reverse post) (All-weaker (λ x. key x < t) (λ x. test x ≡ false) (λ x h. lt-leb _ _ h) (reverse post)
+    (All-reverse (λ x. key x < t) post low))))
 
 -- It is in the last part if that has entries, all with such keys.
 pub from_last : {X : Type 0} (key : X → ℕ) (t : ℕ) (pre c : List X) → 0 < length c → All (λ x. t < key x) c →
@@ -126,4 +157,4 @@ from_last key t pre c l high =
     ap (λ l. find test l) (reverse-append pre c)
     ∙ find-append test (reverse c) (reverse pre)
     ∙ first_passes test (reverse c) (find test (reverse pre)) (omega arith)
-      (All-weaker (λ x. t < key x) (λ x. test x ≡ true) (λ x h. le-leb _ _ (omega (arith, h))) (reverse c) (All-reverse (λ x. t < key x) c high))
+    (All-weaker (λ x. t < key x) (λ x. test x ≡ true) (λ x h. le-leb _ _ (omega (arith, h))) (reverse c) (All-reverse (λ x. t < key x) c high))

@@ -36,12 +36,6 @@ pub record AreChunks {X : Type 0} (key : X → ℕ) (cs : List (List X)) (bs : L
   pub bounded : AreAllBounded key cs bs
   pub filled : 2 ≤ length cs → All (λ c. 0 < length c) cs
 
--- The bounds before `at` are above t, and the others are not.
-pub record IsPlace (t at : ℕ) (bs : List ℕ) : Type 0 where
-  pub bound : at ≤ length bs
-  pub above : (k : ℕ) (d : ℕ) → k < at → t < slice_index_or bs k d
-  pub below : (k : ℕ) (d : ℕ) → at ≤ k → k < length bs → slice_index_or bs k d ≤ t
-
 -- The chunk `at` in two: the entries from `kept` on are in a chunk after it.
 abbrev pub split_chunk : {X : Type 0} → ℕ → ℕ → List (List X) → List (List X)
 split_chunk at kept cs =

@@ -1,8 +1,26 @@
 //! A chunk: at most 64 entries, with memory for 64. Only creating it can fail.
-ghost use Rattle.std.specs.Prelude.{◌≡◌, ℕ, ◌<◌, ◌≤◌, ◌+◌, ◌++◌, [], length, take, drop, slice_index_or, option_to_list, None, IsSome, IfOk, OnErr, vec_capacity};
+ghost use Rattle.std.specs.Prelude.{
+  ◌≡◌,
+  ℕ,
+  ◌<◌,
+  ◌≤◌,
+  ◌+◌,
+  ◌++◌,
+  [],
+  length,
+  take,
+  drop,
+  slice_index_or,
+  option_to_list,
+  None,
+  IsSome,
+  IfOk,
+  OnErr,
+  vec_capacity,
+};
 ghost use Rattle.vm_chunks.specs.Entries.{IsDescendingBy, with_entry, without, entry_at, at_or_above};
 
-use crate::{Entry, count_from, place};
+use crate::{Entry, place, place_from};
 use std::alloc::{AllocError, Global};
 use std::marker::Model;
 
@@ -82,7 +100,7 @@ impl<E: Entry> Chunk<E> {
         requires { IsDescendingBy E.key_of self.now }
         ensures { result ≡ at_or_above E.key_of key self.now }
     {
-        let count = count_from(self.entries.as_slice(), key);
+        let count = place_from(self.entries.as_slice(), key);
         if count == 0 {
             return None;
         }

@@ -1,8 +1,34 @@
 //! A descending list of entries in chunks.
-ghost use Rattle.std.specs.Prelude.{◌≡◌, ℕ, ◌<◌, ◌≤◌, ◌+◌, ◌++◌, ◌-◌, ◌∷◌, [], length, slice_index_or, option_to_list, None, IsSome, reverse, IfOk, OnOk, OnErr};
+ghost use Rattle.std.specs.Prelude.{
+  ◌≡◌,
+  ℕ,
+  ◌<◌,
+  ◌≤◌,
+  ◌+◌,
+  ◌++◌,
+  ◌-◌,
+  ◌∷◌,
+  [],
+  length,
+  slice_index_or,
+  option_to_list,
+  None,
+  IsSome,
+  reverse,
+  IfOk,
+  OnOk,
+  OnErr,
+};
 ghost use Rattle.std.specs.List.{insert};
-ghost use Rattle.vm_chunks.specs.Entries.{IsDescendingBy, with_entry, without, entry_at, at_or_above};
-ghost use Rattle.vm_chunks.specs.Chunks.{entries_of, AreAllBounded, AreFilledBut, AreChunks, IsPlace, split_chunk, IsJoinedOr};
+ghost use Rattle.vm_chunks.specs.Entries.{IsDescendingBy, with_entry, without, entry_at, at_or_above, IsPlace, IsKeyOf};
+ghost use Rattle.vm_chunks.specs.Chunks.{
+  entries_of,
+  AreAllBounded,
+  AreFilledBut,
+  AreChunks,
+  split_chunk,
+  IsJoinedOr,
+};
 
 use crate::Entry;
 use crate::chunk::{Chunk, MAX_ENTRIES};
@@ -34,7 +60,7 @@ impl<E: Entry> Model for Chunks<E> {
 /// Returns the number of bounds above a key.
 fn bounds_above(bounds: &[u64], key: u64) -> usize
     requires { IsDescendingBy (λ b. b) bounds.now }
-    ensures { IsPlace key result bounds.now }
+    ensures { IsPlace (λ b. b) key result bounds.now }
 {
     bounds.partition_point(|bound| *bound > key)
 }
@@ -85,7 +111,7 @@ fn split<E: Entry>(
     requires bounded { at < length bounds.old.items }
     requires some { 0 < kept }
     requires rest { kept < length (slice_index_or chunks.old.items at []) }
-    ensures bound { IfOk result (λ b. (d : E) → b ≡ E.key_of (slice_index_or (slice_index_or chunks.old.items at []) (kept - 1) d)) }
+    ensures bound { IfOk result (λ b. IsKeyOf E.key_of b (kept - 1) (slice_index_or chunks.old.items at [])) }
     ensures bounds { IfOk result (λ b. bounds.new.items ≡ insert bounds.old.items at b) }
     ensures chunks { OnOk result (chunks.new.items ≡ split_chunk at kept chunks.old.items) }
     ensures unchanged { OnErr result ((chunks.new.items ≡ chunks.old.items) × (bounds.new.items ≡ bounds.old.items)) }
@@ -134,7 +160,7 @@ fn make_room<E: Entry>(
     requires chunks { AreChunks E.key_of chunks.old.items bounds.old.items }
     ensures same { entries_of chunks.new.items ≡ entries_of chunks.old.items }
     ensures chunks { AreChunks E.key_of chunks.new.items bounds.new.items }
-    ensures place { IfOk result (λ i. IsPlace key i bounds.new.items) }
+    ensures place { IfOk result (λ i. IsPlace (λ b. b) key i bounds.new.items) }
     ensures within { IfOk result (λ i. i < length chunks.new.items) }
     ensures room { IfOk result (λ i. length (slice_index_or chunks.new.items i []) < 64) }
 {
@@ -241,10 +267,10 @@ impl<E: Entry> Chunks<E> {
     pub fn iter(&self) -> Iter<'_, E>
         ensures { result ≡ reverse self.now }
     {
-        match self.chunks.as_slice().split_last() {
-            Some((chunk, others)) => Iter::of_chunks(others, chunk),
-            None => Iter::none(),
-        }
+        let Some((chunk, others)) = self.chunks.as_slice().split_last() else {
+            return Iter::none();
+        };
+        Iter::of_chunks(others, chunk)
     }
 
     /// Removes the entry with this key, and returns it. It does not allocate.

@@ -1,8 +1,8 @@
 //! Lists of entries in descending order of their keys, in chunks.
 #![tactic(auto)]
 
-ghost use Rattle.std.specs.Prelude.{◌≡◌, ℕ, ◌<◌, ◌≤◌, length, slice_index_or};
-ghost use Rattle.vm_chunks.specs.Entries.{IsDescendingBy};
+ghost use Rattle.std.specs.Prelude.{◌≡◌, ℕ};
+ghost use Rattle.vm_chunks.specs.Entries.{IsDescendingBy, IsPlace, IsPlaceFrom};
 
 mod chunk;
 mod chunks;
@@ -23,19 +23,15 @@ pub trait Entry: Copy {
 /// Returns the number of entries with keys above this one.
 fn place<E: Entry>(entries: &[E], key: u64) -> usize
     requires { IsDescendingBy E.key_of entries.now }
-    ensures bound { result ≤ length entries.now }
-    ensures above { (k : ℕ) (d : E) → k < result → key < E.key_of (slice_index_or entries.now k d) }
-    ensures below { (k : ℕ) (d : E) → result ≤ k → k < length entries.now → E.key_of (slice_index_or entries.now k d) ≤ key }
+    ensures { IsPlace E.key_of key result entries.now }
 {
     entries.partition_point(|entry| entry.key() > key)
 }
 
 /// Returns the number of entries whose keys are at least this one.
-fn count_from<E: Entry>(entries: &[E], key: u64) -> usize
+fn place_from<E: Entry>(entries: &[E], key: u64) -> usize
     requires { IsDescendingBy E.key_of entries.now }
-    ensures bound { result ≤ length entries.now }
-    ensures from { (k : ℕ) (d : E) → k < result → key ≤ E.key_of (slice_index_or entries.now k d) }
-    ensures below { (k : ℕ) (d : E) → result ≤ k → k < length entries.now → E.key_of (slice_index_or entries.now k d) < key }
+    ensures { IsPlaceFrom E.key_of key result entries.now }
 {
     entries.partition_point(|entry| entry.key() >= key)
 }

@@ -4,14 +4,13 @@ use Rattle.std.proofs.lemmas.List.Sorted.{IsPartitionPoint-from_clause}
 use Rattle.vm_chunks.proofs.Parts.{parted}
 use Rattle.vm_chunks.proofs.place.Goals as goal
 
-pub returns-clause-above : goal.returns-clause-above
-returns-clause-above g c =
+pub returns : goal.returns
+returns g c =
     let parts = parted g.E.Entry.key_of _ c.args.key c.requires in
-    let point = IsPartitionPoint-from_clause (λ e. ltb c.args.key (g.E.Entry.key_of e)) _ _ c.partition_point.ensures.partitioned parts (λ a r q k. search rules) in
-    λ k d h. ltb-true _ _ (point.0 k d (omega arith) h)
-
-pub returns-clause-below : goal.returns-clause-below
-returns-clause-below g c =
-    let parts = parted g.E.Entry.key_of _ c.args.key c.requires in
-    let point = IsPartitionPoint-from_clause (λ e. ltb c.args.key (g.E.Entry.key_of e)) _ _ c.partition_point.ensures.partitioned parts (λ a r q k. search rules) in
-    λ k d h l. ltb-false _ _ (point.1 k d h l)
+    let point = IsPartitionPoint-from_clause (λ e. ltb c.args.key (g.E.Entry.key_of e)) _ _ c.partition_point.ensures.partitioned
+    parts (λ a r q k. search rules) in
+    record {
+      bound = search rules;
+      above = λ k d h. ltb-true _ _ (point.0 k d (omega arith) h);
+      below = λ k d h l. ltb-false _ _ (point.1 k d h l);
+    }

@@ -1,6 +1,6 @@
 use Rattle.std.proofs.Common.{rules, ◌≡◌, ◌<◌, ◌≤◌, [], length, get_or, ap, ◌∙◌, sym, subst, arith}
 use Rattle.std.proofs.lemmas.List.{get_or_read}
-use Rattle.vm_chunks.specs.Chunks.{TOP, entries_of, IsPlace}
+use Rattle.vm_chunks.specs.Chunks.{TOP, entries_of}
 use Rattle.vm_chunks.proofs.Homes.{all_bounds_descend, same_lengths, none_there}
 use Rattle.vm_chunks.proofs.Divisions.{split_is, split_same, split_upper, split_lower, place_lower, place_upper, first_chunk, first_place, no_bounds}
 use Rattle.vm_chunks.proofs.chunks.make_room.Goals as goal
@@ -18,10 +18,16 @@ begin-requires-clause-bounds g c =
     no_bounds g.E.Entry.key_of _ _ c.requires.chunks.bounded (begin-requires-clause-none g c)
 
 pub returns-in_err-begin-clause-same : goal.returns-in_err-begin-clause-same
-returns-in_err-begin-clause-same g c = ap (λ cs. entries_of cs) (c.in_err-begin.ensures.chunks_stay ∙ sym (none_there g.E.Entry.key_of _ _ c.requires.chunks.bounded c.args.key _ c.ranges.key.fits (rw c.as_slice.ensures.value at c.bounds_above-at.ensures) (search rules)))
+returns-in_err-begin-clause-same g c =
+    let p = rw c.as_slice.ensures.value at c.bounds_above-at.ensures in
+    let e = none_there g.E.Entry.key_of _ _ c.requires.chunks.bounded c.args.key _ c.ranges.key.fits p (search rules) in
+    ap (λ cs. entries_of cs) (c.in_err-begin.ensures.chunks_stay ∙ sym e)
 
 pub returns-then-at-len-clause-same : goal.returns-then-at-len-clause-same
-returns-then-at-len-clause-same g c = ap (λ cs. entries_of cs) c.in_ok-begin.ensures.chunks ∙ ap (λ cs. entries_of cs) (sym (none_there g.E.Entry.key_of _ _ c.requires.chunks.bounded c.args.key _ c.ranges.key.fits (rw c.as_slice.ensures.value at c.bounds_above-at.ensures) (search rules)))
+returns-then-at-len-clause-same g c =
+    let p = rw c.as_slice.ensures.value at c.bounds_above-at.ensures in
+    let e = none_there g.E.Entry.key_of _ _ c.requires.chunks.bounded c.args.key _ c.ranges.key.fits p (search rules) in
+    ap (λ cs. entries_of cs) c.in_ok-begin.ensures.chunks ∙ ap (λ cs. entries_of cs) (sym e)
 
 pub split-requires-clause-bounded : goal.split-requires-clause-bounded
 split-requires-clause-bounded g c =
