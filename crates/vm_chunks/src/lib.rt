@@ -1,4 +1,27 @@
-//! Lists of entries in descending order of their keys, in chunks.
+//! Lists of entries in descending order of their keys, in chunks of at most 64 entries.
+//!
+//! A call finds the chunk of a key by a list of bounds, and then the entry in the chunk. A change moves the
+//! entries of one chunk, and sometimes splits it or joins it with one next to it. The lowest entry is at the end
+//! of the last chunk, so removing it moves nothing.
+//!
+//! # How a list is stated
+//!
+//! - The value of [`Chunks`] is the list of its entries. A type has a key if it is an [`Entry`], and `key_of`
+//!   is its key.
+//! - `with_entry`, `without`, `entry_at` and `at_or_above` (`Entries`) are about such a list, and name no chunk.
+//! - Only private functions cite `Chunks` of `specs`. `AreChunks`: the bounds descend to 0, and each chunk
+//!   descends from its bound on and below the bound before it. Only a chunk that is alone can be empty.
+//!
+//! # What is proved
+//!
+//! - The exact result of each call, and the list after it. Keys are different and descend.
+//! - An error changes nothing, and only `insert`, `split` and copies have one. An insertion allocates before it
+//!   changes an entry: each chunk has memory for 64 entries.
+//! - An iterator returns each entry once, in order, from both ends.
+//!
+//! # What is only tested
+//!
+//! - How long a call takes, and how much memory the chunks take.
 #![tactic(auto)]
 
 ghost use Rattle.std.specs.Prelude.{◌≡◌, ℕ};
