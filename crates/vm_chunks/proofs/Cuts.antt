@@ -4,14 +4,12 @@ use Rattle.std.proofs.Common.{
   ℕ,
   zero,
   suc,
-  ◌+◌,
   ◌-◌,
   ◌<◌,
   ◌≤◌,
   Bool,
   true,
   false,
-  not,
   List,
   [],
   ◌∷◌,
@@ -33,15 +31,13 @@ use Rattle.std.proofs.Common.{
   refl,
   inl,
   inr,
-  Option,
   Some,
   None,
-  cond,
 }
 use Rattle.std.specs.Option.{is_some, IsSome}
 use Rattle.std.specs.List.{filter, find, insert, remove}
 use Rattle.std.proofs.lemmas.List.{take-append-drop, length-reverse, get_or-reverse, get_or_default, set_split}
-use Rattle.std.proofs.lemmas.Bool.{cases_lt, cond-true, cond-false, lt-ltb, le-ltb, le-leb, lt-leb, cases_eq, eq-eqb, ne_eqb, cases_Bool, eqb-true, true≢false}
+use Rattle.std.proofs.lemmas.Bool.{cases_lt, cond-true, cond-false, lt-ltb, le-ltb, le-leb, lt-leb, cases_eq, eq-eqb, ne_eqb, cases_Bool, true≢false}
 use Rattle.vm_chunks.specs.Entries.{IsDescendingBy, above, below, with_entry, without, entry_at, at_or_above}
 
 -- If only the first p elements pass a test, they are those that it keeps.

@@ -1,7 +1,6 @@
 -- Chunks that are split and joined.
 use Rattle.std.proofs.Common.{
   ◌≡◌,
-  ◌≢◌,
   ℕ,
   zero,
   suc,
@@ -28,7 +27,7 @@ use Rattle.std.proofs.Common.{
   inr,
   ◌⊎◌,
 }
-use Rattle.std.specs.List.{flat_map, insert, remove, All}
+use Rattle.std.specs.List.{insert, remove, All}
 use Rattle.std.proofs.lemmas.Bool.{cases_lt, cases_eq}
 use Rattle.std.proofs.lemmas.List.{
   append_assoc,
@@ -39,7 +38,6 @@ use Rattle.std.proofs.lemmas.List.{
   length-drop,
   length-take-le,
   get_or_default,
-  nil_from_length,
   drop_all,
   get_or-set_same,
   get_or-set_other,

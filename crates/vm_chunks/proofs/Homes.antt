@@ -27,25 +27,14 @@ use Rattle.std.proofs.Common.{
   inr,
   None,
 }
-use Rattle.std.specs.List.{flat_map, insert, remove, All}
+use Rattle.std.specs.List.{All}
 use Rattle.std.specs.Option.{is_some, option_or, IsSome}
 use Rattle.std.proofs.lemmas.Bool.{cases_lt, true≢false}
-use Rattle.std.proofs.lemmas.List.{
-  append_assoc,
-  append-nil,
-  length-append,
-  get_or-append-add,
-  take_more,
-  flat_map_more,
-  length-set,
-  nil_from_length,
-  get_or-set_same,
-  get_or-set_other,
-}
+use Rattle.std.proofs.lemmas.List.{append_assoc, length-append, get_or-append-add, take_more, flat_map_more, nil_from_length}
 use Rattle.std.proofs.lemmas.List.Elements.{All-nil, All-append, All-weaker}
 use Rattle.vm_chunks.specs.Entries.{IsDescendingBy, above, below, without, entry_at, at_or_above, IsPlace}
-use Rattle.vm_chunks.specs.Chunks.{TOP, entries_of, Descends, AreBounded, AreAllBounded, AreFilledBut, AreChunks}
-use Rattle.vm_chunks.proofs.Descents.{descends_by, keys_within, joined, higher_end}
+use Rattle.vm_chunks.specs.Chunks.{TOP, entries_of, Descends, AreBounded, AreAllBounded}
+use Rattle.vm_chunks.proofs.Descents.{descends_by, keys_within}
 use Rattle.vm_chunks.proofs.Middles.{entry_in, from_in, from_last}
 
 -- The entries are those before a chunk, its own, and those after it.

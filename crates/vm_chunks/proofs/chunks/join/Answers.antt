@@ -1,4 +1,4 @@
-use Rattle.std.proofs.Common.{rules, ◌≡◌, ◌<◌, [], length, get_or, inl, ◌∙◌, sym, ap, arith}
+use Rattle.std.proofs.Common.{◌≡◌, ◌<◌, [], length, get_or, inl, ◌∙◌, sym, ap, arith}
 use Rattle.std.proofs.lemmas.List.{nil_from_length, get_or_read}
 use Rattle.vm_chunks.proofs.Divisions.{empty_removed}
 use Rattle.vm_chunks.proofs.chunks.join.Goals as goal

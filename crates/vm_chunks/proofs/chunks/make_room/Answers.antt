@@ -1,8 +1,8 @@
-use Rattle.std.proofs.Common.{rules, ◌≡◌, ◌<◌, ◌≤◌, [], length, get_or, ap, ◌∙◌, sym, subst, arith}
+use Rattle.std.proofs.Common.{rules, ◌<◌, [], length, ap, ◌∙◌, sym, subst, arith}
 use Rattle.std.proofs.lemmas.List.{get_or_read}
-use Rattle.vm_chunks.specs.Chunks.{TOP, entries_of}
+use Rattle.vm_chunks.specs.Chunks.{entries_of}
 use Rattle.vm_chunks.proofs.Homes.{all_bounds_descend, same_lengths, none_there}
-use Rattle.vm_chunks.proofs.Divisions.{split_is, split_same, split_upper, split_lower, place_lower, place_upper, first_chunk, first_place, no_bounds}
+use Rattle.vm_chunks.proofs.Divisions.{split_is, split_same, split_upper, split_lower, place_lower, place_upper, no_bounds}
 use Rattle.vm_chunks.proofs.chunks.make_room.Goals as goal
 
 pub bounds_above-at-requires : goal.bounds_above-at-requires

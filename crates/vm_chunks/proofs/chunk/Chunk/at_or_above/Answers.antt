@@ -1,4 +1,4 @@
-use Rattle.std.proofs.Common.{rules, ◌≡◌, ◌<◌, ◌-◌, length, ap, ◌∙◌, sym}
+use Rattle.std.proofs.Common.{rules, ◌<◌, ◌-◌, length}
 use Rattle.std.proofs.lemmas.List.{get_or_read}
 use Rattle.vm_chunks.proofs.Cuts.{none_from, found_from}
 use Rattle.vm_chunks.proofs.chunk.Chunk.at_or_above.Goals as goal

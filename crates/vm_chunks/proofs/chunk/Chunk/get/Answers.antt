@@ -1,6 +1,5 @@
 use Rattle.std.proofs.Common.{rules, ◌≡◌, ◌<◌, length, ap, ◌∙◌, sym}
 use Rattle.std.proofs.lemmas.List.{get_or_read}
-use Rattle.vm_chunks.specs.Entries.{IsDescendingBy, entry_at}
 use Rattle.vm_chunks.proofs.Cuts.{found_at, none_at}
 use Rattle.vm_chunks.proofs.chunk.Chunk.get.Goals as goal
 use Rattle.vm_chunks.proofs.chunk.Chunk.get.Goals.{then-at-len+else-key, else-at-len}

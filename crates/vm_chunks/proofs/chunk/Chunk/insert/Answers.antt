@@ -1,4 +1,4 @@
-use Rattle.std.proofs.Common.{rules, ◌≡◌, ◌∙◌, sym}
+use Rattle.std.proofs.Common.{◌∙◌}
 use Rattle.vm_chunks.proofs.Cuts.{inserts}
 use Rattle.vm_chunks.proofs.chunk.Chunk.insert.Goals as goal
 

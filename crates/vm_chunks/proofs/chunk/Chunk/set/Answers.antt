@@ -1,4 +1,4 @@
-use Rattle.std.proofs.Common.{rules, ◌≡◌, ◌<◌, length, ap, ◌∙◌, sym}
+use Rattle.std.proofs.Common.{rules}
 use Rattle.vm_chunks.proofs.Cuts.{known_within, sets}
 use Rattle.vm_chunks.proofs.chunk.Chunk.set.Goals as goal
 

@@ -1,6 +1,5 @@
-use Rattle.std.proofs.Common.{rules, ◌≡◌, ◌<◌, ◌≤◌, length, get_or, subst, ap, ◌∙◌}
+use Rattle.std.proofs.Common.{rules, ◌≡◌, ◌<◌, length, get_or, subst, ap, ◌∙◌}
 use Rattle.vm_chunks.specs.Entries.{IsDescendingBy, entry_at}
-use Rattle.vm_chunks.specs.Chunks.{TOP, entries_of}
 use Rattle.vm_chunks.proofs.Homes.{all_bounds_descend, home_descends, entry_home, none_past}
 use Rattle.vm_chunks.proofs.chunks.Chunks.get.Goals as goal
 

@@ -1,5 +1,4 @@
-use Rattle.std.proofs.Common.{rules, ◌≡◌, ◌<◌, ◌≤◌, ◌+◌, ◌-◌, ◌++◌, length, get_or, set, subst, sym, ap, ◌∙◌, option_to_list}
-use Rattle.vm_chunks.specs.Chunks.{entries_of, AreAllBounded}
+use Rattle.std.proofs.Common.{rules, ◌≡◌, ◌+◌, ◌-◌, ◌++◌, length, sym, ap, ◌∙◌, option_to_list}
 use Rattle.vm_chunks.proofs.Divisions.{popped_bounded, popped_entries, all_set}
 use Rattle.vm_chunks.proofs.chunks.Chunks.pop_lowest.Goals as goal
 

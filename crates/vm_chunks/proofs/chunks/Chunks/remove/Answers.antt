@@ -1,4 +1,4 @@
-use Rattle.std.proofs.Common.{rules, ◌≡◌, ◌<◌, ◌≤◌, length, get_or, set, subst, sym, ap, ◌∙◌}
+use Rattle.std.proofs.Common.{rules, ◌<◌, length, set, subst, sym, ap, ◌∙◌}
 use Rattle.vm_chunks.specs.Entries.{IsDescendingBy, without, entry_at}
 use Rattle.vm_chunks.specs.Chunks.{entries_of, AreAllBounded}
 use Rattle.vm_chunks.proofs.Homes.{all_bounds_descend, home_descends, entry_home, none_past, without_past}

@@ -1,4 +1,4 @@
-use Rattle.std.proofs.Common.{rules, ◌≡◌, ◌<◌, ◌≤◌, length, get_or, set, subst, sym, ap, ◌∙◌}
+use Rattle.std.proofs.Common.{rules, ◌<◌, set, subst, sym, ap, ◌∙◌}
 use Rattle.std.specs.Option.{is_some}
 use Rattle.vm_chunks.specs.Entries.{IsDescendingBy, with_entry, entry_at}
 use Rattle.vm_chunks.specs.Chunks.{TOP, entries_of, AreChunks}
