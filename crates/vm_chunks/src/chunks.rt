@@ -149,6 +149,23 @@ fn join<E: Entry>(chunks: &mut Vec<Chunk<E>>, bounds: &mut Vec<u64>, at: usize)
     }
 }
 
+/// Returns the number of entries that stay in a chunk that is split for a key. It is a half, but almost all or one
+/// if keys come in order.
+fn kept_for<E: Entry>(entries: &[E], key: u64, is_first: bool, is_last: bool) -> usize
+    requires { 2 ≤ length entries.now }
+    ensures some { 0 < result }
+    ensures rest { result < length entries.now }
+{
+    let len = entries.len();
+    if is_first && key > entries[0].key() {
+        return 1;
+    }
+    if is_last && key < entries[len - 1].key() {
+        return len - 1;
+    }
+    len / 2
+}
+
 /// Makes room for a key in the only chunk that can have it, and returns the index of that chunk. It changes no
 /// entry.
 fn make_room<E: Entry>(
@@ -173,7 +190,9 @@ fn make_room<E: Entry>(
     if len < MAX_ENTRIES {
         return Ok(at);
     }
-    let bound = split(alloc, chunks, bounds, at, MAX_ENTRIES / 2)?;
+    let is_last = at + 1 == chunks.len();
+    let kept = kept_for(chunks[at].as_slice(), key, at == 0, is_last);
+    let bound = split(alloc, chunks, bounds, at, kept)?;
     if key < bound {
         return Ok(at + 1);
     }

@@ -1,4 +1,4 @@
-use Rattle.std.proofs.Common.{rules, ◌<◌, [], length, ap, ◌∙◌, sym, subst, arith}
+use Rattle.std.proofs.Common.{rules, get_or, ◌<◌, [], length, ap, ◌∙◌, sym, subst, arith}
 use Rattle.std.proofs.lemmas.List.{get_or_read}
 use Rattle.vm_chunks.specs.Chunks.{entries_of}
 use Rattle.vm_chunks.proofs.Homes.{all_bounds_descend, same_lengths, none_there}
@@ -38,20 +38,22 @@ split-requires-clause-bounded g c =
 pub returns-then-key-bound-clause-same : goal.returns-then-key-bound-clause-same
 returns-then-key-bound-clause-same g c =
     let l : c.bounds_above-at.result < length c.args.chunks.now.items = search rules in
-    let i = get_or_read c.args.chunks.now.items _ _ l c.index.ensures [] in
-    let n : 32 < length c.index.result.now = search rules in
+    let u : c.kept_for-kept.result < length (get_or c.args.chunks.now.items c.bounds_above-at.result []) =
+    subst (λ x. c.kept_for-kept.result < length x) (c.as_slice-2.ensures.value ∙ get_or_read c.args.chunks.now.items _ _ l c.index-2.ensures [])
+    c.kept_for-kept.ensures.rest in
     rw c.in_ok-bound.ensures.chunks
-    (split_same g.E.Entry.key_of c.args.chunks.now.items c.args.bounds.now.items c.requires.chunks _ 32 c.in_ok-bound.bound l (omega arith)
-    (subst (λ x. 32 < length x) i n) c.in_ok-bound.ensures.bound)
+    (split_same g.E.Entry.key_of c.args.chunks.now.items c.args.bounds.now.items c.requires.chunks _
+    c.kept_for-kept.result c.in_ok-bound.bound l c.kept_for-kept.ensures.some u c.in_ok-bound.ensures.bound)
 
 pub returns-then-key-bound-clause-chunks : goal.returns-then-key-bound-clause-chunks
 returns-then-key-bound-clause-chunks g c =
     let l : c.bounds_above-at.result < length c.args.chunks.now.items = search rules in
-    let i = get_or_read c.args.chunks.now.items _ _ l c.index.ensures [] in
-    let n : 32 < length c.index.result.now = search rules in
+    let u : c.kept_for-kept.result < length (get_or c.args.chunks.now.items c.bounds_above-at.result []) =
+    subst (λ x. c.kept_for-kept.result < length x) (c.as_slice-2.ensures.value ∙ get_or_read c.args.chunks.now.items _ _ l c.index-2.ensures [])
+    c.kept_for-kept.ensures.rest in
     rw (c.in_ok-bound.ensures.chunks, c.in_ok-bound.ensures.bounds)
-    (split_is g.E.Entry.key_of c.args.chunks.now.items c.args.bounds.now.items c.requires.chunks _ 32 c.in_ok-bound.bound l (omega arith)
-    (subst (λ x. 32 < length x) i n) c.in_ok-bound.ensures.bound)
+    (split_is g.E.Entry.key_of c.args.chunks.now.items c.args.bounds.now.items c.requires.chunks _
+    c.kept_for-kept.result c.in_ok-bound.bound l c.kept_for-kept.ensures.some u c.in_ok-bound.ensures.bound)
 
 pub returns-then-key-bound-clause-place : goal.returns-then-key-bound-clause-place
 returns-then-key-bound-clause-place g c =
@@ -62,31 +64,36 @@ pub returns-then-key-bound-clause-room : goal.returns-then-key-bound-clause-room
 returns-then-key-bound-clause-room g c =
     let l : c.bounds_above-at.result < length c.args.chunks.now.items = search rules in
     let i = get_or_read c.args.chunks.now.items _ _ l c.index.ensures [] in
-    let n : 32 < length c.index.result.now = search rules in
-    let r = split_lower g.E.Entry.key_of c.args.chunks.now.items c.args.bounds.now.items c.requires.chunks _ 32 c.in_ok-bound.bound l (omega arith)
-    (subst (λ x. 32 < length x) i n) c.in_ok-bound.ensures.bound in
+    let u : c.kept_for-kept.result < length (get_or c.args.chunks.now.items c.bounds_above-at.result []) =
+    subst (λ x. c.kept_for-kept.result < length x) (c.as_slice-2.ensures.value ∙ get_or_read c.args.chunks.now.items _ _ l c.index-2.ensures [])
+    c.kept_for-kept.ensures.rest in
+    let r = split_lower g.E.Entry.key_of c.args.chunks.now.items c.args.bounds.now.items c.requires.chunks _
+    c.kept_for-kept.result c.in_ok-bound.bound l c.kept_for-kept.ensures.some u c.in_ok-bound.ensures.bound in
     let f = c.len-len.ensures.fits in
     let v = c.len-len.ensures.value in
+    let o = c.kept_for-kept.ensures.some in
     let z = ap length i in
     rw c.in_ok-bound.ensures.chunks (omega (arith, r))
 
 pub returns-clause-same : goal.returns-clause-same
 returns-clause-same g c =
     let l : c.bounds_above-at.result < length c.args.chunks.now.items = search rules in
-    let i = get_or_read c.args.chunks.now.items _ _ l c.index.ensures [] in
-    let n : 32 < length c.index.result.now = search rules in
+    let u : c.kept_for-kept.result < length (get_or c.args.chunks.now.items c.bounds_above-at.result []) =
+    subst (λ x. c.kept_for-kept.result < length x) (c.as_slice-2.ensures.value ∙ get_or_read c.args.chunks.now.items _ _ l c.index-2.ensures [])
+    c.kept_for-kept.ensures.rest in
     rw c.in_ok-bound.ensures.chunks
-    (split_same g.E.Entry.key_of c.args.chunks.now.items c.args.bounds.now.items c.requires.chunks _ 32 c.in_ok-bound.bound l (omega arith)
-    (subst (λ x. 32 < length x) i n) c.in_ok-bound.ensures.bound)
+    (split_same g.E.Entry.key_of c.args.chunks.now.items c.args.bounds.now.items c.requires.chunks _
+    c.kept_for-kept.result c.in_ok-bound.bound l c.kept_for-kept.ensures.some u c.in_ok-bound.ensures.bound)
 
 pub returns-clause-chunks : goal.returns-clause-chunks
 returns-clause-chunks g c =
     let l : c.bounds_above-at.result < length c.args.chunks.now.items = search rules in
-    let i = get_or_read c.args.chunks.now.items _ _ l c.index.ensures [] in
-    let n : 32 < length c.index.result.now = search rules in
+    let u : c.kept_for-kept.result < length (get_or c.args.chunks.now.items c.bounds_above-at.result []) =
+    subst (λ x. c.kept_for-kept.result < length x) (c.as_slice-2.ensures.value ∙ get_or_read c.args.chunks.now.items _ _ l c.index-2.ensures [])
+    c.kept_for-kept.ensures.rest in
     rw (c.in_ok-bound.ensures.chunks, c.in_ok-bound.ensures.bounds)
-    (split_is g.E.Entry.key_of c.args.chunks.now.items c.args.bounds.now.items c.requires.chunks _ 32 c.in_ok-bound.bound l (omega arith)
-    (subst (λ x. 32 < length x) i n) c.in_ok-bound.ensures.bound)
+    (split_is g.E.Entry.key_of c.args.chunks.now.items c.args.bounds.now.items c.requires.chunks _
+    c.kept_for-kept.result c.in_ok-bound.bound l c.kept_for-kept.ensures.some u c.in_ok-bound.ensures.bound)
 
 pub returns-clause-place : goal.returns-clause-place
 returns-clause-place g c =
@@ -97,10 +104,13 @@ pub returns-clause-room : goal.returns-clause-room
 returns-clause-room g c =
     let l : c.bounds_above-at.result < length c.args.chunks.now.items = search rules in
     let i = get_or_read c.args.chunks.now.items _ _ l c.index.ensures [] in
-    let n : 32 < length c.index.result.now = search rules in
-    let r = split_upper g.E.Entry.key_of c.args.chunks.now.items c.args.bounds.now.items c.requires.chunks _ 32 c.in_ok-bound.bound l (omega arith)
-    (subst (λ x. 32 < length x) i n) c.in_ok-bound.ensures.bound in
+    let u : c.kept_for-kept.result < length (get_or c.args.chunks.now.items c.bounds_above-at.result []) =
+    subst (λ x. c.kept_for-kept.result < length x) (c.as_slice-2.ensures.value ∙ get_or_read c.args.chunks.now.items _ _ l c.index-2.ensures [])
+    c.kept_for-kept.ensures.rest in
+    let r = split_upper g.E.Entry.key_of c.args.chunks.now.items c.args.bounds.now.items c.requires.chunks _
+    c.kept_for-kept.result c.in_ok-bound.bound l c.kept_for-kept.ensures.some u c.in_ok-bound.ensures.bound in
     let f = c.len-len.ensures.fits in
     let v = c.len-len.ensures.value in
+    let o = c.kept_for-kept.ensures.some in
     let z = ap length i in
     rw c.in_ok-bound.ensures.chunks (omega (arith, r))
