@@ -265,17 +265,6 @@ module _ {X : Type 0} (key : X → ℕ) where
         ];
       }
 
-  -- One empty chunk is a list.
-  pub first_chunk : AreChunks key ([] ∷ []) (0 ∷ [])
-  first_chunk = record { bounded = (omega arith, tt, refl); filled = λ q. absurd (omega (arith, q)) }
-
-  pub first_place : (t : ℕ) → IsPlace (λ b. b) t 0 (0 ∷ [])
-  first_place t = record { bound = omega arith; above = λ k d q. absurd (omega (arith, q)); below = below }
-    where
-      below : (k : ℕ) (d : ℕ) → 0 ≤ k → k < 1 → get_or (0 ∷ []) k d ≤ t
-      below zero d q w = omega arith
-      below (suc k) d q w = absurd (omega (arith, w))
-
   -- Without a chunk there is no bound.
   pub no_bounds : (cs : List (List X)) (bs : List ℕ) → AreAllBounded key cs bs → cs ≡ [] → bs ≡ []
   no_bounds [] bs r e = r
@@ -358,13 +347,6 @@ module _ {X : Type 0} (key : X → ℕ) where
         set_parts cs i (without key t (get_or cs i d)) l
         ∙ sym (without_in key t (entries_of (take i cs)) (get_or cs i d) (entries_of (drop (suc i) cs)) m.higher m.lower)
         ∙ ap (λ l. without key t l) (sym (parts cs i d l))
-
-  -- The other chunks keep their entries.
-  pub others_filled : (cs : List (List X)) (i : ℕ) (c : List X) → (2 ≤ length cs → All (λ c. 0 < length c) cs) →
-      2 ≤ length (set cs i c) → AreFilledBut i (set cs i c)
-  others_filled cs i c f q k d w n =
-      let s = length-set cs i c in
-      subst (λ (c : List X). 0 < length c) (sym (get_or-set_other cs i k c d n)) (f (omega arith) k d (omega arith))
 
   module _ (cs : List (List X)) (bs : List ℕ) (r : AreChunks key cs bs) (e : X) (i : ℕ) (h : key e < TOP) (p : IsPlace (λ b. b) (key e) i bs)
       (l : i < length cs) (d : List X) where
