@@ -34,7 +34,7 @@ use Rattle.std.proofs.lemmas.List.{append_assoc, length-append, get_or-append-ad
 use Rattle.std.proofs.lemmas.List.Elements.{All-nil, All-append, All-weaker}
 use Rattle.vm_chunks.specs.Entries.{IsDescendingBy, above, below, without, entry_at, at_or_above, IsPlace}
 use Rattle.vm_chunks.specs.Chunks.{TOP, entries_of, Descends, AreBounded, AreAllBounded}
-use Rattle.vm_chunks.proofs.Descents.{descends_by, keys_within}
+use Rattle.vm_chunks.proofs.Descents.{descends_by, joined, keys_within}
 use Rattle.vm_chunks.proofs.Middles.{entry_in, from_in, from_last}
 
 -- The entries are those before a chunk, its own, and those after it.
@@ -90,6 +90,19 @@ module _ {X : Type 0} (key : X → ℕ) where
   entries_below hi (c ∷ cs) (b ∷ bs) r =
       All-append (λ x. key x < hi) c (entries_of cs) (λ k d w. (keys_within key b hi c r.1 k d w).1)
       (All-weaker (λ x. key x < b) (λ x. key x < hi) (λ x h. omega (arith, h, r.0)) (entries_of cs) (entries_below b cs bs r.2))
+
+  all_descend : (hi : ℕ) (cs : List (List X)) (bs : List ℕ) → AreBounded key hi cs bs → Descends key 0 hi (entries_of cs)
+  all_descend hi [] [] r = tt
+  all_descend hi [] (b ∷ bs) r = absurd r
+  all_descend hi (c ∷ cs) [] r = absurd r
+  all_descend hi (c ∷ cs) (b ∷ bs) r =
+      joined key 0 b hi c (entries_of cs) r.1 (all_descend b cs bs r.2) (omega arith) (omega (arith, r.0))
+
+  -- All entries descend.
+  pub entries_descend : (cs : List (List X)) (bs : List ℕ) → AreAllBounded key cs bs → IsDescendingBy key (entries_of cs)
+  entries_descend [] bs r i j d lt w = absurd (omega (arith, w))
+  entries_descend (c ∷ cs) bs r i j d lt w =
+      descends_by key 0 TOP (entries_of (c ∷ cs)) (all_descend TOP (c ∷ cs) bs r) i j d lt w
 
   -- A chunk descends between its bound and the one before.
   pub chunk_descends : (hi : ℕ) (cs : List (List X)) (bs : List ℕ) (i d : ℕ) (e : List X) → AreBounded key hi cs bs → i < length cs →

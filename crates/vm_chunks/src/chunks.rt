@@ -284,7 +284,8 @@ impl<E: Entry> Chunks<E> {
 
     /// Returns an iterator over the entries in ascending order of their keys. It does not allocate.
     pub fn iter(&self) -> Iter<'_, E>
-        ensures { result ≡ reverse self.now }
+        ensures entries { result ≡ reverse self.now }
+        ensures order { IsDescendingBy E.key_of self.now }
     {
         let Some((chunk, others)) = self.chunks.as_slice().split_last() else {
             return Iter::none();
@@ -309,7 +310,8 @@ impl<E: Entry> Chunks<E> {
 
     /// Removes and returns the entry with the lowest key. It does not allocate.
     pub fn pop_lowest(&mut self) -> Option<E>
-        ensures { self.old ≡ self.new ++ option_to_list result }
+        ensures lowest { self.old ≡ self.new ++ option_to_list result }
+        ensures order { IsDescendingBy E.key_of self.old }
     {
         let count = self.chunks.len();
         if count == 0 {
