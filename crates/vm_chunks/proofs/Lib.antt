@@ -4,3 +4,4 @@ pub mod Descents
 pub mod Middles
 pub mod Homes
 pub mod Divisions
+pub mod EntryLaws

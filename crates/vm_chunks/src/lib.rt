@@ -30,6 +30,7 @@ ghost use Rattle.vm_chunks.specs.Entries.{IsDescendingBy, IsPlace, IsPlaceFrom};
 mod chunk;
 mod chunks;
 mod iter;
+mod laws;
 
 pub use chunks::Chunks;
 pub use iter::Iter;
