@@ -18,6 +18,7 @@
 //! - An error changes nothing, and only `insert`, `split` and copies have one. An insertion allocates before it
 //!   changes an entry: each chunk has memory for 64 entries.
 //! - An iterator returns each entry once, in order, from both ends.
+//! - The list after a call is the map with the changed key (`EntriesAreByKey`).
 //!
 //! # What is only tested
 //!
@@ -25,12 +26,12 @@
 #![tactic(auto)]
 
 ghost use Rattle.std.specs.Prelude.{◌≡◌, ℕ};
+ghost use Rattle.vm_chunks.specs.EntryLaws.{EntriesAreByKey};
 ghost use Rattle.vm_chunks.specs.Entries.{IsDescendingBy, IsPlace, IsPlaceFrom};
 
 mod chunk;
 mod chunks;
 mod iter;
-mod laws;
 
 pub use chunks::Chunks;
 pub use iter::Iter;
@@ -59,3 +60,10 @@ fn place_from<E: Entry>(entries: &[E], key: u64) -> usize
 {
     entries.partition_point(|entry| entry.key() >= key)
 }
+
+/// Proves that a list is a map from the keys of its entries: a search finds the entry that was put last with a
+/// key, and none with a key that was taken out. The keys descend.
+#[tactic(auto, using(crate::proofs::EntryLaws::entries_are_by_key))]
+fn entries_are_by_key<E: Entry>()
+    ensures { EntriesAreByKey E.key_of }
+{}
