@@ -43,6 +43,10 @@ without key t xs = above key t xs ++ below key t xs
 unfoldable pub entry_at : {X : Type 0} → (X → ℕ) → ℕ → List X → Option X
 entry_at key t xs = find (λ x. nat_eq (key x) t) xs
 
+-- The entry with the highest key up to t, if there is one.
+unfoldable pub at_or_below : {X : Type 0} → (X → ℕ) → ℕ → List X → Option X
+at_or_below key t xs = find (λ x. nat_le (key x) t) xs
+
 -- The entry with the lowest key from t on, if there is one.
 unfoldable pub at_or_above : {X : Type 0} → (X → ℕ) → ℕ → List X → Option X
 at_or_above key t xs = find (λ x. nat_le t (key x)) (reverse xs)

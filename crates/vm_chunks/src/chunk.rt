@@ -18,7 +18,7 @@ ghost use Rattle.std.specs.Prelude.{
   OnErr,
   vec_capacity,
 };
-ghost use Rattle.vm_chunks.specs.Entries.{IsDescendingBy, with_entry, without, entry_at, at_or_above};
+ghost use Rattle.vm_chunks.specs.Entries.{IsDescendingBy, with_entry, without, entry_at, at_or_above, at_or_below};
 
 use crate::{Entry, place, place_from};
 use std::alloc::{AllocError, Global};
@@ -91,6 +91,18 @@ impl<E: Entry> Chunk<E> {
             if entry.key() == key {
                 return Some(entry);
             }
+        }
+        None
+    }
+
+    /// Returns the entry with the highest key that is at most this one, if there is one.
+    pub fn at_or_below(&self, key: u64) -> Option<E>
+        requires { IsDescendingBy E.key_of self.now }
+        ensures { result ≡ at_or_below E.key_of key self.now }
+    {
+        let at = place(self.entries.as_slice(), key);
+        if at < self.entries.len() {
+            return Some(self.entries[at]);
         }
         None
     }

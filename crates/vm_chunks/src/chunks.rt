@@ -20,7 +20,16 @@ ghost use Rattle.std.specs.Prelude.{
   OnErr,
 };
 ghost use Rattle.std.specs.List.{insert};
-ghost use Rattle.vm_chunks.specs.Entries.{IsDescendingBy, with_entry, without, entry_at, at_or_above, IsPlace, IsKeyOf};
+ghost use Rattle.vm_chunks.specs.Entries.{
+  IsDescendingBy,
+  with_entry,
+  without,
+  entry_at,
+  at_or_above,
+  at_or_below,
+  IsPlace,
+  IsKeyOf,
+};
 ghost use Rattle.vm_chunks.specs.Chunks.{
   entries_of,
   AreAllBounded,
@@ -241,6 +250,22 @@ impl<E: Entry> Chunks<E> {
         match self.chunks.get(at) {
             Some(chunk) => chunk.get(key),
             None => None,
+        }
+    }
+
+    /// Returns the entry with the highest key that is at most this one, if there is one. It takes logarithmic
+    /// time.
+    pub fn at_or_below(&self, key: u64) -> Option<E>
+        ensures { result ≡ at_or_below E.key_of key self.now }
+    {
+        let at = bounds_above(self.bounds.as_slice(), key);
+        if at >= self.chunks.len() {
+            return None;
+        }
+        match self.chunks[at].at_or_below(key) {
+            Some(entry) => Some(entry),
+            None if at + 1 == self.chunks.len() => None,
+            None => self.chunks[at + 1].at_or_below(key),
         }
     }
 

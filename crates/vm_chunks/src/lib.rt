@@ -8,15 +8,16 @@
 //!
 //! - The value of [`Chunks`] is the list of its entries. A type has a key if it is an [`Entry`], and `key_of`
 //!   is its key.
-//! - `with_entry`, `without`, `entry_at` and `at_or_above` (`Entries`) are about such a list, and name no chunk.
+//! - `with_entry`, `without`, `entry_at`, `at_or_below` and `at_or_above` (`Entries`) are about such a list, and
+//!   name no chunk.
 //! - Only private functions cite `Chunks` of `specs`. `AreChunks`: the bounds descend to 0, and each chunk
 //!   descends from its bound on and below the bound before it. Only a chunk that is alone can be empty.
 //!
 //! # What is proved
 //!
 //! - The exact result of each call, and the list after it. Keys are different and descend.
-//! - An error changes nothing, and only `insert`, `split` and copies have one. An insertion allocates before it
-//!   changes an entry: each chunk has memory for 64 entries.
+//! - An error changes nothing, and only `insert` and `try_clone` have one. An insertion allocates before it
+//!   changes an entry, because each chunk has memory for 64 entries.
 //! - An iterator returns each entry once, in order, from both ends.
 //! - The list after a call is the map with the changed key (`EntriesAreByKey`).
 //!
