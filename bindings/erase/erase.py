@@ -45,7 +45,7 @@ FOLDERS_OF_TESTS = {
 LIBRARIES = {folder.split("::")[0] for folder in FOLDERS}
 # Libraries whose items only proved modules can use. They alone can also use a public function of another library
 # that has a precondition.
-INNER = {"vm_leaf", "vm_tree"}
+INNER = {"vm_chunks", "vm_leaf", "vm_tree"}
 # Names of Rattle's prelude that Rust's prelude does not have or defines differently. `rattle` has them.
 PRELUDE = {"Box", "Vec"}
 # Names of both preludes, and further names of libraries.
@@ -59,10 +59,11 @@ ASSOCIATED = {
 }
 # Methods of types of other crates. Each was compared with the method of Rust.
 METHODS = set("""and_then as_array as_object as_slice as_str as_u64 checked_add checked_mul clone cmp contains
-    copied copy_from_slice copy_within enumerate first first_chunk flush get ilog2 insert into
+    copied copy_from_slice copy_within enumerate extend_from_slice first first_chunk flush get get_mut ilog2 insert into
     is_ascii_digit is_empty is_none is_null is_power_of_two is_some iter last len max min next
-    next_back ok ok_or pop pop_first push range read remove rotate_left saturating_add saturating_sub
-    simd_eq split_at split_first split_last take to_bitmask trailing_zeros unwrap write_all""".split())
+    next_back ok ok_or partition_point pop pop_first push range read remove reserve rotate_left saturating_add
+    saturating_sub simd_eq split_at split_first split_last take to_bitmask trailing_zeros truncate unwrap
+    write_all""".split())
 MACROS = {"json", "matches", "unreachable"}
 DERIVES = {"Clone", "Copy", "Debug", "Default", "Drop", "Eq", "Error", "Hash", "Ord", "PartialEq", "PartialOrd"}
 TRAITS = {"DoubleEndedIterator", "Eq", "ExactSizeIterator", "From", "Iterator", "Ord", "PartialEq", "PartialOrd"}
@@ -73,7 +74,7 @@ ATTRIBUTES = {"allow", "cold", "default", "error", "inline"}
 KEYWORDS = set("_ as bool break else false for if in let match mut pub return str true while Self".split())
 PATHS = {"crate", "self", "super"}
 REFUSED_WORDS = set("""async await become box char decreases dyn extern f32 f64 gen ghost i8 i16 i32 i64
-    i128 invariant isize macro_rules prove prove_eq trait try union unsafe where yield""".split())
+    i128 invariant isize macro_rules prove prove_eq try union unsafe where yield""".split())
 CLAUSES = {"ensures", "requires"}
 
 # ---- Text that is added ----
@@ -181,11 +182,11 @@ class Tokens:
         return found.end()
 
     def clauses(self, start):
-        """Removes all clauses of a function, up to its body."""
+        """Removes all clauses of a function, up to its body, or to its end in a trait."""
         if self.signature is None or self.depth != 0:
             self.fail("a clause outside of a signature", start)
         position = start
-        while not self.text.startswith("{", position):
+        while not self.text.startswith(("{", ";"), position):
             found = TOKEN.match(self.text, position)
             word = found.group() if found else ""
             if word in CLAUSES:
@@ -197,7 +198,7 @@ class Tokens:
                 position = found.end()
             else:
                 self.fail("clauses without a body", position)
-        self.cuts.append((self.tokens[-1].end, position, " "))
+        self.cuts.append((self.tokens[-1].end, position, " " if self.text.startswith("{", position) else ""))
         return position
 
     def behind_braces(self, start):
@@ -211,7 +212,7 @@ class Tokens:
         self.fail("a clause without end", start)
 
     def ghost(self, start, behind):
-        """Removes `ghost use ..;`, `ghost member = {..};` or `ghost field: {..},`."""
+        """Removes `ghost use ..;`, `ghost member = {..};`, `ghost member: {..};` or `ghost field: {..},`."""
         last = self.tokens[-1] if self.tokens else Token("doc", "", 0, 0)
         at_an_item = last.text in ("{", "}", ";", ",") or last.kind == "doc"
         if not at_an_item and not (last.text == "]" and self.text[start - 1] == "\n"):
@@ -221,7 +222,7 @@ class Tokens:
             end = imported.end()
         else:
             end = self.behind_braces(member.end()) + 1 if member else len(self.text)
-            if not member or self.text[end - 1:end] != (";" if member[1] == " =" else ","):
+            if not member or self.text[end - 1:end] not in (";" if member[1] == " =" else ",;"):
                 self.fail("a ghost of this form", start)
         self.cuts.append((start, end, ""))
         return end
@@ -316,6 +317,7 @@ class File(Tokens):
         """Reads an item by its keyword. Returns its end, and whether it is kept."""
         item.keyword = index
         words = FORMS if item.owner is None else ("fn", "const") if item.owner == "impl" else ("fn", "type")
+        words = ("fn",) if item.owner == "trait" else words
         self.refuse_if(self.tokens[index].text not in words, f"an item {self.tokens[index].text!r}", index)
         return FORMS[self.tokens[index].text](self, item)
 
@@ -467,6 +469,12 @@ class File(Tokens):
             self.display(name, index, behind)
         return behind, True
 
+    def trait(self, item):
+        """Reads a trait of values that are copied: functions without bodies."""
+        self.crate.traits.add(self.define(item.keyword + 1, self.crate.names))
+        self.refuse_if(not self.at(item.keyword + 2, ":", "Copy", "{"), "a trait of this form", item.keyword)
+        return self.items(item.keyword + 5, "trait") + 1, True
+
     def display(self, name, index, behind):
         """Turns the texts of the variants of an enum, `#[error("..")]`, into its `Display`."""
         arms = ""
@@ -486,7 +494,8 @@ class File(Tokens):
     def function(self, item):
         index = self.angles(item.keyword + 2)
         self.refuse_if(not self.at(index, "("), "a function of this form", item.keyword)
-        body = self.next_of(index, "{")
+        body = self.next_of(index, "{", ";")
+        self.refuse_if(self.at(body, "{") == (item.owner == "trait"), "a function of this form", item.keyword)
         behind = self.matching(body)
         nothing = body == index + 2 and behind == body + 2
         if nothing and not (item.public or item.is_test or item.owner):
@@ -524,7 +533,8 @@ class File(Tokens):
             self.crate.guarded.add(name)
             self.refuse_if(not self.at(index + 1, "}"), "a member of Model that is no ghost", index + 1)
             return index + 2, False
-        is_allowed = not trait or trait in TRAITS or self.of_tests and trait in TRAITS_OF_TESTS
+        known = TRAITS.union(*(crate.traits for crate in self.crate.and_below()))
+        is_allowed = not trait or trait in known or self.of_tests and trait in TRAITS_OF_TESTS
         self.refuse_if(not is_allowed, f"an impl of {trait!r}", item.keyword)
         first, kept = self.first_kept, self.kept
         self.first_kept = first or self.start_of(item.start)
@@ -690,6 +700,7 @@ class File(Tokens):
 FORMS = {
     "use": File.import_, "mod": File.module, "const": File.constant, "static": File.constant, "type": File.constant,
     "struct": File.type_, "enum": File.type_, "fn": File.function, "impl": File.implementation,
+    "trait": File.trait,
 }
 ITEM_WORDS = set(FORMS) | {"pub"}
 
@@ -702,7 +713,8 @@ class Crate:
         self.folder = os.path.join(project.folder, "crates", name, "src")
         self.asks_for_std = False
         self.root = os.path.join(self.folder, "lib.rt")
-        self.names, self.functions, self.guarded = set(), set(), set()  # guarded: types with ghosts
+        self.names, self.functions, self.traits = set(), set(), set()
+        self.guarded = set()  # types with ghosts
         self.files, self.of_values = {}, set()  # of_values: files that import serde_json, without `.rt`
         self.files[self.root] = File(self, self.root, of_tests)
         for file in self.files.values():

@@ -76,8 +76,8 @@ def piece_end(tokens, index):
     head = " ".join(tokens[index:tokens.index("{", index)]) if at("impl") or at("fn") else ""
     if re.match(r"impl( <.*>)? Model for \w+", head):
         return item_end(tokens, index)
-    if re.match(r"fn \w+ \( \)(?! ->)", head):
-        place = index + 4
+    if re.match(r"fn \w+ (?:< [^()]+ > )?\( \)(?! ->)", head):
+        place = tokens.index(")", index) + 1
         while tokens[place] == "ensures":  # a law has no `requires`
             place = behind(tokens, place, "{", "}")
         return place + 2 if tokens[place:place + 2] == ["{", "}"] else index

@@ -219,9 +219,9 @@ impl Tree {
         requires start { IsStartIn search.now start (blocks self.old) }
         requires low { search.now.can_split ≡ true → height_of self.old < SPLIT_HEIGHT }
         requires count { count.old ≡ 0 }
-        ensures answer { AllocatesExact search.now start (blocks self.old) (blocks self.new) result }
+        ensures answer { AllocatesExact search.now start (blocks self.old) (blocks self.new) result
+            × (spare.old ≢ None → IfErr result (λ refusal. ¬ IsOutOfMemory refusal)) }
         ensures unchanged { OnErr result (self.new ≡ self.old) }
-        ensures memory { spare.old ≢ None → IfErr result (λ refusal. ¬ IsOutOfMemory refusal) }
         ensures count { count.new ≡ nodes_to_address start self.old }
         ensures path { IsPathLength self.old count.new }
     {

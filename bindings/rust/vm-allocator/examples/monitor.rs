@@ -294,7 +294,7 @@ fn main() -> Result<()> {
         Ok(())
     })?;
 
-    // The guest gives back the upper half of the first module, and then the other one fits.
+    // The guest unplugs the upper half of the first module, and then the other one fits.
     shared.with(|resources| resources.shrink_memory(&mut memory, 4 * GIB))?;
     let other = shared.with(|resources| resources.plug_memory(start, size))?;
 

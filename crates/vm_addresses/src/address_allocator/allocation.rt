@@ -73,8 +73,7 @@ impl AddressAllocator {
         ensures valid { IsRequest request }
         ensures grants { (counted : ℕ) → IsTestOf can_split (counted < SPLIT_LIMIT_MIN_HELD)
             → Grants counted (state_of self.old) request result.0 (state_of self.new) }
-        ensures memory { (start : ℕ) → request.policy ≡ ExactMatch start → spare.old ≢ None
-            → result.0 ≢ Err Error.OutOfMemory }
+        ensures memory { (t : ℕ) → request.policy ≡ ExactMatch t → spare.old ≢ None → result.0 ≢ Err Error.OutOfMemory }
         ensures unchanged { OnErr result.0 (self.new ≡ self.old) }
         ensures count { EntersToAllocate self.old request result.1
             × IsAllocationCount (height_of self.old) (state_of self.old) request result.0 result.1 }
@@ -113,8 +112,7 @@ fn allocate_in(
     ensures low { IsBlockTree tree.old }
     ensures valid { IsRequest constraint.now }
     ensures answer { IsAllocation constraint.now space.now can_split tree.old tree.new result count.new }
-    ensures memory { (start : ℕ) → constraint.now.policy ≡ ExactMatch start → spare.old ≢ None
-        → result ≢ Err Error.OutOfMemory }
+    ensures memory { (t : ℕ) → constraint.now.policy ≡ ExactMatch t → spare.old ≢ None → result ≢ Err Error.OutOfMemory }
 {
     // Proof: `height` gives the bounds of the tree.
     let _height = tree.height();

@@ -308,7 +308,8 @@ impl AddressAllocator {
     fn allocate_beside(&mut self, alloc: Global, request: Constraint) -> Result<RangeInclusive>
         requires { 0 < length (state_of self.old).held }
         ensures valid { IsRequest request }
-        ensures grants { Grants (length (state_of self.old).held - 1) (state_of self.old) request result (state_of self.new) }
+        ensures grants { Grants (length (state_of self.old).held - 1) (state_of self.old) request result
+            (state_of self.new) }
         ensures unchanged { OnErr result (self.new ≡ self.old) }
         ensures part { (count : ℕ) × HasParts self.old (Allocating request result count ∷ []) self.new }
     {
@@ -455,7 +456,8 @@ fn closer_than(
 
 /// Returns `true` if a request is for exactly this range: at its start, and as long.
 fn asks_for(range: &RangeInclusive, request: Constraint) -> bool
-    ensures asks { IsTestOf result ((request.policy ≡ ExactMatch range.now.start) × (request.size ≡ address_count range.now)) }
+    ensures asks { IsTestOf result ((request.policy ≡ ExactMatch range.now.start)
+        × (request.size ≡ address_count range.now)) }
     ensures valid { IsRequest request }
 {
     request.size() == range.len() && request.policy() == AllocPolicy::ExactMatch(range.start())

@@ -130,9 +130,8 @@ pub(crate) fn exact_at(
     requires start { IsStartIn search.now start (blocks (side tree.old)) }
     requires tree { IsChild tree.old }
     requires count_fits { count.old + nodes_to_address start (side tree.old) ≤ MAX }
-    ensures answer { AllocatesExact search.now start
-        (blocks (side tree.old)) (blocks (side tree.new)) result }
-    ensures memory { spare.old ≢ None → IfErr result (λ refusal. ¬ IsOutOfMemory refusal) }
+    ensures answer { AllocatesExact search.now start (blocks (side tree.old)) (blocks (side tree.new)) result
+        × (spare.old ≢ None → IfErr result (λ refusal. ¬ IsOutOfMemory refusal)) }
     ensures change { GrowsIfOk result (side tree.old) (side tree.new) }
     ensures summed { IsSummed tree.new }
     ensures count { count.new ≡ count.old + nodes_to_address start (side tree.old) }

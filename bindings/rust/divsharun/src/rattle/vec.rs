@@ -55,6 +55,35 @@ impl<T> Vec<T> {
         Ok(())
     }
 
+    /// Allocates capacity for this number of further values.
+    pub fn reserve(&mut self, more: usize) -> Result<(), AllocError> {
+        self.0.try_reserve(more).map_err(|_| AllocError)
+    }
+
+    /// Appends copies of the values, or none if the allocation fails.
+    pub fn extend_from_slice(&mut self, values: &[T]) -> Result<(), AllocError>
+    where
+        T: Copy,
+    {
+        self.reserve(values.len())?;
+        self.0.extend_from_slice(values);
+        Ok(())
+    }
+
+    /// Removes the value at `place`, and returns it.
+    ///
+    /// # Panics
+    ///
+    /// If `place` is past the end.
+    pub fn remove(&mut self, place: usize) -> T {
+        self.0.remove(place)
+    }
+
+    /// Removes the values starting at `place`.
+    pub fn truncate(&mut self, place: usize) {
+        self.0.truncate(place);
+    }
+
     /// Returns a copy, or an error if an allocation fails.
     #[allow(clippy::should_implement_trait)]
     pub fn clone(&self) -> Result<Self, AllocError>

@@ -52,7 +52,7 @@ returns-clause-answer c = λ request valid policy is.
     let h = c.allocate_exact.ensures in
     rw (c.with_error.ensures, range)
     (exact_allocation c.args.space.now c.args.tree.now c.allocate_exact.new.self c.requires.tiling.tiles request c.args.search.now
-    c.args.start valid is policy c.allocate_exact.result h.unchanged c.allocate_exact.new.count h.answer (omega arith) (
+    c.args.start valid is policy c.allocate_exact.result h.unchanged c.allocate_exact.new.count h.answer.0 (omega arith) (
       omega (arith, c.if-start-from.false, c.max-from.ensures, c.start.ensures.value),
       omega
           (arith, c.if-to-start.false, c.min-to.ensures, c.end.ensures.value),

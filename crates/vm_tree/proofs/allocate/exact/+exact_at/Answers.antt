@@ -110,7 +110,7 @@ exact_below-invariant_of-node-2 t c =
     let tree : IsSubtree (Fork l r) = subst IsSubtree q c.requires.tree in
     let z = c.requires.search.some in
     let same = exact_start c.args.search.now c.args.start r (side c.exact_at-2.new.tree) c.exact_at-2.result z (subtree_right l r tree).run
-    c.exact_at-2.ensures.answer (same_if_err c.exact_at-2.result r (side c.exact_at-2.new.tree) c.exact_at-2.ensures.change) in
+    c.exact_at-2.ensures.answer.0 (same_if_err c.exact_at-2.result r (side c.exact_at-2.new.tree) c.exact_at-2.ensures.change) in
     record {
       at = c.node.invariant.at ∙ sym same;
       summed = record

@@ -18,6 +18,6 @@ invariant_of-self-in-Fork c =
     let e = c.exact_at.ensures in
     let v = c.in-Fork._node.value in
     let new = c.exact_at.new.tree in
-    let a = exact_allocates c.args.search.now c.requires.search (blocks v) (blocks (side new)) c.exact_at.result c.args.start e.answer in
+    let a = exact_allocates c.args.search.now c.requires.search (blocks v) (blocks (side new)) c.exact_at.result c.args.start e.answer.0 in
     fork_after c.args.search.now c.self.inside.root new c.self.invariant v (ap side c.in-Fork.is) c.exact_at.result a e.change e.summed
     (λ h. omega (arith, c.requires.low h, ap height_of (sym (ap side c.in-Fork.is) ∙ c.self.view_is)))

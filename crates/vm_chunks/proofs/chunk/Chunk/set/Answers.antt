@@ -1,0 +1,14 @@
+use Rattle.std.proofs.Common.{rules}
+use Rattle.vm_chunks.proofs.Cuts.{known_within, sets}
+use Rattle.vm_chunks.proofs.chunk.Chunk.set.Goals as goal
+
+pub index_mut-requires : goal.index_mut-requires
+index_mut-requires g c =
+    let p = rw (c.as_slice.ensures.value, c.self.view_is, c.key.ensures) at c.place-at.ensures in
+    let l = known_within g.E.Entry.key_of _ _ _ p.above p.below c.requires.order c.requires.known in
+    search rules
+
+pub returns : goal.returns
+returns g c =
+    let p = rw (c.as_slice.ensures.value, c.self.view_is, c.key.ensures) at c.place-at.ensures in
+    rw c.self.view_is (sets g.E.Entry.key_of c.args.entry _ _ p.above p.below c.requires.order c.requires.known)

@@ -1,0 +1,116 @@
+use Rattle.std.proofs.Common.{rules, get_or, ◌<◌, [], length, ap, ◌∙◌, sym, subst, arith}
+use Rattle.std.proofs.lemmas.List.{get_or_read}
+use Rattle.vm_chunks.specs.Chunks.{entries_of}
+use Rattle.vm_chunks.proofs.Homes.{all_bounds_descend, same_lengths, none_there}
+use Rattle.vm_chunks.proofs.Divisions.{split_is, split_same, split_upper, split_lower, place_lower, place_upper, no_bounds}
+use Rattle.vm_chunks.proofs.chunks.make_room.Goals as goal
+
+pub bounds_above-at-requires : goal.bounds_above-at-requires
+bounds_above-at-requires g c = rw c.as_slice.ensures.value (all_bounds_descend g.E.Entry.key_of _ _ c.requires.chunks.bounded)
+
+pub begin-requires-clause-none : goal.begin-requires-clause-none
+begin-requires-clause-none g c =
+    let p = rw c.as_slice.ensures.value at c.bounds_above-at.ensures in
+    none_there g.E.Entry.key_of _ _ c.requires.chunks.bounded c.args.key _ c.ranges.key.fits p (search rules)
+
+pub begin-requires-clause-bounds : goal.begin-requires-clause-bounds
+begin-requires-clause-bounds g c =
+    no_bounds g.E.Entry.key_of _ _ c.requires.chunks.bounded (begin-requires-clause-none g c)
+
+pub returns-in_err-begin-clause-same : goal.returns-in_err-begin-clause-same
+returns-in_err-begin-clause-same g c =
+    let p = rw c.as_slice.ensures.value at c.bounds_above-at.ensures in
+    let e = none_there g.E.Entry.key_of _ _ c.requires.chunks.bounded c.args.key _ c.ranges.key.fits p (search rules) in
+    ap (λ cs. entries_of cs) (c.in_err-begin.ensures.chunks_stay ∙ sym e)
+
+pub returns-then-at-len-clause-same : goal.returns-then-at-len-clause-same
+returns-then-at-len-clause-same g c =
+    let p = rw c.as_slice.ensures.value at c.bounds_above-at.ensures in
+    let e = none_there g.E.Entry.key_of _ _ c.requires.chunks.bounded c.args.key _ c.ranges.key.fits p (search rules) in
+    ap (λ cs. entries_of cs) c.in_ok-begin.ensures.chunks ∙ ap (λ cs. entries_of cs) (sym e)
+
+pub split-requires-clause-bounded : goal.split-requires-clause-bounded
+split-requires-clause-bounded g c =
+    let n = same_lengths g.E.Entry.key_of _ _ c.requires.chunks.bounded in
+    let l : c.bounds_above-at.result < length c.args.chunks.now.items = search rules in
+    omega arith
+
+pub returns-then-key-bound-clause-same : goal.returns-then-key-bound-clause-same
+returns-then-key-bound-clause-same g c =
+    let l : c.bounds_above-at.result < length c.args.chunks.now.items = search rules in
+    let u : c.kept_for-kept.result < length (get_or c.args.chunks.now.items c.bounds_above-at.result []) =
+    subst (λ x. c.kept_for-kept.result < length x) (c.as_slice-2.ensures.value ∙ get_or_read c.args.chunks.now.items _ _ l c.index-2.ensures [])
+    c.kept_for-kept.ensures.rest in
+    rw c.in_ok-bound.ensures.chunks
+    (split_same g.E.Entry.key_of c.args.chunks.now.items c.args.bounds.now.items c.requires.chunks _
+    c.kept_for-kept.result c.in_ok-bound.bound l c.kept_for-kept.ensures.some u c.in_ok-bound.ensures.bound)
+
+pub returns-then-key-bound-clause-chunks : goal.returns-then-key-bound-clause-chunks
+returns-then-key-bound-clause-chunks g c =
+    let l : c.bounds_above-at.result < length c.args.chunks.now.items = search rules in
+    let u : c.kept_for-kept.result < length (get_or c.args.chunks.now.items c.bounds_above-at.result []) =
+    subst (λ x. c.kept_for-kept.result < length x) (c.as_slice-2.ensures.value ∙ get_or_read c.args.chunks.now.items _ _ l c.index-2.ensures [])
+    c.kept_for-kept.ensures.rest in
+    rw (c.in_ok-bound.ensures.chunks, c.in_ok-bound.ensures.bounds)
+    (split_is g.E.Entry.key_of c.args.chunks.now.items c.args.bounds.now.items c.requires.chunks _
+    c.kept_for-kept.result c.in_ok-bound.bound l c.kept_for-kept.ensures.some u c.in_ok-bound.ensures.bound)
+
+pub returns-then-key-bound-clause-place : goal.returns-then-key-bound-clause-place
+returns-then-key-bound-clause-place g c =
+    let p = rw c.as_slice.ensures.value at c.bounds_above-at.ensures in
+    rw c.in_ok-bound.ensures.bounds (place_lower g.E.Entry.key_of _ _ _ _ p (search rules))
+
+pub returns-then-key-bound-clause-room : goal.returns-then-key-bound-clause-room
+returns-then-key-bound-clause-room g c =
+    let l : c.bounds_above-at.result < length c.args.chunks.now.items = search rules in
+    let i = get_or_read c.args.chunks.now.items _ _ l c.index.ensures [] in
+    let u : c.kept_for-kept.result < length (get_or c.args.chunks.now.items c.bounds_above-at.result []) =
+    subst (λ x. c.kept_for-kept.result < length x) (c.as_slice-2.ensures.value ∙ get_or_read c.args.chunks.now.items _ _ l c.index-2.ensures [])
+    c.kept_for-kept.ensures.rest in
+    let r = split_lower g.E.Entry.key_of c.args.chunks.now.items c.args.bounds.now.items c.requires.chunks _
+    c.kept_for-kept.result c.in_ok-bound.bound l c.kept_for-kept.ensures.some u c.in_ok-bound.ensures.bound in
+    let f = c.len-len.ensures.fits in
+    let v = c.len-len.ensures.value in
+    let o = c.kept_for-kept.ensures.some in
+    let z = ap length i in
+    rw c.in_ok-bound.ensures.chunks (omega (arith, r))
+
+pub returns-clause-same : goal.returns-clause-same
+returns-clause-same g c =
+    let l : c.bounds_above-at.result < length c.args.chunks.now.items = search rules in
+    let u : c.kept_for-kept.result < length (get_or c.args.chunks.now.items c.bounds_above-at.result []) =
+    subst (λ x. c.kept_for-kept.result < length x) (c.as_slice-2.ensures.value ∙ get_or_read c.args.chunks.now.items _ _ l c.index-2.ensures [])
+    c.kept_for-kept.ensures.rest in
+    rw c.in_ok-bound.ensures.chunks
+    (split_same g.E.Entry.key_of c.args.chunks.now.items c.args.bounds.now.items c.requires.chunks _
+    c.kept_for-kept.result c.in_ok-bound.bound l c.kept_for-kept.ensures.some u c.in_ok-bound.ensures.bound)
+
+pub returns-clause-chunks : goal.returns-clause-chunks
+returns-clause-chunks g c =
+    let l : c.bounds_above-at.result < length c.args.chunks.now.items = search rules in
+    let u : c.kept_for-kept.result < length (get_or c.args.chunks.now.items c.bounds_above-at.result []) =
+    subst (λ x. c.kept_for-kept.result < length x) (c.as_slice-2.ensures.value ∙ get_or_read c.args.chunks.now.items _ _ l c.index-2.ensures [])
+    c.kept_for-kept.ensures.rest in
+    rw (c.in_ok-bound.ensures.chunks, c.in_ok-bound.ensures.bounds)
+    (split_is g.E.Entry.key_of c.args.chunks.now.items c.args.bounds.now.items c.requires.chunks _
+    c.kept_for-kept.result c.in_ok-bound.bound l c.kept_for-kept.ensures.some u c.in_ok-bound.ensures.bound)
+
+pub returns-clause-place : goal.returns-clause-place
+returns-clause-place g c =
+    let p = rw c.as_slice.ensures.value at c.bounds_above-at.ensures in
+    rw c.in_ok-bound.ensures.bounds (place_upper g.E.Entry.key_of _ _ _ _ p (search rules))
+
+pub returns-clause-room : goal.returns-clause-room
+returns-clause-room g c =
+    let l : c.bounds_above-at.result < length c.args.chunks.now.items = search rules in
+    let i = get_or_read c.args.chunks.now.items _ _ l c.index.ensures [] in
+    let u : c.kept_for-kept.result < length (get_or c.args.chunks.now.items c.bounds_above-at.result []) =
+    subst (λ x. c.kept_for-kept.result < length x) (c.as_slice-2.ensures.value ∙ get_or_read c.args.chunks.now.items _ _ l c.index-2.ensures [])
+    c.kept_for-kept.ensures.rest in
+    let r = split_upper g.E.Entry.key_of c.args.chunks.now.items c.args.bounds.now.items c.requires.chunks _
+    c.kept_for-kept.result c.in_ok-bound.bound l c.kept_for-kept.ensures.some u c.in_ok-bound.ensures.bound in
+    let f = c.len-len.ensures.fits in
+    let v = c.len-len.ensures.value in
+    let o = c.kept_for-kept.ensures.some in
+    let z = ap length i in
+    rw c.in_ok-bound.ensures.chunks (omega (arith, r))

@@ -1,0 +1,16 @@
+use Rattle.std.proofs.Common.{rules, leb, arith}
+use Rattle.std.proofs.lemmas.Bool.{leb-true, leb-false}
+use Rattle.std.proofs.lemmas.List.Sorted.{IsPartitionPoint-from_clause}
+use Rattle.vm_chunks.proofs.Parts.{parted_from}
+use Rattle.vm_chunks.proofs.place_from.Goals as goal
+
+pub returns : goal.returns
+returns g c =
+    let parts = parted_from g.E.Entry.key_of _ c.args.key c.requires in
+    let point = IsPartitionPoint-from_clause (λ e. leb c.args.key (g.E.Entry.key_of e)) _ _ c.partition_point.ensures.partitioned
+    parts (λ a r q k. search rules) in
+    record {
+      bound = search rules;
+      from = λ k d h. leb-true _ _ (point.0 k d (omega arith) h);
+      below = λ k d h l. leb-false _ _ (point.1 k d h l);
+    }

@@ -1,0 +1,352 @@
+//! A descending list of entries in chunks.
+ghost use Rattle.std.specs.Prelude.{
+  ◌≡◌,
+  ℕ,
+  ◌<◌,
+  ◌≤◌,
+  ◌+◌,
+  ◌++◌,
+  ◌-◌,
+  ◌∷◌,
+  [],
+  length,
+  slice_index_or,
+  option_to_list,
+  None,
+  IsSome,
+  reverse,
+  IfOk,
+  OnOk,
+  OnErr,
+};
+ghost use Rattle.std.specs.List.{insert};
+ghost use Rattle.vm_chunks.specs.Entries.{
+  IsDescendingBy,
+  with_entry,
+  without,
+  entry_at,
+  at_or_above,
+  at_or_below,
+  IsPlace,
+  IsKeyOf,
+};
+ghost use Rattle.vm_chunks.specs.Chunks.{
+  entries_of,
+  AreAllBounded,
+  AreFilledBut,
+  AreChunks,
+  split_chunk,
+  IsJoinedOr,
+};
+
+use crate::Entry;
+use crate::chunk::{Chunk, MAX_ENTRIES};
+use crate::iter::Iter;
+use std::alloc::{AllocError, Global};
+use std::marker::Model;
+
+/// Entries in descending order of their keys, in chunks.
+///
+/// Its model is the list of its entries.
+#[derive(Drop)]
+pub struct Chunks<E: Entry> {
+    chunks: Vec<Chunk<E>>,
+    // A bound for each chunk: its keys are from the bound on, and those of later chunks below. The last is 0.
+    bounds: Vec<u64>,
+}
+
+impl<E: Entry> Model for Chunks<E> {
+    ghost use Rattle.std.specs.Prelude.{List};
+    ghost use Rattle.vm_chunks.specs.Chunks.{entries_of, AreChunks};
+
+    ghost Value = { List E };
+
+    ghost view = { λ c. entries_of c.chunks.items };
+
+    ghost invariant = { λ c. AreChunks E.key_of c.chunks.items c.bounds.items };
+}
+
+/// Returns the number of bounds above a key.
+fn bounds_above(bounds: &[u64], key: u64) -> usize
+    requires { IsDescendingBy (λ b. b) bounds.now }
+    ensures { IsPlace (λ b. b) key result bounds.now }
+{
+    bounds.partition_point(|bound| *bound > key)
+}
+
+/// Returns copies of the chunks.
+fn clone_chunks<E: Entry>(alloc: Global, chunks: &[Chunk<E>]) -> Result<Vec<Chunk<E>>, AllocError>
+    ensures { IfOk result (λ copies. copies.items ≡ chunks.now) }
+{
+    let mut copies = Vec::with_capacity(alloc, chunks.len())?;
+    for i in 0..chunks.len() {
+        copies.push(chunks[i].try_clone(alloc)?)?;
+    }
+    Ok(copies)
+}
+
+/// Creates the first chunk, which is empty. An error changes nothing.
+fn begin<E: Entry>(
+    alloc: Global,
+    chunks: &mut Vec<Chunk<E>>,
+    bounds: &mut Vec<u64>,
+) -> Result<(), AllocError>
+    requires none { chunks.old.items ≡ [] }
+    requires bounds { bounds.old.items ≡ [] }
+    ensures chunks { OnOk result (chunks.new.items ≡ [] ∷ []) }
+    ensures bounds { OnOk result (bounds.new.items ≡ 0 ∷ []) }
+    ensures chunks_stay { OnErr result (chunks.new.items ≡ []) }
+    ensures bounds_stay { OnErr result (bounds.new.items ≡ []) }
+{
+    let chunk = Chunk::new(alloc)?;
+    bounds.reserve(1)?;
+    chunks.push(chunk)?;
+    let Ok(()) = bounds.push(0) else {
+        unreachable!()
+    };
+    Ok(())
+}
+
+/// Moves the entries of a chunk from `kept` on to a new chunk after it, and returns the bound between them. An
+/// error changes nothing.
+fn split<E: Entry>(
+    alloc: Global,
+    chunks: &mut Vec<Chunk<E>>,
+    bounds: &mut Vec<u64>,
+    at: usize,
+    kept: usize,
+) -> Result<u64, AllocError>
+    requires within { at < length chunks.old.items }
+    requires bounded { at < length bounds.old.items }
+    requires some { 0 < kept }
+    requires rest { kept < length (slice_index_or chunks.old.items at []) }
+    ensures bound { IfOk result (λ b. IsKeyOf E.key_of b (kept - 1) (slice_index_or chunks.old.items at [])) }
+    ensures bounds { IfOk result (λ b. bounds.new.items ≡ insert bounds.old.items at b) }
+    ensures chunks { OnOk result (chunks.new.items ≡ split_chunk at kept chunks.old.items) }
+    ensures unchanged { OnErr result ((chunks.new.items ≡ chunks.old.items) × (bounds.new.items ≡ bounds.old.items)) }
+{
+    chunks.reserve(1)?;
+    bounds.reserve(1)?;
+    let chunk = &mut chunks[at];
+    let bound = chunk.as_slice()[kept - 1].key();
+    let lower = chunk.split(alloc, kept)?;
+    let Ok(()) = chunks.insert(at + 1, lower) else {
+        unreachable!()
+    };
+    let Ok(()) = bounds.insert(at, bound) else {
+        unreachable!()
+    };
+    Ok(bound)
+}
+
+/// Joins a chunk and the one after it if both fit in half a chunk, or if one is empty. It does not allocate.
+fn join<E: Entry>(chunks: &mut Vec<Chunk<E>>, bounds: &mut Vec<u64>, at: usize)
+    requires chunks { at + 1 < length chunks.old.items }
+    requires bounds { at + 1 < length bounds.old.items }
+    ensures { IsJoinedOr at chunks.old.items bounds.old.items chunks.new.items bounds.new.items }
+{
+    let upper = chunks[at].len();
+    let lower = chunks[at + 1].len();
+    if upper == 0 {
+        chunks.remove(at);
+        bounds.remove(at);
+    } else if lower == 0 || upper + lower <= MAX_ENTRIES / 2 {
+        let lower = chunks.remove(at + 1);
+        let upper = &mut chunks[at];
+        upper.append(&lower);
+        bounds.remove(at);
+    }
+}
+
+/// Returns the number of entries that stay in a chunk that is split for a key. It is a half, but almost all or one
+/// if keys come in order.
+fn kept_for<E: Entry>(entries: &[E], key: u64, is_first: bool, is_last: bool) -> usize
+    requires { 2 ≤ length entries.now }
+    ensures some { 0 < result }
+    ensures rest { result < length entries.now }
+{
+    let len = entries.len();
+    if is_first && key > entries[0].key() {
+        return 1;
+    }
+    if is_last && key < entries[len - 1].key() {
+        return len - 1;
+    }
+    len / 2
+}
+
+/// Makes room for a key in the only chunk that can have it, and returns the index of that chunk. It changes no
+/// entry.
+fn make_room<E: Entry>(
+    alloc: Global,
+    chunks: &mut Vec<Chunk<E>>,
+    bounds: &mut Vec<u64>,
+    key: u64,
+) -> Result<usize, AllocError>
+    requires chunks { AreChunks E.key_of chunks.old.items bounds.old.items }
+    ensures same { entries_of chunks.new.items ≡ entries_of chunks.old.items }
+    ensures chunks { AreChunks E.key_of chunks.new.items bounds.new.items }
+    ensures place { IfOk result (λ i. IsPlace (λ b. b) key i bounds.new.items) }
+    ensures within { IfOk result (λ i. i < length chunks.new.items) }
+    ensures room { IfOk result (λ i. length (slice_index_or chunks.new.items i []) < 64) }
+{
+    let at = bounds_above(bounds.as_slice(), key);
+    if at >= chunks.len() {
+        begin(alloc, chunks, bounds)?;
+        return Ok(0);
+    }
+    let len = chunks[at].len();
+    if len < MAX_ENTRIES {
+        return Ok(at);
+    }
+    let is_last = at + 1 == chunks.len();
+    let kept = kept_for(chunks[at].as_slice(), key, at == 0, is_last);
+    let bound = split(alloc, chunks, bounds, at, kept)?;
+    if key < bound {
+        return Ok(at + 1);
+    }
+    Ok(at)
+}
+
+/// Joins a chunk with one next to it if it is small. It changes no entry, and does not allocate.
+fn mend<E: Entry>(chunks: &mut Vec<Chunk<E>>, bounds: &mut Vec<u64>, at: usize)
+    requires within { at < length chunks.old.items }
+    requires bounded { AreAllBounded E.key_of chunks.old.items bounds.old.items }
+    requires filled { 2 ≤ length chunks.old.items → AreFilledBut at chunks.old.items }
+    ensures same { entries_of chunks.new.items ≡ entries_of chunks.old.items }
+    ensures chunks { AreChunks E.key_of chunks.new.items bounds.new.items }
+{
+    let last = chunks.len() - 1;
+    if last > 0 {
+        join(chunks, bounds, at.min(last - 1));
+    }
+}
+
+impl<E: Entry> Chunks<E> {
+    /// Creates an empty list. It does not allocate.
+    pub fn new(alloc: Global) -> Self
+        ensures { result ≡ [] }
+    {
+        Chunks {
+            chunks: Vec::new(alloc),
+            bounds: Vec::new(alloc),
+        }
+    }
+
+    /// Returns a copy. It allocates for each chunk.
+    pub fn try_clone(&self, alloc: Global) -> Result<Self, AllocError>
+        ensures { IfOk result (λ copy. copy ≡ self.now) }
+    {
+        let chunks = clone_chunks(alloc, self.chunks.as_slice())?;
+        let bounds = self.bounds.clone()?;
+        Ok(Chunks { chunks, bounds })
+    }
+
+    /// Returns the entry with this key, if there is one. It takes logarithmic time.
+    pub fn get(&self, key: u64) -> Option<E>
+        ensures { result ≡ entry_at E.key_of key self.now }
+    {
+        let at = bounds_above(self.bounds.as_slice(), key);
+        match self.chunks.get(at) {
+            Some(chunk) => chunk.get(key),
+            None => None,
+        }
+    }
+
+    /// Returns the entry with the highest key that is at most this one, if there is one. It takes logarithmic
+    /// time.
+    pub fn at_or_below(&self, key: u64) -> Option<E>
+        ensures { result ≡ at_or_below E.key_of key self.now }
+    {
+        let at = bounds_above(self.bounds.as_slice(), key);
+        if at >= self.chunks.len() {
+            return None;
+        }
+        match self.chunks[at].at_or_below(key) {
+            Some(entry) => Some(entry),
+            None if at + 1 == self.chunks.len() => None,
+            None => self.chunks[at + 1].at_or_below(key),
+        }
+    }
+
+    /// Returns the entry with the lowest key that is at least this one, if there is one. It takes logarithmic
+    /// time.
+    pub fn at_or_above(&self, key: u64) -> Option<E>
+        ensures { result ≡ at_or_above E.key_of key self.now }
+    {
+        let at = bounds_above(self.bounds.as_slice(), key);
+        if at >= self.chunks.len() {
+            return None;
+        }
+        match self.chunks[at].at_or_above(key) {
+            Some(entry) => Some(entry),
+            None if at == 0 => None,
+            None => self.chunks[at - 1].at_or_above(key),
+        }
+    }
+
+    /// Replaces the entry with the key of this one. It does not allocate.
+    pub fn set(&mut self, entry: E)
+        requires { IsSome (entry_at E.key_of (E.key_of entry) self.old) }
+        ensures { self.new ≡ with_entry E.key_of entry self.old }
+    {
+        let at = bounds_above(self.bounds.as_slice(), entry.key());
+        let chunk = &mut self.chunks[at];
+        chunk.set(entry);
+    }
+
+    /// Inserts an entry with a new key. An error changes nothing.
+    pub fn insert(&mut self, alloc: Global, entry: E) -> Result<(), AllocError>
+        requires { entry_at E.key_of (E.key_of entry) self.old ≡ None }
+        ensures inserted { OnOk result (self.new ≡ with_entry E.key_of entry self.old) }
+        ensures unchanged { OnErr result (self.new ≡ self.old) }
+    {
+        let at = make_room(alloc, &mut self.chunks, &mut self.bounds, entry.key())?;
+        let chunk = &mut self.chunks[at];
+        chunk.insert(entry);
+        Ok(())
+    }
+
+    /// Returns an iterator over the entries in ascending order of their keys. It does not allocate.
+    pub fn iter(&self) -> Iter<'_, E>
+        ensures entries { result ≡ reverse self.now }
+        ensures order { IsDescendingBy E.key_of self.now }
+    {
+        let Some((chunk, others)) = self.chunks.as_slice().split_last() else {
+            return Iter::none();
+        };
+        Iter::of_chunks(others, chunk)
+    }
+
+    /// Removes the entry with this key, and returns it. It does not allocate.
+    pub fn remove(&mut self, key: u64) -> Option<E>
+        ensures entry { result ≡ entry_at E.key_of key self.old }
+        ensures rest { self.new ≡ without E.key_of key self.old }
+    {
+        let at = bounds_above(self.bounds.as_slice(), key);
+        if at >= self.chunks.len() {
+            return None;
+        }
+        let chunk = &mut self.chunks[at];
+        let entry = chunk.remove(key);
+        mend(&mut self.chunks, &mut self.bounds, at);
+        entry
+    }
+
+    /// Removes and returns the entry with the lowest key. It does not allocate.
+    pub fn pop_lowest(&mut self) -> Option<E>
+        ensures lowest { self.old ≡ self.new ++ option_to_list result }
+        ensures order { IsDescendingBy E.key_of self.old }
+    {
+        let count = self.chunks.len();
+        if count == 0 {
+            return None;
+        }
+        let chunk = &mut self.chunks[count - 1];
+        let entry = chunk.pop();
+        if chunk.len() == 0 {
+            mend(&mut self.chunks, &mut self.bounds, count - 1);
+        }
+        entry
+    }
+}
