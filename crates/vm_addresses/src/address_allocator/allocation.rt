@@ -112,7 +112,8 @@ fn allocate_in(
     ensures low { IsBlockTree tree.old }
     ensures valid { IsRequest constraint.now }
     ensures answer { IsAllocation constraint.now space.now can_split tree.old tree.new result count.new }
-    ensures memory { (t : ℕ) → constraint.now.policy ≡ ExactMatch t → spare.old ≢ None → result ≢ Err Error.OutOfMemory }
+    ensures memory { (t : ℕ) → constraint.now.policy ≡ ExactMatch t → spare.old ≢ None
+        → result ≢ Err Error.OutOfMemory }
 {
     // Proof: `height` gives the bounds of the tree.
     let _height = tree.height();
