@@ -61,7 +61,7 @@ static void allocate() {
     CHECK(is_range(ranges[0], 0x1210, 0x1eff));
     CHECK(!space.at(0x1205, range) && !space.free(range) && space.free(range));
     CHECK(!space.move_range({0x1000, 0x10ff}, 0x1400, range) && is_range(range, 0x1400, 0x14ff));
-    CHECK(space.move_range(range, 0x1401, range) == dvs::code(DVS_RESOURCE_NOT_AVAILABLE));
+    CHECK(!space.move_range(range, 0x1401, range) && is_range(range, 0x1401, 0x1500));
     CHECK(!space.move_range(range, 0x1000, range) && is_range(range, 0x1000, 0x10ff));
     dvs::request place = dvs::request::last(0x80, 0x80).within({0, 0x1fff});
     CHECK(!space.move_range(range, place, range) && is_range(range, 0x1e80, 0x1eff));

@@ -104,9 +104,13 @@ const TRIED: [(u64, TriedCall); 39] = [
         let request = in_the_middle(4, LastMatch);
         space.try_move_constraint(&both()[0], request).map(drop)
     }),
+    (2, |space| {
+        let beside = request(16, ExactMatch(24));
+        space.try_move_constraint(&both()[1], beside).map(drop)
+    }),
     (0, |space| {
-        let fills = request(16, ExactMatch(24));
-        space.try_move_constraint(&both()[1], fills).map(drop)
+        let own = request(8, ExactMatch(40));
+        space.try_move_constraint(&both()[1], own).map(drop)
     }),
     (0, |space| {
         let request = in_the_middle(16, FirstMatch);
