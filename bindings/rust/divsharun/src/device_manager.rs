@@ -1,10 +1,12 @@
 // SPDX-License-Identifier: Apache-2.0 OR BSD-3-Clause
 use crate::address_allocator::{space_of, ShortDebug};
+use crate::convert::out_of_memory;
 use crate::error::TryResult;
 use crate::proved::vm_devices as proved;
 use crate::rattle::Global;
 use crate::traits::{allocator, iterate, DebugList};
-use crate::{AllocPolicy, Conflict, Constraint, IdRequest, RangeInclusive, Result};
+use crate::{AddressAllocator, AllocPolicy, Conflict, Constraint, IdAllocator, IdRequest};
+use crate::{RangeInclusive, Result};
 use core::fmt;
 
 /// The resources of a device: an id and a range of addresses.
@@ -536,6 +538,80 @@ impl DeviceManager {
     #[must_use]
     pub fn device_count(&self) -> u64 {
         self.0.device_count()
+    }
+
+    /// Returns a copy of the allocator of the addresses, to read its gaps, its layout and more. It takes
+    /// linear time. Changes of the copy do not change the manager.
+    ///
+    /// # Example
+    ///
+    /// ```rust
+    /// use divsharun::{AllocPolicy, DeviceManager};
+    ///
+    /// let mut devices = DeviceManager::new(5, 23, 0xa00_0000, 0x4000)?;
+    /// devices.reserve(0x200, 0x200, AllocPolicy::LastMatch)?;
+    /// assert_eq!(devices.addresses().longest_gap(), 0x3e00);
+    /// # Ok::<(), divsharun::Error>(())
+    /// ```
+    #[must_use]
+    pub fn addresses(&self) -> AddressAllocator {
+        let copy = self.try_addresses();
+        copy.unwrap_or_else(|_| out_of_memory())
+    }
+
+    /// Copies like [`addresses`](Self::addresses), but returns an error if memory runs out.
+    ///
+    /// # Errors
+    ///
+    /// - `OutOfMemory` if memory for a node runs out.
+    ///
+    /// # Example
+    ///
+    /// ```rust
+    /// use divsharun::{DeviceManager, TryError};
+    ///
+    /// let devices = DeviceManager::try_new(0, 31, 0xa00_0000, 0x4000)?;
+    /// assert_eq!(devices.try_addresses()?.free_len(), 0x4000);
+    /// # Ok::<(), TryError>(())
+    /// ```
+    pub fn try_addresses(&self) -> TryResult<AddressAllocator> {
+        Ok(AddressAllocator(self.0.addresses().try_clone(Global)?))
+    }
+
+    /// Returns a copy of the allocator of the ids, to read, like [`addresses`](Self::addresses).
+    ///
+    /// # Example
+    ///
+    /// ```rust
+    /// use divsharun::{AllocPolicy, DeviceManager};
+    ///
+    /// let mut devices = DeviceManager::new(5, 23, 0xa00_0000, 0x4000)?;
+    /// devices.reserve(0x200, 0x200, AllocPolicy::LastMatch)?;
+    /// assert_eq!(devices.ids().peek_id()?, 6);
+    /// # Ok::<(), divsharun::Error>(())
+    /// ```
+    #[must_use]
+    pub fn ids(&self) -> IdAllocator {
+        self.try_ids().unwrap_or_else(|_| out_of_memory())
+    }
+
+    /// Copies like [`ids`](Self::ids), but returns an error if memory runs out.
+    ///
+    /// # Errors
+    ///
+    /// - `OutOfMemory` if memory for the set of freed ids runs out.
+    ///
+    /// # Example
+    ///
+    /// ```rust
+    /// use divsharun::{DeviceManager, TryError};
+    ///
+    /// let devices = DeviceManager::try_new(0, 31, 0xa00_0000, 0x4000)?;
+    /// assert_eq!(devices.try_ids()?.free_count(), 32);
+    /// # Ok::<(), TryError>(())
+    /// ```
+    pub fn try_ids(&self) -> TryResult<IdAllocator> {
+        Ok(IdAllocator(self.0.ids().try_clone(Global)?))
     }
 
     /// Returns the range of all addresses, free or allocated.

@@ -55,7 +55,10 @@ fn move_range(
     let want = scale.answer(model.move_to(number, request));
     let (held, to) = (scale.range(held), to << scale.0);
     let far = scale.request(request);
-    assert_eq!(space.move_conflict(&held, far), conflict.map(|found| scale.conflict(found)));
+    assert_eq!(
+        space.move_conflict(&held, far),
+        conflict.map(|found| scale.conflict(found))
+    );
     assert_eq!(space.move_range(&held, to), want);
     assert_eq!(refused(tried.try_move_range(&held, to)), want);
     assert_eq!(tried, *space);

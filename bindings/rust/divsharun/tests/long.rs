@@ -332,8 +332,14 @@ impl Beside for Space {
         assert_eq!(conflict, want.map(|want| scale.conflict(want)), "{request}");
         let conflict = space.move_conflict(&scale.range(key), scale.request(request));
         let number = model.held.binary_search(&key);
-        let want = number.ok().and_then(|number| model.move_conflict(number, request));
-        assert_eq!(conflict, want.map(|want| scale.conflict(want)), "{key} to {request}");
+        let want = number
+            .ok()
+            .and_then(|number| model.move_conflict(number, request));
+        assert_eq!(
+            conflict,
+            want.map(|want| scale.conflict(want)),
+            "{key} to {request}"
+        );
         let has = |range: &RangeInclusive| range.contains_address(key.end());
         let at = key.end() << scale.0;
         assert_eq!(space.held_at(at), far(model.held.iter().copied().find(has)));
@@ -482,6 +488,11 @@ impl Beside for Manager {
         let (id, request) = (id_near(&self.ids, draw), request_near(&self.model, draw));
         assert_eq!(self.devices.slot(id), self.slots.get(&id).copied());
         assert_eq!(self.devices.device_count(), self.slots.len() as u64);
+        assert_eq!(
+            self.devices.addresses().held_count(),
+            self.slots.len() as u64
+        );
+        assert!(self.devices.ids().held_ids().eq(self.slots.keys().copied()));
         assert_eq!(self.devices.conflict(request), self.model.conflict(request));
         let address = range_near(&self.model, draw).start();
         let has = |device: &DeviceSlot| device.range.contains_address(address);

@@ -35,7 +35,7 @@ type EndedCall = fn(&mut AddressAllocator);
 /// leaf and inner node of a new tree or of a copy, and two for a split of the full leaf. A call with
 /// ranges copies the list, and one with requests makes three lists. Holes between free ranges are a list
 /// too.
-const TRIED: [(u64, TriedCall); 39] = [
+const TRIED: [(u64, TriedCall); 41] = [
     (1, |_| AddressAllocator::try_new(0, 64).map(drop)),
     (1, |_| AddressAllocator::try_over(both()[0]).map(drop)),
     (1, |space| space.try_clone().map(drop)),
@@ -99,7 +99,9 @@ const TRIED: [(u64, TriedCall); 39] = [
         named.map(drop)
     }),
     (2, |space| space.try_move_range(&both()[0], 4).map(drop)),
-    (0, |space| refused(space.try_move_range(&both()[0], both()[1].start()))),
+    (0, |space| {
+        refused(space.try_move_range(&both()[0], both()[1].start()))
+    }),
     (2, |space| {
         let request = in_the_middle(4, LastMatch);
         space.try_move_constraint(&both()[0], request).map(drop)
@@ -126,6 +128,14 @@ const TRIED: [(u64, TriedCall); 39] = [
     (0, |_| refused(one_held_id().try_free_id(1))),
     (0, |_| one_held_id().try_clone().map(drop)),
     (1, |_| DeviceManager::try_new(0, 0, 0, 64).map(drop)),
+    (1 + 1, |_| {
+        let devices = DeviceManager::try_new(0, 0, 0, 64)?;
+        devices.try_addresses().map(drop)
+    }),
+    (1, |_| {
+        let devices = DeviceManager::try_new(0, 0, 0, 64)?;
+        devices.try_ids().map(drop)
+    }),
     (4, |_| {
         let mut devices = DeviceManager::try_new(0, 0, 0, 64)?;
         devices.try_reserve(1, 1, FirstMatch)?;

@@ -63,7 +63,10 @@ fn moved_bar(space: &mut AddressAllocator) -> Result<()> {
     assert_eq!(space.conflict(programmed), Some(Conflict::Allocated(moved)));
 
     // It grows in place, because the addresses behind it are free.
-    let resized = space.move_constraint(&moved, request(MIB, AllocPolicy::ExactMatch(moved.start()))?)?;
+    let resized = space.move_constraint(
+        &moved,
+        request(MIB, AllocPolicy::ExactMatch(moved.start()))?,
+    )?;
     assert_eq!((resized.start(), resized.len()), (moved.start(), MIB));
     Ok(())
 }

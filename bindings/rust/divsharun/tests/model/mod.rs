@@ -94,7 +94,8 @@ impl Model {
         let space = RangeInclusive::from_start_len(self.base, self.width).unwrap();
         let ExactMatch(start) = request.policy() else {
             let is_outside = |window: RangeInclusive| !window.overlaps(&space);
-            return (request.window().is_some_and(is_outside)).then_some(Conflict::OutsideSpace(space));
+            return (request.window().is_some_and(is_outside))
+                .then_some(Conflict::OutsideSpace(space));
         };
         let (first, base) = (u128::from(start), u128::from(self.base));
         let last = first + u128::from(request.size() - 1);
