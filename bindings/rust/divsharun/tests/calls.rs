@@ -1280,7 +1280,15 @@ fn calls_are_those_of_the_proved_code() {
         let is_one = [&proved, &same, &made, &tried]
             .iter()
             .any(|call| body.contains(*call));
-        let is_other = ["iter", "layout", "space", "try_over"].contains(&name);
+        let is_other = [
+            "iter",
+            "layout",
+            "space",
+            "try_addresses",
+            "try_ids",
+            "try_over",
+        ]
+        .contains(&name);
         assert!(is_one || is_other, "{name}: {body}");
         count += 1;
     }

@@ -35,7 +35,7 @@ type EndedCall = fn(&mut AddressAllocator);
 /// leaf and inner node of a new tree or of a copy, and two for a split of the full leaf. A call with
 /// ranges copies the list, and one with requests makes three lists. Holes between free ranges are a list
 /// too.
-const TRIED: [(u64, TriedCall); 41] = [
+const TRIED: [(u64, TriedCall); 42] = [
     (1, |_| AddressAllocator::try_new(0, 64).map(drop)),
     (1, |_| AddressAllocator::try_over(both()[0]).map(drop)),
     (1, |space| space.try_clone().map(drop)),
