@@ -492,7 +492,7 @@ static void allocate_none(void) {
         {{1, 2, 1, DVS_EXACT, NULL}, DVS_UNALIGNED_ADDRESS, 0, {0, 0}},
         {{0x1000, 1, 0x1000, DVS_EXACT, NULL}, DVS_INVALID_STATE_TRANSITION, 0, {0, 0}},
         {{0x1000, 1, 0, DVS_LAST, NULL}, DVS_RESOURCE_NOT_AVAILABLE, 0, {0, 0}},
-        {{1, 1, 0, DVS_FIRST, &outside}, DVS_RESOURCE_NOT_AVAILABLE, 0, {0, 0}},
+        {{1, 1, 0, DVS_FIRST, &outside}, NO_PLACE(OUTSIDE_SPACE), {0, 0x3fff}},
         /* The first two requests have 0 to 0xfff and 0x2000 to 0x27ff. */
         {{1, 1, 0xfff, DVS_EXACT, NULL}, NO_PLACE(EARLIER_REQUEST), {0, 0}},
         {{0x900, 1, 0x2700, DVS_EXACT, NULL}, NO_PLACE(EARLIER_REQUEST), {0, 0}},
