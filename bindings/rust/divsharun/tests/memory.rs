@@ -392,10 +392,15 @@ fn objects_stay_the_same() {
         devices.try_reserve_with_id(IdRequest::LowestIn(5, 9), request(1, LastMatch))
     });
     assert_eq!(devices.slot(5).map(|range| range.start()), Some(63));
+    let mut devices = DeviceManager::new(0, 15, 0, 91).expect("a manager");
+    for range in in_a_leaf() {
+        let reserved = devices.reserve(range.len(), 1, ExactMatch(range.start()));
+        assert_eq!(reserved.map(|slot| slot.range), Ok(range));
+    }
     unchanged_until_allowed(&mut devices, DeviceManager::clone, |devices| {
-        devices.try_move_constraint(5, request(2, FirstMatch))
+        devices.try_move_constraint(0, in_the_middle(4, LastMatch))
     });
-    assert_eq!(devices.slot(5).map(|range| range.start()), Some(0));
+    assert_eq!(devices.slot(0).map(|range| range.start()), Some(34));
 }
 
 /// Makes a call with its first allocation failing, then with its second, until it succeeds. An error
