@@ -230,11 +230,16 @@ impl Devices {
         (100 / self.moved.len()).max(1)
     }
 
-    /// Returns the items, once for each copy of a space.
-    fn on_copies<T: Copy>(&self, items: &[T]) -> Vec<(usize, T)> {
-        (0..self.copies())
-            .flat_map(|copy| items.iter().map(move |item| (copy, *item)))
-            .collect()
+    /// Returns the items, once for each copy of a space, and in another order for each, because the
+    /// branch predictor learns a short order that is repeated.
+    fn on_copies<T: Copy>(&self, items: &[T], draw: &mut Draw) -> Vec<(usize, T)> {
+        let mut items = items.to_vec();
+        let mut all = Vec::new();
+        for copy in 0..self.copies() {
+            draw.shuffle(&mut items);
+            all.extend(items.iter().map(|item| (copy, *item)));
+        }
+        all
     }
 
     /// Returns the space with all devices in it.
@@ -275,35 +280,28 @@ impl Devices {
         let mut timing = Timing::default();
         for round in 0..rounds {
             let mut draw = Draw::from_seed(round);
-            let mut moved = self.moved.clone();
             let mut spaces = vec![full.clone(); self.copies()];
-            draw.shuffle(&mut moved);
             self.prepare::<L>(&mut spaces, cache);
-            timing.of(
-                call == Call::Free,
-                &self.on_copies(&moved),
-                |(copy, range)| L::free(&mut spaces[*copy], *range),
-            );
+            let moved = self.on_copies(&self.moved, &mut draw);
+            timing.of(call == Call::Free, &moved, |(copy, range)| {
+                L::free(&mut spaces[*copy], *range)
+            });
             // The ranges were freed right before, so the cache is warm.
             if cache == Cache::Cold {
                 empty_cache();
             }
-            draw.shuffle(&mut moved);
-            // The largest first, so that each one fits.
-            moved.sort_by_key(|range| u64::MAX - size_of(range));
-            timing.of(
-                call != Call::Free,
-                &self.on_copies(&moved),
-                |(copy, range)| {
-                    let place = match call {
-                        Call::First => Place::First,
-                        Call::Last => Place::Last,
-                        _ => Place::Exact(range.0),
-                    };
-                    let size = size_of(range);
-                    L::allocate(&mut spaces[*copy], size, size, place)
-                },
-            );
+            let mut moved = self.on_copies(&self.moved, &mut draw);
+            // The largest first in each copy, so that each one fits.
+            moved.sort_by_key(|(copy, range)| (*copy, u64::MAX - size_of(range)));
+            timing.of(call != Call::Free, &moved, |(copy, range)| {
+                let place = match call {
+                    Call::First => Place::First,
+                    Call::Last => Place::Last,
+                    _ => Place::Exact(range.0),
+                };
+                let size = size_of(range);
+                L::allocate(&mut spaces[*copy], size, size, place)
+            });
         }
         timing.done()
     }
@@ -320,7 +318,7 @@ impl Devices {
             let mut all_ids = vec![full.clone(); self.copies()];
             let mut drawn: Vec<u32> = (0..count).collect();
             draw.shuffle(&mut drawn);
-            let moved = self.on_copies(&drawn[..self.moved.len()]);
+            let moved = self.on_copies(&drawn[..self.moved.len()], &mut draw);
             if cache == Cache::Cold {
                 empty_cache();
             } else {
