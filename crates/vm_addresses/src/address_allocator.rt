@@ -180,6 +180,7 @@ impl AddressAllocator {
     /// - Only if the range splits its gap:
     ///   - `Overflow` if 6,293,134,512 ranges or more are allocated.
     ///   - `OutOfMemory` if an allocation fails.
+    #[inline(always)]
     #[tactic(auto, using(crate::proofs::Callers::allocations, crate::proofs::Results::Requests::allocating, crate::proofs::Results::Filling::succeeding, crate::proofs::Trees::Spaces::states))]
     pub fn allocate(
         &mut self,
@@ -226,6 +227,7 @@ impl AddressAllocator {
     ///   the window fits.
     /// - `ResourceNotAvailable` if the start of `ExactMatch` is outside the window, or a part of its
     ///   range is, unless exactly this range is already allocated.
+    #[inline(always)]
     #[tactic(auto, using(crate::proofs::Callers::constraint_allocations, crate::proofs::Results::Filling::succeeding))]
     pub fn allocate_constraint(
         &mut self,

@@ -38,6 +38,7 @@ impl AddressAllocator {
     /// # Errors
     ///
     /// Those of [`allocate_constraint`](Self::allocate_constraint), in the same order.
+    #[inline(always)]
     pub fn allocate_constraint_counted(
         &mut self,
         alloc: Global,
@@ -96,6 +97,7 @@ impl AddressAllocator {
 }
 
 /// Allocates the range of a request in the tree of a space.
+#[inline(always)]
 #[tactic(auto, using(crate::proofs::Placing::Requests::allocating))]
 fn allocate_in(
     tree: &mut Tree,
@@ -135,6 +137,7 @@ fn allocate_in(
 /// - `ResourceNotAvailable` if `start` is outside the space or outside the window.
 /// - `Overflow` if the range would end past `u64::MAX`.
 /// - The error of the tree.
+#[inline(always)]
 #[tactic(auto, using(crate::proofs::Placing::Requests::allocating_exact))]
 fn allocate_exact(
     tree: &mut Tree,
@@ -173,6 +176,7 @@ fn allocate_exact(
 }
 
 /// Returns the search of a request in a space.
+#[inline(always)]
 fn search_of(constraint: &Constraint, space: &RangeInclusive, can_split: bool) -> Search
     ensures search { IsSearchOf constraint.now space.now result }
     ensures valid { IsSearch result }
@@ -194,6 +198,7 @@ fn search_of(constraint: &Constraint, space: &RangeInclusive, can_split: bool) -
 
 /// Returns what a search found, with the error of its refusal. A search for `range` alone can find that
 /// it is allocated.
+#[inline(always)]
 fn with_error(found: std::result::Result<Taken, Refusal>, range: &RangeInclusive) -> Result<Taken>
     ensures { result ≡ with_error range.now found }
 {

@@ -134,6 +134,7 @@ impl AddressAllocator {
     /// - Only if the range splits its gap:
     ///   - `Overflow` if 6,293,134,512 ranges or more are allocated.
     ///   - `OutOfMemory` if an allocation fails.
+    #[inline(always)]
     pub fn allocate(
         &mut self,
         alloc: Global,
@@ -158,6 +159,7 @@ impl AddressAllocator {
     ///   the window fits.
     /// - `ResourceNotAvailable` if the start of `ExactMatch` is outside the window, or a part of its
     ///   range is, unless exactly this range is already allocated.
+    #[inline(always)]
     pub fn allocate_constraint(
         &mut self,
         alloc: Global,

@@ -25,6 +25,7 @@ impl AddressAllocator {
     /// # Errors
     ///
     /// Those of [`allocate_constraint`](Self::allocate_constraint), in the same order.
+    #[inline(always)]
     pub fn allocate_constraint_counted(
         &mut self,
         alloc: Global,
@@ -59,6 +60,7 @@ impl AddressAllocator {
 }
 
 /// Allocates the range of a request in the tree of a space.
+#[inline(always)]
 fn allocate_in(
     tree: &mut Tree,
     space: &RangeInclusive,
@@ -86,6 +88,7 @@ fn allocate_in(
 /// - `ResourceNotAvailable` if `start` is outside the space or outside the window.
 /// - `Overflow` if the range would end past `u64::MAX`.
 /// - The error of the tree.
+#[inline(always)]
 fn allocate_exact(
     tree: &mut Tree,
     space: &RangeInclusive,
@@ -113,6 +116,7 @@ fn allocate_exact(
 }
 
 /// Returns the search of a request in a space.
+#[inline(always)]
 fn search_of(constraint: &Constraint, space: &RangeInclusive, can_split: bool) -> Search {
     let window = match constraint.window() {
         None => *space,
@@ -129,6 +133,7 @@ fn search_of(constraint: &Constraint, space: &RangeInclusive, can_split: bool) -
 
 /// Returns what a search found, with the error of its refusal. A search for `range` alone can find that
 /// it is allocated.
+#[inline(always)]
 fn with_error(
     found: core::result::Result<Taken, Refusal>,
     range: &RangeInclusive,
