@@ -1,14 +1,17 @@
 -- The parts of a manager are read as this manager, and managers are equal if and only if their parts are.
-use Rattle.std.proofs.Common.{◌≡◌, ◌⊎◌, ℕ, List, [], ◌∷◌, ◌++◌, Result, Ok, Err, inl, inr, refl, sym, ap, ◌∙◌, subst, append_assoc, ◌↔◌, Bool, IsTrue}
+use Rattle.std.proofs.Common.{◌≡◌, ◌≢◌, ◌⊎◌, ℕ, List, [], ◌∷◌, ◌++◌, Result, Ok, Err, inl, inr, refl, sym, ap, ◌∙◌, subst, append_assoc, ◌↔◌, Bool, IsTrue}
 use Rattle.std.specs.FinMap as map
 use Rattle.vm_ranges.specs.Range.{Range}
+use Rattle.vm_ranges.specs.declared.saved.Condition.{Condition}
 use Rattle.vm_ranges.specs.declared.saved.SavedError.{SavedError}
 use Rattle.vm_ranges.specs.declared.saved.SavedError.TheVariants.{Violated, OutOfMemory}
+use Rattle.vm_addresses.specs.Address.{AddressState}
+use Rattle.vm_ids.specs.Ids.{IdState}
 use Rattle.vm_ids.proofs.Ids.RisingIds.{keys_rise}
 use Rattle.vm_ids.proofs.Ids.ComparedIds.{id_state_cmp-Equal}
 use Rattle.vm_devices.specs.declared.device_slot.DeviceSlot.{DeviceSlot}
 use Rattle.vm_devices.specs.Devices.{DeviceState, IsDeviceState, devices_of}
-use Rattle.vm_devices.specs.Laws.{WrittenManagersAreRead, EqualManagersHaveEqualParts}
+use Rattle.vm_devices.specs.Laws.{WrittenManagersAreRead, PartsDecideManagers, EqualManagersHaveEqualParts}
 use Rattle.vm_devices.specs.Listed.{HaveAscendingIds, PushesDevice, listed_state, AreDevicesOf, MakesOfDevices}
 use Rattle.vm_devices.specs.Queries.{device_list, entry_cmp, device_state_cmp, device_state_cmp-total}
 use Rattle.vm_devices.proofs.Entries.{entries_again, whole_map}
@@ -66,6 +69,53 @@ parts_read = record {
   read = its_answer;
 }
 
+-- A push has one result, unless memory runs out.
+pushes_once : (old new newer : List DeviceSlot) (device : DeviceSlot) (answer other : Result (Unit {0}) SavedError) →
+    answer ≢ Err OutOfMemory → other ≢ Err OutOfMemory →
+    PushesDevice old device answer new → PushesDevice old device other newer → (answer ≡ other) × (new ≡ newer)
+pushes_once old new newer device (Ok u) (Ok v) m n p q = (refl, p.0 ∙ sym q.0)
+pushes_once old new newer device (Ok u) (Err (Violated c)) m n p q = absurd (q.2 (subst HaveAscendingIds p.0 p.1))
+pushes_once old new newer device (Err (Violated c)) (Ok u) m n p q = absurd (p.2 (subst HaveAscendingIds q.0 q.1))
+pushes_once old new newer device (Err (Violated c)) (Err (Violated d)) m n p q =
+    (ap (λ (v : Condition). Err (Violated v)) (p.0 ∙ sym q.0), p.1 ∙ sym q.1)
+pushes_once old new newer device (Err OutOfMemory) other m n p q = absurd (m refl)
+pushes_once old new newer device answer (Err OutOfMemory) m n p q = absurd (n refl)
+
+-- A push that is out of memory changes nothing, and is in order.
+push_refused : (old new newer : List DeviceSlot) (device : DeviceSlot) (other : Result (Unit {0}) SavedError) →
+    PushesDevice old device (Err OutOfMemory) new → PushesDevice old device other newer →
+    (new ≡ old) × ((other ≡ Ok tt) ⊎ (other ≡ Err OutOfMemory))
+push_refused old new newer device (Ok u) p q = (p.0, inl refl)
+push_refused old new newer device (Err (Violated c)) p q = absurd (q.2 p.1)
+push_refused old new newer device (Err OutOfMemory) p q = (p.0, inr refl)
+
+-- Parts make one manager or one error, unless memory runs out.
+makes_once : (version : ℕ) (ids : IdState) (space : AddressState) (devices : List DeviceSlot)
+    (answer other : Result DeviceState SavedError) → answer ≢ Err OutOfMemory → other ≢ Err OutOfMemory →
+    MakesOfDevices version ids space devices answer → MakesOfDevices version ids space devices other → answer ≡ other
+makes_once version ids space devices (Ok s) (Ok t) m n p q = ap (λ (v : DeviceState). Ok v) (p.2 ∙ sym q.2)
+makes_once version ids space devices (Ok s) (Err (Violated c)) m n p (inl q) = absurd (q.1.1 p.1)
+makes_once version ids space devices (Ok s) (Err (Violated c)) m n p (inr q) = absurd (q.0 p.0)
+makes_once version ids space devices (Err (Violated c)) (Ok s) m n (inl p) q = absurd (p.1.1 q.1)
+makes_once version ids space devices (Err (Violated c)) (Ok s) m n (inr p) q = absurd (p.0 q.0)
+makes_once version ids space devices (Err (Violated c)) (Err (Violated d)) m n (inl p) (inl q) =
+    ap (λ (v : Condition). Err (Violated v)) (p.1.0 ∙ sym q.1.0)
+makes_once version ids space devices (Err (Violated c)) (Err (Violated d)) m n (inl p) (inr q) = absurd (q.0 p.0)
+makes_once version ids space devices (Err (Violated c)) (Err (Violated d)) m n (inr p) (inl q) = absurd (p.0 q.0)
+makes_once version ids space devices (Err (Violated c)) (Err (Violated d)) m n (inr p) (inr q) =
+    ap (λ (v : Condition). Err (Violated v)) (p.1 ∙ sym q.1)
+makes_once version ids space devices (Err OutOfMemory) other m n p q = absurd (m refl)
+makes_once version ids space devices answer (Err OutOfMemory) m n p q = absurd (n refl)
+
+-- The parts decide the result of a push and of the manager that is made of them, unless memory runs out.
+pub parts_decide : PartsDecideManagers
+parts_decide = record {
+  pushed = pushes_once;
+  refused = push_refused;
+  made = makes_once;
+  version = λ version ids space devices made. made;
+}
+
 -- Managers are equal if and only if their parts are.
 pub equal_parts : EqualManagersHaveEqualParts
 equal_parts a b = (
@@ -76,7 +126,7 @@ equal_parts a b = (
       sym (same_state a) ∙ listed ∙ same_state b,
 )
 
-pub ruleset written = (parts_read, equal_parts)
+pub ruleset written = (parts_read, parts_decide, equal_parts)
 
 pub ruleset spaces = (one_state, equal_states)
 

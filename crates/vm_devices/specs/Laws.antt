@@ -11,7 +11,8 @@ use Rattle.vm_ranges.specs.Request.{Request, request_for}
 use Rattle.vm_ranges.specs.Histories.{EveryCallIsAnswered, CallsAreDetermined}
 use Rattle.vm_ranges.specs.Texts.{IsTextOf, Parses}
 use Rattle.vm_addresses.specs.Answer.{SPLIT_LIMIT_MIN_HELD}
-use Rattle.vm_ids.specs.Ids.{IsOfRange, held_count, held_ids}
+use Rattle.vm_addresses.specs.Address.{AddressState}
+use Rattle.vm_ids.specs.Ids.{IdState, IsOfRange, held_count, held_ids}
 use Rattle.vm_ids.specs.declared.id_request.IdRequest.{IdRequest}
 use Rattle.vm_ids.specs.declared.id_request.IdRequest.TheVariants.{Lowest, Exact}
 use Rattle.vm_ranges.specs.declared.error.Error.{Error}
@@ -119,6 +120,22 @@ pub record WrittenManagersAreRead : Type 0 where
   pub read : (state : DeviceState) (answer : Result DeviceState SavedError) → IsDeviceState state →
       MakesOfDevices 1 state.ids state.space (device_list state) answer →
       (answer ≡ Ok state) ⊎ (answer ≡ Err saved_errors.OutOfMemory)
+
+-- `push` and `from_devices` have one result for the same arguments, unless memory runs out. A device that is not in order,
+-- and a version that is not 1, is never out of memory.
+pub record PartsDecideManagers : Type 0 where
+  pub pushed : (old new newer : List DeviceSlot) (device : DeviceSlot) (answer other : Result (Unit {0}) SavedError) →
+      answer ≢ Err saved_errors.OutOfMemory → other ≢ Err saved_errors.OutOfMemory →
+      PushesDevice old device answer new → PushesDevice old device other newer → (answer ≡ other) × (new ≡ newer)
+  pub refused : (old new newer : List DeviceSlot) (device : DeviceSlot) (other : Result (Unit {0}) SavedError) →
+      PushesDevice old device (Err saved_errors.OutOfMemory) new → PushesDevice old device other newer →
+      (new ≡ old) × ((other ≡ Ok tt) ⊎ (other ≡ Err saved_errors.OutOfMemory))
+  pub made : (version : ℕ) (ids : IdState) (space : AddressState) (devices : List DeviceSlot)
+      (answer other : Result DeviceState SavedError) →
+      answer ≢ Err saved_errors.OutOfMemory → other ≢ Err saved_errors.OutOfMemory →
+      MakesOfDevices version ids space devices answer → MakesOfDevices version ids space devices other → answer ≡ other
+  pub version : (version : ℕ) (ids : IdState) (space : AddressState) (devices : List DeviceSlot) →
+      MakesOfDevices version ids space devices (Err saved_errors.OutOfMemory) → version ≡ 1
 
 -- Managers are equal if and only if their ids, their spaces and the lists of their devices are.
 abbrev pub EqualManagersHaveEqualParts : Type 0

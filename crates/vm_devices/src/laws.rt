@@ -13,6 +13,7 @@ ghost use Rattle.vm_devices.specs.Laws.{
   ManagerIsReadFromText,
   DevicesAreListed,
   WrittenManagersAreRead,
+  PartsDecideManagers,
   EqualManagersHaveEqualParts,
   DeviceIsAtItsAddresses,
 };
@@ -70,10 +71,12 @@ fn devices_are_listed()
 {}
 
 /// Proves that the ids, the space and the devices of a manager are accepted by `push` and
-/// `from_devices`, and make the same manager. Managers with equal parts are equal.
+/// `from_devices`, and make the same manager. Each part has one result there, unless memory runs out.
+/// Managers with equal parts are equal.
 #[tactic(auto, using(crate::proofs::WrittenManagers::written))]
 fn written_managers_are_read()
     ensures read { WrittenManagersAreRead }
+    ensures decided { PartsDecideManagers }
     ensures equal { EqualManagersHaveEqualParts }
 {}
 

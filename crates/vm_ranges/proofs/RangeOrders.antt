@@ -1,5 +1,5 @@
 -- The order of ranges, and what it means.
-use Rattle.std.proofs.Common.{◌≡◌, ◌<◌, ◌≤◌, ◌⊎◌, refl, sym, ap, ◌∙◌, arith, inl, inr, subst, ⊎_elim}
+use Rattle.std.proofs.Common.{◌≡◌, ◌<◌, ◌≤◌, ◌⊎◌, ℕ, Option, Some, None, refl, sym, ap, ◌∙◌, arith, inl, inr, subst, ⊎_elim}
 use Rattle.std.proofs.lemmas.Bool.{cases_lt}
 use Rattle.std.specs.declared.cmp.Ordering.{Ordering}
 use Rattle.std.specs.declared.cmp.Ordering.TheVariants.{Less, Equal, Greater}
@@ -7,6 +7,7 @@ use Rattle.std.specs.Ordering.{nat_cmp, ordering_then, MatchOrdering}
 use Rattle.std.specs.Cmp.{tied_itself, nat_cmp_is}
 use Rattle.std.proofs.lemmas.Map.Lookups.{CmpEqualImpliesEq, exact_unsigned}
 use Rattle.vm_ranges.specs.Range.{Range, Overlaps, Covers}
+use Rattle.vm_ranges.specs.Making.{IsOffset}
 use Rattle.vm_ranges.specs.RangeOrder.{range_cmp, range_cmp-total, Before}
 use Rattle.vm_ranges.specs.RangeLaws.{RangesAreSets}
 use Rattle.vm_ranges.proofs.RangeCalls.{before_parts, before_by_start, before_by_end, same_range}
@@ -85,7 +86,14 @@ range_cmp-exact a b h =
     same_range a b (exact_unsigned a.start b.start p.0) (exact_unsigned a.end b.end p.1)
 
 -- ---- Ranges as sets of addresses
--- Overlaps is symmetric, Covers is an order, and only equal ranges compare as Equal.
+-- An address has one offset in a range, or none.
+one_offset : (r : Range) (x : ℕ) (answer other : Option ℕ) → IsOffset r x answer → IsOffset r x other → answer ≡ other
+one_offset r x None None h k = refl
+one_offset r x None (Some b) h k = absurd (h k.0)
+one_offset r x (Some a) None h k = absurd (k h.0)
+one_offset r x (Some a) (Some b) h k = let e : a ≡ b = omega (arith, h.1, k.1) in ap (λ (v : ℕ). Some v) e
+
+-- Overlaps is symmetric, Covers is an order, only equal ranges compare as Equal, and offsets are decided.
 pub ranges_are_sets : RangesAreSets
 unfolding Overlaps Covers
 ranges_are_sets = record {
@@ -93,4 +101,5 @@ ranges_are_sets = record {
   reflexive = λ r x i. i;
   transitive = λ r s t c d x i. c x (d x i);
   equal = λ r s. (range_cmp-exact r s, λ e. subst (λ (v : Range). range_cmp r v ≡ Equal) e (tied_itself range_cmp-total r));
+  offset = one_offset;
 }

@@ -2,7 +2,7 @@
 ghost use Rattle.vm_ranges.specs.RangeLaws.{RangesAreSets, HashAgreesWithEquality};
 
 /// Proves that overlapping is symmetric, that containing is reflexive and transitive, and that the
-/// order of ranges agrees with their equality.
+/// order of ranges agrees with their equality, and that an address has one offset or none.
 #[tactic(auto, using(crate::proofs::RangeOrders::ranges_are_sets))]
 fn ranges_are_sets()
     ensures { RangesAreSets }
