@@ -156,7 +156,7 @@ enum {
     DVS_INVALID_SIZE = 12,
     /* Memory ran out. */
     DVS_OUT_OF_MEMORY = 13,
-    /* A pointer is null that must not be. */
+    /* A pointer that must not be null is null. */
     DVS_NULL = 14,
     /* The object is being visited, so it cannot be changed or destroyed. */
     DVS_BUSY = 15,
@@ -207,9 +207,9 @@ typedef struct dvs_refusal {
  */
 enum {
     /*
-     * There is no cause. The call has no conflict, another error or no free id, it has no
-     * given start and a window with addresses of the space, or the range to move is not
-     * allocated.
+     * There is no cause. The call has no conflict, another error or no free id, or the range
+     * to move is not allocated. Or no start is given, and the window has addresses of the
+     * space.
      */
     DVS_CAUSE_NONE = 0,
     /* An address is allocated. `other` is the lowest allocated range that has one. */

@@ -40,7 +40,7 @@ numbers! { STATUSES:
     DVS_UNDERFLOW = 11, "The size of a space is 0.";
     DVS_INVALID_SIZE = 12, "The size of a requested range is 0.";
     DVS_OUT_OF_MEMORY = 13, "Memory ran out.";
-    DVS_NULL = 14, "A pointer is null that must not be.";
+    DVS_NULL = 14, "A pointer that must not be null is null.";
     DVS_BUSY = 15, "The object is being visited, so it cannot be changed or destroyed.";
     DVS_NOT_JSON = 16, "The text is not JSON.";
     DVS_NOT_A_STATE = 17, "The text is JSON, but does not encode an object of the type.";
