@@ -11,7 +11,7 @@ use divsharun::AllocPolicy::{ExactMatch, FirstMatch, LastMatch};
 use divsharun::Strict;
 use divsharun::{
     AddressAllocator, Conflict, Constraint, DeviceManager, DeviceSlot, Error, IdAllocator,
-    RangeInclusive,
+    IdRequest, RangeInclusive,
 };
 use processor::processor_time;
 use std::cmp::Ordering;
@@ -30,7 +30,7 @@ const ROUNDS: usize = 5;
 type Calls<O> = fn(&mut O, u64) -> bool;
 
 /// Every second address is allocated.
-const OF_SPACES: [Calls<AddressAllocator>; 18] = [
+const OF_SPACES: [Calls<AddressAllocator>; 19] = [
     |space, at| space.held_at(at).is_some() && space.gap_at(at + 1).is_some(),
     |space, at| space.holds(&one(at)) && !space.holds(&one(at + 1)),
     |space, _| space.held_count() == space.gap_count() && space.free_len() == space.gap_count(),
@@ -58,6 +58,13 @@ const OF_SPACES: [Calls<AddressAllocator>; 18] = [
     |space, at| {
         let moved = space.move_range(&one(at), at + 1);
         space.move_constraint(&moved.unwrap(), exact(at)) == Ok(one(at))
+    },
+    |space, at| {
+        // A range grows over the gap behind it, and shrinks again.
+        let both = Constraint::new(2, 1, ExactMatch(at)).unwrap();
+        let grown = space.move_constraint(&one(at), both).unwrap();
+        space.move_conflict(&grown, exact(at + 2)).is_some()
+            && space.move_constraint(&grown, exact(at)) == Ok(one(at))
     },
     |space, at| {
         let in_window = Constraint::new(1, 1, LastMatch).unwrap().within(from(at));
@@ -217,7 +224,7 @@ const OF_LISTS: [Calls<IdAllocator>; 5] = [
 ];
 
 /// Each device has two addresses, and two are free.
-const OF_DEVICES: [Calls<DeviceManager>; 7] = [
+const OF_DEVICES: [Calls<DeviceManager>; 8] = [
     |devices, at| devices.slot(at as u32).is_some() && devices.device_at(2 * at).is_some(),
     |devices, at| devices.device_count() > at && devices.conflict(exact(2 * at)).is_some(),
     |devices, at| devices.space().contains_address(at),
@@ -238,6 +245,16 @@ const OF_DEVICES: [Calls<DeviceManager>; 7] = [
             && devices.try_reserve_constraint(whole.unwrap()) == Ok(DeviceSlot { id, range })
     },
     |devices, at| {
+        let id = at as u32;
+        let range = devices.slot(id).unwrap();
+        let [half, whole] =
+            [1, 2].map(|size| Constraint::new(size, 1, ExactMatch(range.start())).unwrap());
+        devices.move_constraint(id, half).is_ok()
+            && devices.move_constraint(id, whole) == Ok(range)
+            && devices.release(id) == Ok(())
+            && devices.reserve_with_id(IdRequest::Exact(id), whole) == Ok(DeviceSlot { id, range })
+    },
+    |devices, at| {
         let rest = devices.space().end() - 2 * at;
         let wide = Constraint::new(rest, 1, ExactMatch(2 * at)).unwrap();
         let window = from(2 * at + 1);
@@ -247,9 +264,10 @@ const OF_DEVICES: [Calls<DeviceManager>; 7] = [
 ];
 
 /// Two equal managers. The calls go through all of their devices.
-const OF_MANAGERS: [Calls<[DeviceManager; 2]>; 3] = [
+const OF_MANAGERS: [Calls<[DeviceManager; 2]>; 4] = [
     |[one, other], _| one == other && one.clone() == other.try_clone().unwrap(),
     |[one, _], _| one.devices().rev().count() == one.iter().count(),
+    |[one, other], _| one.addresses() == other.addresses() && one.ids() == other.ids(),
     |[one, _], _| {
         let high_first = items(one.devices().rev());
         let released = high_first
@@ -274,7 +292,7 @@ const OF_SAVED: [Calls<(AddressAllocator, IdAllocator, DeviceManager)>; 5] = [
         bytes.map(Result::unwrap)
             == [packed::to_bytes(space), packed::to_bytes(devices)].map(Result::unwrap)
     },
-    // The table begins at its highest id.
+    // The device with the highest id is read first.
     |(_, _, devices), _| {
         let (mut high, last) = (devices.clone(), devices.device_count() as u32 - 1);
         let released = (0..last).all(|id| high.release(id) == Ok(()));

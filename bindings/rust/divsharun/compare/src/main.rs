@@ -59,8 +59,8 @@ fn seed_of_the_clock() -> u64 {
     now.map_or(1, |time| time.as_nanos() as u64)
 }
 
-/// Measures the libraries and compares their results. Prints nanoseconds per call of divsharun, and the
-/// times of `vm-allocator` and of an ordered map divided by it.
+/// Measures the libraries and compares their results. Prints nanoseconds per call of divsharun, and
+/// those of `vm-allocator` and of an ordered map.
 fn measure(tally: &mut Tally) {
     println!("| call | 10 | 100 | 1,000 | 10,000 | 100,000 ranges |\n|---|---|---|---|---|---|");
     let devices = [10, 100, 1_000, 10_000, 100_000].map(Devices::new);
@@ -80,7 +80,7 @@ fn measure(tally: &mut Tally) {
 
 fn measure_call(call: Call, cache: Cache, devices: &Devices, tally: &mut Tally) -> String {
     let port = devices.measure::<Port>(call, cache, ROUNDS);
-    let ratios = [
+    let [rust, plain] = [
         devices.measure::<Rust>(call, cache, ROUNDS),
         devices.measure::<Plain>(call, cache, ROUNDS),
     ]
@@ -90,19 +90,18 @@ fn measure_call(call: Call, cache: Cache, devices: &Devices, tally: &mut Tally) 
                 tally.unnamed_difference(&format!("{call}: {answer:?} and {port_answer:?}"));
             }
         }
-        format!("{:.1}", other.nanoseconds / port.nanoseconds)
+        other.nanoseconds
     });
-    format!("{:.0} ns ({})", port.nanoseconds, ratios.join(", "))
+    format!("{:.0} ({rust:.0}, {plain:.0})", port.nanoseconds)
 }
 
-/// Returns the bytes of a space per allocated range, and those of the others divided by them.
+/// Returns the bytes of a space per allocated range, and those of the others.
 fn bytes_per_range(devices: &Devices) -> String {
-    let bytes = [
+    let [port, rust, plain] = [
         peak_of(|| devices.full::<Port>()).1,
         peak_of(|| devices.full::<Rust>()).1,
         peak_of(|| devices.full::<Plain>()).1,
     ]
     .map(|bytes| bytes as f64 / devices.count() as f64);
-    let [port, rust, plain] = bytes;
-    format!("{port:.0} ({:.1}, {:.1})", rust / port, plain / port)
+    format!("{port:.0} ({rust:.0}, {plain:.0})")
 }
