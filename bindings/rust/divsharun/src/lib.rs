@@ -94,7 +94,7 @@
 //! # Costs
 //!
 //! Let k be the number of allocated ranges. Allocating, moving and freeing a range takes time of the
-//! order of log k, and so do `conflict`, `holds`, `held_at` and `gap_at`. An alignment can make the
+//! order of log k, and so do `conflict`, `move_conflict`, `holds`, `held_at` and `gap_at`. An alignment can make the
 //! search for a range visit more gaps. A walk within a range takes time of the order of log k, plus the
 //! number of ranges and gaps in it. Calls on one id or device take logarithmic time. If such a call makes
 //! the list of freed ids or of devices longer, it can also move the list, in linear time.
