@@ -497,7 +497,7 @@ impl AddressAllocator {
     /// An error changes nothing. In this order:
     /// - `ResourceNotAvailable` if exactly `key` is not allocated.
     /// - `Overflow`, `ResourceNotAvailable` or `InvalidStateTransition`, if `allocate_constraint` returns
-    ///   that error when `key` is free.
+    ///   that error if `key` is free.
     ///
     /// # Example
     ///

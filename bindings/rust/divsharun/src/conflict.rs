@@ -5,7 +5,8 @@ use core::fmt;
 
 /// The reason why the range of a request is not free.
 ///
-/// [`AddressAllocator::conflict`](crate::AddressAllocator::conflict) and
+/// [`AddressAllocator::conflict`](crate::AddressAllocator::conflict),
+/// [`AddressAllocator::move_conflict`](crate::AddressAllocator::move_conflict) and
 /// [`DeviceManager::conflict`](crate::DeviceManager::conflict) return it.
 ///
 /// `Display` writes all numbers in hexadecimal. A `match` needs an arm for the reasons of later

@@ -106,7 +106,7 @@
 //! inner node of 56 bytes joins two subtrees. A tree that is one leaf can have fewer. Allocating or moving
 //! a range allocates a leaf and an inner node if its leaf would have more than 32, and otherwise nothing,
 //! and `allocate_all` also three lists. A copy allocates all leaves and nodes, `with_held` also a list, and
-//! `with_free` two. `reserve` and freeing, skipping or copying ids can allocate.
+//! `with_free` two. Reserving or moving a device and freeing, skipping or copying ids can allocate.
 //!
 //! # Threads
 //!
