@@ -62,13 +62,12 @@
  * takes time of the order of log k, plus the number of allocated ranges and gaps up to
  * where it ends.
  *
- * Calls on one id or device take logarithmic time too. If such a call makes the list
- * of freed ids or of devices longer, it can also move the list, in linear time.
- * dvs_id_allocate_exact(), dvs_id_allocate_in() and dvs_device_reserve_with_id() add each
- * id that they skip to the freed ones. Counts, dvs_longest_gap() and the ends of a space or of a
- * range of ids take constant time. Allocating an array takes the time of each request or id. All
- * other calls take time at most linear in the size of the object, the array or the
- * text.
+ * Calls on one id, device or range of a map take logarithmic time too, also if they skip
+ * ids. If such a call makes the list of freed ids, of devices or of values longer, it can
+ * also move the list, in linear time. Counts, dvs_longest_gap() and the ends of a space or
+ * of a range of ids take constant time. Allocating an array takes the time of each request
+ * or id. All other calls take time at most linear in the size of the object, the array or
+ * the text.
  *
  * Stack. 64 KiB are enough for every call.
  *
@@ -231,6 +230,12 @@ typedef struct dvs_device {
     uint32_t id;
 } dvs_device;
 
+/* An allocated range of a map, and its value. */
+typedef struct dvs_valued_range {
+    dvs_range range;
+    uint64_t value;
+} dvs_valued_range;
+
 /* The range that a request gets if several fit. */
 enum {
     /* The lowest range. */
@@ -299,6 +304,9 @@ typedef struct dvs_id_allocator dvs_id_allocator;
 
 /* Allocates an id and a range for each device. If it cannot have both, it gets neither. */
 typedef struct dvs_device_manager dvs_device_manager;
+
+/* Allocates ranges of addresses, and keeps a value of the caller with each. */
+typedef struct dvs_range_map dvs_range_map;
 
 /*
  * Returns the name of a status, such as "DVS_OVERFLOW". This and the two texts below are
@@ -788,8 +796,8 @@ dvs_status dvs_id_allocator_new(uint32_t first, uint32_t last, dvs_id_allocator 
 /*
  * Creates an allocator for the ids from `first` to `last`, both included, with
  * the `count` ids of `held` allocated. They must be in ascending order. The
- * array can be null if `count` is 0. Time and memory are linear in the last of
- * these ids minus `first`.
+ * array can be null if `count` is 0. It takes memory for each run of ids that
+ * they skip, however long the run is.
  *
  * Errors, in order:
  * - DVS_INVALID_RANGE, with both ids, if `last` is less than `first`.
@@ -823,8 +831,9 @@ dvs_status dvs_id_allocate(dvs_id_allocator *allocator, uint32_t *id);
 
 /*
  * Allocates this id. Unused ids below it become freed ids, as if they had been
- * allocated and freed. Time and memory are linear in their number, and no memory
- * is allocated if there are none.
+ * allocated and freed. They take one entry, however many they are. Memory is
+ * allocated only if there are some, or if the ids right below and right above the
+ * id are both freed ids.
  *
  * Errors, in order:
  * - DVS_OUT_OF_RANGE, with the id, if it is not between the first and the last.
@@ -1104,6 +1113,100 @@ DVS_WARN_UNUSED
 dvs_status dvs_device_manager_read_within(const char *text, size_t length,
                                           const dvs_text_limits *limits,
                                           dvs_device_manager **manager, dvs_text_fault *fault);
+
+/* ---- Maps from ranges to values ---- */
+
+/*
+ * Creates a map of the `size` addresses starting at `base`, all of them free. Destroy it
+ * with dvs_range_map_destroy().
+ *
+ * Errors, in order:
+ * - DVS_UNDERFLOW if `size` is 0.
+ * - DVS_OVERFLOW if the last address would be past UINT64_MAX.
+ * - DVS_OUT_OF_MEMORY.
+ */
+DVS_WARN_UNUSED
+dvs_status dvs_range_map_new(uint64_t base, uint64_t size, dvs_range_map **map);
+
+/*
+ * Destroys a map, with all its allocated ranges, like dvs_address_allocator_destroy(). If
+ * values are pointers, visit the map first to free what they point to.
+ */
+dvs_status dvs_range_map_destroy(dvs_range_map *map);
+
+/* Writes the first and the last address of the space to `space`. Errors: DVS_NULL. */
+DVS_WARN_UNUSED
+dvs_status dvs_range_map_space(const dvs_range_map *map, dvs_range *space);
+
+/*
+ * Allocates the range of `request` like dvs_range_allocate(), with the same errors. It
+ * keeps `value` with the range, which is any number, such as a pointer as a uintptr_t. Free
+ * the range with dvs_range_map_free().
+ */
+DVS_WARN_UNUSED
+dvs_status dvs_range_map_allocate(dvs_range_map *map, uint64_t value, const dvs_request *request,
+                                  dvs_range *range, dvs_refusal *refusal);
+
+/*
+ * Frees an allocated range, and writes its value to `value`. It does not allocate memory.
+ *
+ * Errors, in order:
+ * - DVS_INVALID_RANGE if `range` is not a valid range.
+ * - DVS_RESOURCE_NOT_AVAILABLE if exactly this range is not allocated.
+ */
+DVS_WARN_UNUSED
+dvs_status dvs_range_map_free(dvs_range_map *map, dvs_range range, uint64_t *value,
+                              dvs_refusal *refusal);
+
+/*
+ * Moves an allocated range like dvs_range_move_request(), with the same errors. The range
+ * keeps its value.
+ */
+DVS_WARN_UNUSED
+dvs_status dvs_range_map_move(dvs_range_map *map, dvs_range range, const dvs_request *request,
+                              dvs_range *moved, dvs_refusal *refusal);
+
+/*
+ * Writes the allocated range that contains the address, and its value, to `found`.
+ *
+ * Errors: DVS_RESOURCE_NOT_AVAILABLE if no allocated range contains it.
+ */
+DVS_WARN_UNUSED
+dvs_status dvs_range_map_get(const dvs_range_map *map, uint64_t address, dvs_valued_range *found);
+
+/*
+ * Replaces the value of the allocated range that contains the address, and writes the value
+ * before to `before`. It does not allocate memory.
+ *
+ * Errors: DVS_RESOURCE_NOT_AVAILABLE if no allocated range contains it.
+ */
+DVS_WARN_UNUSED
+dvs_status dvs_range_map_set(dvs_range_map *map, uint64_t address, uint64_t value,
+                             uint64_t *before);
+
+/* Writes the number of allocated ranges to `count`, in constant time. Errors: DVS_NULL. */
+DVS_WARN_UNUSED
+dvs_status dvs_range_map_count(const dvs_range_map *map, uint64_t *count);
+
+/* The function that dvs_range_map_visit() calls for each range. It has the rules of
+ * dvs_range_visitor. */
+typedef int dvs_valued_range_visitor(void *context, dvs_valued_range found);
+
+/* Visits the allocated ranges with their values in ascending order, like dvs_range_visit(). */
+dvs_status dvs_range_map_visit(const dvs_range_map *map, dvs_valued_range_visitor *visitor,
+                               void *context);
+
+/* Creates a copy of the map, like dvs_address_allocator_copy(). */
+DVS_WARN_UNUSED
+dvs_status dvs_range_map_copy(const dvs_range_map *map, dvs_range_map **copied);
+
+/*
+ * Writes to `are_equal` whether both maps have the same space and the same allocated ranges
+ * with the same values. It does not allocate memory. Errors: DVS_NULL.
+ */
+DVS_WARN_UNUSED
+dvs_status dvs_range_map_equal(const dvs_range_map *one, const dvs_range_map *other,
+                               bool *are_equal);
 
 /* ---- Texts ---- */
 

@@ -252,6 +252,7 @@ class request {
 
     friend class address_allocator;
     friend class device_manager;
+    friend class range_map;
     /* Returns the request for one call of C. It points to the window of this object. */
     dvs_request for_call() const noexcept { return {size, alignment, start, policy, &window}; }
 
@@ -605,6 +606,50 @@ class device_manager : public owner<dvs_device_manager, dvs_device_manager_destr
     }
     template <typename Action> error for_each(Action action) const {
         return visit_by<dvs_device>(dvs_device_visit, std::move(action));
+    }
+};
+
+/* A map is not saved. */
+class range_map : public owner<dvs_range_map, dvs_range_map_destroy, dvs_range_map_copy,
+                               dvs_range_map_equal, nullptr, nullptr> {
+    using object = dvs_range_map;
+
+  public:
+    void read() = delete;
+    void save() = delete;
+    error make(uint64_t base, uint64_t size) noexcept {
+        return create([=](object **out) { return dvs_range_map_new(base, size, out); });
+    }
+    error allocate(uint64_t value, const request &asked, dvs_range &range,
+                   dvs_refusal *refusal = nullptr) noexcept {
+        const dvs_request one = asked.for_call();
+        return code(dvs_range_map_allocate(get(), value, &one, &range, refusal));
+    }
+    error free(dvs_range range, uint64_t &value, dvs_refusal *refusal = nullptr) noexcept {
+        return code(dvs_range_map_free(get(), range, &value, refusal));
+    }
+    error move(dvs_range range, const request &asked, dvs_range &moved,
+               dvs_refusal *refusal = nullptr) noexcept {
+        const dvs_request one = asked.for_call();
+        return code(dvs_range_map_move(get(), range, &one, &moved, refusal));
+    }
+    error at(uint64_t address, dvs_valued_range &found) const noexcept {
+        return code(dvs_range_map_get(get(), address, &found));
+    }
+    error set(uint64_t address, uint64_t value, uint64_t &before) noexcept {
+        return code(dvs_range_map_set(get(), address, value, &before));
+    }
+    error space(dvs_range &space) const noexcept {
+        return code(dvs_range_map_space(get(), &space));
+    }
+    error range_count(uint64_t &count) const noexcept {
+        return code(dvs_range_map_count(get(), &count));
+    }
+    error ranges(std::vector<dvs_valued_range> &ranges) const {
+        return list_by(dvs_range_map_visit, ranges);
+    }
+    template <typename Action> error for_each(Action action) const {
+        return visit_by<dvs_valued_range>(dvs_range_map_visit, std::move(action));
     }
 };
 

@@ -4,8 +4,8 @@ the prover uses.
 
     erase.py PROJECT OUT [--tests]
 
-PROJECT/crates.txt names the crates and their dependencies. Each library that a program needs is written to
-OUT/NAME, and the module of all of them is OUT/mod.rs. The crate has it as `proved`, and `rattle` next to it.
+PROJECT/crates.txt names the crates and their dependencies. Each library that a program or a caller needs is
+written to OUT/NAME, and the module of all of them is OUT/mod.rs. The crate has it as `proved`, and `rattle` next to it.
 Of a file that imports serde_json, only the modules are written. With --tests, every library is written as a
 whole, with its tests, and the crate also needs the modules `testing` and `value`.
 
@@ -25,9 +25,6 @@ FOLDERS = {
     "std": ("core", {"mem"}),
     "std::alloc": ("crate::rattle", {"AllocError", "AllocFailed", "Global"}),
     "std::cmp": ("core::cmp", {"Ordering"}),
-    "std::collections": ("crate::rattle", {"BTreeMap", "BTreeSet"}),
-    "std::collections::btree_map": ("crate::rattle::btree_map", {"Iter"}),
-    "std::collections::btree_set": ("crate::rattle::btree_set", {"Iter"}),
     "std::io": ("std::io", {"Read", "Write"}),
     "std::marker": (None, {"Model"}),
     "std::result": ("core::result", {"Result"}),
@@ -46,16 +43,18 @@ LIBRARIES = {folder.split("::")[0] for folder in FOLDERS}
 # Libraries whose items only proved modules can use. They alone can also use a public function of another library
 # that has a precondition.
 INNER = {"vm_chunks", "vm_leaf", "vm_tree"}
+# Libraries that callers in Rust and C need, and no program.
+FOR_CALLERS = {"vm_range_map"}
 # Names of Rattle's prelude that Rust's prelude does not have or defines differently. `rattle` has them.
 PRELUDE = {"Box", "Vec"}
 # Names of both preludes, and further names of libraries.
 NAMES = {"Err", "None", "Ok", "Option", "Result", "Some"}
 NUMBERS = {"u8", "u32", "u64", "u128", "usize"}
 ASSOCIATED = {
-    "BTreeMap::new", "BTreeSet::new", "Box::new", "Ord::cmp",
+    "Box::new", "Ord::cmp",
     "Ordering::Equal", "Ordering::Greater", "Ordering::Less", "Value::Null", "Value::as_u64", "Value::from",
     "Value::try_from_str", "Vec::new", "Vec::with_capacity", "mem::replace", "u128::from", "u32::MAX", "u32::try_from",
-    "u64::MAX", "u64::from", "u8x16::from_slice", "u8x16::splat",
+    "u64::MAX", "u64::from", "usize::MAX", "usize::from", "u8x16::from_slice", "u8x16::splat",
 }
 # Methods of types of other crates. Each was compared with the method of Rust.
 METHODS = set("""and_then as_array as_object as_slice as_str as_u64 checked_add checked_mul clone cmp contains
@@ -471,7 +470,7 @@ class File(Tokens):
 
     def trait(self, item):
         """Reads a trait of values that are copied: functions without bodies."""
-        self.crate.traits.add(self.define(item.keyword + 1, self.crate.names))
+        self.define(item.keyword + 1, self.crate.names)
         self.refuse_if(not self.at(item.keyword + 2, ":", "Copy", "{"), "a trait of this form", item.keyword)
         return self.items(item.keyword + 5, "trait") + 1, True
 
@@ -713,7 +712,9 @@ class Crate:
         self.folder = os.path.join(project.folder, "crates", name, "src")
         self.asks_for_std = False
         self.root = os.path.join(self.folder, "lib.rt")
-        self.names, self.functions, self.traits = set(), set(), set()
+        self.names, self.functions = set(), set()
+        text = pathlib.Path(self.root).read_text(encoding="utf-8") if os.path.exists(self.root) else ""
+        self.traits = set(re.findall(r"^pub trait (\w+)", text, re.M))  # also modules before it implement them
         self.guarded = set()  # types with ghosts
         self.files, self.of_values = {}, set()  # of_values: files that import serde_json, without `.rt`
         self.files[self.root] = File(self, self.root, of_tests)
@@ -742,7 +743,7 @@ class Crate:
 
 
 class Project:
-    """The crates of a project. The libraries that programs need are written, or with tests all libraries."""
+    """The crates of a project. The libraries that are needed are written, or with tests all libraries."""
 
     def __init__(self, folder, with_tests=False):
         self.folder, self.with_tests = os.path.abspath(folder), with_tests
@@ -750,7 +751,7 @@ class Project:
         lines = [line.split(":") for line in table if line.strip() and not line.startswith("#")]
         self.libraries = {name.strip(): set(below.split()) - LIBRARIES for name, below in lines}
         programs = {name for name in self.libraries if not os.path.exists(f"{folder}/crates/{name}/src/lib.rt")}
-        direct = {below for name in programs for below in self.libraries[name]}
+        direct = FOR_CALLERS.intersection(self.libraries).union(*(self.libraries[name] for name in programs))
         self.needed, self.crates = direct.union(*(self.libraries[name] for name in direct)), {}
         for name in sorted((set(self.libraries) if with_tests else self.needed) - programs):
             self.crate(name)

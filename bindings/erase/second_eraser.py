@@ -21,7 +21,7 @@ CHANGED = [
     (r"pub\(crate\)", "pub(in crate::proved::NAME)"),
     (r"\bcrate::(?!proved)", "crate::proved::NAME::"),
     (r"(?<![\w:])(vm_\w+)::", r"crate::proved::\1::"),
-    (r"\b(std::alloc|std::collections)::", "crate::rattle::"),
+    (r"\bstd::alloc::", "crate::rattle::"),
     (r"\bstd::(cmp|mem|result)\b", r"core::\1"),
     (r"\bstd::simd::prelude::", "crate::rattle::simd::"),
     (r"(?m)(^ *(?:(?:pub(?:\(\w+\))? )?fn \w+|impl)<.*?): Drop(?=[,>])", r"\1"),

@@ -20,6 +20,7 @@ mod handle;
 mod ids;
 mod json;
 mod lists;
+mod maps;
 mod objects;
 // The eraser writes it. The library calls a part of it.
 #[allow(dead_code)]

@@ -1,10 +1,10 @@
 // SPDX-License-Identifier: Apache-2.0 OR BSD-3-Clause
 //! The calls that each kind of object has.
 
-/// Defines the calls that destroy, copy, compare, save and read objects of one kind.
+/// Defines the calls that destroy, copy and compare objects of one kind, and those that save and read them if
+/// there are any.
 macro_rules! object_calls {
-    ($handle:ident: $destroy:ident, $copy:ident, $equal:ident, $save:ident by $saver:expr,
-        $($read:ident, $read_within:ident by $reader:expr);+) => {
+    ($handle:ident: $destroy:ident, $copy:ident, $equal:ident) => {
         /// # Safety
         ///
         /// The object is null or from a call that creates one, and is not used after `DVS_OK`.
@@ -21,6 +21,13 @@ macro_rules! object_calls {
             with_ref $equal(one: $handle, other: Option<&$handle>) -> are_equal: bool {
                 Ok(one == $crate::handle::non_null(other)?.get())
             }
+        }
+    };
+    ($handle:ident: $destroy:ident, $copy:ident, $equal:ident, $save:ident by $saver:expr,
+        $($read:ident, $read_within:ident by $reader:expr);+) => {
+        $crate::objects::object_calls! { $handle: $destroy, $copy, $equal }
+
+        $crate::objects::calls! {
             with_ref $save(object: $handle, text: $crate::Out<*mut core::ffi::c_char>)
                 -> length: usize {
                 $crate::texts::save(text, || $saver(object))

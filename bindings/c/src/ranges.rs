@@ -4,7 +4,7 @@
 use crate::handle::{found, Handle};
 use crate::objects::{calls, functions, object_calls, visits};
 use crate::proved::vm_addresses::{
-    AddressAllocator, AllocPolicy, Constraint, RangeInclusive, Result as Answer,
+    AddressAllocator, AllocPolicy, Constraint, Error, RangeInclusive, Result as Answer,
 };
 use crate::rattle::Global;
 use crate::requests::{refused, refused_by};
@@ -50,7 +50,7 @@ fn allocate_request(
         .map_err(|error| refused(allocator, request, error, wants_details))
 }
 
-/// Moves a range by a request. If the range is not allocated, no other one is in the way.
+/// Moves a range by a request.
 fn move_by(
     space: &mut AddressAllocator,
     range: &RangeInclusive,
@@ -58,15 +58,23 @@ fn move_by(
     wants_details: bool,
 ) -> Result<dvs_range, CallError> {
     let moved = space.move_constraint(Global, range, request);
-    moved.map(Into::into).map_err(|error| {
-        let wants_details = wants_details && space.holds(range);
-        refused_by(
-            || space.move_conflict(range, request),
-            request,
-            error,
-            wants_details,
-        )
-    })
+    moved
+        .map(Into::into)
+        .map_err(|error| refused_move(space, range, request, error, wants_details))
+}
+
+/// Returns the error of a refused move. If the range is not allocated, no other one is in the way.
+#[cold]
+pub(crate) fn refused_move(
+    space: &AddressAllocator,
+    range: &RangeInclusive,
+    request: Constraint,
+    error: Error,
+    wants_details: bool,
+) -> CallError {
+    let wants_details = wants_details && space.holds(range);
+    let conflict = || space.move_conflict(range, request);
+    refused_by(conflict, request, error, wants_details)
 }
 
 fn move_to(

@@ -15,7 +15,7 @@
 /* Checks the saved text of an object. */
 static void is_saved_as(int group, void *object, const char *text) {
     prepare();
-    CHECK(make_call(groups[group].visits - 1, object, bad) == DVS_OK);
+    CHECK(make_call(groups[group].copy + 1, object, bad) == DVS_OK);
     CHECK(strcmp(results.text, text) == 0 && strlen(text) == results.length);
     dvs_text_destroy(results.text);
 }
@@ -480,9 +480,10 @@ static void reserve_given_ids(void) {
 /* ---- Null pointers, visits and copies ---- */
 
 /* An object of each group, with two ranges, gaps, ids or devices. */
-static void *objects[3];
+static void *objects[GROUPS];
 
 static void make_objects(void) {
+    static const dvs_request lowest = {1, 1, 0, DVS_FIRST, NULL};
     dvs_device device;
     int i;
 
@@ -490,35 +491,38 @@ static void make_objects(void) {
     CHECK(dvs_address_allocator_new(0, 4, &results.space) == DVS_OK);
     CHECK(dvs_id_allocator_new(0, 4, &results.ids, NULL) == DVS_OK);
     CHECK(dvs_device_manager_new(0, 3, 0, 4, &results.manager, NULL) == DVS_OK);
+    CHECK(dvs_range_map_new(0, 4, &results.map) == DVS_OK);
     for (i = 0; i < 2; i++) {
         CHECK(dvs_range_allocate_first(results.space, 1, 2, &device.range, NULL) == DVS_OK);
         CHECK(dvs_id_allocate(results.ids, &device.id) == DVS_OK);
         CHECK(dvs_device_reserve_first(results.manager, 1, 1, &device, NULL) == DVS_OK);
+        CHECK(dvs_range_map_allocate(results.map, 7, &lowest, &device.range, NULL) == DVS_OK);
     }
-    for (i = 0; i < 3; i++)
+    for (i = 0; i < GROUPS; i++)
         objects[i] = created(i);
 }
 
 /* Changes and destroys the objects. */
 static void use_objects(void) {
-    static const struct step steps[3][2] = {
+    static const struct step steps[GROUPS][2] = {
         {{FREE, {0, 0}, SUCCEEDS}, {DESTROY_SPACE, {0}, SUCCEEDS}},
         {{FREE_ID, {0}, SUCCEEDS}, {DESTROY_IDS, {0}, SUCCEEDS}},
         {{RELEASE, {0}, SUCCEEDS}, {DESTROY_MANAGER, {0}, SUCCEEDS}},
+        {{MAP_FREE, {0, 0}, GETS_NUMBER(7)}, {DESTROY_MAP, {0}, SUCCEEDS}},
     };
     int group;
 
-    for (group = 0; group < 3; group++)
+    for (group = 0; group < GROUPS; group++)
         run(objects[group], ROWS(steps[group]));
 }
 
 /* Gives null for the object, for each result, and for the other pointers. */
 static void give_null(void) {
     static const int with_pointers[] = {
-        WITH_RANGES,  WITH_FREE,    WITH_IDS,      READ_SPACE, REPAIR_SPACE,    READ_IDS,
-        READ_MANAGER, SPACE_WITHIN, REPAIR_WITHIN, IDS_WITHIN, MANAGER_WITHIN,  MOVE_REQUEST,
-        REQUEST,      LIST,         CONFLICT,      RESERVE,    RESERVE_WITH_ID, DEVICE_CONFLICT,
-        EQUAL_SPACE,  EQUAL_IDS,    EQUAL_MANAGERS};
+        WITH_RANGES,  WITH_FREE,    WITH_IDS,       READ_SPACE, REPAIR_SPACE,    READ_IDS,
+        READ_MANAGER, SPACE_WITHIN, REPAIR_WITHIN,  IDS_WITHIN, MANAGER_WITHIN,  MOVE_REQUEST,
+        REQUEST,      LIST,         CONFLICT,       RESERVE,    RESERVE_WITH_ID, DEVICE_CONFLICT,
+        EQUAL_SPACE,  EQUAL_IDS,    EQUAL_MANAGERS, EQUAL_MAPS, MAP_ALLOCATE,    MAP_MOVE};
     static const struct arguments none = {true, true, NULL,   NULL, NULL, NULL,
                                           NULL, 5,    {4, 1}, NULL, false};
     size_t i;
@@ -537,7 +541,8 @@ static void give_null(void) {
             refuse(call, objects[group_of(call)], DVS_NULL);
         given.has_result = true;
         given.has_second = false;
-        if (call == group->visits - 1 || call == ID_ENDS || call == DEVICE_IDS)
+        if ((call == group->copy + 1 && call < group->visits) || call == ID_ENDS ||
+            call == DEVICE_IDS)
             refuse(call, objects[group_of(call)], DVS_NULL);
     }
     given = none;
@@ -627,13 +632,15 @@ static int keep_object(void *context) {
             refuse(call, object, DVS_NULL);
     }
     given = usual;
-    for (call = group->queries; call < group->visits - 3; call++)
+    for (call = group->queries; call < group->copy - 1; call++)
         CHECK(copies_part(call) || attempt(call, object, zeros) == status_of_query(call));
     copy = copied(visited, object);
     compare(visited, object, copy, true);
     destroy(visited, copy);
-    CHECK(attempt(group->visits - 1, object, zeros) == DVS_OK);
-    dvs_text_destroy(results.text);
+    if (visited < SAVED_GROUPS) {
+        CHECK(attempt(group->copy + 1, object, zeros) == DVS_OK);
+        dvs_text_destroy(results.text);
+    }
     return *(const int *)context;
 }
 
@@ -645,7 +652,7 @@ static void change_in_visits(void) {
     size_t i;
 
     make_objects();
-    for (visited = 0; visited < 3; visited++)
+    for (visited = 0; visited < GROUPS; visited++)
         for (call = groups[visited].visits; call < groups[visited].end; call++)
             for (i = 0; i < sizeof ends / sizeof ends[0]; i++) {
                 given = usual;
@@ -677,16 +684,20 @@ static const struct {
     {2, 1, {RESERVE_LAST, {1, 1}, GETS_DEVICE(0, 3, 3)}, false},
     {2, 1, {RELEASE, {0}, SUCCEEDS}, false},
     {2, 1, {RESERVE_FIRST, {1, 1}, GETS_DEVICE(0, 0, 0)}, true},
+    {3, 1, {MAP_SET, {1, 8}, GETS_NUMBER(7)}, false},
+    {3, 0, {MAP_SET, {1, 8}, GETS_NUMBER(7)}, true},
+    {3, 1, {MAP_FREE, {1, 1}, GETS_NUMBER(8)}, false},
+    {3, 0, {MAP_FREE, {1, 1}, GETS_NUMBER(8)}, true},
 };
 
 static void copy_objects(void) {
     dvs_address_allocator *longer;
-    void *pairs[3][2];
+    void *pairs[GROUPS][2];
     int group;
     size_t i;
 
     make_objects();
-    for (group = 0; group < 3; group++) {
+    for (group = 0; group < GROUPS; group++) {
         pairs[group][0] = objects[group];
         pairs[group][1] = copied(group, objects[group]);
         compare(group, pairs[group][0], pairs[group][1], true);
@@ -699,7 +710,7 @@ static void copy_objects(void) {
     CHECK(dvs_address_allocator_new(0, 5, &longer) == DVS_OK);
     compare(0, pairs[0][0], longer, false);
     destroy(0, longer);
-    for (group = 0; group < 3; group++) {
+    for (group = 0; group < GROUPS; group++) {
         destroy(group, pairs[group][0]);
         destroy(group, pairs[group][1]);
     }
@@ -1144,7 +1155,7 @@ static void read_again(void) {
 
         given = usual;
         prepare();
-        CHECK(make_call(groups[i % 3].visits - 1, object, bad) == DVS_OK);
+        CHECK(make_call(groups[i % 3].copy + 1, object, bad) == DVS_OK);
         text = results.text;
         give_text(text, results.length, 0);
         prepare();

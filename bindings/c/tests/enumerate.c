@@ -616,6 +616,105 @@ static void look_up_devices(void) {
     dvs_device_manager_destroy(manager);
 }
 
+/* ---- Maps from ranges to values ---- */
+
+static int see_valued(void *context, dvs_valued_range found) {
+    struct seen *seen = (struct seen *)context;
+
+    seen->ids[seen->count] = (uint32_t)found.value;
+    return see_range(context, found.range);
+}
+
+enum map_call { ALLOCATE, FREE, MOVE, GET, SET };
+
+/* Calls of a map of the addresses 16 to 79, the range that is given, and what is returned. */
+static const struct map_row {
+    enum map_call call;
+    dvs_range range;
+    /* The value to keep, the address to look up, or the start to move to. */
+    uint64_t number;
+    dvs_status status;
+    dvs_range expected;
+    uint64_t value;
+} map_rows[] = {
+    {ALLOCATE, {16, 23}, 7, DVS_OK, {16, 23}, 0},
+    {ALLOCATE, {32, 32}, UINT64_MAX, DVS_OK, {32, 32}, 0},
+    {ALLOCATE, {32, 32}, 1, DVS_INVALID_STATE_TRANSITION, {0, 0}, 0},
+    {ALLOCATE, {23, 24}, 1, DVS_RESOURCE_NOT_AVAILABLE, {0, 0}, 0},
+    {ALLOCATE, {80, 80}, 1, DVS_RESOURCE_NOT_AVAILABLE, {0, 0}, 0},
+    {GET, {0, 0}, 16, DVS_OK, {16, 23}, 7},
+    {GET, {0, 0}, 23, DVS_OK, {16, 23}, 7},
+    {GET, {0, 0}, 32, DVS_OK, {32, 32}, UINT64_MAX},
+    {GET, {0, 0}, 24, DVS_RESOURCE_NOT_AVAILABLE, {0, 0}, 0},
+    {GET, {0, 0}, 80, DVS_RESOURCE_NOT_AVAILABLE, {0, 0}, 0},
+    {SET, {20, 0}, 8, DVS_OK, {0, 0}, 7},
+    {SET, {24, 0}, 8, DVS_RESOURCE_NOT_AVAILABLE, {0, 0}, 0},
+    {MOVE, {16, 23}, 26, DVS_RESOURCE_NOT_AVAILABLE, {0, 0}, 0},
+    {MOVE, {16, 23}, 20, DVS_OK, {20, 27}, 0},
+    {MOVE, {16, 23}, 20, DVS_RESOURCE_NOT_AVAILABLE, {0, 0}, 0},
+    {GET, {0, 0}, 27, DVS_OK, {20, 27}, 8},
+    {FREE, {20, 26}, 0, DVS_RESOURCE_NOT_AVAILABLE, {0, 0}, 0},
+    {FREE, {27, 20}, 0, DVS_INVALID_RANGE, {0, 0}, 0},
+    {FREE, {32, 32}, 0, DVS_OK, {0, 0}, UINT64_MAX},
+    {FREE, {32, 32}, 0, DVS_RESOURCE_NOT_AVAILABLE, {0, 0}, 0},
+    {ALLOCATE, {79, 79}, 9, DVS_OK, {79, 79}, 0},
+};
+
+/* Makes a call of the table. */
+static dvs_status make_map_call(dvs_range_map *map, const struct map_row *row,
+                                dvs_valued_range *got) {
+    const uint64_t size = row->range.end - row->range.start + 1;
+    const uint64_t start = row->call == MOVE ? row->number : row->range.start;
+    const dvs_request request = request_of(size, 1, DVS_EXACT, start);
+
+    switch (row->call) {
+    case ALLOCATE:
+        return dvs_range_map_allocate(map, row->number, &request, &got->range, NULL);
+    case FREE:
+        return dvs_range_map_free(map, row->range, &got->value, NULL);
+    case MOVE:
+        return dvs_range_map_move(map, row->range, &request, &got->range, NULL);
+    case GET:
+        return dvs_range_map_get(map, row->number, got);
+    default:
+        return dvs_range_map_set(map, row->range.start, row->number, &got->value);
+    }
+}
+
+static void keep_values(void) {
+    const dvs_request wide = request_of(30, 1, DVS_EXACT, 16);
+    const dvs_request at_its_end = request_of(2, 1, DVS_EXACT, 45);
+    struct seen seen = all_of();
+    dvs_refusal refusal;
+    dvs_range_map *map;
+    dvs_range range;
+    uint64_t count;
+    size_t i;
+
+    CHECK(dvs_range_map_new(16, 64, &map) == DVS_OK);
+    CHECK(dvs_range_map_space(map, &range) == DVS_OK && is_range(range, 16, 79));
+    for (i = 0; i < sizeof map_rows / sizeof map_rows[0]; i++) {
+        const struct map_row *row = &map_rows[i];
+        dvs_valued_range got = {{0, 0}, 0};
+
+        CHECK(make_map_call(map, row, &got) == row->status && got.value == row->value);
+        CHECK(is_range(got.range, row->expected.start, row->expected.end));
+    }
+    CHECK(dvs_range_map_count(map, &count) == DVS_OK && count == 2);
+    CHECK(dvs_range_map_visit(map, see_valued, &seen) == DVS_OK && seen.count == 2);
+    CHECK(seen.ids[0] == 8 && is_range(seen.ranges[0], 20, 27));
+    CHECK(seen.ids[1] == 9 && is_range(seen.ranges[1], 79, 79));
+    CHECK(dvs_range_map_allocate(map, 1, &wide, &range, &refusal) == DVS_RESOURCE_NOT_AVAILABLE);
+    CHECK(refusal.cause == DVS_CAUSE_ALLOCATED && is_range(refusal.other, 20, 27));
+    /* A range is not in the way of its own move. */
+    CHECK(dvs_range_map_move(map, range_of(20, 27), &wide, &range, &refusal) == DVS_OK);
+    CHECK(dvs_range_map_move(map, range_of(79, 79), &at_its_end, &range, &refusal) ==
+          DVS_RESOURCE_NOT_AVAILABLE);
+    CHECK(refusal.cause == DVS_CAUSE_ALLOCATED && is_range(refusal.other, 16, 45));
+    CHECK(dvs_range_map_destroy(map) == DVS_OK && dvs_range_map_destroy(NULL) == DVS_OK);
+    CHECK(dvs_range_map_new(16, 0, &map) == DVS_UNDERFLOW);
+}
+
 int main(void) {
     make_with_ranges();
     refuse_ranges();
@@ -634,6 +733,7 @@ int main(void) {
     visit_ids();
     allocate_several_ids();
     look_up_devices();
+    keep_values();
     CHECK(dvs_version_number() == DVS_VERSION_NUMBER);
     puts("enumerate: every list, look-up and array checked");
     return 0;

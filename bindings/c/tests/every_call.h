@@ -12,7 +12,7 @@ enum { MANY = 300 };
  * limits are in the order of those without. */
 /* clang-format off */
 enum {
-    FROM_LENGTH, OFFSET_OF, NEW_SPACE, NEW_IDS, NEW_MANAGER, WITH_RANGES, WITH_FREE, WITH_IDS, READ_SPACE, REPAIR_SPACE,
+    FROM_LENGTH, OFFSET_OF, NEW_SPACE, NEW_IDS, NEW_MANAGER, NEW_MAP, WITH_RANGES, WITH_FREE, WITH_IDS, READ_SPACE, REPAIR_SPACE,
     READ_IDS, READ_MANAGER, SPACE_WITHIN, REPAIR_WITHIN, IDS_WITHIN, MANAGER_WITHIN,
 
     FIRST, LAST, EXACT, MOVE, MOVE_REQUEST, REQUEST, LIST, FREE, DESTROY_SPACE,
@@ -25,20 +25,26 @@ enum {
     RESERVE_FIRST, RESERVE_LAST, RESERVE_EXACT, RESERVE, RESERVE_WITH_ID, MOVE_DEVICE, RELEASE, DESTROY_MANAGER,
     DEVICE_SLOT, DEVICE_AT, DEVICE_COUNT, DEVICE_SPACE, DEVICE_IDS, DEVICE_CONFLICT, COPY_ADDRESSES, COPY_DEVICE_IDS, EQUAL_MANAGERS, COPY_MANAGER, SAVE_MANAGER,
     VISIT_DEVICES,
+
+    MAP_ALLOCATE, MAP_MOVE, MAP_FREE, MAP_SET, DESTROY_MAP,
+    MAP_GET, MAP_COUNT, MAP_SPACE, EQUAL_MAPS, COPY_MAP,
+    VISIT_MAP,
     CALLS
 };
 /* clang-format on */
 
 /* In each group, where the changes, the changes without a result, the queries and the visits begin,
  * and where it ends. A group destroys its object by the last change, and compares, copies and saves
- * it by the last queries. */
+ * it by the last queries. A map is not saved. */
 static const struct group {
-    int changes, done, queries, visits, end;
+    int changes, done, queries, copy, visits, end;
 } groups[] = {
-    {FIRST, FREE, SPACE, VISIT, ID},
-    {ID, ID_EXACT, PEEK, VISIT_IDS, RESERVE_FIRST},
-    {RESERVE_FIRST, RELEASE, DEVICE_SLOT, VISIT_DEVICES, CALLS},
+    {FIRST, FREE, SPACE, COPY_SPACE, VISIT, ID},
+    {ID, ID_EXACT, PEEK, COPY_IDS, VISIT_IDS, RESERVE_FIRST},
+    {RESERVE_FIRST, RELEASE, DEVICE_SLOT, COPY_MANAGER, VISIT_DEVICES, MAP_ALLOCATE},
+    {MAP_ALLOCATE, DESTROY_MAP, MAP_GET, COPY_MAP, VISIT_MAP, CALLS},
 };
+enum { GROUPS = sizeof groups / sizeof groups[0], SAVED_GROUPS = GROUPS - 1 };
 
 /* Whether a query creates a copy of an allocator of a manager. */
 static inline bool copies_part(int call) {
@@ -90,6 +96,10 @@ static int see_device(void *context, dvs_device device) {
     return (void)device, keep_object(context);
 }
 
+static int see_valued(void *context, dvs_valued_range found) {
+    return (void)found, keep_object(context);
+}
+
 /* Whether the last call has a pointer to a refusal, and to a fault. */
 static bool has_refusal, has_fault;
 
@@ -115,6 +125,8 @@ static dvs_status make_call(int call, void *object, const uint64_t *n) {
     dvs_device_manager *manager = (dvs_device_manager *)object, **to_manager = TO(results.manager);
     const dvs_device_manager *seen_manager = manager,
                              *other_manager = (const dvs_device_manager *)given.other;
+    dvs_range_map *map = (dvs_range_map *)object;
+    const dvs_range_map *seen_map = map, *other_map = (const dvs_range_map *)given.other;
     const dvs_range range = range_of(n[0], n[1]);
     const uint32_t first = (uint32_t)n[0], last = (uint32_t)n[1];
     const dvs_text_limits *limits = given.limits.depth == 0 ? NULL : &given.limits;
@@ -137,6 +149,7 @@ static dvs_status make_call(int call, void *object, const uint64_t *n) {
         CASE(NEW_SPACE, dvs_address_allocator_new(n[0], n[1], to_space));
         CASE(NEW_IDS, dvs_id_allocator_new(first, last, to_ids, REFUSAL));
         CASE(NEW_MANAGER, dvs_device_manager_new(first, last, n[2], n[3], to_manager, REFUSAL));
+        CASE(NEW_MAP, dvs_range_map_new(n[0], n[1], TO(results.map)));
         CASE(WITH_RANGES, dvs_address_allocator_with_held(n[0], n[1], given.held_ranges, 2,
                                                           to_space, &failed, REFUSAL));
         CASE(WITH_FREE,
@@ -220,6 +233,17 @@ static dvs_status make_call(int call, void *object, const uint64_t *n) {
         CASE(COPY_MANAGER, dvs_device_manager_copy(seen_manager, to_manager));
         CASE(SAVE_MANAGER, dvs_device_manager_save(seen_manager, to_text, to_length));
         CASE(VISIT_DEVICES, dvs_device_visit(seen_manager, TO(*see_device), given.context));
+        CASE(MAP_ALLOCATE, dvs_range_map_allocate(map, n[0], given.request, to, REFUSAL));
+        CASE(MAP_MOVE, dvs_range_map_move(map, range, given.request, to, REFUSAL));
+        CASE(MAP_FREE, dvs_range_map_free(map, range, to_number, REFUSAL));
+        CASE(MAP_SET, dvs_range_map_set(map, n[0], n[1], to_number));
+        CASE(DESTROY_MAP, dvs_range_map_destroy(map));
+        CASE(MAP_GET, dvs_range_map_get(seen_map, n[0], TO(results.found)));
+        CASE(MAP_COUNT, dvs_range_map_count(seen_map, to_number));
+        CASE(MAP_SPACE, dvs_range_map_space(seen_map, to));
+        CASE(EQUAL_MAPS, dvs_range_map_equal(seen_map, other_map, to_flag));
+        CASE(COPY_MAP, dvs_range_map_copy(seen_map, TO(results.map)));
+        CASE(VISIT_MAP, dvs_range_map_visit(seen_map, TO(*see_valued), given.context));
     default:
         CHECK(!"a call");
         return DVS_OK;
@@ -272,12 +296,13 @@ static inline void destroy(int group, void *object) {
 static inline void *created(int group) {
     return group == 0   ? (void *)results.space
            : group == 1 ? (void *)results.ids
-                        : (void *)results.manager;
+           : group == 2 ? (void *)results.manager
+                        : (void *)results.map;
 }
 
 static inline void *copied(int group, void *object) {
     prepare();
-    CHECK(make_call(groups[group].visits - 2, object, bad) == DVS_OK);
+    CHECK(make_call(groups[group].copy, object, bad) == DVS_OK);
     return created(group);
 }
 
@@ -290,13 +315,13 @@ static inline void compare(int group, void *one, void *other, bool are_equal) {
         given = usual;
         given.other = pairs[i][1];
         prepare();
-        CHECK(make_call(groups[group].visits - 3, pairs[i][0], bad) == DVS_OK);
+        CHECK(make_call(groups[group].copy - 1, pairs[i][0], bad) == DVS_OK);
         CHECK(results.flag == (are_equal || i >= 2));
     }
 }
 
 static inline int group_of(int call) {
-    return (call >= ID) + (call >= RESERVE_FIRST);
+    return (call >= ID) + (call >= RESERVE_FIRST) + (call >= MAP_ALLOCATE);
 }
 
 #endif

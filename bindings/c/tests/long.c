@@ -497,7 +497,7 @@ static void *read_again(int group, void *object, char **text, size_t *length) {
 
     given = usual;
     prepare();
-    CHECK(make_call(groups[group].visits - 1, object, bad) == DVS_OK);
+    CHECK(make_call(groups[group].copy + 1, object, bad) == DVS_OK);
     *text = results.text;
     *length = results.length;
     again = read_text(reads[group], group, *text, *length);

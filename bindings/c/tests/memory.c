@@ -12,9 +12,9 @@
 SAVED(saved_space, dvs_address_allocator)
 
 /* An object of each group, its copy, and its saved text. */
-static void *objects[3], *copies[3];
-static char *texts[3];
-static size_t lengths[3];
+static void *objects[GROUPS], *copies[GROUPS];
+static char *texts[GROUPS];
+static size_t lengths[GROUPS];
 
 static const uint64_t zeros[4] = {0, 0, 0, 0};
 
@@ -31,6 +31,7 @@ static void hold(uint64_t start) {
 
 /* Allocates numbers with each number of digits, and some free addresses and ids between them. */
 static void fill(void) {
+    static const dvs_request lowest = {1, 1, 0, DVS_FIRST, NULL};
     uint64_t power = 10;
     dvs_device device;
     uint32_t id;
@@ -44,12 +45,15 @@ static void fill(void) {
     hold(power + 1);
     for (i = 0; i < 300; i++)
         CHECK(dvs_id_allocate(results.ids, &id) == DVS_OK);
-    /* The freed ids are in chunks of 256. The next one needs memory. */
-    for (id = 1; id <= 256; id++)
+    /* The runs of freed ids fill a chunk of 64. The next one needs memory. */
+    for (id = 2; id <= 128; id += 2)
         CHECK(dvs_id_free(results.ids, id, NULL) == DVS_OK);
     /* A leaf of 31 ranges and a gap. */
     for (i = 0; i < 31; i++)
         CHECK(dvs_device_reserve_first(results.manager, 1, 1, &device, NULL) == DVS_OK);
+    /* The values fill a chunk of 64. */
+    for (i = 0; i < 64; i++)
+        CHECK(dvs_range_map_allocate(results.map, i, &lowest, &device.range, NULL) == DVS_OK);
 }
 
 static void set_up(bool is_empty) {
@@ -60,13 +64,15 @@ static void set_up(bool is_empty) {
     CHECK(dvs_address_allocator_new(0, UINT64_MAX, &results.space) == DVS_OK);
     CHECK(dvs_id_allocator_new(0, UINT32_MAX, &results.ids, NULL) == DVS_OK);
     CHECK(dvs_device_manager_new(0, UINT32_MAX, 0, 1000, &results.manager, NULL) == DVS_OK);
+    CHECK(dvs_range_map_new(0, 1000, &results.map) == DVS_OK);
     if (!is_empty)
         fill();
-    for (group = 0; group < 3; group++)
+    for (group = 0; group < GROUPS; group++)
         objects[group] = created(group);
-    for (group = 0; group < 3; group++) {
+    for (group = 0; group < GROUPS; group++)
         copies[group] = copied(group, objects[group]);
-        CHECK(attempt(groups[group].visits - 1, objects[group], zeros) == DVS_OK);
+    for (group = 0; group < SAVED_GROUPS; group++) {
+        CHECK(attempt(groups[group].copy + 1, objects[group], zeros) == DVS_OK);
         texts[group] = results.text;
         lengths[group] = results.length;
     }
@@ -82,9 +88,11 @@ static void tear_down(void) {
         destroy(1, results.ids);
     if (!is_untouched(&results.manager, sizeof results.manager))
         destroy(2, results.manager);
+    if (!is_untouched(&results.map, sizeof results.map))
+        destroy(3, results.map);
     if (!is_untouched(&results.text, sizeof results.text))
         dvs_text_destroy(results.text);
-    for (group = 0; group < 3; group++) {
+    for (group = 0; group < GROUPS; group++) {
         destroy(group, objects[group]);
         destroy(group, copies[group]);
         dvs_text_destroy(texts[group]);
@@ -103,6 +111,7 @@ static const struct row rows[] = {
     {"new space", NEW_SPACE, 0, {1, 2}, 2},
     {"new ids", NEW_IDS, 1, {1, 2}, 1},
     {"new manager", NEW_MANAGER, 2, {1, 2, 3, 4}, 2},
+    {"new map", NEW_MAP, 3, {1, 2}, 2},
     {"first", FIRST, 0, {3, 16}, 2},
     {"last", LAST, 0, {3, 8}, 2},
     {"exact", EXACT, 0, {3, 1, 500}, 2},
@@ -125,8 +134,8 @@ static const struct row rows[] = {
     {"several ids", IDS, 1, {0}, 1},
     {"free an id", FREE_ID, 1, {0}, 1},
     {"with ids", WITH_IDS, 1, {0, 9}, 2},
-    {"an id above others", ID_EXACT, 1, {999}, 8},
-    {"an id in a range", ID_IN, 1, {999, 1000}, 8},
+    {"an id above others", ID_EXACT, 1, {999}, 1},
+    {"an id in a range", ID_IN, 1, {999, 1000}, 1},
     {"read ids", IDS_WITHIN, 1, {0}, 3},
     {"release a device", RELEASE, 2, {0}, 1},
     {"reserve first", RESERVE_FIRST, 2, {4, 8}, 2},
@@ -134,8 +143,11 @@ static const struct row rows[] = {
     {"reserve exactly", RESERVE_EXACT, 2, {4, 1, 50}, 2},
     {"reserve in a window", RESERVE, 2, {0}, 2},
     {"move a device", MOVE_DEVICE, 2, {9}, 2},
-    {"reserve with an id", RESERVE_WITH_ID, 2, {999, 1000}, 8},
+    {"reserve with an id", RESERVE_WITH_ID, 2, {999, 1000}, 3},
     {"read a manager", MANAGER_WITHIN, 2, {0}, 9},
+    {"allocate in a map", MAP_ALLOCATE, 3, {0}, 1},
+    {"move in a map", MAP_MOVE, 3, {9, 9}, 1},
+    {"copy a map", COPY_MAP, 3, {0}, 7},
 };
 
 /* Sets the arguments that are not numbers. */
@@ -224,7 +236,7 @@ static const struct {
     {ID_EXACT, 1, {300}, DVS_OK},
     {ID_IN, 1, {0, 0}, DVS_RESOURCE_NOT_AVAILABLE},
     {FREE_ID, 1, {300}, DVS_NEVER_ALLOCATED},
-    {FREE_ID, 1, {1}, DVS_ALREADY_RELEASED},
+    {FREE_ID, 1, {2}, DVS_ALREADY_RELEASED},
     {RESERVE_FIRST, 2, {TOP, 1}, DVS_RESOURCE_NOT_AVAILABLE},
     {RESERVE_LAST, 2, {TOP, 1}, DVS_RESOURCE_NOT_AVAILABLE},
     {RESERVE_EXACT, 2, {1, 1, TOP}, DVS_OVERFLOW},
@@ -235,6 +247,12 @@ static const struct {
     {RESERVE, 2, {TOP, 1, 0, DVS_LAST}, DVS_RESOURCE_NOT_AVAILABLE},
     {DEVICE_CONFLICT, 2, {969, 1, 31, DVS_EXACT}, DVS_OK},
     {RELEASE, 2, {31}, DVS_NEVER_ALLOCATED},
+    {NEW_MAP, 3, {2, TOP}, DVS_OVERFLOW},
+    {MAP_ALLOCATE, 3, {TOP, 1, 0, DVS_LAST}, DVS_RESOURCE_NOT_AVAILABLE},
+    {MAP_MOVE, 3, {9, 1, 0, DVS_FIRST}, DVS_INVALID_RANGE},
+    {MAP_FREE, 3, {9, 9}, DVS_OK},
+    {MAP_FREE, 3, {9, 10}, DVS_RESOURCE_NOT_AVAILABLE},
+    {MAP_SET, 3, {9, 5}, DVS_OK},
 };
 
 static void call_without_memory(int call, int group, const uint64_t *numbers, dvs_status status) {
@@ -270,8 +288,8 @@ static void do_without_memory(void) {
 
         if (call < group->done || group->queries <= call)
             call_without_memory(call, group_of(call), zeros, DVS_NULL);
-        if (group->queries <= call && call != group->visits - 2 && call != group->visits - 1 &&
-            !copies_part(call))
+        if ((group->queries <= call && call < group->copy && !copies_part(call)) ||
+            call >= group->visits)
             call_without_memory(call, group_of(call), zeros, DVS_OK);
     }
 }

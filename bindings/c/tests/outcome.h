@@ -26,6 +26,8 @@ static struct {
     dvs_address_allocator *space;
     dvs_id_allocator *ids;
     dvs_device_manager *manager;
+    dvs_range_map *map;
+    dvs_valued_range found;
     char *text;
     size_t length;
     uint32_t last;

@@ -288,6 +288,29 @@ static void copy() {
     CHECK(is_range(seen[2], 5, 15) && is_range(seen[3], 0, 0));
 }
 
+static void keep_values() {
+    using dvs::request;
+    dvs::range_map map, other;
+    dvs_range range;
+    dvs_valued_range found;
+    uint64_t number = 0;
+    std::vector<dvs_valued_range> all;
+
+    CHECK(!map.make(0, 64) && !map.space(range) && is_range(range, 0, 63));
+    CHECK(!map.allocate(7, request::last(8, 8).within({0, 31}), range) && is_range(range, 24, 31));
+    CHECK(!map.at(31, found) && found.value == 7 && is_range(found.range, 24, 31));
+    CHECK(map.at(32, found) == DVS_RESOURCE_NOT_AVAILABLE);
+    CHECK(!other.make_copy(map) && other == map && !other.set(24, 8, number) && number == 7);
+    CHECK(other != map && !map.move(range, request::first(8, 8), range) && range.start == 0);
+    CHECK(!map.allocate(9, request::first(8, 8), range) && !map.range_count(number) && number == 2);
+    CHECK(!map.ranges(all) && all.size() == 2 && all[0].value == 7 && all[1].value == 9);
+    CHECK(!map.for_each([&](dvs_valued_range one) {
+        CHECK(one.value == 7 && map.free(one.range, number) == DVS_BUSY);
+        return false;
+    }));
+    CHECK(!map.free(range, number) && number == 9 && map.free(range, number));
+}
+
 /* An action that cannot be copied, and counts its calls. */
 struct take_two {
     std::vector<dvs_range> *seen;
@@ -1053,6 +1076,7 @@ int main() {
     ask();
     reserve_in_windows();
     save();
+    keep_values();
     tell_details();
     ask_empty({}, {}, {});
     visit_each();

@@ -4,3 +4,4 @@ pub mod ValueNodes
 pub mod HeldKeys
 pub mod AllocatorChecks
 pub mod FreeChecks
+pub mod Moving

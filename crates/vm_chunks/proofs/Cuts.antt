@@ -38,7 +38,7 @@ use Rattle.std.specs.Option.{is_some, IsSome}
 use Rattle.std.specs.List.{filter, find, insert, remove}
 use Rattle.std.proofs.lemmas.List.{take-append-drop, length-reverse, get_or-reverse, get_or_default, set_split}
 use Rattle.std.proofs.lemmas.Bool.{cases_lt, cond-true, cond-false, lt-ltb, le-ltb, le-leb, lt-leb, cases_eq, eq-eqb, ne_eqb, cases_Bool, true≢false}
-use Rattle.vm_chunks.specs.Entries.{IsDescendingBy, above, below, with_entry, without, entry_at, at_or_above, at_or_below}
+use Rattle.vm_chunks.specs.Entries.{IsDescendingBy, above, below, with_entry, without, entry_at, at_or_above}
 
 -- If only the first p elements pass a test, they are those that it keeps.
 pub filter_first : {X : Type 0} (test : X → Bool) (xs : List X) (p : ℕ) →
@@ -132,18 +132,6 @@ module _ {X : Type 0} (key : X → ℕ) (t : ℕ) (xs : List X) (p : ℕ)
         ]
       ]))
 
-  -- The entry at p has the highest key up to t, if there is one.
-  pub upto_at : (x : X) → p < length xs → ((d : X) → x ≡ get_or xs p d) → Some x ≡ at_or_below key t xs
-  unfolding at_or_below
-  upto_at x l is =
-      let f = b p x (omega arith) l in
-      let e = ap key (is x) in
-      sym (find_first (λ x. nat_le (key x) t) xs p x (λ k d h w. lt-leb _ _ (a k d h)) l is (le-leb _ _ (omega arith)))
-
-  pub upto_none : length xs ≤ p → None ≡ at_or_below key t xs
-  unfolding at_or_below
-  upto_none l = sym (find_none (λ x. nat_le (key x) t) xs (λ k d w. lt-leb _ _ (a k d (omega arith))))
-
   module _ (x : X) (l : p < length xs) (is : (d : X) → x ≡ get_or xs p d) (s : key x ≡ t) where
     -- The entry at p has the key t.
     pub found_at : entry_at key t xs ≡ Some x
@@ -183,8 +171,8 @@ module _ {X : Type 0} (key : X → ℕ) (t : ℕ) (xs : List X) (p : ℕ)
         ]
 
     -- A change at p replaces the entry with its key.
-    pub sets_at : (e : X) → key e ≡ t → set xs p e ≡ above key t xs ++ e ∷ below key t xs
-    sets_at e s =
+    pub sets_at : (e : X) → set xs p e ≡ above key t xs ++ e ∷ below key t xs
+    sets_at e =
         let l = known_within in
         let f = above_is in
         let g = below_after (get_or xs p e) l (λ d. get_or_default xs p e d l) (known_key e) down in
@@ -221,7 +209,7 @@ pub sets : {X : Type 0} (key : X → ℕ) (e : X) (xs : List X) (p : ℕ) →
     ((k : ℕ) (d : X) → p ≤ k → k < length xs → key (get_or xs k d) ≤ key e) →
     IsDescendingBy key xs → IsSome (entry_at key (key e) xs) → set xs p e ≡ with_entry key e xs
 unfolding with_entry
-sets key e xs p a b down some = sets_at key (key e) xs p a b down some e refl
+sets key e xs p a b down some = sets_at key (key e) xs p a b down some e
 
 -- An insert at p puts the entry at its place.
 pub inserts : {X : Type 0} (key : X → ℕ) (e : X) (xs : List X) (p : ℕ) →

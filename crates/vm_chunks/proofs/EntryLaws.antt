@@ -137,7 +137,7 @@ module _ {X : Type 0} (key : X → ℕ) (t : ℕ) where
 
 module _ {X : Type 0} (key : X → ℕ) where
   -- A list in order is bounded by one more than its first key.
-  bounded_by_first : (hi : ℕ) (xs : List X) → IsDescendingBy key xs → ((d : X) → 0 < length xs → key (get_or xs 0 d) < hi) → Descends key 0 hi xs
+  pub bounded_by_first : (hi : ℕ) (xs : List X) → IsDescendingBy key xs → ((d : X) → 0 < length xs → key (get_or xs 0 d) < hi) → Descends key 0 hi xs
   bounded_by_first hi [] down h = tt
   bounded_by_first hi (x ∷ xs) down h = (
     omega arith,

@@ -30,22 +30,12 @@ use Rattle.std.proofs.Common.{
 use Rattle.std.specs.List.{All}
 use Rattle.std.specs.Option.{is_some, option_or, IsSome}
 use Rattle.std.proofs.lemmas.Bool.{cases_lt, true≢false}
-use Rattle.std.proofs.lemmas.List.{
-  append_assoc,
-  length-append,
-  get_or-append-add,
-  take_more,
-  flat_map_more,
-  nil_from_length,
-  drop_more,
-  drop_all,
-  get_or_append_left,
-}
+use Rattle.std.proofs.lemmas.List.{append_assoc, length-append, get_or-append-add, take_more, flat_map_more, nil_from_length}
 use Rattle.std.proofs.lemmas.List.Elements.{All-nil, All-append, All-weaker}
-use Rattle.vm_chunks.specs.Entries.{IsDescendingBy, above, below, without, entry_at, at_or_above, at_or_below, IsPlace}
+use Rattle.vm_chunks.specs.Entries.{IsDescendingBy, above, below, without, entry_at, at_or_above, IsPlace}
 use Rattle.vm_chunks.specs.Chunks.{TOP, entries_of, Descends, AreBounded, AreAllBounded}
 use Rattle.vm_chunks.proofs.Descents.{descends_by, joined, keys_within}
-use Rattle.vm_chunks.proofs.Middles.{entry_in, from_in, from_last, upto_in, upto_first}
+use Rattle.vm_chunks.proofs.Middles.{entry_in, from_in, from_last}
 
 -- The entries are those before a chunk, its own, and those after it.
 pub parts : {X : Type 0} (cs : List (List X)) (i : ℕ) (d : List X) → i < length cs →
@@ -252,39 +242,6 @@ module _ {X : Type 0} (key : X → ℕ) where
             sym (ap (λ l. at_or_above key t l) e
             ∙ from_last key t pre c some (λ k d w. subst (λ x. t < key x) (get_or-append-add pre c k d) (high (length pre + k) d (omega arith))))
 
-        -- The entry with the highest key up to t is in the chunk, or after it.
-        pub upto_home : option_or (at_or_below key t (get_or cs i d)) (at_or_below key t (entries_of (drop (suc i) cs))) ≡ at_or_below key t (entries_of cs)
-        upto_home =
-            let m = home_at t cs bs i r (omega (arith, n)) h p in
-            sym (ap (λ l. at_or_below key t l) (parts cs i d n)
-            ∙ upto_in key t (entries_of (take i cs)) (get_or cs i d) (entries_of (drop (suc i) cs)) m.higher)
-
-        -- After it, it is in the chunk after it.
-        pub upto_after : (e : List X) → i + 1 < length cs → 0 < length (get_or cs (i + 1) e) →
-            at_or_below key t (get_or cs (i + 1) e) ≡ at_or_below key t (entries_of (drop (suc i) cs))
-        upto_after e l some =
-            let m = home_at t cs bs i r (omega (arith, n)) h p in
-            let c = get_or cs (i + 1) e in
-            let post = entries_of (drop (i + 1 + 1) cs) in
-            let q = length-append c post in
-            let j : suc i ≡ i + 1 = omega arith in
-            let s : entries_of (drop (suc i) cs) ≡ c ++ post =
-            ap (λ j. entries_of (drop j cs)) j ∙ ap (λ (cs : List (List X)). entries_of cs) (drop_more cs (i + 1) e l) in
-            let low : All (λ x. key x < t) (c ++ post) = subst (λ (l : List X). All (λ x. key x < t) l) s m.lower in
-            sym (ap (λ l. at_or_below key t l) s
-            ∙ upto_first key t c post some (λ k d w. subst (λ x. key x < t) (get_or_append_left c post d k w) (low k d (omega arith))))
-
-        -- After the last chunk there is none.
-        pub none_after_last : i + 1 ≡ length cs → None ≡ at_or_below key t (entries_of (drop (suc i) cs))
-        unfolding at_or_below
-        none_after_last l = ap (λ (cs : List (List X)). at_or_below key t (entries_of cs)) (sym (drop_all (suc i) cs (omega arith)))
-
-        -- The chunk after a home descends.
-        pub after_descends : (e : List X) → i + 1 < length cs → IsDescendingBy key (get_or cs (i + 1) e)
-        after_descends e l =
-            descends_by key (get_or bs (i + 1) 0) (get_or (TOP ∷ bs) (i + 1) 0) (get_or cs (i + 1) e)
-            (chunk_descends TOP cs bs (i + 1) 0 e (bounded (omega (arith, n))) l)
-
         -- The chunk before a home descends.
         pub before_descends : 0 < i → IsDescendingBy key (get_or cs (i - 1) d)
         before_descends f =
@@ -303,8 +260,3 @@ module _ {X : Type 0} (key : X → ℕ) where
       pub none_from_past : length cs ≤ i → None ≡ at_or_above key t (entries_of cs)
       unfolding at_or_above
       none_from_past l = ap (λ (cs : List (List X)). at_or_above key t (entries_of cs)) (sym (none_there l))
-
-      -- Nor is there one up to the key.
-      pub none_upto_past : length cs ≤ i → None ≡ at_or_below key t (entries_of cs)
-      unfolding at_or_below
-      none_upto_past l = ap (λ (cs : List (List X)). at_or_below key t (entries_of cs)) (sym (none_there l))

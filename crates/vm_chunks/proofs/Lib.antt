@@ -5,3 +5,14 @@ pub mod Middles
 pub mod Homes
 pub mod Divisions
 pub mod EntryLaws
+pub mod Counts
+pub mod Runs
+pub mod RunJoins
+pub mod RunChanges
+pub mod RunOrder
+pub mod Lowered
+pub mod RunCuts
+pub mod RunEnds
+pub mod Lowest
+pub mod RunsAgain
+pub mod Gaps

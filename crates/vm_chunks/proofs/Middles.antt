@@ -32,7 +32,7 @@ use Rattle.std.proofs.lemmas.Bool.{cond-true, cond-false, lt-ltb, le-ltb, le-leb
 use Rattle.std.proofs.lemmas.List.{append_assoc, append-nil, reverse-append, length-reverse, get_or-reverse}
 use Rattle.std.proofs.lemmas.List.Elements.{All-head, All-tail, All-weaker, filter-append}
 use Rattle.std.proofs.lemmas.List.Folds.{find-append}
-use Rattle.vm_chunks.specs.Entries.{above, below, with_entry, without, entry_at, at_or_above, at_or_below}
+use Rattle.vm_chunks.specs.Entries.{above, below, with_entry, without, entry_at, at_or_above}
 
 -- A test that each element passes keeps all.
 pub filter_all : {X : Type 0} (test : X → Bool) (xs : List X) → All (λ x. test x ≡ true) xs → filter test xs ≡ xs
@@ -86,7 +86,7 @@ module _ {X : Type 0} (key : X → ℕ) (t : ℕ) (pre c post : List X)
       (filter_none test post (All-weaker (λ x. key x < t) (λ x. test x ≡ false) (λ x h. le-ltb _ _ (omega (arith, h))) post low))
       ∙ append-nil (filter test c))
 
-  below_in : below key t (pre ++ (c ++ post)) ≡ below key t c ++ post
+  pub below_in : below key t (pre ++ (c ++ post)) ≡ below key t c ++ post
   unfolding below
   below_in =
       let test : X → Bool = λ x. nat_lt (key x) t in
@@ -115,6 +115,11 @@ with_in key e pre c post high low =
     ∙ ap (λ l. (pre ++ above key (key e) c) ++ e ∷ l) (below_in key (key e) pre c post high low)
     ∙ append_assoc pre (above key (key e) c) (e ∷ (below key (key e) c ++ post))
     ∙ ap (λ l. pre ++ l) (sym (append_assoc (above key (key e) c) (e ∷ below key (key e) c) post))
+
+-- An entry that is put into an empty list.
+pub with_nothing : {X : Type 0} (key : X → ℕ) (e : X) → with_entry key e [] ≡ e ∷ []
+unfolding with_entry above below
+with_nothing key e = refl
 
 All-reverse : {X : Type 0} (P : X → Type 0) (xs : List X) → All P xs → All P (reverse xs)
 All-reverse P xs a k d w =
@@ -153,23 +158,3 @@ from_last key t pre c l high =
     ∙ find-append test (reverse c) (reverse pre)
     ∙ first_passes test (reverse c) (find test (reverse pre)) (omega arith)
     (All-weaker (λ x. t < key x) (λ x. test x ≡ true) (λ x h. le-leb _ _ (omega (arith, h))) (reverse c) (All-reverse (λ x. t < key x) c high))
-
--- The highest entry up to the key is in the middle part, or after it.
-pub upto_in : {X : Type 0} (key : X → ℕ) (t : ℕ) (pre c post : List X) → All (λ x. t < key x) pre →
-    at_or_below key t (pre ++ (c ++ post)) ≡ option_or (at_or_below key t c) (at_or_below key t post)
-unfolding at_or_below
-upto_in key t pre c post high =
-    let test : _ → Bool = λ x. nat_le (key x) t in
-    find-append test pre (c ++ post)
-    ∙ ap (λ o. option_or o (find test (c ++ post)))
-    (find_fails test pre (All-weaker (λ x. t < key x) (λ x. test x ≡ false) (λ x h. lt-leb _ _ h) pre high))
-    ∙ find-append test c post
-
--- It is in the first part if that has entries, all with such keys.
-pub upto_first : {X : Type 0} (key : X → ℕ) (t : ℕ) (c post : List X) → 0 < length c → All (λ x. key x < t) c →
-    at_or_below key t (c ++ post) ≡ at_or_below key t c
-unfolding at_or_below
-upto_first key t c post l low =
-    let test : _ → Bool = λ x. nat_le (key x) t in
-    find-append test c post
-    ∙ first_passes test c (find test post) l (All-weaker (λ x. key x < t) (λ x. test x ≡ true) (λ x h. le-leb _ _ (omega (arith, h))) c low)

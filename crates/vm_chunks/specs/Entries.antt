@@ -1,5 +1,5 @@
 -- Lists of entries in descending order of their keys.
-use Rattle.std.specs.Prelude.{◌≡◌, ℕ, ◌<◌, ◌≤◌, List, ◌∷◌, ◌++◌, length, slice_index_or, nat_lt, nat_le, nat_eq, Option, reverse}
+use Rattle.std.specs.Prelude.{◌≡◌, ℕ, ◌<◌, ◌≤◌, List, ◌∷◌, ◌++◌, length, slice_index_or, nat_lt, nat_le, nat_eq, Option, Some, None, ◌+◌, reverse}
 use Rattle.std.specs.List.{filter, find}
 
 -- The keys descend.
@@ -43,10 +43,15 @@ without key t xs = above key t xs ++ below key t xs
 unfoldable pub entry_at : {X : Type 0} → (X → ℕ) → ℕ → List X → Option X
 entry_at key t xs = find (λ x. nat_eq (key x) t) xs
 
--- The entry with the highest key up to t, if there is one.
-unfoldable pub at_or_below : {X : Type 0} → (X → ℕ) → ℕ → List X → Option X
-at_or_below key t xs = find (λ x. nat_le (key x) t) xs
-
 -- The entry with the lowest key from t on, if there is one.
 unfoldable pub at_or_above : {X : Type 0} → (X → ℕ) → ℕ → List X → Option X
 at_or_above key t xs = find (λ x. nat_le t (key x)) (reverse xs)
+
+-- The entry e has the lowest key from t on, and no entry has the key below t.
+pub record IsGap {X : Type 0} (key : X → ℕ) (t : ℕ) (e : X) (xs : List X) : Type 0 where
+  pub above : Some e ≡ at_or_above key t xs
+  pub below : (k : ℕ) → k + 1 ≡ t → entry_at key k xs ≡ None
+
+-- The entry at k has a key below the one below t.
+abbrev pub IsLower : {X : Type 0} → (X → ℕ) → ℕ → ℕ → List X → Type 0
+IsLower {X} key t k xs = (k < length xs) × ((d : X) → key (slice_index_or xs k d) + 1 < t)

@@ -1,3 +1,4 @@
 pub mod Entries
 pub mod Chunks
 pub mod EntryLaws
+pub mod Runs

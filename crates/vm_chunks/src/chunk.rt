@@ -11,14 +11,20 @@ ghost use Rattle.std.specs.Prelude.{
   take,
   drop,
   slice_index_or,
-  option_to_list,
+  if◌then◌else◌,
+  List,
+  ◌∷◌,
   None,
   IsSome,
+  IfSome,
+  IsTrue,
+  false,
   IfOk,
   OnErr,
   vec_capacity,
 };
-ghost use Rattle.vm_chunks.specs.Entries.{IsDescendingBy, with_entry, without, entry_at, at_or_above, at_or_below};
+ghost use Rattle.std.specs.List.{All};
+ghost use Rattle.vm_chunks.specs.Entries.{IsGap, IsLower, IsDescendingBy, below, with_entry, without, entry_at, at_or_above};
 
 use crate::{Entry, place, place_from};
 use std::alloc::{AllocError, Global};
@@ -30,7 +36,7 @@ pub const MAX_ENTRIES: usize = 64;
 /// At most 64 entries, with memory for 64.
 ///
 /// Its model is the list of its entries.
-#[derive(Drop)]
+#[derive(Debug, Drop)]
 pub struct Chunk<E: Entry> {
     entries: Vec<E>,
 }
@@ -95,18 +101,6 @@ impl<E: Entry> Chunk<E> {
         None
     }
 
-    /// Returns the entry with the highest key that is at most this one, if there is one.
-    pub fn at_or_below(&self, key: u64) -> Option<E>
-        requires { IsDescendingBy E.key_of self.now }
-        ensures { result ≡ at_or_below E.key_of key self.now }
-    {
-        let at = place(self.entries.as_slice(), key);
-        if at < self.entries.len() {
-            return Some(self.entries[at]);
-        }
-        None
-    }
-
     /// Returns the entry with the lowest key that is at least this one, if there is one.
     pub fn at_or_above(&self, key: u64) -> Option<E>
         requires { IsDescendingBy E.key_of self.now }
@@ -129,6 +123,19 @@ impl<E: Entry> Chunk<E> {
         self.entries[at] = entry;
     }
 
+    /// Replaces the entry with this key by one with a lower key, which is above the keys of the entries below. It does
+    /// not allocate.
+    pub fn lower_key(&mut self, key: u64, entry: E)
+        requires order { IsDescendingBy E.key_of self.old }
+        requires known { IsSome (entry_at E.key_of key self.old) }
+        requires lower { E.key_of entry ≤ key }
+        requires apart { All (λ e. E.key_of e < E.key_of entry) (below E.key_of key self.old) }
+        ensures { self.new ≡ with_entry E.key_of entry (without E.key_of key self.old) }
+    {
+        let at = place(self.entries.as_slice(), key);
+        self.entries[at] = entry;
+    }
+
     /// Inserts an entry with a new key. It does not allocate.
     pub fn insert(&mut self, entry: E)
         requires order { IsDescendingBy E.key_of self.old }
@@ -140,6 +147,45 @@ impl<E: Entry> Chunk<E> {
         let Ok(()) = self.entries.insert(at, entry) else {
             unreachable!()
         };
+    }
+
+    /// Returns the place of a key between two entries, and the entry above. Returns `None` if the chunk has none there, or
+    /// if the key below has an entry.
+    pub fn gap(&self, key: u64) -> Option<(usize, E)>
+        requires { IsDescendingBy E.key_of self.now }
+        ensures gap { IfSome result (λ gap. IsGap E.key_of key gap.1 self.now) }
+        ensures lower { IfSome result (λ gap. IsLower E.key_of key gap.0 self.now) }
+    {
+        let entries = self.entries.as_slice();
+        let at = place_from(entries, key);
+        if at == 0 || at >= entries.len() || key - entries[at].key() == 1 {
+            return None;
+        }
+        Some((at, entries[at - 1]))
+    }
+
+    /// Inserts an entry with a new key before the one at `at`, and returns `true`. Returns `false` and changes nothing if this
+    /// is not its place, or if the chunk is full. It does not allocate.
+    pub fn insert_at(&mut self, at: usize, entry: E) -> bool
+        requires order { IsDescendingBy E.key_of self.old }
+        requires new { entry_at E.key_of (E.key_of entry) self.old ≡ None }
+        ensures inserted { IsTrue result → self.new ≡ with_entry E.key_of entry self.old }
+        ensures unchanged { result ≡ false → self.new ≡ self.old }
+    {
+        let (key, len) = (entry.key(), self.entries.len());
+        if at > len || len >= MAX_ENTRIES {
+            return false;
+        }
+        if at > 0 && self.entries[at - 1].key() <= key {
+            return false;
+        }
+        if at < len && self.entries[at].key() >= key {
+            return false;
+        }
+        let Ok(()) = self.entries.insert(at, entry) else {
+            unreachable!()
+        };
+        true
     }
 
     /// Removes the entry with this key, and returns it. It does not allocate.
@@ -159,11 +205,14 @@ impl<E: Entry> Chunk<E> {
         None
     }
 
-    /// Removes and returns the lowest entry. It does not allocate.
-    pub fn pop(&mut self) -> Option<E>
-        ensures { self.old ≡ self.new ++ option_to_list result }
+    /// Replaces the lowest entry if `keep` is true, and removes it otherwise. It does not allocate.
+    pub fn change_lowest(&mut self, entry: E, keep: bool)
+        requires { 0 < length self.old }
+        ensures { (others : List E) (e : E) → self.old ≡ others ++ e ∷ [] → self.new ≡ others ++ (if keep then entry ∷ [] else []) }
     {
-        self.entries.pop()
+        let at = self.entries.len() - 1;
+        self.entries[at] = entry;
+        self.entries.truncate(at + usize::from(keep));
     }
 
     /// Moves the entries from `at` on to a new chunk. An error changes nothing.

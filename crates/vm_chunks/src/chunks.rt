@@ -11,22 +11,28 @@ ghost use Rattle.std.specs.Prelude.{
   [],
   length,
   slice_index_or,
-  option_to_list,
+  if◌then◌else◌,
   None,
   IsSome,
+  IfSome,
+  IsTrue,
+  false,
+  MatchOption,
+  List,
   reverse,
   IfOk,
   OnOk,
   OnErr,
 };
-ghost use Rattle.std.specs.List.{insert};
+ghost use Rattle.std.specs.List.{All, insert};
 ghost use Rattle.vm_chunks.specs.Entries.{
+  IsGap,
   IsDescendingBy,
+  below,
   with_entry,
   without,
   entry_at,
   at_or_above,
-  at_or_below,
   IsPlace,
   IsKeyOf,
 };
@@ -48,22 +54,33 @@ use std::marker::Model;
 /// Entries in descending order of their keys, in chunks.
 ///
 /// Its model is the list of its entries.
-#[derive(Drop)]
+#[derive(Debug, Drop)]
 pub struct Chunks<E: Entry> {
     chunks: Vec<Chunk<E>>,
     // A bound for each chunk: its keys are from the bound on, and those of later chunks below. The last is 0.
     bounds: Vec<u64>,
+    // The number of entries.
+    count: usize,
 }
 
 impl<E: Entry> Model for Chunks<E> {
     ghost use Rattle.std.specs.Prelude.{List};
-    ghost use Rattle.vm_chunks.specs.Chunks.{entries_of, AreChunks};
+    ghost use Rattle.vm_chunks.specs.Chunks.{entries_of, AreCounted};
 
     ghost Value = { List E };
 
     ghost view = { λ c. entries_of c.chunks.items };
 
-    ghost invariant = { λ c. AreChunks E.key_of c.chunks.items c.bounds.items };
+    ghost invariant = { λ c. AreCounted E.key_of c.chunks.items c.bounds.items c.count };
+}
+
+/// A place for a key in a chunk, between two entries.
+#[derive(Clone, Copy)]
+pub struct Gap<E: Entry> {
+    chunk: usize,
+    at: usize,
+    /// The entry above the place.
+    pub above: E,
 }
 
 /// Returns the number of bounds above a key.
@@ -72,6 +89,15 @@ fn bounds_above(bounds: &[u64], key: u64) -> usize
     ensures { IsPlace (λ b. b) key result bounds.now }
 {
     bounds.partition_point(|bound| *bound > key)
+}
+
+/// Returns `true` if this is the number of bounds above a key, and a bound is not above it.
+fn is_place(bounds: &[u64], key: u64, at: usize) -> bool
+    requires { IsDescendingBy (λ b. b) bounds.now }
+    ensures within { IsTrue result → at < length bounds.now }
+    ensures place { IsTrue result → IsPlace (λ b. b) key at bounds.now }
+{
+    at < bounds.len() && bounds[at] <= key && (at == 0 || key < bounds[at - 1])
 }
 
 /// Returns copies of the chunks.
@@ -230,6 +256,7 @@ impl<E: Entry> Chunks<E> {
         Chunks {
             chunks: Vec::new(alloc),
             bounds: Vec::new(alloc),
+            count: 0,
         }
     }
 
@@ -239,7 +266,18 @@ impl<E: Entry> Chunks<E> {
     {
         let chunks = clone_chunks(alloc, self.chunks.as_slice())?;
         let bounds = self.bounds.clone()?;
-        Ok(Chunks { chunks, bounds })
+        Ok(Chunks {
+            chunks,
+            bounds,
+            count: self.count,
+        })
+    }
+
+    /// Returns the number of entries. It takes constant time.
+    pub fn len(&self) -> usize
+        ensures { result ≡ length self.now }
+    {
+        self.count
     }
 
     /// Returns the entry with this key, if there is one. It takes logarithmic time.
@@ -250,22 +288,6 @@ impl<E: Entry> Chunks<E> {
         match self.chunks.get(at) {
             Some(chunk) => chunk.get(key),
             None => None,
-        }
-    }
-
-    /// Returns the entry with the highest key that is at most this one, if there is one. It takes logarithmic
-    /// time.
-    pub fn at_or_below(&self, key: u64) -> Option<E>
-        ensures { result ≡ at_or_below E.key_of key self.now }
-    {
-        let at = bounds_above(self.bounds.as_slice(), key);
-        if at >= self.chunks.len() {
-            return None;
-        }
-        match self.chunks[at].at_or_below(key) {
-            Some(entry) => Some(entry),
-            None if at + 1 == self.chunks.len() => None,
-            None => self.chunks[at + 1].at_or_below(key),
         }
     }
 
@@ -295,15 +317,53 @@ impl<E: Entry> Chunks<E> {
         chunk.set(entry);
     }
 
+    /// Replaces the entry with this key by one with a lower key, which is above the keys of the entries below. It does
+    /// not allocate.
+    pub fn lower_key(&mut self, key: u64, entry: E)
+        requires known { IsSome (entry_at E.key_of key self.old) }
+        requires lower { E.key_of entry ≤ key }
+        requires apart { All (λ e. E.key_of e < E.key_of entry) (below E.key_of key self.old) }
+        ensures { self.new ≡ with_entry E.key_of entry (without E.key_of key self.old) }
+    {
+        let at = bounds_above(self.bounds.as_slice(), key);
+        let chunk = &mut self.chunks[at];
+        chunk.lower_key(key, entry);
+        self.bounds[at] = self.bounds[at].min(entry.key());
+    }
+
+    /// Returns the entry with the lowest key, if there is one.
+    pub fn lowest(&self) -> Option<E>
+        ensures { MatchOption result (self.now ≡ []) (λ e. (others : List E) × (self.now ≡ others ++ e ∷ [])) }
+    {
+        let (chunk, _) = self.chunks.as_slice().split_last()?;
+        let (entry, _) = chunk.as_slice().split_last()?;
+        Some(*entry)
+    }
+
+    /// Returns the entry with the highest key, if there is one.
+    pub fn highest(&self) -> Option<E>
+        ensures { MatchOption result (self.now ≡ []) (λ e. (others : List E) × (self.now ≡ e ∷ others)) }
+    {
+        let (chunk, _) = self.chunks.as_slice().split_first()?;
+        let (entry, _) = chunk.as_slice().split_first()?;
+        Some(*entry)
+    }
+
     /// Inserts an entry with a new key. An error changes nothing.
     pub fn insert(&mut self, alloc: Global, entry: E) -> Result<(), AllocError>
         requires { entry_at E.key_of (E.key_of entry) self.old ≡ None }
         ensures inserted { OnOk result (self.new ≡ with_entry E.key_of entry self.old) }
         ensures unchanged { OnErr result (self.new ≡ self.old) }
     {
+        let Some(count) = self.count.checked_add(1) else {
+            // No memory has this many bounds, so this fails.
+            self.bounds.reserve(usize::MAX)?;
+            unreachable!()
+        };
         let at = make_room(alloc, &mut self.chunks, &mut self.bounds, entry.key())?;
         let chunk = &mut self.chunks[at];
         chunk.insert(entry);
+        self.count = count;
         Ok(())
     }
 
@@ -318,6 +378,38 @@ impl<E: Entry> Chunks<E> {
         Iter::of_chunks(others, chunk)
     }
 
+    /// Returns the place of a key between two entries of a chunk. Returns `None` if no chunk has entries above and below it,
+    /// or if the key below has an entry. It takes logarithmic time.
+    pub fn gap(&self, key: u64) -> Option<Gap<E>>
+        ensures { IfSome result (λ gap. IsGap E.key_of key gap.above self.now) }
+    {
+        let chunk = bounds_above(self.bounds.as_slice(), key);
+        let (at, above) = self.chunks.get(chunk)?.gap(key)?;
+        Some(Gap { chunk, at, above })
+    }
+
+    /// Inserts an entry with a new key at a place, and returns `true`. Returns `false` and changes nothing if the list has no
+    /// room there. It does not allocate.
+    pub fn insert_at(&mut self, gap: Gap<E>, entry: E) -> bool
+        requires { entry_at E.key_of (E.key_of entry) self.old ≡ None }
+        ensures inserted { IsTrue result → self.new ≡ with_entry E.key_of entry self.old }
+        ensures unchanged { result ≡ false → self.new ≡ self.old }
+    {
+        let (key, at) = (entry.key(), gap.chunk);
+        let Some(count) = self.count.checked_add(1) else {
+            return false;
+        };
+        if !is_place(self.bounds.as_slice(), key, at) {
+            return false;
+        }
+        let chunk = &mut self.chunks[at];
+        if !chunk.insert_at(gap.at, entry) {
+            return false;
+        }
+        self.count = count;
+        true
+    }
+
     /// Removes the entry with this key, and returns it. It does not allocate.
     pub fn remove(&mut self, key: u64) -> Option<E>
         ensures entry { result ≡ entry_at E.key_of key self.old }
@@ -329,24 +421,24 @@ impl<E: Entry> Chunks<E> {
         }
         let chunk = &mut self.chunks[at];
         let entry = chunk.remove(key);
+        self.count -= usize::from(entry.is_some());
         mend(&mut self.chunks, &mut self.bounds, at);
         entry
     }
 
-    /// Removes and returns the entry with the lowest key. It does not allocate.
-    pub fn pop_lowest(&mut self) -> Option<E>
-        ensures lowest { self.old ≡ self.new ++ option_to_list result }
-        ensures order { IsDescendingBy E.key_of self.old }
+    /// Replaces the entry with the lowest key by one with the same key if `keep` is true, and removes it otherwise. It does
+    /// not allocate.
+    pub fn change_lowest(&mut self, entry: E, keep: bool)
+        requires some { 0 < length self.old }
+        requires key { (others : List E) (e : E) → self.old ≡ others ++ e ∷ [] → E.key_of entry ≡ E.key_of e }
+        ensures { (others : List E) (e : E) → self.old ≡ others ++ e ∷ [] → self.new ≡ others ++ (if keep then entry ∷ [] else []) }
     {
-        let count = self.chunks.len();
-        if count == 0 {
-            return None;
-        }
-        let chunk = &mut self.chunks[count - 1];
-        let entry = chunk.pop();
+        let at = self.chunks.len() - 1;
+        let chunk = &mut self.chunks[at];
+        chunk.change_lowest(entry, keep);
+        self.count -= usize::from(!keep);
         if chunk.len() == 0 {
-            mend(&mut self.chunks, &mut self.bounds, count - 1);
+            mend(&mut self.chunks, &mut self.bounds, at);
         }
-        entry
     }
 }

@@ -1,4 +1,4 @@
-//! Lists of entries in descending order of their keys, in chunks of at most 64 entries.
+//! Lists of entries in descending order of their keys, in chunks of at most 64 entries, and sets of ids.
 //!
 //! A call finds the chunk of a key by a list of bounds, and then the entry in the chunk. A change moves the
 //! entries of one chunk, and sometimes splits it or joins it with one next to it. The lowest entry is at the end
@@ -8,8 +8,9 @@
 //!
 //! - The value of [`Chunks`] is the list of its entries. A type has a key if it is an [`Entry`], and `key_of`
 //!   is its key.
-//! - `with_entry`, `without`, `entry_at`, `at_or_below` and `at_or_above` (`Entries`) are about such a list, and
-//!   name no chunk.
+//! - `with_entry`, `without`, `entry_at` and `at_or_above` (`Entries`) are about such a list, and name no chunk.
+//! - An [`IdSet`] is a set of ids. It keeps a [`Run`] for all ids that follow each other, so its value is that of a
+//!   set, and its runs are hidden (`Runs`).
 //! - Only private functions cite `Chunks` of `specs`. `AreChunks`: the bounds descend to 0, and each chunk
 //!   descends from its bound on and below the bound before it. Only a chunk that is alone can be empty.
 //!
@@ -19,7 +20,10 @@
 //! - An error changes nothing, and only `insert` and `try_clone` have one. An insertion allocates before it
 //!   changes an entry, because each chunk has memory for 64 entries.
 //! - An iterator returns each entry once, in order, from both ends.
+//! - The number of entries, which is stored.
 //! - The list after a call is the map with the changed key (`EntriesAreByKey`).
+//! - A set has the ids that were added and not removed since (`Adds`, `Removes`), also if they are added as a run.
+//!   Removing an id allocates only if the ids next to it are in the set.
 //!
 //! # What is only tested
 //!
@@ -32,9 +36,11 @@ ghost use Rattle.vm_chunks.specs.Entries.{IsDescendingBy, IsPlace, IsPlaceFrom};
 
 mod chunk;
 mod chunks;
+mod id_set;
 mod iter;
 
 pub use chunks::Chunks;
+pub use id_set::{IdSet, Run};
 pub use iter::Iter;
 
 /// An entry with a key.

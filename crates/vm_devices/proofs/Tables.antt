@@ -1,16 +1,51 @@
--- Maps with numbers as keys, after one key is inserted or removed, and the ids of devices by their starts.
-use Rattle.std.proofs.Common.{◌≡◌, ◌≢◌, ◌==◌, ℕ, ◌⊎◌, cond, List, ◌∷◌, ◌++◌, [], map as map_list, refl, ap, ◌∙◌, arith, Option, Some, None}
-use Rattle.std.proofs.lemmas.List.{map-append}
+-- Maps with numbers as keys, after one key is inserted or removed, devices in lists, and their ids by their starts.
+use Rattle.std.proofs.Common.{
+  ◌≡◌,
+  ◌≢◌,
+  ◌==◌,
+  ℕ,
+  suc,
+  ◌-◌,
+  ◌<◌,
+  ◌⊎◌,
+  cond,
+  List,
+  [],
+  ◌∷◌,
+  ◌++◌,
+  length,
+  reverse,
+  map as map_list,
+  refl,
+  sym,
+  ap,
+  ◌∙◌,
+  subst,
+  arith,
+  Option,
+  Some,
+  None,
+  IsSome,
+  option_map,
+}
+use Rattle.std.specs.Cmp.{nat_cmp_is}
+use Rattle.std.specs.List.{All}
 use Rattle.std.specs.Ordering.{nat_cmp}
+use Rattle.std.specs.declared.cmp.Ordering.TheVariants.{Greater}
 use Rattle.std.specs.Cmp.{nat_cmp_total, unsigned_tied}
-use Rattle.std.specs.BTreeMap.{BTreeMap, Updates, IsEmpty, IsUnchanged, is_at}
-use Rattle.std.specs.BTreeMap as tree
-use Rattle.std.specs.Map.{lookup}
+use Rattle.std.specs.FinMap.Entries.{put}
 use Rattle.std.specs.FinMap as map
+use Rattle.std.proofs.lemmas.List.{get_or-reverse, length-reverse, reverse-append, nil_from_length, map-id}
+use Rattle.std.proofs.lemmas.Simd.{map-map}
+use Rattle.std.proofs.lemmas.List.Elements.{All-head, All-tail}
 use Rattle.vm_ranges.specs.Range.{Range}
-use Rattle.vm_ids.proofs.Ids.RisingIds.{entries_of_sorted}
-use Rattle.vm_devices.specs.Checks.{IsOnlyStart, AreIdsByStart}
-use Rattle.vm_devices.specs.Queries.{device_of}
+use Rattle.vm_chunks.specs.Entries.{IsDescendingBy, with_entry, without, entry_at}
+use Rattle.vm_chunks.proofs.EntryLaws.{entries_are_by_key}
+use Rattle.vm_devices.specs.declared.device_slot.DeviceSlot.{DeviceSlot}
+use Rattle.vm_devices.specs.declared.device_manager.device_table.DeviceStart.{DeviceStart}
+use Rattle.vm_devices.specs.Checks.{StartsAt, IsOnlyStart, AreIdsByStart, id_at}
+use Rattle.vm_devices.specs.Listed.{entries_of}
+use Rattle.vm_devices.specs.Queries.{device_of, entry_of}
 
 -- An option that is no value is None.
 pub absent : {X : Type 0} (o : Option X) → ((x : X) → ¬ (o ≡ Some x)) → o ≡ None
@@ -38,117 +73,163 @@ module _ {X : Type 0} where
   pub without_is : (m : map.FinMap nat_cmp X) (k q : ℕ) (w : X) → map.get (map.remove m k) q ≡ Some w → ¬ (q ≡ k) × (map.get m q ≡ Some w)
   without_is m k q w h = let at = get_without m k q in (λ e. grind (arith, at, h, e), grind (arith, at, h))
 
-  -- The value of each key of a tree after one key is written.
-  pub updated : (old new : BTreeMap ℕ X) (k : ℕ) (w : Option X) → Updates nat_cmp old new k w → (q : ℕ) →
-      tree.get nat_cmp new q ≡ cond (k == q) w (tree.get nat_cmp old q)
-  updated old new k w u q = u.0 q ∙ ap (λ t. cond t w (tree.get nat_cmp old q)) (unsigned_tied k q)
+-- ---- The map of a list of devices
+abbrev id_of : DeviceSlot → ℕ
+id_of d = d.id
 
-  -- ---- The map of a tree's entries
-  abbrev map_of : BTreeMap ℕ X → map.FinMap nat_cmp X
-  map_of m = map.from_entries m.entries
+abbrev start_of : DeviceStart → ℕ
+start_of s = s.start
 
-  found_entry : (q : ℕ) (es : List (ℕ × X)) → map.find nat_cmp q es ≡ lookup (is_at (nat_cmp q)) es
-  found_entry q [] = refl
-  found_entry q (e ∷ es) = ap (cond (is_at (nat_cmp q) e.0) (Some e.1)) (found_entry q es)
+abbrev map_of : List DeviceSlot → map.FinMap nat_cmp Range
+map_of ds = map.from_entries (entries_of ds)
 
-  -- A key has the same value in both.
-  pub got : (m : BTreeMap ℕ X) (q : ℕ) → map.get (map_of m) q ≡ tree.get nat_cmp m q
-  got m q = map.get-from_entries nat_cmp_total m.entries q ∙ found_entry q m.entries
+found : (q : ℕ) (ds : List DeviceSlot) → map.find nat_cmp q (entries_of ds) ≡ option_map (λ d. d.range) (entry_at id_of q ds)
+unfolding entry_at
+found q [] = refl
+found q (d ∷ ds) = grind (arith, unsigned_tied q d.id, found q ds)
 
-  module _ (old new : BTreeMap ℕ X) (k : ℕ) where
-    -- An entry that is inserted into the tree is inserted into the map.
-    pub inserted_map : (v : X) → Updates nat_cmp old new k (Some v) → map_of new ≡ map.insert (map_of old) k v
-    inserted_map v u = map.same_map nat_cmp_total map.nat_cmp-IsAntisymmetric _ _
-        (λ q. grind (arith, got new q, got old q, updated old new k (Some v) u q, get_with (map_of old) k v q))
-
-    -- A key that is removed from the tree is removed from the map.
-    pub removed_map : Updates nat_cmp old new k None → map_of new ≡ map.remove (map_of old) k
-    removed_map u = map.same_map nat_cmp_total map.nat_cmp-IsAntisymmetric _ _
-        (λ q. grind (arith, got new q, got old q, updated old new k None u q, get_without (map_of old) k q))
+-- An id has the same range in the map as in the list.
+pub got : (ds : List DeviceSlot) (q : ℕ) → map.get (map_of ds) q ≡ option_map (λ d. d.range) (entry_at id_of q ds)
+got ds q = map.get-from_entries nat_cmp_total (entries_of ds) q ∙ found q ds
 
 pub ruleset gets = (got)
 
-pub ruleset changes = (inserted_map, removed_map)
+-- A device that is put into the list is inserted into the map.
+pub inserted_map : (ds : List DeviceSlot) (d : DeviceSlot) → map_of (with_entry id_of d ds) ≡ map.insert (map_of ds) d.id d.range
+inserted_map ds d = map.same_map nat_cmp_total map.nat_cmp-IsAntisymmetric _ _
+    (λ q. grind (arith, got (with_entry id_of d ds) q, got ds q, (entries_are_by_key id_of).put d ds q, get_with (map_of ds) d.id d.range q))
 
-pub ruleset lists = (entries_of_sorted)
+-- A device that is taken out of the list is removed from the map.
+pub removed_map : (ds : List DeviceSlot) (k : ℕ) → map_of (without id_of k ds) ≡ map.remove (map_of ds) k
+removed_map ds k = map.same_map nat_cmp_total map.nat_cmp-IsAntisymmetric _ _
+    (λ q. grind (arith, got (without id_of k ds) q, got ds q, (entries_are_by_key id_of).taken k ds q, get_without (map_of ds) k q))
 
--- The last entry is the last device.
-pub last_device : (es : List (ℕ × Range)) (e : ℕ × Range) → map_list device_of (es ++ e ∷ []) ≡ map_list device_of es ++ device_of e ∷ []
-last_device es e = map-append device_of es (e ∷ [])
+-- A device with the highest id is put last.
+put_last : (ds : List DeviceSlot) (d : DeviceSlot) → All (λ e. e.id < d.id) ds → put nat_cmp d.id d.range (entries_of ds) ≡ entries_of (ds ++ d ∷ [])
+put_last [] d a = refl
+put_last (e ∷ ds) d a =
+    let higher = nat_cmp_is d.id e.id Greater (All-head (λ (e : DeviceSlot). e.id < d.id) e ds a) in
+    rw (← higher) (ap (λ es. (e.id, e.range) ∷ es) (put_last ds d (All-tail (λ (e : DeviceSlot). e.id < d.id) e ds a)))
 
-pub ruleset last_listed = (last_device)
+-- The map has the devices in ascending order.
+entries_turned : (ds : List DeviceSlot) → IsDescendingBy id_of ds → map.entries (map_of ds) ≡ entries_of (reverse ds)
+entries_turned [] down = nil_from_length _ (sym (map.len-entries (map_of [])) ∙ map.len-empty nat_cmp Range)
+entries_turned (d ∷ ds) down =
+    map.entries-insert nat_cmp_total (map_of ds) d.id d.range
+    ∙ ap (put nat_cmp d.id d.range)
+    (entries_turned ds (λ i j d l w. down (suc i) (suc j) d (omega (arith, l)) (omega (arith, w))))
+    ∙ put_last (reverse ds) d (λ k e w.
+    let n = length-reverse ds in
+    subst (λ (e : DeviceSlot). e.id < d.id) (sym (get_or-reverse ds k e (omega arith)))
+    (down 0 (suc (length ds - 1 - k)) e (omega arith) (omega arith)))
+    ∙ sym (ap (λ (es : List DeviceSlot). entries_of es) (reverse-append (d ∷ []) ds))
+
+-- The devices of the map are the list in ascending order.
+pub listed : (ds : List DeviceSlot) → IsDescendingBy id_of ds → reverse ds ≡ map_list device_of (map.entries (map_of ds))
+listed ds down =
+    sym (ap (λ (es : List (ℕ × Range)). map_list device_of es) (entries_turned ds down) ∙ map-map device_of entry_of (reverse ds) ∙ map-id (reverse ds))
+
+-- An id without a range is in no device of the list.
+pub id_is_new : (ds : List DeviceSlot) (q : ℕ) → map.get (map_of ds) q ≡ None → entry_at id_of q ds ≡ None
+id_is_new ds q n = absent (entry_at id_of q ds) (λ d e. grind (arith, got ds q, e, n))
+
+-- An id with a range is in a device of the list.
+pub id_is_known : (ds : List DeviceSlot) (q start : ℕ) → StartsAt (map_of ds) q start → IsSome (entry_at id_of q ds)
+id_is_known ds q start k = known (entry_at id_of q ds) (ap (option_map (λ r. r.start)) (sym (got ds q)) ∙ k)
+  where
+    known : (o : Option DeviceSlot) → option_map (λ r. r.start) (option_map (λ d. d.range) o) ≡ Some start → IsSome o
+    known None k = absurd (cc k)
+    known (Some d) k = refl
 
 -- ---- The ids of devices by their starts
+-- The start that is put into the list has the id, and the others have their former ids.
+put_id : (starts : List DeviceStart) (s : DeviceStart) (x : ℕ) →
+    id_at x (with_entry start_of s starts) ≡ cond (x == s.start) (Some s.id) (id_at x starts)
+put_id starts s x = grind (arith, (entries_are_by_key start_of).put s starts x)
+
+-- The start that is taken out of the list has no id, and the others have their former ids.
+taken_id : (starts : List DeviceStart) (k x : ℕ) → id_at x (without start_of k starts) ≡ cond (x == k) None (id_at x starts)
+taken_id starts k x = grind (arith, (entries_are_by_key start_of).taken k starts x)
+
 -- Without devices, no id is found by its start.
-pub no_starts : (slots : BTreeMap ℕ Range) (ids : BTreeMap ℕ ℕ) → IsEmpty slots → IsEmpty ids → AreIdsByStart (map_of slots) ids
-no_starts slots ids e f = record {
-  at = λ start id. rw e (λ h. grind (arith, f, h), λ h. grind (arith, map.get-empty {X = Range} nat_cmp id, h));
+pub no_starts : AreIdsByStart (map_of []) []
+unfolding entry_at
+no_starts = record {
+  at = λ start id. (λ h. grind (arith, h), λ h. grind (arith, map.get-empty {X = Range} nat_cmp id, h));
 }
 
-module _ {devices : map.FinMap nat_cmp Range} {ids : BTreeMap ℕ ℕ} (a : AreIdsByStart devices ids) where
-  -- Ids and devices that do not change stay found by their starts.
-  pub same_starts : (left : map.FinMap nat_cmp Range) (later : BTreeMap ℕ ℕ) → left ≡ devices → IsUnchanged ids later →
-      AreIdsByStart left later
-  same_starts left later e f = record { at = λ start id. rw (e, f) (a.at start id) }
+module _ {devices : map.FinMap nat_cmp Range} {starts : List DeviceStart} (a : AreIdsByStart devices starts) where
+  -- A start that no device has is not in the list.
+  no_start : (start : ℕ) → ((id : ℕ) → ¬ StartsAt devices id start) → entry_at start_of start starts ≡ None
+  no_start start none = absent (entry_at start_of start starts)
+      (λ s e. none s.id ((a.at start s.id).0 (ap (option_map (λ s. s.id)) e)))
+
+  -- The start of a new device is not in the list.
+  pub start_is_new : (id start : ℕ) → map.get devices id ≡ None → IsOnlyStart devices id start → entry_at start_of start starts ≡ None
+  start_is_new id start n only = no_start start (λ q h. grind (arith, only q h, h, n))
+
+  -- Nor is the next start of a device that moves.
+  pub next_start_is_new : (id start before : ℕ) → StartsAt devices id before → before ≢ start → IsOnlyStart devices id start →
+      entry_at start_of start starts ≡ None
+  next_start_is_new id start before d k only = no_start start (λ q h. grind (arith, only q h, h, d, k))
 
   -- The range of a device is entered by its start. No other device has this start.
-  module _ (mid : BTreeMap ℕ ℕ) (id : ℕ) (r : Range) (only : IsOnlyStart devices id r.start)
-      (u : Updates nat_cmp ids mid r.start (Some id)) (new : map.FinMap nat_cmp Range) (e : new ≡ map.insert devices id r) where
+  module _ (s : DeviceStart) (r : Range) (is : s.start ≡ r.start) (only : IsOnlyStart devices s.id s.start) where
     -- A device that is new is found by its start.
-    pub starts_with : map.get devices id ≡ None → AreIdsByStart new mid
+    pub starts_with : map.get devices s.id ≡ None → AreIdsByStart (map.insert devices s.id r) (with_entry start_of s starts)
     starts_with n = record {
+      at = λ x q. (
+        λ h. grind (arith, put_id starts s x, get_with devices s.id r q, (a.at x q).0, n, is, h),
+        λ h. grind (arith, put_id starts s x, get_with devices s.id r q, (a.at x q).1, only q, is, h),
+      );
+    }
+
+    -- A device that moves is found by its new start only.
+    pub starts_moved : (before : ℕ) → StartsAt devices s.id before → before ≢ s.start →
+        AreIdsByStart (map.insert devices s.id r) (without start_of before (with_entry start_of s starts))
+    starts_moved before d k = record {
       at = λ x q.
-          let at = updated ids mid r.start (Some id) u x in
-          rw e (
-            λ h. grind (arith, at, get_with devices id r q, (a.at x q).0, n, h),
-            λ h. grind (arith, at, get_with devices id r q, (a.at x q).1, only q, h),
+          let at = put_id starts s x in
+          let gone = taken_id (with_entry start_of s starts) before x in (
+            λ h. grind (arith, at, gone, get_with devices s.id r q, (a.at x q).0, d, is, h),
+            λ h. grind (arith, at, gone, get_with devices s.id r q, (a.at x q).1, (a.at x s.id).1, only q, d, is, k, h),
           );
     }
 
-    module _ (left : Range) (d : map.get devices id ≡ Some left) where
-      -- A device that keeps its start is found by it.
-      pub starts_kept : left.start ≡ r.start → AreIdsByStart new mid
-      starts_kept k = record {
-        at = λ x q.
-            let at = updated ids mid r.start (Some id) u x in
-            rw e (
-              λ h. grind (arith, at, get_with devices id r q, (a.at x q).0, d, k, h),
-              λ h. grind (arith, at, get_with devices id r q, (a.at x q).1, only q, h),
-            );
-      }
+    -- An insertion that is undone leaves the ids of the devices.
+    pub starts_undone : map.get devices s.id ≡ None → AreIdsByStart devices (without start_of s.start (with_entry start_of s starts))
+    starts_undone n = record {
+      at = λ x q.
+          let at = put_id starts s x in
+          let gone = taken_id (with_entry start_of s starts) s.start x in
+          (λ h. grind (arith, at, gone, (a.at x q).0, h), λ h. grind (arith, at, gone, (a.at x q).1, only q, n, h));
+    }
 
-      -- A device that moves is found by its new start only.
-      pub starts_moved : (later : BTreeMap ℕ ℕ) → left.start ≢ r.start → Updates nat_cmp mid later left.start None →
-          AreIdsByStart new later
-      starts_moved later k v = record {
-        at = λ x q.
-            let at = updated ids mid r.start (Some id) u x in
-            let gone = updated mid later left.start None v x in
-            rw e (
-              λ h. grind (arith, at, gone, get_with devices id r q, (a.at x q).0, d, h),
-              λ h. grind (arith, at, gone, get_with devices id r q, (a.at x q).1, (a.at x id).1, only q, d, k, h),
-            );
-      }
+  -- A device that keeps its start is found by it.
+  pub starts_kept : (id : ℕ) (r : Range) → StartsAt devices id r.start → AreIdsByStart (map.insert devices id r) starts
+  starts_kept id r d = record {
+    at = λ x q. (
+      λ h. grind (arith, get_with devices id r q, (a.at x q).0, d, h),
+      λ h. grind (arith, get_with devices id r q, (a.at x q).1, d, h),
+    );
+  }
 
-  -- An insertion that is undone leaves the ids of the devices.
-  pub starts_undone : (mid later : BTreeMap ℕ ℕ) (id : ℕ) (r : Range) → IsOnlyStart devices id r.start →
-      map.get devices id ≡ None → Updates nat_cmp ids mid r.start (Some id) → Updates nat_cmp mid later r.start None →
-      AreIdsByStart devices later
-  starts_undone mid later id r only n u v = record {
-    at = λ x q.
-        let at = updated ids mid r.start (Some id) u x in
-        let gone = updated mid later r.start None v x in
-        (λ h. grind (arith, at, gone, (a.at x q).0, h), λ h. grind (arith, at, gone, (a.at x q).1, only q, n, h));
+  -- An id that no device has can be removed.
+  pub starts_stay : (id : ℕ) → map.get devices id ≡ None → AreIdsByStart (map.remove devices id) starts
+  starts_stay id n = record {
+    at = λ x q. (
+      λ h. grind (arith, get_without devices id q, (a.at x q).0, n, h),
+      λ h. grind (arith, get_without devices id q, (a.at x q).1, n, h),
+    );
   }
 
   -- A device that is removed is no longer found by its start.
-  pub starts_without : (later : BTreeMap ℕ ℕ) (id : ℕ) (r : Range) (without : map.FinMap nat_cmp Range) → map.get devices id ≡ Some r →
-      without ≡ map.remove devices id → Updates nat_cmp ids later r.start None → AreIdsByStart without later
-  starts_without later id r without d e u = record {
+  pub starts_without : (id : ℕ) (r : Range) → map.get devices id ≡ Some r →
+      AreIdsByStart (map.remove devices id) (without start_of r.start starts)
+  starts_without id r d = record {
     at = λ x q.
-        let at = updated ids later r.start None u x in
-        rw e (
-          λ h. grind (arith, at, get_without devices id q, (a.at x q).0, d, h),
-          λ h. grind (arith, at, get_without devices id q, (a.at x q).1, (a.at x id).1, d, h),
+        let gone = taken_id starts r.start x in (
+          λ h. grind (arith, gone, get_without devices id q, (a.at x q).0, d, h),
+          λ h. grind (arith, gone, get_without devices id q, (a.at x q).1, (a.at x id).1, d, h),
         );
   }

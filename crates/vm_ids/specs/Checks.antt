@@ -1,4 +1,3 @@
 pub mod IdChecks
 pub mod IdQueries
-pub mod FreedBetween
 pub mod FreedChecks

@@ -29,7 +29,7 @@ use Rattle.std.specs.FinSet as set
 use Rattle.vm_ranges.specs.Cases.{IfElse, Unless}
 use Rattle.vm_ranges.specs.declared.error.Error.{Error}
 use Rattle.vm_ranges.specs.declared.error.Error.TheVariants.{Overflow, OutOfRange, ResourceNotAvailable, InvalidRange, OutOfMemory}
-use Rattle.vm_ids.specs.Ids.{MAX_ID, IdState, IsOfRange, IsHeld, IsNotHeld, PeeksId, new_ids, holding_id}
+use Rattle.vm_ids.specs.Ids.{MAX_ID, IdState, IsOfRange, WasEverAllocated, IsHeld, IsNotHeld, PeeksId, new_ids, holding_id}
 use Rattle.vm_ids.specs.declared.id_request.IdRequest.{IdRequest}
 use Rattle.vm_ids.specs.declared.id_request.IdRequest.TheVariants.{Lowest, LowestIn, Exact}
 
@@ -42,10 +42,18 @@ abbrev pub holding_ids : List ℕ → IdState → IdState
 holding_ids [] state = state
 holding_ids (i ∷ is) state = holding_ids is (holding_id i state)
 
--- The id i is allocated, or memory runs out and nothing changes. An id up to the bound needs no memory.
+-- The id i was allocated at some time, and freed since.
+abbrev pub IsFreed : IdState → ℕ → Type 0
+IsFreed state i = WasEverAllocated state i × ¬ IsHeld state i
+
+-- Allocating the id i needs memory: it is past the bound, or both ids next to it are freed.
+abbrev pub NeedsMemory : IdState → ℕ → Type 0
+NeedsMemory state i = (state.bound < i) ⊎ ((0 < i) × IsFreed state (i - 1) × IsFreed state (i + 1))
+
+-- The id i is allocated, or memory runs out and nothing changes.
 unfoldable pub HoldsId : IdState → ℕ → Result ℕ Error → IdState → Type 0
 HoldsId old i answer new =
-    ((answer ≡ Ok i) × (new ≡ holding_id i old)) ⊎ ((old.bound < i) × (answer ≡ Err OutOfMemory) × (new ≡ old))
+    ((answer ≡ Ok i) × (new ≡ holding_id i old)) ⊎ (NeedsMemory old i × (answer ≡ Err OutOfMemory) × (new ≡ old))
 
 -- The result of `allocate_exact`. An error changes nothing. The first condition that is true decides:
 -- - OutOfRange if the id is not in the range.

@@ -1,7 +1,7 @@
 //! An allocator of ids from a range.
 //!
 //! The ids below the next id were allocated at some time. A set contains the ids that were freed
-//! since. Freeing, cloning and skipping ids allocate memory.
+//! since, as runs of ids that follow each other. Freeing, cloning and skipping ids allocate memory.
 ghost use Rattle.std.specs.Prelude.{◌≡◌, ℕ, ◌≤◌, ◌⊎◌, ◌↔◌, IsTrue, IsOk, IfOk, OnErr, Ok, Err};
 ghost use Rattle.vm_ranges.specs.Cloning.{Clones};
 ghost use Rattle.vm_ids.specs.Ids.{
@@ -24,8 +24,8 @@ ghost use Rattle.vm_ids.specs.Ids.{
 };
 
 use std::alloc::Global;
-use std::collections::BTreeSet;
 use std::marker::Model;
+use vm_chunks::IdSet;
 use vm_ranges::{Error, Result};
 
 mod comparing;
@@ -41,9 +41,9 @@ pub use held_ids::HeldIds;
 
 /// Allocates ids from a range, the lowest free id first.
 ///
-/// An id is never allocated twice at the same time. It keeps each id that was freed, and each id that
-/// was skipped below an allocated one. For sparse ids, or aligned blocks of ids, use an
-/// `AddressAllocator` whose addresses are ids.
+/// An id is never allocated twice at the same time. It keeps the ids that were freed, and those that
+/// were skipped below an allocated one. Ids that follow each other take one entry, however many they
+/// are. For aligned blocks of ids, use an `AddressAllocator` whose addresses are ids.
 #[derive(Debug, Drop)]
 pub struct IdAllocator {
     pub(crate) range_base: u32,
@@ -51,7 +51,7 @@ pub struct IdAllocator {
     pub(crate) next_id: Option<u32>,
     pub(crate) range_end: u32,
     // The ids that were allocated and are free now.
-    pub(crate) freed_ids: BTreeSet<u32>,
+    pub(crate) freed_ids: IdSet,
 }
 
 impl Model for IdAllocator {
@@ -110,7 +110,7 @@ impl IdAllocator {
             range_base,
             next_id: Some(range_base),
             range_end,
-            freed_ids: BTreeSet::new(alloc),
+            freed_ids: IdSet::new(alloc),
         })
     }
 
@@ -150,9 +150,7 @@ impl IdAllocator {
     pub fn try_clone(&self, _alloc: Global) -> Result<Self>
         ensures { Clones self.now result }
     {
-        // The set is cloned with its own allocator, because the contract of `clone` promises an
-        // equal set. A new set would only have equal members.
-        let freed_ids = self.freed_ids.clone()?;
+        let freed_ids = self.freed_ids.try_clone()?;
         Ok(IdAllocator {
             range_base: self.range_base,
             next_id: self.next_id,
@@ -201,8 +199,8 @@ impl IdAllocator {
         ensures succeeds { (id : ℕ) → IsNotHeld self.now id → IsOk result }
         ensures state { IsIdState self.now }
     {
-        match self.freed_ids.first() {
-            Some(id) => Ok(*id),
+        match self.freed_ids.first_from(0) {
+            Some(id) => Ok(id),
             None => next_in_range(self.next_id, self.range_end),
         }
     }
@@ -213,7 +211,7 @@ impl IdAllocator {
         ensures value { IsTrue result ↔ IsHeld self.now id }
         ensures state { IsIdState self.now }
     {
-        self.was_allocated(id) && !self.freed_ids.contains(&id)
+        self.was_allocated(id) && !self.freed_ids.contains(id)
     }
 
     /// Returns the number of allocated ids.
@@ -225,7 +223,7 @@ impl IdAllocator {
         ensures state { IsIdState self.now }
     {
         let ever_allocated = bound_of(self.next_id, self.range_end) - u64::from(self.range_base);
-        ever_allocated - self.freed_ids.len() as u64
+        ever_allocated - self.freed_ids.len()
     }
 
     /// Frees an allocated id, and returns it.

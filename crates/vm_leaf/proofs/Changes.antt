@@ -11,6 +11,7 @@ use Rattle.vm_leaf.proofs.Fields.{length_of, state_is}
 use Rattle.vm_leaf.proofs.Masks.{moved_below, moved_between, moved_above, moved_lt}
 use Rattle.vm_leaf.proofs.Splices.{Spliced, spliced}
 use Rattle.vm_leaf.proofs.Tiles.{leaf_held, leaf_upper, leaf_lower, leaf_middle, leaf_merged}
+use Rattle.vm_leaf.specs.declared.leaf.TheConstants.{CAPACITY}
 
 -- A mask with the bit i set.
 pub record WithHeld (m : ℕ) (i : ℕ) (r : ℕ) : Type 0 where
@@ -24,7 +25,7 @@ pub record WithFree (m : ℕ) (i : ℕ) (r : ℕ) : Type 0 where
   pub others : (k : ℕ) → k ≢ i → states_in r k ≡ states_in m k
   pub bound : (n : ℕ) → m < 2 ^ n → r < 2 ^ n
 
-module _ (a : Inside) (bs : List Block) (i : ℕ) (v : IsInside a) (e : length a.starts ≡ 32) (view : encoded_blocks a ≡ bs)
+module _ (a : Inside) (bs : List Block) (i : ℕ) (v : IsInside a) (e : length a.starts ≡ CAPACITY) (view : encoded_blocks a ≡ bs)
     (within : i < length bs) where
   long : length bs ≡ a.len
   long = ap length (sym view) ∙ length_of a v e
@@ -105,7 +106,7 @@ module _ (a : Inside) (bs : List Block) (i : ℕ) (v : IsInside a) (e : length a
 
   -- The upper part of a free block is held, and the lower part stays free.
   pub upper : (S : List ℕ) (r m x : ℕ) → take (a.len + 1) S ≡ take (i + 1) a.starts ++ (x ∷ drop (i + 1) (take a.len a.starts))
-      → r ≡ moved a.held (i + 1) (i + 1) (i + 2) → WithHeld r (i + 1) m → (nth bs i).state ≡ Free → length bs + 1 ≤ 32
+      → r ≡ moved a.held (i + 1) (i + 1) (i + 2) → WithHeld r (i + 1) m → (nth bs i).state ≡ Free → length bs + 1 ≤ CAPACITY
       → (nth bs i).key.start < x → x ≤ (nth bs i).key.end
       → let b : Inside = record { starts = S; end = a.end; held = m; len = a.len + 1 } in IsInside b
       × (encoded_blocks b ≡ with_parts bs i 1 (upper_held (nth bs i).key x))
@@ -119,7 +120,7 @@ module _ (a : Inside) (bs : List Block) (i : ℕ) (v : IsInside a) (e : length a
 
   -- The lower part of a free block is held, and the upper part stays free.
   pub lower : (S : List ℕ) (r m x : ℕ) → take (a.len + 1) S ≡ take (i + 1) a.starts ++ (x ∷ drop (i + 1) (take a.len a.starts))
-      → r ≡ moved a.held (i + 1) (i + 1) (i + 2) → WithHeld r i m → (nth bs i).state ≡ Free → length bs + 1 ≤ 32
+      → r ≡ moved a.held (i + 1) (i + 1) (i + 2) → WithHeld r i m → (nth bs i).state ≡ Free → length bs + 1 ≤ CAPACITY
       → (nth bs i).key.start < x → x ≤ (nth bs i).key.end
       → let b : Inside = record { starts = S; end = a.end; held = m; len = a.len + 1 } in IsInside b
       × (encoded_blocks b ≡ with_parts bs i 1 (lower_held (nth bs i).key x))
@@ -133,7 +134,7 @@ module _ (a : Inside) (bs : List Block) (i : ℕ) (v : IsInside a) (e : length a
 
   -- The middle of a free block is held, and the parts on both sides stay free.
   pub middle : (S : List ℕ) (r m x y : ℕ) → take (a.len + 2) S ≡ take (i + 1) a.starts ++ (x ∷ (y ∷ drop (i + 1) (take a.len a.starts)))
-      → r ≡ moved a.held (i + 1) (i + 1) (i + 3) → WithHeld r (i + 1) m → (nth bs i).state ≡ Free → length bs + 2 ≤ 32
+      → r ≡ moved a.held (i + 1) (i + 1) (i + 3) → WithHeld r (i + 1) m → (nth bs i).state ≡ Free → length bs + 2 ≤ CAPACITY
       → (nth bs i).key.start < x → x < y → y ≤ (nth bs i).key.end
       → let b : Inside = record { starts = S; end = a.end; held = m; len = a.len + 2 } in IsInside b
       × (encoded_blocks b ≡ with_parts bs i 1 (middle_held (nth bs i).key x y))

@@ -38,6 +38,7 @@ use Rattle.vm_leaf.specs.States.{states_in}
 use Rattle.vm_leaf.specs.declared.leaf.Leaf.TheInside.{Inside}
 use Rattle.vm_leaf.proofs.Tiles.{leaf_part}
 use Rattle.vm_leaf.proofs.Tilings.{tiling-append}
+use Rattle.vm_leaf.specs.declared.leaf.TheConstants.{CAPACITY}
 
 -- ---- Lists of blocks
 -- The first block of a leaf can start at x if x is not past its end.
@@ -111,7 +112,7 @@ first_set [] len x z l = absurd (omega arith)
 first_set (s ∷ S) zero x z l = absurd (omega arith)
 first_set (s ∷ S) (suc len) x z l = refl
 
-module _ (a : Inside) (bs : List Block) (v : IsInside a) (e : length a.starts ≡ 32) (view : encoded_blocks a ≡ bs) (x : ℕ) where
+module _ (a : Inside) (bs : List Block) (v : IsInside a) (e : length a.starts ≡ CAPACITY) (view : encoded_blocks a ≡ bs) (x : ℕ) where
   leaf : IsLeaf bs
   leaf = subst IsLeaf view v.blocks
 

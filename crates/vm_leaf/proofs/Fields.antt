@@ -1,5 +1,5 @@
 -- The blocks of a leaf by its fields.
-use Rattle.std.proofs.Common.{◌≡◌, ℕ, ◌+◌, ◌-◌, ◌<◌, ◌≤◌, List, [], length, get_or, take, drop, refl, ap, ◌∙◌, sym, arith, length-take-le}
+use Rattle.std.proofs.Common.{◌≡◌, ℕ, ◌+◌, ◌-◌, ◌^◌, ◌<◌, ◌≤◌, List, [], length, get_or, take, drop, refl, ap, ◌∙◌, sym, arith, length-take-le, pow_mono}
 use Rattle.std.proofs.lemmas.List.{drop_more, drop_all, get_or-take}
 use Rattle.vm_leaf.specs.Block.{Block}
 use Rattle.vm_leaf.specs.Blocks.{nth}
@@ -12,6 +12,7 @@ use Rattle.vm_leaf.specs.States.{states_in}
 use Rattle.vm_leaf.specs.declared.leaf.Leaf.TheInside.{Inside}
 use Rattle.vm_leaf.proofs.Tiles.{leaf_part, leaf_range}
 use Rattle.vm_leaf.proofs.Tilings.{length-tiling, nth-tiling}
+use Rattle.vm_leaf.specs.declared.leaf.TheConstants.{CAPACITY}
 
 pub length_blocks : (S : List ℕ) (m len hi : ℕ) → len ≤ length S → length (tiling (states_in m) 0 (take len S) hi) ≡ len
 length_blocks S m len hi h = length-tiling (states_in m) 0 (take len S) hi ∙ length-take-le len S h
@@ -39,8 +40,12 @@ nth_last S m len hi i h l =
     nth-tiling (states_in m) 0 i (take len S) hi (omega arith) ∙ rw (none, at_i, zero_plus) refl
 
 -- A leaf has `len` blocks.
-pub length_of : (a : Inside) → IsInside a → length a.starts ≡ 32 → length (encoded_blocks a) ≡ a.len
+pub length_of : (a : Inside) → IsInside a → length a.starts ≡ CAPACITY → length (encoded_blocks a) ≡ a.len
 length_of a v h = length_blocks a.starts a.held a.len a.end (omega (arith, v.fits))
+
+-- The mask of a leaf has at most CAPACITY bits.
+pub mask_fits : (a : Inside) → IsInside a → a.held < 2 ^ CAPACITY
+mask_fits a v = let up : 2 ^ a.len ≤ 2 ^ CAPACITY = pow_mono v.fits in omega (arith, v.mask)
 
 -- The block at i, by the fields of the leaf.
 pub record IsBlockAt (a : Inside) (i : ℕ) : Type 0 where
@@ -58,7 +63,7 @@ pub record IsBlockAt (a : Inside) (i : ℕ) : Type 0 where
   pub range : IsRange (nth (encoded_blocks a) i).key.start (nth (encoded_blocks a) i).key.end
 
 -- The fields of a leaf give each block.
-pub block_at : (a : Inside) (i : ℕ) → IsInside a → length a.starts ≡ 32 → i < a.len → IsBlockAt a i
+pub block_at : (a : Inside) (i : ℕ) → IsInside a → length a.starts ≡ CAPACITY → i < a.len → IsBlockAt a i
 block_at a i v e l =
     let h : a.len ≤ length a.starts = omega (arith, v.fits) in
     let n = length_blocks a.starts a.held a.len a.end h in
@@ -85,7 +90,7 @@ block_at a i v e l =
       range = leaf_range (encoded_blocks a) i v.blocks (omega arith);
     }
 
-module _ (a : Inside) (bs : List Block) (i : ℕ) (v : IsInside a) (e : length a.starts ≡ 32) (view : encoded_blocks a ≡ bs)
+module _ (a : Inside) (bs : List Block) (i : ℕ) (v : IsInside a) (e : length a.starts ≡ CAPACITY) (view : encoded_blocks a ≡ bs)
     (l : i < length bs) where
   within : i < a.len
   within = let n = length_of a v e in let m = ap length view in omega arith
@@ -106,7 +111,7 @@ module _ (a : Inside) (bs : List Block) (i : ℕ) (v : IsInside a) (e : length a
       )
 
 -- A start after the first one is not 0.
-pub next_above : (a : Inside) (i : ℕ) → IsInside a → length a.starts ≡ 32 → i + 1 < a.len → 1 ≤ get_or a.starts (i + 1) 0
+pub next_above : (a : Inside) (i : ℕ) → IsInside a → length a.starts ≡ CAPACITY → i + 1 < a.len → 1 ≤ get_or a.starts (i + 1) 0
 next_above a i v e l = (block_at a (i + 1) v e l).above (omega arith)
 
 -- A block is in the leaf and starts at y or below it, or not.

@@ -23,6 +23,7 @@ use Rattle.vm_leaf.specs.GapMasks.{IsLowestOne, IsMaskAbove, AreGapsFrom}
 use Rattle.vm_leaf.specs.States.{states_in, state_of_bit}
 use Rattle.vm_leaf.proofs.Masks.{bit_of_mod}
 use Rattle.vm_leaf.proofs.GapBits.{opposite, held_if}
+use Rattle.vm_leaf.specs.declared.leaf.TheConstants.{CAPACITY}
 
 -- The number of trailing zeros is the index of the lowest 1.
 pub lowest_of : (m : ℕ) → 0 < m → m < 2 ^ 64 → IsLowestOne m (trailing_zeros w64 m)
@@ -84,7 +85,7 @@ less_without m z = omega (arith, and_le_r m (m - 1))
 pub ruleset lowest_ones = (lowest_of, mask_above, less_without)
 
 -- The inverted mask of the states has a 1 for each gap.
-module _ (bs : List Block) (m x : ℕ) (long : length bs ≤ 32) (fits : m < 2 ^ length bs) (small : m < 2 ^ 32)
+module _ (bs : List Block) (m x : ℕ) (long : length bs ≤ CAPACITY) (fits : m < 2 ^ length bs) (small : m < 2 ^ CAPACITY)
     (states : (k : ℕ) → k < length bs → (nth bs k).state ≡ states_in m k)
     (rest : x ≡ (18446744073709551615 - m) % 2 ^ length bs) where
   inverse : (k : ℕ) → k < length bs → bit_at x k ≡ 1 - bit_at m k

@@ -13,6 +13,7 @@ use Rattle.vm_leaf.specs.declared.leaf.Leaf.TheInside.{Inside}
 use Rattle.vm_leaf.specs.GapMasks.{AreGapsFrom}
 use Rattle.vm_leaf.proofs.Fields.{length_of, state_is}
 use Rattle.vm_leaf.proofs.GapMasks.{gaps_from}
+use Rattle.vm_leaf.specs.declared.leaf.TheConstants.{CAPACITY}
 
 -- No state is both free and held.
 not_both : (s : NodeState) → s ≡ Free → s ≡ Allocated → ⊥
@@ -30,7 +31,7 @@ same_finds : (st su : ℕ → NodeState) (upto : ℕ) → ((k : ℕ) → k < upt
 same_finds st su upto e None h = λ k l. e k l ∙ h k l
 same_finds st su upto e (Some i) h = (h.0, e i h.0 ∙ h.1, λ k l u. e k u ∙ h.2 k l u)
 
-module _ (a : Inside) (bs : List Block) (v : IsInside a) (e : length a.starts ≡ 32) (view : encoded_blocks a ≡ bs) where
+module _ (a : Inside) (bs : List Block) (v : IsInside a) (e : length a.starts ≡ CAPACITY) (view : encoded_blocks a ≡ bs) where
   -- A row of held bits ends at the end of the leaf or before it.
   pub gap_within : (r from : ℕ) → from ≤ length bs → ((k : ℕ) → from ≤ k → k < r → states_in a.held k ≡ Allocated) → r ≤ length bs
   gap_within r from l h =
@@ -53,7 +54,7 @@ module _ (a : Inside) (bs : List Block) (v : IsInside a) (e : length a.starts �
   pub gap_mask : (x : ℕ) → x ≡ (18446744073709551615 - a.held) % 2 ^ a.len → AreGapsFrom 0 bs x
   gap_mask x q =
       let n : length bs ≡ a.len = ap length (sym view) ∙ length_of a v e in
-      let long : length bs ≤ 32 = omega (arith, v.fits) in
-      let up : 2 ^ length bs ≤ 2 ^ 32 = pow_mono long in
+      let long : length bs ≤ CAPACITY = omega (arith, v.fits) in
+      let up : 2 ^ length bs ≤ 2 ^ CAPACITY = pow_mono long in
       let mask : a.held < 2 ^ length bs = rw n v.mask in
       gaps_from bs a.held x long mask (omega arith) (λ k l. sym (state_is a bs k v e view l)) (rw n q)

@@ -35,6 +35,7 @@ use Rattle.vm_leaf.specs.declared.leaf.Leaf.TheInside.{Inside}
 use Rattle.vm_leaf.proofs.Tilings.{same_tiling, tiling-append}
 use Rattle.vm_leaf.proofs.Fields.{length_of, end_is}
 use Rattle.vm_leaf.proofs.Tiles.{leaf_part}
+use Rattle.vm_leaf.specs.declared.leaf.TheConstants.{CAPACITY}
 
 -- A mask of i bits has a free state at i.
 pub clear_above : (m i : ℕ) → m < 2 ^ i → states_in m i ≡ Free
@@ -46,7 +47,7 @@ lower_power m i h = let p : 2 ^ i ≤ 2 ^ (i + 1) = pow_mono (omega arith) in om
 
 pub ruleset masks = (clear_above, lower_power)
 
-module _ (a : Inside) (xs : List Block) (v : IsInside a) (e : length a.starts ≡ 32) (view : encoded_blocks a ≡ xs) where
+module _ (a : Inside) (xs : List Block) (v : IsInside a) (e : length a.starts ≡ CAPACITY) (view : encoded_blocks a ≡ xs) where
   long : length xs ≡ a.len
   long = ap length (sym view) ∙ length_of a v e
 
@@ -56,7 +57,7 @@ module _ (a : Inside) (xs : List Block) (v : IsInside a) (e : length a.starts �
 
   module _ (b : Block) (h : IsLeaf (xs ++ b ∷ [])) where
     -- A leaf to which a block is added has room for it.
-    pub room : a.len < 32
+    pub room : a.len < CAPACITY
     room = let n = long in omega (arith, h.fits, length-append xs (b ∷ []))
 
     -- The block that is pushed starts right after the end of the leaf.

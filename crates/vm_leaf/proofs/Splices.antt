@@ -33,6 +33,7 @@ use Rattle.vm_leaf.specs.declared.leaf.Leaf.TheInside.{Inside}
 use Rattle.vm_leaf.proofs.Tilings.{replaced, nth-tiling, length-tiling}
 use Rattle.vm_leaf.proofs.Tiles.{length-with_parts}
 use Rattle.vm_leaf.proofs.Fields.{length_of}
+use Rattle.vm_leaf.specs.declared.leaf.TheConstants.{CAPACITY}
 
 -- The fields b are a with the n starts at i replaced by the start at i and other ones.
 pub record Spliced (a b : Inside) (i n : ℕ) (extra : List ℕ) : Type 0 where
@@ -43,7 +44,7 @@ pub record Spliced (a b : Inside) (i n : ℕ) (extra : List ℕ) : Type 0 where
   pub len : b.len + n ≡ a.len + 1 + length extra
   pub mask : b.held < 2 ^ b.len
 
-module _ (a b : Inside) (i n : ℕ) (extra : List ℕ) (bs : List Block) (s : Spliced a b i n extra) (v : IsInside a) (e : length a.starts ≡ 32)
+module _ (a b : Inside) (i n : ℕ) (extra : List ℕ) (bs : List Block) (s : Spliced a b i n extra) (v : IsInside a) (e : length a.starts ≡ CAPACITY)
     (view : encoded_blocks a ≡ bs) (some : 0 < n) (fits : i + n ≤ length bs) where
   -- The blocks of the new fields.
   pub view_spliced : encoded_blocks b ≡ with_parts bs i n

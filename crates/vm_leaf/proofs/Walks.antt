@@ -43,9 +43,10 @@ use Rattle.vm_leaf.proofs.Tilings.{length-tiling, tiling-append, same_tiling, ta
 use Rattle.vm_leaf.proofs.Masks.{high_states}
 use Rattle.vm_leaf.proofs.Fields.{length_of, end_is}
 use Rattle.vm_leaf.proofs.Tiles.{leaf_range, leaf_low, leaf_high}
+use Rattle.vm_leaf.specs.declared.leaf.TheConstants.{CAPACITY}
 
 -- ---- A part of a leaf
-module _ (a : Inside) (bs : List Block) (v : IsInside a) (e : length a.starts ≡ 32) (view : encoded_blocks a ≡ bs) (i j : ℕ) (order : i < j)
+module _ (a : Inside) (bs : List Block) (v : IsInside a) (e : length a.starts ≡ CAPACITY) (view : encoded_blocks a ≡ bs) (i j : ℕ) (order : i < j)
     (within : j ≤ length bs) (t : ℕ) (end : t ≡ (nth bs (j - 1)).key.end) where
   abbrev ss : List ℕ
   ss = take a.len a.starts

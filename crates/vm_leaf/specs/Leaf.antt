@@ -2,9 +2,10 @@
 use Rattle.std.specs.Prelude.{ℕ, ◌+◌, ◌-◌, ◌^◌, ◌<◌, ◌≤◌, List, [], ◌∷◌, take}
 use Rattle.vm_leaf.specs.States.{states_in}
 use Rattle.vm_leaf.specs.Block.{Block}
-use Rattle.vm_leaf.specs.Blocks.{IsLeaf, CAPACITY}
+use Rattle.vm_leaf.specs.Blocks.{IsLeaf}
 use Rattle.vm_leaf.specs.declared.leaf.Leaf.TheInside.{Inside}
 use Rattle.vm_ranges.specs.declared.state.NodeState.{NodeState}
+use Rattle.vm_leaf.specs.declared.leaf.TheConstants.{CAPACITY}
 
 -- The last address before the first of these starts, or hi if there is none.
 abbrev pub end_before : List ℕ → ℕ → ℕ

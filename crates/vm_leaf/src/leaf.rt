@@ -1,4 +1,4 @@
-//! A leaf: up to 32 consecutive blocks, with their first addresses in one array.
+//! A leaf: up to `CAPACITY` consecutive blocks, with their first addresses in one array.
 ghost use Rattle.std.specs.Prelude.{◌≡◌, ◌≢◌, ℕ, ◌+◌, ◌-◌, ◌*◌, ◌%◌, ◌^◌, ◌<◌, ◌≤◌, [], ◌∷◌, ◌++◌, length, take, drop, MatchBool};
 ghost use Rattle.vm_ranges.specs.declared.state.NodeState.TheVariants.{Free, Allocated};
 ghost use Rattle.vm_ranges.specs.Range.{IsIn};
@@ -31,7 +31,7 @@ pub const CAPACITY: usize = 32;
 /// The minimum number of blocks of a leaf, unless the leaf is the whole tree.
 pub const MIN_BLOCKS: usize = 12;
 
-/// One to 32 consecutive blocks that cover a range of addresses. Two neighbours are never both free.
+/// One to `CAPACITY` consecutive blocks that cover a range of addresses. Two neighbours are never both free.
 ///
 /// The fields have this order in memory, so that few blocks are in few cache lines.
 #[derive(Debug, Drop)]
@@ -114,9 +114,9 @@ fn without_held(held: u64, i: usize) -> u64
 #[tactic(auto, using(crate::proofs::Masks::moving))]
 fn with_moved(held: u64, keep: usize, from: usize, to: usize) -> u64
     requires keeps { keep ≤ to }
-    requires from { from ≤ 32 }
-    requires to { to ≤ 32 }
-    requires mask { held < 2 ^ 32 }
+    requires from { from ≤ CAPACITY }
+    requires to { to ≤ from + 2 }
+    requires mask { held < 2 ^ CAPACITY }
     ensures { result ≡ moved held keep from to }
 {
     ((held >> from) << to) + held % (1 << keep)
@@ -127,7 +127,7 @@ fn with_moved(held: u64, keep: usize, from: usize, to: usize) -> u64
 #[tactic(auto, using(crate::proofs::Arrays::inserted_one))]
 fn insert_one(starts: &mut [u64; CAPACITY], len: usize, at: usize, first: u64)
     requires within { at ≤ len }
-    requires room { len + 1 ≤ 32 }
+    requires room { len + 1 ≤ CAPACITY }
     ensures { take (len + 1) starts.new ≡ take at starts.old ++ (first ∷ drop at (take len starts.old)) }
 {
     starts.copy_within(at..len, at + 1);
@@ -139,7 +139,7 @@ fn insert_one(starts: &mut [u64; CAPACITY], len: usize, at: usize, first: u64)
 #[tactic(auto, using(crate::proofs::Arrays::inserted_two))]
 fn insert_two(starts: &mut [u64; CAPACITY], len: usize, at: usize, first: u64, second: u64)
     requires within { at ≤ len }
-    requires room { len + 2 ≤ 32 }
+    requires room { len + 2 ≤ CAPACITY }
     ensures { take (len + 2) starts.new ≡ take at starts.old ++ (first ∷ (second ∷ drop at (take len starts.old))) }
 {
     starts.copy_within(at..len, at + 2);
@@ -153,7 +153,7 @@ fn insert_two(starts: &mut [u64; CAPACITY], len: usize, at: usize, first: u64, s
 fn remove_between(starts: &mut [u64; CAPACITY], len: usize, to: usize, from: usize)
     requires order { to ≤ from }
     requires within { from ≤ len }
-    requires fits { len ≤ 32 }
+    requires fits { len ≤ CAPACITY }
     ensures { take (len - from + to) starts.new ≡ take to starts.old ++ drop from (take len starts.old) }
 {
     starts.copy_within(from..len, to);
@@ -163,7 +163,7 @@ fn remove_between(starts: &mut [u64; CAPACITY], len: usize, to: usize, from: usi
 #[inline(always)]
 #[tactic(auto, using(crate::proofs::Arrays::copied))]
 fn copy_in(starts: &mut [u64; CAPACITY], at: usize, other: &[u64; CAPACITY], n: usize)
-    requires { at + n ≤ 32 }
+    requires { at + n ≤ CAPACITY }
     ensures { take (at + n) starts.new ≡ take at starts.old ++ take n other.now }
 {
     starts[at..at + n].copy_from_slice(&other[..n]);
@@ -173,7 +173,7 @@ fn copy_in(starts: &mut [u64; CAPACITY], at: usize, other: &[u64; CAPACITY], n: 
 #[inline(always)]
 #[tactic(auto, using(crate::proofs::Masks::appending))]
 fn with_appended(held: u64, len: usize, other: u64, _more: usize) -> u64
-    requires fits { len + _more ≤ 32 }
+    requires fits { len + _more ≤ CAPACITY }
     requires mask { held < 2 ^ len }
     requires other_mask { other < 2 ^ _more }
     ensures { result ≡ other * 2 ^ len + held }
@@ -185,7 +185,7 @@ fn with_appended(held: u64, len: usize, other: u64, _more: usize) -> u64
 #[inline(always)]
 #[tactic(auto, using(crate::proofs::Masks::moving))]
 fn low_part(held: u64, at: usize) -> u64
-    requires { at ≤ 32 }
+    requires { at ≤ CAPACITY }
     ensures { result ≡ held % 2 ^ at }
 {
     held % (1 << at)
@@ -273,7 +273,7 @@ impl Leaf {
     #[inline(always)]
     #[tactic(auto, using(crate::proofs::Fields::length_of))]
     fn one_if_up_to(&self, i: usize, address: u64) -> usize
-        requires { i < 32 }
+        requires { i < CAPACITY }
         ensures { IsOneIfUpTo self.now i address result }
     {
         let len = self.len;
@@ -289,7 +289,7 @@ impl Leaf {
     fn narrow_to_half(&self, low: usize, half: usize, address: u64) -> usize
         requires within { low < length self.now }
         requires from { (nth self.now low).key.start ≤ address }
-        requires fits { low + half < 32 }
+        requires fits { low + half < CAPACITY }
         requires upto { low + 2 * half < length self.now → address < (nth self.now (low + 2 * half)).key.start }
         ensures { IsNarrowed self.now low half address result }
     {
@@ -311,7 +311,7 @@ impl Leaf {
     fn narrow_to_quarter(&self, low: usize, step: usize, address: u64) -> usize
         requires within { low < length self.now }
         requires from { (nth self.now low).key.start ≤ address }
-        requires fits { low + 3 * step < 32 }
+        requires fits { low + 3 * step < CAPACITY }
         requires upto { low + 4 * step < length self.now → address < (nth self.now (low + 4 * step)).key.start }
         ensures { IsNarrowed self.now low step address result }
     {
@@ -356,11 +356,11 @@ impl Leaf {
 
     /// Splits the gap `i` into a free part and an allocated part, which starts at `first`.
     #[inline(always)]
-    #[tactic(auto, using(crate::proofs::Fields::length_of))]
+    #[tactic(auto, using(crate::proofs::Fields::length_of, crate::proofs::Fields::mask_fits))]
     fn split_upper(&mut self, i: usize, first: u64)
         requires within { i < length self.old }
         requires free { (nth self.old i).state ≡ Free }
-        requires room { length self.old + 1 ≤ 32 }
+        requires room { length self.old + 1 ≤ CAPACITY }
         requires after { (nth self.old i).key.start < first }
         requires upto { first ≤ (nth self.old i).key.end }
         ensures { self.new ≡ with_parts self.old i 1 (upper_held (nth self.old i).key first) }
@@ -373,11 +373,11 @@ impl Leaf {
 
     /// Splits the gap `i` into an allocated part and a free part, which starts at `next`.
     #[inline(always)]
-    #[tactic(auto, using(crate::proofs::Fields::length_of))]
+    #[tactic(auto, using(crate::proofs::Fields::length_of, crate::proofs::Fields::mask_fits))]
     fn split_lower(&mut self, i: usize, next: u64)
         requires within { i < length self.old }
         requires free { (nth self.old i).state ≡ Free }
-        requires room { length self.old + 1 ≤ 32 }
+        requires room { length self.old + 1 ≤ CAPACITY }
         requires after { (nth self.old i).key.start < next }
         requires upto { next ≤ (nth self.old i).key.end }
         ensures { self.new ≡ with_parts self.old i 1 (lower_held (nth self.old i).key next) }
@@ -391,11 +391,11 @@ impl Leaf {
     /// Splits the gap `i` into a free part, an allocated part that starts at `first`, and a free part that starts
     /// at `next`.
     #[inline(always)]
-    #[tactic(auto, using(crate::proofs::Fields::length_of))]
+    #[tactic(auto, using(crate::proofs::Fields::length_of, crate::proofs::Fields::mask_fits))]
     fn split_middle(&mut self, i: usize, first: u64, next: u64)
         requires within { i < length self.old }
         requires free { (nth self.old i).state ≡ Free }
-        requires room { length self.old + 2 ≤ 32 }
+        requires room { length self.old + 2 ≤ CAPACITY }
         requires after { (nth self.old i).key.start < first }
         requires order { first < next }
         requires upto { next ≤ (nth self.old i).key.end }
@@ -421,7 +421,7 @@ impl Leaf {
 
     /// Replaces the `n` blocks starting at `i` with one gap. Their neighbours must be allocated.
     #[inline(always)]
-    #[tactic(auto, using(crate::proofs::Fields::length_of))]
+    #[tactic(auto, using(crate::proofs::Fields::length_of, crate::proofs::Fields::mask_fits))]
     fn merge(&mut self, i: usize, n: usize)
         requires some { 0 < n }
         requires within { i + n ≤ length self.old }
@@ -447,7 +447,7 @@ impl Leaf {
         requires within { i < length self.old }
         requires free { (nth self.old i).state ≡ Free }
         requires rest { IsRest rest (nth self.old i).key range }
-        requires room { length self.old + added_by rest ≤ 32 }
+        requires room { length self.old + added_by rest ≤ CAPACITY }
         ensures { self.new ≡ with_parts self.old i 1 (parts (nth self.old i).key range) }
     {
         // Proof: `len` gives the facts of a leaf.

@@ -1,10 +1,10 @@
-//! A leaf of a tree of blocks: up to 32 consecutive blocks of an address space in one array.
+//! A leaf of a tree of blocks: up to `CAPACITY` consecutive blocks of an address space in one array.
 //!
 //! # How a leaf is stated
 //!
 //! - The value of a [`Leaf`] is the list of its blocks. Its fields are the starts of the blocks, the end of
 //!   the last one, and a bit for the state of each (`encoded_blocks`).
-//! - `IsLeaf`: there are 1 to 32 blocks, each starts after the one before it, and two neighbours are never
+//! - `IsLeaf`: there are 1 to `CAPACITY` blocks, each starts after the one before it, and two neighbours are never
 //!   both free.
 //!
 //! # What is proved

@@ -9,6 +9,7 @@ use Rattle.vm_leaf.specs.Rest.{IsRest}
 use Rattle.vm_leaf.specs.Multiples.{HasMultiple, alignment_count, most_alignments}
 use Rattle.vm_leaf.specs.declared.leaf.rest.Rest.{Rest}
 use Rattle.vm_leaf.specs.declared.leaf.rest.Rest.TheVariants.{Nothing, Before, After, Both}
+use Rattle.vm_leaf.specs.declared.leaf.TheConstants.{MIN_BLOCKS}
 use Rattle.vm_leaf.proofs.MultiplesBetween.{at_most, count_is_exact}
 use Rattle.vm_leaf.proofs.Tiles.{length-with_parts}
 use Rattle.vm_leaf.proofs.Parts.{parts_all, parts_upper, parts_lower, parts_middle}
@@ -93,7 +94,7 @@ module _ (bs : List Block) (i : ℕ) (rest : Rest) (k r : Range) (within : i < l
 -- A leaf in which a range of such a gap is allocated keeps its summary, its height, and enough blocks.
 pub small_gap : (old : Shape) (bs cs new : List Block) (place : Place) (longest alignments n m : ℕ) → old ≡ Tip bs → cs ≡ bs →
     IsLeafPlace (blocks old) place → IsFreeOf (Tip bs) longest alignments
-    → 12 ≤ length (blocks old) → new ≡ with_parts cs place.index 1 (parts (nth cs place.index).key place.range)
+    → MIN_BLOCKS ≤ length (blocks old) → new ≡ with_parts cs place.index 1 (parts (nth cs place.index).key place.range)
     → n ≡ address_count place.gap → m ≡ alignment_count place.gap → n < longest → m < alignments →
     Keeps change.Nothing old (Tip new) × IsFreeOf (Tip new) longest alignments
 small_gap old bs cs new place longest alignments n m q p h s full e long count l f =
@@ -104,5 +105,5 @@ small_gap old bs cs new place longest alignments n m q p h s full e long count l
     let w : new ≡ with_parts bs place.index 1 (parts place.gap place.range) = rw (p, k) at e in
     let g = length-with_parts bs place.index 1 (parts place.gap place.range) (omega (arith, c.within)) in
     let z = some_parts place.gap place.range in
-    let i : 12 ≤ length bs = rw q at full in
+    let i : MIN_BLOCKS ≤ length bs = rw q at full in
     rw (q, w) (((sym a, sym b), refl, omega arith), (s.0 ∙ sym a, s.1 ∙ sym b))

@@ -29,6 +29,7 @@ use Rattle.vm_ranges.specs.declared.state.NodeState.TheVariants.{Allocated}
 use Rattle.vm_leaf.specs.declared.block.Block.{Block}
 use Rattle.vm_leaf.specs.Block.{free_block, held_block}
 use Rattle.vm_leaf.specs.Blocks.{Tiles, start_of, IsLeaf, IsRun}
+use Rattle.vm_leaf.specs.declared.leaf.TheConstants.{CAPACITY}
 use Rattle.vm_tree.specs.Building.{AreInOrder, gap_before, blocks_between, remaining_blocks, IsBlockCursor}
 use Rattle.vm_tree.specs.declared.build.BlockCursor.{BlockCursor}
 use Rattle.vm_tree.proofs.Lists.{cover_left, cover_leaf}
@@ -112,8 +113,8 @@ some_left old xs ys n e l k z =
 pub one_more : (old xs ys more : List Block) (b : Block) → old ≡ xs ++ ys → ys ≡ b ∷ more → old ≡ (xs ++ b ∷ []) ++ more
 one_more old xs ys more b e f = e ∙ ap (λ (v : List Block). xs ++ v) f ∙ sym (append_assoc xs (b ∷ []) more)
 
--- Up to 32 blocks that were read are a leaf.
-pub leaf_one_more : (old xs ys more : List Block) (b : Block) → IsRun old → old ≡ xs ++ ys → ys ≡ b ∷ more → length xs < 32 →
+-- Up to CAPACITY blocks that were read are a leaf.
+pub leaf_one_more : (old xs ys more : List Block) (b : Block) → IsRun old → old ≡ xs ++ ys → ys ≡ b ∷ more → length xs < CAPACITY →
     IsLeaf (xs ++ b ∷ [])
 leaf_one_more old xs ys more b run e f l =
     let n = length-append xs (b ∷ []) in

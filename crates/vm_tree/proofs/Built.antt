@@ -37,6 +37,7 @@ use Rattle.vm_leaf.specs.declared.block.Block.{Block}
 use Rattle.vm_tree.specs.Shape.{Shape, Tip, Fork, blocks, height_of, node_count, leaf_count, IsBalanced, HasFullLeaves, IsRooted}
 use Rattle.vm_tree.specs.Building.{IsPlan, IsLeafHeight, IsBuiltLeaf, IsBuilt}
 use Rattle.vm_leaf.specs.Blocks.{start_of}
+use Rattle.vm_leaf.specs.declared.leaf.TheConstants.{CAPACITY, MIN_BLOCKS}
 use Rattle.vm_tree.proofs.Lists.{start_append}
 use Rattle.vm_tree.proofs.Trees.{full_rooted, rooted_some}
 
@@ -121,7 +122,7 @@ pub leaf_is_built : (e m : ℕ) (old : List Block) (s : Shape) (new : List Block
     IsBuilt 1 e m old s new
 leaf_is_built e m old s new p b =
     let o = p.order in
-    let fits : length (blocks s) ≤ 32 = elim (cases_lt 0 m)
+    let fits : length (blocks s) ≤ CAPACITY = elim (cases_lt 0 m)
     [ inl k ↦ omega (arith, p.fits_more k, b.count) | inr k ↦ omega (arith, p.fits, b.count) ] in
     record {
       cut = b.cut;
@@ -134,7 +135,7 @@ leaf_is_built e m old s new p b =
     }
 
 -- ---- A node
-module _ (n e m a ma b mb : ℕ) (old xs new : List Block) (l r s : Shape) (two : 12 ≤ e) (sum : a + b ≡ n) (some : 0 < a) (order : a ≤ b)
+module _ (n e m a ma b mb : ℕ) (old xs new : List Block) (l r s : Shape) (two : MIN_BLOCKS ≤ e) (sum : a + b ≡ n) (some : 0 < a) (order : a ≤ b)
     (close : b ≤ a + 1)
     (count : a * e + ma + (b * e + mb) ≡ n * e + m) (left : IsBuilt a e ma old l xs) (right : IsBuilt b e mb xs r new)
     (q : s ≡ Fork l r) where
@@ -184,7 +185,7 @@ module _ (b e mb : ℕ) (xs new : List Block) (r : Shape) (right : IsBuilt b e m
   first_of_half = ap start_of right.cut ∙ start_append (blocks r) new (rooted_some r right.rooted)
 
 -- A half with leaves takes a block.
-pub some_block : (b e mb : ℕ) (xs : List Block) → 0 < b → 12 ≤ e → b * e + mb ≤ length xs → xs ≢ []
+pub some_block : (b e mb : ℕ) (xs : List Block) → 0 < b → MIN_BLOCKS ≤ e → b * e + mb ≤ length xs → xs ≢ []
 some_block zero e mb xs s l h z = absurd (omega arith)
 some_block (suc b) e mb xs s l h z = let g : length xs ≡ 0 = ap length z in let k = add-mul b 1 e in absurd (omega arith)
 

@@ -7,6 +7,7 @@ use Rattle.vm_ranges.specs.declared.state.NodeState.{NodeState}
 use Rattle.vm_ranges.specs.declared.state.NodeState.TheVariants.{Free, Allocated}
 use Rattle.vm_leaf.specs.declared.block.Block.{Block}
 use Rattle.vm_leaf.specs.Blocks.{Tiles, NotBothFree, IsRun}
+use Rattle.vm_leaf.specs.declared.leaf.TheConstants.{MIN_BLOCKS}
 use Rattle.vm_tree.specs.Fibonacci.{fibonacci, fibonacci_pair}
 use Rattle.vm_tree.specs.Shape.{Shape, Tip, Fork, blocks, height_of, leaf_count, node_count, IsBalanced, HasFullLeaves, IsTree}
 use Rattle.vm_tree.specs.Heights.{held_blocks, one_if_held, IsLowTree}
@@ -87,8 +88,8 @@ nodes_by_height (Fork l r) =
     let m = pow_more 2 (max (height_of l) (height_of r)) in
     omega arith
 
--- A tree of full leaves has at least 12 blocks for each leaf.
-blocks_by_leaves : (s : Shape) → HasFullLeaves s → 12 * leaf_count s ≤ length (blocks s)
+-- A tree of full leaves has at least MIN_BLOCKS blocks for each leaf.
+blocks_by_leaves : (s : Shape) → HasFullLeaves s → MIN_BLOCKS * leaf_count s ≤ length (blocks s)
 blocks_by_leaves (Tip bs) h = omega (arith, h.0)
 blocks_by_leaves (Fork l r) h = let a = blocks_by_leaves l h.0 in let b = blocks_by_leaves r h.1 in omega
     (arith, length-append (blocks l) (blocks r))
@@ -117,9 +118,9 @@ pub run_held : (bs : List Block) → IsRun bs → length bs ≤ 2 * held_blocks 
 run_held bs h = blocks_by_held Allocated h.lo h.hi bs h.tiles
 
 -- ---- The height by the number k of held blocks
--- Above height 1, 12 F(h + 1) is at most 2k + 1.
+-- Above height 1, MIN_BLOCKS * F(h + 1) is at most 2k + 1.
 height_by_held : (s : Shape) → IsTree s → IsRun (blocks s) → 2 ≤ height_of s →
-    12 * fibonacci (height_of s + 1) ≤ 2 * held_blocks (blocks s) + 1
+    MIN_BLOCKS * fibonacci (height_of s + 1) ≤ 2 * held_blocks (blocks s) + 1
 height_by_held (Tip bs) h c k = absurd (omega arith)
 height_by_held (Fork l r) h c k =
     let a = leaves_by_height (Fork l r) h.balanced in

@@ -6,6 +6,7 @@ use Rattle.std.proofs.Common.{
   suc,
   ◌+◌,
   ◌-◌,
+  ◌*◌,
   ◌<◌,
   ◌≤◌,
   max,
@@ -30,24 +31,25 @@ use Rattle.std.proofs.Common.{
 use Rattle.vm_leaf.specs.declared.block.Block.{Block}
 use Rattle.vm_leaf.specs.Blocks.{start_of}
 use Rattle.vm_leaf.specs.Blocks.{IsRun}
+use Rattle.vm_leaf.specs.declared.leaf.TheConstants.{CAPACITY, MIN_BLOCKS}
 use Rattle.vm_tree.specs.Shape.{Shape, Tip, Fork, blocks, height_of, leaf_count, DifferByAtMost, HasFullLeaves, IsRooted, IsTree}
 use Rattle.vm_tree.specs.Mending.{leaf_len, end_len, JoinsNext, CanBalance, CanMend, Mends, JoinsLeaves, Shrinks, Loses, CanMendTree, MendsTree}
 use Rattle.vm_tree.specs.declared.end.End.{End}
 use Rattle.vm_tree.specs.declared.end.End.TheVariants.{First, Last}
 use Rattle.vm_tree.proofs.Lists.{start_append, cover_left, cover_right, drop_append, take_append, cover_drop, cover_take, first_append, last_append}
 
--- A tree of full leaves has at least 12 blocks.
-pub full_some : (s : Shape) → HasFullLeaves s → 12 ≤ length (blocks s)
+-- A tree of full leaves has at least MIN_BLOCKS blocks.
+pub full_some : (s : Shape) → HasFullLeaves s → MIN_BLOCKS ≤ length (blocks s)
 full_some (Tip bs) h = h.0
 full_some (Fork l r) h = let a = full_some l h.0 in omega (arith, length-append (blocks l) (blocks r))
 
--- A tree with several leaves has at least 24 blocks.
-pub tall : (s : Shape) → IsRooted s → 2 ≤ height_of s → 24 ≤ length (blocks s)
+-- A tree with several leaves has at least 2 * MIN_BLOCKS blocks.
+pub tall : (s : Shape) → IsRooted s → 2 ≤ height_of s → 2 * MIN_BLOCKS ≤ length (blocks s)
 tall (Tip bs) h k = absurd (omega arith)
 tall (Fork l r) h k = let a = full_some l h.0 in let b = full_some r h.1 in omega (arith, length-append (blocks l) (blocks r))
 
--- The tree of a root has full leaves if it has at least 12 blocks.
-pub rooted_full : (s : Shape) → IsRooted s → 12 ≤ length (blocks s) → HasFullLeaves s
+-- The tree of a root has full leaves if it has at least MIN_BLOCKS blocks.
+pub rooted_full : (s : Shape) → IsRooted s → MIN_BLOCKS ≤ length (blocks s) → HasFullLeaves s
 rooted_full (Tip bs) h k = (k, h.1)
 rooted_full (Fork l r) h k = h
 
@@ -175,9 +177,9 @@ rotated_twice_left l b c a h e o =
     }
 
 -- Blocks that do not fit into one leaf are joined to two leaves.
-pub two_leaves : (xs ys us vs : List Block) → us ++ vs ≡ xs ++ ys → (12 ≤ length us) × (length us ≤ 32) →
-    (12 ≤ length vs) × (length vs ≤ 32)
-    → 32 < length xs + length ys → JoinsLeaves xs ys (Fork (Tip us) (Tip vs))
+pub two_leaves : (xs ys us vs : List Block) → us ++ vs ≡ xs ++ ys → (MIN_BLOCKS ≤ length us) × (length us ≤ CAPACITY) →
+    (MIN_BLOCKS ≤ length vs) × (length vs ≤ CAPACITY)
+    → CAPACITY < length xs + length ys → JoinsLeaves xs ys (Fork (Tip us) (Tip vs))
 two_leaves xs ys us vs e a b m = record {
   blocks = e;
   merged = λ l. absurd (omega arith);
@@ -187,7 +189,7 @@ two_leaves xs ys us vs e a b m = record {
 }
 
 -- Blocks that fit into one leaf are joined to it.
-pub one_leaf : (xs ys : List Block) → length xs + length ys ≤ 32 → JoinsLeaves xs ys (Tip (xs ++ ys))
+pub one_leaf : (xs ys : List Block) → length xs + length ys ≤ CAPACITY → JoinsLeaves xs ys (Tip (xs ++ ys))
 one_leaf xs ys m = record {
   blocks = refl;
   merged = λ l. refl;
@@ -199,16 +201,16 @@ one_leaf xs ys m = record {
 -- The leaves of the tree of two leaves.
 joined_rooted : (xs ys : List Block) (s : Shape) → JoinsLeaves xs ys s → 0 < length xs → IsRooted s
 joined_rooted xs ys s j a =
-    elim (Rattle.std.proofs.lemmas.Bool.cases_lt 32 (length xs + length ys)) [
+    elim (Rattle.std.proofs.lemmas.Bool.cases_lt CAPACITY (length xs + length ys)) [
       | Rattle.std.proofs.Common.inl k ↦ full_rooted s (j.full k)
       | Rattle.std.proofs.Common.inr k ↦ subst IsRooted (sym (j.merged k))
           (omega (arith, length-append xs ys), omega (arith, length-append xs ys))
     ]
 
--- Joined leaves with at least 12 blocks are full.
-joined_full : (xs ys : List Block) (s : Shape) → JoinsLeaves xs ys s → 12 ≤ length xs + length ys → HasFullLeaves s
+-- Joined leaves with at least MIN_BLOCKS blocks are full.
+joined_full : (xs ys : List Block) (s : Shape) → JoinsLeaves xs ys s → MIN_BLOCKS ≤ length xs + length ys → HasFullLeaves s
 joined_full xs ys s j a =
-    elim (Rattle.std.proofs.lemmas.Bool.cases_lt 32 (length xs + length ys)) [
+    elim (Rattle.std.proofs.lemmas.Bool.cases_lt CAPACITY (length xs + length ys)) [
       | Rattle.std.proofs.Common.inl k ↦ j.full k
       | Rattle.std.proofs.Common.inr k ↦ subst HasFullLeaves (sym (j.merged k))
           (omega (arith, length-append xs ys), omega (arith, length-append xs ys))
@@ -217,18 +219,18 @@ joined_full xs ys s j a =
 -- Joined leaves have at most height 2.
 joined_low : (xs ys : List Block) (s : Shape) → JoinsLeaves xs ys s → height_of s ≤ 2
 joined_low xs ys s j =
-    elim (Rattle.std.proofs.lemmas.Bool.cases_lt 32 (length xs + length ys)) [
+    elim (Rattle.std.proofs.lemmas.Bool.cases_lt CAPACITY (length xs + length ys)) [
       | Rattle.std.proofs.Common.inl k ↦ omega (arith, j.two k)
       | Rattle.std.proofs.Common.inr k ↦ omega (arith, ap height_of (j.merged k))
     ]
 
 -- One leaf of the blocks of two, if they fit.
-joined_one : (xs ys : List Block) (s : Shape) → JoinsLeaves xs ys s → length xs + length ys ≤ 32 → leaf_count s ≡ 1
+joined_one : (xs ys : List Block) (s : Shape) → JoinsLeaves xs ys s → length xs + length ys ≤ CAPACITY → leaf_count s ≡ 1
 joined_one xs ys s j m = ap leaf_count (j.merged m)
 
 -- Two leaves, of which one has too few blocks, or which fit in one leaf.
 abbrev pub CannotStay : List Block → List Block → Type 0
-CannotStay xs ys = 20 < length xs → 20 < length ys → ⊥
+CannotStay xs ys = CAPACITY - MIN_BLOCKS < length xs → CAPACITY - MIN_BLOCKS < length ys → ⊥
 
 -- A leaf that is to be joined with the next one cannot stay the same.
 pub cannot_stay_left : (xs ys : List Block) → JoinsNext First (Tip xs) (Tip ys) → CannotStay xs ys
@@ -358,14 +360,14 @@ joins_leaf end (Fork l r) t j h k =
       | Rattle.std.proofs.Common.inr p ↦ absurd (omega (arith, some_at_end end t h k))
     ]
 
--- A tree with at least 12 blocks in its leaf has full leaves.
-pub full_len : (s : Shape) → IsTree s → 12 ≤ leaf_len s → HasFullLeaves s
+-- A tree with at least MIN_BLOCKS blocks in its leaf has full leaves.
+pub full_len : (s : Shape) → IsTree s → MIN_BLOCKS ≤ leaf_len s → HasFullLeaves s
 full_len (Tip bs) h k = (k, h.leaves.1)
 full_len (Fork l r) h k = h.leaves
 
 -- Children of which no leaf has to be joined only need rotations.
-pub can_balance : (l r : Shape) → CanMend l r → 12 ≤ leaf_len l → 12 ≤ leaf_len r → 32 < leaf_len l + end_len First r →
-    32 < leaf_len r + end_len Last l → CanBalance l r
+pub can_balance : (l r : Shape) → CanMend l r → MIN_BLOCKS ≤ leaf_len l → MIN_BLOCKS ≤ leaf_len r → CAPACITY < leaf_len l + end_len First r →
+    CAPACITY < leaf_len r + end_len Last l → CanBalance l r
 can_balance l r h a b c d = record {
   left = h.left.balanced;
   right = h.right.balanced;
@@ -435,11 +437,11 @@ tree_left l r h = record { balanced = h.balanced.0; leaves = full_rooted l h.lea
 pub tree_right : (l r : Shape) → IsTree (Fork l r) → IsTree r
 tree_right l r h = record { balanced = h.balanced.1; leaves = full_rooted r h.leaves.1 }
 
--- Both children of a tree have at least 12 blocks.
-pub left_some : (l r : Shape) → IsTree (Fork l r) → 12 ≤ length (blocks l)
+-- Both children of a tree have at least MIN_BLOCKS blocks.
+pub left_some : (l r : Shape) → IsTree (Fork l r) → MIN_BLOCKS ≤ length (blocks l)
 left_some l r h = full_some l h.leaves.0
 
-pub right_some : (l r : Shape) → IsTree (Fork l r) → 12 ≤ length (blocks r)
+pub right_some : (l r : Shape) → IsTree (Fork l r) → MIN_BLOCKS ≤ length (blocks r)
 right_some l r h = full_some r h.leaves.1
 
 -- The blocks of a leaf and of the next leaf are a run, if the next leaf is the first child of the sibling.
@@ -469,13 +471,13 @@ joined_start xs ys l a m s e f h j =
 pub unchanged : (s : Shape) → IsTree s → Shrinks s s
 unchanged s h = record { tree = h; upto = omega arith; from = omega arith }
 
--- A tree of height 1 has at most 32 blocks.
-low_fits : (s : Shape) → IsRooted s → height_of s ≤ 1 → length (blocks s) ≤ 32
+-- A tree of height 1 has at most CAPACITY blocks.
+low_fits : (s : Shape) → IsRooted s → height_of s ≤ 1 → length (blocks s) ≤ CAPACITY
 low_fits (Tip bs) h k = h.1
 low_fits (Fork l r) h k = let a = high l in absurd (omega arith)
 
--- A tree with fewer than 24 blocks is a leaf.
-short_low : (s : Shape) → HasFullLeaves s → length (blocks s) < 24 → height_of s ≤ 1
+-- A tree with fewer than 2 * MIN_BLOCKS blocks is a leaf.
+short_low : (s : Shape) → HasFullLeaves s → length (blocks s) < 2 * MIN_BLOCKS → height_of s ≤ 1
 short_low s h k =
     elim (Rattle.std.proofs.lemmas.Bool.cases_lt 1 (height_of s)) [
       | Rattle.std.proofs.Common.inl t ↦ absurd (omega (arith, tall s (full_rooted s h) (omega arith)))
@@ -519,8 +521,8 @@ not_lower l r a b s h m k =
     let x = high l in
     let y = high r in
     let w = high s in
-    elim (Rattle.std.proofs.lemmas.Bool.cases_lt 20 (length (blocks a))) [
-      | Rattle.std.proofs.Common.inl p ↦ elim (Rattle.std.proofs.lemmas.Bool.cases_lt 20 (length (blocks b))) [
+    elim (Rattle.std.proofs.lemmas.Bool.cases_lt (CAPACITY - MIN_BLOCKS) (length (blocks a))) [
+      | Rattle.std.proofs.Common.inl p ↦ elim (Rattle.std.proofs.lemmas.Bool.cases_lt (CAPACITY - MIN_BLOCKS) (length (blocks b))) [
         | Rattle.std.proofs.Common.inl q ↦ (
             let u = m.steady (omega arith) (omega arith) (
               omega (arith, d.0, d.1, h.left.upto, h.left.from, h.right.upto, h.right.from, m.from),
@@ -603,8 +605,8 @@ pub mend_whole : (t l r s : Shape) → t ≡ Fork l r → Mends l r s → MendsT
 mend_whole t l r s q h = subst (λ (x : Shape). MendsTree x s) (sym q) h
 
 -- A balanced node without a leaf to be joined needs no mending.
-pub mends_itself : (l r : Shape) → CanMend l r → 12 ≤ leaf_len l → 12 ≤ leaf_len r → 32 < leaf_len l + end_len First r →
-    32 < leaf_len r + end_len Last l → height_of l ≤ height_of r + 1 → height_of r ≤ height_of l + 1 → MendsTree (Fork l r) (Fork l r)
+pub mends_itself : (l r : Shape) → CanMend l r → MIN_BLOCKS ≤ leaf_len l → MIN_BLOCKS ≤ leaf_len r → CAPACITY < leaf_len l + end_len First r →
+    CAPACITY < leaf_len r + end_len Last l → height_of l ≤ height_of r + 1 → height_of r ≤ height_of l + 1 → MendsTree (Fork l r) (Fork l r)
 mends_itself l r h a b c d low up = joined l r (can_balance l r h a b c d) (low, up)
 
 -- A node that needs no mending is a tree.

@@ -1,6 +1,7 @@
 -- The summary beside a link after a change below it.
 use Rattle.std.proofs.Common.{◌≡◌, ℕ, ◌+◌, ◌≤◌, ◌++◌, length, refl, ap, ◌∙◌, sym, subst, arith, length-append}
 use Rattle.vm_leaf.specs.Blocks.{IsRun}
+use Rattle.vm_leaf.specs.declared.leaf.TheConstants.{MIN_BLOCKS}
 use Rattle.vm_tree.specs.Shape.{Shape, Fork, blocks, height_of, IsTree}
 use Rattle.vm_tree.specs.declared.link.Node.TheInside.{Inside}
 use Rattle.vm_tree.specs.Links.{side, shape_of, IsFreeOf, IsSummed, stored_longest, stored_alignments, stored_height}
@@ -45,7 +46,7 @@ pub linked : (t : Link) {longest alignments height : ℕ} {n : _} → t ≡ link
 linked t e s = rw e (subst IsSummed e s)
 
 -- A full subtree that stays keeps its summary.
-keeps_same : (c : Change) (s : Shape) → 12 ≤ length (blocks s) → Keeps c s s
+keeps_same : (c : Change) (s : Shape) → MIN_BLOCKS ≤ length (blocks s) → Keeps c s s
 keeps_same Nothing s n = ((refl, refl), refl, n)
 keeps_same FreeOnly s n = (refl, n)
 keeps_same Structure s n = tt
@@ -129,8 +130,8 @@ loosens_both c d m n l r a b h i j k s t run =
     }
 
 -- A node whose children lost blocks is a tree, if none of them got lower or short.
-loosened_tree : (l r a b : Shape) → Loses l r a b → height_of l ≡ height_of a → height_of r ≡ height_of b → 12 ≤ length (blocks a) →
-    12 ≤ length (blocks b) → IsTree (Fork a b)
+loosened_tree : (l r a b : Shape) → Loses l r a b → height_of l ≡ height_of a → height_of r ≡ height_of b → MIN_BLOCKS ≤ length (blocks a) →
+    MIN_BLOCKS ≤ length (blocks b) → IsTree (Fork a b)
 loosened_tree l r a b h x y m n =
     let d = h.whole.balanced.2 in
     record {
@@ -162,8 +163,8 @@ updated_by FreeOnly a b s u = ap blocks u
 updated_by Structure a b s u = u.blocks
 
 -- A node whose children keep their height and stay full has shrunk.
-shrinks_same : (l r a b s : Shape) → Loses l r a b → height_of l ≡ height_of a → height_of r ≡ height_of b → 12 ≤ length (blocks a) →
-    12 ≤ length (blocks b) → s ≡ Fork a b → Shrinks (Fork l r) s
+shrinks_same : (l r a b s : Shape) → Loses l r a b → height_of l ≡ height_of a → height_of r ≡ height_of b → MIN_BLOCKS ≤ length (blocks a) →
+    MIN_BLOCKS ≤ length (blocks b) → s ≡ Fork a b → Shrinks (Fork l r) s
 shrinks_same l r a b s h x y m n e =
     let k = ap height_of e in
     record { tree = subst IsTree (sym e) (loosened_tree l r a b h x y m n); upto = omega arith; from = omega arith }

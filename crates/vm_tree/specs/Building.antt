@@ -3,6 +3,7 @@ use Rattle.std.specs.Prelude.{◌≡◌, ℕ, ◌+◌, ◌-◌, ◌*◌, ◌^◌
 use Rattle.vm_ranges.specs.Range.{Range, MAX}
 use Rattle.vm_ranges.specs.declared.state.NodeState.TheVariants.{Free, Allocated}
 use Rattle.vm_leaf.specs.declared.block.Block.{Block}
+use Rattle.vm_leaf.specs.declared.leaf.TheConstants.{CAPACITY, MIN_BLOCKS}
 use Rattle.vm_tree.specs.Shape.{Shape, Tip, blocks, height_of, node_count, leaf_count, IsBalanced, HasFullLeaves, IsRooted, IsTree, MAX_HEIGHT}
 use Rattle.vm_tree.specs.declared.build.BlockCursor.{BlockCursor}
 
@@ -47,9 +48,9 @@ pub record IsPlan (leaves each more : ℕ) : Type 0 where
   pub some : 0 < leaves
   pub few : leaves ≤ 2 ^ 44
   pub order : more ≤ leaves
-  pub fits : each ≤ 32
-  pub fits_more : 0 < more → each < 32
-  pub full : 1 < leaves → 12 ≤ each
+  pub fits : each ≤ CAPACITY
+  pub fits_more : 0 < more → each < CAPACITY
+  pub full : 1 < leaves → MIN_BLOCKS ≤ each
   pub any : 0 < each + more
 
 -- No tree of n leaves is lower than h, and a tree that is built by halves has this height.
@@ -69,12 +70,12 @@ pub record IsBuilt (leaves each more : ℕ) (old : List Block) (tree : Shape) (n
   pub leaf_total : leaf_count tree ≡ leaves
   pub balanced : IsBalanced tree
   pub height : IsLeafHeight leaves (height_of tree)
-  pub full : 12 ≤ each → HasFullLeaves tree
+  pub full : MIN_BLOCKS ≤ each → HasFullLeaves tree
   pub rooted : IsRooted tree
 
 -- The tree has its blocks in the fewest leaves, and the minimum height for its nodes.
 pub record IsLowestTree (s : Shape) : Type 0 where
-  pub leaves : 32 * leaf_count s < length (blocks s) + 32
+  pub leaves : CAPACITY * leaf_count s < length (blocks s) + CAPACITY
   pub height : IsLowestHeight (node_count s) (height_of s)
 
 -- The tree has these blocks in the fewest leaves, and the minimum height for its nodes.

@@ -2,6 +2,7 @@
 use Rattle.std.specs.Prelude.{◌≡◌, ℕ, ◌+◌, ◌≤◌, ◌++◌, length}
 use Rattle.vm_leaf.specs.Blocks.{longest_gap, IsRun}
 use Rattle.vm_leaf.specs.Multiples.{most_alignments}
+use Rattle.vm_leaf.specs.declared.leaf.TheConstants.{MIN_BLOCKS}
 use Rattle.vm_tree.specs.Shape.{Shape, blocks, height_of, IsTree, MAX_HEIGHT}
 use Rattle.vm_tree.specs.Links.{IsFreeOf}
 use Rattle.vm_tree.specs.Mending.{Shrinks, Loses, CanMendTree, MendsTree}
@@ -10,8 +11,8 @@ use Rattle.vm_tree.specs.declared.change.Change.TheVariants.{Nothing, FreeOnly, 
 
 -- The tree s has enough blocks for a leaf and, except for the reported change, this summary and this height.
 abbrev pub Reports : Change → ℕ → ℕ → ℕ → Shape → Type 0
-Reports Nothing longest alignments height s = IsFreeOf s longest alignments × (height ≡ height_of s) × (12 ≤ length (blocks s))
-Reports FreeOnly longest alignments height s = (height ≡ height_of s) × (12 ≤ length (blocks s))
+Reports Nothing longest alignments height s = IsFreeOf s longest alignments × (height ≡ height_of s) × (MIN_BLOCKS ≤ length (blocks s))
+Reports FreeOnly longest alignments height s = (height ≡ height_of s) × (MIN_BLOCKS ≤ length (blocks s))
 Reports Structure longest alignments height s = Unit {0}
 
 -- The summary of the tree is unchanged, except for the reported change.

@@ -3,6 +3,7 @@ use Rattle.std.specs.Prelude.{ℕ, ◌+◌, ◌*◌, ◌^◌, ◌<◌, ◌≤◌
 use Rattle.vm_ranges.specs.declared.state.NodeState.{NodeState}
 use Rattle.vm_ranges.specs.declared.state.NodeState.TheVariants.{Free, Allocated}
 use Rattle.vm_leaf.specs.declared.block.Block.{Block}
+use Rattle.vm_leaf.specs.declared.leaf.TheConstants.{MIN_BLOCKS}
 use Rattle.vm_tree.specs.Fibonacci.{fibonacci}
 use Rattle.vm_tree.specs.Shape.{Shape, blocks, height_of, node_count}
 
@@ -19,10 +20,10 @@ held_blocks (b ∷ bs) = one_if_held b.state + held_blocks bs
 -- The height of a tree with k held blocks is bounded by the number of its nodes, and by k:
 -- - A tree of height h has at least F(h + 2) - 1 nodes and at most 2 ^ h - 1.
 -- - There are at most 2k + 1 nodes, and F(h + 2) is at most 2k + 2.
--- - Above height 1, full leaves give a stronger bound: 12 F(h + 1) is at most 2k + 1.
+-- - Above height 1, full leaves give a stronger bound: MIN_BLOCKS * F(h + 1) is at most 2k + 1.
 pub record IsLowTree (s : Shape) : Type 0 where
   pub fewest : fibonacci (height_of s + 2) ≤ node_count s + 1
   pub most : node_count s < 2 ^ height_of s
   pub few : node_count s ≤ 2 * held_blocks (blocks s) + 1
   pub low : fibonacci (height_of s + 2) ≤ 2 * held_blocks (blocks s) + 2
-  pub full : 2 ≤ height_of s → 12 * fibonacci (height_of s + 1) ≤ 2 * held_blocks (blocks s) + 1
+  pub full : 2 ≤ height_of s → MIN_BLOCKS * fibonacci (height_of s + 1) ≤ 2 * held_blocks (blocks s) + 1

@@ -1,6 +1,7 @@
 -- Trees without pointers: the model of a tree of blocks.
 use Rattle.std.specs.Prelude.{ℕ, ◌+◌, ◌≤◌, ◌<◌, max, List, ◌++◌, length}
 use Rattle.vm_leaf.specs.declared.block.Block.{Block}
+use Rattle.vm_leaf.specs.declared.leaf.TheConstants.{CAPACITY, MIN_BLOCKS}
 
 -- A leaf with its blocks, or a left and a right subtree.
 pub data Shape : Type 0 where
@@ -35,10 +36,6 @@ MAX_HEIGHT = 49
 abbrev pub SPLIT_HEIGHT : ℕ
 SPLIT_HEIGHT = 48
 
--- The minimum number of blocks of a leaf, unless it is the whole tree.
-abbrev pub MIN_BLOCKS : ℕ
-MIN_BLOCKS = 12
-
 -- The heights l and r are at most `by` apart.
 abbrev pub DifferByAtMost : ℕ → ℕ → ℕ → Type 0
 DifferByAtMost by l r = (l ≤ r + by) × (r ≤ l + by)
@@ -50,12 +47,12 @@ IsBalanced (Fork l r) = IsBalanced l × IsBalanced r × DifferByAtMost 1 (height
 
 -- Each leaf has at least MIN_BLOCKS and at most CAPACITY blocks.
 abbrev pub HasFullLeaves : Shape → Type 0
-HasFullLeaves (Tip bs) = (12 ≤ length bs) × (length bs ≤ 32)
+HasFullLeaves (Tip bs) = (MIN_BLOCKS ≤ length bs) × (length bs ≤ CAPACITY)
 HasFullLeaves (Fork l r) = HasFullLeaves l × HasFullLeaves r
 
 -- The same, but a leaf that is the whole tree can have fewer blocks.
 abbrev pub IsRooted : Shape → Type 0
-IsRooted (Tip bs) = (0 < length bs) × (length bs ≤ 32)
+IsRooted (Tip bs) = (0 < length bs) × (length bs ≤ CAPACITY)
 IsRooted (Fork l r) = HasFullLeaves l × HasFullLeaves r
 
 -- s is a balanced tree whose leaves have enough blocks.

@@ -75,7 +75,7 @@ impl BlockCursor<'_> {
 fn fill_leaf(count: u64, cursor: &mut BlockCursor<'_>) -> Leaf
     requires cursor { IsBlockCursor cursor.old }
     requires some { 0 < count }
-    requires fits { count ≤ 32 }
+    requires fits { count ≤ CAPACITY }
     requires enough { count ≤ length (remaining_blocks cursor.old) }
     ensures cut { remaining_blocks cursor.old ≡ result ++ remaining_blocks cursor.new }
     ensures count { length result ≡ count }

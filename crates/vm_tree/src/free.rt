@@ -3,7 +3,7 @@
 //! The range of a block can end right before the edge between two children of a node, or start at it. Then
 //! the block on the other side of the edge is looked at. If it is a gap, the range is freed together with it.
 //! After that the gap is dropped from its leaf, and the edge moves over it.
-ghost use Rattle.std.specs.Prelude.{◌≡◌, ◌≢◌, ◌+◌, ◌*◌, ◌-◌, ◌<◌, ◌≤◌, length, max, MatchOption, OnSome};
+ghost use Rattle.std.specs.Prelude.{◌≡◌, ◌≢◌, ◌+◌, ◌*◌, ◌-◌, ◌/◌, ◌<◌, ◌≤◌, length, max, MatchOption, OnSome};
 ghost use Rattle.vm_ranges.specs.Range.{MAX, address_count};
 ghost use Rattle.vm_ranges.specs.declared.state.NodeState.TheVariants.{Allocated};
 ghost use Rattle.vm_leaf.specs.Blocks.{nth, start_of, end_of, freed_at, longest_gap};
@@ -121,7 +121,7 @@ fn write_summary(longest: &mut u64, alignments: &mut u32, leaf: &Leaf, new: Summ
     requires { IsFreeOf (Tip leaf.now) new.longest new.alignments }
     ensures summed { IsFreeOf (Tip leaf.now) longest.new alignments.new }
     ensures reported { Reports result longest.old alignments.old 1 (Tip leaf.now) }
-    ensures half_full { length leaf.now ≤ 16 → result ≡ Change.Structure }
+    ensures half_full { length leaf.now ≤ CAPACITY / 2 → result ≡ Change.Structure }
 {
     let (old_longest, old_alignments) = (*longest, *alignments);
     *longest = new.longest;
@@ -142,7 +142,7 @@ fn raise(longest: &mut u64, alignments: &mut u32, leaf: &Leaf, gap: &Gap) -> Fre
         (max alignments.old (alignment_count gap.now.range)) }
     ensures summed { IsFreeOf (Tip leaf.now) longest.new alignments.new }
     ensures reported { Reports result.change longest.old alignments.old 1 (Tip leaf.now) }
-    ensures half_full { length leaf.now ≤ 16 → result.change ≡ Change.Structure }
+    ensures half_full { length leaf.now ≤ CAPACITY / 2 → result.change ≡ Change.Structure }
     ensures joined { result.joined ≡ gap.now.joined }
 {
     let add = Summary::of_gap(&gap.range);
@@ -184,7 +184,7 @@ fn drop_end_in(longest: &mut u64, alignments: &mut u32, leaf: &mut Leaf, end: En
     ensures dropped { leaf.new ≡ without_end end leaf.old }
     ensures summed { IsFreeOf (Tip leaf.new) longest.new alignments.new }
     ensures reported { Reports result longest.old alignments.old 1 (Tip leaf.new) }
-    ensures half_full { length leaf.new ≤ 16 → result ≡ Change.Structure }
+    ensures half_full { length leaf.new ≤ CAPACITY / 2 → result ≡ Change.Structure }
 {
     let block = leaf.key_at(index_at(leaf, end));
     match end {

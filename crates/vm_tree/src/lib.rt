@@ -1,4 +1,4 @@
-//! A balanced tree of the blocks of an address space, whose leaves hold up to 32 blocks each.
+//! A balanced tree of the blocks of an address space, whose leaves hold up to `CAPACITY` blocks each.
 //!
 //! A block is a range of addresses that is allocated as a whole, or free as a whole. `AddressAllocator`
 //! of `vm_addresses` allocates and frees ranges in this tree.
@@ -7,8 +7,8 @@
 //!
 //! - The value of a [`Tree`] is a `Shape`: a leaf with its blocks, or a node with a left and a right subtree.
 //!   `blocks` is the list of all its blocks in order.
-//! - `IsTree`: the heights of the children of a node differ by at most one, and each leaf has 12 to 32 blocks.
-//!   A leaf that is the whole tree can have fewer.
+//! - `IsTree`: the heights of the children of a node differ by at most one, and each leaf has `MIN_BLOCKS` to
+//!   `CAPACITY` blocks. A leaf that is the whole tree can have fewer.
 //! - `IsRun`: the blocks cover one range, and two neighbours are never both free.
 //! - `IsSummed`: each link stores the height of its subtree, the length of its longest gap, and the alignments
 //!   of its gaps.

@@ -17,7 +17,7 @@ use vm_leaf::{CAPACITY, Leaf, MIN_BLOCKS};
 /// Returns the number of blocks of a leaf. A node counts as a full leaf.
 fn leaf_len(link: &Link) -> usize
     ensures value { result ≡ leaf_len (side link.now) }
-    ensures within { result ≤ 32 }
+    ensures within { result ≤ CAPACITY }
 {
     match link {
         Link::Hole => 0,
@@ -38,7 +38,7 @@ fn leaf_len(link: &Link) -> usize
 /// root. Any other tree counts as a full leaf.
 fn end_len(link: &Link, end: End) -> usize
     ensures value { result ≡ end_len end (side link.now) }
-    ensures within { result ≤ 32 }
+    ensures within { result ≤ CAPACITY }
 {
     match link {
         Link::Fork { node, .. } => {
@@ -59,7 +59,7 @@ fn joins_next(link: &Link, next: &Link, end: End) -> bool
     requires next { IsTree (side next.now) }
     requires some { 0 < length (blocks (side next.now)) }
     ensures { MatchBool result (JoinsNext end (side link.now) (side next.now))
-        ((12 ≤ leaf_len (side link.now)) × (32 < leaf_len (side link.now) + end_len end (side next.now))) }
+        ((MIN_BLOCKS ≤ leaf_len (side link.now)) × (CAPACITY < leaf_len (side link.now) + end_len end (side next.now))) }
 {
     let len = leaf_len(link);
     if len < MIN_BLOCKS {

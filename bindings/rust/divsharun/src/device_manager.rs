@@ -2,6 +2,7 @@
 use crate::address_allocator::{space_of, ShortDebug};
 use crate::convert::out_of_memory;
 use crate::error::TryResult;
+use crate::id_allocator::DebugIds;
 use crate::proved::vm_devices as proved;
 use crate::rattle::Global;
 use crate::traits::{allocator, iterate, DebugList};
@@ -704,7 +705,7 @@ impl DeviceManager {
 impl fmt::Debug for DeviceManager {
     fn fmt(&self, f: &mut fmt::Formatter<'_>) -> fmt::Result {
         f.debug_struct("DeviceManager")
-            .field("ids", self.0.ids())
+            .field("ids", &DebugIds(self.0.ids()))
             .field("addresses", &ShortDebug(self.0.addresses()))
             .field("devices", &DebugList(|| self.0.devices()))
             .finish()

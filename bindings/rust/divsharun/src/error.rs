@@ -105,7 +105,7 @@ pub enum TryError {
     /// The error that the call without `try_` would return.
     Refused(Error),
     /// Memory ran out. This error comes after every other one. In a call with a list, that of a copy of
-    /// the list comes first.
+    /// the list comes first, and in a call of a [`RangeMap`](crate::RangeMap), that of a value.
     OutOfMemory,
 }
 

@@ -30,10 +30,11 @@ use core::{convert, fmt};
 ///
 /// # Sparse ids and aligned blocks of ids
 ///
-/// An `IdAllocator` keeps each id that was freed, and each id that was skipped below an allocated one.
-/// An [`AddressAllocator`](crate::AddressAllocator) whose addresses are ids keeps only ranges. It can
-/// also allocate a block of ids that starts at a multiple of its length, as MSI with several vectors
-/// needs it:
+/// Freed ids that follow each other take one entry, and so do the ids that are skipped below an allocated
+/// one: any id can be the first. A saved value lists each freed id.
+///
+/// An [`AddressAllocator`](crate::AddressAllocator) whose addresses are ids can also allocate a block of
+/// ids that starts at a multiple of its length, as MSI with several vectors needs it:
 ///
 /// ```rust
 /// use divsharun::{AddressAllocator, AllocPolicy, Error};
@@ -78,8 +79,8 @@ impl IdAllocator {
     /// allocated. They must be in ascending order.
     ///
     /// It is equal to a new allocator after [`allocate_exact`](Self::allocate_exact) of each id. All ids
-    /// are checked before memory is allocated. Time and memory are linear in the last id minus
-    /// `range_base`.
+    /// are checked before memory is allocated. It takes memory for each run of ids that the list skips,
+    /// however long the run is.
     ///
     /// # Errors
     ///
@@ -161,8 +162,9 @@ impl IdAllocator {
 
     /// Allocates this id and returns it.
     ///
-    /// Unused ids below it become freed ids, as if they had been allocated and freed. Time and memory are
-    /// linear in their number. It does not allocate memory if there are none.
+    /// Unused ids below it become freed ids, as if they had been allocated and freed. They take one entry,
+    /// however many they are. Memory is allocated only if there are some, or if the ids right below and
+    /// right above the id are both freed ids.
     ///
     /// # Errors
     ///
@@ -546,9 +548,38 @@ impl IdAllocator {
     }
 }
 
+/// Writes the range, the next id and the allocated ids.
 impl fmt::Debug for IdAllocator {
     fn fmt(&self, f: &mut fmt::Formatter<'_>) -> fmt::Result {
-        self.0.fmt(f)
+        DebugIds(&self.0).fmt(f)
+    }
+}
+
+/// The `Debug` of an allocator of the proved code.
+pub(crate) struct DebugIds<'a>(pub(crate) &'a proved::IdAllocator);
+
+impl fmt::Debug for DebugIds<'_> {
+    fn fmt(&self, f: &mut fmt::Formatter<'_>) -> fmt::Result {
+        f.debug_struct("IdAllocator")
+            .field("range_base", &self.0.range_base())
+            .field("next_id", &self.0.next_id())
+            .field("range_end", &self.0.range_end())
+            .field("held_ids", &FirstHeld(self.0))
+            .finish()
+    }
+}
+
+/// The `Debug` of the lowest allocated ids, at most 64. It ends in `..` if there are more.
+struct FirstHeld<'a>(&'a proved::IdAllocator);
+
+impl fmt::Debug for FirstHeld<'_> {
+    fn fmt(&self, f: &mut fmt::Formatter<'_>) -> fmt::Result {
+        let (mut ids, mut list) = (self.0.held_ids(), f.debug_list());
+        list.entries(ids.by_ref().take(64));
+        match ids.count_left() {
+            0 => list.finish(),
+            _ => list.finish_non_exhaustive(),
+        }
     }
 }
 

@@ -1,7 +1,7 @@
 // SPDX-License-Identifier: Apache-2.0 OR BSD-3-Clause
 use crate::convert::out_of_memory;
-use crate::rattle::{BTreeMap, Global};
 use crate::{AddressAllocator, HeldRanges, NodeState, RangeInclusive, TryError};
+use alloc::vec::Vec;
 use core::fmt;
 use core::iter::FusedIterator;
 
@@ -26,18 +26,22 @@ use core::iter::FusedIterator;
 /// );
 /// # Ok::<(), divsharun::Error>(())
 /// ```
-#[derive(Debug)]
+#[derive(Clone, Debug)]
 pub struct Layout<'a> {
     allocator: &'a AddressAllocator,
-    names: BTreeMap<RangeInclusive, &'a str>,
+    // The named ranges in ascending order. Of several names of a range, the last is shown.
+    names: Vec<Named<'a>>,
 }
+
+/// A range, the number of names before this one, and the name.
+type Named<'a> = (RangeInclusive, usize, &'a str);
 
 impl<'a> Layout<'a> {
     /// Creates the layout of an allocator, without names.
     pub(crate) fn of(allocator: &'a AddressAllocator) -> Self {
         Layout {
             allocator,
-            names: BTreeMap::new(Global),
+            names: Vec::new(),
         }
     }
 
@@ -86,9 +90,12 @@ impl<'a> Layout<'a> {
         names: impl IntoIterator<Item = (RangeInclusive, &'a str)>,
     ) -> Result<Self, TryError> {
         for (range, name) in names {
-            let named = self.names.insert(range, name);
-            named.map_err(|_| TryError::OutOfMemory)?;
+            let room = self.names.try_reserve(1);
+            room.map_err(|_| TryError::OutOfMemory)?;
+            self.names.push((range, self.names.len(), name));
         }
+        self.names
+            .sort_unstable_by_key(|(range, before, _)| (*range, *before));
         Ok(self)
     }
 
@@ -117,15 +124,6 @@ impl<'a> Layout<'a> {
             held,
             highest: None,
             names: &self.names,
-        }
-    }
-}
-
-impl Clone for Layout<'_> {
-    fn clone(&self) -> Self {
-        Layout {
-            allocator: self.allocator,
-            names: self.names.clone().unwrap_or_else(|_| out_of_memory()),
         }
     }
 }
@@ -205,7 +203,7 @@ pub struct Blocks<'a> {
     lowest: Option<RangeInclusive>,
     held: HeldRanges<'a>,
     highest: Option<RangeInclusive>,
-    names: &'a BTreeMap<RangeInclusive, &'a str>,
+    names: &'a [Named<'a>],
 }
 
 impl<'a> Blocks<'a> {
@@ -213,8 +211,15 @@ impl<'a> Blocks<'a> {
         Block {
             range,
             state: NodeState::Allocated,
-            name: self.names.get(&range).copied(),
+            name: self.name(range),
         }
+    }
+
+    /// Returns the last name that was given to the range.
+    fn name(&self, range: RangeInclusive) -> Option<&'a str> {
+        let upto = self.names.partition_point(|(named, ..)| *named <= range);
+        let (named, _, name) = self.names[..upto].last()?;
+        (*named == range).then_some(*name)
     }
 
     /// Returns a gap. A space never has all 2^64 addresses, so each of its blocks is a range.

@@ -9,6 +9,7 @@
 //! - [`IdAllocator`] allocates 32-bit ids from a range, the lowest free id first.
 //! - [`DeviceManager`] gives each device an id and a range. If it cannot have both, it gets
 //!   neither.
+//! - [`RangeMap`] allocates ranges like an address allocator, and keeps a value with each range.
 //!
 //! ```rust
 //! use divsharun::{AddressAllocator, AllocPolicy, Constraint, IdAllocator, RangeInclusive, Result};
@@ -42,7 +43,7 @@
 //! Results differ where that crate has bugs. `docs/DIFFERENCES.md` in the repository lists each
 //! difference. These items are new:
 //!
-//! - [`DeviceManager`] and [`IdRequest`];
+//! - [`DeviceManager`] and [`IdRequest`], and [`RangeMap`];
 //! - of an [`IdAllocator`]: [`with_held`](IdAllocator::with_held),
 //!   [`allocate_exact`](IdAllocator::allocate_exact), [`allocate_in`](IdAllocator::allocate_in),
 //!   [`allocate_ids`](IdAllocator::allocate_ids), [`peek_id`](IdAllocator::peek_id),
@@ -96,22 +97,22 @@
 //! Let k be the number of allocated ranges. Allocating, moving and freeing a range takes time of the
 //! order of log k, and so do `conflict`, `move_conflict`, `holds`, `held_at` and `gap_at`. An alignment can make the
 //! search for a range visit more gaps. A walk within a range takes time of the order of log k, plus the
-//! number of ranges and gaps in it. Calls on one id or device take logarithmic time. If such a call makes
-//! the list of freed ids or of devices longer, it can also move the list, in linear time.
-//! `allocate_exact`, `allocate_in` and `reserve_with_id` add each id that they skip to the freed ones. Counts, ends,
-//! `height` and `longest_gap` take constant time. Other calls of allocators and managers take at most
-//! linear time.
+//! number of ranges and gaps in it. Calls on one id, device or range of a map take logarithmic time, also
+//! if they skip ids. If a call makes the list of freed ids, of devices or of values longer, it can also move
+//! the list, in linear time. Counts, ends, `height` and `longest_gap` take constant time. Other calls of
+//! allocators, managers and maps take at most linear time.
 //!
 //! The allocated ranges and gaps are in leaves of 280 bytes, with 12 to 32 of them in each leaf, and an
 //! inner node of 56 bytes joins two subtrees. A tree that is one leaf can have fewer. Allocating or moving
 //! a range allocates a leaf and an inner node if its leaf would have more than 32, and otherwise nothing,
 //! and `allocate_all` also three lists. A copy allocates all leaves and nodes, `with_held` also a list, and
-//! `with_free` two. Reserving or moving a device and freeing, skipping or copying ids can allocate.
+//! `with_free` two. Reserving or moving a device, freeing, skipping or copying ids, and keeping, moving or
+//! copying the values of a map can allocate.
 //!
 //! # Threads
 //!
-//! All types are `Send` and `Sync`. Calls that change an allocator take `&mut self`, so threads
-//! share it behind a lock:
+//! All types are `Send` and `Sync`, and a map is if its values are. Calls that change an allocator take
+//! `&mut self`, so threads share it behind a lock:
 //!
 //! ```rust
 //! use divsharun::{AddressAllocator, AllocPolicy, RangeInclusive, Result};
@@ -142,6 +143,7 @@
 //! repository lists what is trusted. These parts are written by hand and tested:
 //!
 //! - the sets and maps of ids and devices, and what else replaces Rattle's library;
+//! - the list of the values of a [`RangeMap`], whose indexes the proved map keeps with the ranges;
 //! - conversions, [`layout`](AddressAllocator::layout),
 //!   [`contains_address`](RangeInclusive::contains_address),
 //!   [`intersection`](RangeInclusive::intersection) and texts;
@@ -152,8 +154,8 @@
 //! Without features, the crate has no dependency, and it does not need `std`.
 //!
 //! - `serde` implements `Serialize` and `Deserialize` for [`RangeInclusive`], [`NodeState`],
-//!   [`AddressAllocator`], [`IdAllocator`], [`DeviceManager`], [`DeviceSlot`], [`AllocPolicy`] and
-//!   [`Constraint`].
+//!   [`AddressAllocator`], [`IdAllocator`], [`DeviceManager`], [`DeviceSlot`], [`AllocPolicy`],
+//!   [`Constraint`], and a [`RangeMap`] of values that have them.
 //! - `std`, a default feature, adds the module `replay` and the program `divsharun-replay`.
 //!
 //! # Saved values
@@ -175,6 +177,10 @@
 //! The tree of an address allocator is written balanced. Its shape depends only on the space and the
 //! allocated ranges, so equal address allocators have the same bytes. A [`DeviceManager`] is saved as
 //! its version, both allocators, and its devices in ascending order of ids.
+//!
+//! A [`RangeMap`] is saved as its `base`, its `size` and a list `ranges`, in ascending order. Each item has
+//! a `range` and its `value`. The reader allocates each range, in any order. Its error is that of the range
+//! that cannot be allocated.
 //!
 //! Proved code accepts the nodes, ids and devices of a value if and only if they are valid. Any other
 //! value is an error of the format. An address allocator is valid under these conditions:
@@ -243,6 +249,7 @@ mod pad;
 #[cfg_attr(not(all(feature = "serde", feature = "std")), allow(dead_code))]
 mod proved;
 mod range;
+mod range_map;
 mod rattle;
 #[cfg(feature = "std")]
 pub mod replay;
@@ -262,6 +269,7 @@ pub use layout::{Block, Blocks, Layout};
 pub use node_state::NodeState;
 pub use proved::vm_ids::IdRequest;
 pub use range::{ParseRangeError, RangeInclusive};
+pub use range_map::{RangeMap, ValuedRanges};
 #[cfg(feature = "serde")]
 pub use saved::{Saved, Strict};
 

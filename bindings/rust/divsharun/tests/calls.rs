@@ -11,7 +11,8 @@ mod model;
 use divsharun::{
     AddressAllocator, AllocPolicy, Block, Blocks, Conflict, Constraint, DeviceManager, DeviceSlot,
     Devices, Error, Gaps, GapsIn, HeldIds, HeldRanges, HeldRangesIn, IdAllocator, IdRequest,
-    Layout, ListError, NodeState, ParseRangeError, RangeInclusive, TryError,
+    Layout, ListError, NodeState, ParseRangeError, RangeInclusive, RangeMap, TryError,
+    ValuedRanges,
 };
 use draw::Draw;
 use items::{exact, expect_in_order, expect_items, inexact};
@@ -690,7 +691,7 @@ fn debug_texts_show_the_fields() {
         assert_eq!(ids.allocate_id(), Ok(id));
     }
     ids.free_id(5).unwrap();
-    let ids_text = "IdAllocator { range_base: 5, next_id: Some(7), range_end: 23, freed_ids: {5} }";
+    let ids_text = "IdAllocator { range_base: 5, next_id: Some(7), range_end: 23, held_ids: [6] }";
     assert_eq!(format!("{ids:?}"), ids_text);
     let mut devices = DeviceManager::new(0, 0, 16, 1).unwrap();
     let slot = devices.reserve(1, 1, AllocPolicy::FirstMatch).unwrap();
@@ -704,7 +705,7 @@ fn debug_texts_show_the_fields() {
         format!("{devices:?}"),
         format!(
             "DeviceManager {{ ids: IdAllocator {{ range_base: 0, next_id: Some(1), range_end: 0, \
-             freed_ids: {{}} }}, addresses: AddressAllocator {{ {addresses} }}, devices: [{slot:?}] }}"
+             held_ids: [0] }}, addresses: AddressAllocator {{ {addresses} }}, devices: [{slot:?}] }}"
         )
     );
     let mut gaps = AddressAllocator::new(0, 8).unwrap();
@@ -712,7 +713,7 @@ fn debug_texts_show_the_fields() {
     assert!(format!("{gaps:?}").contains("end: 7, held_count: 1, held_ranges: ["));
     assert_eq!(format!("{:?}", space.held_ranges()), "HeldRanges { .. }");
     let layout = space.layout().named([(held, "disk")]);
-    let names = r#"names: {RangeInclusive { start: 19, end: 19 }: "disk"} }"#;
+    let names = r#"names: [(RangeInclusive { start: 19, end: 19 }, 0, "disk")] }"#;
     assert!(format!("{layout:?}").ends_with(names));
     assert!(NodeState::Free < NodeState::Allocated);
 }
@@ -1138,9 +1139,16 @@ fn ids_are_allocated_by_number() {
     assert_eq!(ids.try_allocate_exact(8), Ok(8));
     let taken = TryError::Refused(Error::ResourceNotAvailable);
     assert_eq!(ids.try_allocate_exact(8), Err(taken));
-    let text =
-        "IdAllocator { range_base: 5, next_id: Some(9), range_end: 23, freed_ids: {5, 6, 7} }";
+    let text = "IdAllocator { range_base: 5, next_id: Some(9), range_end: 23, held_ids: [8] }";
     assert_eq!(format!("{ids:?}"), text);
+    let mut many = IdAllocator::new(0, 64).unwrap();
+    let ended = [64, 65].map(|id| {
+        while many.held_count() < id {
+            many.allocate_id().unwrap();
+        }
+        format!("{many:?}").split_once("62, ").unwrap().1.to_owned()
+    });
+    assert_eq!(ended, ["63] }", "63, ..] }"]);
     for id in [6, 7] {
         assert_eq!(ids.allocate_in(6..=8), Ok(id));
     }
@@ -1337,6 +1345,8 @@ fn types_are_shared_and_sent() {
     is_shared_and_sent::<GapsIn<'_>>();
     is_shared_and_sent::<HeldIds<'_>>();
     is_shared_and_sent::<Devices<'_>>();
+    is_shared_and_sent::<RangeMap<u64>>();
+    is_shared_and_sent::<ValuedRanges<'_, u64>>();
     is_shared_and_sent::<Layout<'_>>();
     is_shared_and_sent::<Blocks<'_>>();
     is_shared_and_sent::<Block<'_>>();

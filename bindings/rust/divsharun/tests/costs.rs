@@ -11,7 +11,7 @@ use divsharun::AllocPolicy::{ExactMatch, FirstMatch, LastMatch};
 use divsharun::Strict;
 use divsharun::{
     AddressAllocator, Conflict, Constraint, DeviceManager, DeviceSlot, Error, IdAllocator,
-    IdRequest, RangeInclusive,
+    IdRequest, RangeInclusive, RangeMap,
 };
 use processor::processor_time;
 use std::cmp::Ordering;
@@ -280,6 +280,27 @@ const OF_MANAGERS: [Calls<[DeviceManager; 2]>; 4] = [
     },
 ];
 
+/// Every second address is allocated, with itself as its value.
+const OF_MAPS: [Calls<RangeMap<u64>>; 4] = [
+    |map, at| map.get(at) == Some((one(at), &at)) && map.get_mut(at + 1).is_none(),
+    |map, at| map.held_count() > at / 2 && map.space().contains_address(at),
+    |map, _| has_ends(map.iter(), |items| items.len() > 2),
+    |map, at| {
+        let moved = map.move_constraint(&one(at), exact(at + 1)).unwrap();
+        let low = map.allocate(1, 1, FirstMatch, 7).unwrap();
+        let high = map.allocate_constraint(exact(at + 3), 8).unwrap();
+        map.free(&high) == Ok(8)
+            && map.free(&low) == Ok(7)
+            && map.move_constraint(&moved, exact(at)) == Ok(one(at))
+    },
+];
+
+/// Two equal maps. The calls go through all of their ranges.
+const OF_PAIRS_OF_MAPS: [Calls<[RangeMap<u64>; 2]>; 2] = [
+    |[one, other], _| one == other && one.clone() == other.try_clone().unwrap(),
+    |[one, _], _| one.iter().rev().count() as u64 == one.held_count(),
+];
+
 /// Writes and reads objects of each kind.
 #[cfg(feature = "serde")]
 const OF_SAVED: [Calls<(AddressAllocator, IdAllocator, DeviceManager)>; 5] = [
@@ -381,6 +402,14 @@ fn devices(count: u64) -> DeviceManager {
     devices
 }
 
+/// Returns a map with every second address allocated.
+fn map(count: u64) -> RangeMap<u64> {
+    let mut map = RangeMap::new(0, 2 * count).unwrap();
+    let mut allocate = |at| map.allocate_constraint(exact(at), at).is_ok();
+    assert!((0..count).all(|number| allocate(2 * number)));
+    map
+}
+
 #[test]
 fn calls_do_not_go_through_all_items() {
     expect_quick(space, &OF_SPACES, 2);
@@ -403,6 +432,7 @@ fn calls_do_not_go_through_all_items() {
     };
     expect_quick(in_windows, &OF_WINDOWS, 1);
     expect_quick(devices, &OF_DEVICES, 1);
+    expect_quick(map, &OF_MAPS, 2);
 }
 
 #[test]
@@ -410,6 +440,7 @@ fn calls_go_through_all_items_once() {
     expect_linear(|count| [count; 2].map(space), &OF_WALKS);
     expect_linear(freed, &OF_LISTS);
     expect_linear(|count| [count; 2].map(devices), &OF_MANAGERS);
+    expect_linear(|count| [count; 2].map(map), &OF_PAIRS_OF_MAPS);
     #[cfg(feature = "serde")]
     expect_linear(
         |count| (space(count), freed(count), devices(count)),

@@ -9,7 +9,8 @@ mod refusing;
 
 use divsharun::{
     AddressAllocator, AllocPolicy, Conflict, Constraint, DeviceManager, Error, Gaps, GapsIn,
-    HeldRanges, HeldRangesIn, IdAllocator, IdRequest, ListError, RangeInclusive, TryError,
+    HeldRanges, HeldRangesIn, IdAllocator, IdRequest, ListError, RangeInclusive, RangeMap,
+    TryError,
 };
 use refusing::{blocks, peak_of, refusing};
 use std::array::from_fn;
@@ -124,7 +125,7 @@ const TRIED: [(u64, TriedCall); 42] = [
     }),
     (0, |space| refused(space.try_allocate(64, 1, FirstMatch))),
     (0, |space| refused(space.try_allocate(0, 1, FirstMatch))),
-    (1, |_| one_held_id().try_free_id(0).map(drop)),
+    (3, |_| one_held_id().try_free_id(0).map(drop)),
     (0, |_| refused(one_held_id().try_free_id(1))),
     (0, |_| one_held_id().try_clone().map(drop)),
     (1, |_| DeviceManager::try_new(0, 0, 0, 64).map(drop)),
@@ -136,26 +137,26 @@ const TRIED: [(u64, TriedCall); 42] = [
         let devices = DeviceManager::try_new(0, 0, 0, 64)?;
         devices.try_ids().map(drop)
     }),
-    (4, |_| {
+    (1 + 3 * 3, |_| {
         let mut devices = DeviceManager::try_new(0, 0, 0, 64)?;
         devices.try_reserve(1, 1, FirstMatch)?;
         devices.try_release(0)
     }),
-    (4, |_| {
+    (1 + 3 * 3, |_| {
         let mut devices = DeviceManager::try_new(0, 0, 0, 64)?;
         devices.try_reserve_constraint(in_the_middle(1, FirstMatch))?;
         devices.try_release(0)
     }),
-    (1 + 2 + 1 + 2, |_| {
+    (2 * (1 + 3 * 2), |_| {
         let mut devices = DeviceManager::try_new(0, 0, 0, 64)?;
         devices.try_reserve(1, 1, FirstMatch)?;
         devices.try_clone().map(drop)
     }),
 ];
 
-/// Calls that end the process, each with the number of its allocations on [`full_leaf`]. A set or a
-/// map allocates one block for a few ids or devices.
-const ENDED: [(u64, EndedCall); 24] = [
+/// Calls that end the process, each with the number of its allocations on [`full_leaf`]. A few
+/// freed ids, devices or starts have a chunk, a list of chunks and one of bounds.
+const ENDED: [(u64, EndedCall); 25] = [
     (1, |_| assert!(AddressAllocator::new(0, 64).is_ok())),
     (1, |_| drop(AddressAllocator::over(both()[0]))),
     (1, |space| drop(space.clone())),
@@ -186,10 +187,10 @@ const ENDED: [(u64, EndedCall); 24] = [
         let request = in_the_middle(4, FirstMatch);
         assert!(space.move_constraint(&both()[0], request).is_ok())
     }),
-    (1, |_| drop(one_free_id())),
-    (2, |_| drop(one_free_id().clone())),
-    (1, |_| assert!(IdAllocator::with_held(0, 9, &[1]).is_ok())),
-    (1, |_| {
+    (3, |_| drop(one_free_id())),
+    (6, |_| drop(one_free_id().clone())),
+    (3, |_| assert!(IdAllocator::with_held(0, 9, &[1]).is_ok())),
+    (3, |_| {
         let mut ids = IdAllocator::new(0, 9).expect("ids");
         assert!(ids.allocate_in(5..=9).is_ok() && ids.allocate_exact(3).is_ok())
     }),
@@ -198,18 +199,18 @@ const ENDED: [(u64, EndedCall); 24] = [
         assert!(ids.allocate_ids(3).is_ok())
     }),
     (1, |_| assert!(DeviceManager::new(0, 0, 0, 64).is_ok())),
-    (4, |_| {
+    (1 + 3 * 3, |_| {
         reserve_and_release(|devices| devices.reserve(1, 1, FirstMatch).is_ok())
     }),
-    (4, |_| {
+    (1 + 3 * 3, |_| {
         let request = in_the_middle(1, FirstMatch);
         reserve_and_release(|devices| devices.reserve_constraint(request).is_ok())
     }),
-    (4, |_| {
+    (1 + 3 * 3, |_| {
         let (id, request) = (IdRequest::Lowest, in_the_middle(1, FirstMatch));
         reserve_and_release(|devices| devices.reserve_with_id(id, request).is_ok())
     }),
-    (1 + 2 + 1 + 2, |_| {
+    (2 * (1 + 3 * 2), |_| {
         let mut devices = DeviceManager::new(0, 0, 0, 64).expect("a manager");
         assert!(devices.reserve(1, 1, FirstMatch).is_ok());
         drop(devices.clone());
@@ -217,6 +218,12 @@ const ENDED: [(u64, EndedCall); 24] = [
     (1 + 1, |space| {
         let layout = space.layout().named([(both()[0], "disk")]);
         drop(layout.clone());
+    }),
+    // The values have a list, and their indexes have a chunk, a list of chunks and one of bounds.
+    (1 + (1 + 3) + (1 + 3 + 1), |_| {
+        let mut map = RangeMap::new(0, 64).expect("a map");
+        assert!(map.allocate(1, 1, FirstMatch, 'a').is_ok());
+        drop(map.clone());
     }),
 ];
 
@@ -322,8 +329,7 @@ fn one_free_id() -> IdAllocator {
     ids
 }
 
-/// Makes one allocation each for the space, the list of devices, the map of devices and the set of freed
-/// ids.
+/// Makes one allocation for the space, and three each for the devices, their starts and the freed ids.
 fn reserve_and_release(reserve: impl Fn(&mut DeviceManager) -> bool) {
     let mut devices = DeviceManager::new(0, 0, 0, 64).expect("a manager");
     assert!(reserve(&mut devices));
@@ -374,6 +380,16 @@ fn objects_stay_the_same() {
         ids.try_allocate_ids(899)
     });
     assert!(ids.held_ids().eq(0..901));
+    // Each id within a run splits it, until a chunk has no room for a further run.
+    let mut ids = IdAllocator::with_held(0, 900, &[900]).expect("ids");
+    for id in 1..64 {
+        assert_eq!(refusing(1, || ids.try_allocate_exact(4 * id)).0, Ok(4 * id));
+    }
+    let refused = refusing(1, || ids.try_allocate_exact(600)).0;
+    assert_eq!(refused, Err(TryError::OutOfMemory));
+    unchanged_until_allowed(&mut ids, IdAllocator::clone, |ids| {
+        ids.try_allocate_exact(600)
+    });
     let mut devices = DeviceManager::new(0, 1, 0, 64).expect("a manager");
     unchanged_until_allowed(&mut devices, DeviceManager::clone, |devices| {
         devices.try_reserve(1, 1, FirstMatch)
@@ -414,7 +430,7 @@ fn unchanged_until_allowed<O: PartialEq + Debug, T: Debug>(
     for number in 1.. {
         let (answer, _) = refusing(number, || call(object));
         if answer.is_ok() {
-            assert!(number > 1 && *object != unchanged);
+            assert!(*object != unchanged);
             return;
         }
         assert_eq!(answer.err(), Some(TryError::OutOfMemory));
@@ -552,10 +568,10 @@ fn lists_have_no_spare_bytes() {
     assert!(requests.iter().all(&mut reserve));
     let (_, bytes) = peak_of(|| devices.clone());
     assert!(bytes < 60 * COUNT, "{bytes} bytes");
-    // A set and a map have memory for 16 entries, and a list for four devices.
+    // A chunk has memory for 64 entries: of 24 bytes for devices, of 16 for their starts, of 8 for freed ids.
     let (_, bytes) =
         peak_of(|| reserve_and_release(|devices| devices.reserve(1, 1, FirstMatch).is_ok()));
-    assert!(bytes < 1024, "{bytes} bytes");
+    assert!(bytes < 64 * (24 + 16 + 8) + 1024, "{bytes} bytes");
 }
 
 /// Checks the bytes of a space for each of 10^5 ranges, side by side or with a gap after each. Then nine of

@@ -9,7 +9,7 @@ mod refusing;
 
 use divsharun::{
     AddressAllocator, AllocPolicy, Constraint, DeviceManager, DeviceSlot, IdAllocator, NodeState,
-    RangeInclusive, Strict, TryError,
+    RangeInclusive, RangeMap, Strict, TryError,
 };
 use refusing::{peak_of, refusing};
 use serde::de::value::{Error, MapDeserializer};
@@ -708,11 +708,11 @@ fn lists_are_refused_at_their_first_fault() {
     assert!(packed::from_bytes::<IdAllocator>(counted(bytes, &asked)).is_err());
     assert_eq!(asked.get(), 21 + 8);
 
-    // The announced length allocates nothing. The first ids need a small block.
+    // The announced length allocates nothing. The first id allocates the first chunk of freed ids.
     asked.set(0);
     let bytes = counted(ids_freed(u64::MAX, 0..3), &asked);
     let (read, most) = peak_of(|| packed::from_bytes::<IdAllocator>(bytes).map(drop));
-    assert!(read.is_err() && most < 200, "{most}");
+    assert!(read.is_err() && most < 1_000, "{most}");
     assert_eq!(asked.get(), 21 + 12);
 }
 
@@ -852,6 +852,7 @@ fn failed_allocations_are_errors_of_the_format() {
     let (manager, space) = (manager(), second_held());
     read_fails_each::<DeviceManager>(&packed::to_bytes(&manager).unwrap());
     read_fails_each::<AddressAllocator>(&packed::to_bytes(&space).unwrap());
+    read_fails_each::<RangeMap<u64>>(&packed::to_bytes(&two_values()).unwrap());
     read_fails_each::<Strict<AddressAllocator>>(&packed::to_bytes(&space).unwrap());
     read_fails_each::<IdAllocator>(&packed::to_bytes(&seven_ids()).unwrap());
     let mut bytes = Vec::with_capacity(10_000);
@@ -1006,5 +1007,82 @@ fn requests_are_saved_with_their_windows() {
     ] {
         let error_of = error_of::<Constraint>(&limited.replace(old, new));
         assert!(error_of.starts_with(error), "{error_of}");
+    }
+}
+
+const MAP: &str = concat!(
+    r#"{"base":16,"size":16,"ranges":[{"range":{"start":16,"end":19},"value":7},"#,
+    r#"{"range":{"start":28,"end":31},"value":8}]}"#
+);
+
+/// Returns the map that [`MAP`] encodes.
+fn two_values() -> RangeMap<u64> {
+    let mut map = RangeMap::new(16, 16).unwrap();
+    map.allocate(4, 4, AllocPolicy::LastMatch, 8).unwrap();
+    map.allocate(4, 4, AllocPolicy::FirstMatch, 7).unwrap();
+    map
+}
+
+#[test]
+fn maps_are_saved_with_their_values() {
+    use divsharun::Error::*;
+    let map = two_values();
+    assert_eq!(json(&map), MAP);
+    assert_eq!(serde_json::from_str::<RangeMap<u64>>(MAP).unwrap(), map);
+    let bytes = packed::to_bytes(&map).unwrap();
+    assert_eq!(packed::from_bytes::<RangeMap<u64>>(bytes).unwrap(), map);
+    let (list, items) = (MAP.find('[').unwrap() + 1, MAP.find(",{").unwrap());
+    let (low, high) = (&MAP[list..items], &MAP[items + 1..MAP.len() - 2]);
+    let reversed = MAP.replace(&MAP[list..], &format!("{high},{low}]}}"));
+    assert_eq!(
+        serde_json::from_str::<RangeMap<u64>>(&reversed).unwrap(),
+        map
+    );
+    let exactly = RangeInclusive::new(16, 19).unwrap();
+    let allocated = InvalidStateTransition(exactly, NodeState::Allocated);
+    for (part, wrong, error) in [
+        (r#""size":16"#, r#""size":0"#, &Underflow.to_string()[..]),
+        (
+            r#""size":16"#,
+            r#""size":18446744073709551615"#,
+            &Overflow.to_string(),
+        ),
+        (
+            r#""size":16"#,
+            r#""size":15"#,
+            &ResourceNotAvailable.to_string(),
+        ),
+        (
+            r#""base":16"#,
+            r#""base":17"#,
+            &ResourceNotAvailable.to_string(),
+        ),
+        (
+            r#""end":19"#,
+            r#""end":28"#,
+            &ResourceNotAvailable.to_string(),
+        ),
+        (
+            r#""start":28,"end":31"#,
+            r#""start":16,"end":19"#,
+            &allocated.to_string(),
+        ),
+        (
+            r#""start":16"#,
+            r#""start":20"#,
+            &InvalidRange(20, 19).to_string(),
+        ),
+        (r#""size":16,"#, "", "missing field `size`"),
+        (
+            r#""size":16"#,
+            r#""size":16,"size":16"#,
+            "duplicate field `size`",
+        ),
+        (r#""value":7"#, r#""value":7,"x":0"#, "unknown field `x`"),
+        (r#","value":7"#, "", "missing field `value`"),
+        (r#""value":7"#, r#""value":"7""#, "invalid type"),
+    ] {
+        let found = error_of::<RangeMap<u64>>(&MAP.replacen(part, wrong, 1));
+        assert!(found.contains(error), "{wrong}: {found}");
     }
 }

@@ -48,7 +48,7 @@ held_after_free old new r answer f =
     f
 
 held_after : (old new : Shape) (part : Part) → HasPart old part new → length (state_of new).held ≤ length (state_of old).held + 1
-held_after old new (Allocating request answer count) p = held_after_allocation p.1.0 (state_of old) (state_of new) request answer p.1.1
+held_after old new (Allocating request answer count) p = held_after_allocation p.1.0 (state_of old) (state_of new) request answer p.1.3
 held_after old new (Freeing r count) p = held_after_free (state_of old) (state_of new) r (Ok tt) p.1
 
 -- ---- The nodes that each part enters
@@ -104,11 +104,12 @@ parts_enter_few n old new requests taken =
 
 -- ---- One part
 pub part_of : (counted : ℕ) (old new : Shape) (request : Request) (answer : Result Range Error) (count : ℕ) →
+    counted ≤ length (state_of old).held → length (state_of old).held ≤ counted + 1 →
     IsBalancedTreeOf (state_of old) old → AllocatesOf counted (state_of old) request answer (state_of new) → OnErr answer (new ≡ old) →
     EntersToAllocate old request count → IsAllocationCount (height_of old) (state_of old) request answer count →
     (n : ℕ) × HasParts old (Allocating request answer n ∷ []) new
-part_of counted old new request answer count b a same enters most =
-    let part : HasPart old (Allocating request answer count) new = (b, (counted, a), enters, most, same) in
+part_of counted old new request answer count all one b a same enters most =
+    let part : HasPart old (Allocating request answer count) new = (b, (counted, all, one, a), enters, most, same) in
     let parts : HasParts old (Allocating request answer count ∷ []) new = (new, part, refl) in
     (count, parts)
 
@@ -117,7 +118,8 @@ pub allocation_part : (old new : Shape) (request : Request) (answer : Result Ran
     EntersToAllocate old request count → IsAllocationCount (height_of old) (state_of old) request answer count →
     (n : ℕ) × HasParts old (Allocating request answer n ∷ []) new
 unfolding Allocates
-allocation_part old new request answer count b a = part_of (length (state_of old).held) old new request answer count b a
+allocation_part old new request answer count b a =
+    part_of (length (state_of old).held) old new request answer count (omega arith) (omega arith) b a
 
 pub free_part : (old new : Shape) (r : Range) (answer : Result (Unit {0}) Error) (count : ℕ) →
     OnOk answer (IsBalancedTreeOf (state_of old) old) →

@@ -14,7 +14,8 @@ use Rattle.vm_leaf.specs.Fit.{HasNoFit, IsFit, IsLowestFit, IsHighestFit}
 use Rattle.vm_addresses.specs.Address.{AddressState, IsAddressState, IsClear, AreClear, IsPlace, IsLowestPlace, IsHighestPlace, holding, releasing}
 use Rattle.vm_addresses.specs.Answer.{IsChosen, ByStart, ByExactPolicy, ByPlace, AllocatesAt, Grants, Allocates}
 use Rattle.vm_addresses.specs.Windows.{part_in, within, window_in}
-use Rattle.vm_addresses.specs.Moves.{replacing, MovesRange, IsLeftGap, IsInLeftGap, IsBegun, BeginsMove, BeginsInside, FindsStart, FindsPlaceIn, IsForCloser, part_for}
+use Rattle.vm_addresses.specs.Moves.{replacing, MovesRange, IsLeftGap, IsInLeftGap, IsBegun, BeginsMove}
+use Rattle.vm_addresses.specs.Checks.Moving.{BeginsInside, FindsStart, FindsPlaceIn, IsForCloser, part_for}
 use Rattle.vm_addresses.specs.declared.address_allocator.moving.BegunMove.{BegunMove}
 use Rattle.vm_ranges.proofs.Decisions.{decided_in}
 use Rattle.vm_ranges.proofs.RangeCalls.{same_range}

@@ -12,7 +12,8 @@ use Rattle.vm_ranges.specs.declared.constraint.AllocPolicy.{AllocPolicy}
 use Rattle.vm_ranges.specs.declared.constraint.AllocPolicy.TheVariants.{FirstMatch, LastMatch, ExactMatch}
 use Rattle.vm_addresses.specs.Address.{AddressState, AreClear, IsPlace, IsClear, SplitsGap, releasing, without_range}
 use Rattle.vm_addresses.specs.Answer.{SPLIT_LIMIT_MIN_HELD, IsChosen, ByStart, ByExactPolicy, ByPlace, AllocatesAt, Grants}
-use Rattle.vm_addresses.specs.Moves.{BeginsInside, IsLeftGap, IsInLeftGap}
+use Rattle.vm_addresses.specs.Moves.{IsLeftGap, IsInLeftGap}
+use Rattle.vm_addresses.specs.Checks.Moving.{BeginsInside}
 use Rattle.vm_addresses.specs.Windows.{within}
 use Rattle.vm_addresses.specs.declared.address_allocator.moving.BegunMove.{BegunMove}
 use Rattle.vm_addresses.proofs.Blocks.PlainWords.{IsHeld, held_contains}

@@ -1,5 +1,5 @@
 -- Calls that are made of several allocations and frees, and the nodes that these parts enter.
-use Rattle.std.specs.Prelude.{◌≡◌, ℕ, ◌*◌, ◌≤◌, ◌⊎◌, List, length, Result, Ok, OnErr}
+use Rattle.std.specs.Prelude.{◌≡◌, ℕ, ◌+◌, ◌*◌, ◌≤◌, ◌⊎◌, List, length, Result, Ok, OnErr}
 use Rattle.std.specs.List.{All, Contains}
 use Rattle.vm_ranges.specs.Histories.{IsHistory}
 use Rattle.vm_ranges.specs.Range.{Range}
@@ -17,11 +17,13 @@ pub data Part : Type 0 where
   Allocating : Request → Result Range Error → ℕ → Part
   Freeing : Range → ℕ → Part
 
--- The part has its result and its count in the balanced tree old, and leaves the tree new. An error leaves the same tree. A range that
--- will be freed need not count for the limit of splits.
+-- The part has its result and its count in the balanced tree old, and leaves the tree new. An error leaves the same tree. All held ranges
+-- count for the limit of splits, or all but the one that will be freed.
 abbrev pub HasPart : Shape → Part → Shape → Type 0
 HasPart old (Allocating request answer count) new =
-    IsBalancedTreeOf (state_of old) old × ((counted : ℕ) × AllocatesOf counted (state_of old) request answer (state_of new))
+    IsBalancedTreeOf (state_of old) old
+    × ((counted : ℕ) × (counted ≤ length (state_of old).held) × (length (state_of old).held ≤ counted + 1)
+    × AllocatesOf counted (state_of old) request answer (state_of new))
     × EntersToAllocate old request count × IsAllocationCount (height_of old) (state_of old) request answer count
     × OnErr answer (new ≡ old)
 HasPart old (Freeing r count) new =

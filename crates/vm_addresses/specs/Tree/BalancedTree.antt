@@ -1,14 +1,15 @@
 -- Balanced trees of the blocks of a state.
 use Rattle.std.specs.Prelude.{ℕ, ◌+◌, ◌*◌, ◌^◌, ◌<◌, ◌≤◌, length}
+use Rattle.vm_leaf.specs.declared.leaf.TheConstants.{MIN_BLOCKS}
 use Rattle.vm_tree.specs.Fibonacci.{fibonacci}
 use Rattle.vm_tree.specs.Shape.{Shape, MAX_HEIGHT, blocks, height_of, node_count, IsTree}
 use Rattle.vm_addresses.specs.Address.{AddressState}
 use Rattle.vm_addresses.specs.Tree.Blocks.{IsBlocksOf}
 
--- s is a balanced tree of the blocks of the state, with 12 to 32 blocks in each leaf. A leaf that is the whole tree can have
--- fewer. A tree of height h with k held ranges is bounded in these ways:
+-- s is a balanced tree of the blocks of the state, with MIN_BLOCKS to CAPACITY blocks in each leaf. A leaf that is the whole
+-- tree can have fewer. A tree of height h with k held ranges is bounded in these ways:
 -- - It has at least F(h + 2) - 1 and at most 2 ^ h - 1 nodes, and at most 2k + 1.
--- - F(h + 2) is at most 2k + 2. Above height 1, 12 F(h + 1) is at most 2k + 1.
+-- - F(h + 2) is at most 2k + 2. Above height 1, MIN_BLOCKS * F(h + 1) is at most 2k + 1.
 -- - Its height is below MAX_HEIGHT.
 pub record IsBalancedTreeOf (state : AddressState) (s : Shape) : Type 0 where
   pub blocks : IsBlocksOf state (blocks s)
@@ -17,5 +18,5 @@ pub record IsBalancedTreeOf (state : AddressState) (s : Shape) : Type 0 where
   pub most : node_count s < 2 ^ height_of s
   pub few : node_count s ≤ 2 * length state.held + 1
   pub low : fibonacci (height_of s + 2) ≤ 2 * length state.held + 2
-  pub full : 2 ≤ height_of s → 12 * fibonacci (height_of s + 1) ≤ 2 * length state.held + 1
+  pub full : 2 ≤ height_of s → MIN_BLOCKS * fibonacci (height_of s + 1) ≤ 2 * length state.held + 1
   pub height : height_of s < MAX_HEIGHT

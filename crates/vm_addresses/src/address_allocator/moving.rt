@@ -16,16 +16,10 @@ ghost use Rattle.vm_addresses.specs.Counts.Parts.{Allocating, HasParts, TakesPar
 ghost use Rattle.vm_addresses.specs.Allocator.{state_of};
 ghost use Rattle.vm_addresses.specs.Windows.{part_in};
 ghost use Rattle.vm_leaf.specs.Block.{free_block};
-ghost use Rattle.vm_addresses.specs.Moves.{
-  request_to,
-  replacing,
-  MovesRange,
-  IsLeftGap,
-  IsInLeftGap,
+ghost use Rattle.vm_addresses.specs.Moves.{request_to, replacing, MovesRange, IsLeftGap, IsInLeftGap, IsBegun, BeginsMove};
+ghost use Rattle.vm_addresses.specs.Checks.Moving.{
   IsLeftStart,
   IsLeftEnd,
-  IsBegun,
-  BeginsMove,
   FindsStart,
   FindsPlaceIn,
   IsForCloser,

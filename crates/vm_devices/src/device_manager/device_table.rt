@@ -1,5 +1,5 @@
 //! The table of the devices. It finds a range by its id, and an id by the start of its range.
-ghost use Rattle.std.specs.Prelude.{◌≡◌, ◌↔◌, ℕ, Some, length, map as map_list, IfOk, IfSome, OnOk, OnErr};
+ghost use Rattle.std.specs.Prelude.{◌≡◌, ◌↔◌, ℕ, None, Some, length, map as map_list, IfOk, IfSome, OnOk, OnErr};
 ghost use Rattle.std.specs.Iterator.{YieldsFirst, YieldsLast, UpTo, at_most, item_count};
 ghost use Rattle.std.specs.Iterator.SizeHint.{IsWithinCount};
 ghost use Rattle.std.specs.FinMap as map;
@@ -8,18 +8,33 @@ ghost use Rattle.vm_devices.specs.Queries.{device_of};
 
 use crate::device_slot::DeviceSlot;
 use std::alloc::{AllocError, Global};
-use std::collections::BTreeMap;
-use std::collections::btree_map::Iter;
 use std::marker::Model;
 use vm_addresses::RangeInclusive;
+use vm_chunks::{Chunks, Entry, Iter};
+
+/// The start of the range of a device, and the id of the device.
+#[derive(Clone, Copy, Debug)]
+struct DeviceStart {
+    start: u64,
+    id: u32,
+}
+
+impl Entry for DeviceStart {
+    ghost key_of = { λ s. s.start };
+
+    /// Returns the start.
+    fn key(&self) -> u64 {
+        self.start
+    }
+}
 
 /// The range of each device by its id, and the id of each device by the start of its range.
 ///
 /// Its model is the map by ids.
 #[derive(Debug, Drop)]
 pub(super) struct DeviceTable {
-    slots: BTreeMap<u32, RangeInclusive>,
-    ids_by_start: BTreeMap<u64, u32>,
+    slots: Chunks<DeviceSlot>,
+    starts: Chunks<DeviceStart>,
 }
 
 impl Model for DeviceTable {
@@ -28,14 +43,15 @@ impl Model for DeviceTable {
     ghost use Rattle.std.specs.FinMap as map;
     ghost use Rattle.vm_ranges.specs.Range.{Range, range_code};
     ghost use Rattle.vm_devices.specs.Checks.{AreIdsByStart};
+    ghost use Rattle.vm_devices.specs.Listed.{entries_of};
 
     ghost Value = { map.FinMap nat_cmp Range };
 
     ghost coded = { map.code coded_ℕ range_code };
 
-    ghost view = { λ t. map.from_entries t.slots.entries };
+    ghost view = { λ t. map.from_entries (entries_of t.slots) };
 
-    ghost invariant = { λ t. AreIdsByStart (map.from_entries t.slots.entries) t.ids_by_start };
+    ghost invariant = { λ t. AreIdsByStart (map.from_entries (entries_of t.slots)) t.starts };
 }
 
 impl DeviceTable {
@@ -45,21 +61,18 @@ impl DeviceTable {
         ensures { result ≡ map.empty }
     {
         DeviceTable {
-            slots: BTreeMap::new(alloc),
-            ids_by_start: BTreeMap::new(alloc),
+            slots: Chunks::new(alloc),
+            starts: Chunks::new(alloc),
         }
     }
 
     /// Returns a copy.
-    pub(super) fn try_clone(&self) -> Result<DeviceTable, AllocError>
+    pub(super) fn try_clone(&self, alloc: Global) -> Result<DeviceTable, AllocError>
         ensures { IfOk result (λ table. table ≡ self.now) }
     {
-        let slots = self.slots.clone()?;
-        let ids_by_start = self.ids_by_start.clone()?;
-        Ok(DeviceTable {
-            slots,
-            ids_by_start,
-        })
+        let slots = self.slots.try_clone(alloc)?;
+        let starts = self.starts.try_clone(alloc)?;
+        Ok(DeviceTable { slots, starts })
     }
 
     /// Returns the range of the device with this id, or `None` if there is none.
@@ -67,11 +80,11 @@ impl DeviceTable {
     pub(super) fn get(&self, id: u32) -> Option<RangeInclusive>
         ensures { result ≡ map.get self.now id }
     {
-        self.slots.get(&id).copied()
+        let slot = self.slots.get(u64::from(id))?;
+        Some(slot.range)
     }
 
     /// Returns an iterator over the devices, by ascending ids.
-    #[tactic(auto, using(crate::proofs::Tables::lists))]
     pub(super) fn iter(&self) -> Devices<'_>
         ensures { result ≡ map_list device_of (map.entries self.now) }
     {
@@ -85,30 +98,59 @@ impl DeviceTable {
     pub(super) fn id_at(&self, start: u64) -> Option<u32>
         ensures { (id : ℕ) → (result ≡ Some id) ↔ StartsAt self.now id start }
     {
-        self.ids_by_start.get(&start).copied()
+        let at = self.starts.get(start)?;
+        Some(at.id)
     }
 
     /// Inserts a device, or changes its range. An error changes nothing.
-    pub(super) fn insert(&mut self, id: u32, range: RangeInclusive) -> Result<(), AllocError>
+    pub(super) fn insert(
+        &mut self,
+        alloc: Global,
+        id: u32,
+        range: RangeInclusive,
+    ) -> Result<(), AllocError>
         requires { IsOnlyStart self.old id range.start }
         ensures inserted { OnOk result (self.new ≡ map.insert self.old id range) }
         ensures err { OnErr result (self.new ≡ self.old) }
     {
-        let start = range.start();
-        self.ids_by_start.insert(start, id)?;
-        let before = match self.slots.insert(id, range) {
-            Ok(before) => before,
-            Err(failed) => {
-                // Only a new device can fail, and its start is new.
-                self.ids_by_start.remove(&start);
-                return Err(failed.into());
-            }
-        };
-        if let Some(left) = before {
-            if left.start() != start {
-                self.ids_by_start.remove(&left.start());
-            }
+        let slot = DeviceSlot { id, range };
+        match self.get(id) {
+            Some(before) => self.replace(alloc, before.start(), slot),
+            None => self.add(alloc, slot),
         }
+    }
+
+    /// Inserts a device with a new id. An error changes nothing.
+    fn add(&mut self, alloc: Global, slot: DeviceSlot) -> Result<(), AllocError>
+        requires new { map.get self.old slot.id ≡ None }
+        requires only { IsOnlyStart self.old slot.id slot.range.start }
+        ensures inserted { OnOk result (self.new ≡ map.insert self.old slot.id slot.range) }
+        ensures err { OnErr result (self.new ≡ self.old) }
+    {
+        let start = slot.range.start();
+        let at = DeviceStart { start, id: slot.id };
+        self.starts.insert(alloc, at)?;
+        if let Err(failed) = self.slots.insert(alloc, slot) {
+            self.starts.remove(start);
+            return Err(failed);
+        }
+        Ok(())
+    }
+
+    /// Changes the range of a device, which starts at `before`. An error changes nothing.
+    fn replace(&mut self, alloc: Global, before: u64, slot: DeviceSlot) -> Result<(), AllocError>
+        requires known { StartsAt self.old slot.id before }
+        requires only { IsOnlyStart self.old slot.id slot.range.start }
+        ensures inserted { OnOk result (self.new ≡ map.insert self.old slot.id slot.range) }
+        ensures err { OnErr result (self.new ≡ self.old) }
+    {
+        let start = slot.range.start();
+        if before != start {
+            let at = DeviceStart { start, id: slot.id };
+            self.starts.insert(alloc, at)?;
+            self.starts.remove(before);
+        }
+        self.slots.set(slot);
         Ok(())
     }
 
@@ -116,8 +158,8 @@ impl DeviceTable {
     pub(super) fn remove(&mut self, id: u32)
         ensures { self.new ≡ map.remove self.old id }
     {
-        if let Some(range) = self.slots.remove(&id) {
-            self.ids_by_start.remove(&range.start());
+        if let Some(slot) = self.slots.remove(u64::from(id)) {
+            self.starts.remove(slot.range.start());
         }
     }
 }
@@ -127,19 +169,18 @@ impl DeviceTable {
 /// Its model is the list of the devices that it has not returned yet.
 #[derive(Clone, Drop)]
 pub struct Devices<'a> {
-    slots: Iter<'a, u32, RangeInclusive>,
+    slots: Iter<'a, DeviceSlot>,
     // The number of devices that were not returned.
     left: usize,
 }
 
 impl<'a> Model for Devices<'a> {
-    ghost use Rattle.std.specs.Prelude.{◌≡◌, List, length, map};
+    ghost use Rattle.std.specs.Prelude.{◌≡◌, List, length};
     ghost use Rattle.vm_devices.specs.declared.device_slot.DeviceSlot.{DeviceSlot};
-    ghost use Rattle.vm_devices.specs.Queries.{device_of};
 
     ghost Value = { List DeviceSlot };
 
-    ghost view = { λ d. map device_of d.slots };
+    ghost view = { λ d. d.slots };
 
     ghost invariant = { λ d. d.left ≡ length d.slots };
 }
@@ -153,12 +194,9 @@ impl<'a> Iterator for Devices<'a> {
 
     /// Returns the device with the lowest id that is left.
     fn next(&mut self) -> Option<DeviceSlot> {
-        let (id, range) = self.slots.next()?;
+        let device = self.slots.next()?;
         self.left -= 1;
-        Some(DeviceSlot {
-            id: *id,
-            range: *range,
-        })
+        Some(device)
     }
 
     /// Returns the number of devices that are left, as both bounds.
@@ -175,14 +213,10 @@ impl<'a> DoubleEndedIterator for Devices<'a> {
     ghost next_back_gives = { YieldsLast (λ d. d) };
 
     /// Returns the device with the highest id that is left.
-    #[tactic(auto, using(crate::proofs::Tables::last_listed))]
     fn next_back(&mut self) -> Option<DeviceSlot> {
-        let (id, range) = self.slots.next_back()?;
+        let device = self.slots.next_back()?;
         self.left -= 1;
-        Some(DeviceSlot {
-            id: *id,
-            range: *range,
-        })
+        Some(device)
     }
 }
 

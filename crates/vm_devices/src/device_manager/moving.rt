@@ -49,7 +49,7 @@ impl DeviceManager {
         };
         let begun = self.mmio_allocator.begin_move(alloc, &before, request)?;
         let range = begun.range();
-        if let Err(refused) = self.slots.insert(id, range) {
+        if let Err(refused) = self.slots.insert(alloc, id, range) {
             self.mmio_allocator.cancel_move(begun);
             return Err(refused.into());
         }

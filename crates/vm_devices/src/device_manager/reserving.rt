@@ -145,7 +145,7 @@ impl DeviceManager {
         ensures state { IsDeviceState (device_state self.new) }
     {
         let range = self.mmio_allocator.allocate_constraint(alloc, request)?;
-        if let Err(refused) = enter(&mut self.id_allocator, &mut self.slots, id, range) {
+        if let Err(refused) = enter(alloc, &mut self.id_allocator, &mut self.slots, id, range) {
             // Freeing an allocated range always succeeds.
             let _ = self.mmio_allocator.free(&range);
             return Err(refused);
@@ -157,6 +157,7 @@ impl DeviceManager {
 /// Inserts a device into the table, and allocates its id. An error changes nothing.
 #[tactic(auto, using(crate::proofs::DeviceCalls::enters))]
 fn enter(
+    alloc: Global,
     ids: &mut IdAllocator,
     slots: &mut DeviceTable,
     id: u32,
@@ -169,7 +170,7 @@ fn enter(
     ensures unchanged { OnErr result ((ids.new ≡ ids.old) × (slots.new ≡ slots.old)) }
     ensures memory { IfErr result (λ e. e ≡ OutOfMemory) }
 {
-    slots.insert(id, range)?;
+    slots.insert(alloc, id, range)?;
     if let Err(refused) = ids.allocate_exact(id) {
         slots.remove(id);
         return Err(refused);

@@ -6,6 +6,14 @@ use Rattle.std.proofs.Common.{
   ◌^◌,
   ◌<◌,
   ◌≤◌,
+  ◌⊎◌,
+  ◌↔◌,
+  ◌-◌,
+  ◌++◌,
+  ◌||◌,
+  ◌&&◌,
+  leb,
+  ltb,
   Bool,
   true,
   false,
@@ -30,25 +38,31 @@ use Rattle.std.proofs.Common.{
 use Rattle.std.proofs.lemmas.Bool.{both_ways}
 use Rattle.std.specs.Option.{SomeIff}
 use Rattle.std.specs.Ordering.{nat_cmp}
-use Rattle.std.specs.BTreeSet.{BTreeSet, contains, Updates, IsUnchanged, IsSameSet}
+use Rattle.std.specs.BTreeSet.{BTreeSet, contains}
+use Rattle.std.specs.List.{list_any, range_with_len}
+use Rattle.std.specs.Ordering.{eq_by_cmp}
+use Rattle.std.proofs.lemmas.List.Folds.{list_any-append}
+use Rattle.vm_chunks.specs.Runs.{Removes, IsInside}
 use Rattle.vm_ids.specs.Ids.{MAX_ID, IdState, IsOfRange, WasEverAllocated, IsHeld, IsNotHeld, IsIdState, holding_id, bound_of, ids_of, IsNext, AreIds}
-use Rattle.vm_ids.specs.IdRequests.{HoldsId, AllocatesExactId}
-use Rattle.vm_ids.specs.Checks.FreedBetween.{AddsBetween}
+use Rattle.vm_ids.specs.IdRequests.{IsFreed, NeedsMemory, HoldsId, AllocatesExactId}
 use Rattle.vm_ranges.specs.declared.error.Error.{Error}
 use Rattle.vm_ranges.specs.declared.error.Error.TheVariants.{OutOfRange, ResourceNotAvailable, OutOfMemory}
-use Rattle.vm_ids.proofs.Ids.IdSets.{tests, held_test, inserted_test, same_state, bound_above}
+use Rattle.vm_ids.proofs.Ids.IdSets.{row_test, tests, inserted_test, same_state, bound_above}
 use Rattle.vm_ids.proofs.Ids.IdFields.{holds, holds_not}
 use Rattle.vm_ids.proofs.Ids.AllocatedIds.{takes_released, takes_same}
 use Rattle.vm_ids.proofs.Ids.FreedIds.{keeps_same}
 
-pub keeps_same_set : (lo hi : ℕ) (next : Option ℕ) (freed left : BTreeSet ℕ) → AreIds lo hi next freed → IsSameSet nat_cmp freed left →
-    AreIds lo hi next left
-keeps_same_set lo hi next freed left a same = record {
-  range = a.range;
-  ids = a.ids;
-  next_id = a.next_id;
-  freed_ids = λ q t. a.freed_ids q (same q ∙ t);
-}
+-- The set new has the ids of old, and those from `from` up to below `to`.
+abbrev pub AddsBetween : ℕ → ℕ → BTreeSet ℕ → BTreeSet ℕ → Type 0
+AddsBetween from to old new = (i : ℕ) → IsTrue (contains nat_cmp new i) ↔ (IsTrue (contains nat_cmp old i) ⊎ ((from ≤ i) × (i < to)))
+
+pub adds_row : (from to : ℕ) (old new : BTreeSet ℕ) → from ≤ to → new.keys ≡ old.keys ++ range_with_len from (to - from) →
+    AddsBetween from to old new
+adds_row from to old new l e i =
+    let both : contains nat_cmp new i ≡ (contains nat_cmp old i || (leb from i && ltb i (from + (to - from)))) =
+    ap (list_any (eq_by_cmp nat_cmp i)) e ∙ list_any-append (eq_by_cmp nat_cmp i) old.keys (range_with_len from (to - from))
+    ∙ rw (row_test from (to - from) i) refl in
+    (λ t. grind (arith, both, t, l), λ t. grind (arith, both, t, l))
 
 -- A result that is an error is not Ok.
 pub not_ok : {T E : Type 0} → (r : Result T E) (e : E) → r ≡ Err e → IsOk r → ⊥
@@ -80,10 +94,15 @@ pub bound_is_word : {old : IdState} {lo hi k : ℕ} {next : Option ℕ} {freed :
 unfolding ids_of
 bound_is_word {lo = lo} {hi = hi} {next = next} e a = rw (← e) (λ b. (bound_above lo hi next a.range a.next_id, b.0, b.1))
 
+pub bound_below : (old : IdState) (lo hi k : ℕ) (next : Option ℕ) (freed : BTreeSet ℕ) → ids_of lo hi next freed ≡ old →
+    bound_of next hi < k → old.bound < k
+unfolding ids_of
+bound_below old lo hi k next freed e = rw (← e) (λ b. b)
+
 module _ (old : IdState) (lo hi k : ℕ) (next : Option ℕ) (freed more : BTreeSet ℕ) (e : ids_of lo hi next freed ≡ old) where
-  pub holds_no_memory : bound_of next hi < k → IsSameSet nat_cmp freed more → HoldsId old k (Err OutOfMemory) (ids_of lo hi next more)
+  pub holds_no_memory : bound_of next hi < k → more ≡ freed → HoldsId old k (Err OutOfMemory) (ids_of lo hi next more)
   unfolding HoldsId ids_of
-  holds_no_memory l same = rw (← e) (inr (l, refl, same_state _ _ refl refl refl (λ q. grind (arith, held_test, same q))))
+  holds_no_memory l same = rw (← e) (inr (inl l, refl, takes_same lo hi next freed more same))
 
   module _ (after : Option ℕ) (a : AreIds lo hi next freed) (r : (old.bound ≤ k) × (k ≤ old.hi))
       (added : AddsBetween (bound_of next hi) k freed more) (s : SomeIff after (k + 1 < 2 ^ 32) (k + 1)) where
@@ -106,7 +125,7 @@ module _ (old : IdState) (lo hi k : ℕ) (next : Option ℕ) (freed more : BTree
         (λ q. grind (arith, tests, added q, a.freed_ids q, w, b)) in
         inl (refl, held ∙ ap (holding_id k) e)
 
-pub ruleset holds_new = (none_past, bound_is_word, keeps_new, keeps_same_set, holds_past, holds_no_memory)
+pub ruleset holds_new = (none_past, bound_is_word, keeps_new, keeps_same, holds_past, holds_no_memory, adds_row)
 
 -- Allocating an id of the range leaves a valid state.
 pub holding_in_range : (old : IdState) (n : ℕ) → IsIdState old → IsOfRange old n → IsIdState (holding_id n old)
@@ -128,25 +147,45 @@ unfolding AllocatesExactId
 exact_new old new k r o n h = inr (o, inr (n, h))
 
 module _ (old : IdState) (lo hi k : ℕ) (next : Option ℕ) (freed left : BTreeSet ℕ) (e : ids_of lo hi next freed ≡ old) where
-  pub exact_freed : AreIds lo hi next freed → IsOfRange old k → IsTrue (contains nat_cmp freed k) → Updates nat_cmp freed left k false →
+  pub exact_freed : AreIds lo hi next freed → IsOfRange old k → IsTrue (contains nat_cmp freed k) → Removes k freed left →
       AllocatesExactId old k (Ok k) (ids_of lo hi next left)
   unfolding AllocatesExactId HoldsId
   exact_freed a o t u =
       inr (o, inr (holds_not old lo hi next freed e k t, inl (refl, takes_released lo hi k next freed left a t u ∙ ap (holding_id k) e)))
 
-  pub exact_taken : IsOfRange old k → WasEverAllocated old k → contains nat_cmp freed k ≡ false → IsUnchanged freed left →
+  -- An id between two freed ids can be out of memory.
+  pub exact_no_memory : AreIds lo hi next freed → IsOfRange old k → IsInside k freed → left ≡ freed →
+      AllocatesExactId old k (Err OutOfMemory) (ids_of lo hi next left)
+  unfolding AllocatesExactId HoldsId ids_of
+  exact_no_memory a o n same =
+      inr (
+        o,
+        inr (
+          holds_not old lo hi next freed e k n.own,
+          inr (
+            inr (n.first, freed_there (k - 1) (a.freed_ids (k - 1) n.below) n.below, freed_there (k + 1) (a.freed_ids (k + 1) n.above) n.above),
+            refl,
+            takes_same lo hi next freed left same ∙ e,
+          ),
+        ),
+      )
+    where
+      freed_there : (i : ℕ) → (lo ≤ i) × (i < bound_of next hi) → IsTrue (contains nat_cmp freed i) → IsFreed old i
+      freed_there i w t = (rw (← e) w, holds_not old lo hi next freed e i t)
+
+  pub exact_taken : IsOfRange old k → WasEverAllocated old k → contains nat_cmp freed k ≡ false → left ≡ freed →
       AllocatesExactId old k (Err ResourceNotAvailable) (ids_of lo hi next left)
   unfolding AllocatesExactId
   exact_taken o w f same =
       inr (o, inl (holds old lo hi next freed e k w f, (refl, takes_same lo hi next freed left same ∙ e)))
 
-pub keeps_less : (lo hi k : ℕ) (next : Option ℕ) (freed left : BTreeSet ℕ) → AreIds lo hi next freed → Updates nat_cmp freed left k false →
+pub keeps_less : (lo hi k : ℕ) (next : Option ℕ) (freed left : BTreeSet ℕ) → AreIds lo hi next freed → Removes k freed left →
     AreIds lo hi next left
 keeps_less lo hi k next freed left a u = record {
   range = a.range;
   ids = a.ids;
   next_id = a.next_id;
-  freed_ids = λ q t. grind (arith, u.0 q, a.freed_ids q);
+  freed_ids = λ q t. grind (arith, u q, a.freed_ids q);
 }
 
 -- ---- Facts of each result
@@ -159,7 +198,7 @@ module _ (old new : IdState) (k : ℕ) (r : Result ℕ Error) (h : AllocatesExac
   unfolding AllocatesExactId HoldsId
   exact_was_free = grind arith
 
-  pub exact_succeeds : IsNotHeld old k → k ≤ old.bound → r ≡ Ok k
+  pub exact_succeeds : IsNotHeld old k → ¬ NeedsMemory old k → r ≡ Ok k
   unfolding AllocatesExactId HoldsId
   exact_succeeds = grind arith
 
@@ -171,6 +210,7 @@ pub ruleset exact = (
   exact_outside,
   exact_new,
   exact_freed,
+  exact_no_memory,
   exact_taken,
   keeps_less,
   keeps_same,

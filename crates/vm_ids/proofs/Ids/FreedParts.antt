@@ -1,5 +1,5 @@
 -- The parts of an id allocator: its range, its next id and the list of its freed ids.
-use Rattle.std.proofs.Common.{◌≡◌, ◌↔◌, ℕ, ◌<◌, ◌≤◌, true, false, Some, None, List, [], ◌∷◌, refl, arith, nat_cmp, ⊎_elim}
+use Rattle.std.proofs.Common.{◌≡◌, ◌↔◌, ℕ, ◌<◌, ◌≤◌, true, false, Some, None, List, [], ◌∷◌, ◌++◌, refl, arith, nat_cmp, ⊎_elim}
 use Rattle.std.proofs.lemmas.Bool.{both_ways, or_cases, or_left, or_right}
 use Rattle.std.specs.List.{list_any}
 use Rattle.std.specs.List.Sorted.{IsStrictlySortedBy}
@@ -8,7 +8,7 @@ use Rattle.vm_ranges.proofs.Items.{less_is}
 use Rattle.vm_ranges.proofs.NumberSets.{tied_here}
 use Rattle.vm_ids.specs.declared.saved.read_ids.Ends.{Ends}
 use Rattle.vm_ids.specs.Checks.FreedChecks.{last_id, AreEndsOf, AreWithin}
-use Rattle.vm_ids.proofs.Ids.AddedIds.{last_end, first_of_ends}
+use Rattle.vm_ids.proofs.Ids.AddedIds.{last_end, first_of_ends, above_last}
 
 -- ---- The bounds of the ids
 first_to_last : (q first : ℕ) (ids : List ℕ) → IsStrictlySortedBy nat_cmp (first ∷ ids) →
@@ -42,3 +42,10 @@ ends_decide lowest bound ends (first ∷ ids) a =
           let high = w (last_id first ids) (last_in first ids) in
           omega (arith, f, l, low, high),
     )
+
+-- Each id is below one that follows the last.
+pub below_next : (id q : ℕ) (ids : List ℕ) → IsStrictlySortedBy nat_cmp ids → IsStrictlySortedBy nat_cmp (ids ++ id ∷ []) →
+    list_any (eq_by_cmp nat_cmp q) ids ≡ true → q < id
+below_next id q [] s n t = absurd (both_ways false refl t)
+below_next id q (first ∷ ids) s n t =
+    let r = first_to_last q first ids s t in let l = above_last first id ids n in omega (arith, r, l)

@@ -1,54 +1,23 @@
 -- The walk over the ids that were allocated at some time visits exactly the held ids, from both ends.
-use Rattle.std.proofs.Common.{
-  ◌≡◌,
-  ◌≢◌,
-  ◌↔◌,
-  ℕ,
-  suc,
-  ◌+◌,
-  ◌-◌,
-  ◌^◌,
-  ◌<◌,
-  ◌≤◌,
-  ◌⊎◌,
-  Bool,
-  true,
-  false,
-  cond,
-  not,
-  ◌||◌,
-  eqb,
-  List,
-  [],
-  ◌∷◌,
-  ◌++◌,
-  length,
-  get_or,
-  sym,
-  ap,
-  ◌∙◌,
-  arith,
-  inl,
-  inr,
-  Option,
-  Some,
-  None,
-  Bor,
-}
-use Rattle.std.proofs.lemmas.List.{append-nil, length_push}
-use Rattle.std.proofs.lemmas.List.Elements.{Contains-get_or, filter-append}
+use Rattle.std.proofs.Common.{◌≡◌, ◌≢◌, ◌↔◌, ℕ, zero, suc, ◌+◌, ◌-◌, ◌^◌, ◌<◌, ◌≤◌, ◌⊎◌, Bool, true, false, cond, not, ◌||◌, List, [], ◌∷◌, ◌++◌, length, get_or, sym, subst, refl, IfSome, ap, ◌∙◌, arith, inl, inr, Option, Some, None}
+use Rattle.std.proofs.lemmas.List.{append-nil, append_assoc, length_push}
+use Rattle.std.proofs.lemmas.List.Elements.{Contains-get_or, filter-append, All-nil, All-cons, All-head, All-tail}
+use Rattle.vm_chunks.proofs.Runs.{in_run_test}
 use Rattle.std.proofs.lemmas.List.Folds.{list_any-append}
 use Rattle.std.proofs.lemmas.Map.Keys.{below_from_sorted}
 use Rattle.std.proofs.lemmas.Map.Made.{is_member-Decides}
-use Rattle.std.specs.Iterator.{YieldsFirstRef, YieldsLastRef}
-use Rattle.std.specs.List.{All, AllPairs, Contains, filter, list_any, range_with_len}
+use Rattle.std.specs.Iterator.{YieldsFirst, YieldsLast}
+use Rattle.std.specs.List.{All, AllPairs, Contains, filter, flat_map, list_any, range_with_len}
 use Rattle.std.specs.List.Sorted.{IsStrictlySortedBy}
-use Rattle.std.specs.Option.{option_copied, option_eq}
 use Rattle.std.specs.Ordering.{nat_cmp, eq_by_cmp}
 use Rattle.std.specs.BTreeSet.{BTreeSet, IsOrdered}
 use Rattle.std.specs.FinSet as set
 use Rattle.vm_ids.specs.Ids.{IdState, IsHeld, held_ids, held_count, IsIdState, bound_of, ids_of, AreIds}
-use Rattle.vm_ids.specs.Checks.IdQueries.{freed_from, freed_to, ids_left, AscendWithin, AreIdsLeft}
+use Rattle.vm_ids.specs.Checks.IdQueries.{freed_from, freed_to, ids_left, AscendWithin, AreIdsLeft, IsFilled, AreFilled, Begins}
+use Rattle.vm_chunks.specs.Runs.{ids_of_run}
+use Rattle.vm_chunks.specs.declared.id_set.Run.{Run}
+use Rattle.std.proofs.lemmas.Bool.{cases_lt}
+use Rattle.std.proofs.lemmas.Grind.{flat_map-append}
 use Rattle.vm_ids.specs.Laws.IdLaws.{HeldIdsAreListed}
 use Rattle.vm_ids.proofs.Ids.IdSets.{held_test, bound_fits}
 use Rattle.vm_ids.proofs.Ids.AscendingBounds.{rise, within}
@@ -79,41 +48,20 @@ last_below a b i (j ∷ is) d r =
     (omega (arith, rest.0, r.0), (r.0, omega (arith, rest.0, last), rest.1))
 
 -- ---- The freed ids at hand
-pub first_taken : (keys rest : List ℕ) (taken : Option (Bor ℕ)) → YieldsFirstRef (λ (is : List ℕ). is) keys taken rest →
-    freed_from (option_copied taken) rest ≡ keys
-first_taken keys rest None s = sym s.0
-first_taken keys rest (Some id) s = sym s
+-- The ids of the last run are the last.
+last_run : (rest : List Run) (run : Run) → flat_map ids_of_run (rest ++ run ∷ []) ≡ flat_map ids_of_run rest ++ ids_of_run run
+last_run rest run =
+    flat_map-append ids_of_run rest (run ∷ []) ∙ ap (λ l. flat_map ids_of_run rest ++ l) (append-nil (ids_of_run run))
 
-pub last_taken : (keys rest : List ℕ) (taken : Option (Bor ℕ)) → YieldsLastRef (λ (is : List ℕ). is) keys taken rest →
-    freed_to rest (option_copied taken) ≡ keys
-last_taken keys rest None s = sym s.0
-last_taken keys rest (Some id) s = sym s
+pub first_taken : (keys : List ℕ) (runs rest : List Run) (taken : Option Run) → YieldsFirst (λ (rs : List Run). rs) runs taken rest →
+    flat_map ids_of_run runs ≡ keys → freed_from taken rest ≡ keys
+first_taken keys runs rest None s e = sym (ap (flat_map ids_of_run) (s.0)) ∙ e
+first_taken keys runs rest (Some run) s e = sym (ap (flat_map ids_of_run) s) ∙ e
 
-that_id : (i : ℕ) (freed : Option ℕ) → false ≡ not (option_eq eqb freed (Some i)) → freed ≡ Some i
-that_id i freed t = grind arith
-
-pub next_freed_passed : (next : ℕ) (freed copied : Option ℕ) (above rest : List ℕ) (taken : Option (Bor ℕ)) →
-    false ≡ not (option_eq eqb freed (Some next)) → copied ≡ option_copied taken →
-    YieldsFirstRef (λ (is : List ℕ). is) above taken rest → freed_from freed above ≡ next ∷ freed_from copied rest
-next_freed_passed next freed copied above rest taken t c s =
-    rw (that_id next freed t, c) (ap (λ (is : List ℕ). next ∷ is) (sym (first_taken above rest taken s)))
-
-pub last_freed_passed : (last : ℕ) (freed copied : Option ℕ) (below rest : List ℕ) (taken : Option (Bor ℕ)) →
-    false ≡ not (option_eq eqb freed (Some last)) → copied ≡ option_copied taken →
-    YieldsLastRef (λ (is : List ℕ). is) below taken rest → freed_to below freed ≡ freed_to rest copied ++ last ∷ []
-last_freed_passed last freed copied below rest taken t c s =
-    rw (that_id last freed t, c) (ap (λ (is : List ℕ). is ++ last ∷ []) (sym (last_taken below rest taken s)))
-
-pub next_freed_above : (next b : ℕ) (freed : Option ℕ) (above : List ℕ) → true ≡ not (option_eq eqb freed (Some next)) →
-    AscendWithin next b (freed_from freed above) → AscendWithin (next + 1) b (freed_from freed above)
-next_freed_above next b None above t r = tt
-next_freed_above next b (Some i) above t r = let d : i ≢ next = grind arith in (omega (arith, r.0, d), r.1, r.2)
-
-pub last_freed_below : (a bound : ℕ) (freed : Option ℕ) (below : List ℕ) → true ≡ not (option_eq eqb freed (Some (bound - 1))) →
-    AscendWithin a bound (freed_to below freed) → AscendWithin a (bound - 1) (freed_to below freed)
-last_freed_below a bound None below t r = tt
-last_freed_below a bound (Some i) below t r =
-    let d : i ≢ bound - 1 = grind arith in (last_below a bound i below d r).1
+pub last_taken : (keys : List ℕ) (runs rest : List Run) (taken : Option Run) → YieldsLast (λ (rs : List Run). rs) runs taken rest →
+    flat_map ids_of_run runs ≡ keys → freed_to rest taken ≡ keys
+last_taken keys runs rest None s e = sym (ap (flat_map ids_of_run) (s.0)) ∙ e
+last_taken keys runs rest (Some run) s e = sym (ap (flat_map ids_of_run) s ∙ last_run rest run) ∙ e
 
 -- ---- One step of the walk
 pub none_left : (next bound : ℕ) (freed : List ℕ) → bound ≤ next → ids_left next bound freed ≡ []
@@ -218,6 +166,196 @@ module _ (next bound : ℕ) (l : next < bound) where
         omega (arith, n, v.counted),
         visited,
       )
+
+-- Past the bound no id is left, and the walk passes more.
+past_bound : (next bound : ℕ) (rest below : List ℕ) (left : ℕ) → bound ≤ next → AreIdsLeft next bound (next ∷ rest) below left →
+    AreIdsLeft (next + 1) bound rest below left
+past_bound next bound rest below left l v = record {
+  ids = v.ids;
+  from_next = v.from_next.2;
+  to_bound = v.to_bound;
+  same = λ i a b. absurd (omega (arith, a, b, l));
+  counted = v.counted ∙ ap length (none_left next bound (next ∷ rest) l) ∙ sym (ap length (none_left (next + 1) bound rest (omega (arith, l))));
+}
+
+-- The walk from below passes freed ids that follow each other.
+pub passes_row : (n next bound : ℕ) (above rest below : List ℕ) (left : ℕ) → above ≡ range_with_len next n ++ rest →
+    AreIdsLeft next bound above below left →
+    AreIdsLeft (next + n) bound rest below left × (ids_left next bound above ≡ ids_left (next + n) bound rest)
+passes_row zero next bound above rest below left e v =
+    let z : next ≡ next + 0 = omega arith in (
+      subst (λ k. AreIdsLeft k bound rest below left) z (subst (λ a. AreIdsLeft next bound a below left) e v),
+      ap (ids_left next bound) e ∙ ap (λ k. ids_left k bound rest) z,
+    )
+passes_row (suc n) next bound above rest below left e v =
+    let z : next + 1 + n ≡ next + suc n = omega arith in
+    elim (cases_lt next bound) [
+      | inl l ↦ (
+          let p = passes_first next bound l above (range_with_len (next + 1) n ++ rest) below left e v in
+          let r = passes_row n (next + 1) bound (range_with_len (next + 1) n ++ rest) rest below left refl p.0 in
+          (subst (λ k. AreIdsLeft k bound rest below left) z r.0, p.1 ∙ r.1 ∙ ap (λ k. ids_left k bound rest) z))
+      | inr l ↦ (
+          let p = past_bound next bound (range_with_len (next + 1) n ++ rest) below left l (subst (λ a. AreIdsLeft next bound a below left) e v) in
+          let r = passes_row n (next + 1) bound (range_with_len (next + 1) n ++ rest) rest below left refl p in (
+            subst (λ k. AreIdsLeft k bound rest below left) z r.0,
+            none_left next bound above l ∙ sym (none_left (next + suc n) bound rest (omega (arith, l))),
+          ))
+    ]
+
+-- The walk from above does the same.
+before_next : (next bound : ℕ) (above rest below : List ℕ) (left : ℕ) → bound ≤ next → below ≡ rest ++ (bound - 1) ∷ [] → 0 < bound →
+    AreIdsLeft next bound above below left → AreIdsLeft next (bound - 1) above rest left
+before_next next bound above rest below left l e n v =
+    let w : AreIdsLeft next bound above (rest ++ (bound - 1) ∷ []) left = rw e at v in
+    record {
+      ids = omega (arith, w.ids);
+      from_next = w.from_next;
+      to_bound = (without_last 0 bound (bound - 1) rest w.to_bound).0;
+      same = λ i a b. absurd (omega (arith, a, b, l));
+      counted = w.counted ∙ ap length (none_left next bound above l) ∙ sym (ap length (none_left next (bound - 1) above (omega (arith, l))));
+    }
+
+pub passes_row_back : (n first next : ℕ) (above rest below : List ℕ) (left : ℕ) → below ≡ rest ++ range_with_len first n →
+    AreIdsLeft next (first + n) above below left →
+    AreIdsLeft next first above rest left × (ids_left next (first + n) above ≡ ids_left next first above)
+passes_row_back zero first next above rest below left e v =
+    let z : first + 0 ≡ first = omega arith in (
+      subst (λ k. AreIdsLeft next k above rest left) z (subst (λ b. AreIdsLeft next (first + 0) above b left) (e ∙ append-nil rest) v),
+      ap (λ k. ids_left next k above) z,
+    )
+passes_row_back (suc n) first next above rest below left e v =
+    let z : first + suc n - 1 ≡ first + n = omega arith in
+    let f : below ≡ (rest ++ range_with_len first n) ++ (first + suc n - 1) ∷ [] =
+    e ∙ ap (λ l. rest ++ l) (row_end first n ∙ ap (λ i. range_with_len first n ++ i ∷ []) (sym z))
+    ∙ sym (append_assoc rest (range_with_len first n) ((first + suc n - 1) ∷ [])) in
+    elim (cases_lt next (first + suc n)) [
+      | inl l ↦ (
+          let p = passes_last next (first + suc n) l above below (rest ++ range_with_len first n) left f v in
+          let r = passes_row_back n first next above rest (rest ++ range_with_len first n) left refl
+          (subst (λ k. AreIdsLeft next k above (rest ++ range_with_len first n) left) z p.0) in
+          (r.0, p.1 ∙ ap (λ k. ids_left next k above) z ∙ r.1))
+      | inr l ↦ (
+          let p = before_next next (first + suc n) above (rest ++ range_with_len first n) below left l f (omega arith) v in
+          let r = passes_row_back n first next above rest (rest ++ range_with_len first n) left refl
+          (subst (λ k. AreIdsLeft next k above (rest ++ range_with_len first n) left) z p) in
+          (r.0, none_left next (first + suc n) above l ∙ sym (none_left next first above (omega (arith, l)))))
+    ]
+
+-- ---- The runs at hand
+-- The ids of a run that is not empty.
+run_head : (run : Run) → IsFilled run → ids_of_run run ≡ run.first ∷ range_with_len (run.first + 1) (run.last - run.first)
+run_head run f = let n : run.last + 1 - run.first ≡ suc (run.last - run.first) = omega (arith, f) in ap (range_with_len run.first) n
+
+run_tail : (run : Run) → IsFilled run → ids_of_run run ≡ range_with_len run.first (run.last - run.first) ++ run.last ∷ []
+run_tail run f =
+    let n : run.last + 1 - run.first ≡ suc (run.last - run.first) = omega (arith, f) in
+    let l : run.first + (run.last - run.first) ≡ run.last = omega (arith, f) in
+    ap (range_with_len run.first) n ∙ row_end run.first (run.last - run.first) ∙ ap (λ i. range_with_len run.first (run.last - run.first) ++ i ∷ []) l
+
+-- The walk from below passes the next run if it begins up to the next id.
+pub passes_run : (next bound : ℕ) (run : Run) (runs rest : List Run) (taken : Option Run) (below : List ℕ) (left : ℕ) → run.first ≤ next →
+    AreFilled (Some run) runs → YieldsFirst (λ (rs : List Run). rs) runs taken rest → AreIdsLeft next bound (freed_from (Some run) runs) below left →
+    AreIdsLeft (run.last + 1) bound (freed_from taken rest) below left
+    × (ids_left next bound (freed_from (Some run) runs) ≡ ids_left (run.last + 1) bound (freed_from taken rest)) × (next < run.last + 1)
+passes_run next bound run runs rest taken below left l f s v =
+    let r = subst (λ (is : List ℕ). AscendWithin next (2 ^ 32) (is ++ flat_map ids_of_run runs)) (run_head run f.0) v.from_next in
+    let same : run.first ≡ next = omega (arith, l, r.0) in
+    let all : freed_from (Some run) runs ≡ range_with_len next (run.last + 1 - run.first) ++ freed_from taken rest =
+    ap (λ i. range_with_len i (run.last + 1 - run.first) ++ flat_map ids_of_run runs) same
+    ∙ ap (λ is. range_with_len next (run.last + 1 - run.first) ++ is) (sym (first_taken (flat_map ids_of_run runs) runs rest taken s refl)) in
+    let p = passes_row (run.last + 1 - run.first) next bound _ (freed_from taken rest) below left all v in
+    let m : next + (run.last + 1 - run.first) ≡ run.last + 1 = omega (arith, same, f.0) in (
+      subst (λ k. AreIdsLeft k bound (freed_from taken rest) below left) m p.0,
+      p.1 ∙ ap (λ k. ids_left k bound (freed_from taken rest)) m,
+      omega (arith, same, f.0),
+    )
+
+pub passes_run_back : (next bound : ℕ) (run : Run) (runs rest : List Run) (taken : Option Run) (above : List ℕ) (left : ℕ) → bound ≤ run.last + 1 →
+    AreFilled (Some run) runs → YieldsLast (λ (rs : List Run). rs) runs taken rest → AreIdsLeft next bound above (freed_to runs (Some run)) left →
+    AreIdsLeft next run.first above (freed_to rest taken) left
+    × (ids_left next bound above ≡ ids_left next run.first above) × (run.first < bound)
+passes_run_back next bound run runs rest taken above left l f s v =
+    let w = subst (λ (is : List ℕ). AscendWithin 0 bound (flat_map ids_of_run runs ++ is)) (run_tail run f.0) v.to_bound in
+    let last = without_last 0 bound run.last (flat_map ids_of_run runs ++ range_with_len run.first (run.last - run.first))
+    (subst (AscendWithin 0 bound) (sym (append_assoc (flat_map ids_of_run runs) (range_with_len run.first (run.last - run.first)) (run.last ∷ []))) w) in
+    let same : bound ≡ run.first + (run.last + 1 - run.first) = omega (arith, l, last.2, f.0) in
+    let all : freed_to runs (Some run) ≡ freed_to rest taken ++ range_with_len run.first (run.last + 1 - run.first) =
+    ap (λ is. is ++ ids_of_run run) (sym (last_taken (flat_map ids_of_run runs) runs rest taken s refl)) in
+    let p = passes_row_back (run.last + 1 - run.first) run.first next above (freed_to rest taken) _ left all
+    (subst (λ k. AreIdsLeft next k above (freed_to runs (Some run)) left) same v) in
+    (p.0, ap (λ k. ids_left next k above) same ∙ p.1, omega (arith, same, f.0))
+
+-- The last id of the next run is below the bound of all.
+pub run_fits : (lo b : ℕ) (run : Run) (runs : List Run) → AreFilled (Some run) runs → AscendWithin lo b (freed_from (Some run) runs) → run.last < b
+run_fits lo b run runs f r =
+    let t : list_any (same run.last) (ids_of_run run ++ flat_map ids_of_run runs) ≡ true =
+    list_any-append (same run.last) (ids_of_run run) (flat_map ids_of_run runs)
+    ∙ rw (in_run_test run run.last) (grind (arith, f.0)) in
+    (within lo b run.last (ids_of_run run ++ flat_map ids_of_run runs) r t).1
+
+pub last_run_fits : (lo b : ℕ) (run : Run) (runs : List Run) → AreFilled (Some run) runs → AscendWithin lo b (freed_to runs (Some run)) → run.last < b
+last_run_fits lo b run runs f r =
+    let t : list_any (same run.last) (flat_map ids_of_run runs ++ ids_of_run run) ≡ true =
+    list_any-append (same run.last) (flat_map ids_of_run runs) (ids_of_run run)
+    ∙ rw (in_run_test run run.last) (grind (arith, f.0)) in
+    (within lo b run.last (flat_map ids_of_run runs ++ ids_of_run run) r t).1
+
+-- What is true of each element is true of the last, and of those before it.
+All-last : {X : Type 0} (P : X → Type 0) (xs : List X) (x : X) → All P (xs ++ x ∷ []) → P x
+All-last P [] x a = All-head P x [] a
+All-last P (y ∷ xs) x a = All-last P xs x (All-tail P y (xs ++ x ∷ []) a)
+
+All-init : {X : Type 0} (P : X → Type 0) (xs : List X) (x : X) → All P (xs ++ x ∷ []) → All P xs
+All-init P [] x a = All-nil P
+All-init P (y ∷ xs) x a = All-cons P y xs (All-head P y (xs ++ x ∷ []) a) (All-init P xs x (All-tail P y (xs ++ x ∷ []) a))
+
+-- The runs of a walk that begins are not empty.
+pub first_filled : (runs rest : List Run) (taken : Option Run) → All IsFilled runs → YieldsFirst (λ (rs : List Run). rs) runs taken rest →
+    AreFilled taken rest
+first_filled runs rest None f s = (tt, subst (All IsFilled) (s.0 ∙ sym s.1) f)
+first_filled runs rest (Some next) f s =
+    let a = subst (All IsFilled) s f in (All-head IsFilled next rest a, All-tail IsFilled next rest a)
+
+pub last_filled : (runs rest : List Run) (taken : Option Run) → All IsFilled runs → YieldsLast (λ (rs : List Run). rs) runs taken rest →
+    AreFilled taken rest
+last_filled runs rest None f s = (tt, subst (All IsFilled) (s.0 ∙ sym s.1) f)
+last_filled runs rest (Some next) f s =
+    let a = subst (All IsFilled) s f in (All-last IsFilled rest next a, All-init IsFilled rest next a)
+
+-- A walk over runs begins with the first.
+pub begins : (runs rest : List Run) (taken : Option Run) → All IsFilled runs → YieldsFirst (λ (rs : List Run). rs) runs taken rest →
+    Begins runs taken rest
+begins runs rest None f s = (s.0, s.1)
+begins runs rest (Some next) f s =
+    let a = subst (All IsFilled) s f in (s, All-head IsFilled next rest a, All-tail IsFilled next rest a)
+
+-- The runs after the next one are not empty.
+pub filled_after : (run : Run) (runs rest : List Run) (taken : Option Run) → AreFilled (Some run) runs →
+    YieldsFirst (λ (rs : List Run). rs) runs taken rest → AreFilled taken rest
+filled_after run runs rest taken f s = first_filled runs rest taken f.1 s
+
+pub filled_before : (run : Run) (runs rest : List Run) (taken : Option Run) → AreFilled (Some run) runs →
+    YieldsLast (λ (rs : List Run). rs) runs taken rest → AreFilled taken rest
+filled_before run runs rest taken f s = last_filled runs rest taken f.1 s
+
+-- The next id is not freed if the next run begins above it.
+pub next_not_freed : (next b : ℕ) (freed : Option Run) (runs : List Run) → AreFilled freed runs → IfSome freed (λ run. next < run.first) →
+    AscendWithin next b (freed_from freed runs) → AscendWithin (next + 1) b (freed_from freed runs)
+next_not_freed next b None runs f l r = tt
+next_not_freed next b (Some run) runs f l r =
+    let s = subst (λ (is : List ℕ). AscendWithin next b (is ++ flat_map ids_of_run runs)) (run_head run f.0) r in
+    subst (λ (is : List ℕ). AscendWithin (next + 1) b (is ++ flat_map ids_of_run runs)) (sym (run_head run f.0)) (omega (arith, l), s.1, s.2)
+
+pub last_not_freed : (a bound : ℕ) (freed : Option Run) (runs : List Run) → AreFilled freed runs → IfSome freed (λ run. run.last + 1 < bound) →
+    AscendWithin a bound (freed_to runs freed) → AscendWithin a (bound - 1) (freed_to runs freed)
+last_not_freed a bound None runs f l r = tt
+last_not_freed a bound (Some run) runs f l r =
+    let low = flat_map ids_of_run runs ++ range_with_len run.first (run.last - run.first) in
+    let all : freed_to runs (Some run) ≡ low ++ run.last ∷ [] =
+    ap (λ is. flat_map ids_of_run runs ++ is) (run_tail run f.0)
+    ∙ sym (append_assoc (flat_map ids_of_run runs) (range_with_len run.first (run.last - run.first)) (run.last ∷ [])) in
+    let d : run.last ≢ bound - 1 = λ e. omega (arith, e, l) in
+    subst (AscendWithin a (bound - 1)) (sym all) (last_below a bound run.last low d (subst (AscendWithin a bound) all r)).1
 
 pub ruleset walks = (none_left)
 

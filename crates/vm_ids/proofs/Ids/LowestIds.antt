@@ -1,51 +1,20 @@
 -- The lowest id between two others that is not held.
-use Rattle.std.proofs.Common.{
-  ◌≡◌,
-  ℕ,
-  ◌+◌,
-  ◌<◌,
-  ◌≤◌,
-  ◌⊎◌,
-  false,
-  ap,
-  arith,
-  max,
-  List,
-  [],
-  ◌∷◌,
-  Bor,
-  Option,
-  Some,
-  None,
-  IfSome,
-  IfNone,
-  Result,
-  Ok,
-  Err,
-  IfOk,
-  IsOk,
-  OnErr,
-  nat_cmp,
-}
-use Rattle.std.proofs.lemmas.Map.Keys.{le_from_not_gt}
-use Rattle.std.specs.Ordering.{is_gt}
-use Rattle.std.specs.Option.{option_copied, MatchOption}
-use Rattle.std.specs.declared.ops.Bound.TheVariants.{Included}
-use Rattle.std.specs.BTreeSet.{BTreeSet, contains, IsKeyRangeOf}
+use Rattle.std.proofs.Common.{◌≡◌, ℕ, ◌+◌, ◌<◌, ◌≤◌, ◌⊎◌, false, ap, arith, max, Option, Some, None, Result, Ok, Err, IfOk, IsOk, OnErr, nat_cmp}
+use Rattle.std.specs.BTreeSet.{BTreeSet, contains}
 use Rattle.vm_ids.specs.Ids.{IdState, holding_id, bound_of, ids_of, AreIds}
 use Rattle.vm_ids.specs.declared.id_request.IdRequest.TheVariants.{LowestIn}
-use Rattle.vm_ids.specs.IdRequests.{Peeks, HoldsId, AllocatesExactId, IsNotHeldIn, IsLowestNotHeldIn, IsNoneNotHeldIn, AllocatesIdIn}
-use Rattle.vm_ids.specs.Checks.FreedBetween.{IsLowestBetween}
+use Rattle.vm_ids.specs.IdRequests.{Peeks, NeedsMemory, HoldsId, AllocatesExactId, IsLowestNotHeldIn, IsNoneNotHeldIn, AllocatesIdIn}
+use Rattle.vm_chunks.specs.Runs.{IsLowestFrom, HasNoneFrom}
 use Rattle.vm_ranges.specs.declared.error.Error.{Error}
 use Rattle.vm_ids.proofs.Ids.IdSets.{held_test, bound_fits, bound_above}
 
 module _ (state : IdState) (lo hi first last : ℕ) (next : Option ℕ) (freed : BTreeSet ℕ) (e : ids_of lo hi next freed ≡ state) where
-  pub found_freed : (k : ℕ) → AreIds lo hi next freed → IsLowestBetween first last freed k → IsLowestNotHeldIn first last state k
+  pub found_freed : (k : ℕ) → AreIds lo hi next freed → IsLowestFrom first freed k → k ≤ last → IsLowestNotHeldIn first last state k
   unfolding IsLowestNotHeldIn ids_of
-  found_freed k a f =
+  found_freed k a f l =
       let was = a.freed_ids k f.member in
       rw (← e) (
-        grind (arith, held_test, f.within, f.member, was, bound_fits lo hi next a.next_id),
+        grind (arith, held_test, f.from, l, f.member, was, bound_fits lo hi next a.next_id),
         λ j h. grind (arith, held_test, f.lowest j, was),
       )
 
@@ -70,29 +39,16 @@ module _ (state : IdState) (lo hi first last : ℕ) (next : Option ℕ) (freed :
         let bound : bound_of next hi ≡ n = ap (λ (o : Option ℕ). bound_of o hi) s in
         rw (← e) (λ i h. grind (arith, held_test, none i, bound))
 
-pub ruleset finds = (found_freed, found_next, none_without_next, none_past_last)
+-- No freed id is in the window if none is from its first id on, or the lowest of those is past its last.
+pub none_of_all : (first last : ℕ) (freed : BTreeSet ℕ) → HasNoneFrom first freed → (j : ℕ) → first ≤ j → j ≤ last →
+    contains nat_cmp freed j ≡ false
+none_of_all first last freed n j l m = n j l
 
--- ---- The lowest id of a set between two others
-not_above : (a b : ℕ) → a ≤ b → is_gt (nat_cmp a b) ≡ false
-not_above a b l = grind arith
+pub none_upto_last : (first last k : ℕ) (freed : BTreeSet ℕ) → IsLowestFrom first freed k → last < k → (j : ℕ) → first ≤ j → j ≤ last →
+    contains nat_cmp freed j ≡ false
+none_upto_last first last k freed f p j l m = grind (arith, f.lowest j)
 
-pub first_found : (first last : ℕ) (ids : BTreeSet ℕ) (r rest : List ℕ) (o : Option (Bor ℕ)) (p : Option ℕ) → p ≡ option_copied o →
-    MatchOption o ((r ≡ []) × (rest ≡ [])) (λ x. r ≡ x.now ∷ rest) → IsKeyRangeOf nat_cmp (Included first) (Included last) ids r →
-    IfSome p (λ id. IsLowestBetween first last ids id)
-first_found first last ids r rest None p e s h = rw e tt
-first_found first last ids r rest (Some x) p e s h =
-    let k : IsKeyRangeOf nat_cmp (Included first) (Included last) ids (x.now ∷ rest) = rw s at h in
-    rw e (record {
-      within = (le_from_not_gt first x.now k.1.0.0, le_from_not_gt x.now last k.1.0.1);
-      member = k.1.1;
-      lowest = λ j a b m. le_from_not_gt x.now j (k.2 j (not_above first j a, not_above j last b) m);
-    })
-
-pub first_none : (first last : ℕ) (ids : BTreeSet ℕ) (r rest : List ℕ) (o : Option (Bor ℕ)) (p : Option ℕ) → p ≡ option_copied o →
-    MatchOption o ((r ≡ []) × (rest ≡ [])) (λ x. r ≡ x.now ∷ rest) → IsKeyRangeOf nat_cmp (Included first) (Included last) ids r →
-    IfNone p ((id : ℕ) → first ≤ id → id ≤ last → contains nat_cmp ids id ≡ false)
-first_none first last ids r rest (Some x) p e s h = rw e tt
-first_none first last ids r rest None p e s h = rw e (λ j a b. h.5 s.0 j (not_above first j a, not_above j last b))
+pub ruleset finds = (found_freed, found_next, none_without_next, none_past_last, none_of_all, none_upto_last)
 
 -- ---- The cases of `allocate_in`
 pub in_refused : (old : IdState) (first last : ℕ) (e : Error) → Peeks old (LowestIn first last) (Err e) →
@@ -115,7 +71,7 @@ module _ (old new : IdState) (first last : ℕ) (r : Result ℕ Error) (h : Allo
   unfolding AllocatesIdIn HoldsId
   in_state = grind arith
 
-  pub in_succeeds : (i : ℕ) → IsNotHeldIn first last old i → i ≤ old.bound → IsOk r
+  pub in_succeeds : (i : ℕ) → IsLowestNotHeldIn first last old i → ¬ NeedsMemory old i → IsOk r
   unfolding AllocatesIdIn HoldsId IsLowestNotHeldIn IsNoneNotHeldIn
   in_succeeds i f b = grind arith
 

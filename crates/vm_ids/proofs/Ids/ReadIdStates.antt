@@ -27,8 +27,7 @@ use Rattle.std.proofs.Common.{
 }
 use Rattle.std.proofs.lemmas.Option.{same_Some}
 use Rattle.std.specs.Result.{result_ok}
-use Rattle.std.specs.BTreeSet.{BTreeSet, IsOrdered}
-use Rattle.std.specs.Ordering.{nat_cmp}
+use Rattle.std.specs.BTreeSet.{BTreeSet}
 use Rattle.serde_json.specs.Data.{Data, null, boolean, number, string, array, object, Items}
 use Rattle.serde_json.specs.Find.{get, as_array, as_null}
 use Rattle.vm_ranges.proofs.NumberSteps.{u32-some, some-u32, u32_in-some}
@@ -41,13 +40,14 @@ use Rattle.vm_ranges.specs.Numbers.{whole_number, u32_from, u32_in}
 use Rattle.vm_ranges.specs.declared.saved.SavedError.{SavedError}
 use Rattle.vm_ranges.specs.declared.saved.SavedError.TheVariants.{Violated, OutOfMemory}
 use Rattle.vm_ids.specs.declared.saved.read_ids.Ends.{Ends}
-use Rattle.vm_ids.specs.Ids.{IdState, IsIdState, IsNext, AreIds, ids_of}
+use Rattle.vm_ids.specs.Ids.{next_id_of, freed_ids, IdState, IsIdState, IsNext, AreIds, ids_of}
 use Rattle.vm_ids.specs.FreedLists.{AreFreedOf, MakesOfIds}
 use Rattle.vm_ids.specs.Values.IdValues.{IdFields, EncodesNext, EncodesNumber, EncodesNumbers, EncodesIds}
 use Rattle.vm_ids.specs.Checks.FreedChecks.{ends_of, AreEndsOf}
 use Rattle.vm_ids.specs.Checks.IdChecks.{ids_from, decoded_next, AreDecoded, IdParts}
 use Rattle.vm_ids.proofs.Ids.IdSets.{bound_fits}
-use Rattle.vm_ids.proofs.Ids.IdFields.{is_state}
+use Rattle.vm_ids.proofs.Ids.IdFields.{is_state, next_is}
+use Rattle.vm_ids.proofs.Ids.WrittenIds.{written_ids}
 use Rattle.vm_ids.proofs.Ids.AscendingBounds.{ids-encoded, encoded-ids, sorted, rise}
 
 -- ---- The next id
@@ -197,20 +197,31 @@ encoded_state d state s =
     let f = s.fields in
     is_state state f.range_base f.range_end f.next_id (record { keys = f.freed_ids }) (sym s.made.1) s.made.0.parts
 
-pub encodes_ids : (d v w : Data) (state : IdState) (lo hi : ℕ) (next : Option ℕ) (freed : BTreeSet ℕ) → ids_of lo hi next freed ≡ state →
-    IdParts d lo v hi w → EncodesNext v next → EncodesNumbers w freed.keys → AreIds lo hi next freed → IsOrdered nat_cmp freed →
-    EncodesIds d state
-encodes_ids d v w state lo hi next freed e p next_encoded freed_encoded i s = record {
-  fields = record { range_base = lo; next_id = next; range_end = hi; freed_ids = freed.keys };
-  written = record {
-    four_fields = p.four_fields;
-    range_base = p.base_is;
-    next_id = field_is (codes "next_id") d v (λ x. EncodesNext x next) p.next_is next_encoded;
-    range_end = p.end_is;
-    freed_ids = field_is (codes "freed_ids") d w (λ x. EncodesNumbers x freed.keys) p.freed_is freed_encoded;
-  };
-  made = (record { parts = i; ascending = s }, sym e);
-}
+made_of : (state : IdState) (lo hi : ℕ) (next : Option ℕ) (freed : List ℕ) → IsIdState state → lo ≡ state.lo → hi ≡ state.hi →
+    next ≡ next_id_of state → freed ≡ freed_ids state → MakesOfIds lo hi next freed (Ok state)
+made_of state lo hi next freed s a b c e = rw (a, b, c, e) (written_ids.accepted state s, sym (written_ids.same state s))
+
+fields_of : (state : IdState) (lo hi : ℕ) (next : Option ℕ) (freed : BTreeSet ℕ) → ids_of lo hi next freed ≡ state →
+    (lo ≡ state.lo) × (hi ≡ state.hi)
+unfolding ids_of
+fields_of state lo hi next freed e = (ap (λ (s : IdState). s.lo) e, ap (λ (s : IdState). s.hi) e)
+
+pub encodes_ids : (d v w : Data) (state : IdState) (lo hi : ℕ) (next : Option ℕ) (freed : BTreeSet ℕ) (ids : List ℕ) →
+    ids_of lo hi next freed ≡ state → AreIds lo hi next freed → ids ≡ freed_ids state →
+    IdParts d lo v hi w → EncodesNext v next → EncodesNumbers w ids → EncodesIds d state
+encodes_ids d v w state lo hi next freed ids e i s p next_encoded freed_encoded =
+    let f = fields_of state lo hi next freed e in
+    record {
+      fields = record { range_base = lo; next_id = next; range_end = hi; freed_ids = ids };
+      written = record {
+        four_fields = p.four_fields;
+        range_base = p.base_is;
+        next_id = field_is (codes "next_id") d v (λ x. EncodesNext x next) p.next_is next_encoded;
+        range_end = p.end_is;
+        freed_ids = field_is (codes "freed_ids") d w (λ x. EncodesNumbers x ids) p.freed_is freed_encoded;
+      };
+      made = made_of state lo hi next ids (is_state state lo hi next freed e i) f.0 f.1 (next_is state lo hi next freed e i) s;
+    }
 
 pub ruleset written = (encodes_ids)
 

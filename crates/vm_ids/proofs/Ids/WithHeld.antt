@@ -1,5 +1,6 @@
 -- Creating an id allocator of its range and the list of its held ids.
 use Rattle.std.proofs.Common.{
+  OnErr,
   ◌≡◌,
   ℕ,
   ◌+◌,
@@ -193,6 +194,6 @@ unfolding HoldsId
 new_held_state old new n r k is h = grind arith
 
 pub new_held_error : (old new : IdState) (n : ℕ) (r : Result ℕ Error) (e : Error) → r ≡ Err e → HoldsId old n r new →
-    (old.bound < n) × (e ≡ OutOfMemory)
+    OnErr r (old.bound < n) → (old.bound < n) × (e ≡ OutOfMemory)
 unfolding HoldsId
-new_held_error old new n r e is h = grind arith
+new_held_error old new n r e is h m = (rw is at m, grind arith)

@@ -1,23 +1,42 @@
 -- The walk over the held ids, and a part of equality. Only private functions and the iterator cite them.
-use Rattle.std.specs.Prelude.{◌≡◌, ℕ, ◌+◌, ◌-◌, ◌^◌, ◌<◌, ◌≤◌, not, List, [], ◌∷◌, ◌++◌, length, Option, Some, None}
-use Rattle.std.specs.List.{filter, list_any, range_with_len}
+use Rattle.std.specs.Prelude.{◌≡◌, ℕ, ◌+◌, ◌-◌, ◌^◌, ◌<◌, ◌≤◌, not, List, [], ◌∷◌, ◌++◌, length, Option, Some, None, IfSome, option_to_list}
+use Rattle.std.specs.List.{All, filter, flat_map, list_any, range_with_len}
 use Rattle.std.specs.Ordering.{nat_cmp, eq_by_cmp}
+use Rattle.vm_chunks.specs.Runs.{ids_of_run}
+use Rattle.vm_chunks.specs.declared.id_set.Run.{Run}
 use Rattle.vm_ids.specs.Ids.{IdState}
 
--- The freed ids that the walk from below did not visit: the next one, and those above it.
-abbrev pub freed_from : Option ℕ → List ℕ → List ℕ
+-- The freed ids that the walk from below did not visit: those of the next run, and of the runs above it.
+abbrev pub freed_from : Option Run → List Run → List ℕ
 freed_from None above = []
-freed_from (Some id) above = id ∷ above
+freed_from (Some run) above = ids_of_run run ++ flat_map ids_of_run above
 
--- The freed ids that the walk from above did not visit: those below the next one, and it.
-abbrev pub freed_to : List ℕ → Option ℕ → List ℕ
+-- The freed ids that the walk from above did not visit: those of the runs below the next one, and its own.
+abbrev pub freed_to : List Run → Option Run → List ℕ
 freed_to below None = []
-freed_to below (Some id) = below ++ id ∷ []
+freed_to below (Some run) = flat_map ids_of_run below ++ ids_of_run run
+
+-- The freed ids that are ahead: those of the run that was begun, if there is one, and of the runs above it.
+abbrev pub freed_ahead : Option Run → List Run → List ℕ
+freed_ahead run runs = flat_map ids_of_run (option_to_list run ++ runs)
+
+-- The run is not empty.
+abbrev pub IsFilled : Run → Type 0
+IsFilled run = run.first ≤ run.last
+
+-- The next run and the others are not empty.
+abbrev pub AreFilled : Option Run → List Run → Type 0
+AreFilled next runs = IfSome next IsFilled × All IsFilled runs
 
 -- The ids from `next` up to below `bound` that are not in the list of freed ids.
 unfoldable pub ids_left : ℕ → ℕ → List ℕ → List ℕ
 ids_left next bound freed =
     filter (λ i. not (list_any (eq_by_cmp nat_cmp i) freed)) (range_with_len next (bound - next))
+
+-- The run is the first of the runs and the others are left, or there is none. None of them is empty.
+abbrev pub Begins : List Run → Option Run → List Run → Type 0
+Begins runs None left = (runs ≡ []) × (left ≡ [])
+Begins runs (Some run) left = (runs ≡ run ∷ left) × IsFilled run × All IsFilled left
 
 -- The numbers are in strictly ascending order, at least `lowest` and below `bound`.
 abbrev pub AscendWithin : ℕ → ℕ → List ℕ → Type 0

@@ -8,7 +8,6 @@ ghost use Rattle.vm_ids.specs.Checks.IdQueries.{HaveSameBounds};
 ghost use Rattle.vm_ids.specs.IdOrder.{id_state_cmp, id_state_cmp-total};
 
 use super::IdAllocator;
-use std::collections::BTreeSet;
 
 impl PartialEq for IdAllocator {
     ghost eq = { eq_by_cmp id_state_cmp };
@@ -23,7 +22,7 @@ impl PartialEq for IdAllocator {
         ensures equal { IsTrue result ↔ (self.now ≡ other.now) }
         ensures order { result ≡ eq_by_cmp id_state_cmp self.now other.now }
     {
-        self.has_bounds_of(other) && same_set(&self.freed_ids, &other.freed_ids)
+        self.has_bounds_of(other) && self.freed_ids.equals(&other.freed_ids)
     }
 }
 
@@ -42,15 +41,4 @@ impl IdAllocator {
             && self.range_end == other.range_end
             && self.next_id == other.next_id
     }
-}
-
-/// Returns `true` if both sets have the same ids.
-#[tactic(auto, using(crate::proofs::Ids::ComparedIds::equal_lists))]
-fn same_set(a: &BTreeSet<u32>, b: &BTreeSet<u32>) -> bool
-    ensures same { IsTrue result ↔ (a.now.keys ≡ b.now.keys) }
-    ensures ordered { IsOrdered nat_cmp a.now × IsOrdered nat_cmp b.now }
-{
-    // Sets of different lengths differ, and no walk over them is needed.
-    let same_length = a.len() == b.len();
-    same_length && a == b
 }

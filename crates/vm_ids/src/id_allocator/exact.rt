@@ -1,7 +1,8 @@
 //! The allocation of a given id, or of an id between two others.
-ghost use Rattle.std.specs.Prelude.{◌≡◌, ℕ, ◌≤◌, ◌<◌, false, Ok, IfOk, IfSome, IfNone, IsOk, OnOk, OnErr};
+ghost use Rattle.std.specs.Prelude.{◌≡◌, ℕ, ◌≤◌, ◌<◌, ◌-◌, ◌++◌, Ok, IfOk, IfSome, IfNone, IsTrue, IsOk, OnOk, OnErr};
 ghost use Rattle.std.specs.Ordering.{nat_cmp};
-ghost use Rattle.std.specs.BTreeSet.{contains, IsSameSet};
+ghost use Rattle.std.specs.BTreeSet.{contains};
+ghost use Rattle.std.specs.List.{range_with_len};
 ghost use Rattle.vm_ids.specs.Ids.{IsNotHeld, holding_id};
 ghost use Rattle.vm_ids.specs.IdRequests.{
   AllocatesExactId,
@@ -9,26 +10,21 @@ ghost use Rattle.vm_ids.specs.IdRequests.{
   IsNotHeldIn,
   IsLowestNotHeldIn,
   IsNoneNotHeldIn,
+  NeedsMemory,
   HoldsId,
-};
-ghost use Rattle.vm_ids.specs.Checks.FreedBetween.{
-  IsBetween,
-  AddsBetween,
-  RemovesBetween,
-  IsLowestBetween,
 };
 
 use super::{IdAllocator, bound_of};
-use std::alloc::AllocFailed;
-use std::collections::BTreeSet;
+use std::alloc::AllocError;
+use vm_chunks::IdSet;
 use vm_ranges::{Error, Result};
 
 impl IdAllocator {
     /// Allocates this id, and returns it.
     ///
     /// All ids of the range below it count as allocated at some time. Those that never were are freed
-    /// ids afterwards, and time and memory are linear in their number. The call does not allocate memory
-    /// if the id is at most the next id.
+    /// ids afterwards, and take one entry, however many they are. The call allocates memory only if
+    /// the id is past the next id, or the ids right below and right above it are both freed ids.
     ///
     /// # Errors
     ///
@@ -41,7 +37,7 @@ impl IdAllocator {
         // The id is held after the call, and it was not held before.
         ensures held { IfOk result (λ i. (i ≡ id) × (self.new ≡ holding_id id self.old)) }
         ensures free { IfOk result (λ i. IsNotHeld self.old i) }
-        ensures succeeds { IsNotHeld self.old id → id ≤ self.old.bound → result ≡ Ok id }
+        ensures succeeds { IsNotHeld self.old id → ¬ NeedsMemory self.old id → result ≡ Ok id }
         ensures unchanged { OnErr result (self.new ≡ self.old) }
 
         // Each result under its exact condition.
@@ -53,7 +49,7 @@ impl IdAllocator {
         if !self.was_allocated(id) {
             return self.allocate_new(id);
         }
-        if !self.freed_ids.remove(&id) {
+        if !self.freed_ids.remove(id)? {
             return Err(Error::ResourceNotAvailable);
         }
         Ok(id)
@@ -64,7 +60,8 @@ impl IdAllocator {
     #[tactic(auto, using(crate::proofs::Ids::ExactIds::holds_new))]
     pub(super) fn allocate_new(&mut self, id: u32) -> Result<u32>
         requires { (self.old.bound ≤ id) × (id ≤ self.old.hi) }
-        ensures { HoldsId self.old id result self.new }
+        ensures answer { HoldsId self.old id result self.new }
+        ensures memory { OnErr result (self.old.bound < id) }
     {
         let next = bound_of(self.next_id, self.range_end) as u32;
         add_between(&mut self.freed_ids, next, id)?;
@@ -88,7 +85,7 @@ impl IdAllocator {
         // The id is the lowest that is not held there. It is held after the call.
         ensures lowest { IfOk result (λ id. IsLowestNotHeldIn first last self.old id) }
         ensures held { IfOk result (λ id. self.new ≡ holding_id id self.old) }
-        ensures succeeds { (id : ℕ) → IsNotHeldIn first last self.old id → id ≤ self.old.bound → IsOk result }
+        ensures succeeds { (id : ℕ) → IsLowestNotHeldIn first last self.old id → ¬ NeedsMemory self.old id → IsOk result }
         ensures unchanged { OnErr result (self.new ≡ self.old) }
 
         // Each result under its exact condition.
@@ -106,8 +103,10 @@ impl IdAllocator {
         ensures none { IfNone result (IsNoneNotHeldIn first last self.now) }
     {
         // A freed id is below all ids that were never allocated.
-        if let Some(freed) = first_between(&self.freed_ids, first, last) {
-            return Some(freed);
+        if let Some(freed) = self.freed_ids.first_from(first) {
+            if freed <= last {
+                return Some(freed);
+            }
         }
         let Some(next) = self.next_id else {
             return None;
@@ -120,46 +119,16 @@ impl IdAllocator {
     }
 }
 
-/// Returns the lowest id of a set from `first` to `last`, both included.
-fn first_between(ids: &BTreeSet<u32>, first: u32, last: u32) -> Option<u32>
-    requires { first ≤ last }
-    ensures found { IfSome result (λ id. IsLowestBetween first last ids.now id) }
-    ensures none { IfNone result ((id : ℕ) → first ≤ id → id ≤ last → contains nat_cmp ids.now id ≡ false) }
-{
-    ids.range(first..=last).next().copied()
-}
-
-/// Adds the ids from `from` up to below `to` to a set that has none of them. An error changes nothing.
-fn add_between(
-    ids: &mut BTreeSet<u32>,
-    from: u32,
-    to: u32,
-) -> std::result::Result<(), AllocFailed<u32>>
+/// Adds the ids from `from` up to below `to` to a set whose ids are below them. An error changes nothing.
+fn add_between(ids: &mut IdSet, from: u32, to: u32) -> std::result::Result<(), AllocError>
     requires order { from ≤ to }
-    requires new { (i : ℕ) → IsBetween from to i → contains nat_cmp ids.old i ≡ false }
-    ensures added { OnOk result (AddsBetween from to ids.old ids.new) }
-    ensures unchanged { OnErr result (IsSameSet nat_cmp ids.old ids.new) }
+    requires above { (i : ℕ) → IsTrue (contains nat_cmp ids.old i) → i < from }
+    ensures added { OnOk result (ids.new.keys ≡ ids.old.keys ++ range_with_len from (to - from)) }
+    ensures unchanged { OnErr result (ids.new ≡ ids.old) }
     ensures succeeds { from ≡ to → IsOk result }
 {
-    // From the highest to the lowest: in this order an insert moves few ids in the sets of the plain
-    // modules.
-    let mut id = to;
-    while id > from {
-        id -= 1;
-        if let Err(failed) = ids.insert(id) {
-            remove_between(ids, id + 1, to);
-            return Err(failed);
-        }
+    if from == to {
+        return Ok(());
     }
-    Ok(())
-}
-
-/// Removes the ids from `from` up to below `to` from a set.
-fn remove_between(ids: &mut BTreeSet<u32>, from: u32, to: u32)
-    requires { from ≤ to }
-    ensures { RemovesBetween from to ids.old ids.new }
-{
-    for id in from..to {
-        ids.remove(&id);
-    }
+    ids.add_above(from, to - 1)
 }

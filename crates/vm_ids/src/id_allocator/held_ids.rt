@@ -1,14 +1,14 @@
 //! The allocated ids, as an iterator from both ends.
 //!
-//! It walks over the ids that were allocated at some time, and beside them over the freed ids. Each
-//! end has its own iterator over the freed ids, so the ends share nothing but the bounds.
+//! It walks over the ids that were allocated at some time, and passes the runs of freed ids. Each end
+//! has its own iterator over the runs, so the ends share nothing but the bounds.
 ghost use Rattle.std.specs.Prelude.{◌≡◌, length};
 ghost use Rattle.std.specs.Iterator.{YieldsFirst, YieldsLast, item_count};
 ghost use Rattle.vm_ids.specs.Ids.{held_ids};
 
 use super::{IdAllocator, bound_of};
-use std::collections::btree_set::Iter;
 use std::marker::Model;
+use vm_chunks::{Iter, Run};
 
 /// An iterator over the allocated ids, from the lowest to the highest, or backwards. It does not
 /// allocate.
@@ -19,26 +19,27 @@ pub struct HeldIds<'a> {
     // The lowest id that was not visited, and the bound of those that were not visited.
     next: u64,
     bound: u64,
-    // The lowest freed id that was not visited, and the freed ids above it.
-    next_freed: Option<u32>,
-    freed_above: Iter<'a, u32>,
-    // The highest freed id that was not visited, and the freed ids below it.
-    last_freed: Option<u32>,
-    freed_below: Iter<'a, u32>,
+    // The lowest run of freed ids that was not passed, and the runs above it.
+    next_freed: Option<Run>,
+    freed_above: Iter<'a, Run>,
+    // The highest run of freed ids that was not passed, and the runs below it.
+    last_freed: Option<Run>,
+    freed_below: Iter<'a, Run>,
     // The number of ids that were not returned.
     left: u64,
 }
 
 impl<'a> Model for HeldIds<'a> {
     ghost use Rattle.std.specs.Prelude.{ℕ, List};
-    ghost use Rattle.vm_ids.specs.Checks.IdQueries.{freed_from, freed_to, ids_left, AreIdsLeft};
+    ghost use Rattle.vm_ids.specs.Checks.IdQueries.{freed_from, freed_to, ids_left, AreIdsLeft, AreFilled};
 
     ghost Value = { List ℕ };
 
     ghost view = { λ h. ids_left h.next h.bound (freed_from h.next_freed h.freed_above) };
 
     ghost invariant = { λ h.
-        AreIdsLeft h.next h.bound (freed_from h.next_freed h.freed_above) (freed_to h.freed_below h.last_freed) h.left };
+        AreIdsLeft h.next h.bound (freed_from h.next_freed h.freed_above) (freed_to h.freed_below h.last_freed) h.left
+        × AreFilled h.next_freed h.freed_above × AreFilled h.last_freed h.freed_below };
 }
 
 impl<'a> HeldIds<'a> {
@@ -61,13 +62,18 @@ impl<'a> Iterator for HeldIds<'a> {
     #[tactic(auto, using(crate::proofs::Ids::HeldIds::walks))]
     fn next(&mut self) -> Option<u32> {
         while self.next < self.bound {
-            let id = self.next as u32;
-            self.next += 1;
-            if self.next_freed != Some(id) {
-                self.left -= 1;
-                return Some(id);
+            match self.next_freed {
+                Some(run) if u64::from(run.first) <= self.next => {
+                    self.next = u64::from(run.last) + 1;
+                    self.next_freed = self.freed_above.next();
+                }
+                _ => {
+                    let id = self.next as u32;
+                    self.next += 1;
+                    self.left -= 1;
+                    return Some(id);
+                }
             }
-            self.next_freed = self.freed_above.next().copied();
         }
         None
     }
@@ -80,13 +86,17 @@ impl<'a> DoubleEndedIterator for HeldIds<'a> {
     #[tactic(auto, using(crate::proofs::Ids::HeldIds::walks))]
     fn next_back(&mut self) -> Option<u32> {
         while self.next < self.bound {
-            self.bound -= 1;
-            let id = self.bound as u32;
-            if self.last_freed != Some(id) {
-                self.left -= 1;
-                return Some(id);
+            match self.last_freed {
+                Some(run) if self.bound <= u64::from(run.last) + 1 => {
+                    self.bound = run.first.into();
+                    self.last_freed = self.freed_below.next_back();
+                }
+                _ => {
+                    self.bound -= 1;
+                    self.left -= 1;
+                    return Some(self.bound as u32);
+                }
             }
-            self.last_freed = self.freed_below.next_back().copied();
         }
         None
     }
@@ -95,15 +105,15 @@ impl<'a> DoubleEndedIterator for HeldIds<'a> {
 impl IdAllocator {
     /// Returns an iterator over the allocated ids, from the lowest to the highest.
     ///
-    /// It visits each id that was allocated at some time, and does not allocate memory.
+    /// It passes a run of freed ids in one step, and does not allocate memory.
     #[tactic(auto, using(crate::proofs::Ids::HeldIds::lists))]
     pub fn held_ids(&self) -> HeldIds<'_>
         ensures { result ≡ held_ids self.now }
     {
-        let mut freed_above = self.freed_ids.iter();
-        let next_freed = freed_above.next().copied();
-        let mut freed_below = self.freed_ids.iter();
-        let last_freed = freed_below.next_back().copied();
+        let mut freed_above = self.freed_ids.runs();
+        let next_freed = freed_above.next();
+        let mut freed_below = self.freed_ids.runs();
+        let last_freed = freed_below.next_back();
         HeldIds {
             next: u64::from(self.range_base),
             bound: bound_of(self.next_id, self.range_end),

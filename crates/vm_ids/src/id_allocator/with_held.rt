@@ -14,7 +14,7 @@ impl IdAllocator {
     /// It is equal to a new allocator after [`allocate_exact`](Self::allocate_exact) of each id. The ids
     /// can be untrusted input. All of them are checked before memory is allocated. Memory is allocated
     /// only for the ids that the list skips: those from `range_base` up to its last id that it does not
-    /// contain. Time and memory are linear in the last id minus `range_base`.
+    /// contain. Ids that follow each other take one entry, however many they are.
     ///
     /// # Errors
     ///

@@ -12,10 +12,9 @@ ghost use Rattle.vm_ids.specs.Checks.IdChecks.{ids_from, decoded_next, AreDecode
 ghost use Rattle.vm_ranges.specs.Saving.{Saves, Reads};
 
 use super::read_ids::{Ends, ReadIds, check_parts, ends_with};
-use crate::id_allocator::IdAllocator;
+use crate::id_allocator::{FreedIds, IdAllocator};
 use serde_json::{Value, json};
 use std::alloc::{AllocError, Global};
-use std::collections::BTreeSet;
 use vm_ranges::{Result, SavedError, ValueError, has_fields, list_in, u32_from, u32_in};
 
 impl IdAllocator {
@@ -29,7 +28,7 @@ impl IdAllocator {
         ensures { Saves (λ d. EncodesIds d self.now) result }
     {
         let next = encode_next(self.next_id);
-        let freed = encode_ids(alloc, &self.freed_ids)?;
+        let freed = encode_ids(alloc, self.freed_ids())?;
         Ok(ids_object(alloc, self.range_base, next, self.range_end, freed)?)
     }
 
@@ -66,13 +65,12 @@ fn encode_next(next: Option<u32>) -> Value
 }
 
 /// Encodes the freed ids as a list, in ascending order.
-fn encode_ids(alloc: Global, ids: &BTreeSet<u32>) -> std::result::Result<Value, AllocError>
-    ensures answer { IfOk result (λ list. EncodesNumbers (view list) ids.now.keys) }
-    ensures ascending { IsStrictlySortedBy nat_cmp ids.now.keys }
+fn encode_ids(alloc: Global, ids: FreedIds<'_>) -> std::result::Result<Value, AllocError>
+    ensures { IfOk result (λ list. EncodesNumbers (view list) ids.entry) }
 {
     let mut list = Vec::new(alloc);
-    for id in ids.iter() {
-        list.push(Value::from(*id))?;
+    for id in ids {
+        list.push(Value::from(id))?;
     }
     Ok(Value::from(list))
 }

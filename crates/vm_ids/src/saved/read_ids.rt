@@ -9,8 +9,8 @@ ghost use Rattle.vm_ids.specs.Checks.FreedChecks.{AreEndsOf, AddsAtEnd, AreWithi
 
 use crate::id_allocator::{IdAllocator, bound_of};
 use std::alloc::Global;
-use std::collections::BTreeSet;
 use std::marker::Model;
+use vm_chunks::IdSet;
 use vm_ranges::{Condition, SavedError};
 
 /// The freed ids of a saved id allocator that were read so far, in ascending order.
@@ -18,7 +18,7 @@ use vm_ranges::{Condition, SavedError};
 /// Its model is the list of these ids.
 #[derive(Drop)]
 pub struct ReadIds {
-    ids: BTreeSet<u32>,
+    ids: IdSet,
     // The first and the last of the ids.
     ends: Option<Ends>,
 }
@@ -47,7 +47,7 @@ impl ReadIds {
         ensures { result ≡ [] }
     {
         ReadIds {
-            ids: BTreeSet::new(alloc),
+            ids: IdSet::new(alloc),
             ends: None,
         }
     }
@@ -66,7 +66,7 @@ impl ReadIds {
         let Some(ends) = ends_with(self.ends, id) else {
             return Err(SavedError::Violated(Condition::Order));
         };
-        self.ids.insert(id)?;
+        self.ids.add_above(id, id)?;
         self.ends = Some(ends);
         Ok(())
     }

@@ -3,7 +3,7 @@ ghost use Rattle.std.specs.Prelude.{◌≡◌, ℕ, ◌+◌, ◌^◌, ◌<◌, [
 ghost use Rattle.vm_leaf.specs.States.{states_in};
 ghost use Rattle.vm_leaf.specs.Blocks.{start_of, end_of, IsLeaf};
 
-use super::{Leaf, with_held};
+use super::{CAPACITY, Leaf, with_held};
 use crate::block::Block;
 use vm_ranges::NodeState;
 
@@ -11,7 +11,7 @@ use vm_ranges::NodeState;
 #[inline(always)]
 #[tactic(auto, using(crate::proofs::Pushes::masks))]
 fn with_next(held: u64, i: usize, state: NodeState) -> u64
-    requires within { i < 32 }
+    requires within { i < CAPACITY }
     requires mask { held < 2 ^ i }
     ensures same { states_in result i ≡ state }
     ensures others { (k : ℕ) → k < i → states_in result k ≡ states_in held k }

@@ -5,15 +5,15 @@ ghost use Rattle.vm_leaf.specs.Blocks.{nth};
 ghost use Rattle.vm_leaf.specs.GapMasks.{IsLowestOne, IsMaskAbove, AreGapsFrom};
 ghost use Rattle.vm_leaf.specs.States.{states_in};
 
-use super::{Leaf, low_part};
+use super::{CAPACITY, Leaf, low_part};
 use vm_ranges::RangeInclusive;
 
 /// Returns the index of the highest 0 bit of `held` below `upto`.
 #[inline(always)]
 #[tactic(auto, using(crate::proofs::GapBits::last_gaps))]
 fn gap_before(held: u64, upto: usize) -> Option<usize>
-    requires mask { held < 2 ^ 32 }
-    requires upto { upto ≤ 32 }
+    requires mask { held < 2 ^ CAPACITY }
+    requires upto { upto ≤ CAPACITY }
     ensures { MatchOption result
         ((k : ℕ) → k < upto → states_in held k ≡ Allocated)
         (λ i. (i < upto) × (states_in held i ≡ Free) × ((k : ℕ) → i < k → k < upto → states_in held k ≡ Allocated)) }
@@ -70,7 +70,7 @@ impl Leaf {
 
     /// Returns the index of the last gap before index `upto`.
     #[inline(always)]
-    #[tactic(auto, using(crate::proofs::Fields::length_of))]
+    #[tactic(auto, using(crate::proofs::Fields::length_of, crate::proofs::Fields::mask_fits))]
     pub fn last_gap(&self, upto: usize) -> Option<usize>
         requires { upto ≤ length self.now }
         ensures { MatchOption result

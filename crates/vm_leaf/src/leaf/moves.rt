@@ -15,11 +15,11 @@ use vm_ranges::RangeInclusive;
 #[inline(always)]
 fn kept(i: usize, len: usize) -> usize
     requires within { i < len }
-    requires many { 31 ≤ len }
-    requires fits { len ≤ 32 }
-    ensures from { 12 ≤ result }
-    ensures upto { result ≤ 20 }
-    ensures below { i < result → result + 12 ≤ len }
+    requires many { CAPACITY ≤ len + 1 }
+    requires fits { len ≤ CAPACITY }
+    ensures from { MIN_BLOCKS ≤ result }
+    ensures upto { result ≤ CAPACITY - MIN_BLOCKS }
+    ensures below { i < result → result + MIN_BLOCKS ≤ len }
 {
     if i + 1 == len {
         return CAPACITY - MIN_BLOCKS;
@@ -102,10 +102,10 @@ impl Leaf {
         requires within { i < length self.old }
         requires free { (nth self.old i).state ≡ Free }
         requires rest { IsRest rest (nth self.old i).key range }
-        requires full { 32 < length self.old + added_by rest }
+        requires full { CAPACITY < length self.old + added_by rest }
         ensures blocks { self.new ++ upper.new ≡ with_parts self.old i 1 (parts (nth self.old i).key range) }
-        ensures low { (12 ≤ length self.new) × (length self.new ≤ 32) }
-        ensures high { (12 ≤ length upper.new) × (length upper.new ≤ 32) }
+        ensures low { (MIN_BLOCKS ≤ length self.new) × (length self.new ≤ CAPACITY) }
+        ensures high { (MIN_BLOCKS ≤ length upper.new) × (length upper.new ≤ CAPACITY) }
     {
         let at = kept(i, self.len());
         *upper = self.split_off(at);

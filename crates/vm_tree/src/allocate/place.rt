@@ -84,7 +84,7 @@ pub(super) fn leaf_of(tree: &Link) -> &Leaf
 /// Returns `true` if the leaf has room for the parts that stay free.
 #[inline(always)]
 fn has_room(leaf: &Leaf, rest: Rest) -> bool
-    ensures { MatchBool result (length leaf.now + added_by rest ≤ 32) (32 < length leaf.now + added_by rest) }
+    ensures { MatchBool result (length leaf.now + added_by rest ≤ CAPACITY) (CAPACITY < length leaf.now + added_by rest) }
 {
     leaf.len() <= CAPACITY - rest.added() as usize
 }
@@ -99,7 +99,7 @@ fn take(tree: &mut Link, lone: bool, place: &Place) -> Change
     requires leaf { height_of (side tree.old) < 2 }
     requires can { CanTakeFrom lone tree.old }
     requires place { IsLeafPlace (blocks (side tree.old)) place.now }
-    requires room { length (blocks (side tree.old)) + added_by place.now.rest ≤ 32 }
+    requires room { length (blocks (side tree.old)) + added_by place.now.rest ≤ CAPACITY }
     ensures blocks { blocks (side tree.new) ≡ with_place (blocks (side tree.old)) place.now }
     ensures taken { IsTakenLeaf lone result tree.old tree.new }
 {
@@ -183,7 +183,7 @@ fn spare_or_new(
 /// link to the node over both leaves.
 fn halve(mut lower: Box<Leaf>, place: &Place, mut upper: Box<Leaf>, spare: Box<Node>) -> Link
     requires place { IsLeafPlace lower.value place.now }
-    requires full { 32 < length lower.value + added_by place.now.rest }
+    requires full { CAPACITY < length lower.value + added_by place.now.rest }
     ensures blocks { blocks (side result)
         ≡ with_place lower.value place.now }
     ensures grows { Grows (Tip lower.value) (side result) }
@@ -210,7 +210,7 @@ fn split_leaf(
     requires leaf { height_of (side tree.old) < 2 }
     requires some { 0 < length (blocks (side tree.old)) }
     requires place { IsLeafPlace (blocks (side tree.old)) place }
-    requires full { 32 < length (blocks (side tree.old)) + added_by place.rest }
+    requires full { CAPACITY < length (blocks (side tree.old)) + added_by place.rest }
     ensures blocks { IfOk result (λ _. blocks (side tree.new)
         ≡ with_place (blocks (side tree.old)) place) }
     ensures grows { IfOk result (λ _. Grows (side tree.old) (side tree.new) × IsSummed tree.new

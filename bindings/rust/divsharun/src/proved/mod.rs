@@ -9,10 +9,12 @@
 #![allow(unused_imports)]
 
 pub mod vm_addresses;
+mod vm_chunks;
 pub mod vm_devices;
 pub mod vm_ids;
 mod vm_leaf;
 #[cfg(feature = "std")]
 pub mod vm_lines;
+pub mod vm_range_map;
 pub mod vm_ranges;
 mod vm_tree;

@@ -1,19 +1,17 @@
 // SPDX-License-Identifier: Apache-2.0 OR BSD-3-Clause
 //! Replacements for the items of Rattle's library that Rust does not have or defines differently.
 //!
-//! Boxes, vectors, sets and maps report a failed allocation, as in Rattle.
+//! Boxes and vectors report a failed allocation, as in Rattle.
 #![forbid(unsafe_code)]
 #![warn(clippy::must_use_candidate)]
 #![deny(missing_docs)]
 
 mod boxed;
-mod collections;
 #[cfg(feature = "std")]
 pub mod simd;
 mod vec;
 
 pub use boxed::Box;
-pub use collections::{btree_map, btree_set, BTreeMap, BTreeSet};
 pub use vec::Vec;
 
 /// The allocator. It stands for Rust's global allocator, and has no state.

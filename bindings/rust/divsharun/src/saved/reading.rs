@@ -5,7 +5,7 @@ use super::conditions::field_and_text;
 use crate::proved::vm_addresses::{AddressAllocator, RangeInclusive, ReadNodes, SavedError, Side};
 use crate::proved::vm_devices::{DeviceManager, ReadDevices};
 use crate::proved::vm_ids::{IdAllocator, ReadIds};
-use crate::rattle::Global;
+use crate::rattle::{Global, Vec};
 use crate::{DeviceSlot, NodeState, TryError};
 use core::{fmt, mem};
 use serde::de::{DeserializeSeed, Error, MapAccess, SeqAccess, Visitor};
@@ -269,6 +269,44 @@ impl<'de> Deserialize<'de> for DeviceManager {
         let ids = saved.id_allocator;
         DeviceManager::from_devices(Global, saved.version, ids, space, &saved.slots)
             .map_err(invalid)
+    }
+}
+
+#[derive(Deserialize)]
+#[serde(rename = "RangeMap", deny_unknown_fields)]
+#[serde(bound(deserialize = "T: Deserialize<'de>"))]
+struct Map<T> {
+    base: u64,
+    size: u64,
+    #[serde(deserialize_with = "valued_ranges")]
+    ranges: Vec<ValuedRange<T>>,
+}
+
+/// A range of a map, and its value.
+#[derive(Deserialize)]
+#[serde(deny_unknown_fields)]
+struct ValuedRange<T> {
+    range: crate::RangeInclusive,
+    value: T,
+}
+
+fn valued_ranges<'de, T: Deserialize<'de>, D: Deserializer<'de>>(
+    from: D,
+) -> Result<Vec<ValuedRange<T>>, D::Error> {
+    let push = |list: &mut Vec<_>, item| list.push(item).map_err(|_| SavedError::OutOfMemory);
+    from.deserialize_seq(List(Vec::new(Global), push))
+}
+
+impl<'de, T: Deserialize<'de>> Deserialize<'de> for crate::RangeMap<T> {
+    fn deserialize<D: Deserializer<'de>>(from: D) -> Result<Self, D::Error> {
+        let saved = Map::deserialize(from)?;
+        let mut map = crate::RangeMap::try_new(saved.base, saved.size).map_err(D::Error::custom)?;
+        for ValuedRange { range, value } in alloc::vec::Vec::from(saved.ranges) {
+            let exact = crate::AllocPolicy::ExactMatch(range.start());
+            let made = map.try_allocate(range.len(), 1, exact, value);
+            made.map_err(D::Error::custom)?;
+        }
+        Ok(map)
     }
 }
 

@@ -7,7 +7,7 @@ use crate::proved::vm_ranges::NodeState;
 use crate::rattle::Global;
 use crate::TryError;
 use core::fmt;
-use serde::ser::{Error, SerializeSeq};
+use serde::ser::{Error, SerializeSeq, SerializeStruct};
 use serde::{Serialize, Serializer};
 
 /// Implements `Serialize` for structures with these fields.
@@ -172,6 +172,25 @@ impl Serialize for NodeState {
     fn serialize<S: Serializer>(&self, to: S) -> Result<S::Ok, S::Error> {
         crate::NodeState::from(*self).serialize(to)
     }
+}
+
+impl<T: Serialize> Serialize for crate::RangeMap<T> {
+    fn serialize<S: Serializer>(&self, to: S) -> Result<S::Ok, S::Error> {
+        let item = |(range, value)| ValuedRange { range, value };
+        let mut fields = to.serialize_struct("RangeMap", 3)?;
+        fields.serialize_field("base", &self.space().start())?;
+        fields.serialize_field("size", &self.space().len())?;
+        let ranges = List(self.held_count() as usize, || self.iter().map(item));
+        fields.serialize_field("ranges", &ranges)?;
+        fields.end()
+    }
+}
+
+/// A range of a map, and its value.
+#[derive(Serialize)]
+struct ValuedRange<'a, T> {
+    range: crate::RangeInclusive,
+    value: &'a T,
 }
 
 impl<F: Fn() -> I, I: IntoIterator<Item: Serialize>> Serialize for List<F> {

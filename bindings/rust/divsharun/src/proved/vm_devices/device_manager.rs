@@ -64,7 +64,7 @@ impl DeviceManager {
     pub fn try_clone(&self, alloc: Global) -> Result<Self> {
         let id_allocator = self.id_allocator.try_clone(alloc)?;
         let mmio_allocator = self.mmio_allocator.try_clone(alloc)?;
-        let slots = self.slots.try_clone()?;
+        let slots = self.slots.try_clone(alloc)?;
         Ok(DeviceManager {
             id_allocator,
             mmio_allocator,

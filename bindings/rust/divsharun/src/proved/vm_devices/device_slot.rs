@@ -2,10 +2,18 @@
 
 //! The id and the range of a device.
 use crate::proved::vm_addresses::RangeInclusive;
+use crate::proved::vm_chunks::Entry;
 
 /// The id and the range of addresses of a device.
 #[derive(Clone, Copy, Debug, PartialEq, Eq)]
 pub struct DeviceSlot {
     pub id: u32,
     pub range: RangeInclusive,
+}
+
+impl Entry for DeviceSlot {
+    /// Returns the id.
+    fn key(&self) -> u64 {
+        u64::from(self.id)
+    }
 }

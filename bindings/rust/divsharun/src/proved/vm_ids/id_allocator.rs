@@ -3,10 +3,10 @@
 //! An allocator of ids from a range.
 //!
 //! The ids below the next id were allocated at some time. A set contains the ids that were freed
-//! since. Freeing, cloning and skipping ids allocate memory.
+//! since, as runs of ids that follow each other. Freeing, cloning and skipping ids allocate memory.
 
+use crate::proved::vm_chunks::IdSet;
 use crate::proved::vm_ranges::{Error, Result};
-use crate::rattle::BTreeSet;
 use crate::rattle::Global;
 
 mod comparing;
@@ -22,9 +22,9 @@ pub use held_ids::HeldIds;
 
 /// Allocates ids from a range, the lowest free id first.
 ///
-/// An id is never allocated twice at the same time. It keeps each id that was freed, and each id that
-/// was skipped below an allocated one. For sparse ids, or aligned blocks of ids, use an
-/// `AddressAllocator` whose addresses are ids.
+/// An id is never allocated twice at the same time. It keeps the ids that were freed, and those that
+/// were skipped below an allocated one. Ids that follow each other take one entry, however many they
+/// are. For aligned blocks of ids, use an `AddressAllocator` whose addresses are ids.
 #[derive(Debug)]
 pub struct IdAllocator {
     pub(in crate::proved::vm_ids) range_base: u32,
@@ -32,7 +32,7 @@ pub struct IdAllocator {
     pub(in crate::proved::vm_ids) next_id: Option<u32>,
     pub(in crate::proved::vm_ids) range_end: u32,
     // The ids that were allocated and are free now.
-    pub(in crate::proved::vm_ids) freed_ids: BTreeSet<u32>,
+    pub(in crate::proved::vm_ids) freed_ids: IdSet,
 }
 
 /// Returns the next id. Returns `Overflow` if there is none, and `ResourceNotAvailable` if it is
@@ -71,7 +71,7 @@ impl IdAllocator {
             range_base,
             next_id: Some(range_base),
             range_end,
-            freed_ids: BTreeSet::new(alloc),
+            freed_ids: IdSet::new(alloc),
         })
     }
 
@@ -99,9 +99,7 @@ impl IdAllocator {
     ///
     /// - `OutOfMemory` if an allocation of memory fails.
     pub fn try_clone(&self, _alloc: Global) -> Result<Self> {
-        // The set is cloned with its own allocator, because the contract of `clone` promises an
-        // equal set. A new set would only have equal members.
-        let freed_ids = self.freed_ids.clone()?;
+        let freed_ids = self.freed_ids.try_clone()?;
         Ok(IdAllocator {
             range_base: self.range_base,
             next_id: self.next_id,
@@ -135,15 +133,15 @@ impl IdAllocator {
     ///
     /// Those of [`allocate_id`](Self::allocate_id).
     pub fn peek_id(&self) -> Result<u32> {
-        match self.freed_ids.first() {
-            Some(id) => Ok(*id),
+        match self.freed_ids.first_from(0) {
+            Some(id) => Ok(id),
             None => next_in_range(self.next_id, self.range_end),
         }
     }
 
     /// Returns `true` if the id is allocated. Returns `false` for an id outside the range.
     pub fn is_allocated(&self, id: u32) -> bool {
-        self.was_allocated(id) && !self.freed_ids.contains(&id)
+        self.was_allocated(id) && !self.freed_ids.contains(id)
     }
 
     /// Returns the number of allocated ids.
@@ -151,7 +149,7 @@ impl IdAllocator {
     /// It does not visit the ids, and does not allocate memory.
     pub fn held_count(&self) -> u64 {
         let ever_allocated = bound_of(self.next_id, self.range_end) - u64::from(self.range_base);
-        ever_allocated - self.freed_ids.len() as u64
+        ever_allocated - self.freed_ids.len()
     }
 
     /// Frees an allocated id, and returns it.

@@ -1,6 +1,6 @@
 // Written by bindings/erase from crates/vm_leaf/src/leaf.rt: do not edit.
 
-//! A leaf: up to 32 consecutive blocks, with their first addresses in one array.
+//! A leaf: up to `CAPACITY` consecutive blocks, with their first addresses in one array.
 
 mod ends;
 mod fits;
@@ -23,7 +23,7 @@ pub(in crate::proved) const CAPACITY: usize = 32;
 /// The minimum number of blocks of a leaf, unless the leaf is the whole tree.
 pub(in crate::proved) const MIN_BLOCKS: usize = 12;
 
-/// One to 32 consecutive blocks that cover a range of addresses. Two neighbours are never both free.
+/// One to `CAPACITY` consecutive blocks that cover a range of addresses. Two neighbours are never both free.
 ///
 /// The fields have this order in memory, so that few blocks are in few cache lines.
 #[derive(Debug)]

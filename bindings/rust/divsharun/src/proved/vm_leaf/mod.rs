@@ -1,6 +1,6 @@
 // Written by bindings/erase from crates/vm_leaf/src/lib.rt: do not edit.
 
-//! A leaf of a tree of blocks: up to 32 consecutive blocks of an address space in one array.
+//! A leaf of a tree of blocks: up to `CAPACITY` consecutive blocks of an address space in one array.
 
 mod block;
 mod leaf;

@@ -1,6 +1,6 @@
 // Written by bindings/erase from crates/vm_tree/src/lib.rt: do not edit.
 
-//! A balanced tree of the blocks of an address space, whose leaves hold up to 32 blocks each.
+//! A balanced tree of the blocks of an address space, whose leaves hold up to `CAPACITY` blocks each.
 //!
 //! A block is a range of addresses that is allocated as a whole, or free as a whole. `AddressAllocator`
 //! of `vm_addresses` allocates and frees ranges in this tree.

@@ -35,7 +35,8 @@ returns-clause-part c =
     let old = state_of c.args.self.now in
     let new = state_of c.allocate_with.new.self in
     let counted = length old.held - 1 in
-    part_of counted c.args.self.now c.allocate_with.new.self c.args.request c.allocate_with.result.0 c.allocate_with.result.1 h.tree.0
+    part_of counted c.args.self.now c.allocate_with.new.self c.args.request c.allocate_with.result.0 c.allocate_with.result.1 (omega arith)
+    (omega arith) h.tree.0
     (allocates_of counted c.args.request old new c.allocate_with.result.0 h.valid
     (granted c.self.inside.held_count old new c.args.request c.allocate_with.result.0 (rw (← c.self.view_is) c.self.invariant.held_count)
     c.requires h.grants)) h.unchanged h.count.0 h.count.1

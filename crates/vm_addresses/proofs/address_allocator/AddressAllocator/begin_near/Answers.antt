@@ -5,7 +5,8 @@ use Rattle.vm_ranges.specs.declared.error.Error.TheVariants.{ResourceNotAvailabl
 use Rattle.vm_tree.specs.Shape.{Shape}
 use Rattle.vm_addresses.specs.Allocator.{state_of}
 use Rattle.vm_addresses.specs.Answer.{Grants}
-use Rattle.vm_addresses.specs.Moves.{BeginsMove, BeginsInside}
+use Rattle.vm_addresses.specs.Moves.{BeginsMove}
+use Rattle.vm_addresses.specs.Checks.Moving.{BeginsInside}
 use Rattle.vm_addresses.proofs.Counts.TakenParts.{allocated_as}
 use Rattle.vm_addresses.proofs.Moving.Beginning.{none_closer_begins, closer_begins, closer_policy}
 use Rattle.vm_addresses.proofs.address_allocator.AddressAllocator.begin_near.Goals as goal

@@ -1,7 +1,7 @@
 use Rattle.std.proofs.Common.{◌≡◌, ℕ, ◌+◌, ◌<◌, arith, sym, subst, Some, None}
 use Rattle.vm_addresses.specs.Queries.{IsGapAt}
 use Rattle.vm_addresses.specs.Allocator.{state_of}
-use Rattle.vm_addresses.specs.Moves.{IsLeftEnd}
+use Rattle.vm_addresses.specs.Checks.Moving.{IsLeftEnd}
 use Rattle.vm_addresses.proofs.Moving.LeftGaps.{end_with, end_without, held_below}
 use Rattle.vm_addresses.proofs.address_allocator.AddressAllocator.left_end.Goals as goal
 

@@ -1,7 +1,7 @@
 use Rattle.std.proofs.Common.{◌≡◌, ℕ, ◌-◌, ◌<◌, arith, sym, subst, Some, None}
 use Rattle.vm_addresses.specs.Queries.{IsGapAt}
 use Rattle.vm_addresses.specs.Allocator.{state_of}
-use Rattle.vm_addresses.specs.Moves.{IsLeftStart}
+use Rattle.vm_addresses.specs.Checks.Moving.{IsLeftStart}
 use Rattle.vm_addresses.proofs.Moving.LeftGaps.{start_with, start_without}
 use Rattle.vm_addresses.proofs.address_allocator.AddressAllocator.left_start.Goals as goal
 

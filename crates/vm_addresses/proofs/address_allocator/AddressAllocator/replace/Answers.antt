@@ -68,6 +68,6 @@ returns-clause-parts c = λ request.
     c.free.ensures.unchanged in
     then_allocated 1 old mid new requests c.in-Ok.request c.allocate_with.result.0 first
     (request, (0, omega arith, refl), inr (c.args.range.start, ap (λ (v : Request). v.policy) (made c)))
-    (part_of counted mid new c.in-Ok.request c.allocate_with.result.0 c.allocate_with.result.1 h.tree.0
+    (part_of counted mid new c.in-Ok.request c.allocate_with.result.0 c.allocate_with.result.1 (omega arith) (omega arith) h.tree.0
     (allocates_of counted c.in-Ok.request (state_of mid) (state_of new) c.allocate_with.result.0 h.valid (granted c)) h.unchanged h.count.0
     h.count.1)

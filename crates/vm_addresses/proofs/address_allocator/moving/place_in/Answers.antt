@@ -1,6 +1,6 @@
 use Rattle.std.proofs.Common.{◌+◌, ◌-◌, arith, Some}
 use Rattle.vm_ranges.specs.Range.{IsRange}
-use Rattle.vm_addresses.specs.Moves.{FindsStart, part_for}
+use Rattle.vm_addresses.specs.Checks.Moving.{FindsStart, part_for}
 use Rattle.vm_addresses.proofs.Moving.Places.{fit_range, start_in_part}
 use Rattle.vm_addresses.proofs.address_allocator.moving.place_in.Goals as goal
 

@@ -1,14 +1,23 @@
-use Rattle.std.proofs.Common.{Ok, Err, rules}
-use Rattle.vm_ranges.specs.declared.error.Error.TheVariants.{ResourceNotAvailable}
-use Rattle.vm_ids.proofs.Ids.ExactIds.{exact, exact_state, exact_was_free, exact_succeeds}
+use Rattle.std.proofs.Common.{◌≡◌, Ok, Err, rules}
+use Rattle.vm_ranges.specs.declared.error.Error.TheVariants.{ResourceNotAvailable, OutOfMemory}
+use Rattle.vm_ids.proofs.Ids.ExactIds.{exact, exact_no_memory, exact_state, exact_was_free, exact_succeeds}
 use Rattle.vm_ids.proofs.id_allocator.IdAllocator.allocate_exact.Goals as goal
 
-pub returns-then-not-remove-clause-answer : goal.returns-then-not-remove-clause-answer
-returns-then-not-remove-clause-answer c = search (exact, rules)
+pub returns-in_err-remove-clause-answer : goal.returns-in_err-remove-clause-answer
+returns-in_err-remove-clause-answer c =
+    let is : c.from_residual.result ≡ Err OutOfMemory = search rules in
+    rw is (exact_no_memory _ _ _ c.args.id _ _ _ c.self.view_is c.self.invariant (search rules) c.in_err-remove.ensures.memory
+    c.in_err-remove.ensures.unchanged)
 
-pub returns-then-not-remove-clause-succeeds : goal.returns-then-not-remove-clause-succeeds
-returns-then-not-remove-clause-succeeds c =
-    exact_succeeds _ _ c.args.id (Err ResourceNotAvailable) (returns-then-not-remove-clause-answer c)
+pub returns-in_err-remove-clause-succeeds : goal.returns-in_err-remove-clause-succeeds
+returns-in_err-remove-clause-succeeds c = exact_succeeds _ _ c.args.id _ (returns-in_err-remove-clause-answer c)
+
+pub returns-then-not-branch-clause-answer : goal.returns-then-not-branch-clause-answer
+returns-then-not-branch-clause-answer c = search (exact, rules)
+
+pub returns-then-not-branch-clause-succeeds : goal.returns-then-not-branch-clause-succeeds
+returns-then-not-branch-clause-succeeds c =
+    exact_succeeds _ _ c.args.id (Err ResourceNotAvailable) (returns-then-not-branch-clause-answer c)
 
 pub returns-clause-answer : goal.returns-clause-answer
 returns-clause-answer c = search (exact, rules)

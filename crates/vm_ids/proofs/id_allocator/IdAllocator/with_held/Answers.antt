@@ -48,7 +48,7 @@ returns-in_err-allocate_new-clause-answer c =
     c.in_ok-check_held.was c.check_held.ensures in
     let is : c.from_residual-in_err-allocate_new.result ≡ Err c.in_err-allocate_new.field-0.0 = search rules in
     let memory = new_held_error c.loop-id.ids _ _ c.allocate_new.result c.in_err-allocate_new.field-0.0 c.in_err-allocate_new.was
-    c.allocate_new.ensures in
+    c.allocate_new.ensures.answer c.allocate_new.ensures.memory in
     let skips = skips_bound c.args.range_base c.args.range_end c.loop-id.id-index _ c.args.held.now c.loop-id.ids c.loop-id-test.true refl
     c.loop-id.invariant memory.0 in
     rw (is, memory.1) (held_no_memory c.args.range_base c.args.range_end c.args.held.now made.1 right skips)
@@ -56,14 +56,14 @@ returns-in_err-allocate_new-clause-answer c =
 pub returns-in_err-allocate_new-clause-succeeds : goal.returns-in_err-allocate_new-clause-succeeds
 returns-in_err-allocate_new-clause-succeeds c = λ l none fits.
     let memory = new_held_error c.loop-id.ids _ _ c.allocate_new.result c.in_err-allocate_new.field-0.0 c.in_err-allocate_new.was
-    c.allocate_new.ensures in
+    c.allocate_new.ensures.answer c.allocate_new.ensures.memory in
     absurd (fits (skips_bound c.args.range_base c.args.range_end c.loop-id.id-index _ c.args.held.now c.loop-id.ids c.loop-id-test.true refl
     c.loop-id.invariant memory.0))
 
 pub loop-id-preserved : goal.loop-id-preserved
 loop-id-preserved c =
     let new = new_held_state c.loop-id.ids c.allocate_new.new.self _ c.allocate_new.result c.in_ok-allocate_new.field-0
-    c.in_ok-allocate_new.was c.allocate_new.ensures in
+    c.in_ok-allocate_new.was c.allocate_new.ensures.answer in
     one_more_held c.args.range_base c.args.range_end c.loop-id.id-index _ c.args.held.now c.loop-id.ids c.loop-id-test.true refl
     c.loop-id.invariant c.allocate_new.new.self new
 

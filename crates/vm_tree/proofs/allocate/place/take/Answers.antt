@@ -4,6 +4,7 @@ use Rattle.vm_tree.specs.Links.{side, IsSummed}
 use Rattle.vm_tree.proofs.Trees.{full_some, high}
 use Rattle.vm_tree.proofs.AllocatedSummaries.{small_gap}
 use Rattle.vm_tree.proofs.allocate.place.take.Goals as goal
+use Rattle.vm_leaf.specs.declared.leaf.TheConstants.{CAPACITY}
 
 pub returns-then-gap-alignments-clause-taken : goal.returns-then-gap-alignments-clause-taken
 returns-then-gap-alignments-clause-taken c =
@@ -13,7 +14,7 @@ returns-then-gap-alignments-clause-taken c =
     (ap side c.in-Leaf.is) c.deref_mut-leaf.ensures.value c.requires.place (rw c.in-Leaf.is at can.1) (full_some _ can.0)
     c.split.ensures c.of_gap-gap.ensures.longest c.of_gap-gap.ensures.alignments c.if-gap-longest.true c.if-gap-alignments.true in
     let old : height_of (side c.args.tree.now) < 2 = c.requires.leaf in
-    let fits : length c.split.new.self ≤ 32 = search rules in
+    let fits : length c.split.new.self ≤ CAPACITY = search rules in
     rw c.if-lone.false (
       record {
         grows = record {

@@ -3,42 +3,53 @@
 //! The table of the devices. It finds a range by its id, and an id by the start of its range.
 
 use crate::proved::vm_addresses::RangeInclusive;
+use crate::proved::vm_chunks::{Chunks, Entry, Iter};
 use crate::proved::vm_devices::device_slot::DeviceSlot;
-use crate::rattle::btree_map::Iter;
-use crate::rattle::BTreeMap;
 use crate::rattle::{AllocError, Global};
+
+/// The start of the range of a device, and the id of the device.
+#[derive(Clone, Copy, Debug)]
+struct DeviceStart {
+    start: u64,
+    id: u32,
+}
+
+impl Entry for DeviceStart {
+    /// Returns the start.
+    fn key(&self) -> u64 {
+        self.start
+    }
+}
 
 /// The range of each device by its id, and the id of each device by the start of its range.
 ///
 /// Its model is the map by ids.
 #[derive(Debug)]
 pub(super) struct DeviceTable {
-    slots: BTreeMap<u32, RangeInclusive>,
-    ids_by_start: BTreeMap<u64, u32>,
+    slots: Chunks<DeviceSlot>,
+    starts: Chunks<DeviceStart>,
 }
 
 impl DeviceTable {
     /// Creates a table without devices. It does not allocate.
     pub(super) fn new(alloc: Global) -> DeviceTable {
         DeviceTable {
-            slots: BTreeMap::new(alloc),
-            ids_by_start: BTreeMap::new(alloc),
+            slots: Chunks::new(alloc),
+            starts: Chunks::new(alloc),
         }
     }
 
     /// Returns a copy.
-    pub(super) fn try_clone(&self) -> Result<DeviceTable, AllocError> {
-        let slots = self.slots.clone()?;
-        let ids_by_start = self.ids_by_start.clone()?;
-        Ok(DeviceTable {
-            slots,
-            ids_by_start,
-        })
+    pub(super) fn try_clone(&self, alloc: Global) -> Result<DeviceTable, AllocError> {
+        let slots = self.slots.try_clone(alloc)?;
+        let starts = self.starts.try_clone(alloc)?;
+        Ok(DeviceTable { slots, starts })
     }
 
     /// Returns the range of the device with this id, or `None` if there is none.
     pub(super) fn get(&self, id: u32) -> Option<RangeInclusive> {
-        self.slots.get(&id).copied()
+        let slot = self.slots.get(u64::from(id))?;
+        Some(slot.range)
     }
 
     /// Returns an iterator over the devices, by ascending ids.
@@ -51,33 +62,52 @@ impl DeviceTable {
 
     /// Returns the id of the device whose range starts at `start`, or `None` if there is none.
     pub(super) fn id_at(&self, start: u64) -> Option<u32> {
-        self.ids_by_start.get(&start).copied()
+        let at = self.starts.get(start)?;
+        Some(at.id)
     }
 
     /// Inserts a device, or changes its range. An error changes nothing.
-    pub(super) fn insert(&mut self, id: u32, range: RangeInclusive) -> Result<(), AllocError> {
-        let start = range.start();
-        self.ids_by_start.insert(start, id)?;
-        let before = match self.slots.insert(id, range) {
-            Ok(before) => before,
-            Err(failed) => {
-                // Only a new device can fail, and its start is new.
-                self.ids_by_start.remove(&start);
-                return Err(failed.into());
-            }
-        };
-        if let Some(left) = before {
-            if left.start() != start {
-                self.ids_by_start.remove(&left.start());
-            }
+    pub(super) fn insert(
+        &mut self,
+        alloc: Global,
+        id: u32,
+        range: RangeInclusive,
+    ) -> Result<(), AllocError> {
+        let slot = DeviceSlot { id, range };
+        match self.get(id) {
+            Some(before) => self.replace(alloc, before.start(), slot),
+            None => self.add(alloc, slot),
         }
+    }
+
+    /// Inserts a device with a new id. An error changes nothing.
+    fn add(&mut self, alloc: Global, slot: DeviceSlot) -> Result<(), AllocError> {
+        let start = slot.range.start();
+        let at = DeviceStart { start, id: slot.id };
+        self.starts.insert(alloc, at)?;
+        if let Err(failed) = self.slots.insert(alloc, slot) {
+            self.starts.remove(start);
+            return Err(failed);
+        }
+        Ok(())
+    }
+
+    /// Changes the range of a device, which starts at `before`. An error changes nothing.
+    fn replace(&mut self, alloc: Global, before: u64, slot: DeviceSlot) -> Result<(), AllocError> {
+        let start = slot.range.start();
+        if before != start {
+            let at = DeviceStart { start, id: slot.id };
+            self.starts.insert(alloc, at)?;
+            self.starts.remove(before);
+        }
+        self.slots.set(slot);
         Ok(())
     }
 
     /// Removes the device with this id, if there is one.
     pub(super) fn remove(&mut self, id: u32) {
-        if let Some(range) = self.slots.remove(&id) {
-            self.ids_by_start.remove(&range.start());
+        if let Some(slot) = self.slots.remove(u64::from(id)) {
+            self.starts.remove(slot.range.start());
         }
     }
 }
@@ -87,7 +117,7 @@ impl DeviceTable {
 /// Its model is the list of the devices that it has not returned yet.
 #[derive(Clone)]
 pub struct Devices<'a> {
-    slots: Iter<'a, u32, RangeInclusive>,
+    slots: Iter<'a, DeviceSlot>,
     // The number of devices that were not returned.
     left: usize,
 }
@@ -97,12 +127,9 @@ impl<'a> Iterator for Devices<'a> {
 
     /// Returns the device with the lowest id that is left.
     fn next(&mut self) -> Option<DeviceSlot> {
-        let (id, range) = self.slots.next()?;
+        let device = self.slots.next()?;
         self.left -= 1;
-        Some(DeviceSlot {
-            id: *id,
-            range: *range,
-        })
+        Some(device)
     }
 
     /// Returns the number of devices that are left, as both bounds.
@@ -114,12 +141,9 @@ impl<'a> Iterator for Devices<'a> {
 impl<'a> DoubleEndedIterator for Devices<'a> {
     /// Returns the device with the highest id that is left.
     fn next_back(&mut self) -> Option<DeviceSlot> {
-        let (id, range) = self.slots.next_back()?;
+        let device = self.slots.next_back()?;
         self.left -= 1;
-        Some(DeviceSlot {
-            id: *id,
-            range: *range,
-        })
+        Some(device)
     }
 }
 

@@ -71,7 +71,7 @@ impl DeviceManager {
     /// devices unchanged.
     fn reserve_range(&mut self, alloc: Global, id: u32, request: Constraint) -> Result<DeviceSlot> {
         let range = self.mmio_allocator.allocate_constraint(alloc, request)?;
-        if let Err(refused) = enter(&mut self.id_allocator, &mut self.slots, id, range) {
+        if let Err(refused) = enter(alloc, &mut self.id_allocator, &mut self.slots, id, range) {
             // Freeing an allocated range always succeeds.
             let _ = self.mmio_allocator.free(&range);
             return Err(refused);
@@ -82,12 +82,13 @@ impl DeviceManager {
 
 /// Inserts a device into the table, and allocates its id. An error changes nothing.
 fn enter(
+    alloc: Global,
     ids: &mut IdAllocator,
     slots: &mut DeviceTable,
     id: u32,
     range: RangeInclusive,
 ) -> Result<()> {
-    slots.insert(id, range)?;
+    slots.insert(alloc, id, range)?;
     if let Err(refused) = ids.allocate_exact(id) {
         slots.remove(id);
         return Err(refused);

@@ -3,7 +3,6 @@
 //! Equality of id allocators.
 
 use super::IdAllocator;
-use crate::rattle::BTreeSet;
 
 impl PartialEq for IdAllocator {
     /// Returns `true` if both allocators have the same range, the same allocated ids and the same ids
@@ -11,7 +10,7 @@ impl PartialEq for IdAllocator {
     ///
     /// It stops at the first difference and does not allocate memory.
     fn eq(&self, other: &IdAllocator) -> bool {
-        self.has_bounds_of(other) && same_set(&self.freed_ids, &other.freed_ids)
+        self.has_bounds_of(other) && self.freed_ids.equals(&other.freed_ids)
     }
 }
 
@@ -25,11 +24,4 @@ impl IdAllocator {
             && self.range_end == other.range_end
             && self.next_id == other.next_id
     }
-}
-
-/// Returns `true` if both sets have the same ids.
-fn same_set(a: &BTreeSet<u32>, b: &BTreeSet<u32>) -> bool {
-    // Sets of different lengths differ, and no walk over them is needed.
-    let same_length = a.len() == b.len();
-    same_length && a == b
 }

@@ -3,16 +3,16 @@
 //! The allocation of a given id, or of an id between two others.
 
 use super::{bound_of, IdAllocator};
+use crate::proved::vm_chunks::IdSet;
 use crate::proved::vm_ranges::{Error, Result};
-use crate::rattle::AllocFailed;
-use crate::rattle::BTreeSet;
+use crate::rattle::AllocError;
 
 impl IdAllocator {
     /// Allocates this id, and returns it.
     ///
     /// All ids of the range below it count as allocated at some time. Those that never were are freed
-    /// ids afterwards, and time and memory are linear in their number. The call does not allocate memory
-    /// if the id is at most the next id.
+    /// ids afterwards, and take one entry, however many they are. The call allocates memory only if
+    /// the id is past the next id, or the ids right below and right above it are both freed ids.
     ///
     /// # Errors
     ///
@@ -27,7 +27,7 @@ impl IdAllocator {
         if !self.was_allocated(id) {
             return self.allocate_new(id);
         }
-        if !self.freed_ids.remove(&id) {
+        if !self.freed_ids.remove(id)? {
             return Err(Error::ResourceNotAvailable);
         }
         Ok(id)
@@ -61,8 +61,10 @@ impl IdAllocator {
     /// Returns the lowest id from `first` to `last` that is in the range and free.
     pub(super) fn lowest_in(&self, first: u32, last: u32) -> Option<u32> {
         // A freed id is below all ids that were never allocated.
-        if let Some(freed) = first_between(&self.freed_ids, first, last) {
-            return Some(freed);
+        if let Some(freed) = self.freed_ids.first_from(first) {
+            if freed <= last {
+                return Some(freed);
+            }
         }
         let Some(next) = self.next_id else {
             return None;
@@ -75,33 +77,10 @@ impl IdAllocator {
     }
 }
 
-/// Returns the lowest id of a set from `first` to `last`, both included.
-fn first_between(ids: &BTreeSet<u32>, first: u32, last: u32) -> Option<u32> {
-    ids.range(first..=last).next().copied()
-}
-
-/// Adds the ids from `from` up to below `to` to a set that has none of them. An error changes nothing.
-fn add_between(
-    ids: &mut BTreeSet<u32>,
-    from: u32,
-    to: u32,
-) -> core::result::Result<(), AllocFailed<u32>> {
-    // From the highest to the lowest: in this order an insert moves few ids in the sets of the plain
-    // modules.
-    let mut id = to;
-    while id > from {
-        id -= 1;
-        if let Err(failed) = ids.insert(id) {
-            remove_between(ids, id + 1, to);
-            return Err(failed);
-        }
+/// Adds the ids from `from` up to below `to` to a set whose ids are below them. An error changes nothing.
+fn add_between(ids: &mut IdSet, from: u32, to: u32) -> core::result::Result<(), AllocError> {
+    if from == to {
+        return Ok(());
     }
-    Ok(())
-}
-
-/// Removes the ids from `from` up to below `to` from a set.
-fn remove_between(ids: &mut BTreeSet<u32>, from: u32, to: u32) {
-    for id in from..to {
-        ids.remove(&id);
-    }
+    ids.add_above(from, to - 1)
 }

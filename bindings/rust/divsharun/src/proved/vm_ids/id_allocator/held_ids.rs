@@ -2,11 +2,11 @@
 
 //! The allocated ids, as an iterator from both ends.
 //!
-//! It walks over the ids that were allocated at some time, and beside them over the freed ids. Each
-//! end has its own iterator over the freed ids, so the ends share nothing but the bounds.
+//! It walks over the ids that were allocated at some time, and passes the runs of freed ids. Each end
+//! has its own iterator over the runs, so the ends share nothing but the bounds.
 
 use super::{bound_of, IdAllocator};
-use crate::rattle::btree_set::Iter;
+use crate::proved::vm_chunks::{Iter, Run};
 
 /// An iterator over the allocated ids, from the lowest to the highest, or backwards. It does not
 /// allocate.
@@ -17,12 +17,12 @@ pub struct HeldIds<'a> {
     // The lowest id that was not visited, and the bound of those that were not visited.
     next: u64,
     bound: u64,
-    // The lowest freed id that was not visited, and the freed ids above it.
-    next_freed: Option<u32>,
-    freed_above: Iter<'a, u32>,
-    // The highest freed id that was not visited, and the freed ids below it.
-    last_freed: Option<u32>,
-    freed_below: Iter<'a, u32>,
+    // The lowest run of freed ids that was not passed, and the runs above it.
+    next_freed: Option<Run>,
+    freed_above: Iter<'a, Run>,
+    // The highest run of freed ids that was not passed, and the runs below it.
+    last_freed: Option<Run>,
+    freed_below: Iter<'a, Run>,
     // The number of ids that were not returned.
     left: u64,
 }
@@ -40,13 +40,18 @@ impl<'a> Iterator for HeldIds<'a> {
     /// Returns the lowest allocated id that is left.
     fn next(&mut self) -> Option<u32> {
         while self.next < self.bound {
-            let id = self.next as u32;
-            self.next += 1;
-            if self.next_freed != Some(id) {
-                self.left -= 1;
-                return Some(id);
+            match self.next_freed {
+                Some(run) if u64::from(run.first) <= self.next => {
+                    self.next = u64::from(run.last) + 1;
+                    self.next_freed = self.freed_above.next();
+                }
+                _ => {
+                    let id = self.next as u32;
+                    self.next += 1;
+                    self.left -= 1;
+                    return Some(id);
+                }
             }
-            self.next_freed = self.freed_above.next().copied();
         }
         None
     }
@@ -56,13 +61,17 @@ impl<'a> DoubleEndedIterator for HeldIds<'a> {
     /// Returns the highest allocated id that is left.
     fn next_back(&mut self) -> Option<u32> {
         while self.next < self.bound {
-            self.bound -= 1;
-            let id = self.bound as u32;
-            if self.last_freed != Some(id) {
-                self.left -= 1;
-                return Some(id);
+            match self.last_freed {
+                Some(run) if self.bound <= u64::from(run.last) + 1 => {
+                    self.bound = run.first.into();
+                    self.last_freed = self.freed_below.next_back();
+                }
+                _ => {
+                    self.bound -= 1;
+                    self.left -= 1;
+                    return Some(self.bound as u32);
+                }
             }
-            self.last_freed = self.freed_below.next_back().copied();
         }
         None
     }
@@ -71,12 +80,12 @@ impl<'a> DoubleEndedIterator for HeldIds<'a> {
 impl IdAllocator {
     /// Returns an iterator over the allocated ids, from the lowest to the highest.
     ///
-    /// It visits each id that was allocated at some time, and does not allocate memory.
+    /// It passes a run of freed ids in one step, and does not allocate memory.
     pub fn held_ids(&self) -> HeldIds<'_> {
-        let mut freed_above = self.freed_ids.iter();
-        let next_freed = freed_above.next().copied();
-        let mut freed_below = self.freed_ids.iter();
-        let last_freed = freed_below.next_back().copied();
+        let mut freed_above = self.freed_ids.runs();
+        let next_freed = freed_above.next();
+        let mut freed_below = self.freed_ids.runs();
+        let last_freed = freed_below.next_back();
         HeldIds {
             next: u64::from(self.range_base),
             bound: bound_of(self.next_id, self.range_end),

@@ -5,16 +5,16 @@
 //! A reader adds the ids one by one to the set that becomes that of the allocator. It has no other
 //! list of them. The first and the last id show whether all of them are in the range.
 
+use crate::proved::vm_chunks::IdSet;
 use crate::proved::vm_ids::id_allocator::{bound_of, IdAllocator};
 use crate::proved::vm_ranges::{Condition, SavedError};
-use crate::rattle::BTreeSet;
 use crate::rattle::Global;
 
 /// The freed ids of a saved id allocator that were read so far, in ascending order.
 ///
 /// Its model is the list of these ids.
 pub struct ReadIds {
-    ids: BTreeSet<u32>,
+    ids: IdSet,
     // The first and the last of the ids.
     ends: Option<Ends>,
 }
@@ -30,7 +30,7 @@ impl ReadIds {
     /// Returns an empty list of ids. It does not allocate.
     pub fn new(alloc: Global) -> Self {
         ReadIds {
-            ids: BTreeSet::new(alloc),
+            ids: IdSet::new(alloc),
             ends: None,
         }
     }
@@ -46,7 +46,7 @@ impl ReadIds {
         let Some(ends) = ends_with(self.ends, id) else {
             return Err(SavedError::Violated(Condition::Order));
         };
-        self.ids.insert(id)?;
+        self.ids.add_above(id, id)?;
         self.ends = Some(ends);
         Ok(())
     }

@@ -4,11 +4,11 @@ use Rattle.vm_ids.proofs.id_allocator.comparing.IdAllocatorPartialEq.eq.Goals as
 
 pub returns-then-has_bounds_of-clause-equal : goal.returns-then-has_bounds_of-clause-equal
 returns-then-has_bounds_of-clause-equal c =
-    tested c.same_set.result (record { valid = c.self.invariant; is = c.self.view_is })
-    (record { valid = c.other.invariant; is = c.other.view_is }) (c.if-has_bounds_of.ensures.0 refl) c.same_set.ensures.ordered
-    c.same_set.ensures.same
+    tested c.equals.result (record { valid = c.self.invariant; is = c.self.view_is })
+    (record { valid = c.other.invariant; is = c.other.view_is }) (c.if-has_bounds_of.ensures.0 refl) c.equals.ensures.order
+    c.equals.ensures.same
 
 pub returns-then-has_bounds_of-clause-order : goal.returns-then-has_bounds_of-clause-order
 returns-then-has_bounds_of-clause-order c =
-    ordered c.same_set.result (record { valid = c.self.invariant; is = c.self.view_is })
+    ordered c.equals.result (record { valid = c.self.invariant; is = c.self.view_is })
     (record { valid = c.other.invariant; is = c.other.view_is }) (returns-then-has_bounds_of-clause-equal c)

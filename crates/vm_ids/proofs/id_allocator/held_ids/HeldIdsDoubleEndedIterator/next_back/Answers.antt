@@ -1,32 +1,66 @@
-use Rattle.std.proofs.Common.{length, sym, ap, ◌∙◌, arith}
+use Rattle.std.proofs.Common.{◌<◌, ◌+◌, length, sym, ap, ◌∙◌, arith, IfSome}
 use Rattle.std.proofs.lemmas.List.{length_push}
-use Rattle.vm_ids.proofs.Ids.HeldIds.{last_freed_passed, last_freed_below, passes_last, visits_last}
+use Rattle.vm_chunks.specs.declared.id_set.Run.{Run}
+use Rattle.vm_ids.proofs.Ids.HeldIds.{passes_run_back, last_run_fits, filled_before, last_not_freed, visits_last}
 use Rattle.vm_ids.proofs.id_allocator.held_ids.HeldIdsDoubleEndedIterator.next_back.Goals as goal
+use Rattle.vm_ids.proofs.id_allocator.held_ids.HeldIdsDoubleEndedIterator.next_back.Goals.{in_default-via-in-Some+else-self-from, in_default-via-in_default}
 
-pub overflow_sub-self-then-ne : goal.overflow_sub-self-then-ne
-overflow_sub-self-then-ne c =
+pub overflow_add-from : goal.overflow_add-from
+overflow_add-from c =
     let h = c.loop-self.invariant in
-    (visits_last _ _ c.loop-self-test.true _ _ _ (last_freed_below _ _ _ _ c.if-ne.ensures h.valid.to_bound) h.valid).1
+    let fits = last_run_fits _ _ c.in-Some.run' _ (rw c.in-Some.is at h.below) (rw c.in-Some.is at h.valid.to_bound) in
+    omega (arith, fits, h.valid.ids, c.from.ensures)
 
-pub invariant_of-self-then-ne : goal.invariant_of-self-then-ne
-invariant_of-self-then-ne c =
+pub loop-self-smaller : goal.loop-self-smaller
+loop-self-smaller c =
     let h = c.loop-self.invariant in
-    (visits_last _ _ c.loop-self-test.true _ _ _ (last_freed_below _ _ _ _ c.if-ne.ensures h.valid.to_bound) h.valid).0
-
-pub returns-then-ne : goal.returns-then-ne
-returns-then-ne c =
-    let h = c.loop-self.invariant in
-    let visit = visits_last _ _ c.loop-self-test.true _ _ _ (last_freed_below _ _ _ _ c.if-ne.ensures h.valid.to_bound) h.valid in
-    let last = sym c.self.view_is ∙ sym h.same ∙ visit.2 in
-    record {
-      steps = last;
-      goes = record
-          { on = λ _. (tt, tt, omega (arith, ap length last ∙ length_push _ _)); keeps = tt; rests = λ _. tt };
-    }
+    let filled = rw c.in-Some.is at h.below in
+    let steps = c.next_back-self-inside.ensures.steps in
+    let p = passes_run_back _ _ c.in-Some.run' _ _ _ _ _ (omega (arith, c.if-self-from.true, c.from.ensures)) filled steps (rw c.in-Some.is at h.valid) in
+    omega (arith, p.2, c.into-self-inside.ensures, c.loop-self-test.true)
 
 pub loop-self-preserved : goal.loop-self-preserved
 loop-self-preserved c =
     let h = c.loop-self.invariant in
-    let s = passes_last _ _ c.loop-self-test.true _ _ _ _
-    (last_freed_passed _ _ _ _ _ _ c.if-ne.ensures c.copied-self-inside.ensures c.next_back.ensures.steps) h.valid in
-    record { valid = s.0; same = sym s.1 ∙ h.same }
+    let filled = rw c.in-Some.is at h.below in
+    let steps = c.next_back-self-inside.ensures.steps in
+    let p = passes_run_back _ _ c.in-Some.run' _ _ _ _ _ (omega (arith, c.if-self-from.true, c.from.ensures)) filled steps (rw c.in-Some.is at h.valid) in
+    record {
+      valid = rw c.into-self-inside.ensures p.0;
+      above = h.above;
+      below = filled_before _ _ _ _ filled steps;
+      same = rw c.into-self-inside.ensures (sym p.1 ∙ h.same);
+    }
+
+pub overflow_sub-self-in_default : goal.overflow_sub-self-in_default
+overflow_sub-self-in_default c =
+    let h = c.loop-self.invariant in
+    let below : IfSome c.loop-self.self-inside.last_freed (λ (run : Run). run.last + 1 < c.loop-self.self-inside.bound) = elim c.in_default.branch [
+      | in_default-via-in-Some+else-self-from w ↦ rw w.in-Some.is (omega (arith, w.if-self-from.false, w.from.ensures))
+      | in_default-via-in_default w ↦ rw w.in_default.is tt
+    ] in
+    (visits_last _ _ c.loop-self-test.true _ _ _ (last_not_freed _ _ _ _ h.below below h.valid.to_bound) h.valid).1
+
+pub invariant_of-self-in_default : goal.invariant_of-self-in_default
+invariant_of-self-in_default c =
+    let h = c.loop-self.invariant in
+    let below : IfSome c.loop-self.self-inside.last_freed (λ (run : Run). run.last + 1 < c.loop-self.self-inside.bound) = elim c.in_default.branch [
+      | in_default-via-in-Some+else-self-from w ↦ rw w.in-Some.is (omega (arith, w.if-self-from.false, w.from.ensures))
+      | in_default-via-in_default w ↦ rw w.in_default.is tt
+    ] in
+    ((visits_last _ _ c.loop-self-test.true _ _ _ (last_not_freed _ _ _ _ h.below below h.valid.to_bound) h.valid).0, h.above, h.below)
+
+pub returns-in_default-clause-steps : goal.returns-in_default-clause-steps
+returns-in_default-clause-steps c =
+    let h = c.loop-self.invariant in
+    let below : IfSome c.loop-self.self-inside.last_freed (λ (run : Run). run.last + 1 < c.loop-self.self-inside.bound) = elim c.in_default.branch [
+      | in_default-via-in-Some+else-self-from w ↦ rw w.in-Some.is (omega (arith, w.if-self-from.false, w.from.ensures))
+      | in_default-via-in_default w ↦ rw w.in_default.is tt
+    ] in
+    let visit = visits_last _ _ c.loop-self-test.true _ _ _ (last_not_freed _ _ _ _ h.below below h.valid.to_bound) h.valid in
+    sym c.self.view_is ∙ sym h.same ∙ visit.2
+
+pub returns-in_default-clause-goes : goal.returns-in_default-clause-goes
+returns-in_default-clause-goes c =
+    let last = returns-in_default-clause-steps c in
+    record { on = λ _. (tt, tt, omega (arith, ap length last ∙ length_push _ _)); keeps = tt; rests = λ _. tt }

@@ -108,7 +108,7 @@ fn pair_devices(
         if !can_be_inserted(ids, space, &table, device) {
             return Err(SavedError::Violated(Condition::Devices));
         }
-        table.insert(device.id, device.range)?;
+        table.insert(alloc, device.id, device.range)?;
     }
     Ok(table)
 }

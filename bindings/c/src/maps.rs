@@ -1,0 +1,98 @@
+// SPDX-License-Identifier: Apache-2.0 OR BSD-3-Clause
+//! The map from allocated ranges to values.
+
+use crate::handle::{found, Handle};
+use crate::objects::{calls, functions, object_calls, visits};
+use crate::proved::vm_addresses::Constraint;
+use crate::proved::vm_range_map::{RangeMap, ValuedRange};
+use crate::ranges::{refused_move, space_of};
+use crate::rattle::Global;
+use crate::requests::refused;
+use crate::{dvs_range, CallError};
+use core::ffi::{c_int, c_void};
+
+/// A map behind a C pointer.
+pub type dvs_range_map = Handle<RangeMap>;
+
+/// The visitor that C passes for ranges with values. If it unwinds, the process ends.
+pub type dvs_valued_range_visitor =
+    extern "C-unwind" fn(context: *mut c_void, found: dvs_valued_range) -> c_int;
+
+/// An allocated range and its value.
+#[repr(C)]
+pub struct dvs_valued_range {
+    range: dvs_range,
+    value: u64,
+}
+
+impl From<ValuedRange> for dvs_valued_range {
+    fn from(found: ValuedRange) -> Self {
+        dvs_valued_range {
+            range: found.range.into(),
+            value: found.value,
+        }
+    }
+}
+
+fn allocate(
+    map: &mut RangeMap,
+    request: Constraint,
+    value: u64,
+    wants_details: bool,
+) -> Result<dvs_range, CallError> {
+    let allocated = map.allocate_constraint(Global, request, value);
+    allocated
+        .map(Into::into)
+        .map_err(|error| refused(map.addresses(), request, error, wants_details))
+}
+
+fn move_by(
+    map: &mut RangeMap,
+    range: dvs_range,
+    request: Constraint,
+    wants_details: bool,
+) -> Result<dvs_range, CallError> {
+    let range = range.try_into()?;
+    let moved = map.move_constraint(Global, &range, request);
+    moved
+        .map(Into::into)
+        .map_err(|error| refused_move(map.addresses(), &range, request, error, wants_details))
+}
+
+functions! {
+    dvs_range_map_new(base: u64, size: u64) -> *mut dvs_range_map {
+        Handle::new(RangeMap::new(Global, base, size)?)
+    }
+}
+
+object_calls! { dvs_range_map: dvs_range_map_destroy, dvs_range_map_copy, dvs_range_map_equal }
+
+calls! {
+    with_request dvs_range_map_allocate(map: dvs_range_map, value: u64; request)
+        -> range: dvs_range [refusal] {
+        allocate(map, request, value, refusal.is_some())
+    }
+    with_request dvs_range_map_move(map: dvs_range_map, range: dvs_range; request)
+        -> moved: dvs_range [refusal] {
+        move_by(map, range, request, refusal.is_some())
+    }
+    with_mut dvs_range_map_free(map: dvs_range_map, range: dvs_range) -> value: u64 [refusal] {
+        Ok(map.free(&range.try_into()?)?)
+    }
+    with_mut dvs_range_map_set(map: dvs_range_map, address: u64, value: u64) -> before: u64 {
+        found(map.set(address, value))
+    }
+    with_ref dvs_range_map_get(map: dvs_range_map, address: u64) -> valued: dvs_valued_range {
+        found(map.get(address))
+    }
+    with_ref dvs_range_map_count(map: dvs_range_map) -> count: u64 {
+        Ok(map.addresses().held_count())
+    }
+    with_ref dvs_range_map_space(map: dvs_range_map) -> ends: dvs_range {
+        Ok(space_of(map.addresses()))
+    }
+}
+
+visits! {
+    dvs_range_map_visit(map: dvs_range_map) by dvs_valued_range_visitor { map.iter() }
+}

@@ -1,0 +1,158 @@
+// Written by bindings/erase from crates/vm_chunks/src/chunk.rt: do not edit.
+
+//! A chunk: at most 64 entries, with memory for 64. Only creating it can fail.
+
+use crate::proved::vm_chunks::{place, place_from, Entry};
+use crate::rattle::Vec;
+use crate::rattle::{AllocError, Global};
+
+/// The maximum number of entries of a chunk.
+pub(in crate::proved) const MAX_ENTRIES: usize = 64;
+
+/// At most 64 entries, with memory for 64.
+///
+/// Its model is the list of its entries.
+#[derive(Debug)]
+pub(in crate::proved) struct Chunk<E: Entry> {
+    entries: Vec<E>,
+}
+
+impl<E: Entry> Chunk<E> {
+    /// Creates an empty chunk. It allocates once.
+    pub(in crate::proved) fn new(alloc: Global) -> Result<Self, AllocError> {
+        let entries = Vec::with_capacity(alloc, MAX_ENTRIES)?;
+        Ok(Chunk { entries })
+    }
+
+    /// Returns a copy. It allocates once.
+    pub(in crate::proved) fn try_clone(&self, alloc: Global) -> Result<Self, AllocError> {
+        let mut entries = Vec::with_capacity(alloc, MAX_ENTRIES)?;
+        let Ok(()) = entries.extend_from_slice(self.entries.as_slice()) else {
+            unreachable!()
+        };
+        Ok(Chunk { entries })
+    }
+
+    /// Returns the entries.
+    pub(in crate::proved) fn as_slice(&self) -> &[E] {
+        self.entries.as_slice()
+    }
+
+    /// Returns the number of entries.
+    pub(in crate::proved) fn len(&self) -> usize {
+        self.entries.len()
+    }
+
+    /// Returns the entry with this key, if there is one.
+    pub(in crate::proved) fn get(&self, key: u64) -> Option<E> {
+        let at = place(self.entries.as_slice(), key);
+        if at < self.entries.len() {
+            let entry = self.entries[at];
+            if entry.key() == key {
+                return Some(entry);
+            }
+        }
+        None
+    }
+
+    /// Returns the entry with the lowest key that is at least this one, if there is one.
+    pub(in crate::proved) fn at_or_above(&self, key: u64) -> Option<E> {
+        let count = place_from(self.entries.as_slice(), key);
+        if count == 0 {
+            return None;
+        }
+        Some(self.entries[count - 1])
+    }
+
+    /// Replaces the entry with the key of this one. It does not allocate.
+    pub(in crate::proved) fn set(&mut self, entry: E) {
+        let at = place(self.entries.as_slice(), entry.key());
+        self.entries[at] = entry;
+    }
+
+    /// Replaces the entry with this key by one with a lower key, which is above the keys of the entries below. It does
+    /// not allocate.
+    pub(in crate::proved) fn lower_key(&mut self, key: u64, entry: E) {
+        let at = place(self.entries.as_slice(), key);
+        self.entries[at] = entry;
+    }
+
+    /// Inserts an entry with a new key. It does not allocate.
+    pub(in crate::proved) fn insert(&mut self, entry: E) {
+        let at = place(self.entries.as_slice(), entry.key());
+        let Ok(()) = self.entries.insert(at, entry) else {
+            unreachable!()
+        };
+    }
+
+    /// Returns the place of a key between two entries, and the entry above. Returns `None` if the chunk has none there, or
+    /// if the key below has an entry.
+    pub(in crate::proved) fn gap(&self, key: u64) -> Option<(usize, E)> {
+        let entries = self.entries.as_slice();
+        let at = place_from(entries, key);
+        if at == 0 || at >= entries.len() || key - entries[at].key() == 1 {
+            return None;
+        }
+        Some((at, entries[at - 1]))
+    }
+
+    /// Inserts an entry with a new key before the one at `at`, and returns `true`. Returns `false` and changes nothing if this
+    /// is not its place, or if the chunk is full. It does not allocate.
+    pub(in crate::proved) fn insert_at(&mut self, at: usize, entry: E) -> bool {
+        let (key, len) = (entry.key(), self.entries.len());
+        if at > len || len >= MAX_ENTRIES {
+            return false;
+        }
+        if at > 0 && self.entries[at - 1].key() <= key {
+            return false;
+        }
+        if at < len && self.entries[at].key() >= key {
+            return false;
+        }
+        let Ok(()) = self.entries.insert(at, entry) else {
+            unreachable!()
+        };
+        true
+    }
+
+    /// Removes the entry with this key, and returns it. It does not allocate.
+    pub(in crate::proved) fn remove(&mut self, key: u64) -> Option<E> {
+        let at = place(self.entries.as_slice(), key);
+        if at < self.entries.len() {
+            let entry = self.entries[at];
+            if entry.key() == key {
+                self.entries.remove(at);
+                return Some(entry);
+            }
+        }
+        None
+    }
+
+    /// Replaces the lowest entry if `keep` is true, and removes it otherwise. It does not allocate.
+    pub(in crate::proved) fn change_lowest(&mut self, entry: E, keep: bool) {
+        let at = self.entries.len() - 1;
+        self.entries[at] = entry;
+        self.entries.truncate(at + usize::from(keep));
+    }
+
+    /// Moves the entries from `at` on to a new chunk. An error changes nothing.
+    pub(in crate::proved) fn split(
+        &mut self,
+        alloc: Global,
+        at: usize,
+    ) -> Result<Self, AllocError> {
+        let mut entries = Vec::with_capacity(alloc, MAX_ENTRIES)?;
+        let Ok(()) = entries.extend_from_slice(&self.entries[at..]) else {
+            unreachable!()
+        };
+        self.entries.truncate(at);
+        Ok(Chunk { entries })
+    }
+
+    /// Appends the entries of another chunk. It does not allocate.
+    pub(in crate::proved) fn append(&mut self, other: &Self) {
+        let Ok(()) = self.entries.extend_from_slice(other.entries.as_slice()) else {
+            unreachable!()
+        };
+    }
+}

@@ -1,0 +1,302 @@
+// Written by bindings/erase from crates/vm_chunks/src/chunks.rt: do not edit.
+
+//! A descending list of entries in chunks.
+
+use crate::proved::vm_chunks::chunk::{Chunk, MAX_ENTRIES};
+use crate::proved::vm_chunks::iter::Iter;
+use crate::proved::vm_chunks::Entry;
+use crate::rattle::Vec;
+use crate::rattle::{AllocError, Global};
+
+/// Entries in descending order of their keys, in chunks.
+///
+/// Its model is the list of its entries.
+#[derive(Debug)]
+pub(in crate::proved) struct Chunks<E: Entry> {
+    chunks: Vec<Chunk<E>>,
+    // A bound for each chunk: its keys are from the bound on, and those of later chunks below. The last is 0.
+    bounds: Vec<u64>,
+    // The number of entries.
+    count: usize,
+}
+
+/// A place for a key in a chunk, between two entries.
+#[derive(Clone, Copy)]
+pub(in crate::proved) struct Gap<E: Entry> {
+    chunk: usize,
+    at: usize,
+    /// The entry above the place.
+    pub(in crate::proved) above: E,
+}
+
+/// Returns the number of bounds above a key.
+fn bounds_above(bounds: &[u64], key: u64) -> usize {
+    bounds.partition_point(|bound| *bound > key)
+}
+
+/// Returns `true` if this is the number of bounds above a key, and a bound is not above it.
+fn is_place(bounds: &[u64], key: u64, at: usize) -> bool {
+    at < bounds.len() && bounds[at] <= key && (at == 0 || key < bounds[at - 1])
+}
+
+/// Returns copies of the chunks.
+fn clone_chunks<E: Entry>(alloc: Global, chunks: &[Chunk<E>]) -> Result<Vec<Chunk<E>>, AllocError> {
+    let mut copies = Vec::with_capacity(alloc, chunks.len())?;
+    for i in 0..chunks.len() {
+        copies.push(chunks[i].try_clone(alloc)?)?;
+    }
+    Ok(copies)
+}
+
+/// Creates the first chunk, which is empty. An error changes nothing.
+fn begin<E: Entry>(
+    alloc: Global,
+    chunks: &mut Vec<Chunk<E>>,
+    bounds: &mut Vec<u64>,
+) -> Result<(), AllocError> {
+    let chunk = Chunk::new(alloc)?;
+    bounds.reserve(1)?;
+    chunks.push(chunk)?;
+    let Ok(()) = bounds.push(0) else {
+        unreachable!()
+    };
+    Ok(())
+}
+
+/// Moves the entries of a chunk from `kept` on to a new chunk after it, and returns the bound between them. An
+/// error changes nothing.
+fn split<E: Entry>(
+    alloc: Global,
+    chunks: &mut Vec<Chunk<E>>,
+    bounds: &mut Vec<u64>,
+    at: usize,
+    kept: usize,
+) -> Result<u64, AllocError> {
+    chunks.reserve(1)?;
+    bounds.reserve(1)?;
+    let chunk = &mut chunks[at];
+    let bound = chunk.as_slice()[kept - 1].key();
+    let lower = chunk.split(alloc, kept)?;
+    let Ok(()) = chunks.insert(at + 1, lower) else {
+        unreachable!()
+    };
+    let Ok(()) = bounds.insert(at, bound) else {
+        unreachable!()
+    };
+    Ok(bound)
+}
+
+/// Joins a chunk and the one after it if both fit in half a chunk, or if one is empty. It does not allocate.
+fn join<E: Entry>(chunks: &mut Vec<Chunk<E>>, bounds: &mut Vec<u64>, at: usize) {
+    let upper = chunks[at].len();
+    let lower = chunks[at + 1].len();
+    if upper == 0 {
+        chunks.remove(at);
+        bounds.remove(at);
+    } else if lower == 0 || upper + lower <= MAX_ENTRIES / 2 {
+        let lower = chunks.remove(at + 1);
+        let upper = &mut chunks[at];
+        upper.append(&lower);
+        bounds.remove(at);
+    }
+}
+
+/// Returns the number of entries that stay in a chunk that is split for a key. It is a half, but almost all or one
+/// if keys come in order.
+fn kept_for<E: Entry>(entries: &[E], key: u64, is_first: bool, is_last: bool) -> usize {
+    let len = entries.len();
+    if is_first && key > entries[0].key() {
+        return 1;
+    }
+    if is_last && key < entries[len - 1].key() {
+        return len - 1;
+    }
+    len / 2
+}
+
+/// Makes room for a key in the only chunk that can have it, and returns the index of that chunk. It changes no
+/// entry.
+fn make_room<E: Entry>(
+    alloc: Global,
+    chunks: &mut Vec<Chunk<E>>,
+    bounds: &mut Vec<u64>,
+    key: u64,
+) -> Result<usize, AllocError> {
+    let at = bounds_above(bounds.as_slice(), key);
+    if at >= chunks.len() {
+        begin(alloc, chunks, bounds)?;
+        return Ok(0);
+    }
+    let len = chunks[at].len();
+    if len < MAX_ENTRIES {
+        return Ok(at);
+    }
+    let is_last = at + 1 == chunks.len();
+    let kept = kept_for(chunks[at].as_slice(), key, at == 0, is_last);
+    let bound = split(alloc, chunks, bounds, at, kept)?;
+    if key < bound {
+        return Ok(at + 1);
+    }
+    Ok(at)
+}
+
+/// Joins a chunk with one next to it if it is small. It changes no entry, and does not allocate.
+fn mend<E: Entry>(chunks: &mut Vec<Chunk<E>>, bounds: &mut Vec<u64>, at: usize) {
+    let last = chunks.len() - 1;
+    if last > 0 {
+        join(chunks, bounds, at.min(last - 1));
+    }
+}
+
+impl<E: Entry> Chunks<E> {
+    /// Creates an empty list. It does not allocate.
+    pub(in crate::proved) fn new(alloc: Global) -> Self {
+        Chunks {
+            chunks: Vec::new(alloc),
+            bounds: Vec::new(alloc),
+            count: 0,
+        }
+    }
+
+    /// Returns a copy. It allocates for each chunk.
+    pub(in crate::proved) fn try_clone(&self, alloc: Global) -> Result<Self, AllocError> {
+        let chunks = clone_chunks(alloc, self.chunks.as_slice())?;
+        let bounds = self.bounds.clone()?;
+        Ok(Chunks {
+            chunks,
+            bounds,
+            count: self.count,
+        })
+    }
+
+    /// Returns the number of entries. It takes constant time.
+    pub(in crate::proved) fn len(&self) -> usize {
+        self.count
+    }
+
+    /// Returns the entry with this key, if there is one. It takes logarithmic time.
+    pub(in crate::proved) fn get(&self, key: u64) -> Option<E> {
+        let at = bounds_above(self.bounds.as_slice(), key);
+        match self.chunks.get(at) {
+            Some(chunk) => chunk.get(key),
+            None => None,
+        }
+    }
+
+    /// Returns the entry with the lowest key that is at least this one, if there is one. It takes logarithmic
+    /// time.
+    pub(in crate::proved) fn at_or_above(&self, key: u64) -> Option<E> {
+        let at = bounds_above(self.bounds.as_slice(), key);
+        if at >= self.chunks.len() {
+            return None;
+        }
+        match self.chunks[at].at_or_above(key) {
+            Some(entry) => Some(entry),
+            None if at == 0 => None,
+            None => self.chunks[at - 1].at_or_above(key),
+        }
+    }
+
+    /// Replaces the entry with the key of this one. It does not allocate.
+    pub(in crate::proved) fn set(&mut self, entry: E) {
+        let at = bounds_above(self.bounds.as_slice(), entry.key());
+        let chunk = &mut self.chunks[at];
+        chunk.set(entry);
+    }
+
+    /// Replaces the entry with this key by one with a lower key, which is above the keys of the entries below. It does
+    /// not allocate.
+    pub(in crate::proved) fn lower_key(&mut self, key: u64, entry: E) {
+        let at = bounds_above(self.bounds.as_slice(), key);
+        let chunk = &mut self.chunks[at];
+        chunk.lower_key(key, entry);
+        self.bounds[at] = self.bounds[at].min(entry.key());
+    }
+
+    /// Returns the entry with the lowest key, if there is one.
+    pub(in crate::proved) fn lowest(&self) -> Option<E> {
+        let (chunk, _) = self.chunks.as_slice().split_last()?;
+        let (entry, _) = chunk.as_slice().split_last()?;
+        Some(*entry)
+    }
+
+    /// Returns the entry with the highest key, if there is one.
+    pub(in crate::proved) fn highest(&self) -> Option<E> {
+        let (chunk, _) = self.chunks.as_slice().split_first()?;
+        let (entry, _) = chunk.as_slice().split_first()?;
+        Some(*entry)
+    }
+
+    /// Inserts an entry with a new key. An error changes nothing.
+    pub(in crate::proved) fn insert(&mut self, alloc: Global, entry: E) -> Result<(), AllocError> {
+        let Some(count) = self.count.checked_add(1) else {
+            // No memory has this many bounds, so this fails.
+            self.bounds.reserve(usize::MAX)?;
+            unreachable!()
+        };
+        let at = make_room(alloc, &mut self.chunks, &mut self.bounds, entry.key())?;
+        let chunk = &mut self.chunks[at];
+        chunk.insert(entry);
+        self.count = count;
+        Ok(())
+    }
+
+    /// Returns an iterator over the entries in ascending order of their keys. It does not allocate.
+    pub(in crate::proved) fn iter(&self) -> Iter<'_, E> {
+        let Some((chunk, others)) = self.chunks.as_slice().split_last() else {
+            return Iter::none();
+        };
+        Iter::of_chunks(others, chunk)
+    }
+
+    /// Returns the place of a key between two entries of a chunk. Returns `None` if no chunk has entries above and below it,
+    /// or if the key below has an entry. It takes logarithmic time.
+    pub(in crate::proved) fn gap(&self, key: u64) -> Option<Gap<E>> {
+        let chunk = bounds_above(self.bounds.as_slice(), key);
+        let (at, above) = self.chunks.get(chunk)?.gap(key)?;
+        Some(Gap { chunk, at, above })
+    }
+
+    /// Inserts an entry with a new key at a place, and returns `true`. Returns `false` and changes nothing if the list has no
+    /// room there. It does not allocate.
+    pub(in crate::proved) fn insert_at(&mut self, gap: Gap<E>, entry: E) -> bool {
+        let (key, at) = (entry.key(), gap.chunk);
+        let Some(count) = self.count.checked_add(1) else {
+            return false;
+        };
+        if !is_place(self.bounds.as_slice(), key, at) {
+            return false;
+        }
+        let chunk = &mut self.chunks[at];
+        if !chunk.insert_at(gap.at, entry) {
+            return false;
+        }
+        self.count = count;
+        true
+    }
+
+    /// Removes the entry with this key, and returns it. It does not allocate.
+    pub(in crate::proved) fn remove(&mut self, key: u64) -> Option<E> {
+        let at = bounds_above(self.bounds.as_slice(), key);
+        if at >= self.chunks.len() {
+            return None;
+        }
+        let chunk = &mut self.chunks[at];
+        let entry = chunk.remove(key);
+        self.count -= usize::from(entry.is_some());
+        mend(&mut self.chunks, &mut self.bounds, at);
+        entry
+    }
+
+    /// Replaces the entry with the lowest key by one with the same key if `keep` is true, and removes it otherwise. It does
+    /// not allocate.
+    pub(in crate::proved) fn change_lowest(&mut self, entry: E, keep: bool) {
+        let at = self.chunks.len() - 1;
+        let chunk = &mut self.chunks[at];
+        chunk.change_lowest(entry, keep);
+        self.count -= usize::from(!keep);
+        if chunk.len() == 0 {
+            mend(&mut self.chunks, &mut self.bounds, at);
+        }
+    }
+}

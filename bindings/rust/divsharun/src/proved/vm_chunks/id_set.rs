@@ -1,0 +1,251 @@
+// Written by bindings/erase from crates/vm_chunks/src/id_set.rt: do not edit.
+
+//! A set of ids as runs of consecutive ids.
+
+use crate::proved::vm_chunks::chunks::Chunks;
+use crate::proved::vm_chunks::iter::Iter;
+use crate::proved::vm_chunks::Entry;
+use crate::rattle::{AllocError, Global};
+
+/// The ids from `first` to `last`, both included.
+#[derive(Clone, Copy, Debug, PartialEq, Eq)]
+pub(in crate::proved) struct Run {
+    pub(in crate::proved) first: u32,
+    pub(in crate::proved) last: u32,
+}
+
+impl Entry for Run {
+    fn key(&self) -> u64 {
+        self.last.into()
+    }
+}
+
+/// A set of ids. It keeps a run for all ids that follow each other.
+///
+/// Its model is that of a `BTreeSet`: the list of its ids in ascending order.
+#[derive(Debug)]
+pub(in crate::proved) struct IdSet {
+    runs: Chunks<Run>,
+    // The number of ids.
+    count: u64,
+    alloc: Global,
+}
+
+impl IdSet {
+    /// Creates an empty set. It does not allocate.
+    pub(in crate::proved) fn new(alloc: Global) -> Self {
+        IdSet {
+            runs: Chunks::new(alloc),
+            count: 0,
+            alloc,
+        }
+    }
+
+    /// Returns a copy.
+    pub(in crate::proved) fn try_clone(&self) -> Result<Self, AllocError> {
+        let runs = self.runs.try_clone(self.alloc)?;
+        Ok(IdSet {
+            runs,
+            count: self.count,
+            alloc: self.alloc,
+        })
+    }
+
+    /// Returns the number of ids. It takes constant time.
+    pub(in crate::proved) fn len(&self) -> u64 {
+        self.count
+    }
+
+    /// Returns `true` if the set has the id.
+    pub(in crate::proved) fn contains(&self, id: u32) -> bool {
+        match self.runs.at_or_above(id.into()) {
+            Some(run) => run.first <= id,
+            None => false,
+        }
+    }
+
+    /// Returns the lowest id of the set that is at least `first`, if there is one.
+    pub(in crate::proved) fn first_from(&self, first: u32) -> Option<u32> {
+        let run = self.runs.at_or_above(first.into())?;
+        Some(run.first.max(first))
+    }
+
+    /// Returns an iterator over the runs, from the lowest to the highest, or backwards. It does not allocate.
+    pub(in crate::proved) fn runs(&self) -> Iter<'_, Run> {
+        self.runs.iter()
+    }
+
+    /// Returns `true` if both sets have the same ids. It stops at the first difference, and does not allocate.
+    pub(in crate::proved) fn equals(&self, other: &Self) -> bool {
+        self.count == other.count && same_runs(self.runs.iter(), other.runs.iter())
+    }
+
+    /// Adds an id, and returns `true`. Returns `false` if the set has it already. An error changes nothing.
+    pub(in crate::proved) fn insert(&mut self, id: u32) -> Result<bool, AllocError> {
+        if put_alone(&mut self.runs, id) {
+            self.count += 1;
+            return Ok(true);
+        }
+        let Some(run) = joined(&self.runs, id) else {
+            return Ok(false);
+        };
+        put_joined(&mut self.runs, self.alloc, id, run)?;
+        self.count += 1;
+        Ok(true)
+    }
+
+    /// Removes an id, and returns `true`. Returns `false` if the set does not have it. An error changes nothing.
+    ///
+    /// It allocates only if the set has the ids right below and right above.
+    pub(in crate::proved) fn remove(&mut self, id: u32) -> Result<bool, AllocError> {
+        let Some(run) = run_of(&self.runs, id) else {
+            return Ok(false);
+        };
+        cut(&mut self.runs, self.alloc, id, run)?;
+        self.count -= 1;
+        Ok(true)
+    }
+
+    /// Removes and returns the lowest id. It does not allocate.
+    pub(in crate::proved) fn pop_first(&mut self) -> Option<u32> {
+        let run = self.runs.lowest()?;
+        let rest = Run {
+            first: run.first.saturating_add(1),
+            last: run.last,
+        };
+        self.runs.change_lowest(rest, run.first < run.last);
+        self.count -= 1;
+        Some(run.first)
+    }
+
+    /// Adds the ids from `first` to `last`, both included, which are above all ids of the set. An error changes nothing.
+    pub(in crate::proved) fn add_above(&mut self, first: u32, last: u32) -> Result<(), AllocError> {
+        add_run(&mut self.runs, self.alloc, first, last)?;
+        self.count += u64::from(last) + 1 - u64::from(first);
+        Ok(())
+    }
+}
+
+/// Returns `true` if both iterators return the same runs.
+fn same_runs(mut a: Iter<'_, Run>, mut b: Iter<'_, Run>) -> bool {
+    while let Some(x) = a.next() {
+        let Some(y) = b.next() else {
+            return false;
+        };
+        if x != y {
+            return false;
+        }
+    }
+    b.next().is_none()
+}
+
+/// Puts a run of an id alone between two runs of a chunk, and returns `true`. Returns `false` and changes nothing if a run
+/// next to it has the id or joins it, or if the chunk has no room. It searches once.
+fn put_alone(runs: &mut Chunks<Run>, id: u32) -> bool {
+    let Some(gap) = runs.gap(id.into()) else {
+        return false;
+    };
+    if gap.above.first <= id || gap.above.first - 1 == id {
+        return false;
+    }
+    let run = Run {
+        first: id,
+        last: id,
+    };
+    runs.insert_at(gap, run)
+}
+
+/// Returns the run of an id and of the runs next to it, or `None` if a run has the id.
+fn joined(runs: &Chunks<Run>, id: u32) -> Option<Run> {
+    let last = last_joined(runs, id)?;
+    let first = first_joined(runs, id);
+    Some(Run { first, last })
+}
+
+/// Returns the last id of the run that begins right above an id, or the id if there is none. Returns `None` if a run
+/// has the id.
+fn last_joined(runs: &Chunks<Run>, id: u32) -> Option<u32> {
+    match runs.at_or_above(id.into()) {
+        Some(run) if run.first <= id => None,
+        Some(run) if run.first - 1 == id => Some(run.last),
+        _ => Some(id),
+    }
+}
+
+/// Returns the first id of the run that ends right below an id, or the id if there is none.
+fn first_joined(runs: &Chunks<Run>, id: u32) -> u32 {
+    if id == 0 {
+        return id;
+    }
+    match runs.get(u64::from(id) - 1) {
+        Some(run) => run.first,
+        None => id,
+    }
+}
+
+/// Puts the run of an id and of the runs next to it in place of these. An error changes nothing.
+fn put_joined(runs: &mut Chunks<Run>, alloc: Global, id: u32, run: Run) -> Result<(), AllocError> {
+    if run.last > id {
+        runs.set(run);
+    } else {
+        runs.insert(alloc, run)?;
+    }
+    if run.first < id {
+        runs.remove(u64::from(id) - 1);
+    }
+    Ok(())
+}
+
+/// Returns the run that has an id, if there is one.
+fn run_of(runs: &Chunks<Run>, id: u32) -> Option<Run> {
+    match runs.at_or_above(id.into()) {
+        Some(run) if run.first <= id => Some(run),
+        _ => None,
+    }
+}
+
+/// Takes an id out of the run that has it. An error changes nothing.
+fn cut(runs: &mut Chunks<Run>, alloc: Global, id: u32, run: Run) -> Result<(), AllocError> {
+    if id == run.last {
+        if run.first == id {
+            runs.remove(id.into());
+        } else {
+            let lower = Run {
+                first: run.first,
+                last: id - 1,
+            };
+            runs.lower_key(id.into(), lower);
+        }
+        return Ok(());
+    }
+    if run.first < id {
+        let lower = Run {
+            first: run.first,
+            last: id - 1,
+        };
+        runs.insert(alloc, lower)?;
+    }
+    runs.set(Run {
+        first: id + 1,
+        last: run.last,
+    });
+    Ok(())
+}
+
+/// Adds the ids from `first` to `last`, which are above all runs. An error changes nothing.
+fn add_run(runs: &mut Chunks<Run>, alloc: Global, first: u32, last: u32) -> Result<(), AllocError> {
+    let start = start_above(runs, first);
+    runs.insert(alloc, Run { first: start, last })?;
+    if start < first {
+        runs.remove(u64::from(first) - 1);
+    }
+    Ok(())
+}
+
+/// Returns the first id of the run that ends right below an id, which is above all runs. Returns the id if there is none.
+fn start_above(runs: &Chunks<Run>, id: u32) -> u32 {
+    match runs.highest() {
+        Some(run) if run.last.checked_add(1) == Some(id) => run.first,
+        _ => id,
+    }
+}

@@ -1,0 +1,32 @@
+// Written by bindings/erase from crates/vm_chunks/src/lib.rt: do not edit.
+
+//! Lists of entries in descending order of their keys, in chunks of at most 64 entries, and sets of ids.
+//!
+//! A call finds the chunk of a key by a list of bounds, and then the entry in the chunk. A change moves the
+//! entries of one chunk, and sometimes splits it or joins it with one next to it. The lowest entry is at the end
+//! of the last chunk, so removing it moves nothing.
+
+mod chunk;
+mod chunks;
+mod id_set;
+mod iter;
+
+pub(in crate::proved) use chunks::Chunks;
+pub(in crate::proved) use id_set::{IdSet, Run};
+pub(in crate::proved) use iter::Iter;
+
+/// An entry with a key.
+pub(in crate::proved) trait Entry: Copy {
+    /// Returns the key of the entry.
+    fn key(&self) -> u64;
+}
+
+/// Returns the number of entries with keys above this one.
+fn place<E: Entry>(entries: &[E], key: u64) -> usize {
+    entries.partition_point(|entry| entry.key() > key)
+}
+
+/// Returns the number of entries whose keys are at least this one.
+fn place_from<E: Entry>(entries: &[E], key: u64) -> usize {
+    entries.partition_point(|entry| entry.key() >= key)
+}

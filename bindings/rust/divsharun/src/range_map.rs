@@ -1,0 +1,559 @@
+// SPDX-License-Identifier: Apache-2.0 OR BSD-3-Clause
+use crate::address_allocator::space_of;
+use crate::convert::{out_of_memory, unless_out_of_memory};
+use crate::error::TryResult;
+use crate::proved::{vm_addresses, vm_range_map as proved};
+use crate::rattle::Global;
+use crate::traits::DebugList;
+use crate::{AllocPolicy, Constraint, RangeInclusive, Result, TryError};
+use alloc::vec::Vec;
+use core::fmt;
+
+/// Allocates ranges of addresses from one space, and keeps a value with each allocated range, such as
+/// the device on a bus.
+///
+/// Ranges are allocated, moved and freed as by an
+/// [`AddressAllocator`](crate::AddressAllocator). A range keeps its value when it moves.
+///
+/// Two maps are equal if and only if they have the same space and the same ranges with equal values.
+///
+/// # Example
+///
+/// ```rust
+/// use divsharun::{AllocPolicy, Error, RangeMap};
+///
+/// let mut bus = RangeMap::new(0xd000_0000, 0x2ec0_0000)?;
+/// let disk = bus.allocate(0x1000, 0x1000, AllocPolicy::FirstMatch, "disk")?;
+/// bus.allocate(0x1000, 0x1000, AllocPolicy::FirstMatch, "net")?;
+///
+/// // The guest accesses this address.
+/// assert_eq!(bus.get(0xd000_0010), Some((disk, &"disk")));
+/// assert_eq!(bus.get(0xd000_2000), None);
+///
+/// assert_eq!(bus.free(&disk)?, "disk");
+/// assert_eq!(bus.free(&disk), Err(Error::ResourceNotAvailable));
+/// # Ok::<(), Error>(())
+/// ```
+///
+/// # What is proved
+///
+/// The ranges, the errors and the number that is kept with each range are proved. This number is the index
+/// of its value in a list. The list is written by hand and tested: it keeps the values and the starts of
+/// their ranges, and its last value takes the index of one that is removed.
+pub struct RangeMap<T> {
+    // The value with each range is an index of `values`.
+    ranges: proved::RangeMap,
+    // Each value, after the start of its range.
+    values: Vec<(u64, T)>,
+}
+
+impl<T> RangeMap<T> {
+    /// Creates a map of the `size` addresses starting at `base`. All of them are free.
+    ///
+    /// # Errors
+    ///
+    /// In this order:
+    /// - `Underflow` if `size` is 0.
+    /// - `Overflow` if the last address would be past `u64::MAX`.
+    ///
+    /// # Example
+    ///
+    /// ```rust
+    /// use divsharun::{Error, RangeMap};
+    ///
+    /// let ports: RangeMap<&str> = RangeMap::new(0, 0x1_0000)?;
+    /// assert_eq!(ports.held_count(), 0);
+    /// assert_eq!(RangeMap::<&str>::new(u64::MAX, 2), Err(Error::Overflow));
+    /// # Ok::<(), Error>(())
+    /// ```
+    pub fn new(base: u64, size: u64) -> Result<Self> {
+        unless_out_of_memory(Self::try_new(base, size))
+    }
+
+    /// Creates a map like [`new`](Self::new), but returns an error if memory runs out.
+    ///
+    /// # Errors
+    ///
+    /// In this order:
+    /// - `Refused(Underflow)` if `size` is 0.
+    /// - `Refused(Overflow)` if the last address would be past `u64::MAX`.
+    /// - `OutOfMemory` if memory for the node runs out.
+    ///
+    /// # Example
+    ///
+    /// ```rust
+    /// use divsharun::{Error, RangeMap, TryError};
+    ///
+    /// let bus: RangeMap<u32> = RangeMap::try_new(0xe000_0000, 0x1000_0000)?;
+    /// assert_eq!(bus.space().len(), 0x1000_0000);
+    /// let empty = RangeMap::<u32>::try_new(0xe000_0000, 0);
+    /// assert_eq!(empty, Err(TryError::Refused(Error::Underflow)));
+    /// # Ok::<(), TryError>(())
+    /// ```
+    pub fn try_new(base: u64, size: u64) -> TryResult<Self> {
+        Ok(RangeMap {
+            ranges: proved::RangeMap::new(Global, base, size)?,
+            values: Vec::new(),
+        })
+    }
+
+    /// Allocates `size` free addresses that start at a multiple of `alignment`, keeps `value` with their
+    /// range, and returns the range. `policy` chooses the range as in
+    /// [`AddressAllocator::allocate`](crate::AddressAllocator::allocate).
+    ///
+    /// # Errors
+    ///
+    /// An error drops `value` and changes nothing else.
+    /// - `InvalidSize`, `InvalidAlignment`, `UnalignedAddress`, `Overflow`, `ResourceNotAvailable` or
+    ///   `InvalidStateTransition`, as for
+    ///   [`AddressAllocator::allocate`](crate::AddressAllocator::allocate).
+    ///
+    /// # Example
+    ///
+    /// ```rust
+    /// use divsharun::{AllocPolicy, Error, RangeMap};
+    ///
+    /// let mut bus = RangeMap::new(0xc000_0000, 0x3ec0_0000)?;
+    /// let frames = bus.allocate(0x100_0000, 0x100_0000, AllocPolicy::FirstMatch, "frames")?;
+    /// assert_eq!(frames.start(), 0xc000_0000);
+    ///
+    /// let exact = AllocPolicy::ExactMatch(frames.start());
+    /// assert_eq!(bus.allocate(0x1000, 0x1000, exact, "net"), Err(Error::ResourceNotAvailable));
+    /// assert_eq!(bus.get(frames.start()), Some((frames, &"frames")));
+    /// # Ok::<(), Error>(())
+    /// ```
+    #[doc(alias("alloc", "insert"))]
+    pub fn allocate(
+        &mut self,
+        size: u64,
+        alignment: u64,
+        policy: AllocPolicy,
+        value: T,
+    ) -> Result<RangeInclusive> {
+        unless_out_of_memory(self.try_allocate(size, alignment, policy, value))
+    }
+
+    /// Allocates a range like [`allocate`](Self::allocate), but returns an error if memory runs out.
+    ///
+    /// # Errors
+    ///
+    /// An error drops `value`, and leaves ranges and other values unchanged. In this order:
+    /// - `Refused` with the error of `allocate`.
+    /// - `OutOfMemory` if memory for a node, for the index of the value or for the value runs out.
+    ///
+    /// # Example
+    ///
+    /// ```rust
+    /// use divsharun::{AllocPolicy, Error, RangeMap, TryError};
+    ///
+    /// let mut ports = RangeMap::try_new(0xc000, 0x4000)?;
+    /// let bar = ports.try_allocate(0x20, 0x20, AllocPolicy::FirstMatch, 7)?;
+    /// assert_eq!(bar.to_string(), "c000-c01f");
+    /// assert_eq!(
+    ///     ports.try_allocate(0x20, 0x18, AllocPolicy::FirstMatch, 8),
+    ///     Err(TryError::Refused(Error::InvalidAlignment))
+    /// );
+    /// # Ok::<(), TryError>(())
+    /// ```
+    pub fn try_allocate(
+        &mut self,
+        size: u64,
+        alignment: u64,
+        policy: AllocPolicy,
+        value: T,
+    ) -> TryResult<RangeInclusive> {
+        self.insert(value, |ranges, index| {
+            ranges.allocate(Global, size, alignment, policy.proved(), index)
+        })
+    }
+
+    /// Allocates a range like [`allocate`](Self::allocate), for a request that was made before. If the
+    /// request has a [window](Constraint::within), the range lies in it.
+    ///
+    /// # Errors
+    ///
+    /// An error drops `value` and changes nothing else.
+    /// - `Overflow`, `ResourceNotAvailable` or `InvalidStateTransition`, as for
+    ///   [`AddressAllocator::allocate_constraint`](crate::AddressAllocator::allocate_constraint).
+    ///
+    /// # Example
+    ///
+    /// ```rust
+    /// use divsharun::{AllocPolicy, Constraint, RangeMap};
+    ///
+    /// let mut bus = RangeMap::new(0xc000_0000, 0x2_0000_0000)?;
+    /// let bar = Constraint::new(0x1000, 0x1000, AllocPolicy::LastMatch)?;
+    /// let disk = bus.allocate_constraint(bar.within(..=0xffff_ffff)?, "disk")?;
+    /// assert_eq!(disk.start(), 0xffff_f000);
+    /// # Ok::<(), divsharun::Error>(())
+    /// ```
+    pub fn allocate_constraint(&mut self, request: Constraint, value: T) -> Result<RangeInclusive> {
+        unless_out_of_memory(self.try_allocate_constraint(request, value))
+    }
+
+    /// Allocates a range like [`allocate_constraint`](Self::allocate_constraint), but returns an error if
+    /// memory runs out.
+    ///
+    /// # Errors
+    ///
+    /// An error drops `value`, and leaves ranges and other values unchanged. In this order:
+    /// - `Refused` with the error of `allocate_constraint`.
+    /// - `OutOfMemory` if memory for a node, for the index of the value or for the value runs out.
+    ///
+    /// # Example
+    ///
+    /// ```rust
+    /// use divsharun::{AllocPolicy, Constraint, Error, RangeMap, TryError};
+    ///
+    /// let mut bus = RangeMap::try_new(0xd000_0000, 0x1000)?;
+    /// let page = Constraint::new(0x1000, 0x1000, AllocPolicy::FirstMatch)?;
+    /// bus.try_allocate_constraint(page, 'a')?;
+    /// assert_eq!(
+    ///     bus.try_allocate_constraint(page, 'b'),
+    ///     Err(TryError::Refused(Error::ResourceNotAvailable))
+    /// );
+    /// # Ok::<(), TryError>(())
+    /// ```
+    pub fn try_allocate_constraint(
+        &mut self,
+        request: Constraint,
+        value: T,
+    ) -> TryResult<RangeInclusive> {
+        self.insert(value, |ranges, index| {
+            ranges.allocate_constraint(Global, request.0, index)
+        })
+    }
+
+    /// Appends a value if `allocate` allocates a range for its index. If memory for the value runs out, the
+    /// range is freed again.
+    fn insert(
+        &mut self,
+        value: T,
+        allocate: impl FnOnce(
+            &mut proved::RangeMap,
+            u64,
+        ) -> vm_addresses::Result<vm_addresses::RangeInclusive>,
+    ) -> TryResult<RangeInclusive> {
+        let range = allocate(&mut self.ranges, self.values.len() as u64)?;
+        if self.values.try_reserve(1).is_err() {
+            let _ = self.ranges.free(&range);
+            return Err(TryError::OutOfMemory);
+        }
+        self.values.push((range.start(), value));
+        Ok(RangeInclusive(range))
+    }
+
+    /// Moves an allocated range to the place of a request, and returns the range there. It keeps its
+    /// value. The range can overlap the one before.
+    ///
+    /// # Errors
+    ///
+    /// An error changes nothing.
+    /// - The error of
+    ///   [`AddressAllocator::move_constraint`](crate::AddressAllocator::move_constraint).
+    ///
+    /// # Example
+    ///
+    /// ```rust
+    /// use divsharun::{AllocPolicy, Constraint, Error, RangeMap};
+    ///
+    /// let mut bus = RangeMap::new(0xfe00_0000, 0x20_0000)?;
+    /// let net = bus.allocate(0x4000, 0x4000, AllocPolicy::FirstMatch, "net")?;
+    /// // The guest programs its BAR.
+    /// let bar = Constraint::new(0x4000, 0x4000, AllocPolicy::ExactMatch(0xfe10_0000))?;
+    /// let moved = bus.move_constraint(&net, bar)?;
+    /// assert_eq!(bus.get(0xfe10_0000), Some((moved, &"net")));
+    /// assert_eq!(bus.move_constraint(&net, bar), Err(Error::ResourceNotAvailable));
+    /// # Ok::<(), Error>(())
+    /// ```
+    #[doc(alias = "resize")]
+    pub fn move_constraint(
+        &mut self,
+        range: &RangeInclusive,
+        request: Constraint,
+    ) -> Result<RangeInclusive> {
+        unless_out_of_memory(self.try_move_constraint(range, request))
+    }
+
+    /// Moves a range like [`move_constraint`](Self::move_constraint), but returns an error if memory runs
+    /// out.
+    ///
+    /// # Errors
+    ///
+    /// An error leaves ranges and values unchanged. In this order:
+    /// - `Refused` with the error of `move_constraint`.
+    /// - `OutOfMemory` if memory for a node or for the index of the value runs out.
+    ///
+    /// # Example
+    ///
+    /// ```rust
+    /// use divsharun::{AllocPolicy, Constraint, RangeMap, TryError};
+    ///
+    /// let mut bus = RangeMap::try_new(0xfe00_0000, 0x8000)?;
+    /// let net = bus.try_allocate(0x4000, 0x4000, AllocPolicy::FirstMatch, "net")?;
+    /// let longer = Constraint::new(0x8000, 0x4000, AllocPolicy::FirstMatch)?;
+    /// assert_eq!(bus.try_move_constraint(&net, longer)?.len(), 0x8000);
+    /// # Ok::<(), TryError>(())
+    /// ```
+    pub fn try_move_constraint(
+        &mut self,
+        range: &RangeInclusive,
+        request: Constraint,
+    ) -> TryResult<RangeInclusive> {
+        let to = self.ranges.move_constraint(Global, &range.0, request.0)?;
+        if let Some(at) = self.ranges.get(to.start()) {
+            self.values[at.value as usize].0 = to.start();
+        }
+        Ok(RangeInclusive(to))
+    }
+
+    /// Frees an allocated range, and returns its value. It does not allocate memory, and always succeeds
+    /// for an allocated range.
+    ///
+    /// # Errors
+    ///
+    /// An error changes nothing.
+    /// - `ResourceNotAvailable` if exactly this range is not allocated. A part of an allocated range
+    ///   cannot be freed.
+    ///
+    /// # Example
+    ///
+    /// ```rust
+    /// use divsharun::{AllocPolicy, Error, RangeInclusive, RangeMap};
+    ///
+    /// let mut bus = RangeMap::new(0xd000_0000, 0x1000_0000)?;
+    /// let bar = bus.allocate(0x4000, 0x4000, AllocPolicy::FirstMatch, "net")?;
+    /// let page = RangeInclusive::from_start_len(bar.start(), 0x1000)?;
+    /// assert_eq!(bus.free(&page), Err(Error::ResourceNotAvailable));
+    /// assert_eq!(bus.free(&bar), Ok("net"));
+    /// # Ok::<(), Error>(())
+    /// ```
+    #[doc(alias("release", "remove"))]
+    pub fn free(&mut self, range: &RangeInclusive) -> Result<T> {
+        let index = self.ranges.free(&range.0)?;
+        let (_, value) = self.values.swap_remove(index as usize);
+        if let Some((start, _)) = self.values.get(index as usize) {
+            self.ranges.set(*start, index);
+        }
+        Ok(value)
+    }
+
+    /// Returns the allocated range that contains an address, and its value, or `None` if the address is
+    /// free or outside the space.
+    ///
+    /// It walks one path of the tree, looks up one entry of a table, and does not allocate.
+    ///
+    /// # Example
+    ///
+    /// ```rust
+    /// use divsharun::{AllocPolicy, RangeMap};
+    ///
+    /// let mut ports = RangeMap::new(0, 0x1_0000)?;
+    /// let serial = ports.allocate(8, 8, AllocPolicy::ExactMatch(0x2f8), "serial")?;
+    /// assert_eq!(ports.get(0x2ff), Some((serial, &"serial")));
+    /// assert_eq!(ports.get(0x300), None);
+    /// # Ok::<(), divsharun::Error>(())
+    /// ```
+    #[doc(alias("find", "held_at"))]
+    #[must_use]
+    pub fn get(&self, address: u64) -> Option<(RangeInclusive, &T)> {
+        let at = self.ranges.get(address)?;
+        Some((RangeInclusive(at.range), &self.values[at.value as usize].1))
+    }
+
+    /// Returns the allocated range that contains an address, and its value to change it, or `None` if the
+    /// address is free or outside the space.
+    ///
+    /// # Example
+    ///
+    /// ```rust
+    /// use divsharun::{AllocPolicy, RangeMap};
+    ///
+    /// let mut ports = RangeMap::new(0, 0x1_0000)?;
+    /// let serial = ports.allocate(8, 8, AllocPolicy::FirstMatch, 0)?;
+    /// if let Some((_, accesses)) = ports.get_mut(5) {
+    ///     *accesses += 1;
+    /// }
+    /// assert_eq!(ports.get(0), Some((serial, &1)));
+    /// # Ok::<(), divsharun::Error>(())
+    /// ```
+    #[must_use]
+    pub fn get_mut(&mut self, address: u64) -> Option<(RangeInclusive, &mut T)> {
+        let at = self.ranges.get(address)?;
+        let value = &mut self.values[at.value as usize].1;
+        Some((RangeInclusive(at.range), value))
+    }
+
+    /// Returns an iterator over the allocated ranges with their values, in ascending order.
+    ///
+    /// The length of the iterator is exact, and it does not allocate.
+    ///
+    /// # Example
+    ///
+    /// ```rust
+    /// use divsharun::{AllocPolicy, RangeMap};
+    ///
+    /// let mut bus = RangeMap::new(0xd000_0000, 0x2ec0_0000)?;
+    /// let net = bus.allocate(0x1000, 0x1000, AllocPolicy::LastMatch, "net")?;
+    /// let disk = bus.allocate(0x1000, 0x1000, AllocPolicy::LastMatch, "disk")?;
+    /// assert!(bus.iter().eq([(disk, &"disk"), (net, &"net")]));
+    /// # Ok::<(), divsharun::Error>(())
+    /// ```
+    #[must_use]
+    pub fn iter(&self) -> ValuedRanges<'_, T> {
+        ValuedRanges {
+            ranges: self.ranges.iter(),
+            values: &self.values,
+        }
+    }
+
+    /// Returns the number of allocated ranges in constant time.
+    ///
+    /// # Example
+    ///
+    /// ```rust
+    /// use divsharun::{AllocPolicy, RangeMap};
+    ///
+    /// let mut bus = RangeMap::new(0xa00_0000, 0x4000)?;
+    /// while bus.allocate(0x200, 0x200, AllocPolicy::FirstMatch, ()).is_ok() {}
+    /// assert_eq!(bus.held_count(), 32);
+    /// # Ok::<(), divsharun::Error>(())
+    /// ```
+    #[doc(alias("is_empty", "len"))]
+    #[must_use]
+    pub fn held_count(&self) -> u64 {
+        self.ranges.addresses().held_count()
+    }
+
+    /// Returns the space: the range of all addresses, free or allocated.
+    ///
+    /// # Example
+    ///
+    /// ```rust
+    /// use divsharun::RangeMap;
+    ///
+    /// let bus: RangeMap<()> = RangeMap::new(0xe000_0000, 0x1ec0_0000)?;
+    /// assert_eq!(bus.space().to_string(), "e0000000-febfffff");
+    /// # Ok::<(), divsharun::Error>(())
+    /// ```
+    #[must_use]
+    pub fn space(&self) -> RangeInclusive {
+        space_of(self.ranges.addresses())
+    }
+
+    /// Returns a copy, or an error if memory runs out. A clone of a value that allocates memory can still
+    /// end the process.
+    ///
+    /// # Errors
+    ///
+    /// - `OutOfMemory` if memory for a node, for an index or for the list of the values runs out.
+    ///
+    /// # Example
+    ///
+    /// ```rust
+    /// use divsharun::{AllocPolicy, RangeMap, TryError};
+    ///
+    /// let mut bus = RangeMap::try_new(0xd000_0000, 0x1000_0000)?;
+    /// bus.try_allocate(0x1000, 0x1000, AllocPolicy::FirstMatch, "disk")?;
+    /// assert_eq!(bus.try_clone()?, bus);
+    /// # Ok::<(), TryError>(())
+    /// ```
+    pub fn try_clone(&self) -> TryResult<Self>
+    where
+        T: Clone,
+    {
+        let ranges = self.ranges.try_clone(Global)?;
+        let mut values = Vec::new();
+        let reserved = values.try_reserve_exact(self.values.len());
+        reserved.map_err(|_| TryError::OutOfMemory)?;
+        values.extend_from_slice(&self.values);
+        Ok(RangeMap { ranges, values })
+    }
+}
+
+impl<T: Clone> Clone for RangeMap<T> {
+    fn clone(&self) -> Self {
+        self.try_clone().unwrap_or_else(|_| out_of_memory())
+    }
+}
+
+impl<T: PartialEq> PartialEq for RangeMap<T> {
+    fn eq(&self, other: &Self) -> bool {
+        self.space() == other.space() && self.iter().eq(other)
+    }
+}
+
+impl<T: Eq> Eq for RangeMap<T> {}
+
+/// Writes the space, and the ranges with their values.
+impl<T: fmt::Debug> fmt::Debug for RangeMap<T> {
+    fn fmt(&self, f: &mut fmt::Formatter<'_>) -> fmt::Result {
+        f.debug_struct("RangeMap")
+            .field("space", &self.space())
+            .field("ranges", &DebugList(|| self.iter()))
+            .finish()
+    }
+}
+
+impl<'a, T> IntoIterator for &'a RangeMap<T> {
+    type Item = (RangeInclusive, &'a T);
+    type IntoIter = ValuedRanges<'a, T>;
+
+    /// Returns an iterator over the allocated ranges with their values.
+    fn into_iter(self) -> ValuedRanges<'a, T> {
+        self.iter()
+    }
+}
+
+/// An iterator over the allocated ranges of a [`RangeMap`] with their values, in ascending order or from
+/// both ends. Its length is exact.
+///
+/// It is created by [`iter`](RangeMap::iter).
+pub struct ValuedRanges<'a, T> {
+    ranges: proved::ValuedRanges<'a>,
+    values: &'a [(u64, T)],
+}
+
+impl<'a, T> ValuedRanges<'a, T> {
+    /// Returns the range and the value of an item of the proved code.
+    fn item(&self, at: proved::ValuedRange) -> (RangeInclusive, &'a T) {
+        (RangeInclusive(at.range), &self.values[at.value as usize].1)
+    }
+}
+
+impl<'a, T> Iterator for ValuedRanges<'a, T> {
+    type Item = (RangeInclusive, &'a T);
+
+    fn next(&mut self) -> Option<Self::Item> {
+        self.ranges.next().map(|at| self.item(at))
+    }
+
+    fn size_hint(&self) -> (usize, Option<usize>) {
+        self.ranges.size_hint()
+    }
+}
+
+impl<T> DoubleEndedIterator for ValuedRanges<'_, T> {
+    fn next_back(&mut self) -> Option<Self::Item> {
+        self.ranges.next_back().map(|at| self.item(at))
+    }
+}
+
+impl<T> ExactSizeIterator for ValuedRanges<'_, T> {}
+
+impl<T> core::iter::FusedIterator for ValuedRanges<'_, T> {}
+
+impl<T> Clone for ValuedRanges<'_, T> {
+    fn clone(&self) -> Self {
+        ValuedRanges {
+            ranges: self.ranges.clone(),
+            values: self.values,
+        }
+    }
+}
+
+impl<T> fmt::Debug for ValuedRanges<'_, T> {
+    fn fmt(&self, f: &mut fmt::Formatter<'_>) -> fmt::Result {
+        f.debug_struct("ValuedRanges").finish_non_exhaustive()
+    }
+}

@@ -1,0 +1,198 @@
+// SPDX-License-Identifier: Apache-2.0 OR BSD-3-Clause
+//! Guards against a range that has the value of another range, or none, also if memory runs out in the
+//! middle of a call.
+
+mod draw;
+mod items;
+mod model;
+mod refusing;
+
+use divsharun::AllocPolicy::{ExactMatch, FirstMatch, LastMatch};
+use divsharun::{Constraint, Error, RangeInclusive, RangeMap, TryError};
+use draw::Draw;
+use items::{exact, expect_items};
+use model::{refused, Model, WIDTH};
+use refusing::{blocks, refusing};
+use std::collections::BTreeMap;
+use std::rc::Rc;
+
+/// A map, and a plain model of its ranges and values.
+struct Compared {
+    map: RangeMap<u64>,
+    ranges: Model,
+    values: BTreeMap<RangeInclusive, u64>,
+}
+
+/// Returns a random request, with or without a window.
+fn request(ranges: &Model, draw: &mut Draw) -> Constraint {
+    let (size, align) = (1 + draw.below(6), 1 << draw.below(3));
+    let at = ranges.base + draw.below(ranges.width);
+    let policy = match draw.below(3) {
+        0 => FirstMatch,
+        1 => LastMatch,
+        _ => ExactMatch(at - at % align),
+    };
+    let request = Constraint::new(size, align, policy).unwrap();
+    match draw.below(3) {
+        0 => request.within(at..).unwrap(),
+        _ => request,
+    }
+}
+
+/// Makes a call in which the allocation of this number fails. Returns its result, or `None` if memory ran
+/// out.
+fn answered<T>(
+    fails: u64,
+    call: impl FnOnce() -> Result<T, TryError>,
+) -> Option<divsharun::Result<T>> {
+    let (answer, made) = refusing(fails, call);
+    let ran_out = matches!(answer, Err(TryError::OutOfMemory));
+    assert_eq!(ran_out, 0 < fails && fails <= made);
+    (!ran_out).then(|| refused(answer))
+}
+
+impl Compared {
+    fn new(base: u64, width: u64) -> Compared {
+        Compared {
+            map: RangeMap::new(base, width).unwrap(),
+            ranges: Model::wide(base, width),
+            values: BTreeMap::new(),
+        }
+    }
+
+    fn allocate(&mut self, value: u64, fails: u64, draw: &mut Draw) {
+        let asked = request(&self.ranges, draw);
+        let (size, align, policy) = (asked.size(), asked.align(), asked.policy());
+        let answer = answered(fails, || match (fails, asked.window()) {
+            (0, None) => Ok(self.map.allocate(size, align, policy, value)?),
+            (0, Some(_)) => Ok(self.map.allocate_constraint(asked, value)?),
+            (_, None) => self.map.try_allocate(size, align, policy, value),
+            (_, Some(_)) => self.map.try_allocate_constraint(asked, value),
+        });
+        if let Some(answer) = answer {
+            assert_eq!(answer, self.ranges.allocate(asked));
+            self.ranges.held.extend(answer.ok());
+            self.values.extend(answer.ok().map(|range| (range, value)));
+        }
+    }
+
+    fn move_any(&mut self, number: usize, fails: u64, draw: &mut Draw) {
+        let (asked, range) = (request(&self.ranges, draw), self.ranges.held[number]);
+        let answer = answered(fails, || match fails {
+            0 => Ok(self.map.move_constraint(&range, asked)?),
+            _ => self.map.try_move_constraint(&range, asked),
+        });
+        if let Some(answer) = answer {
+            assert_eq!(answer, self.ranges.move_to(number, asked));
+            let value = self.values.remove(&range).unwrap();
+            self.values.insert(answer.unwrap_or(range), value);
+        }
+    }
+
+    fn free_any(&mut self, number: usize) {
+        let range = self.ranges.held.swap_remove(number);
+        let (answer, made) = refusing(1, || self.map.free(&range));
+        assert_eq!((answer.ok(), made), (self.values.remove(&range), 0));
+        assert_eq!(self.map.free(&range), Err(Error::ResourceNotAvailable));
+    }
+
+    /// Looks an address up, and changes the value there.
+    fn look_up(&mut self, value: u64, draw: &mut Draw) {
+        let address = self.ranges.base + draw.below(self.ranges.width);
+        let mut at = self.values.iter_mut();
+        let mut at = at.find(|(range, _)| range.contains_address(address));
+        let expected = at.as_ref().map(|(range, value)| (**range, &**value));
+        assert_eq!(self.map.get(address), expected);
+        if let (Some((_, one)), Some((_, other))) = (&mut at, self.map.get_mut(address)) {
+            (**one, *other) = (value, value);
+        }
+    }
+
+    fn expect_equal(&self, draw: &mut Draw) {
+        let list: Vec<_> = self.values.iter().map(|(range, at)| (*range, at)).collect();
+        assert!(self.map.iter().eq(list.iter().copied()));
+        assert_eq!(self.map.held_count(), list.len() as u64);
+        if draw.below(20) == 0 {
+            expect_items((&self.map).into_iter(), &list, exact, draw);
+        }
+        for fails in 0..4 {
+            let copy = answered(fails, || self.map.try_clone());
+            copy.into_iter()
+                .for_each(|copy| assert!(copy.as_ref() == Ok(&self.map)));
+        }
+    }
+}
+
+/// Makes random calls. In half of them an allocation fails, if there are as many.
+#[test]
+fn answers_are_those_of_a_plain_model() {
+    let mut draw = Draw(1);
+    for (base, width) in [(1000, WIDTH), (u64::MAX - WIDTH + 1, WIDTH), (0, 1000)] {
+        let mut compared = Compared::new(base, width);
+        for value in 0..5000 {
+            let fails = draw.below(8).saturating_sub(3);
+            let held = compared.ranges.held.len() as u64;
+            let any = draw.below(held.max(1)) as usize;
+            match draw.below(8) {
+                0..=3 => compared.allocate(value, fails, &mut draw),
+                4 => compared.look_up(value, &mut draw),
+                _ if held == 0 => continue,
+                5 => compared.move_any(any, fails, &mut draw),
+                // The small spaces become full, and the large one has several leaves.
+                6 if width == WIDTH || value > 3000 => compared.free_any(any),
+                _ => compared.look_up(value, &mut draw),
+            }
+            if value % 50 == 0 {
+                compared.expect_equal(&mut draw);
+            }
+        }
+        assert!(width == WIDTH || compared.ranges.held.len() > 100);
+    }
+}
+
+#[test]
+fn maps_are_equal_with_the_same_ranges_and_values() {
+    let maps = [
+        (0, 64, &[(0, 'a'), (9, 'b')][..]),
+        (0, 64, &[(9, 'b'), (0, 'a')]),
+        (0, 64, &[(0, 'b'), (9, 'a')]),
+        (0, 64, &[(0, 'a'), (8, 'b')]),
+        (0, 64, &[(0, 'a')]),
+        (0, 65, &[(0, 'a'), (9, 'b')]),
+    ];
+    let [first, others @ ..] = maps.map(|(base, size, ranges)| {
+        let mut map = RangeMap::new(base, size).unwrap();
+        for (start, value) in ranges {
+            map.allocate(1, 1, ExactMatch(*start), *value).unwrap();
+        }
+        map
+    });
+    assert_eq!(
+        others.map(|other| first == other),
+        [true, false, false, false, false]
+    );
+    let text = "RangeMap { space: RangeInclusive { start: 0, end: 63 }, ranges: [\
+        (RangeInclusive { start: 0, end: 0 }, 'a'), (RangeInclusive { start: 9, end: 9 }, 'b')] }";
+    assert_eq!(format!("{:?}", first.clone()), text);
+    assert_eq!(format!("{:?}", first.iter()), "ValuedRanges { .. }");
+}
+
+/// Checks that a value is dropped by the error of its allocation and with its map, and else returned.
+#[test]
+fn values_are_dropped_once() {
+    let (value, before) = (Rc::new(7), blocks());
+    let mut map = RangeMap::new(0, 4).unwrap();
+    for number in 1..=4 {
+        let allocated = map.allocate(1, 1, FirstMatch, value.clone());
+        assert_eq!(allocated.map(|range| range.start()), Ok(number - 1));
+        let refused = map.allocate(1, 3, FirstMatch, value.clone());
+        assert_eq!(refused, Err(Error::InvalidAlignment));
+        assert_eq!(Rc::strong_count(&value) as u64, 1 + number);
+    }
+    let freed = map.free(&RangeInclusive::new(2, 2).unwrap());
+    assert!(freed.is_ok_and(|freed| Rc::ptr_eq(&freed, &value)));
+    let copy = map.clone();
+    assert_eq!((Rc::strong_count(&value), copy == map), (7, true));
+    drop((map, copy));
+    assert_eq!((Rc::strong_count(&value), blocks()), (1, before));
+}

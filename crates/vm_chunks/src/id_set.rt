@@ -1,0 +1,385 @@
+//! A set of ids as runs of consecutive ids.
+ghost use Rattle.std.specs.Prelude.{
+  ◌≡◌,
+  ℕ,
+  ◌+◌,
+  ◌-◌,
+  ◌<◌,
+  ◌≤◌,
+  ◌++◌,
+  ◌↔◌,
+  not,
+  false,
+  length,
+  IsTrue,
+  IfOk,
+  OnOk,
+  OnErr,
+  IfSome,
+  IfNone,
+  MatchOption,
+};
+ghost use Rattle.std.specs.List.{All, flat_map, range_with_len};
+ghost use Rattle.std.specs.Ordering.{nat_cmp};
+ghost use Rattle.std.specs.BTreeSet.{IsEmpty, IsOrdered, contains};
+ghost use Rattle.vm_chunks.specs.Runs.{
+  RUNS_END,
+  AreRuns,
+  ids_of_run,
+  ids_of_runs,
+  Adds,
+  Removes,
+  IsLowestFrom,
+  HasNoneFrom,
+  JoinsAbove,
+  Joins,
+  Puts,
+  IsInside,
+  HasRun,
+  Cuts,
+  StartsAbove,
+};
+
+use crate::Entry;
+use crate::chunks::Chunks;
+use crate::iter::Iter;
+use std::alloc::{AllocError, Global};
+use std::marker::Model;
+
+/// The ids from `first` to `last`, both included.
+#[derive(Clone, Copy, Debug, PartialEq, Eq)]
+pub struct Run {
+    pub first: u32,
+    pub last: u32,
+}
+
+impl Entry for Run {
+    ghost key_of = { λ r. r.last };
+
+    fn key(&self) -> u64 {
+        self.last.into()
+    }
+}
+
+/// A set of ids. It keeps a run for all ids that follow each other.
+///
+/// Its model is that of a `BTreeSet`: the list of its ids in ascending order.
+#[derive(Debug, Drop)]
+pub struct IdSet {
+    runs: Chunks<Run>,
+    // The number of ids.
+    count: u64,
+    alloc: Global,
+}
+
+impl Model for IdSet {
+    ghost use Rattle.std.specs.Prelude.{ℕ, ◌≡◌, length};
+    ghost use Rattle.std.specs.BTreeSet.{BTreeSet};
+    ghost use Rattle.vm_chunks.specs.Runs.{RUNS_END, AreRuns, ids_of_runs};
+
+    ghost Value = { BTreeSet ℕ };
+
+    ghost view = { λ s. record { keys = ids_of_runs s.runs } };
+
+    ghost invariant = { λ s. AreRuns RUNS_END s.runs × (s.count ≡ length (ids_of_runs s.runs)) };
+}
+
+impl IdSet {
+    /// Creates an empty set. It does not allocate.
+    pub fn new(alloc: Global) -> Self
+        ensures { IsEmpty result }
+    {
+        IdSet {
+            runs: Chunks::new(alloc),
+            count: 0,
+            alloc,
+        }
+    }
+
+    /// Returns a copy.
+    pub fn try_clone(&self) -> Result<Self, AllocError>
+        ensures { IfOk result (λ copy. copy ≡ self.now) }
+    {
+        let runs = self.runs.try_clone(self.alloc)?;
+        Ok(IdSet {
+            runs,
+            count: self.count,
+            alloc: self.alloc,
+        })
+    }
+
+    /// Returns the number of ids. It takes constant time.
+    pub fn len(&self) -> u64
+        ensures value { result ≡ length self.now.keys }
+        ensures order { IsOrdered nat_cmp self.now }
+    {
+        self.count
+    }
+
+    /// Returns `true` if the set has the id.
+    pub fn contains(&self, id: u32) -> bool
+        ensures { result ≡ contains nat_cmp self.now id }
+    {
+        match self.runs.at_or_above(id.into()) {
+            Some(run) => run.first <= id,
+            None => false,
+        }
+    }
+
+    /// Returns the lowest id of the set that is at least `first`, if there is one.
+    pub fn first_from(&self, first: u32) -> Option<u32>
+        ensures { MatchOption result (HasNoneFrom first self.now) (IsLowestFrom first self.now) }
+    {
+        let run = self.runs.at_or_above(first.into())?;
+        Some(run.first.max(first))
+    }
+
+    /// Returns an iterator over the runs, from the lowest to the highest, or backwards. It does not allocate.
+    pub fn runs(&self) -> Iter<'_, Run>
+        ensures ids { flat_map ids_of_run result ≡ self.now.keys }
+        ensures order { IsOrdered nat_cmp self.now }
+        ensures filled { All (λ run. run.first ≤ run.last) result }
+    {
+        self.runs.iter()
+    }
+
+    /// Returns `true` if both sets have the same ids. It stops at the first difference, and does not allocate.
+    pub fn equals(&self, other: &Self) -> bool
+        ensures same { IsTrue result ↔ (self.now.keys ≡ other.now.keys) }
+        ensures order { IsOrdered nat_cmp self.now × IsOrdered nat_cmp other.now }
+    {
+        self.count == other.count && same_runs(self.runs.iter(), other.runs.iter())
+    }
+
+    /// Adds an id, and returns `true`. Returns `false` if the set has it already. An error changes nothing.
+    pub fn insert(&mut self, id: u32) -> Result<bool, AllocError>
+        ensures added { OnOk result (Adds id self.old self.new) }
+        ensures new { IfOk result (λ is_new. is_new ≡ not (contains nat_cmp self.old id)) }
+        ensures same { IfOk result (λ is_new. is_new ≡ false → self.new ≡ self.old) }
+        ensures unchanged { OnErr result (self.new ≡ self.old) }
+        ensures memory { OnErr result (contains nat_cmp self.old id ≡ false) }
+    {
+        if put_alone(&mut self.runs, id) {
+            self.count += 1;
+            return Ok(true);
+        }
+        let Some(run) = joined(&self.runs, id) else {
+            return Ok(false);
+        };
+        put_joined(&mut self.runs, self.alloc, id, run)?;
+        self.count += 1;
+        Ok(true)
+    }
+
+    /// Removes an id, and returns `true`. Returns `false` if the set does not have it. An error changes nothing.
+    ///
+    /// It allocates only if the set has the ids right below and right above.
+    pub fn remove(&mut self, id: u32) -> Result<bool, AllocError>
+        ensures removed { OnOk result (Removes id self.old self.new) }
+        ensures had { IfOk result (λ had. had ≡ contains nat_cmp self.old id) }
+        ensures same { IfOk result (λ had. had ≡ false → self.new ≡ self.old) }
+        ensures unchanged { OnErr result (self.new ≡ self.old) }
+        ensures memory { OnErr result (IsInside id self.old) }
+    {
+        let Some(run) = run_of(&self.runs, id) else {
+            return Ok(false);
+        };
+        cut(&mut self.runs, self.alloc, id, run)?;
+        self.count -= 1;
+        Ok(true)
+    }
+
+    /// Removes and returns the lowest id. It does not allocate.
+    pub fn pop_first(&mut self) -> Option<u32>
+        ensures lowest { IfSome result (λ id. IsLowestFrom 0 self.old id × Removes id self.old self.new) }
+        ensures none { IfNone result (IsEmpty self.old × (self.new ≡ self.old)) }
+    {
+        let run = self.runs.lowest()?;
+        let rest = Run {
+            first: run.first.saturating_add(1),
+            last: run.last,
+        };
+        self.runs.change_lowest(rest, run.first < run.last);
+        self.count -= 1;
+        Some(run.first)
+    }
+
+    /// Adds the ids from `first` to `last`, both included, which are above all ids of the set. An error changes nothing.
+    pub fn add_above(&mut self, first: u32, last: u32) -> Result<(), AllocError>
+        requires order { first ≤ last }
+        requires above { (i : ℕ) → IsTrue (contains nat_cmp self.old i) → i < first }
+        ensures added { OnOk result (self.new.keys ≡ self.old.keys ++ range_with_len first (last + 1 - first)) }
+        ensures unchanged { OnErr result (self.new ≡ self.old) }
+    {
+        add_run(&mut self.runs, self.alloc, first, last)?;
+        self.count += u64::from(last) + 1 - u64::from(first);
+        Ok(())
+    }
+}
+
+/// Returns `true` if both iterators return the same runs.
+fn same_runs(mut a: Iter<'_, Run>, mut b: Iter<'_, Run>) -> bool
+    ensures { IsTrue result ↔ (a.entry ≡ b.entry) }
+{
+    while let Some(x) = a.next() {
+        let Some(y) = b.next() else {
+            return false;
+        };
+        if x != y {
+            return false;
+        }
+    }
+    b.next().is_none()
+}
+
+/// Puts a run of an id alone between two runs of a chunk, and returns `true`. Returns `false` and changes nothing if a run
+/// next to it has the id or joins it, or if the chunk has no room. It searches once.
+fn put_alone(runs: &mut Chunks<Run>, id: u32) -> bool
+    requires { AreRuns RUNS_END runs.old }
+    ensures put { IsTrue result → Puts id runs.old runs.new }
+    ensures fresh { IsTrue result → contains nat_cmp (record { keys = ids_of_runs runs.old }) id ≡ false }
+    ensures unchanged { result ≡ false → runs.new ≡ runs.old }
+{
+    let Some(gap) = runs.gap(id.into()) else {
+        return false;
+    };
+    if gap.above.first <= id || gap.above.first - 1 == id {
+        return false;
+    }
+    let run = Run {
+        first: id,
+        last: id,
+    };
+    runs.insert_at(gap, run)
+}
+
+/// Returns the run of an id and of the runs next to it, or `None` if a run has the id.
+fn joined(runs: &Chunks<Run>, id: u32) -> Option<Run>
+    requires { AreRuns RUNS_END runs.now }
+    ensures none { IfNone result (IsTrue (contains nat_cmp (record { keys = ids_of_runs runs.now }) id)) }
+    ensures some { IfSome result (λ run. Joins id runs.now run) }
+{
+    let last = last_joined(runs, id)?;
+    let first = first_joined(runs, id);
+    Some(Run { first, last })
+}
+
+/// Returns the last id of the run that begins right above an id, or the id if there is none. Returns `None` if a run
+/// has the id.
+fn last_joined(runs: &Chunks<Run>, id: u32) -> Option<u32>
+    requires { AreRuns RUNS_END runs.now }
+    ensures none { IfNone result (IsTrue (contains nat_cmp (record { keys = ids_of_runs runs.now }) id)) }
+    ensures some { IfSome result (λ last. JoinsAbove id last runs.now) }
+{
+    match runs.at_or_above(id.into()) {
+        Some(run) if run.first <= id => None,
+        Some(run) if run.first - 1 == id => Some(run.last),
+        _ => Some(id),
+    }
+}
+
+/// Returns the first id of the run that ends right below an id, or the id if there is none.
+fn first_joined(runs: &Chunks<Run>, id: u32) -> u32
+    requires { AreRuns RUNS_END runs.now }
+    ensures { (last : ℕ) → JoinsAbove id last runs.now → Joins id runs.now (record { first = result; last = last }) }
+{
+    if id == 0 {
+        return id;
+    }
+    match runs.get(u64::from(id) - 1) {
+        Some(run) => run.first,
+        None => id,
+    }
+}
+
+/// Puts the run of an id and of the runs next to it in place of these. An error changes nothing.
+fn put_joined(runs: &mut Chunks<Run>, alloc: Global, id: u32, run: Run) -> Result<(), AllocError>
+    requires order { AreRuns RUNS_END runs.old }
+    requires joined { Joins id runs.old run }
+    ensures put { OnOk result (Puts id runs.old runs.new) }
+    ensures fresh { contains nat_cmp (record { keys = ids_of_runs runs.old }) id ≡ false }
+    ensures unchanged { OnErr result (runs.new ≡ runs.old) }
+{
+    if run.last > id {
+        runs.set(run);
+    } else {
+        runs.insert(alloc, run)?;
+    }
+    if run.first < id {
+        runs.remove(u64::from(id) - 1);
+    }
+    Ok(())
+}
+
+/// Returns the run that has an id, if there is one.
+fn run_of(runs: &Chunks<Run>, id: u32) -> Option<Run>
+    requires { AreRuns RUNS_END runs.now }
+    ensures none { IfNone result (contains nat_cmp (record { keys = ids_of_runs runs.now }) id ≡ false) }
+    ensures some { IfSome result (λ run. HasRun id runs.now run) }
+{
+    match runs.at_or_above(id.into()) {
+        Some(run) if run.first <= id => Some(run),
+        _ => None,
+    }
+}
+
+/// Takes an id out of the run that has it. An error changes nothing.
+fn cut(runs: &mut Chunks<Run>, alloc: Global, id: u32, run: Run) -> Result<(), AllocError>
+    requires order { AreRuns RUNS_END runs.old }
+    requires run { HasRun id runs.old run }
+    ensures cut { OnOk result (Cuts id runs.old runs.new) }
+    ensures unchanged { OnErr result (runs.new ≡ runs.old) }
+    ensures memory { OnErr result (run.first < id × id < run.last) }
+{
+    if id == run.last {
+        if run.first == id {
+            runs.remove(id.into());
+        } else {
+            let lower = Run {
+                first: run.first,
+                last: id - 1,
+            };
+            runs.lower_key(id.into(), lower);
+        }
+        return Ok(());
+    }
+    if run.first < id {
+        let lower = Run {
+            first: run.first,
+            last: id - 1,
+        };
+        runs.insert(alloc, lower)?;
+    }
+    runs.set(Run {
+        first: id + 1,
+        last: run.last,
+    });
+    Ok(())
+}
+
+/// Adds the ids from `first` to `last`, which are above all runs. An error changes nothing.
+fn add_run(runs: &mut Chunks<Run>, alloc: Global, first: u32, last: u32) -> Result<(), AllocError>
+    requires order { first ≤ last }
+    requires runs { AreRuns (first + 1) runs.old }
+    ensures runs { OnOk result (AreRuns RUNS_END runs.new) }
+    ensures ids { OnOk result (ids_of_runs runs.new ≡ ids_of_runs runs.old ++ range_with_len first (last + 1 - first)) }
+    ensures unchanged { OnErr result (runs.new ≡ runs.old) }
+{
+    let start = start_above(runs, first);
+    runs.insert(alloc, Run { first: start, last })?;
+    if start < first {
+        runs.remove(u64::from(first) - 1);
+    }
+    Ok(())
+}
+
+/// Returns the first id of the run that ends right below an id, which is above all runs. Returns the id if there is none.
+fn start_above(runs: &Chunks<Run>, id: u32) -> u32
+    requires { AreRuns (id + 1) runs.now }
+    ensures { StartsAbove id runs.now result }
+{
+    match runs.highest() {
+        Some(run) if run.last.checked_add(1) == Some(id) => run.first,
+        _ => id,
+    }
+}

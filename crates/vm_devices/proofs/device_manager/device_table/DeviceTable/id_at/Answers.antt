@@ -1,0 +1,11 @@
+use Rattle.std.proofs.Common.{ap, sym, ◌∙◌, option_map}
+use Rattle.vm_devices.proofs.device_manager.device_table.DeviceTable.id_at.Goals as goal
+
+pub returns-in_err-at : goal.returns-in_err-at
+returns-in_err-at c id =
+    rw (← c.self.view_is, c.from_residual.ensures ∙ ap (option_map (λ s. s.id)) (sym c.in_err-at.was ∙ c.get.ensures))
+    (c.self.invariant.at c.args.start id)
+
+pub returns : goal.returns
+returns c id =
+    rw (← c.self.view_is, ap (option_map (λ s. s.id)) (sym c.in_ok-at.was ∙ c.get.ensures)) (c.self.invariant.at c.args.start id)

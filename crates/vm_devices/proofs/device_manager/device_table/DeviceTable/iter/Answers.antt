@@ -1,0 +1,10 @@
+use Rattle.std.proofs.Common.{ap, ◌∙◌, map as map_list}
+use Rattle.std.specs.FinMap as map
+use Rattle.vm_devices.specs.Queries.{device_of}
+use Rattle.vm_devices.proofs.Tables.{listed}
+use Rattle.vm_devices.proofs.device_manager.device_table.DeviceTable.iter.Goals as goal
+
+pub returns : goal.returns
+returns c =
+    c.iter.ensures.entries ∙ listed c.self.inside.slots c.iter.ensures.order
+    ∙ ap (λ m. map_list device_of (map.entries m)) c.self.view_is

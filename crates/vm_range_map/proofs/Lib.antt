@@ -1,0 +1,8 @@
+pub mod Tables
+pub mod MapStates
+pub mod MapCalls
+pub mod MapParts
+pub mod ValuedLists
+pub mod EqualMaps
+pub mod KeptValues
+pub mod MapsOnce

@@ -1,0 +1,34 @@
+//! A map from allocated ranges to values. Each allocated range of addresses has a value of its caller, such as
+//! the number of the owner or of a device on a bus.
+//!
+//! # How a map is stated
+//!
+//! - The value of a [`RangeMap`] has the `Shape` of its tree of addresses, and the value of each range by the
+//!   start of the range. `map_state` is its state.
+//! - `IsMapState`: there is a value at an address if and only if an allocated range starts there.
+//!
+//! # What is proved
+//!
+//! - The exact result of each call, and each error under its condition (`AllocatesWith`, `FreesWith`,
+//!   `MovesWith`). An error leaves the same ranges with the same values.
+//! - Ranges are allocated, moved and freed as by `AddressAllocator`.
+//! - A range has the value of its allocation or of the last `set`, also after it moves and while other ranges
+//!   change.
+//! - The result of a call depends only on the space, the allocated ranges and their values, unless memory runs
+//!   out.
+//! - An iterator returns each range once, with its value, in order, from both ends.
+//!
+//! # What is only tested
+//!
+//! - A call succeeds if memory is available, and a query does not allocate.
+//! - How long a call takes, in plain Rust.
+//!
+//! How much memory the values take is neither proved nor tested.
+#![tactic(auto)]
+
+mod laws;
+mod range_map;
+mod valued_range;
+
+pub use range_map::{RangeMap, ValuedRanges};
+pub use valued_range::ValuedRange;

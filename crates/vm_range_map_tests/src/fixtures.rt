@@ -1,0 +1,26 @@
+//! Functions that the tests share.
+use std::alloc::Global;
+use std::fmt::Debug;
+use std::process::Abort;
+
+/// The number of bytes that `fail_from_here` allocates. Nothing else allocates this number.
+/// tests/refused_memory reads it here.
+const LAST_ALLOCATION: usize = 1_000_003;
+
+/// The message if memory runs out.
+pub(crate) const ENOUGH: &str = "there is enough memory";
+
+/// Ends the test if a result is not the expected one. The message contains `of`.
+pub(crate) fn expect_eq<T: PartialEq + Debug>(rt: &impl Abort, got: &T, want: &T, of: &impl Debug) {
+    assert!(rt; got == want, "{of:?}: {got:?} where {want:?} is due");
+}
+
+/// Ends the test if `is_true` is false. The message contains `of`.
+pub(crate) fn expect_true(rt: &impl Abort, is_true: bool, of: &impl Debug) {
+    assert!(rt; is_true, "{of:?} is not so");
+}
+
+/// Allocates, whether that fails or not. tests/refused_memory makes every later allocation fail.
+pub(crate) fn fail_from_here(alloc: Global) {
+    let _ = Vec::<u8>::with_capacity(alloc, LAST_ALLOCATION);
+}
