@@ -62,22 +62,19 @@ fn ids_by_number_and_window(rt: HostRuntime) {
 #[test]
 fn requests_without_memory(rt: HostRuntime) {
     let mut ids = made(&rt, 5, 90);
-    let calls = &[TakeAll(5, 8), Free(6, Id(6)), Free(7, Id(7))];
-    replay(&rt, &mut ids, calls);
+    replay(&rt, &mut ids, &[TakeAll(5, 8)]);
     let requests = &[
-        Left(84),
-        Exact(7, Id(7)),
+        Left(82),
         Exact(7, NotAvailable),
         Exact(4, OutOfRange(4)),
         Exact(9, Id(9)),
         Window(7, 9, NotAvailable),
-        Window(5, 7, Id(6)),
         Window(0, 23, Id(10)),
         Left(80),
     ];
     fail_from_here(rt.alloc());
     request_all(&rt, &mut ids, requests);
-    // An id that skips others allocates memory. Its result shows whether the run is without memory.
+    // The first freed ids allocate memory. The result shows whether the run is without memory.
     let answer = ids.allocate_exact(89);
     let is_true = match &answer {
         Ok(id) => *id == 89 && ids.free_count() == 79,
@@ -89,18 +86,20 @@ fn requests_without_memory(rt: HostRuntime) {
 
 #[test]
 fn several_ids_without_memory(rt: HostRuntime) {
-    let mut ids = made(&rt, 5, 9);
-    replay(&rt, &mut ids, &[TakeAll(5, 6)]);
+    let mut ids = made(&rt, 5, 11);
+    let calls = &[TakeAll(5, 8), Free(6, Id(6)), Free(7, Id(7))];
+    replay(&rt, &mut ids, calls);
     fail_from_here(rt.alloc());
-    let too_many = ids.allocate_ids(rt.alloc(), 4).err();
+    let too_many = ids.allocate_ids(rt.alloc(), 6).err();
     let want = Some(Error::ResourceNotAvailable);
     expect_eq(&rt, &too_many, &want, &"too many");
-    request_all(&rt, &mut ids, &[Several(&[])]);
+    let requests = &[Several(&[]), Exact(7, Id(7)), Window(5, 7, Id(6))];
+    request_all(&rt, &mut ids, requests);
     let wrong = IdAllocator::with_held(rt.alloc(), 5, 9, &[7, 7]).err();
     expect_eq(&rt, &wrong, &want, &"a wrong id");
     // A list allocates memory. Its result shows whether the run is without memory.
     let is_true = match ids.allocate_ids(rt.alloc(), 2) {
-        Ok(list) => list.as_slice() == [7, 8].as_slice() && ids.free_count() == 1,
+        Ok(list) => list.as_slice() == [9, 10].as_slice() && ids.free_count() == 1,
         Err(Error::OutOfMemory) => ids.free_count() == 3,
         Err(_) => false,
     };
