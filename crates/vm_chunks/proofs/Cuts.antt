@@ -38,7 +38,7 @@ use Rattle.std.specs.Option.{is_some, IsSome}
 use Rattle.std.specs.List.{filter, find, insert, remove}
 use Rattle.std.proofs.lemmas.List.{take-append-drop, length-reverse, get_or-reverse, get_or_default, set_split}
 use Rattle.std.proofs.lemmas.Bool.{cases_lt, cond-true, cond-false, lt-ltb, le-ltb, le-leb, lt-leb, cases_eq, eq-eqb, ne_eqb, cases_Bool, true≢false}
-use Rattle.vm_chunks.specs.Entries.{IsDescendingBy, above, below, with_entry, without, entry_at, at_or_above}
+use Rattle.vm_chunks.specs.Entries.{IsDescendingBy, above, below, with_entry, without, entry_at, at_or_above, highest_below}
 
 -- If only the first p elements pass a test, they are those that it keeps.
 pub filter_first : {X : Type 0} (test : X → Bool) (xs : List X) (p : ℕ) →
@@ -202,6 +202,18 @@ module _ {X : Type 0} (key : X → ℕ) (t : ℕ) (xs : List X) (q : ℕ) (l : q
       let e = ap key (is x) in
       sym (find_first (λ x. nat_le t (key x)) (reverse xs) (length xs - q) x past_fails (omega arith)
       (λ d. is d ∙ ap (λ i. get_or xs i d) (sym s) ∙ sym (get_or-reverse xs (length xs - q) d (omega arith))) (le-leb _ _ (omega arith)))
+
+  -- The entry with the highest key below t is the first of the others.
+  pub none_under : length xs ≤ q → None ≡ highest_below key t xs
+  unfolding highest_below
+  none_under e = sym (find_none (λ x. nat_lt (key x) t) xs (λ k d w. let f = a k d (omega (arith, e, w)) in le-ltb _ _ f))
+
+  pub found_under : q < length xs → (x : X) → ((d : X) → x ≡ get_or xs q d) → Some x ≡ highest_below key t xs
+  unfolding highest_below
+  found_under w x is =
+      let f = b q x (omega arith) w in
+      let e = ap key (is x) in
+      sym (find_first (λ x. nat_lt (key x) t) xs q x (λ k d h v. let g = a k d h in le-ltb _ _ g) w is (lt-ltb _ _ (omega (arith, e, f))))
 
 -- A change at the place of a known key.
 pub sets : {X : Type 0} (key : X → ℕ) (e : X) (xs : List X) (p : ℕ) →

@@ -146,7 +146,7 @@ module _ {X : Type 0} (key : X → ℕ) where
         (λ d w. down 0 1 d (omega arith) (omega (arith, w))),
   )
 
-  put_descends : (e : X) (xs : List X) → IsDescendingBy key xs → IsDescendingBy key (with_entry key e xs)
+  pub put_descends : (e : X) (xs : List X) → IsDescendingBy key xs → IsDescendingBy key (with_entry key e xs)
   put_descends e [] down =
       descends_by key 0 (key e + 1) (with_entry key e []) (with_descends key 0 (key e + 1) e [] tt (omega arith) (omega arith))
   put_descends e (x ∷ xs) down =

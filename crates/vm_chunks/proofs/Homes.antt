@@ -30,12 +30,12 @@ use Rattle.std.proofs.Common.{
 use Rattle.std.specs.List.{All}
 use Rattle.std.specs.Option.{is_some, option_or, IsSome}
 use Rattle.std.proofs.lemmas.Bool.{cases_lt, true≢false}
-use Rattle.std.proofs.lemmas.List.{append_assoc, length-append, get_or-append-add, take_more, flat_map_more, nil_from_length}
+use Rattle.std.proofs.lemmas.List.{append_assoc, length-append, get_or-append-add, take_more, drop_more, drop_all, flat_map_more, nil_from_length}
 use Rattle.std.proofs.lemmas.List.Elements.{All-nil, All-append, All-weaker}
-use Rattle.vm_chunks.specs.Entries.{IsDescendingBy, above, below, without, entry_at, at_or_above, IsPlace}
+use Rattle.vm_chunks.specs.Entries.{IsDescendingBy, above, below, without, entry_at, at_or_above, highest_below, IsPlace}
 use Rattle.vm_chunks.specs.Chunks.{TOP, entries_of, Descends, AreBounded, AreAllBounded}
 use Rattle.vm_chunks.proofs.Descents.{descends_by, joined, keys_within}
-use Rattle.vm_chunks.proofs.Middles.{entry_in, from_in, from_last}
+use Rattle.vm_chunks.proofs.Middles.{all_first, entry_in, from_in, from_last, under_in, under_first}
 
 -- The entries are those before a chunk, its own, and those after it.
 pub parts : {X : Type 0} (cs : List (List X)) (i : ℕ) (d : List X) → i < length cs →
@@ -59,7 +59,7 @@ module _ {X : Type 0} (key : X → ℕ) where
   same_length hi (c ∷ cs) [] r = absurd r
   same_length hi (c ∷ cs) (b ∷ bs) r = ap (λ n. suc n) (same_length b cs bs r.2)
 
-  bounds_below : (hi : ℕ) (cs : List (List X)) (bs : List ℕ) → AreBounded key hi cs bs →
+  pub bounds_below : (hi : ℕ) (cs : List (List X)) (bs : List ℕ) → AreBounded key hi cs bs →
       (k : ℕ) (d : ℕ) → k < length bs → get_or bs k d < hi
   bounds_below hi [] [] r k d w = absurd (omega (arith, w))
   bounds_below hi [] (b ∷ bs) r k d w = absurd r
@@ -242,6 +242,36 @@ module _ {X : Type 0} (key : X → ℕ) where
             sym (ap (λ l. at_or_above key t l) e
             ∙ from_last key t pre c some (λ k d w. subst (λ x. t < key x) (get_or-append-add pre c k d) (high (length pre + k) d (omega arith))))
 
+        -- The entry with the highest key below t is in the chunk, or after it.
+        pub under_home : option_or (highest_below key t (get_or cs i d)) (highest_below key t (entries_of (drop (suc i) cs))) ≡ highest_below key t (entries_of cs)
+        under_home =
+            let m = home_at t cs bs i r (omega (arith, n)) h p in
+            sym (ap (λ l. highest_below key t l) (parts cs i d n)
+            ∙ under_in key t (entries_of (take i cs)) (get_or cs i d) (entries_of (drop (suc i) cs)) m.higher)
+
+        -- After it, it is in the chunk after it.
+        pub under_next : suc i < length cs → 0 < length (get_or cs (suc i) d) →
+            highest_below key t (get_or cs (suc i) d) ≡ highest_below key t (entries_of (drop (suc i) cs))
+        under_next w some =
+            let m = home_at t cs bs i r (omega (arith, n)) h p in
+            let c = get_or cs (suc i) d in
+            let e : entries_of (drop (suc i) cs) ≡ c ++ entries_of (drop (suc i + 1) cs) =
+            ap (λ (cs : List (List X)). entries_of cs) (drop_more cs (suc i) d w) in
+            sym (ap (λ l. highest_below key t l) e
+            ∙ under_first key t c (entries_of (drop (suc i + 1) cs)) some
+            (all_first (λ x. key x < t) c (entries_of (drop (suc i + 1) cs)) (subst (λ (l : List X). All (λ x. key x < t) l) e m.lower)))
+
+        -- After the last chunk there is none.
+        pub none_after : length cs ≤ suc i → None ≡ highest_below key t (entries_of (drop (suc i) cs))
+        unfolding highest_below
+        none_after l = ap (λ (cs : List (List X)). highest_below key t (entries_of cs)) (sym (drop_all (suc i) cs l))
+
+        -- The chunk after a home descends.
+        pub next_descends : suc i < length cs → IsDescendingBy key (get_or cs (suc i) d)
+        next_descends w =
+            descends_by key (get_or bs (suc i) 0) (get_or (TOP ∷ bs) (suc i) 0) (get_or cs (suc i) d)
+            (chunk_descends TOP cs bs (suc i) 0 d (bounded (omega (arith, n))) w)
+
         -- The chunk before a home descends.
         pub before_descends : 0 < i → IsDescendingBy key (get_or cs (i - 1) d)
         before_descends f =
@@ -255,6 +285,11 @@ module _ {X : Type 0} (key : X → ℕ) where
             | inl q ↦ q
             | inr q ↦ absurd (true≢false (sym some ∙ ap is_some (sym (none_past q))))
           ]
+
+      -- Past the chunks there is no entry below the key.
+      pub none_under_past : length cs ≤ i → None ≡ highest_below key t (entries_of cs)
+      unfolding highest_below
+      none_under_past l = ap (λ (cs : List (List X)). highest_below key t (entries_of cs)) (sym (none_there l))
 
       -- Past the chunks there is no entry from the key on.
       pub none_from_past : length cs ≤ i → None ≡ at_or_above key t (entries_of cs)

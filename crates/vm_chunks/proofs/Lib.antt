@@ -16,3 +16,4 @@ pub mod RunEnds
 pub mod Lowest
 pub mod RunsAgain
 pub mod Gaps
+pub mod Puts

@@ -2,23 +2,16 @@
 use Rattle.std.proofs.Common.{◌≡◌, ℕ, zero, suc, ◌+◌, ◌<◌, ◌≤◌, List, [], ◌∷◌, ◌++◌, length, get_or, set, take, drop, min, arith, sym, ap, ◌∙◌, subst}
 use Rattle.std.specs.List.{All}
 use Rattle.std.specs.Option.{IsSome}
-use Rattle.std.proofs.lemmas.List.{length-append, get_or_append_left, get_or-append-add}
+use Rattle.std.proofs.lemmas.List.{length-append}
 use Rattle.std.proofs.lemmas.List.Elements.{All-head, All-weaker}
 use Rattle.vm_chunks.specs.Entries.{IsDescendingBy, above, below, with_entry, without, entry_at, IsPlace}
 use Rattle.vm_chunks.specs.Chunks.{TOP, entries_of, Descends, AreBounded, AreChunks}
 use Rattle.vm_chunks.proofs.Descents.{above_descends, below_descends, below_keys, joined, keys_within}
-use Rattle.vm_chunks.proofs.Middles.{with_in, without_in, below_in, with_nothing}
+use Rattle.vm_chunks.proofs.Middles.{all_first, all_second, with_in, without_in, below_in, with_nothing}
 use Rattle.vm_chunks.proofs.Homes.{IsHome, home_at, parts, set_parts, bounded, chunk_descends, entries_below}
 use Rattle.vm_chunks.proofs.Divisions.{whole, all_set}
 use Rattle.vm_chunks.proofs.EntryLaws.{bounded_by_first}
 use Rattle.vm_chunks.proofs.Counts.{counted_parts, number_some}
-
--- What is true of all elements is true of those of each part.
-all_first : {X : Type 0} (P : X → Type 0) (xs ys : List X) → All P (xs ++ ys) → All P xs
-all_first P xs ys a k d w = subst P (get_or_append_left xs ys d k w) (a k d (let n = length-append xs ys in omega arith))
-
-all_second : {X : Type 0} (P : X → Type 0) (xs ys : List X) → All P (xs ++ ys) → All P ys
-all_second P xs ys a k d w = subst P (get_or-append-add xs ys k d) (a (length xs + k) d (let n = length-append xs ys in omega arith))
 
 module _ {X : Type 0} (key : X → ℕ) where
   keys_above : (t : ℕ) (b hi : ℕ) (xs : List X) → Descends key b hi xs → All (λ x. t < key x) (above key t xs)

@@ -2,6 +2,7 @@
 use Rattle.std.proofs.Common.{
   ◌≡◌,
   ℕ,
+  ◌+◌,
   ◌<◌,
   Bool,
   true,
@@ -29,10 +30,17 @@ use Rattle.std.proofs.Common.{
 use Rattle.std.specs.List.{filter, find, All}
 use Rattle.std.specs.Option.{option_or}
 use Rattle.std.proofs.lemmas.Bool.{cond-true, cond-false, lt-ltb, le-ltb, le-leb, lt-leb, ne_eqb}
-use Rattle.std.proofs.lemmas.List.{append_assoc, append-nil, reverse-append, length-reverse, get_or-reverse}
+use Rattle.std.proofs.lemmas.List.{append_assoc, append-nil, length-append, get_or_append_left, get_or-append-add, reverse-append, length-reverse, get_or-reverse}
 use Rattle.std.proofs.lemmas.List.Elements.{All-head, All-tail, All-weaker, filter-append}
 use Rattle.std.proofs.lemmas.List.Folds.{find-append}
-use Rattle.vm_chunks.specs.Entries.{above, below, with_entry, without, entry_at, at_or_above}
+use Rattle.vm_chunks.specs.Entries.{above, below, with_entry, without, entry_at, at_or_above, highest_below}
+
+-- All elements of two lists pass, so those of each pass.
+pub all_first : {X : Type 0} (P : X → Type 0) (xs ys : List X) → All P (xs ++ ys) → All P xs
+all_first P xs ys a k d w = subst P (get_or_append_left xs ys d k w) (a k d (let n = length-append xs ys in omega arith))
+
+pub all_second : {X : Type 0} (P : X → Type 0) (xs ys : List X) → All P (xs ++ ys) → All P ys
+all_second P xs ys a k d w = subst P (get_or-append-add xs ys k d) (a (length xs + k) d (let n = length-append xs ys in omega arith))
 
 -- A test that each element passes keeps all.
 pub filter_all : {X : Type 0} (test : X → Bool) (xs : List X) → All (λ x. test x ≡ true) xs → filter test xs ≡ xs
@@ -158,3 +166,23 @@ from_last key t pre c l high =
     ∙ find-append test (reverse c) (reverse pre)
     ∙ first_passes test (reverse c) (find test (reverse pre)) (omega arith)
     (All-weaker (λ x. t < key x) (λ x. test x ≡ true) (λ x h. le-leb _ _ (omega (arith, h))) (reverse c) (All-reverse (λ x. t < key x) c high))
+
+-- The highest entry below the key is in the middle part, or after it.
+pub under_in : {X : Type 0} (key : X → ℕ) (t : ℕ) (pre c post : List X) → All (λ x. t < key x) pre →
+    highest_below key t (pre ++ (c ++ post)) ≡ option_or (highest_below key t c) (highest_below key t post)
+unfolding highest_below
+under_in key t pre c post high =
+    let test : _ → Bool = λ x. nat_lt (key x) t in
+    find-append test pre (c ++ post)
+    ∙ ap (λ o. option_or o (find test (c ++ post)))
+    (find_fails test pre (All-weaker (λ x. t < key x) (λ x. test x ≡ false) (λ x h. le-ltb _ _ (omega (arith, h))) pre high))
+    ∙ find-append test c post
+
+-- It is in the first part if that has entries, all with lower keys.
+pub under_first : {X : Type 0} (key : X → ℕ) (t : ℕ) (c post : List X) → 0 < length c → All (λ x. key x < t) c →
+    highest_below key t (c ++ post) ≡ highest_below key t c
+unfolding highest_below
+under_first key t c post l low =
+    let test : _ → Bool = λ x. nat_lt (key x) t in
+    find-append test c post
+    ∙ first_passes test c (find test post) l (All-weaker (λ x. key x < t) (λ x. test x ≡ true) (λ x h. lt-ltb _ _ h) c low)

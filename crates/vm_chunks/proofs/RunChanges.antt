@@ -1,5 +1,5 @@
 -- The runs after an id is added.
-use Rattle.std.proofs.Common.{◌≡◌, ℕ, ◌+◌, ◌-◌, ◌<◌, ◌≤◌, false, ◌||◌, eqb, List, [], ◌∷◌, ◌++◌, length, nat_eq, sym, ap, ◌∙◌, subst, refl, arith, inl, inr, Some, None, Result, Ok, Err, OnErr}
+use Rattle.std.proofs.Common.{◌≡◌, ℕ, ◌+◌, ◌-◌, ◌<◌, ◌≤◌, false, ◌||◌, eqb, List, [], ◌∷◌, ◌++◌, length, nat_eq, sym, ap, ◌∙◌, subst, refl, arith, inl, inr, Option, Some, None, IfSome, IfNone, Result, Ok, Err, OnErr}
 use Rattle.std.proofs.lemmas.Bool.{cond-true, eq-eqb, le-ltb}
 use Rattle.std.proofs.lemmas.List.{append_assoc, append-nil, length-append}
 use Rattle.std.proofs.lemmas.List.FromFn.{length-range_with_len}
@@ -10,7 +10,7 @@ use Rattle.std.specs.Ordering.{nat_cmp}
 use Rattle.std.specs.BTreeSet.{contains}
 use Rattle.std.specs.Option.{is_some, IsSome}
 use Rattle.vm_chunks.specs.declared.id_set.Run.{Run}
-use Rattle.vm_chunks.specs.Entries.{above, below, with_entry, without, entry_at}
+use Rattle.vm_chunks.specs.Entries.{above, below, with_entry, without, without_some, entry_at}
 use Rattle.vm_chunks.specs.Runs.{RUNS_END, ids_of_run, ids_of_runs, AreRuns, lowest_of, Joins, Puts}
 use Rattle.vm_chunks.proofs.Middles.{entry_in, with_in, with_nothing, without_in}
 use Rattle.vm_chunks.proofs.Runs.{
@@ -221,6 +221,12 @@ module _ (id : ℕ) (rs : List Run) (run : Run) (a : AreRuns RUNS_END rs) (j : J
             let old = ap count_of j.parts in
             omega (arith, all, high, low, old, count_parts j.upper (run ∷ j.lower), count_more run j.lower, run_count);
       })
+
+  -- The run that ends right below the id is taken out if there is one.
+  pub puts_without : (gone : Option ℕ) → IfSome gone (λ k. (run.first < id) × (k ≡ id - 1)) → IfNone gone (id ≤ run.first) → (new : List Run) →
+      new ≡ without_some key_of gone (with_entry key_of run rs) → Puts id rs new
+  puts_without None s n new e = puts new (e ∙ keep_parts n)
+  puts_without (Some k) s n new e = puts new (e ∙ ap (λ k. without key_of k (with_entry key_of run rs)) s.1 ∙ drop_parts s.0)
 
 -- What is true is true on an error.
 pub on_err : {T E : Type 0} (P : Type 0) (r : Result T E) → P → OnErr r P

@@ -1,23 +1,33 @@
 -- The run that an id and the runs next to it become.
-use Rattle.std.proofs.Common.{◌≡◌, ◌≢◌, ℕ, ◌+◌, ◌-◌, ◌<◌, List, [], ◌∷◌, ◌++◌, nat_eq, sym, ap, ◌∙◌, subst, refl, arith, inl, inr, Some, None, false}
-use Rattle.std.proofs.lemmas.Bool.{cases_eq, cases_lt, cond-true, eq-eqb, ne_eqb, true≢false}
+use Rattle.std.proofs.Common.{◌≡◌, ◌≢◌, ℕ, ◌+◌, ◌-◌, ◌<◌, ◌⊎◌, List, [], ◌∷◌, ◌++◌, sym, ap, ◌∙◌, subst, refl, arith, inl, inr, Option, Some, None}
+use Rattle.std.proofs.lemmas.Bool.{cases_lt, cond-true, cond-false, lt-ltb, le-ltb, true≢false}
 use Rattle.std.proofs.lemmas.Option.{same_Some}
 use Rattle.std.proofs.lemmas.List.{append_assoc, append-nil}
 use Rattle.std.specs.List.{All}
 use Rattle.std.specs.Option.{is_some}
 use Rattle.vm_chunks.specs.declared.id_set.Run.{Run}
-use Rattle.vm_chunks.specs.Entries.{entry_at, at_or_above}
-use Rattle.vm_chunks.specs.Runs.{RUNS_END, AreRuns, lowest_of, JoinsAbove, Joins}
-use Rattle.vm_chunks.proofs.Middles.{entry_in, find_fails}
-use Rattle.vm_chunks.proofs.Runs.{key_of, upper_runs, all_above, all_below, none_contained, found_near}
-use Rattle.std.proofs.lemmas.List.Elements.{All-weaker, All-nil}
+use Rattle.vm_chunks.specs.Entries.{at_or_above, highest_below}
+use Rattle.vm_chunks.specs.Runs.{RUNS_END, AreRuns, lowest_of, Joins}
+use Rattle.vm_chunks.proofs.Middles.{under_in}
+use Rattle.vm_chunks.proofs.Runs.{key_of, upper_runs, all_above, none_contained, found_near}
+
+-- `upper` are above an id, `high` has the run that begins right above it, if there is one, and `rest` end below the id. The id
+-- and that run end at `last`.
+pub record JoinsAbove (id last : ℕ) (rs : List Run) : Type 0 where
+  pub upper : List Run
+  pub high : List Run
+  pub rest : List Run
+  pub parts : rs ≡ upper ++ (high ++ rest)
+  pub joins : ((high ≡ []) × (last ≡ id)) ⊎ ((r : Run) × (high ≡ r ∷ []) × (id + 1 ≡ r.first) × (last ≡ r.last))
+  pub apart : last + 1 < lowest_of RUNS_END upper
+  pub low : AreRuns (id + 1) rest
 
 pub lowest_last : (end : ℕ) (us : List Run) (r : Run) → lowest_of end (us ++ r ∷ []) ≡ r.first
 lowest_last end [] r = refl
 lowest_last end (u ∷ us) r = lowest_last u.first us r
 
 module _ (id : ℕ) (rs : List Run) (a : AreRuns RUNS_END rs) where
-  pub none_above_id : id + 1 < RUNS_END → None ≡ at_or_above key_of id rs → JoinsAbove id id rs
+  none_above_id : id + 1 < RUNS_END → None ≡ at_or_above key_of id rs → JoinsAbove id id rs
   none_above_id l e = record {
     upper = [];
     high = [];
@@ -29,7 +39,7 @@ module _ (id : ℕ) (rs : List Run) (a : AreRuns RUNS_END rs) where
   }
 
   module _ (r : Run) (e : Some r ≡ at_or_above key_of id rs) (l : id < r.first) where
-    pub next_above_id : r.first - 1 ≡ id → JoinsAbove id r.last rs
+    next_above_id : r.first - 1 ≡ id → JoinsAbove id r.last rs
     next_above_id s =
         let f = found_near id rs RUNS_END a r e in
         let n = f.0 in
@@ -43,7 +53,7 @@ module _ (id : ℕ) (rs : List Run) (a : AreRuns RUNS_END rs) where
           low = n.passed;
         }) (omega (arith, s, l))
 
-    pub far_above_id : r.first - 1 ≢ id → JoinsAbove id id rs
+    far_above_id : r.first - 1 ≢ id → JoinsAbove id id rs
     far_above_id s =
         let f = found_near id rs RUNS_END a r e in
         let n = f.0 in
@@ -57,73 +67,65 @@ module _ (id : ℕ) (rs : List Run) (a : AreRuns RUNS_END rs) where
           low = n.passed;
         }) (omega (arith, s, l))
 
+  module _ (last : ℕ) (o : Option Run) (above : o ≡ at_or_above key_of id rs) where
+    pub joins_above_none : id + 1 < RUNS_END → o ≡ None → last ≡ id → JoinsAbove id last rs
+    joins_above_none l e is = subst (λ last. JoinsAbove id last rs) (sym is) (none_above_id l (sym e ∙ above))
+
+    module _ (r s : Run) (e : o ≡ Some r) (f : o ≡ Some s) (l : id < r.first) where
+      higher : id < s.first
+      higher = subst (λ (r : Run). id < r.first) (same_Some r s (sym e ∙ f)) l
+
+      pub joins_above_next : s.first - 1 ≡ id → last ≡ s.last → JoinsAbove id last rs
+      joins_above_next n is = subst (λ last. JoinsAbove id last rs) (sym is) (next_above_id s (sym f ∙ above) higher n)
+
+      pub joins_above_far : s.first - 1 ≢ id → last ≡ id → JoinsAbove id last rs
+      joins_above_far n is = subst (λ last. JoinsAbove id last rs) (sym is) (far_above_id s (sym f ∙ above) higher n)
+
 -- ---- The run that ends right below the id
-no_entry : (k : ℕ) (rs : List Run) → AreRuns (k + 1) rs → entry_at key_of k rs ≡ None
-unfolding entry_at
-no_entry k rs a =
-    find_fails (λ r. nat_eq (key_of r) k) rs
-    (All-weaker (λ (r : Run). r.last < k) (λ r. nat_eq (key_of r) k ≡ false) (λ r l. ne_eqb _ _ (λ e. omega arith)) rs (all_below (k + 1) k rs a (omega arith)))
-
-low_entry : (k : ℕ) (r : Run) (rs : List Run) → AreRuns (k + 2) (r ∷ rs) → r.last ≡ k → entry_at key_of k (r ∷ rs) ≡ Some r
-unfolding entry_at
-low_entry k r rs a e = cond-true (nat_eq r.last k) _ _ (eq-eqb _ _ e)
-
-low_other : (k : ℕ) (r : Run) (rs : List Run) → AreRuns (k + 2) (r ∷ rs) → r.last ≢ k → AreRuns (k + 1) (r ∷ rs)
-low_other k r rs a n = (a.0, omega (arith, a.1, n), a.2)
-
-low_some : (k : ℕ) (rs : List Run) (r : Run) → AreRuns (k + 2) rs → Some r ≡ entry_at key_of k rs →
-    (ls : List Run) × (rs ≡ r ∷ ls) × (r.last ≡ k) × AreRuns r.first ls
-low_some k [] r a e = absurd (true≢false (ap is_some (e ∙ no_entry k [] tt)))
-low_some k (s ∷ rs) r a e =
-    elim (cases_eq s.last k) [
-      | inl q ↦ (
-          let same : s ≡ r = same_Some s r (sym (low_entry k s rs a q) ∙ sym e) in
-          (rs, ap (λ (s : Run). s ∷ rs) same, subst (λ (s : Run). s.last ≡ k) same q, subst (λ (s : Run). AreRuns s.first rs) same a.2))
-      | inr q ↦ absurd (true≢false (ap is_some (e ∙ no_entry k (s ∷ rs) (low_other k s rs a q))))
+-- The highest run below an id ends below it.
+pub ends_below : (id : ℕ) (rs : List Run) (r : Run) → Some r ≡ highest_below key_of id rs → r.last < id
+unfolding highest_below
+ends_below id [] r e = absurd (true≢false (ap is_some e))
+ends_below id (s ∷ rs) r e =
+    elim (cases_lt s.last id) [
+      | inl l ↦ (
+          let same : s ≡ r = same_Some s r (sym (cond-true _ _ _ (lt-ltb _ _ l)) ∙ sym e) in
+          subst (λ (r : Run). r.last < id) same l)
+      | inr l ↦ ends_below id rs r (e ∙ cond-false _ _ _ (le-ltb _ _ l))
     ]
 
-low_none : (k : ℕ) (rs : List Run) → AreRuns (k + 2) rs → None ≡ entry_at key_of k rs → AreRuns (k + 1) rs
-low_none k [] a e = tt
-low_none k (s ∷ rs) a e =
-    elim (cases_eq s.last k) [
-      | inl q ↦ absurd (true≢false (sym (ap is_some (e ∙ low_entry k s rs a q))))
-      | inr q ↦ low_other k s rs a q
-    ]
+-- It is the first of the runs that end below the id.
+first_below : (id : ℕ) (s : Run) (rs : List Run) → AreRuns (id + 1) (s ∷ rs) → highest_below key_of id (s ∷ rs) ≡ Some s
+unfolding highest_below
+first_below id s rs a = let l : s.last < id = omega (arith, a.1) in cond-true _ _ _ (lt-ltb _ _ l)
+
+low_some : (id : ℕ) (rs : List Run) (r : Run) → AreRuns (id + 1) rs → Some r ≡ highest_below key_of id rs → (ls : List Run) × (rs ≡ r ∷ ls)
+unfolding highest_below
+low_some id [] r a e = absurd (true≢false (ap is_some e))
+low_some id (s ∷ rs) r a e = (rs, ap (λ (s : Run). s ∷ rs) (same_Some s r (sym (first_below id s rs a) ∙ sym e)))
+
+low_none : (id : ℕ) (rs : List Run) → AreRuns (id + 1) rs → None ≡ highest_below key_of id rs → AreRuns id rs
+low_none id [] a e = tt
+low_none id (s ∷ rs) a e = absurd (true≢false (sym (ap is_some (e ∙ first_below id s rs a))))
 
 module _ (id : ℕ) (rs : List Run) (a : AreRuns RUNS_END rs) (last : ℕ) (b : JoinsAbove id last rs) where
-  high_all : (k : ℕ) → k < id → All (λ r. k < r.last) (b.upper ++ b.high)
-  high_all k l =
+  high_all : All (λ r. id < r.last) (b.upper ++ b.high)
+  high_all =
       let all : AreRuns RUNS_END ((b.upper ++ b.high) ++ b.rest) = subst (AreRuns RUNS_END) (b.parts ∙ sym (append_assoc b.upper b.high b.rest)) a in
-      all_above RUNS_END k (b.upper ++ b.high) (upper_runs RUNS_END (b.upper ++ b.high) b.rest all) (elim b.joins [
+      all_above RUNS_END id (b.upper ++ b.high) (upper_runs RUNS_END (b.upper ++ b.high) b.rest all) (elim b.joins [
         | inl j ↦ (
             let e = ap (λ h. lowest_of RUNS_END (b.upper ++ h)) j.0 ∙ ap (λ l. lowest_of RUNS_END l) (append-nil b.upper) in
-            omega (arith, e, b.apart, j.1, l))
+            omega (arith, e, b.apart, j.1))
         | inr j ↦ (
             let e = ap (λ h. lowest_of RUNS_END (b.upper ++ h)) j.1 ∙ lowest_last RUNS_END b.upper j.0 in
-            omega (arith, e, j.2, l))
+            omega (arith, e, j.2))
       ])
 
-  rest_entry : (k : ℕ) → k < id → entry_at key_of k rs ≡ entry_at key_of k b.rest
-  rest_entry k l =
-      ap (λ l. entry_at key_of k l) (b.parts ∙ sym (append_assoc b.upper b.high b.rest)
-      ∙ ap (λ l. (b.upper ++ b.high) ++ l) (sym (append-nil b.rest)))
-      ∙ entry_in key_of k (b.upper ++ b.high) b.rest [] (high_all k l) (All-nil (λ r. r.last < k))
-
-  pub joins_lower : (r : Run) → 0 < id → Some r ≡ entry_at key_of (id - 1) rs → Joins id rs (record { first = r.first; last = last })
-  joins_lower r l e =
-      let same : id - 1 + 2 ≡ id + 1 = omega arith in
-      let s = low_some (id - 1) b.rest r (subst (λ e. AreRuns e b.rest) (sym same) b.low) (e ∙ rest_entry (id - 1) (omega arith)) in
-      record {
-        upper = b.upper;
-        high = b.high;
-        low = r ∷ [];
-        lower = s.0;
-        parts = b.parts ∙ ap (λ l. b.upper ++ (b.high ++ l)) s.1;
-        last = b.joins;
-        first = inr (r, refl, omega (arith, s.2, l), refl);
-        above = b.apart;
-        below = s.3;
-      }
+  rest_below : highest_below key_of id rs ≡ highest_below key_of id b.rest
+  unfolding highest_below
+  rest_below =
+      ap (λ l. highest_below key_of id l) (b.parts ∙ sym (append_assoc b.upper b.high b.rest))
+      ∙ under_in key_of id (b.upper ++ b.high) [] b.rest high_all
 
   none_lower : AreRuns id b.rest → Joins id rs (record { first = id; last = last })
   none_lower r = record {
@@ -138,25 +140,28 @@ module _ (id : ℕ) (rs : List Run) (a : AreRuns RUNS_END rs) (last : ℕ) (b : 
     below = r;
   }
 
-  pub joins_none : 0 < id → None ≡ entry_at key_of (id - 1) rs → Joins id rs (record { first = id; last = last })
-  joins_none l e =
-      let same : id - 1 + 2 ≡ id + 1 = omega arith in
-      let next : id - 1 + 1 ≡ id = omega arith in
-      none_lower (subst (λ e. AreRuns e b.rest) next
-      (low_none (id - 1) b.rest (subst (λ e. AreRuns e b.rest) (sym same) b.low) (e ∙ rest_entry (id - 1) (omega arith))))
+  module _ (r : Run) (e : Some r ≡ highest_below key_of id rs) where
+    low_parts : (ls : List Run) × (b.rest ≡ r ∷ ls)
+    low_parts = low_some id b.rest r b.low (e ∙ rest_below)
 
-  pub joins_first : id ≡ 0 → Joins id rs (record { first = id; last = last })
-  joins_first z = none_lower (none b.rest b.low)
-    where
-      none : (rs : List Run) → AreRuns (id + 1) rs → AreRuns id rs
-      none [] a = tt
-      none (r ∷ rs) a = absurd (omega (arith, a.1, z))
+    low_runs : AreRuns (id + 1) (r ∷ low_parts.0)
+    low_runs = subst (AreRuns (id + 1)) low_parts.1 b.low
 
--- ---- An id alone, with no run next to it
-pub joins_alone : (id : ℕ) (rs : List Run) → AreRuns RUNS_END rs → JoinsAbove id id rs → ((k : ℕ) → k + 1 ≡ id → entry_at key_of k rs ≡ None) →
-    Joins id rs (record { first = id; last = id })
-joins_alone id rs a b n =
-    elim (cases_lt 0 id) [
-      | inl l ↦ joins_none id rs a id b l (sym (n (id - 1) (omega (arith, l))))
-      | inr z ↦ joins_first id rs a id b (omega (arith, z))
-    ]
+    pub joins_lower : r.last + 1 ≡ id → Joins id rs (record { first = r.first; last = last })
+    joins_lower s = record {
+      upper = b.upper;
+      high = b.high;
+      low = r ∷ [];
+      lower = low_parts.0;
+      parts = b.parts ∙ ap (λ l. b.upper ++ (b.high ++ l)) low_parts.1;
+      last = b.joins;
+      first = inr (r, refl, s, refl);
+      above = b.apart;
+      below = low_runs.2;
+    }
+
+    pub joins_apart : r.last + 1 ≢ id → Joins id rs (record { first = id; last = last })
+    joins_apart n = none_lower (subst (AreRuns id) (sym low_parts.1) (low_runs.0, omega (arith, low_runs.1, n), low_runs.2))
+
+  pub joins_none : None ≡ highest_below key_of id rs → Joins id rs (record { first = id; last = last })
+  joins_none e = none_lower (low_none id b.rest b.low (e ∙ rest_below))

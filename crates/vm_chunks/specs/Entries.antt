@@ -11,6 +11,10 @@ IsDescendingBy {X} key xs =
 abbrev pub IsKeyOf : {X : Type 0} → (X → ℕ) → ℕ → ℕ → List X → Type 0
 IsKeyOf {X} key b k xs = (d : X) → b ≡ key (slice_index_or xs k d)
 
+-- An entry has the key t.
+abbrev pub HasKey : {X : Type 0} → (X → ℕ) → ℕ → List X → Type 0
+HasKey key t xs = (k : ℕ) × (k < length xs) × IsKeyOf key t k xs
+
 -- The first n entries have keys above t, and the others have not.
 pub record IsPlace {X : Type 0} (key : X → ℕ) (t n : ℕ) (xs : List X) : Type 0 where
   pub bound : n ≤ length xs
@@ -47,11 +51,11 @@ entry_at key t xs = find (λ x. nat_eq (key x) t) xs
 unfoldable pub at_or_above : {X : Type 0} → (X → ℕ) → ℕ → List X → Option X
 at_or_above key t xs = find (λ x. nat_le t (key x)) (reverse xs)
 
--- The entry e has the lowest key from t on, and no entry has the key below t.
-pub record IsGap {X : Type 0} (key : X → ℕ) (t : ℕ) (e : X) (xs : List X) : Type 0 where
-  pub above : Some e ≡ at_or_above key t xs
-  pub below : (k : ℕ) → k + 1 ≡ t → entry_at key k xs ≡ None
+-- The entry with the highest key below t, if there is one.
+unfoldable pub highest_below : {X : Type 0} → (X → ℕ) → ℕ → List X → Option X
+highest_below key t xs = find (λ x. nat_lt (key x) t) xs
 
--- The entry at k has a key below the one below t.
-abbrev pub IsLower : {X : Type 0} → (X → ℕ) → ℕ → ℕ → List X → Type 0
-IsLower {X} key t k xs = (k < length xs) × ((d : X) → key (slice_index_or xs k d) + 1 < t)
+-- The list without the entry with the key in k, if k has one.
+abbrev pub without_some : {X : Type 0} → (X → ℕ) → Option ℕ → List X → List X
+without_some key None xs = xs
+without_some key (Some t) xs = without key t xs

@@ -53,18 +53,8 @@ pub record IsInside (id : ℕ) (ids : BTreeSet ℕ) : Type 0 where
   pub own : IsTrue (contains nat_cmp ids id)
   pub above : IsTrue (contains nat_cmp ids (id + 1))
 
--- Of the runs, `upper` are above an id, `high` is the run that begins right above it, if there is one, and `rest` end
--- below the id. The id and that run end at `last`. Only private functions cite this definition and the next.
-pub record JoinsAbove (id last : ℕ) (rs : List Run) : Type 0 where
-  pub upper : List Run
-  pub high : List Run
-  pub rest : List Run
-  pub parts : rs ≡ upper ++ (high ++ rest)
-  pub joins : ((high ≡ []) × (last ≡ id)) ⊎ ((r : Run) × (high ≡ r ∷ []) × (id + 1 ≡ r.first) × (last ≡ r.last))
-  pub apart : last + 1 < lowest_of RUNS_END upper
-  pub low : AreRuns (id + 1) rest
-
--- The same, and `low` is the run that ends right below the id, if there is one. The id and both runs become `run`.
+-- An id and the runs next to it become `run`. `high` has the run that begins right above the id, if there is one, and `low` the
+-- run that ends right below it. `upper` are above these runs, and `lower` below. Only private functions cite it.
 pub record Joins (id : ℕ) (rs : List Run) (run : Run) : Type 0 where
   pub upper : List Run
   pub high : List Run

@@ -24,9 +24,19 @@ ghost use Rattle.std.specs.Prelude.{
   vec_capacity,
 };
 ghost use Rattle.std.specs.List.{All};
-ghost use Rattle.vm_chunks.specs.Entries.{IsGap, IsLower, IsDescendingBy, below, with_entry, without, entry_at, at_or_above};
+ghost use Rattle.vm_chunks.specs.Entries.{
+  HasKey,
+  IsDescendingBy,
+  below,
+  with_entry,
+  without,
+  without_some,
+  entry_at,
+  at_or_above,
+  highest_below,
+};
 
-use crate::{Entry, place, place_from};
+use crate::{Entry, has_key, is_place, place, place_from};
 use std::alloc::{AllocError, Global};
 use std::marker::Model;
 
@@ -101,18 +111,6 @@ impl<E: Entry> Chunk<E> {
         None
     }
 
-    /// Returns the entry with the lowest key that is at least this one, if there is one.
-    pub fn at_or_above(&self, key: u64) -> Option<E>
-        requires { IsDescendingBy E.key_of self.now }
-        ensures { result ≡ at_or_above E.key_of key self.now }
-    {
-        let count = place_from(self.entries.as_slice(), key);
-        if count == 0 {
-            return None;
-        }
-        Some(self.entries[count - 1])
-    }
-
     /// Replaces the entry with the key of this one. It does not allocate.
     pub fn set(&mut self, entry: E)
         requires order { IsDescendingBy E.key_of self.old }
@@ -149,37 +147,51 @@ impl<E: Entry> Chunk<E> {
         };
     }
 
-    /// Returns the place of a key between two entries, and the entry above. Returns `None` if the chunk has none there, or
-    /// if the key below has an entry.
-    pub fn gap(&self, key: u64) -> Option<(usize, E)>
+    /// Returns the number of entries whose keys are at least this one, and the entries next to the key.
+    pub fn gap(&self, key: u64) -> (usize, Option<E>, Option<E>)
         requires { IsDescendingBy E.key_of self.now }
-        ensures gap { IfSome result (λ gap. IsGap E.key_of key gap.1 self.now) }
-        ensures lower { IfSome result (λ gap. IsLower E.key_of key gap.0 self.now) }
+        ensures above { result.1 ≡ at_or_above E.key_of key self.now }
+        ensures below { result.2 ≡ highest_below E.key_of key self.now }
     {
         let entries = self.entries.as_slice();
         let at = place_from(entries, key);
-        if at == 0 || at >= entries.len() || key - entries[at].key() == 1 {
-            return None;
-        }
-        Some((at, entries[at - 1]))
+        let above = if at > 0 { Some(entries[at - 1]) } else { None };
+        let below = if at < entries.len() { Some(entries[at]) } else { None };
+        (at, above, below)
     }
 
-    /// Inserts an entry with a new key before the one at `at`, and returns `true`. Returns `false` and changes nothing if this
-    /// is not its place, or if the chunk is full. It does not allocate.
-    pub fn insert_at(&mut self, at: usize, entry: E) -> bool
-        requires order { IsDescendingBy E.key_of self.old }
-        requires new { entry_at E.key_of (E.key_of entry) self.old ≡ None }
-        ensures inserted { IsTrue result → self.new ≡ with_entry E.key_of entry self.old }
+    /// Puts an entry before or over the one at `at`, or over the one before it, and removes the next entry, which has the
+    /// key `gone`. Returns `false` and changes nothing if this is not their place, or if the chunk is full. It does not
+    /// allocate.
+    pub fn put_at(&mut self, at: usize, entry: E, gone: Option<u64>) -> bool
+        requires { IsDescendingBy E.key_of self.old }
+        ensures put { IsTrue result → self.new ≡ without_some E.key_of gone (with_entry E.key_of entry self.old) }
+        ensures gone { IsTrue result → IfSome gone (λ k. HasKey E.key_of k self.old) }
         ensures unchanged { result ≡ false → self.new ≡ self.old }
     {
-        let (key, len) = (entry.key(), self.entries.len());
-        if at > len || len >= MAX_ENTRIES {
+        let key = entry.key();
+        let entries = self.entries.as_slice();
+        let at = at - usize::from(at > 0 && has_key(entries, at - 1, key));
+        if !is_place(entries, at, key) {
             return false;
         }
-        if at > 0 && self.entries[at - 1].key() <= key {
-            return false;
+        let is_known = has_key(entries, at, key);
+        if let Some(gone) = gone {
+            let next = at + usize::from(is_known);
+            if !has_key(entries, next, gone) {
+                return false;
+            }
+            self.entries[at] = entry;
+            if is_known {
+                self.entries.remove(next);
+            }
+            return true;
         }
-        if at < len && self.entries[at].key() >= key {
+        if is_known {
+            self.entries[at] = entry;
+            return true;
+        }
+        if entries.len() >= MAX_ENTRIES {
             return false;
         }
         let Ok(()) = self.entries.insert(at, entry) else {

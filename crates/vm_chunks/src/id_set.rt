@@ -31,7 +31,6 @@ ghost use Rattle.vm_chunks.specs.Runs.{
   Removes,
   IsLowestFrom,
   HasNoneFrom,
-  JoinsAbove,
   Joins,
   Puts,
   IsInside,
@@ -41,7 +40,7 @@ ghost use Rattle.vm_chunks.specs.Runs.{
 };
 
 use crate::Entry;
-use crate::chunks::Chunks;
+use crate::chunks::{Chunks, Gap};
 use crate::iter::Iter;
 use std::alloc::{AllocError, Global};
 use std::marker::Model;
@@ -159,14 +158,11 @@ impl IdSet {
         ensures unchanged { OnErr result (self.new ≡ self.old) }
         ensures memory { OnErr result (contains nat_cmp self.old id ≡ false) }
     {
-        if put_alone(&mut self.runs, id) {
-            self.count += 1;
-            return Ok(true);
-        }
-        let Some(run) = joined(&self.runs, id) else {
+        let Some((gap, run)) = joined(&self.runs, id) else {
             return Ok(false);
         };
-        put_joined(&mut self.runs, self.alloc, id, run)?;
+        let gone = run_below(id, run);
+        self.runs.put(self.alloc, gap, run, gone)?;
         self.count += 1;
         Ok(true)
     }
@@ -232,83 +228,34 @@ fn same_runs(mut a: Iter<'_, Run>, mut b: Iter<'_, Run>) -> bool
     b.next().is_none()
 }
 
-/// Puts a run of an id alone between two runs of a chunk, and returns `true`. Returns `false` and changes nothing if a run
-/// next to it has the id or joins it, or if the chunk has no room. It searches once.
-fn put_alone(runs: &mut Chunks<Run>, id: u32) -> bool
-    requires { AreRuns RUNS_END runs.old }
-    ensures put { IsTrue result → Puts id runs.old runs.new }
-    ensures fresh { IsTrue result → contains nat_cmp (record { keys = ids_of_runs runs.old }) id ≡ false }
-    ensures unchanged { result ≡ false → runs.new ≡ runs.old }
-{
-    let Some(gap) = runs.gap(id.into()) else {
-        return false;
-    };
-    if gap.above.first <= id || gap.above.first - 1 == id {
-        return false;
-    }
-    let run = Run {
-        first: id,
-        last: id,
-    };
-    runs.insert_at(gap, run)
-}
-
-/// Returns the run of an id and of the runs next to it, or `None` if a run has the id.
-fn joined(runs: &Chunks<Run>, id: u32) -> Option<Run>
+/// Returns the gap of an id, and the run of the id and of the runs next to it. Returns `None` if a run has the id.
+fn joined(runs: &Chunks<Run>, id: u32) -> Option<(Gap<Run>, Run)>
     requires { AreRuns RUNS_END runs.now }
     ensures none { IfNone result (IsTrue (contains nat_cmp (record { keys = ids_of_runs runs.now }) id)) }
-    ensures some { IfSome result (λ run. Joins id runs.now run) }
+    ensures some { IfSome result (λ joined. Joins id runs.now joined.1) }
 {
-    let last = last_joined(runs, id)?;
-    let first = first_joined(runs, id);
-    Some(Run { first, last })
+    let gap = runs.gap(id.into());
+    let last = match gap.above {
+        Some(run) if run.first <= id => return None,
+        Some(run) if run.first - 1 == id => run.last,
+        _ => id,
+    };
+    let first = match gap.below {
+        Some(run) if run.last + 1 == id => run.first,
+        _ => id,
+    };
+    Some((gap, Run { first, last }))
 }
 
-/// Returns the last id of the run that begins right above an id, or the id if there is none. Returns `None` if a run
-/// has the id.
-fn last_joined(runs: &Chunks<Run>, id: u32) -> Option<u32>
-    requires { AreRuns RUNS_END runs.now }
-    ensures none { IfNone result (IsTrue (contains nat_cmp (record { keys = ids_of_runs runs.now }) id)) }
-    ensures some { IfSome result (λ last. JoinsAbove id last runs.now) }
+/// Returns the key of the run that ends right below an id, if the run of the id joins it.
+fn run_below(id: u32, run: Run) -> Option<u64>
+    ensures some { IfSome result (λ key. (run.first < id) × (key ≡ id - 1)) }
+    ensures none { IfNone result (id ≤ run.first) }
 {
-    match runs.at_or_above(id.into()) {
-        Some(run) if run.first <= id => None,
-        Some(run) if run.first - 1 == id => Some(run.last),
-        _ => Some(id),
-    }
-}
-
-/// Returns the first id of the run that ends right below an id, or the id if there is none.
-fn first_joined(runs: &Chunks<Run>, id: u32) -> u32
-    requires { AreRuns RUNS_END runs.now }
-    ensures { (last : ℕ) → JoinsAbove id last runs.now → Joins id runs.now (record { first = result; last = last }) }
-{
-    if id == 0 {
-        return id;
-    }
-    match runs.get(u64::from(id) - 1) {
-        Some(run) => run.first,
-        None => id,
-    }
-}
-
-/// Puts the run of an id and of the runs next to it in place of these. An error changes nothing.
-fn put_joined(runs: &mut Chunks<Run>, alloc: Global, id: u32, run: Run) -> Result<(), AllocError>
-    requires order { AreRuns RUNS_END runs.old }
-    requires joined { Joins id runs.old run }
-    ensures put { OnOk result (Puts id runs.old runs.new) }
-    ensures fresh { contains nat_cmp (record { keys = ids_of_runs runs.old }) id ≡ false }
-    ensures unchanged { OnErr result (runs.new ≡ runs.old) }
-{
-    if run.last > id {
-        runs.set(run);
-    } else {
-        runs.insert(alloc, run)?;
-    }
     if run.first < id {
-        runs.remove(u64::from(id) - 1);
+        return Some(u64::from(id) - 1);
     }
-    Ok(())
+    None
 }
 
 /// Returns the run that has an id, if there is one.

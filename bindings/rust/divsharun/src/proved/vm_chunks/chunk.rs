@@ -2,7 +2,7 @@
 
 //! A chunk: at most 64 entries, with memory for 64. Only creating it can fail.
 
-use crate::proved::vm_chunks::{place, place_from, Entry};
+use crate::proved::vm_chunks::{has_key, is_place, place, place_from, Entry};
 use crate::rattle::Vec;
 use crate::rattle::{AllocError, Global};
 
@@ -55,15 +55,6 @@ impl<E: Entry> Chunk<E> {
         None
     }
 
-    /// Returns the entry with the lowest key that is at least this one, if there is one.
-    pub(in crate::proved) fn at_or_above(&self, key: u64) -> Option<E> {
-        let count = place_from(self.entries.as_slice(), key);
-        if count == 0 {
-            return None;
-        }
-        Some(self.entries[count - 1])
-    }
-
     /// Replaces the entry with the key of this one. It does not allocate.
     pub(in crate::proved) fn set(&mut self, entry: E) {
         let at = place(self.entries.as_slice(), entry.key());
@@ -85,28 +76,46 @@ impl<E: Entry> Chunk<E> {
         };
     }
 
-    /// Returns the place of a key between two entries, and the entry above. Returns `None` if the chunk has none there, or
-    /// if the key below has an entry.
-    pub(in crate::proved) fn gap(&self, key: u64) -> Option<(usize, E)> {
+    /// Returns the number of entries whose keys are at least this one, and the entries next to the key.
+    pub(in crate::proved) fn gap(&self, key: u64) -> (usize, Option<E>, Option<E>) {
         let entries = self.entries.as_slice();
         let at = place_from(entries, key);
-        if at == 0 || at >= entries.len() || key - entries[at].key() == 1 {
-            return None;
-        }
-        Some((at, entries[at - 1]))
+        let above = if at > 0 { Some(entries[at - 1]) } else { None };
+        let below = if at < entries.len() {
+            Some(entries[at])
+        } else {
+            None
+        };
+        (at, above, below)
     }
 
-    /// Inserts an entry with a new key before the one at `at`, and returns `true`. Returns `false` and changes nothing if this
-    /// is not its place, or if the chunk is full. It does not allocate.
-    pub(in crate::proved) fn insert_at(&mut self, at: usize, entry: E) -> bool {
-        let (key, len) = (entry.key(), self.entries.len());
-        if at > len || len >= MAX_ENTRIES {
+    /// Puts an entry before or over the one at `at`, or over the one before it, and removes the next entry, which has the
+    /// key `gone`. Returns `false` and changes nothing if this is not their place, or if the chunk is full. It does not
+    /// allocate.
+    pub(in crate::proved) fn put_at(&mut self, at: usize, entry: E, gone: Option<u64>) -> bool {
+        let key = entry.key();
+        let entries = self.entries.as_slice();
+        let at = at - usize::from(at > 0 && has_key(entries, at - 1, key));
+        if !is_place(entries, at, key) {
             return false;
         }
-        if at > 0 && self.entries[at - 1].key() <= key {
-            return false;
+        let is_known = has_key(entries, at, key);
+        if let Some(gone) = gone {
+            let next = at + usize::from(is_known);
+            if !has_key(entries, next, gone) {
+                return false;
+            }
+            self.entries[at] = entry;
+            if is_known {
+                self.entries.remove(next);
+            }
+            return true;
         }
-        if at < len && self.entries[at].key() >= key {
+        if is_known {
+            self.entries[at] = entry;
+            return true;
+        }
+        if entries.len() >= MAX_ENTRIES {
             return false;
         }
         let Ok(()) = self.entries.insert(at, entry) else {

@@ -20,13 +20,15 @@ pub(in crate::proved) struct Chunks<E: Entry> {
     count: usize,
 }
 
-/// A place for a key in a chunk, between two entries.
+/// The entries next to a key, and where they are.
 #[derive(Clone, Copy)]
 pub(in crate::proved) struct Gap<E: Entry> {
     chunk: usize,
     at: usize,
-    /// The entry above the place.
-    pub(in crate::proved) above: E,
+    /// The entry with the lowest key that is at least the key.
+    pub(in crate::proved) above: Option<E>,
+    /// The entry with the highest key below the key.
+    pub(in crate::proved) below: Option<E>,
 }
 
 /// Returns the number of bounds above a key.
@@ -34,8 +36,8 @@ fn bounds_above(bounds: &[u64], key: u64) -> usize {
     bounds.partition_point(|bound| *bound > key)
 }
 
-/// Returns `true` if this is the number of bounds above a key, and a bound is not above it.
-fn is_place(bounds: &[u64], key: u64, at: usize) -> bool {
+/// Returns `true` if `at` is the number of bounds above a key, and a bound is not above it.
+fn is_home(bounds: &[u64], at: usize, key: u64) -> bool {
     at < bounds.len() && bounds[at] <= key && (at == 0 || key < bounds[at - 1])
 }
 
@@ -186,15 +188,7 @@ impl<E: Entry> Chunks<E> {
     /// Returns the entry with the lowest key that is at least this one, if there is one. It takes logarithmic
     /// time.
     pub(in crate::proved) fn at_or_above(&self, key: u64) -> Option<E> {
-        let at = bounds_above(self.bounds.as_slice(), key);
-        if at >= self.chunks.len() {
-            return None;
-        }
-        match self.chunks[at].at_or_above(key) {
-            Some(entry) => Some(entry),
-            None if at == 0 => None,
-            None => self.chunks[at - 1].at_or_above(key),
-        }
+        self.gap(key).above
     }
 
     /// Replaces the entry with the key of this one. It does not allocate.
@@ -249,29 +243,74 @@ impl<E: Entry> Chunks<E> {
         Iter::of_chunks(others, chunk)
     }
 
-    /// Returns the place of a key between two entries of a chunk. Returns `None` if no chunk has entries above and below it,
-    /// or if the key below has an entry. It takes logarithmic time.
-    pub(in crate::proved) fn gap(&self, key: u64) -> Option<Gap<E>> {
+    /// Returns the entries next to a key. It takes logarithmic time.
+    pub(in crate::proved) fn gap(&self, key: u64) -> Gap<E> {
         let chunk = bounds_above(self.bounds.as_slice(), key);
-        let (at, above) = self.chunks.get(chunk)?.gap(key)?;
-        Some(Gap { chunk, at, above })
+        let Some(entries) = self.chunks.get(chunk) else {
+            return Gap {
+                chunk,
+                at: 0,
+                above: None,
+                below: None,
+            };
+        };
+        let (at, above, below) = entries.gap(key);
+        let above = match above {
+            None if chunk > 0 => self.chunks[chunk - 1].gap(key).1,
+            _ => above,
+        };
+        let below = match below {
+            None if chunk + 1 < self.chunks.len() => self.chunks[chunk + 1].gap(key).2,
+            _ => below,
+        };
+        Gap {
+            chunk,
+            at,
+            above,
+            below,
+        }
     }
 
-    /// Inserts an entry with a new key at a place, and returns `true`. Returns `false` and changes nothing if the list has no
-    /// room there. It does not allocate.
-    pub(in crate::proved) fn insert_at(&mut self, gap: Gap<E>, entry: E) -> bool {
-        let (key, at) = (entry.key(), gap.chunk);
-        let Some(count) = self.count.checked_add(1) else {
-            return false;
-        };
-        if !is_place(self.bounds.as_slice(), key, at) {
+    /// Puts an entry, which replaces one with its key, and then removes the one with the key `gone`. An error changes
+    /// nothing. It is fast if the entry belongs in the gap, and replaces or removes the entries next to the gap.
+    pub(in crate::proved) fn put(
+        &mut self,
+        alloc: Global,
+        gap: Gap<E>,
+        entry: E,
+        gone: Option<u64>,
+    ) -> Result<(), AllocError> {
+        if self.put_at(gap, entry, gone) {
+            return Ok(());
+        }
+        if self.get(entry.key()).is_some() {
+            self.set(entry);
+        } else {
+            self.insert(alloc, entry)?;
+        }
+        if let Some(gone) = gone {
+            self.remove(gone);
+        }
+        Ok(())
+    }
+
+    /// Puts an entry like `put`, without a search, and returns `true`. Returns `false` and changes nothing if the entries are not those
+    /// next to the gap, or if its chunk is full. It does not allocate.
+    fn put_at(&mut self, gap: Gap<E>, entry: E, gone: Option<u64>) -> bool {
+        if self.count > usize::MAX - MAX_ENTRIES
+            || !is_home(self.bounds.as_slice(), gap.chunk, entry.key())
+        {
             return false;
         }
-        let chunk = &mut self.chunks[at];
-        if !chunk.insert_at(gap.at, entry) {
+        let chunk = &mut self.chunks[gap.chunk];
+        let before = chunk.len();
+        if !chunk.put_at(gap.at, entry, gone) {
             return false;
         }
-        self.count = count;
+        self.count = self.count - before + chunk.len();
+        if gone.is_some() {
+            mend(&mut self.chunks, &mut self.bounds, gap.chunk);
+        }
         true
     }
 

@@ -2,7 +2,7 @@
 
 //! A set of ids as runs of consecutive ids.
 
-use crate::proved::vm_chunks::chunks::Chunks;
+use crate::proved::vm_chunks::chunks::{Chunks, Gap};
 use crate::proved::vm_chunks::iter::Iter;
 use crate::proved::vm_chunks::Entry;
 use crate::rattle::{AllocError, Global};
@@ -82,14 +82,11 @@ impl IdSet {
 
     /// Adds an id, and returns `true`. Returns `false` if the set has it already. An error changes nothing.
     pub(in crate::proved) fn insert(&mut self, id: u32) -> Result<bool, AllocError> {
-        if put_alone(&mut self.runs, id) {
-            self.count += 1;
-            return Ok(true);
-        }
-        let Some(run) = joined(&self.runs, id) else {
+        let Some((gap, run)) = joined(&self.runs, id) else {
             return Ok(false);
         };
-        put_joined(&mut self.runs, self.alloc, id, run)?;
+        let gone = run_below(id, run);
+        self.runs.put(self.alloc, gap, run, gone)?;
         self.count += 1;
         Ok(true)
     }
@@ -139,61 +136,27 @@ fn same_runs(mut a: Iter<'_, Run>, mut b: Iter<'_, Run>) -> bool {
     b.next().is_none()
 }
 
-/// Puts a run of an id alone between two runs of a chunk, and returns `true`. Returns `false` and changes nothing if a run
-/// next to it has the id or joins it, or if the chunk has no room. It searches once.
-fn put_alone(runs: &mut Chunks<Run>, id: u32) -> bool {
-    let Some(gap) = runs.gap(id.into()) else {
-        return false;
+/// Returns the gap of an id, and the run of the id and of the runs next to it. Returns `None` if a run has the id.
+fn joined(runs: &Chunks<Run>, id: u32) -> Option<(Gap<Run>, Run)> {
+    let gap = runs.gap(id.into());
+    let last = match gap.above {
+        Some(run) if run.first <= id => return None,
+        Some(run) if run.first - 1 == id => run.last,
+        _ => id,
     };
-    if gap.above.first <= id || gap.above.first - 1 == id {
-        return false;
-    }
-    let run = Run {
-        first: id,
-        last: id,
+    let first = match gap.below {
+        Some(run) if run.last + 1 == id => run.first,
+        _ => id,
     };
-    runs.insert_at(gap, run)
+    Some((gap, Run { first, last }))
 }
 
-/// Returns the run of an id and of the runs next to it, or `None` if a run has the id.
-fn joined(runs: &Chunks<Run>, id: u32) -> Option<Run> {
-    let last = last_joined(runs, id)?;
-    let first = first_joined(runs, id);
-    Some(Run { first, last })
-}
-
-/// Returns the last id of the run that begins right above an id, or the id if there is none. Returns `None` if a run
-/// has the id.
-fn last_joined(runs: &Chunks<Run>, id: u32) -> Option<u32> {
-    match runs.at_or_above(id.into()) {
-        Some(run) if run.first <= id => None,
-        Some(run) if run.first - 1 == id => Some(run.last),
-        _ => Some(id),
-    }
-}
-
-/// Returns the first id of the run that ends right below an id, or the id if there is none.
-fn first_joined(runs: &Chunks<Run>, id: u32) -> u32 {
-    if id == 0 {
-        return id;
-    }
-    match runs.get(u64::from(id) - 1) {
-        Some(run) => run.first,
-        None => id,
-    }
-}
-
-/// Puts the run of an id and of the runs next to it in place of these. An error changes nothing.
-fn put_joined(runs: &mut Chunks<Run>, alloc: Global, id: u32, run: Run) -> Result<(), AllocError> {
-    if run.last > id {
-        runs.set(run);
-    } else {
-        runs.insert(alloc, run)?;
-    }
+/// Returns the key of the run that ends right below an id, if the run of the id joins it.
+fn run_below(id: u32, run: Run) -> Option<u64> {
     if run.first < id {
-        runs.remove(u64::from(id) - 1);
+        return Some(u64::from(id) - 1);
     }
-    Ok(())
+    None
 }
 
 /// Returns the run that has an id, if there is one.

@@ -1,26 +1,31 @@
-use Rattle.std.proofs.Common.{◌-◌, ◌<◌, length, arith, ◌∙◌}
+use Rattle.std.proofs.Common.{rules, ◌<◌, ◌-◌, length, ◌∙◌, arith}
 use Rattle.std.proofs.lemmas.List.{get_or_read}
-use Rattle.vm_chunks.proofs.Gaps.{chunk_gap, lower_is}
+use Rattle.vm_chunks.proofs.Cuts.{none_from, found_from, none_under, found_under}
 use Rattle.vm_chunks.proofs.chunk.Chunk.gap.Goals as goal
+use Rattle.vm_chunks.proofs.chunk.Chunk.gap.Goals.{then-at-gt0, else-at-gt0, then-at-entries, else-at-entries}
 
-pub returns-clause-gap : goal.returns-clause-gap
-returns-clause-gap g c =
+pub returns-clause-above : goal.returns-clause-above
+returns-clause-above g c =
     let key = g.E.Entry.key_of in
     let seen = c.as_slice-entries.ensures.value ∙ c.self.view_is in
     let p = rw seen at c.place_from-at.ensures in
-    let w = rw seen at c.if-at-entries.false in
-    let l : c.place_from-at.result - 1 < length c.args.self.now = omega (arith, w) in
-    let at = rw seen at c.index-entries-at.is in
-    let low = lower_is key c.args.key c.args.self.now c.place_from-at.result c.index-entries-at.result w p.below at
-    (rw c.key.ensures at c.if-key-eq1.false) in
-    chunk_gap key c.args.key c.args.self.now c.place_from-at.result c.index-entries-at-2.result c.requires p.bound p.from p.below
-    (omega (arith, c.if-at-eq0.false)) w (get_or_read _ _ _ l (rw seen at c.index-entries-at-2.is)) low
+    elim c.if-at-gt0.branch [
+      | then-at-gt0 w ↦ (
+          let l : c.place_from-at.result - 1 < length c.args.self.now = omega (arith, p.bound, w.if-at-gt0.true) in
+          w.above-is ∙ found_from key c.args.key _ _ p.bound p.from p.below w.if-at-gt0.true w.index-entries-at.result
+          (get_or_read _ _ _ l (rw seen at w.index-entries-at.is)))
+      | else-at-gt0 w ↦ w.above-is ∙ none_from key c.args.key _ _ p.bound p.from p.below (omega (arith, w.if-at-gt0.false))
+    ]
 
-pub returns-clause-lower : goal.returns-clause-lower
-returns-clause-lower g c =
+pub returns-clause-below : goal.returns-clause-below
+returns-clause-below g c =
     let key = g.E.Entry.key_of in
     let seen = c.as_slice-entries.ensures.value ∙ c.self.view_is in
     let p = rw seen at c.place_from-at.ensures in
-    let w = rw seen at c.if-at-entries.false in
-    let at = rw seen at c.index-entries-at.is in
-    (w, lower_is key c.args.key c.args.self.now c.place_from-at.result c.index-entries-at.result w p.below at (rw c.key.ensures at c.if-key-eq1.false))
+    elim c.if-at-entries.branch [
+      | then-at-entries w ↦ (
+          let l : c.place_from-at.result < length c.args.self.now = rw seen at w.if-at-entries.true in
+          w.below-is ∙ found_under key c.args.key _ _ p.bound p.from p.below l w.index-entries-at-then-at-entries.result
+          (get_or_read _ _ _ l (rw seen at w.index-entries-at-then-at-entries.is)))
+      | else-at-entries w ↦ w.below-is ∙ none_under key c.args.key _ _ p.bound p.from p.below (rw seen at w.if-at-entries.false)
+    ]

@@ -1,0 +1,92 @@
+-- An entry is put into a chunk, and another is taken out.
+use Rattle.std.proofs.Common.{◌≡◌, ℕ, zero, suc, ◌+◌, ◌-◌, ◌<◌, ◌≤◌, false, inl, inr, List, [], ◌∷◌, ◌++◌, length, get_or, set, take, drop, arith, sym, ap, ◌∙◌, subst, refl, Option, Some, None, IfSome}
+use Rattle.std.specs.Option.{is_some}
+use Rattle.std.proofs.lemmas.Bool.{cases_lt, true≢false}
+use Rattle.std.proofs.lemmas.List.{length-append, length-set, get_or-set_same, get_or_default}
+use Rattle.vm_chunks.specs.Entries.{HasKey, IsPlace, with_entry, without, without_some}
+use Rattle.vm_chunks.specs.Chunks.{TOP, entries_of, AreAllBounded, AreChunks}
+use Rattle.vm_chunks.proofs.Descents.{keys_within}
+use Rattle.vm_chunks.proofs.Homes.{parts, set_parts, bounded, bounds_below, chunk_descends, same_lengths, all_bounds_descend}
+use Rattle.vm_chunks.proofs.Divisions.{put_is, put_entries, taken_bounded, taken_entries}
+use Rattle.vm_chunks.proofs.Gaps.{place_is}
+
+-- A second change at the same place.
+twice : {X : Type 0} (xs : List X) (i : ℕ) (x y : X) → set (set xs i x) i y ≡ set xs i y
+twice [] i x y = refl
+twice (z ∷ xs) zero x y = refl
+twice (z ∷ xs) (suc i) x y = ap (λ l. z ∷ l) (twice xs i x y)
+
+bound_before : (bs : List ℕ) (i : ℕ) (d : ℕ) → 0 < i → get_or (TOP ∷ bs) i d ≡ get_or bs (i - 1) d
+bound_before bs zero d l = absurd (omega (arith, l))
+bound_before bs (suc i) d l = let s : i ≡ suc i - 1 = omega arith in ap (λ k. get_or bs k d) s
+
+-- The number of entries after a change of a chunk.
+pub count_changed : {X : Type 0} (cs : List (List X)) (i : ℕ) (c' d : List X) → i < length cs →
+    length (entries_of (set cs i c')) + length (get_or cs i d) ≡ length (entries_of cs) + length c'
+count_changed cs i c' d l =
+    let pre = entries_of (take i cs) in
+    let post = entries_of (drop (suc i) cs) in
+    let c = get_or cs i d in
+    let old = ap length (parts cs i d l) ∙ length-append pre (c ++ post) in
+    let new = ap length (set_parts cs i c' l) ∙ length-append pre (c' ++ post) in
+    let o = length-append c post in
+    let n = length-append c' post in
+    omega (arith, old, new, o, n)
+
+module _ {X : Type 0} (key : X → ℕ) (cs : List (List X)) (bs : List ℕ) (r : AreChunks key cs bs) (e : X) (i : ℕ) (h : key e < TOP)
+    (p : IsPlace (λ b. b) (key e) i bs) (l : i < length cs) (d : List X) where
+  up_to_top : get_or (TOP ∷ bs) i 0 ≤ TOP
+  up_to_top =
+      let n = same_lengths key cs bs r.bounded in
+      elim (cases_lt 0 i) [
+        | inl f ↦ (
+            let s = bound_before bs i 0 f in
+            let t = bounds_below key TOP cs bs (bounded key cs bs r.bounded (omega (arith, l))) (i - 1) 0 (omega (arith, n, l, f)) in
+            omega (arith, s, t))
+        | inr z ↦ (let s : i ≡ 0 = omega (arith, z) in let t = ap (λ i. get_or (TOP ∷ bs) i 0) s in omega (arith, t))
+      ]
+
+  -- A key of the chunk belongs in it.
+  home_of : (k : ℕ) → HasKey key k (get_or cs i d) → (k < TOP) × IsPlace (λ b. b) k i bs
+  home_of k g =
+      let n = same_lengths key cs bs r.bounded in
+      let b = chunk_descends key TOP cs bs i 0 d (bounded key cs bs r.bounded (omega (arith, l))) l in
+      let q = keys_within key (get_or bs i 0) (get_or (TOP ∷ bs) i 0) (get_or cs i d) b g.0 e g.1 in
+      let is = g.2 e in
+      (omega (arith, q, is, up_to_top), place_is (λ b. b) k bs i (all_bounds_descend key cs bs r.bounded) (omega (arith, n, l))
+      (λ f z. let s = bound_before bs i 0 f in let t = get_or_default bs (i - 1) 0 z (omega (arith, n, l, f)) in omega (arith, q, is, s, t))
+      (λ w z. let t = get_or_default bs i 0 z w in omega (arith, q, is, t)))
+
+  module _ (o : Option ℕ) (g : IfSome o (λ k. HasKey key k (get_or cs i d))) where
+    pub gone_bounded : AreAllBounded key (set cs i (without_some key o (with_entry key e (get_or cs i d)))) bs
+    gone_bounded = of o g
+      where
+        of : (o : Option ℕ) → IfSome o (λ k. HasKey key k (get_or cs i d)) → AreAllBounded key (set cs i (without_some key o (with_entry key e (get_or cs i d)))) bs
+        of None g = (put_is key cs bs r e i h p l d).bounded
+        of (Some k) g =
+            let m = home_of k g in
+            let put = with_entry key e (get_or cs i d) in
+            let n = length-set cs i put in
+            subst (λ (cs : List (List X)). AreAllBounded key cs bs) (twice cs i put (without key k put))
+            (subst (λ c. AreAllBounded key (set (set cs i put) i (without key k c)) bs) (get_or-set_same cs i put d l)
+            (taken_bounded key (set cs i put) bs (put_is key cs bs r e i h p l d).bounded k i m.0 m.1 (omega (arith, n, l)) d))
+
+    pub gone_entries : entries_of (set cs i (without_some key o (with_entry key e (get_or cs i d)))) ≡ without_some key o (with_entry key e (entries_of cs))
+    gone_entries = of o g
+      where
+        of : (o : Option ℕ) → IfSome o (λ k. HasKey key k (get_or cs i d)) →
+            entries_of (set cs i (without_some key o (with_entry key e (get_or cs i d)))) ≡ without_some key o (with_entry key e (entries_of cs))
+        of None g = put_entries key cs bs r e i h p l d
+        of (Some k) g =
+            let m = home_of k g in
+            let put = with_entry key e (get_or cs i d) in
+            let n = length-set cs i put in
+            ap (λ (cs : List (List X)). entries_of cs) (sym (twice cs i put (without key k put)))
+            ∙ ap (λ c. entries_of (set (set cs i put) i (without key k c))) (sym (get_or-set_same cs i put d l))
+            ∙ taken_entries key (set cs i put) bs (put_is key cs bs r e i h p l d).bounded k i m.0 m.1 (omega (arith, n, l)) d
+            ∙ ap (without key k) (put_entries key cs bs r e i h p l d)
+
+  -- Only an entry is put.
+  pub gone_none : (o : Option ℕ) → is_some o ≡ false → AreChunks key (set cs i (without_some key o (with_entry key e (get_or cs i d)))) bs
+  gone_none None s = put_is key cs bs r e i h p l d
+  gone_none (Some k) s = absurd (true≢false s)
