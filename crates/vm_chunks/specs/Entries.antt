@@ -1,5 +1,5 @@
 -- Lists of entries in descending order of their keys.
-use Rattle.std.specs.Prelude.{◌≡◌, ℕ, ◌<◌, ◌≤◌, List, ◌∷◌, ◌++◌, length, slice_index_or, nat_lt, nat_le, nat_eq, Option, Some, None, ◌+◌, reverse}
+use Rattle.std.specs.Prelude.{◌≡◌, ℕ, Bool, [], if◌then◌else◌, ◌<◌, ◌≤◌, List, ◌∷◌, ◌++◌, length, slice_index_or, nat_lt, nat_le, nat_eq, Option, Some, None, ◌+◌, reverse}
 use Rattle.std.specs.List.{filter, find}
 
 -- The keys descend.
@@ -10,6 +10,10 @@ IsDescendingBy {X} key xs =
 -- b is the key of the entry at k.
 abbrev pub IsKeyOf : {X : Type 0} → (X → ℕ) → ℕ → ℕ → List X → Type 0
 IsKeyOf {X} key b k xs = (d : X) → b ≡ key (slice_index_or xs k d)
+
+-- There is no entry at k, or its key is not b.
+abbrev pub IsOtherKeyOf : {X : Type 0} → (X → ℕ) → ℕ → ℕ → List X → Type 0
+IsOtherKeyOf {X} key b k xs = k < length xs → (d : X) → key (slice_index_or xs k d) ≡ b → ⊥
 
 -- An entry has the key t.
 abbrev pub HasKey : {X : Type 0} → (X → ℕ) → ℕ → List X → Type 0
@@ -59,3 +63,8 @@ highest_below key t xs = find (λ x. nat_lt (key x) t) xs
 abbrev pub without_some : {X : Type 0} → (X → ℕ) → Option ℕ → List X → List X
 without_some key None xs = xs
 without_some key (Some t) xs = without key t xs
+
+-- In new, the last entry of old is e if `keep` is true, and gone otherwise.
+abbrev pub ChangesLast : {X : Type 0} → X → Bool → List X → List X → Type 0
+ChangesLast {X} e keep old new =
+    (others : List X) (last : X) → old ≡ others ++ last ∷ [] → new ≡ others ++ (if keep then e ∷ [] else [])

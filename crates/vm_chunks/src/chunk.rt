@@ -25,6 +25,7 @@ ghost use Rattle.std.specs.Prelude.{
 };
 ghost use Rattle.std.specs.List.{All};
 ghost use Rattle.vm_chunks.specs.Entries.{
+  ChangesLast,
   HasKey,
   IsDescendingBy,
   below,
@@ -160,9 +161,10 @@ impl<E: Entry> Chunk<E> {
         (at, above, below)
     }
 
-    /// Puts an entry before or over the one at `at`, or over the one before it, and removes the next entry, which has the
-    /// key `gone`. Returns `false` and changes nothing if this is not their place, or if the chunk is full. It does not
-    /// allocate.
+    /// Puts an entry before the one at `at`, or over the one with its key there or before it. Then removes the next
+    /// entry, if that has the key `gone`. Returns `false` and changes nothing if this is not their place, or if the chunk
+    /// is full. It does not allocate.
+    #[inline(always)]
     pub fn put_at(&mut self, at: usize, entry: E, gone: Option<u64>) -> bool
         requires { IsDescendingBy E.key_of self.old }
         ensures put { IsTrue result → self.new ≡ without_some E.key_of gone (with_entry E.key_of entry self.old) }
@@ -220,7 +222,7 @@ impl<E: Entry> Chunk<E> {
     /// Replaces the lowest entry if `keep` is true, and removes it otherwise. It does not allocate.
     pub fn change_lowest(&mut self, entry: E, keep: bool)
         requires { 0 < length self.old }
-        ensures { (others : List E) (e : E) → self.old ≡ others ++ e ∷ [] → self.new ≡ others ++ (if keep then entry ∷ [] else []) }
+        ensures { ChangesLast entry keep self.old self.new }
     {
         let at = self.entries.len() - 1;
         self.entries[at] = entry;

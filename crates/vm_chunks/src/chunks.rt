@@ -26,6 +26,7 @@ ghost use Rattle.std.specs.Prelude.{
 };
 ghost use Rattle.std.specs.List.{All, insert};
 ghost use Rattle.vm_chunks.specs.Entries.{
+  ChangesLast,
   IsDescendingBy,
   below,
   with_entry,
@@ -374,6 +375,7 @@ impl<E: Entry> Chunks<E> {
     }
 
     /// Returns the entries next to a key. It takes logarithmic time.
+    #[inline(always)]
     pub fn gap(&self, key: u64) -> Gap<E>
         ensures above { result.above ≡ at_or_above E.key_of key self.now }
         ensures below { result.below ≡ highest_below E.key_of key self.now }
@@ -406,6 +408,7 @@ impl<E: Entry> Chunks<E> {
 
     /// Puts an entry, which replaces one with its key, and then removes the one with the key `gone`. An error changes
     /// nothing. It is fast if the entry belongs in the gap, and replaces or removes the entries next to the gap.
+    #[inline(always)]
     pub fn put(&mut self, alloc: Global, gap: Gap<E>, entry: E, gone: Option<u64>) -> Result<(), AllocError>
         ensures put { OnOk result (self.new ≡ without_some E.key_of gone (with_entry E.key_of entry self.old)) }
         ensures unchanged { OnErr result (self.new ≡ self.old) }
@@ -413,6 +416,14 @@ impl<E: Entry> Chunks<E> {
         if self.put_at(gap, entry, gone) {
             return Ok(());
         }
+        self.put_searched(alloc, entry, gone)
+    }
+
+    /// Puts an entry like `put`, by a search for each entry that changes. An error changes nothing.
+    fn put_searched(&mut self, alloc: Global, entry: E, gone: Option<u64>) -> Result<(), AllocError>
+        ensures put { OnOk result (self.new ≡ without_some E.key_of gone (with_entry E.key_of entry self.old)) }
+        ensures unchanged { OnErr result (self.new ≡ self.old) }
+    {
         if self.get(entry.key()).is_some() {
             self.set(entry);
         } else {
@@ -424,8 +435,9 @@ impl<E: Entry> Chunks<E> {
         Ok(())
     }
 
-    /// Puts an entry like `put`, without a search, and returns `true`. Returns `false` and changes nothing if the entries are not those
-    /// next to the gap, or if its chunk is full. It does not allocate.
+    /// Puts an entry like `put`, without a search, and returns `true`. Returns `false` and changes nothing if the
+    /// entries are not those next to the gap, or if its chunk is full. It does not allocate.
+    #[inline(always)]
     fn put_at(&mut self, gap: Gap<E>, entry: E, gone: Option<u64>) -> bool
         ensures put { IsTrue result → self.new ≡ without_some E.key_of gone (with_entry E.key_of entry self.old) }
         ensures unchanged { result ≡ false → self.new ≡ self.old }
@@ -466,7 +478,7 @@ impl<E: Entry> Chunks<E> {
     pub fn change_lowest(&mut self, entry: E, keep: bool)
         requires some { 0 < length self.old }
         requires key { (others : List E) (e : E) → self.old ≡ others ++ e ∷ [] → E.key_of entry ≡ E.key_of e }
-        ensures { (others : List E) (e : E) → self.old ≡ others ++ e ∷ [] → self.new ≡ others ++ (if keep then entry ∷ [] else []) }
+        ensures { ChangesLast entry keep self.old self.new }
     {
         let at = self.chunks.len() - 1;
         let chunk = &mut self.chunks[at];

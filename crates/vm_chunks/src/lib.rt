@@ -30,9 +30,9 @@
 //! - How long a call takes, and how much memory the chunks take.
 #![tactic(auto)]
 
-ghost use Rattle.std.specs.Prelude.{◌≡◌, ℕ, ◌<◌, length, slice_index_or, IsTrue, false};
+ghost use Rattle.std.specs.Prelude.{◌≡◌, ℕ, ◌<◌, length, IsTrue, false};
 ghost use Rattle.vm_chunks.specs.EntryLaws.{EntriesAreByKey};
-ghost use Rattle.vm_chunks.specs.Entries.{IsDescendingBy, IsKeyOf, IsPlace, IsPlaceFrom};
+ghost use Rattle.vm_chunks.specs.Entries.{IsDescendingBy, IsKeyOf, IsOtherKeyOf, IsPlace, IsPlaceFrom};
 
 mod chunk;
 mod chunks;
@@ -85,7 +85,7 @@ fn is_place<E: Entry>(entries: &[E], at: usize, key: u64) -> bool
 /// Returns `true` if the entry at `at` has this key.
 fn has_key<E: Entry>(entries: &[E], at: usize, key: u64) -> bool
     ensures yes { IsTrue result → (at < length entries.now) × IsKeyOf E.key_of key at entries.now }
-    ensures no { result ≡ false → at < length entries.now → (e : E) → E.key_of (slice_index_or entries.now at e) ≡ key → ⊥ }
+    ensures no { result ≡ false → IsOtherKeyOf E.key_of key at entries.now }
 {
     at < entries.len() && entries[at].key() == key
 }
