@@ -1,5 +1,5 @@
 -- The walk over the held ids, and a part of equality. Only private functions and the iterator cite them.
-use Rattle.std.specs.Prelude.{◌≡◌, ℕ, ◌+◌, ◌-◌, ◌^◌, ◌<◌, ◌≤◌, not, List, [], ◌∷◌, ◌++◌, length, Option, Some, None, IfSome, option_to_list}
+use Rattle.std.specs.Prelude.{◌≡◌, ℕ, ◌+◌, ◌-◌, ◌^◌, ◌<◌, ◌≤◌, min, max, not, List, [], ◌∷◌, ◌++◌, length, Option, Some, None, IfSome, option_to_list}
 use Rattle.std.specs.List.{All, filter, flat_map, list_any, range_with_len}
 use Rattle.std.specs.Ordering.{nat_cmp, eq_by_cmp}
 use Rattle.vm_chunks.specs.Runs.{ids_of_run}
@@ -32,6 +32,16 @@ AreFilled next runs = IfSome next IsFilled × All IsFilled runs
 unfoldable pub ids_left : ℕ → ℕ → List ℕ → List ℕ
 ids_left next bound freed =
     filter (λ i. not (list_any (eq_by_cmp nat_cmp i) freed)) (range_with_len next (bound - next))
+
+-- The ids before the next run of freed ids end where it begins, or at the bound.
+abbrev pub gap_end : ℕ → Option Run → ℕ
+gap_end bound None = bound
+gap_end bound (Some run) = min bound run.first
+
+-- The ids after the last run of freed ids start behind it, or at the next id.
+abbrev pub gap_start : ℕ → Option Run → ℕ
+gap_start next None = next
+gap_start next (Some run) = max next (run.last + 1)
 
 -- The run is the first of the runs and the others are left, or there is none. None of them is empty.
 abbrev pub Begins : List Run → Option Run → List Run → Type 0
