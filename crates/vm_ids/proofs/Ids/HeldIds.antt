@@ -1,9 +1,9 @@
 -- The walk over the ids that were allocated at some time visits exactly the held ids, from both ends.
-use Rattle.std.proofs.Common.{◌≡◌, ◌≢◌, ◌↔◌, ℕ, zero, suc, ◌+◌, ◌-◌, ◌^◌, ◌<◌, ◌≤◌, min, ◌⊎◌, Bool, true, false, cond, not, ◌||◌, List, [], ◌∷◌, ◌++◌, length, get_or, take, drop, sym, subst, refl, IfSome, ap, ◌∙◌, arith, inl, inr, Option, Some, None}
+use Rattle.std.proofs.Common.{◌≡◌, ◌≢◌, ◌↔◌, ℕ, zero, suc, ◌+◌, ◌-◌, ◌^◌, ◌<◌, ◌≤◌, min, ◌⊎◌, Bool, true, false, cond, not, ◌||◌, List, [], ◌∷◌, ◌++◌, length, get_or, take, drop, sym, subst, refl, IfSome, ap, ◌∙◌, arith, inl, inr, Option, Some, None, option_to_list}
 use Rattle.std.proofs.Math.Seq.{drop-append-add}
 use Rattle.std.proofs.lemmas.List.{append-nil, append_assoc, length-append, take-append-le}
 use Rattle.std.proofs.lemmas.List.FromFn.{length-range_with_len}
-use Rattle.std.proofs.lemmas.List.Elements.{Contains-get_or, filter-append, All-nil, All-cons, All-head, All-tail}
+use Rattle.std.proofs.lemmas.List.Elements.{Contains-get_or, filter-append, All-nil, All-cons, All-head, All-tail, All-push}
 use Rattle.vm_chunks.proofs.Runs.{in_run_test}
 use Rattle.std.proofs.lemmas.List.Folds.{list_any-append}
 use Rattle.std.proofs.lemmas.Map.Keys.{below_from_sorted}
@@ -15,7 +15,7 @@ use Rattle.std.specs.Ordering.{nat_cmp, eq_by_cmp}
 use Rattle.std.specs.BTreeSet.{BTreeSet, IsOrdered}
 use Rattle.std.specs.FinSet as set
 use Rattle.vm_ids.specs.Ids.{IdState, IsHeld, held_ids, held_count, IsIdState, bound_of, ids_of, AreIds}
-use Rattle.vm_ids.specs.Checks.IdQueries.{freed_from, freed_to, ids_left, gap_end, gap_start, AscendWithin, AreIdsLeft, IsFilled, AreFilled, Begins}
+use Rattle.vm_ids.specs.Checks.IdQueries.{freed_from, freed_to, ids_left, held_end, held_start, AscendWithin, AreIdsLeft, IsFilled, AreFilled, Begins, Ends, runs_left}
 use Rattle.vm_chunks.specs.Runs.{ids_of_run}
 use Rattle.vm_chunks.specs.declared.id_set.Run.{Run}
 use Rattle.std.proofs.lemmas.Bool.{cases_lt}
@@ -186,16 +186,16 @@ module _ (next bound n : ℕ) (l : next + n ≤ bound) (above below : List ℕ) 
       )
 
 -- ---- Several ids in one step
--- A step in a gap ends up to the next run and the bound.
-pub up_to_gap_end : (next bound most end n : ℕ) (freed : Option Run) → next < bound → IfSome freed (λ run. next < run.first) →
-    end ≡ gap_end bound freed → n ≡ min most (end - next) → (next + n ≤ bound) × IfSome freed (λ run. next + n ≤ run.first)
-up_to_gap_end next bound most end n None l a e s = (omega (arith, l, e, s), tt)
-up_to_gap_end next bound most end n (Some run) l a e s = (omega (arith, l, a, e, s), omega (arith, l, a, e, s))
+-- A step past held ids stays below the next run and the bound.
+pub up_to_held_end : (next bound most end n : ℕ) (freed : Option Run) → next < bound → IfSome freed (λ run. next < run.first) →
+    end ≡ held_end bound freed → n ≡ min most (end - next) → (next + n ≤ bound) × IfSome freed (λ run. next + n ≤ run.first)
+up_to_held_end next bound most end n None l a e s = (omega (arith, l, e, s), tt)
+up_to_held_end next bound most end n (Some run) l a e s = (omega (arith, l, a, e, s), omega (arith, l, a, e, s))
 
-pub down_to_gap_start : (next bound most start n : ℕ) (freed : Option Run) → next < bound → IfSome freed (λ run. run.last + 1 < bound) →
-    start ≡ gap_start next freed → n ≡ min most (bound - start) → (next + n ≤ bound) × IfSome freed (λ run. run.last + n < bound)
-down_to_gap_start next bound most start n None l a e s = (omega (arith, l, e, s), tt)
-down_to_gap_start next bound most start n (Some run) l a e s = (omega (arith, l, a, e, s), omega (arith, l, a, e, s))
+pub down_to_held_start : (next bound most start n : ℕ) (freed : Option Run) → next < bound → IfSome freed (λ run. run.last + 1 < bound) →
+    start ≡ held_start next freed → n ≡ min most (bound - start) → (next + n ≤ bound) × IfSome freed (λ run. run.last + n < bound)
+down_to_held_start next bound most start n None l a e s = (omega (arith, l, e, s), tt)
+down_to_held_start next bound most start n (Some run) l a e s = (omega (arith, l, a, e, s), omega (arith, l, a, e, s))
 
 -- The walk from below passes a row of ids, and then the others.
 pub drops_row : (all row is : List ℕ) (n count : ℕ) → all ≡ row ++ is → length row ≡ n → n ≤ count → drop count all ≡ drop (count - n) is
@@ -292,7 +292,7 @@ passes_row_back (suc n) first next above rest below left e v =
 run_head : (run : Run) → IsFilled run → ids_of_run run ≡ run.first ∷ range_with_len (run.first + 1) (run.last - run.first)
 run_head run f = let n : run.last + 1 - run.first ≡ suc (run.last - run.first) = omega (arith, f) in ap (range_with_len run.first) n
 
-run_tail : (run : Run) → IsFilled run → ids_of_run run ≡ range_with_len run.first (run.last - run.first) ++ run.last ∷ []
+pub run_tail : (run : Run) → IsFilled run → ids_of_run run ≡ range_with_len run.first (run.last - run.first) ++ run.last ∷ []
 run_tail run f =
     let n : run.last + 1 - run.first ≡ suc (run.last - run.first) = omega (arith, f) in
     let l : run.first + (run.last - run.first) ≡ run.last = omega (arith, f) in
@@ -368,12 +368,21 @@ last_filled runs rest None f s = (tt, subst (All IsFilled) (s.0 ∙ sym s.1) f)
 last_filled runs rest (Some next) f s =
     let a = subst (All IsFilled) s f in (All-last IsFilled rest next a, All-init IsFilled rest next a)
 
--- A walk over runs begins with the first.
-pub begins : (runs rest : List Run) (taken : Option Run) → All IsFilled runs → YieldsFirst (λ (rs : List Run). rs) runs taken rest →
-    Begins runs taken rest
-begins runs rest None f s = (s.0, s.1)
-begins runs rest (Some next) f s =
-    let a = subst (All IsFilled) s f in (s, All-head IsFilled next rest a, All-tail IsFilled next rest a)
+-- The first and the last of runs that are not empty.
+pub begins : (runs rest : List Run) (run : Run) → All IsFilled runs → runs ≡ run ∷ rest → Begins runs (Some run) rest
+begins runs rest run f e = let a = subst (All IsFilled) e f in (e, All-head IsFilled run rest a, All-tail IsFilled run rest a)
+
+pub ends : (runs rest : List Run) (run : Run) → All IsFilled runs → runs ≡ rest ++ run ∷ [] → Ends runs (Some run) rest
+ends runs rest run f e = let a = subst (All IsFilled) e f in (e, All-last IsFilled rest run a, All-init IsFilled rest run a)
+
+-- The run that was begun from above is the last of those that are left.
+pub last_left : (first : Option Run) (runs : List Run) (run : Run) → runs_left first runs (Some run) ≡ runs_left first runs None ++ run ∷ []
+last_left first runs run = ap (λ (l : List Run). l ++ run ∷ []) (sym (append-nil (option_to_list first ++ runs)))
+
+pub filled_to : (first last : Option Run) (runs : List Run) → All IsFilled (runs_left first runs None) → IfSome last IsFilled →
+    All IsFilled (runs_left first runs last)
+filled_to first None runs f l = f
+filled_to first (Some run) runs f l = rw (last_left first runs run) (All-push IsFilled (runs_left first runs None) run f l)
 
 -- The runs after the next one are not empty.
 pub filled_after : (run : Run) (runs rest : List Run) (taken : Option Run) → AreFilled (Some run) runs →

@@ -4,7 +4,7 @@
 //! has its own iterator over the runs, so the ends share nothing but the bounds.
 ghost use Rattle.std.specs.Prelude.{◌≡◌, ◌-◌, length, take, drop};
 ghost use Rattle.std.specs.Iterator.{YieldsFirst, YieldsLast, item_count};
-ghost use Rattle.vm_ids.specs.Checks.IdQueries.{gap_end, gap_start};
+ghost use Rattle.vm_ids.specs.Checks.IdQueries.{held_end, held_start};
 ghost use Rattle.vm_ids.specs.Ids.{held_ids};
 
 use super::{IdAllocator, bound_of};
@@ -66,7 +66,7 @@ impl<'a> HeldIds<'a> {
                     self.next_freed = self.freed_above.next();
                 }
                 _ => {
-                    let step = rest.min(gap_end(self.bound, self.next_freed) - self.next);
+                    let step = rest.min(held_end(self.bound, self.next_freed) - self.next);
                     self.next += step;
                     self.left -= step;
                     rest -= step;
@@ -90,7 +90,7 @@ impl<'a> HeldIds<'a> {
                     self.last_freed = self.freed_below.next_back();
                 }
                 _ => {
-                    let step = rest.min(self.bound - gap_start(self.next, self.last_freed));
+                    let step = rest.min(self.bound - held_start(self.next, self.last_freed));
                     self.bound -= step;
                     self.left -= step;
                     rest -= step;
@@ -100,9 +100,9 @@ impl<'a> HeldIds<'a> {
     }
 }
 
-/// Returns where the ids before the next run of freed ids end.
-fn gap_end(bound: u64, freed: Option<Run>) -> u64
-    ensures { result ≡ gap_end bound freed }
+/// Returns where the allocated ids below the next run of freed ids end.
+fn held_end(bound: u64, freed: Option<Run>) -> u64
+    ensures { result ≡ held_end bound freed }
 {
     match freed {
         Some(run) => bound.min(run.first.into()),
@@ -110,9 +110,9 @@ fn gap_end(bound: u64, freed: Option<Run>) -> u64
     }
 }
 
-/// Returns where the ids after the last run of freed ids start.
-fn gap_start(next: u64, freed: Option<Run>) -> u64
-    ensures { result ≡ gap_start next freed }
+/// Returns where the allocated ids above the last run of freed ids start.
+fn held_start(next: u64, freed: Option<Run>) -> u64
+    ensures { result ≡ held_start next freed }
 {
     match freed {
         Some(run) => next.max(u64::from(run.last) + 1),

@@ -45,7 +45,7 @@ impl<'a> HeldIds<'a> {
                     self.next_freed = self.freed_above.next();
                 }
                 _ => {
-                    let step = rest.min(gap_end(self.bound, self.next_freed) - self.next);
+                    let step = rest.min(held_end(self.bound, self.next_freed) - self.next);
                     self.next += step;
                     self.left -= step;
                     rest -= step;
@@ -66,7 +66,7 @@ impl<'a> HeldIds<'a> {
                     self.last_freed = self.freed_below.next_back();
                 }
                 _ => {
-                    let step = rest.min(self.bound - gap_start(self.next, self.last_freed));
+                    let step = rest.min(self.bound - held_start(self.next, self.last_freed));
                     self.bound -= step;
                     self.left -= step;
                     rest -= step;
@@ -76,16 +76,16 @@ impl<'a> HeldIds<'a> {
     }
 }
 
-/// Returns where the ids before the next run of freed ids end.
-fn gap_end(bound: u64, freed: Option<Run>) -> u64 {
+/// Returns where the allocated ids below the next run of freed ids end.
+fn held_end(bound: u64, freed: Option<Run>) -> u64 {
     match freed {
         Some(run) => bound.min(run.first.into()),
         None => bound,
     }
 }
 
-/// Returns where the ids after the last run of freed ids start.
-fn gap_start(next: u64, freed: Option<Run>) -> u64 {
+/// Returns where the allocated ids above the last run of freed ids start.
+fn held_start(next: u64, freed: Option<Run>) -> u64 {
     match freed {
         Some(run) => next.max(u64::from(run.last) + 1),
         None => next,

@@ -1,7 +1,7 @@
 use Rattle.std.proofs.Common.{◌<◌, ◌+◌, ◌-◌, arith, IfSome}
 use Rattle.std.proofs.lemmas.List.FromFn.{length-range_with_len}
 use Rattle.vm_chunks.specs.declared.id_set.Run.{Run}
-use Rattle.vm_ids.proofs.Ids.HeldIds.{passes_run_back, last_run_fits, filled_before, last_not_freed, visits_row_back, down_to_gap_start, takes_row}
+use Rattle.vm_ids.proofs.Ids.HeldIds.{passes_run_back, last_run_fits, filled_before, last_not_freed, visits_row_back, down_to_held_start, takes_row}
 use Rattle.vm_ids.proofs.id_allocator.held_ids.HeldIds.advance_back_by.Goals as goal
 use Rattle.vm_ids.proofs.id_allocator.held_ids.HeldIds.advance_back_by.Goals.{in_default-via-in-Some+else-self-from, in_default-via-in_default}
 
@@ -39,8 +39,8 @@ overflow_sub-self-in_default c =
       | in_default-via-in-Some+else-self-from w ↦ rw w.in-Some.is (omega (arith, w.if-self-from.false, w.from.ensures))
       | in_default-via-in_default w ↦ rw w.in_default.is tt
     ] in
-    let gap = down_to_gap_start _ _ _ _ c.min-step.result _ c.if-self.true below c.gap_start.ensures c.min-step.ensures in
-    (visits_row_back _ _ _ gap.0 _ _ _ h.valid (last_not_freed _ _ _ _ _ h.below gap.1 h.valid.to_bound)).1
+    let room = down_to_held_start _ _ _ _ c.min-step.result _ c.if-self.true below c.held_start.ensures c.min-step.ensures in
+    (visits_row_back _ _ _ room.0 _ _ _ h.valid (last_not_freed _ _ _ _ _ h.below room.1 h.valid.to_bound)).1
 
 pub loop-rest-preserved : goal.loop-rest-preserved
 loop-rest-preserved c =
@@ -49,8 +49,8 @@ loop-rest-preserved c =
       | in_default-via-in-Some+else-self-from w ↦ rw w.in-Some.is (omega (arith, w.if-self-from.false, w.from.ensures))
       | in_default-via-in_default w ↦ rw w.in_default.is tt
     ] in
-    let gap = down_to_gap_start _ _ _ _ c.min-step.result _ c.if-self.true below c.gap_start.ensures c.min-step.ensures in
-    let visit = visits_row_back _ _ _ gap.0 _ _ _ h.valid (last_not_freed _ _ _ _ _ h.below gap.1 h.valid.to_bound) in
+    let room = down_to_held_start _ _ _ _ c.min-step.result _ c.if-self.true below c.held_start.ensures c.min-step.ensures in
+    let visit = visits_row_back _ _ _ room.0 _ _ _ h.valid (last_not_freed _ _ _ _ _ h.below room.1 h.valid.to_bound) in
     let row = length-range_with_len (c.loop-rest.self-inside.bound - c.min-step.result) c.min-step.result in
     let passed = takes_row _ _ _ _ c.loop-rest.rest visit.2 row (omega (arith, c.min-step.ensures)) in
     record {

@@ -1,7 +1,7 @@
 use Rattle.std.proofs.Common.{◌<◌, arith, IfSome}
 use Rattle.std.proofs.lemmas.List.FromFn.{length-range_with_len}
 use Rattle.vm_chunks.specs.declared.id_set.Run.{Run}
-use Rattle.vm_ids.proofs.Ids.HeldIds.{passes_run, run_fits, filled_after, next_not_freed, visits_row, up_to_gap_end, drops_row}
+use Rattle.vm_ids.proofs.Ids.HeldIds.{passes_run, run_fits, filled_after, next_not_freed, visits_row, up_to_held_end, drops_row}
 use Rattle.vm_ids.proofs.id_allocator.held_ids.HeldIds.advance_by.Goals as goal
 use Rattle.vm_ids.proofs.id_allocator.held_ids.HeldIds.advance_by.Goals.{in_default-via-in-Some+else-from-self, in_default-via-in_default}
 
@@ -31,8 +31,8 @@ overflow_sub-self c =
       | in_default-via-in-Some+else-from-self w ↦ rw w.in-Some.is (omega (arith, w.if-from-self.false, w.from.ensures))
       | in_default-via-in_default w ↦ rw w.in_default.is tt
     ] in
-    let gap = up_to_gap_end _ _ _ _ c.min-step.result _ c.if-self.true above c.gap_end.ensures c.min-step.ensures in
-    (visits_row _ _ _ gap.0 _ _ _ h.valid (next_not_freed _ _ _ _ _ h.above gap.1 h.valid.from_next)).1
+    let room = up_to_held_end _ _ _ _ c.min-step.result _ c.if-self.true above c.held_end.ensures c.min-step.ensures in
+    (visits_row _ _ _ room.0 _ _ _ h.valid (next_not_freed _ _ _ _ _ h.above room.1 h.valid.from_next)).1
 
 pub loop-rest-preserved : goal.loop-rest-preserved
 loop-rest-preserved c =
@@ -41,7 +41,7 @@ loop-rest-preserved c =
       | in_default-via-in-Some+else-from-self w ↦ rw w.in-Some.is (omega (arith, w.if-from-self.false, w.from.ensures))
       | in_default-via-in_default w ↦ rw w.in_default.is tt
     ] in
-    let gap = up_to_gap_end _ _ _ _ c.min-step.result _ c.if-self.true above c.gap_end.ensures c.min-step.ensures in
-    let visit = visits_row _ _ _ gap.0 _ _ _ h.valid (next_not_freed _ _ _ _ _ h.above gap.1 h.valid.from_next) in
+    let room = up_to_held_end _ _ _ _ c.min-step.result _ c.if-self.true above c.held_end.ensures c.min-step.ensures in
+    let visit = visits_row _ _ _ room.0 _ _ _ h.valid (next_not_freed _ _ _ _ _ h.above room.1 h.valid.from_next) in
     let passed = drops_row _ _ _ _ c.loop-rest.rest visit.2 (length-range_with_len c.loop-rest.self-inside.next c.min-step.result) (omega (arith, c.min-step.ensures)) in
     record { valid = visit.0; above = h.above; below = h.below; same = rw passed at h.same }
