@@ -2,10 +2,10 @@
 use crate::error::TryResult;
 use crate::proved::vm_ids as proved;
 use crate::rattle::Global;
-use crate::traits::{allocator, iterate};
+use crate::traits::{allocator, fused};
 use crate::{Result, Window};
 use alloc::vec::Vec;
-use core::{convert, fmt};
+use core::fmt;
 
 /// Allocates ids from a range, the lowest free id first.
 ///
@@ -470,7 +470,7 @@ impl IdAllocator {
     }
 
     /// Returns an iterator over the allocated ids in ascending order. It does not allocate memory,
-    /// and visits each id that was allocated at some time.
+    /// and passes freed ids that follow each other in one step.
     ///
     /// # Example
     ///
@@ -586,6 +586,8 @@ impl fmt::Debug for FirstHeld<'_> {
 /// An iterator over the allocated ids of an [`IdAllocator`], in ascending order or from both ends. Its
 /// length is exact.
 ///
+/// `nth` and `nth_back` take one step for each run of freed ids that they pass, however many ids they pass.
+///
 /// It is created by [`held_ids`](IdAllocator::held_ids) and [`iter`](IdAllocator::iter).
 ///
 /// # Example
@@ -605,13 +607,53 @@ impl fmt::Debug for FirstHeld<'_> {
 #[derive(Clone)]
 pub struct HeldIds<'a>(proved::HeldIds<'a>);
 
-iterate!(HeldIds: u32, convert::identity, size_hint_of);
-allocator!(IdAllocator, HeldIds of u32, "the allocated ids");
+impl Iterator for HeldIds<'_> {
+    type Item = u32;
 
-fn size_hint_of(ids: &proved::HeldIds<'_>) -> (usize, Option<usize>) {
-    let left = usize::try_from(ids.count_left());
-    (left.unwrap_or(usize::MAX), left.ok())
+    fn next(&mut self) -> Option<u32> {
+        self.0.next()
+    }
+
+    fn size_hint(&self) -> (usize, Option<usize>) {
+        let left = usize::try_from(self.0.count_left());
+        (left.unwrap_or(usize::MAX), left.ok())
+    }
+
+    fn count(self) -> usize {
+        self.size_hint().0
+    }
+
+    fn last(mut self) -> Option<u32> {
+        self.next_back()
+    }
+
+    fn nth(&mut self, count: usize) -> Option<u32> {
+        self.0.advance_by(count as u64);
+        self.0.next()
+    }
+
+    fn min(mut self) -> Option<u32> {
+        self.next()
+    }
+
+    fn max(mut self) -> Option<u32> {
+        self.next_back()
+    }
 }
+
+impl DoubleEndedIterator for HeldIds<'_> {
+    fn next_back(&mut self) -> Option<u32> {
+        self.0.next_back()
+    }
+
+    fn nth_back(&mut self, count: usize) -> Option<u32> {
+        self.0.advance_back_by(count as u64);
+        self.0.next_back()
+    }
+}
+
+fused!(HeldIds);
+allocator!(IdAllocator, HeldIds of u32, "the allocated ids");
 
 // 2^32 ids are too many for a `usize` of 32 bits.
 #[cfg(target_pointer_width = "64")]

@@ -56,6 +56,13 @@ macro_rules! iterate {
             }
         }
 
+        $crate::traits::fused!($name);
+    )+};
+}
+
+/// Implements `FusedIterator` and `Debug` of an iterator.
+macro_rules! fused {
+    ($name:ident) => {
         impl core::iter::FusedIterator for $name<'_> {}
 
         impl core::fmt::Debug for $name<'_> {
@@ -63,7 +70,7 @@ macro_rules! iterate {
                 f.debug_struct(stringify!($name)).finish_non_exhaustive()
             }
         }
-    )+};
+    };
 }
 
-pub(crate) use {allocator, iterate};
+pub(crate) use {allocator, fused, iterate};

@@ -599,6 +599,24 @@ fn held_ids_are_taken_from_both_ends() {
     let ids = IdAllocator::with_held(0, 900, &held).unwrap();
     expect_items(ids.held_ids(), &held, exact, &mut Draw(3));
     expect_in_order(ids.iter(), &held);
+    let draw = &mut Draw(4);
+    for most in [10, 100, 500, 1000] {
+        let (mut items, mut want) = (ids.held_ids(), held.iter().copied());
+        while items.len() > 0 {
+            let count = draw.below(most) as usize;
+            if draw.below(2) == 0 {
+                assert_eq!(items.nth(count), want.nth(count));
+            } else {
+                assert_eq!(items.nth_back(count), want.nth_back(count));
+            }
+            assert_eq!(items.len(), want.len());
+            expect_in_order(items.clone(), &want.clone().collect::<Vec<_>>());
+        }
+    }
+    let mut items = ids.held_ids();
+    assert_eq!((items.nth(usize::MAX), items.next_back()), (None, None));
+    let mut items = ids.held_ids();
+    assert_eq!((items.nth_back(usize::MAX), items.next()), (None, None));
 }
 
 #[test]

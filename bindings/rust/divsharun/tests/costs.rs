@@ -154,10 +154,21 @@ const OF_WALKS: [Calls<[AddressAllocator; 2]>; 9] = [
 ];
 
 /// The ids below the last three are allocated.
-const OF_IDS: [Calls<IdAllocator>; 4] = [
+const OF_IDS: [Calls<IdAllocator>; 6] = [
     |ids, at| ids.is_allocated(at as u32) && ids.peek_id().is_ok(),
     |ids, _| ids.held_count() > ids.free_count() && ids.range_base() < ids.range_end(),
     |ids, _| has_ends(ids.held_ids(), |items| items.len() > 2),
+    |ids, at| {
+        let (at, count) = (at as usize, ids.held_count() as usize);
+        ids.iter().nth(at) == ids.iter().nth_back(count - 1 - at)
+            && ids.iter().skip(at).step_by(count).next().is_some()
+            && ids.iter().nth(count).is_none()
+    },
+    |ids, _| {
+        ids.iter().count() as u64 == ids.held_count()
+            && ids.iter().last() == ids.iter().max()
+            && ids.iter().min() == ids.iter().next()
+    },
     |ids, _| {
         let last = ids.range_end();
         let allocated = [

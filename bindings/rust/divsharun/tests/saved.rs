@@ -267,6 +267,22 @@ fn written_values_are_read() {
         (all.held_ids().len(), all.held_ids().next_back()),
         (1 << 32, Some(u32::MAX))
     );
+    let most = r#"{"range_base":0,"next_id":null,"range_end":4294967295,"freed_ids":[1,2,9]}"#;
+    let most: IdAllocator = serde_json::from_str(most).unwrap();
+    let (mut ids, half) = (most.held_ids(), 1 << 31);
+    assert_eq!(
+        (ids.len(), ids.nth(half)),
+        ((1 << 32) - 3, Some((1 << 31) + 3))
+    );
+    assert_eq!(
+        (ids.len(), ids.nth_back(half - 6)),
+        (half - 4, Some((1 << 31) + 5))
+    );
+    assert_eq!(
+        (ids.next(), ids.nth(half), ids.next()),
+        (Some((1 << 31) + 4), None, None)
+    );
+    assert_eq!(most.held_ids().nth_back((1 << 32) - 4), Some(0));
 }
 
 #[test]

@@ -1,7 +1,9 @@
 -- The walk over the ids that were allocated at some time visits exactly the held ids, from both ends.
-use Rattle.std.proofs.Common.{◌≡◌, ◌≢◌, ◌↔◌, ℕ, zero, suc, ◌+◌, ◌-◌, ◌^◌, ◌<◌, ◌≤◌, ◌⊎◌, Bool, true, false, cond, not, ◌||◌, List, [], ◌∷◌, ◌++◌, length, get_or, sym, subst, refl, IfSome, ap, ◌∙◌, arith, inl, inr, Option, Some, None}
-use Rattle.std.proofs.lemmas.List.{append-nil, append_assoc, length_push}
-use Rattle.std.proofs.lemmas.List.Elements.{Contains-get_or, filter-append, All-nil, All-cons, All-head, All-tail}
+use Rattle.std.proofs.Common.{◌≡◌, ◌≢◌, ◌↔◌, ℕ, zero, suc, ◌+◌, ◌-◌, ◌^◌, ◌<◌, ◌≤◌, min, ◌⊎◌, Bool, true, false, cond, not, ◌||◌, List, [], ◌∷◌, ◌++◌, length, get_or, take, drop, sym, subst, refl, IfSome, ap, ◌∙◌, arith, inl, inr, Option, Some, None, option_to_list}
+use Rattle.std.proofs.Math.Seq.{drop-append-add}
+use Rattle.std.proofs.lemmas.List.{append-nil, append_assoc, length-append, take-append-le}
+use Rattle.std.proofs.lemmas.List.FromFn.{length-range_with_len}
+use Rattle.std.proofs.lemmas.List.Elements.{Contains-get_or, filter-append, All-nil, All-cons, All-head, All-tail, All-push}
 use Rattle.vm_chunks.proofs.Runs.{in_run_test}
 use Rattle.std.proofs.lemmas.List.Folds.{list_any-append}
 use Rattle.std.proofs.lemmas.Map.Keys.{below_from_sorted}
@@ -13,7 +15,7 @@ use Rattle.std.specs.Ordering.{nat_cmp, eq_by_cmp}
 use Rattle.std.specs.BTreeSet.{BTreeSet, IsOrdered}
 use Rattle.std.specs.FinSet as set
 use Rattle.vm_ids.specs.Ids.{IdState, IsHeld, held_ids, held_count, IsIdState, bound_of, ids_of, AreIds}
-use Rattle.vm_ids.specs.Checks.IdQueries.{freed_from, freed_to, ids_left, AscendWithin, AreIdsLeft, IsFilled, AreFilled, Begins}
+use Rattle.vm_ids.specs.Checks.IdQueries.{freed_from, freed_to, ids_left, held_end, held_start, AscendWithin, AreIdsLeft, IsFilled, AreFilled, Begins, Ends, runs_left}
 use Rattle.vm_chunks.specs.Runs.{ids_of_run}
 use Rattle.vm_chunks.specs.declared.id_set.Run.{Run}
 use Rattle.std.proofs.lemmas.Bool.{cases_lt}
@@ -21,7 +23,7 @@ use Rattle.std.proofs.lemmas.Grind.{flat_map-append}
 use Rattle.vm_ids.specs.Laws.IdLaws.{HeldIdsAreListed}
 use Rattle.vm_ids.proofs.Ids.IdSets.{held_test, bound_fits}
 use Rattle.vm_ids.proofs.Ids.AscendingBounds.{rise, within}
-use Rattle.vm_ids.proofs.Ids.IdRows.{same_kept, row_end, passed_rise, row_passed}
+use Rattle.vm_ids.proofs.Ids.IdRows.{same_kept, row_kept, row_end, row_parted, passed_rise, row_passed}
 use Rattle.vm_ids.proofs.Ids.IdCounts.{tells_apart, ids_listed}
 
 abbrev same : ℕ → ℕ → Bool
@@ -39,13 +41,11 @@ without_last a b i [] r = (tt, r.0, r.1)
 without_last a b i (j ∷ is) r =
     let s = without_last (j + 1) b i is r.2 in ((r.0, omega (arith, s.1), s.0), omega (arith, r.0, s.1), s.2)
 
--- The last number is not the highest possible one.
-last_below : (a b i : ℕ) (is : List ℕ) → i ≢ b - 1 → AscendWithin a b (is ++ i ∷ []) → (a ≤ i) × AscendWithin a (b - 1) (is ++ i ∷ [])
-last_below a b i [] d r = (r.0, (r.0, omega (arith, r.1, d), tt))
-last_below a b i (j ∷ is) d r =
-    let rest = last_below (j + 1) b i is d r.2 in
-    let last : i < b - 1 = (without_last (j + 1) (b - 1) i is rest.1).2 in
-    (omega (arith, rest.0, r.0), (r.0, omega (arith, rest.0, last), rest.1))
+-- A bound of the last number is one of all.
+last_below : (a b c i : ℕ) (is : List ℕ) → i < c → AscendWithin a b (is ++ i ∷ []) → AscendWithin a c (is ++ i ∷ [])
+last_below a b c i [] l r = (r.0, l, tt)
+last_below a b c i (j ∷ is) l r =
+    let rest = last_below (j + 1) b c i is l r.2 in (r.0, omega (arith, l, (without_last (j + 1) c i is rest).1), rest)
 
 -- ---- The freed ids at hand
 -- The ids of the last run are the last.
@@ -69,35 +69,43 @@ unfolding ids_left
 none_left next bound freed l =
     let none : bound - next ≡ 0 = omega arith in ap (λ (n : ℕ). filter (kept freed) (range_with_len next n)) none
 
+-- The ids that are left are those below a middle and those from it on.
+ids_parted : (next mid bound : ℕ) (freed : List ℕ) → next ≤ mid → mid ≤ bound →
+    ids_left next bound freed ≡ ids_left next mid freed ++ ids_left mid bound freed
+unfolding ids_left
+ids_parted next mid bound freed l u =
+    let m : ℕ = mid - next in
+    let sum : bound - next ≡ m + (bound - mid) = omega (arith, l, u) in
+    let seam : next + m ≡ mid = omega (arith, l) in
+    ap (λ (n : ℕ). filter (kept freed) (range_with_len next n)) sum
+    ∙ ap (filter (kept freed)) (row_parted next m (bound - mid))
+    ∙ filter-append (kept freed) (range_with_len next m) (range_with_len (next + m) (bound - mid))
+    ∙ ap (λ (i : ℕ). ids_left next mid freed ++ filter (kept freed) (range_with_len i (bound - mid))) seam
+
+-- A freed id is not left.
+one_freed : (i : ℕ) (freed : List ℕ) → kept freed i ≡ false → ids_left i (i + 1) freed ≡ []
+unfolding ids_left
+one_freed i freed e =
+    let one : i + 1 - i ≡ 1 = omega arith in
+    ap (λ (n : ℕ). filter (kept freed) (range_with_len i n)) one ∙ ap (λ (s : Bool). cond s (i ∷ []) []) e
+
+-- Ids of which none is freed are all left.
+none_freed : (i n : ℕ) (freed : List ℕ) → ((k : ℕ) → i ≤ k → k < i + n → list_any (same k) freed ≡ false) →
+    ids_left i (i + n) freed ≡ range_with_len i n
+unfolding ids_left
+none_freed i n freed h =
+    let all : i + n - i ≡ n = omega arith in
+    ap (λ (m : ℕ). filter (kept freed) (range_with_len i m)) all ∙ row_kept (kept freed) i n (λ k l u. ap not (h k l u))
+
 module _ (next bound : ℕ) (l : next < bound) where
-  from_front : (freed : List ℕ) (t : Bool) → kept freed next ≡ t →
-      ids_left next bound freed ≡ cond t (next ∷ ids_left (next + 1) bound freed) (ids_left (next + 1) bound freed)
-  unfolding ids_left
-  from_front freed t e =
-      let one_more : bound - next ≡ suc (bound - (next + 1)) = omega arith in
-      ap (λ (n : ℕ). filter (kept freed) (range_with_len next n)) one_more
-      ∙ ap (λ (s : Bool). cond s (next ∷ ids_left (next + 1) bound freed) (ids_left (next + 1) bound freed)) e
-
-  from_back : (freed : List ℕ) (t : Bool) → kept freed (bound - 1) ≡ t →
-      ids_left next bound freed ≡ ids_left next (bound - 1) freed ++ cond t ((bound - 1) ∷ []) []
-  unfolding ids_left
-  from_back freed t e =
-      let n : ℕ = bound - 1 - next in
-      let one_more : bound - next ≡ suc n = omega arith in
-      let last : next + n ≡ bound - 1 = omega arith in
-      ap (λ (m : ℕ). filter (kept freed) (range_with_len next m)) one_more
-      ∙ ap (filter (kept freed)) (row_end next n)
-      ∙ filter-append (kept freed) (range_with_len next n) ((next + n) ∷ [])
-      ∙ ap (λ (i : ℕ). ids_left next (bound - 1) freed ++ filter (kept freed) (i ∷ [])) last
-      ∙ ap (λ (s : Bool). ids_left next (bound - 1) freed ++ cond s ((bound - 1) ∷ []) []) e
-
   front_freed : (rest : List ℕ) → ids_left next bound (next ∷ rest) ≡ ids_left (next + 1) bound rest
   unfolding ids_left
   front_freed rest =
-      from_front (next ∷ rest) false (grind arith)
+      ids_parted next (next + 1) bound (next ∷ rest) (omega arith) (omega (arith, l))
+      ∙ ap (λ (is : List ℕ). is ++ ids_left (next + 1) bound (next ∷ rest)) (one_freed next (next ∷ rest) (grind arith))
       ∙ same_kept (kept (next ∷ rest)) (kept rest) (next + 1) (bound - (next + 1)) (λ i a b. grind arith)
 
-  -- The walk from below passes a freed id, or visits a held one.
+  -- The walk from below passes a freed id.
   pub passes_first : (above rest below : List ℕ) (left : ℕ) → above ≡ next ∷ rest → AreIdsLeft next bound above below left →
       AreIdsLeft (next + 1) bound rest below left × (ids_left next bound above ≡ ids_left (next + 1) bound rest)
   passes_first above rest below left e v =
@@ -112,23 +120,6 @@ module _ (next bound : ℕ) (l : next < bound) where
         rw e (front_freed rest),
       )
 
-  pub visits_first : (above below : List ℕ) (left : ℕ) → AscendWithin (next + 1) (2 ^ 32) above → AreIdsLeft next bound above below left →
-      AreIdsLeft (next + 1) bound above below (left - 1) × (1 ≤ left) × (ids_left next bound above ≡ next ∷ ids_left (next + 1) bound above)
-  visits_first above below left r v =
-      let held : kept above next ≡ true = ap not (none_outside next (next + 1) (2 ^ 32) above (inl (omega arith)) r) in
-      let visited = from_front above true held in
-      let n = ap length visited in (
-        record {
-          ids = v.ids;
-          from_next = r;
-          to_bound = v.to_bound;
-          same = λ i a b. v.same i (omega arith) b;
-          counted = omega (arith, n, v.counted);
-        },
-        omega (arith, n, v.counted),
-        visited,
-      )
-
   -- The walk from above does the same. The lists of freed ids agree on the ids that were not visited.
   pub passes_last : (above below rest : List ℕ) (left : ℕ) → below ≡ rest ++ (bound - 1) ∷ [] → AreIdsLeft next bound above below left →
       AreIdsLeft next (bound - 1) above rest left × (ids_left next bound above ≡ ids_left next (bound - 1) above)
@@ -137,7 +128,11 @@ module _ (next bound : ℕ) (l : next < bound) where
       let any : (i : ℕ) → list_any (same i) (rest ++ (bound - 1) ∷ []) ≡ (list_any (same i) rest || (same i (bound - 1) || false)) =
       λ i. list_any-append (same i) rest ((bound - 1) ∷ []) in
       let freed : kept above (bound - 1) ≡ false = grind (arith, w.same (bound - 1), any (bound - 1)) in
-      let same_left = from_back above false freed ∙ append-nil _ in (
+      let z : bound - 1 + 1 ≡ bound = omega (arith, l) in
+      let same_left = ids_parted next (bound - 1) bound above (omega (arith, l)) (omega arith)
+      ∙ ap (λ (is : List ℕ). ids_left next (bound - 1) above ++ is)
+      (ap (λ (k : ℕ). ids_left (bound - 1) k above) (sym z) ∙ one_freed (bound - 1) above freed)
+      ∙ append-nil _ in (
         record {
           ids = omega (arith, w.ids);
           from_next = w.from_next;
@@ -148,24 +143,75 @@ module _ (next bound : ℕ) (l : next < bound) where
         same_left,
       )
 
-  pub visits_last : (above below : List ℕ) (left : ℕ) → AscendWithin 0 (bound - 1) below → AreIdsLeft next bound above below left →
-      AreIdsLeft next (bound - 1) above below (left - 1) × (1 ≤ left)
-      × (ids_left next bound above ≡ ids_left next (bound - 1) above ++ (bound - 1) ∷ [])
-  visits_last above below left r v =
-      let held : kept above (bound - 1) ≡ true = ap not
-      (v.same (bound - 1) (omega arith) (omega arith) ∙ none_outside (bound - 1) 0 (bound - 1) below (inr (omega arith)) r) in
-      let visited = from_back above true held in
-      let n = ap length visited ∙ length_push (ids_left next (bound - 1) above) (bound - 1) in (
+-- The walk from below visits n held ids.
+module _ (next bound n : ℕ) (l : next + n ≤ bound) (above below : List ℕ) (left : ℕ) (v : AreIdsLeft next bound above below left) where
+  pub visits_row : AscendWithin (next + n) (2 ^ 32) above → AreIdsLeft (next + n) bound above below (left - n) × (n ≤ left)
+      × (ids_left next bound above ≡ range_with_len next n ++ ids_left (next + n) bound above)
+  visits_row r =
+      let held = none_freed next n above (λ i a b. none_outside i (next + n) (2 ^ 32) above (inl b) r) in
+      let visited = ids_parted next (next + n) bound above (omega arith) l ∙ ap (λ (is : List ℕ). is ++ ids_left (next + n) bound above) held in
+      let lengths = ap length visited ∙ length-append (range_with_len next n) (ids_left (next + n) bound above) in
+      let row = length-range_with_len next n in (
+        record {
+          ids = v.ids;
+          from_next = r;
+          to_bound = v.to_bound;
+          same = λ i a b. v.same i (omega (arith, a)) b;
+          counted = omega (arith, lengths, row, v.counted);
+        },
+        omega (arith, lengths, row, v.counted),
+        visited,
+      )
+
+  -- The walk from above does the same.
+  pub visits_row_back : AscendWithin 0 (bound - n) below → AreIdsLeft next (bound - n) above below (left - n) × (n ≤ left)
+      × (ids_left next bound above ≡ ids_left next (bound - n) above ++ range_with_len (bound - n) n)
+  visits_row_back r =
+      let z : bound - n + n ≡ bound = omega (arith, l) in
+      let held = ap (λ (k : ℕ). ids_left (bound - n) k above) (sym z) ∙ none_freed (bound - n) n above
+      (λ i a b. v.same i (omega (arith, a, l)) (omega (arith, b, z)) ∙ none_outside i 0 (bound - n) below (inr a) r) in
+      let visited = ids_parted next (bound - n) bound above (omega (arith, l)) (omega arith)
+      ∙ ap (λ (is : List ℕ). ids_left next (bound - n) above ++ is) held in
+      let lengths = ap length visited ∙ length-append (ids_left next (bound - n) above) (range_with_len (bound - n) n) in
+      let row = length-range_with_len (bound - n) n in (
         record {
           ids = omega (arith, v.ids);
           from_next = v.from_next;
           to_bound = r;
-          same = λ i a b. v.same i a (omega arith);
-          counted = omega (arith, n, v.counted);
+          same = λ i a b. v.same i a (omega (arith, b));
+          counted = omega (arith, lengths, row, v.counted);
         },
-        omega (arith, n, v.counted),
+        omega (arith, lengths, row, v.counted),
         visited,
       )
+
+-- ---- Several ids in one step
+-- A step past held ids stays below the next run and the bound.
+pub up_to_held_end : (next bound most end n : ℕ) (freed : Option Run) → next < bound → IfSome freed (λ run. next < run.first) →
+    end ≡ held_end bound freed → n ≡ min most (end - next) → (next + n ≤ bound) × IfSome freed (λ run. next + n ≤ run.first)
+up_to_held_end next bound most end n None l a e s = (omega (arith, l, e, s), tt)
+up_to_held_end next bound most end n (Some run) l a e s = (omega (arith, l, a, e, s), omega (arith, l, a, e, s))
+
+pub down_to_held_start : (next bound most start n : ℕ) (freed : Option Run) → next < bound → IfSome freed (λ run. run.last + 1 < bound) →
+    start ≡ held_start next freed → n ≡ min most (bound - start) → (next + n ≤ bound) × IfSome freed (λ run. run.last + n < bound)
+down_to_held_start next bound most start n None l a e s = (omega (arith, l, e, s), tt)
+down_to_held_start next bound most start n (Some run) l a e s = (omega (arith, l, a, e, s), omega (arith, l, a, e, s))
+
+-- The walk from below passes a row of ids, and then the others.
+pub drops_row : (all row is : List ℕ) (n count : ℕ) → all ≡ row ++ is → length row ≡ n → n ≤ count → drop count all ≡ drop (count - n) is
+drops_row all row is n count s e l =
+    let m : count ≡ length row + (count - n) = omega (arith, e, l) in
+    rw s (ap (λ (k : ℕ). drop k (row ++ is)) m ∙ drop-append-add row is (count - n))
+
+-- The walk from above does the same.
+pub takes_row : (all is row : List ℕ) (n count : ℕ) → all ≡ is ++ row → length row ≡ n → n ≤ count →
+    take (length all - count) all ≡ take (length is - (count - n)) is
+takes_row all is row n count s e l =
+    let m : length (is ++ row) - count ≡ length is - (count - n) = omega (arith, length-append is row, e, l) in
+    rw s (ap (λ (k : ℕ). take k (is ++ row)) m ∙ take-append-le (length is - (count - n)) is row (omega arith))
+
+pub takes_same : (is js : List ℕ) (count : ℕ) → is ≡ js → take (length js - count) js ≡ take (length is - count) is
+takes_same is js count e = rw e refl
 
 -- Past the bound no id is left, and the walk passes more.
 past_bound : (next bound : ℕ) (rest below : List ℕ) (left : ℕ) → bound ≤ next → AreIdsLeft next bound (next ∷ rest) below left →
@@ -246,7 +292,7 @@ passes_row_back (suc n) first next above rest below left e v =
 run_head : (run : Run) → IsFilled run → ids_of_run run ≡ run.first ∷ range_with_len (run.first + 1) (run.last - run.first)
 run_head run f = let n : run.last + 1 - run.first ≡ suc (run.last - run.first) = omega (arith, f) in ap (range_with_len run.first) n
 
-run_tail : (run : Run) → IsFilled run → ids_of_run run ≡ range_with_len run.first (run.last - run.first) ++ run.last ∷ []
+pub run_tail : (run : Run) → IsFilled run → ids_of_run run ≡ range_with_len run.first (run.last - run.first) ++ run.last ∷ []
 run_tail run f =
     let n : run.last + 1 - run.first ≡ suc (run.last - run.first) = omega (arith, f) in
     let l : run.first + (run.last - run.first) ≡ run.last = omega (arith, f) in
@@ -322,12 +368,21 @@ last_filled runs rest None f s = (tt, subst (All IsFilled) (s.0 ∙ sym s.1) f)
 last_filled runs rest (Some next) f s =
     let a = subst (All IsFilled) s f in (All-last IsFilled rest next a, All-init IsFilled rest next a)
 
--- A walk over runs begins with the first.
-pub begins : (runs rest : List Run) (taken : Option Run) → All IsFilled runs → YieldsFirst (λ (rs : List Run). rs) runs taken rest →
-    Begins runs taken rest
-begins runs rest None f s = (s.0, s.1)
-begins runs rest (Some next) f s =
-    let a = subst (All IsFilled) s f in (s, All-head IsFilled next rest a, All-tail IsFilled next rest a)
+-- The first and the last of runs that are not empty.
+pub begins : (runs rest : List Run) (run : Run) → All IsFilled runs → runs ≡ run ∷ rest → Begins runs (Some run) rest
+begins runs rest run f e = let a = subst (All IsFilled) e f in (e, All-head IsFilled run rest a, All-tail IsFilled run rest a)
+
+pub ends : (runs rest : List Run) (run : Run) → All IsFilled runs → runs ≡ rest ++ run ∷ [] → Ends runs (Some run) rest
+ends runs rest run f e = let a = subst (All IsFilled) e f in (e, All-last IsFilled rest run a, All-init IsFilled rest run a)
+
+-- The run that was begun from above is the last of those that are left.
+pub last_left : (first : Option Run) (runs : List Run) (run : Run) → runs_left first runs (Some run) ≡ runs_left first runs None ++ run ∷ []
+last_left first runs run = ap (λ (l : List Run). l ++ run ∷ []) (sym (append-nil (option_to_list first ++ runs)))
+
+pub filled_to : (first last : Option Run) (runs : List Run) → All IsFilled (runs_left first runs None) → IfSome last IsFilled →
+    All IsFilled (runs_left first runs last)
+filled_to first None runs f l = f
+filled_to first (Some run) runs f l = rw (last_left first runs run) (All-push IsFilled (runs_left first runs None) run f l)
 
 -- The runs after the next one are not empty.
 pub filled_after : (run : Run) (runs rest : List Run) (taken : Option Run) → AreFilled (Some run) runs →
@@ -338,24 +393,23 @@ pub filled_before : (run : Run) (runs rest : List Run) (taken : Option Run) → 
     YieldsLast (λ (rs : List Run). rs) runs taken rest → AreFilled taken rest
 filled_before run runs rest taken f s = last_filled runs rest taken f.1 s
 
--- The next id is not freed if the next run begins above it.
-pub next_not_freed : (next b : ℕ) (freed : Option Run) (runs : List Run) → AreFilled freed runs → IfSome freed (λ run. next < run.first) →
-    AscendWithin next b (freed_from freed runs) → AscendWithin (next + 1) b (freed_from freed runs)
-next_not_freed next b None runs f l r = tt
-next_not_freed next b (Some run) runs f l r =
+-- The next n ids are not freed if the next run begins above them.
+pub next_not_freed : (next n b : ℕ) (freed : Option Run) (runs : List Run) → AreFilled freed runs → IfSome freed (λ run. next + n ≤ run.first) →
+    AscendWithin next b (freed_from freed runs) → AscendWithin (next + n) b (freed_from freed runs)
+next_not_freed next n b None runs f l r = tt
+next_not_freed next n b (Some run) runs f l r =
     let s = subst (λ (is : List ℕ). AscendWithin next b (is ++ flat_map ids_of_run runs)) (run_head run f.0) r in
-    subst (λ (is : List ℕ). AscendWithin (next + 1) b (is ++ flat_map ids_of_run runs)) (sym (run_head run f.0)) (omega (arith, l), s.1, s.2)
+    subst (λ (is : List ℕ). AscendWithin (next + n) b (is ++ flat_map ids_of_run runs)) (sym (run_head run f.0)) (l, s.1, s.2)
 
-pub last_not_freed : (a bound : ℕ) (freed : Option Run) (runs : List Run) → AreFilled freed runs → IfSome freed (λ run. run.last + 1 < bound) →
-    AscendWithin a bound (freed_to runs freed) → AscendWithin a (bound - 1) (freed_to runs freed)
-last_not_freed a bound None runs f l r = tt
-last_not_freed a bound (Some run) runs f l r =
+pub last_not_freed : (a bound n : ℕ) (freed : Option Run) (runs : List Run) → AreFilled freed runs → IfSome freed (λ run. run.last + n < bound) →
+    AscendWithin a bound (freed_to runs freed) → AscendWithin a (bound - n) (freed_to runs freed)
+last_not_freed a bound n None runs f l r = tt
+last_not_freed a bound n (Some run) runs f l r =
     let low = flat_map ids_of_run runs ++ range_with_len run.first (run.last - run.first) in
     let all : freed_to runs (Some run) ≡ low ++ run.last ∷ [] =
     ap (λ is. flat_map ids_of_run runs ++ is) (run_tail run f.0)
     ∙ sym (append_assoc (flat_map ids_of_run runs) (range_with_len run.first (run.last - run.first)) (run.last ∷ [])) in
-    let d : run.last ≢ bound - 1 = λ e. omega (arith, e, l) in
-    subst (AscendWithin a (bound - 1)) (sym all) (last_below a bound run.last low d (subst (AscendWithin a bound) all r)).1
+    subst (AscendWithin a (bound - n)) (sym all) (last_below a bound (bound - n) run.last low (omega (arith, l)) (subst (AscendWithin a bound) all r))
 
 pub ruleset walks = (none_left)
 

@@ -1,5 +1,5 @@
 -- Rows: the numbers from a to below a + n.
-use Rattle.std.proofs.Common.{◌≡◌, ℕ, zero, suc, ◌+◌, ◌<◌, ◌≤◌, ◌&&◌, Bool, leb, ltb, List, [], ◌∷◌, ◌++◌, refl, ap, ◌∙◌, arith}
+use Rattle.std.proofs.Common.{◌≡◌, ℕ, zero, suc, ◌+◌, ◌<◌, ◌≤◌, ◌&&◌, Bool, true, leb, ltb, List, [], ◌∷◌, ◌++◌, refl, ap, ◌∙◌, arith}
 use Rattle.std.proofs.lemmas.Map.Views.{any-filter_same}
 use Rattle.std.proofs.lemmas.List.Kept.{IsStrictlySortedBy-filter}
 use Rattle.std.specs.List.{filter, list_any, range_with_len}
@@ -15,6 +15,24 @@ pub same_kept : (p q : ℕ → Bool) (a n : ℕ) → ((i : ℕ) → a ≤ i → 
 same_kept p q a zero h = refl
 same_kept p q a (suc n) h =
     rw (h a (omega arith) (omega arith), same_kept p q (a + 1) n (λ i l u. h i (omega arith) (omega arith))) refl
+
+-- A test that is true of a row keeps all of it.
+pub row_kept : (p : ℕ → Bool) (a n : ℕ) → ((i : ℕ) → a ≤ i → i < a + n → p i ≡ true) → filter p (range_with_len a n) ≡ range_with_len a n
+row_kept p a zero h = refl
+row_kept p a (suc n) h =
+    rw (h a (omega arith) (omega arith), row_kept p (a + 1) n (λ i l u. h i (omega arith) (omega arith))) refl
+
+-- A row in two parts.
+pub row_parted : (a m n : ℕ) → range_with_len a (m + n) ≡ range_with_len a m ++ range_with_len (a + m) n
+row_parted a zero n =
+    let all : 0 + n ≡ n = omega arith in
+    let first : a ≡ a + 0 = omega arith in
+    ap (range_with_len a) all ∙ ap (λ (i : ℕ). range_with_len i n) first
+row_parted a (suc m) n =
+    let more : suc m + n ≡ suc (m + n) = omega arith in
+    let next : a + 1 + m ≡ a + suc m = omega arith in
+    ap (range_with_len a) more
+    ∙ ap (λ (is : List ℕ). a ∷ is) (row_parted (a + 1) m n ∙ ap (λ (i : ℕ). range_with_len (a + 1) m ++ range_with_len i n) next)
 
 -- The last number of a row.
 pub row_end : (a n : ℕ) → range_with_len a (suc n) ≡ range_with_len a n ++ (a + n) ∷ []

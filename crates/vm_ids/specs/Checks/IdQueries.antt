@@ -1,5 +1,5 @@
 -- The walk over the held ids, and a part of equality. Only private functions and the iterator cite them.
-use Rattle.std.specs.Prelude.{◌≡◌, ℕ, ◌+◌, ◌-◌, ◌^◌, ◌<◌, ◌≤◌, not, List, [], ◌∷◌, ◌++◌, length, Option, Some, None, IfSome, option_to_list}
+use Rattle.std.specs.Prelude.{◌≡◌, ℕ, ◌+◌, ◌-◌, ◌^◌, ◌<◌, ◌≤◌, min, max, not, List, [], ◌∷◌, ◌++◌, length, Option, Some, None, IfSome, option_to_list}
 use Rattle.std.specs.List.{All, filter, flat_map, list_any, range_with_len}
 use Rattle.std.specs.Ordering.{nat_cmp, eq_by_cmp}
 use Rattle.vm_chunks.specs.Runs.{ids_of_run}
@@ -16,9 +16,9 @@ abbrev pub freed_to : List Run → Option Run → List ℕ
 freed_to below None = []
 freed_to below (Some run) = flat_map ids_of_run below ++ ids_of_run run
 
--- The freed ids that are ahead: those of the run that was begun, if there is one, and of the runs above it.
-abbrev pub freed_ahead : Option Run → List Run → List ℕ
-freed_ahead run runs = flat_map ids_of_run (option_to_list run ++ runs)
+-- The runs of a walk from both ends: what is left of the run begun from below, the others, and that begun from above.
+abbrev pub runs_left : Option Run → List Run → Option Run → List Run
+runs_left first runs last = option_to_list first ++ runs ++ option_to_list last
 
 -- The run is not empty.
 abbrev pub IsFilled : Run → Type 0
@@ -33,10 +33,25 @@ unfoldable pub ids_left : ℕ → ℕ → List ℕ → List ℕ
 ids_left next bound freed =
     filter (λ i. not (list_any (eq_by_cmp nat_cmp i) freed)) (range_with_len next (bound - next))
 
+-- The held ids below the next run of freed ids end where it begins, or at the bound.
+abbrev pub held_end : ℕ → Option Run → ℕ
+held_end bound None = bound
+held_end bound (Some run) = min bound run.first
+
+-- The held ids above the last run of freed ids start behind it, or at the next id.
+abbrev pub held_start : ℕ → Option Run → ℕ
+held_start next None = next
+held_start next (Some run) = max next (run.last + 1)
+
 -- The run is the first of the runs and the others are left, or there is none. None of them is empty.
 abbrev pub Begins : List Run → Option Run → List Run → Type 0
 Begins runs None left = (runs ≡ []) × (left ≡ [])
 Begins runs (Some run) left = (runs ≡ run ∷ left) × IsFilled run × All IsFilled left
+
+-- The run is the last of the runs and the others are left, or there is none. None of them is empty.
+abbrev pub Ends : List Run → Option Run → List Run → Type 0
+Ends runs None left = (runs ≡ []) × (left ≡ [])
+Ends runs (Some run) left = (runs ≡ left ++ run ∷ []) × IsFilled run × All IsFilled left
 
 -- The numbers are in strictly ascending order, at least `lowest` and below `bound`.
 abbrev pub AscendWithin : ℕ → ℕ → List ℕ → Type 0

@@ -21,7 +21,14 @@ where
     assert_eq!(each, list);
     let middle = list.len() / 2;
     assert_eq!(items.clone().nth(middle), list.get(middle).copied());
-    assert!(items.skip(middle).eq(list[middle..].iter().copied()));
+    assert!(items
+        .clone()
+        .skip(middle)
+        .eq(list[middle..].iter().copied()));
+    let thirds = list.iter().copied().step_by(3);
+    assert!(items.clone().step_by(3).eq(thirds));
+    let mut past = items;
+    assert_eq!((past.nth(list.len()), past.next()), (None, None));
 }
 
 /// Returns `None`, after a look at the least and the greatest of the ascending items of an iterator.

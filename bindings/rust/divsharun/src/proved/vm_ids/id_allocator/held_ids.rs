@@ -32,6 +32,64 @@ impl<'a> HeldIds<'a> {
     pub fn count_left(&self) -> u64 {
         self.left
     }
+
+    /// Passes the `count` lowest ids that are left, or all of them if fewer are left.
+    ///
+    /// It takes one step for each run of freed ids that it passes, however many ids are between them.
+    pub fn advance_by(&mut self, count: u64) {
+        let mut rest = count;
+        while rest > 0 && self.next < self.bound {
+            match self.next_freed {
+                Some(run) if u64::from(run.first) <= self.next => {
+                    self.next = u64::from(run.last) + 1;
+                    self.next_freed = self.freed_above.next();
+                }
+                _ => {
+                    let step = rest.min(held_end(self.bound, self.next_freed) - self.next);
+                    self.next += step;
+                    self.left -= step;
+                    rest -= step;
+                }
+            }
+        }
+    }
+
+    /// Passes the `count` highest ids that are left, or all of them if fewer are left.
+    ///
+    /// It takes one step for each run of freed ids that it passes, however many ids are between them.
+    pub fn advance_back_by(&mut self, count: u64) {
+        let mut rest = count;
+        while rest > 0 && self.next < self.bound {
+            match self.last_freed {
+                Some(run) if self.bound <= u64::from(run.last) + 1 => {
+                    self.bound = run.first.into();
+                    self.last_freed = self.freed_below.next_back();
+                }
+                _ => {
+                    let step = rest.min(self.bound - held_start(self.next, self.last_freed));
+                    self.bound -= step;
+                    self.left -= step;
+                    rest -= step;
+                }
+            }
+        }
+    }
+}
+
+/// Returns where the allocated ids below the next run of freed ids end.
+fn held_end(bound: u64, freed: Option<Run>) -> u64 {
+    match freed {
+        Some(run) => bound.min(run.first.into()),
+        None => bound,
+    }
+}
+
+/// Returns where the allocated ids above the last run of freed ids start.
+fn held_start(next: u64, freed: Option<Run>) -> u64 {
+    match freed {
+        Some(run) => next.max(u64::from(run.last) + 1),
+        None => next,
+    }
 }
 
 impl<'a> Iterator for HeldIds<'a> {

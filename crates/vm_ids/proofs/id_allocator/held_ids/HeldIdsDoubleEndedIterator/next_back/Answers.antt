@@ -1,7 +1,7 @@
 use Rattle.std.proofs.Common.{◌<◌, ◌+◌, length, sym, ap, ◌∙◌, arith, IfSome}
 use Rattle.std.proofs.lemmas.List.{length_push}
 use Rattle.vm_chunks.specs.declared.id_set.Run.{Run}
-use Rattle.vm_ids.proofs.Ids.HeldIds.{passes_run_back, last_run_fits, filled_before, last_not_freed, visits_last}
+use Rattle.vm_ids.proofs.Ids.HeldIds.{passes_run_back, last_run_fits, filled_before, last_not_freed, visits_row_back}
 use Rattle.vm_ids.proofs.id_allocator.held_ids.HeldIdsDoubleEndedIterator.next_back.Goals as goal
 use Rattle.vm_ids.proofs.id_allocator.held_ids.HeldIdsDoubleEndedIterator.next_back.Goals.{in_default-via-in-Some+else-self-from, in_default-via-in_default}
 
@@ -39,7 +39,7 @@ overflow_sub-self-in_default c =
       | in_default-via-in-Some+else-self-from w ↦ rw w.in-Some.is (omega (arith, w.if-self-from.false, w.from.ensures))
       | in_default-via-in_default w ↦ rw w.in_default.is tt
     ] in
-    (visits_last _ _ c.loop-self-test.true _ _ _ (last_not_freed _ _ _ _ h.below below h.valid.to_bound) h.valid).1
+    (visits_row_back _ _ 1 (omega (arith, c.loop-self-test.true)) _ _ _ h.valid (last_not_freed _ _ 1 _ _ h.below below h.valid.to_bound)).1
 
 pub invariant_of-self-in_default : goal.invariant_of-self-in_default
 invariant_of-self-in_default c =
@@ -48,7 +48,7 @@ invariant_of-self-in_default c =
       | in_default-via-in-Some+else-self-from w ↦ rw w.in-Some.is (omega (arith, w.if-self-from.false, w.from.ensures))
       | in_default-via-in_default w ↦ rw w.in_default.is tt
     ] in
-    ((visits_last _ _ c.loop-self-test.true _ _ _ (last_not_freed _ _ _ _ h.below below h.valid.to_bound) h.valid).0, h.above, h.below)
+    ((visits_row_back _ _ 1 (omega (arith, c.loop-self-test.true)) _ _ _ h.valid (last_not_freed _ _ 1 _ _ h.below below h.valid.to_bound)).0, h.above, h.below)
 
 pub returns-in_default-clause-steps : goal.returns-in_default-clause-steps
 returns-in_default-clause-steps c =
@@ -57,7 +57,7 @@ returns-in_default-clause-steps c =
       | in_default-via-in-Some+else-self-from w ↦ rw w.in-Some.is (omega (arith, w.if-self-from.false, w.from.ensures))
       | in_default-via-in_default w ↦ rw w.in_default.is tt
     ] in
-    let visit = visits_last _ _ c.loop-self-test.true _ _ _ (last_not_freed _ _ _ _ h.below below h.valid.to_bound) h.valid in
+    let visit = visits_row_back _ _ 1 (omega (arith, c.loop-self-test.true)) _ _ _ h.valid (last_not_freed _ _ 1 _ _ h.below below h.valid.to_bound) in
     sym c.self.view_is ∙ sym h.same ∙ visit.2
 
 pub returns-in_default-clause-goes : goal.returns-in_default-clause-goes

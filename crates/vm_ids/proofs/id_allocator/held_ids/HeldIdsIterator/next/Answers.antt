@@ -1,6 +1,6 @@
-use Rattle.std.proofs.Common.{◌<◌, length, sym, ap, ◌∙◌, arith, IfSome}
+use Rattle.std.proofs.Common.{◌+◌, ◌≤◌, length, sym, ap, ◌∙◌, arith, IfSome}
 use Rattle.vm_chunks.specs.declared.id_set.Run.{Run}
-use Rattle.vm_ids.proofs.Ids.HeldIds.{passes_run, run_fits, filled_after, next_not_freed, visits_first}
+use Rattle.vm_ids.proofs.Ids.HeldIds.{passes_run, run_fits, filled_after, next_not_freed, visits_row}
 use Rattle.vm_ids.proofs.id_allocator.held_ids.HeldIdsIterator.next.Goals as goal
 use Rattle.vm_ids.proofs.id_allocator.held_ids.HeldIdsIterator.next.Goals.{in_default-via-in-Some+else-from-self, in_default-via-in_default}
 
@@ -26,29 +26,29 @@ loop-self-preserved c =
 pub overflow_sub-self : goal.overflow_sub-self
 overflow_sub-self c =
     let h = c.loop-self.invariant in
-    let above : IfSome c.loop-self.self-inside.next_freed (λ (run : Run). c.loop-self.self-inside.next < run.first) = elim c.in_default.branch [
+    let above : IfSome c.loop-self.self-inside.next_freed (λ (run : Run). c.loop-self.self-inside.next + 1 ≤ run.first) = elim c.in_default.branch [
       | in_default-via-in-Some+else-from-self w ↦ rw w.in-Some.is (omega (arith, w.if-from-self.false, w.from.ensures))
       | in_default-via-in_default w ↦ rw w.in_default.is tt
     ] in
-    (visits_first _ _ c.loop-self-test.true _ _ _ (next_not_freed _ _ _ _ h.above above h.valid.from_next) h.valid).1
+    (visits_row _ _ 1 (omega (arith, c.loop-self-test.true)) _ _ _ h.valid (next_not_freed _ 1 _ _ _ h.above above h.valid.from_next)).1
 
 pub invariant_of-self-in_default : goal.invariant_of-self-in_default
 invariant_of-self-in_default c =
     let h = c.loop-self.invariant in
-    let above : IfSome c.loop-self.self-inside.next_freed (λ (run : Run). c.loop-self.self-inside.next < run.first) = elim c.in_default.branch [
+    let above : IfSome c.loop-self.self-inside.next_freed (λ (run : Run). c.loop-self.self-inside.next + 1 ≤ run.first) = elim c.in_default.branch [
       | in_default-via-in-Some+else-from-self w ↦ rw w.in-Some.is (omega (arith, w.if-from-self.false, w.from.ensures))
       | in_default-via-in_default w ↦ rw w.in_default.is tt
     ] in
-    ((visits_first _ _ c.loop-self-test.true _ _ _ (next_not_freed _ _ _ _ h.above above h.valid.from_next) h.valid).0, h.above, h.below)
+    ((visits_row _ _ 1 (omega (arith, c.loop-self-test.true)) _ _ _ h.valid (next_not_freed _ 1 _ _ _ h.above above h.valid.from_next)).0, h.above, h.below)
 
 pub returns-in_default-clause-steps : goal.returns-in_default-clause-steps
 returns-in_default-clause-steps c =
     let h = c.loop-self.invariant in
-    let above : IfSome c.loop-self.self-inside.next_freed (λ (run : Run). c.loop-self.self-inside.next < run.first) = elim c.in_default.branch [
+    let above : IfSome c.loop-self.self-inside.next_freed (λ (run : Run). c.loop-self.self-inside.next + 1 ≤ run.first) = elim c.in_default.branch [
       | in_default-via-in-Some+else-from-self w ↦ rw w.in-Some.is (omega (arith, w.if-from-self.false, w.from.ensures))
       | in_default-via-in_default w ↦ rw w.in_default.is tt
     ] in
-    let visit = visits_first _ _ c.loop-self-test.true _ _ _ (next_not_freed _ _ _ _ h.above above h.valid.from_next) h.valid in
+    let visit = visits_row _ _ 1 (omega (arith, c.loop-self-test.true)) _ _ _ h.valid (next_not_freed _ 1 _ _ _ h.above above h.valid.from_next) in
     sym c.self.view_is ∙ sym h.same ∙ visit.2
 
 pub returns-in_default-clause-goes : goal.returns-in_default-clause-goes
