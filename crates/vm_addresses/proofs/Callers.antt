@@ -1,6 +1,7 @@
 -- Facts for callers about allocated ranges, and about allocators that were saved.
 use Rattle.std.proofs.Common.{
   ◌≡◌,
+  ◌≢◌,
   ℕ,
   ◌+◌,
   ◌-◌,
@@ -37,16 +38,16 @@ use Rattle.serde_json.specs.Data.{Data}
 use Rattle.vm_ranges.specs.Range.{Range, IsIn, Overlaps, Covers, address_count, span}
 use Rattle.vm_addresses.specs.Address.{AddressState, AreClear, IsPlace, IsAddressState, holding, releasing, without_range}
 use Rattle.vm_ranges.specs.Alignment.{IsAlignment}
-use Rattle.vm_ranges.specs.Request.{Request, request_for, IsRequest, IsStartAligned, ByConstraint}
+use Rattle.vm_ranges.specs.Request.{Request, request_for, IsRequest, IsStartAligned}
 use Rattle.vm_addresses.specs.Windows.{within}
-use Rattle.vm_addresses.specs.Answer.{SPLIT_LIMIT_MIN_HELD, IsChosen, AllocatesAt, Grants, Allocates, Frees}
+use Rattle.vm_addresses.specs.Answer.{SPLIT_LIMIT_MIN_HELD, IsChosen, AllocatesAt, Allocates, Frees}
 use Rattle.vm_addresses.specs.Values.AllocatorValues.{EncodesAddresses}
 use Rattle.vm_ranges.specs.declared.error.Error.{Error}
 use Rattle.vm_ranges.specs.declared.error.Error.TheVariants.{Overflow, OutOfMemory, ResourceNotAvailable}
 use Rattle.vm_ranges.specs.declared.constraint.AllocPolicy.{AllocPolicy}
 use Rattle.vm_ranges.specs.declared.constraint.AllocPolicy.TheVariants.{ExactMatch}
 use Rattle.vm_addresses.proofs.Blocks.PlainWords.{IsHeldAddress, IsHeld as IsHeldRange, contains_held, held_contains, all_miss, none_holds, held_address}
-use Rattle.vm_addresses.proofs.Blocks.HeldSets.{held_lies, one_held}
+use Rattle.vm_addresses.proofs.Blocks.HeldSets.{held_lies, one_held, one_start as one_held_start}
 use Rattle.vm_addresses.proofs.Blocks.HeldChanges.{held_now, held_without, not_held_without}
 use Rattle.vm_addresses.proofs.Results.AddressResults.{releases_held}
 use Rattle.vm_addresses.proofs.Results.Once.{chosen_place, place_in_window}
@@ -260,6 +261,24 @@ range_was_free old new request r h c =
     let inside : IsIn r r.start = (omega arith, omega arith) in
     none_holds old.held r.start (g.place.1 r.start (omega arith) (omega arith)).1
     (held_address old.held r r.start (held_contains old.held r c) inside)
+
+-- Held ranges with the same start are the same range.
+pub one_start : (space : AddressState) → IsAddressState space → (q r : Range) → Contains space.held q → Contains space.held r →
+    q.start ≡ r.start → q ≡ r
+one_start space i q r c d e =
+    one_held_start space.space.start space.space.end q r space.held i.in_order (held_contains space.held q c) (held_contains space.held r d) e
+
+-- A range that was held before does not start where an allocated range starts.
+pub start_was_free : (old new : AddressState) (request : Request) (q r : Range) → IsAddressState old → Allocates old request (Ok r) new →
+    Contains old.held q → q.start ≢ r.start
+unfolding IsPlace
+start_was_free old new request q r i h c e =
+    let g = given old new request r h in
+    let some = g.some in
+    let held = held_contains old.held q c in
+    let l = held_lies old.space.start old.space.end old.held q i.in_order held in
+    none_holds old.held r.start (g.place.1 r.start (omega arith) (omega arith)).1
+    (held_address old.held q r.start held (omega (arith, e), omega (arith, e, l.1)))
 
 -- A freed range is not held after the call, and nothing else changes.
 pub freed_state : (old new : AddressState) (r : Range) (answer : Result (Unit {0}) Error) → Frees old r answer new →

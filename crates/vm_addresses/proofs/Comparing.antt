@@ -1,3 +1,4 @@
+pub mod Items
 pub mod Orders
 pub mod StateOrders
 pub mod Tilings

@@ -1,4 +1,5 @@
 pub mod Allocating
+pub mod AllocatingParts
 pub mod Balanced
 pub mod GapSearches
 pub mod LeftClear

@@ -1,12 +1,9 @@
 -- Decidable facts of the state of an allocator.
-use Rattle.std.proofs.Common.{◌≡◌, ℕ, ◌+◌, ◌-◌, ◌%◌, ◌<◌, ◌≤◌, List, [], ◌∷◌, refl, ap, subst, arith, inl, inr, ⊎_elim, Option, Some, None, IfSome}
-use Rattle.std.proofs.lemmas.Bool.{cases_eq, cases_lt}
+use Rattle.std.proofs.Common.{◌≡◌, ℕ, ◌+◌, ◌-◌, ◌%◌, ◌<◌, List, [], ◌∷◌, refl, subst, arith, inl, inr, ⊎_elim}
+use Rattle.std.proofs.lemmas.Bool.{cases_eq}
 use Rattle.std.specs.List.{Contains}
-use Rattle.vm_ranges.specs.Range.{Range, MAX, IsRange, IsIn, Covers, address_count}
-use Rattle.vm_ranges.specs.Request.{Request}
+use Rattle.vm_ranges.specs.Range.{Range, MAX, IsRange, IsIn}
 use Rattle.vm_addresses.specs.Address.{AddressState, IsClear, AreClear, IsPlace, SplitsGap}
-use Rattle.vm_ranges.specs.declared.constraint.AllocPolicy.{AllocPolicy}
-use Rattle.vm_ranges.specs.declared.constraint.AllocPolicy.TheVariants.{FirstMatch, LastMatch, ExactMatch}
 use Rattle.vm_ranges.proofs.Decisions.{Decided, decided_both, decided_if, decided_below, decided_up_to, decided_row, decided_in, decided_same}
 use Rattle.vm_addresses.proofs.Blocks.PlainWords.{IsHeldAddress, IsHeld, contains_held, held_contains, all_miss, none_holds}
 

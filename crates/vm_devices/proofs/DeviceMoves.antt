@@ -11,12 +11,11 @@ use Rattle.vm_ranges.specs.declared.error.Error.{Error}
 use Rattle.vm_ranges.specs.declared.error.Error.TheVariants.{NeverAllocated, OutOfMemory}
 use Rattle.vm_addresses.specs.Address.{AddressState, releasing}
 use Rattle.vm_addresses.specs.Moves.{MovesRange, replacing}
-use Rattle.vm_addresses.proofs.Callers.{given, range_was_free, frees_held, request_fits, request_inside}
+use Rattle.vm_addresses.proofs.Callers.{given, one_start, range_was_free, frees_held, request_fits, request_inside}
 use Rattle.vm_addresses.proofs.Histories.MoveSteps.{moved_parts, move_state}
 use Rattle.vm_addresses.proofs.Results.AddressResults.{adds_range, removes_range, state_is_preserved}
 use Rattle.vm_devices.specs.Checks.{IsOnlyStart}
 use Rattle.vm_devices.specs.Devices.{DeviceState, IsDevice, ArePaired, IsDeviceState, devices_of, Replaces, MovesDevice, with_range}
-use Rattle.vm_devices.proofs.DeviceStarts.{one_start}
 use Rattle.vm_devices.proofs.Tables.{get_with, with_here}
 
 -- ---- A device whose range moves

@@ -1,30 +1,18 @@
 -- Devices start at different addresses, and a new device starts at none of them. The device at an address is found by a start.
-use Rattle.std.proofs.Common.{◌≡◌, ℕ, refl, sym, ap, ◌∙◌, arith, inl, inr, subst, Option, Some, None, IsSome, Ok, ◌↔◌, option_map}
-use Rattle.std.specs.List.{Contains}
+use Rattle.std.proofs.Common.{◌≡◌, ℕ, refl, sym, ap, ◌∙◌, subst, Option, Some, None, IsSome, Ok, ◌↔◌, option_map}
 use Rattle.std.specs.FinMap as map
 use Rattle.vm_ranges.proofs.Steps.{map_some}
-use Rattle.vm_ranges.specs.Range.{Range, Overlaps, IsIn}
+use Rattle.vm_ranges.specs.Range.{Range, IsIn}
 use Rattle.vm_ranges.specs.Request.{Request}
-use Rattle.vm_addresses.specs.Address.{AddressState, IsAddressState}
+use Rattle.vm_addresses.specs.Address.{AddressState}
 use Rattle.vm_addresses.specs.Answer.{Allocates}
 use Rattle.vm_ids.specs.Ids.{IsNotHeld}
-use Rattle.vm_addresses.proofs.Results.AddressResults.{adds_range, state_is_preserved, lie_apart}
-use Rattle.vm_addresses.proofs.Callers.{range_was_free}
+use Rattle.vm_addresses.proofs.Callers.{one_start, start_was_free}
 use Rattle.vm_devices.specs.Devices.{DeviceState, IsDevice, IsDeviceState}
 use Rattle.vm_devices.proofs.Tables.{absent}
 use Rattle.vm_devices.specs.Checks.{IsOnlyStart, StartsAt}
 use Rattle.vm_addresses.specs.Queries.{IsHeldAt}
 use Rattle.vm_devices.specs.Queries.{DeviceAt}
-
--- Held ranges with the same start are the same range.
-pub one_start : (space : AddressState) → IsAddressState space → (q r : Range) → Contains space.held q → Contains space.held r →
-    q.start ≡ r.start → q ≡ r
-unfolding Overlaps
-one_start space i q r c d e =
-    let l = lie_apart space i in
-    let first = (l.inside q c).0 in
-    let second = (l.inside r d).0 in
-    l.apart q r c d (q.start, (omega arith, omega (arith, first)), (omega (arith, e), omega (arith, e, second)))
 
 -- Devices with the same start are the same device.
 pub devices_start_apart : (state : DeviceState) (j k : ℕ) (q r : Range) → IsDeviceState state → IsDevice state j q → IsDevice state k r →
@@ -41,11 +29,7 @@ pub new_start : (old : DeviceState) (mid : AddressState) (request : Request) (id
     Allocates old.space request (Ok r) mid → IsOnlyStart old.devices id r.start
 new_start old mid request id r i a other h =
     let f = map_some (λ (q : Range). q.start) (map.get old.devices other) r.start h in
-    let held = i.pairs.held other f.0 f.1 in
-    let added = adds_range old.space mid request r i.space a in
-    let one = one_start mid (state_is_preserved.allocated old.space mid request (Ok r) i.space a) f.0 r ((added.held f.0).1 (inl held))
-    ((added.held r).1 (inr refl)) f.2 in
-    absurd (range_was_free old.space mid request r a (subst (Contains old.space.held) one held))
+    absurd (start_was_free old.space mid request f.0 r i.space a (i.pairs.held other f.0 f.1) f.2)
 
 -- No held range contains the address.
 pub no_range_at : (state : DeviceState) (x : ℕ) → IsDeviceState state → IsHeldAt state.space x None → DeviceAt state x None

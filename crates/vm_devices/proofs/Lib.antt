@@ -1,7 +1,6 @@
 pub mod Tables
 pub mod Pairs
 pub mod DeviceHistories
-pub mod DeviceParts
 pub mod DeviceMoves
 pub mod DevicesAgain
 pub mod DevicesOnce

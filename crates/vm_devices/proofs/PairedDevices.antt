@@ -42,6 +42,7 @@ use Rattle.vm_ranges.proofs.Steps.{map_some}
 use Rattle.vm_ranges.specs.Cases.{IsTestOf}
 use Rattle.vm_ranges.specs.Range.{Range}
 use Rattle.vm_addresses.specs.Address.{AddressState, IsAddressState}
+use Rattle.vm_addresses.proofs.Callers.{one_start}
 use Rattle.vm_ids.specs.Ids.{IdState, IsHeld, held_count}
 use Rattle.vm_ids.proofs.Ids.RisingIds.{entries_of_sorted}
 use Rattle.vm_devices.specs.declared.device_slot.DeviceSlot.{DeviceSlot}
@@ -50,7 +51,6 @@ use Rattle.vm_devices.specs.Listed.{entries_of, HaveAscendingIds, listed_state, 
 use Rattle.vm_devices.specs.Queries.{entry_of}
 use Rattle.vm_devices.specs.SavedChecks.{CanBeInserted}
 use Rattle.vm_devices.proofs.Entries.{AreHeld, pairs_all, all_held, all_counted, entry_got, got_entry}
-use Rattle.vm_devices.proofs.DeviceStarts.{one_start}
 use Rattle.vm_devices.proofs.AscendingIds.{ids_of, front_ascends, id_at, ids_long}
 use Rattle.vm_devices.proofs.Tables.{absent, get_with}
 

@@ -1,20 +1,14 @@
 -- The view of a manager in clauses, and its state.
-use Rattle.std.specs.Prelude.{◌≡◌, ℕ, ◌⊎◌, [], ◌∷◌, Result, Ok, Err, IfErr, refl}
+use Rattle.std.specs.Prelude.{Result, Ok, Err, refl}
 use Rattle.std.specs.Ordering.{nat_cmp}
 use Rattle.std.specs.Coded.{Coded, code_by, coded×, coded_ℕ}
 use Rattle.std.specs.FinMap as map
 use Rattle.vm_ranges.specs.Range.{Range, range_code}
-use Rattle.vm_ranges.specs.Request.{Request}
-use Rattle.vm_ranges.specs.declared.error.Error.{Error}
-use Rattle.vm_ranges.specs.declared.error.Error.TheVariants.{OutOfMemory}
-use Rattle.vm_tree.specs.Shape.{Shape}
-use Rattle.vm_addresses.specs.Counts.Parts.{Allocating, Freeing, HasParts, TakesParts}
 use Rattle.vm_ids.specs.Ids.{IdState, id_state_code}
 use Rattle.vm_tree.specs.Shape.{Shape}
 use Rattle.vm_tree.specs.ShapeCode.{shape_code}
 use Rattle.vm_addresses.specs.Allocator.{state_of}
 use Rattle.vm_devices.specs.Devices.{DeviceState, devices_of}
-use Rattle.vm_devices.specs.declared.device_slot.DeviceSlot.{DeviceSlot}
 
 -- The ids of a manager, the view of its address allocator, and the range of each device by its id.
 pub record DevicesInTree : Type 0 where
@@ -39,14 +33,3 @@ device_state manager = devices_of manager.ids (state_of manager.addresses) manag
 abbrev pub made_manager : {E : Type 0} → Result DevicesInTree E → Result DeviceState E
 made_manager (Ok manager) = Ok (device_state manager)
 made_manager (Err error) = Err error
-
--- A range was allocated for the request, and freed again.
-abbrev pub GivesBack : Shape → Request → Shape → Type 0
-GivesBack old request new =
-    (r : Range) × (n : ℕ) × (m : ℕ) × HasParts old (Allocating request (Ok r) n ∷ Freeing r m ∷ []) new
-
--- A reservation takes an allocation and at most one free. Its errors leave the same manager, unless memory ran out after the
--- range was allocated.
-pub record ReservesInParts (old : DevicesInTree) (request : Request) (answer : Result DeviceSlot Error) (new : DevicesInTree) : Type 0 where
-  pub parts : TakesParts 2 old.addresses (request ∷ []) new.addresses
-  pub same : IfErr answer (λ e. (new ≡ old) ⊎ ((e ≡ OutOfMemory) × GivesBack old.addresses request new.addresses))

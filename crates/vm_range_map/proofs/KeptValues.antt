@@ -8,7 +8,7 @@ use Rattle.vm_ranges.specs.declared.error.Error.{Error}
 use Rattle.vm_addresses.specs.Address.{AddressState, IsAddressState, holding, releasing}
 use Rattle.vm_addresses.specs.Answer.{Allocates}
 use Rattle.vm_addresses.specs.Moves.{MovesRange}
-use Rattle.vm_addresses.proofs.Callers.{given, frees_held}
+use Rattle.vm_addresses.proofs.Callers.{given, one_start, frees_held}
 use Rattle.vm_addresses.proofs.Histories.MoveSteps.{moved_parts}
 use Rattle.vm_addresses.proofs.Results.AddressResults.{adds_range, removes_range, lie_apart}
 use Rattle.vm_range_map.specs.RangeMaps.{
@@ -30,7 +30,7 @@ use Rattle.vm_range_map.specs.RangeMaps.{
 }
 use Rattle.vm_range_map.specs.Laws.{ValueIsAtItsAddresses, OthersKeepValues, RangesKeepValues}
 use Rattle.vm_range_map.proofs.Tables.{get_with, get_without, with_here}
-use Rattle.vm_range_map.proofs.MapStates.{one_start, new_start, without_state}
+use Rattle.vm_range_map.proofs.MapStates.{new_start, without_state}
 
 -- A held range that contains an address is not in no held range.
 pub missed : (space : AddressState) (r : Range) (x : ℕ) → Contains space.held r → IsIn r x → ¬ IsInNone space x

@@ -1,7 +1,6 @@
 pub mod Tables
 pub mod MapStates
 pub mod MapCalls
-pub mod MapParts
 pub mod ValuedLists
 pub mod EqualMaps
 pub mod KeptValues

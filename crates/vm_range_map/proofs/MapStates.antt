@@ -3,26 +3,16 @@ use Rattle.std.proofs.Common.{◌≡◌, ◌≢◌, ℕ, ◌≤◌, ◌⊎◌, a
 use Rattle.std.specs.List.{Contains}
 use Rattle.std.specs.Ordering.{nat_cmp}
 use Rattle.std.specs.FinMap as map
-use Rattle.vm_ranges.specs.Range.{Range, MAX, Overlaps}
+use Rattle.vm_ranges.specs.Range.{Range, MAX}
 use Rattle.vm_ranges.specs.Request.{Request}
-use Rattle.vm_addresses.specs.Address.{AddressState, IsAddressState, holding, releasing}
+use Rattle.vm_addresses.specs.Address.{AddressState, holding, releasing}
 use Rattle.vm_addresses.specs.Answer.{Allocates, Makes}
 use Rattle.vm_addresses.specs.Moves.{MovesRange}
-use Rattle.vm_addresses.proofs.Callers.{given, range_was_free, frees_held}
+use Rattle.vm_addresses.proofs.Callers.{given, one_start, start_was_free, frees_held}
 use Rattle.vm_addresses.proofs.Histories.MoveSteps.{moved_parts}
-use Rattle.vm_addresses.proofs.Results.AddressResults.{made_is, adds_range, removes_range, state_is_preserved, lie_apart}
+use Rattle.vm_addresses.proofs.Results.AddressResults.{made_is, adds_range, removes_range, state_is_preserved}
 use Rattle.vm_range_map.specs.RangeMaps.{MapState, map_of, IsMapState, with_range, without_range, with_value, with_moved}
 use Rattle.vm_range_map.proofs.Tables.{get_with, get_without}
-
--- Held ranges with the same start are the same range.
-pub one_start : (space : AddressState) → IsAddressState space → (q r : Range) → Contains space.held q → Contains space.held r →
-    q.start ≡ r.start → q ≡ r
-unfolding Overlaps
-one_start space i q r c d e =
-    let l = lie_apart space i in
-    let first = (l.inside q c).0 in
-    let second = (l.inside r d).0 in
-    l.apart q r c d (q.start, (omega arith, omega (arith, first)), (omega (arith, e), omega (arith, e, second)))
 
 -- An option with a value is that value.
 pub some_value : (o : Option ℕ) → IsSome o → (value : ℕ) × (o ≡ Some value)
@@ -107,10 +97,7 @@ module _ (old : MapState) (i : IsMapState old) (r : Range) where
     pub new_start : map.get old.values r.start ≡ None
     new_start = absent (map.get old.values r.start) (λ h.
         let q = (i.starts r.start).0 h in
-        let added = adds_range old.space mid request r i.space a in
-        let one = one_start mid (state_is_preserved.allocated old.space mid request (Ok r) i.space a) q.0 r ((added.held q.0).1 (inl q.1))
-        ((added.held r).1 (inr refl)) q.2 in
-        range_was_free old.space mid request r a (subst (Contains old.space.held) one q.1))
+        start_was_free old.space mid request q.0 r i.space a q.1 q.2)
 
     -- With a new range, the state is still valid.
     pub with_state : (value : ℕ) → IsMapState (with_range r value old)

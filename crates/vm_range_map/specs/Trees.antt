@@ -1,16 +1,11 @@
 -- The view of a map in clauses, and its state.
-use Rattle.std.specs.Prelude.{◌≡◌, ℕ, ◌⊎◌, [], ◌∷◌, Result, Ok, Err, IfErr, refl}
+use Rattle.std.specs.Prelude.{ℕ, Result, Ok, Err, refl}
 use Rattle.std.specs.Ordering.{nat_cmp}
 use Rattle.std.specs.Coded.{Coded, code_by, coded×, coded_ℕ}
 use Rattle.std.specs.FinMap as map
-use Rattle.vm_ranges.specs.Range.{Range}
-use Rattle.vm_ranges.specs.Request.{Request}
-use Rattle.vm_ranges.specs.declared.error.Error.{Error}
-use Rattle.vm_ranges.specs.declared.error.Error.TheVariants.{OutOfMemory}
 use Rattle.vm_tree.specs.Shape.{Shape}
 use Rattle.vm_tree.specs.ShapeCode.{shape_code}
 use Rattle.vm_addresses.specs.Allocator.{state_of}
-use Rattle.vm_addresses.specs.Counts.Parts.{Allocating, Freeing, HasParts, TakesParts}
 use Rattle.vm_range_map.specs.RangeMaps.{MapState, map_of}
 
 -- The view of the address allocator of a map, and the value of each held range by the start of the range.
@@ -35,14 +30,3 @@ map_state m = map_of (state_of m.addresses) m.values
 abbrev pub made_map : {E : Type 0} → Result RangeMapInTree E → Result MapState E
 made_map (Ok m) = Ok (map_state m)
 made_map (Err error) = Err error
-
--- A range was allocated for the request, and freed again.
-abbrev pub GivesBack : Shape → Request → Shape → Type 0
-GivesBack old request new =
-    (r : Range) × (n : ℕ) × (m : ℕ) × HasParts old (Allocating request (Ok r) n ∷ Freeing r m ∷ []) new
-
--- An allocation takes an allocation of the tree and at most one free. Its errors leave the same map, unless memory ran out after
--- the range was allocated.
-pub record AllocatesInParts (old : RangeMapInTree) (request : Request) (answer : Result Range Error) (new : RangeMapInTree) : Type 0 where
-  pub parts : TakesParts 2 old.addresses (request ∷ []) new.addresses
-  pub same : IfErr answer (λ e. (new ≡ old) ⊎ ((e ≡ OutOfMemory) × GivesBack old.addresses request new.addresses))

@@ -1,5 +1,5 @@
 -- Lists of blocks in order, and the block that contains an address.
-use Rattle.std.proofs.Common.{◌≡◌, ℕ, ◌+◌, ◌≤◌, true, leb, List, [], ◌∷◌, Some, arith}
+use Rattle.std.proofs.Common.{◌≡◌, ℕ, ◌+◌, true, leb, List, [], ◌∷◌, Some, arith}
 use Rattle.std.proofs.lemmas.Bool.{and_parts, leb-true, le-leb}
 use Rattle.vm_ranges.specs.Range.{Range, IsIn, at_address}
 use Rattle.vm_ranges.specs.RangeOrder.{covers}

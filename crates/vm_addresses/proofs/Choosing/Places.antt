@@ -4,7 +4,7 @@ use Rattle.std.specs.List.{All}
 use Rattle.std.proofs.lemmas.List.Elements.{All-head, All-tail}
 use Rattle.vm_ranges.specs.Range.{Range}
 use Rattle.vm_leaf.specs.declared.block.Block.{Block}
-use Rattle.vm_addresses.specs.Address.{AddressState, IsPlace, IsLowestPlace, IsHighestPlace}
+use Rattle.vm_addresses.specs.Address.{AddressState, IsPlace}
 use Rattle.vm_leaf.specs.Blocks.{Tiles}
 use Rattle.vm_addresses.specs.Tree.Blocks.{IsBlocksOf}
 use Rattle.vm_leaf.specs.Fit.{IsFit, HasNoFit, IsLowestFit, IsHighestFit}

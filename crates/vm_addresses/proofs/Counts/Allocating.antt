@@ -1,5 +1,5 @@
 -- The number of nodes that `allocate` enters, for valid and for invalid requests.
-use Rattle.std.proofs.Common.{◌≡◌, ℕ, refl, subst, arith, Result, Ok, Err}
+use Rattle.std.proofs.Common.{◌≡◌, ℕ, refl, arith, Result, Err}
 use Rattle.vm_ranges.specs.Range.{Range}
 use Rattle.vm_addresses.specs.Address.{AddressState}
 use Rattle.vm_ranges.specs.Request.{Request, IsRequest, MakesConstraint}
@@ -8,7 +8,6 @@ use Rattle.vm_addresses.specs.Counts.NodeCounts.{nodes_of_request}
 use Rattle.vm_addresses.specs.Allocator.{space_of}
 use Rattle.vm_addresses.specs.Counts.Steps.{IsGrantCount, IsAllocationCount, EntersToAllocate}
 use Rattle.vm_ranges.specs.declared.error.Error.{Error}
-use Rattle.vm_ranges.proofs.Requests.{constraint_made}
 use Rattle.vm_addresses.proofs.Results.Filling.{no_constraint_fault}
 
 -- ---- Requests that can be invalid

@@ -10,8 +10,8 @@ use Rattle.vm_ranges.specs.declared.error.Error.{Error}
 use Rattle.vm_ranges.specs.declared.constraint.AllocPolicy.{AllocPolicy}
 use Rattle.vm_ranges.specs.declared.constraint.AllocPolicy.TheVariants.{FirstMatch, LastMatch, ExactMatch}
 use Rattle.vm_tree.specs.Fibonacci.{fibonacci, fibonacci_pair}
-use Rattle.vm_tree.specs.Shape.{Shape, blocks, height_of}
-use Rattle.vm_addresses.specs.Address.{AddressState, holding, without_range}
+use Rattle.vm_tree.specs.Shape.{Shape, height_of}
+use Rattle.vm_addresses.specs.Address.{AddressState, without_range}
 use Rattle.vm_addresses.specs.Answer.{AllocatesOf, Allocates, Frees}
 use Rattle.vm_addresses.specs.Counts.Parts.{Part, Allocating, Freeing, HasPart, HasParts, EntersAtMost}
 use Rattle.vm_addresses.specs.Counts.Steps.{EntersToAllocate, IsAllocationCount, IsFreeCount, max_entered}

@@ -1,7 +1,7 @@
 -- A move begins: the result of the request in the state in which the range is free.
-use Rattle.std.proofs.Common.{◌≡◌, ◌≢◌, ℕ, ◌+◌, ◌-◌, ◌%◌, ◌<◌, ◌≤◌, ◌⊎◌, length, true, false, arith, refl, sym, ap, ◌∙◌, inl, inr, ⊎_elim, subst, Option, Some, None, Result, Ok, Err}
+use Rattle.std.proofs.Common.{◌≡◌, ◌≢◌, ℕ, ◌+◌, ◌-◌, ◌%◌, ◌<◌, ◌≤◌, ◌⊎◌, length, true, arith, refl, sym, ap, ◌∙◌, inl, inr, ⊎_elim, subst, Option, Some, None, Result, Ok, Err}
 use Rattle.std.specs.List.{Contains}
-use Rattle.std.proofs.lemmas.Bool.{cases_eq, cases_lt}
+use Rattle.std.proofs.lemmas.Bool.{cases_lt}
 use Rattle.vm_ranges.specs.Cases.{IfElse}
 use Rattle.vm_ranges.specs.Range.{Range, MAX, IsIn, address_count, span}
 use Rattle.vm_ranges.specs.Request.{Request, IsRequest, IsStartAligned}
@@ -22,7 +22,7 @@ use Rattle.vm_ranges.proofs.RangeCalls.{same_range}
 use Rattle.vm_addresses.proofs.Blocks.PlainWords.{held_contains, contains_held, none_holds, held_address}
 use Rattle.vm_addresses.proofs.Blocks.HeldChanges.{held_without, others_held, not_held_without}
 use Rattle.vm_addresses.proofs.Moving.LeftGaps.{held_below}
-use Rattle.vm_addresses.proofs.Moving.LeftPlaces.{LieIn, place_parts, place_within, fit_parts, fit_within, AreBeside, released_then, fit_or_place, fit_place, still_place, beside_allocates}
+use Rattle.vm_addresses.proofs.Moving.LeftPlaces.{LieIn, place_parts, place_within, fit_parts, AreBeside, released_then, fit_or_place, fit_place, still_place, beside_allocates}
 use Rattle.vm_addresses.proofs.Moving.Inside.{one_less, grants_at, fails, succeeds}
 use Rattle.vm_addresses.proofs.Moving.Places.{start_fits}
 use Rattle.vm_addresses.proofs.Results.Filling.{TakesBelowMax}

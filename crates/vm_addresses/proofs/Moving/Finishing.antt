@@ -1,13 +1,11 @@
 -- A move that was begun is finished or cancelled.
-use Rattle.std.proofs.Common.{◌≡◌, ◌≢◌, ℕ, ◌+◌, ◌-◌, ◌%◌, ◌<◌, ◌≤◌, List, length, true, false, None, arith, refl, sym, ap, ◌∙◌, ⊎_elim, subst, Result, Ok, Err}
+use Rattle.std.proofs.Common.{◌≡◌, ◌≢◌, ◌%◌, ◌<◌, ◌≤◌, List, length, true, false, None, arith, refl, sym, ap, ◌∙◌, ⊎_elim, subst, Result, Err}
 use Rattle.std.specs.List.{Contains}
 use Rattle.vm_ranges.specs.Range.{Range, address_count, span}
-use Rattle.vm_ranges.specs.Alignment.{IsAlignment}
-use Rattle.vm_ranges.specs.Request.{Request, IsRequest, IsStartAligned}
 use Rattle.vm_ranges.specs.declared.constraint.AllocPolicy.TheVariants.{ExactMatch}
 use Rattle.vm_ranges.specs.declared.error.Error.{Error}
 use Rattle.vm_ranges.specs.declared.error.Error.TheVariants.{OutOfMemory}
-use Rattle.vm_addresses.specs.Address.{AddressState, AreClear, IsPlace, SplitsGap, holding, releasing, with_range, without_range}
+use Rattle.vm_addresses.specs.Address.{AddressState, AreClear, IsPlace, SplitsGap, releasing}
 use Rattle.vm_addresses.specs.Answer.{SPLIT_LIMIT_MIN_HELD, IsChosen, AllocatesAt, Grants, Frees}
 use Rattle.vm_addresses.specs.Moves.{request_to, replacing, IsInLeftGap, IsBegun}
 use Rattle.vm_addresses.specs.declared.address_allocator.moving.BegunMove.{BegunMove}
@@ -15,7 +13,7 @@ use Rattle.vm_ranges.proofs.RangeCalls.{same_range}
 use Rattle.vm_addresses.proofs.Blocks.PlainWords.{IsHeld, held_contains, contains_held, none_holds, held_address}
 use Rattle.vm_addresses.proofs.Blocks.HeldSets.{held_lies}
 use Rattle.vm_addresses.proofs.Blocks.HeldChanges.{held_now, still_held_with, without_with, with_without, without_other}
-use Rattle.vm_addresses.proofs.Moving.Inside.{one_less, gap_is_filled, length_without}
+use Rattle.vm_addresses.proofs.Moving.Inside.{gap_is_filled, length_without}
 use Rattle.vm_addresses.proofs.Results.Filling.{chosen_by}
 
 -- A held range is freed.

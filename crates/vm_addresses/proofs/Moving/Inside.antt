@@ -1,18 +1,17 @@
 -- The result for a range in the gap that a held range leaves, after this range is freed.
-use Rattle.std.proofs.Common.{◌≡◌, ◌≢◌, ℕ, ◌+◌, ◌-◌, ◌%◌, ◌<◌, ◌≤◌, ◌⊎◌, List, [], ◌∷◌, length, arith, refl, sym, ap, ◌∙◌, inl, inr, ⊎_elim, subst, Option, Some, None, Result, Ok, Err}
+use Rattle.std.proofs.Common.{◌≡◌, ℕ, ◌+◌, ◌-◌, ◌<◌, ◌≤◌, List, [], ◌∷◌, length, arith, refl, sym, ap, ◌∙◌, inl, inr, ⊎_elim, subst, Option, Result, Ok, Err}
 use Rattle.std.specs.List.{Contains}
 use Rattle.std.proofs.lemmas.Bool.{cases_eq, cases_lt, eq-eqb, ne_eqb}
 use Rattle.vm_ranges.specs.Cases.{IfElse}
 use Rattle.vm_ranges.proofs.Decisions.{decided_same}
-use Rattle.vm_ranges.specs.Range.{Range, MAX, IsIn, address_count, span}
-use Rattle.vm_ranges.specs.Request.{Request}
+use Rattle.vm_ranges.specs.Range.{Range, MAX}
 use Rattle.vm_ranges.specs.declared.error.Error.{Error}
-use Rattle.vm_ranges.specs.declared.error.Error.TheVariants.{Overflow, OutOfMemory}
+use Rattle.vm_ranges.specs.declared.error.Error.TheVariants.{Overflow}
 use Rattle.vm_ranges.specs.declared.constraint.AllocPolicy.{AllocPolicy}
 use Rattle.vm_ranges.specs.declared.constraint.AllocPolicy.TheVariants.{FirstMatch, LastMatch, ExactMatch}
 use Rattle.vm_addresses.specs.Address.{AddressState, AreClear, IsPlace, IsClear, SplitsGap, releasing, without_range}
-use Rattle.vm_addresses.specs.Answer.{SPLIT_LIMIT_MIN_HELD, IsChosen, ByStart, ByExactPolicy, ByPlace, AllocatesAt, Grants}
-use Rattle.vm_addresses.specs.Moves.{IsLeftGap, IsInLeftGap}
+use Rattle.vm_addresses.specs.Answer.{IsChosen, ByStart, ByExactPolicy, ByPlace, AllocatesAt, Grants}
+use Rattle.vm_addresses.specs.Moves.{IsLeftGap}
 use Rattle.vm_addresses.specs.Checks.Moving.{BeginsInside}
 use Rattle.vm_addresses.specs.Windows.{within}
 use Rattle.vm_addresses.specs.declared.address_allocator.moving.BegunMove.{BegunMove}

@@ -1,5 +1,5 @@
 -- The gap that a held range leaves when it is freed.
-use Rattle.std.proofs.Common.{◌≡◌, ℕ, ◌+◌, ◌-◌, ◌<◌, ◌≤◌, ◌⊎◌, arith, sym, inl, inr, ⊎_elim, subst, Option, Some, None}
+use Rattle.std.proofs.Common.{◌≡◌, ℕ, ◌+◌, ◌-◌, ◌<◌, ◌≤◌, ◌⊎◌, arith, sym, inl, inr, ⊎_elim, subst, Some, None}
 use Rattle.std.specs.List.{Contains}
 use Rattle.std.proofs.lemmas.Bool.{cases_lt}
 use Rattle.vm_ranges.specs.Range.{Range, MAX, IsRange, IsIn}
@@ -8,8 +8,7 @@ use Rattle.vm_addresses.specs.Queries.{gaps_of, IsGapAt}
 use Rattle.vm_addresses.specs.Laws.QueryLaws.{IsGap}
 use Rattle.vm_addresses.specs.Moves.{IsLeftGap}
 use Rattle.vm_addresses.specs.Checks.Moving.{IsLeftStart, IsLeftEnd}
-use Rattle.vm_tree.specs.Building.{AreInOrder}
-use Rattle.vm_addresses.specs.Address.{AddressState, IsAddressState, IsClear, AreClear, releasing, without_range}
+use Rattle.vm_addresses.specs.Address.{AddressState, IsAddressState, IsClear, releasing, without_range}
 use Rattle.vm_addresses.proofs.Blocks.PlainWords.{IsHeld, held_contains, all_miss, none_holds, held_address}
 use Rattle.vm_addresses.proofs.Blocks.HeldChanges.{held_without, others_held}
 use Rattle.vm_addresses.proofs.Blocks.HeldSets.{held_lies}

@@ -1,34 +1,5 @@
 -- From the result of a search at a start to the result of an ExactMatch request.
-use Rattle.std.proofs.Common.{
-  Option,
-  Some,
-  None,
-  ◌≡◌,
-  ℕ,
-  ◌+◌,
-  ◌-◌,
-  ◌%◌,
-  ◌<◌,
-  ◌≤◌,
-  List,
-  ◌∷◌,
-  ◌++◌,
-  length,
-  refl,
-  sym,
-  ap,
-  ◌∙◌,
-  arith,
-  inl,
-  inr,
-  ◌⊎◌,
-  ⊎_elim,
-  subst,
-  Result,
-  Ok,
-  Err,
-  OnErr,
-}
+use Rattle.std.proofs.Common.{Option, Some, None, ◌≡◌, ℕ, ◌+◌, ◌-◌, ◌%◌, ◌<◌, ◌≤◌, List, ◌∷◌, ◌++◌, refl, sym, ap, ◌∙◌, arith, inl, inr, ◌⊎◌, ⊎_elim, subst, Result, Ok, Err, OnErr}
 use Rattle.std.proofs.lemmas.Bool.{cases_lt}
 use Rattle.vm_ranges.specs.Cases.{IfElse, IsTestOf}
 use Rattle.vm_ranges.specs.Range.{Range, MAX, IsIn, span}
@@ -44,7 +15,7 @@ use Rattle.vm_leaf.specs.Block.{free_block}
 use Rattle.vm_addresses.specs.Address.{AddressState, AreClear}
 use Rattle.vm_addresses.specs.Answer.{SPLIT_LIMIT_MIN_HELD, ByStart, ByExactPolicy, AllocatesAt, Grants}
 use Rattle.vm_addresses.specs.Windows.{window_in}
-use Rattle.vm_addresses.specs.Tree.Blocks.{held_of, blocks_state, TilesSpace}
+use Rattle.vm_addresses.specs.Tree.Blocks.{blocks_state, TilesSpace}
 use Rattle.vm_tree.specs.Allocation.{window_of, ListPlace, SettlesAt, SettlesIn, IsBlockAt, AllocatesExact}
 use Rattle.vm_tree.specs.declared.search.Search.{Search}
 use Rattle.vm_tree.specs.declared.search.Taken.{Taken}

@@ -1,32 +1,5 @@
 -- From the place that a search finds to the result of a request.
-use Rattle.std.proofs.Common.{
-  Option,
-  Some,
-  None,
-  ◌≡◌,
-  ℕ,
-  ◌+◌,
-  ◌<◌,
-  ◌≤◌,
-  Bool,
-  true,
-  false,
-  List,
-  length,
-  refl,
-  sym,
-  ap,
-  ◌∙◌,
-  arith,
-  inl,
-  inr,
-  ⊎_elim,
-  subst,
-  Result,
-  Ok,
-  Err,
-  OnErr,
-}
+use Rattle.std.proofs.Common.{Option, Some, None, ◌≡◌, ℕ, ◌+◌, ◌<◌, ◌≤◌, Bool, true, false, List, refl, sym, ap, ◌∙◌, arith, inl, inr, ⊎_elim, subst, Result, Ok, Err, OnErr}
 use Rattle.std.proofs.lemmas.Bool.{cases_lt}
 use Rattle.vm_ranges.specs.Cases.{IsTestOf}
 use Rattle.vm_ranges.specs.Range.{Range, MAX, span}

@@ -1,5 +1,5 @@
 -- A value encodes an allocator if and only if its fields encode the space and the tree, with or without repairs.
-use Rattle.std.proofs.Common.{◌≡◌, ◌≤◌, length, Option, Some, None, Result, Ok, Err, option_map, option_and_then, codes, refl, sym, ap, ◌∙◌, subst}
+use Rattle.std.proofs.Common.{◌≡◌, ◌≤◌, length, Some, None, Result, Ok, Err, option_map, option_and_then, codes, refl, sym, ap, ◌∙◌, subst}
 use Rattle.std.proofs.lemmas.Option.{same_Some}
 use Rattle.serde_json.specs.Data.{Data}
 use Rattle.serde_json.specs.Find.{get}

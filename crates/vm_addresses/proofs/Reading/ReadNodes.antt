@@ -1,5 +1,5 @@
 -- The fields of a node's value, and the nodes of a value. They form at most one tree.
-use Rattle.std.proofs.Common.{◌≡◌, ℕ, ◌+◌, max, Some, None, codes, option_and_then, refl, sym, ap, ◌∙◌, subst}
+use Rattle.std.proofs.Common.{◌≡◌, ℕ, ◌+◌, max, Some, codes, option_and_then, refl, sym, ap, ◌∙◌, subst}
 use Rattle.std.proofs.lemmas.Option.{same_Some}
 use Rattle.serde_json.specs.Data.{Data, null}
 use Rattle.serde_json.specs.Find.{get}

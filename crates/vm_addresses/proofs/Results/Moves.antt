@@ -1,5 +1,5 @@
 -- The move of a held range: it is freed, and then a range is allocated for the request.
-use Rattle.std.proofs.Common.{◌≡◌, ℕ, ◌+◌, ◌-◌, ◌%◌, ◌<◌, arith, refl, ap, ◌∙◌, inl, inr, ⊎_elim, IfSome, IfOk, Result, Ok, Err}
+use Rattle.std.proofs.Common.{◌≡◌, ℕ, ◌+◌, ◌-◌, ◌%◌, ◌<◌, arith, refl, ap, ◌∙◌, inl, ⊎_elim, IfSome, IfOk, Result, Ok, Err}
 use Rattle.std.specs.List.{Contains}
 use Rattle.vm_ranges.specs.Range.{Range, Covers, address_count}
 use Rattle.vm_ranges.specs.Alignment.{IsAlignment}

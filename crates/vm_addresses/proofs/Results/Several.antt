@@ -35,7 +35,6 @@ use Rattle.vm_addresses.specs.Answer.{Allocates, Frees}
 use Rattle.vm_addresses.specs.Several.{FailsAtIndex, AllocatesEach, RefusesOne}
 use Rattle.vm_ranges.specs.declared.error.Error.{Error}
 use Rattle.vm_addresses.proofs.Results.AddressResults.{allocated_state, freeing_undoes}
-use Rattle.vm_addresses.proofs.Callers.{given}
 
 -- ---- One request more
 each_more : (qs : List Request) (rs : List Range) (old mid new : AddressState) (q : Request) (r : Range) → AllocatesEach old qs rs mid →

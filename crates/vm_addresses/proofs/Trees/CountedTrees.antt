@@ -1,11 +1,9 @@
 -- The counts of a tree before and after a range is allocated or freed.
-use Rattle.std.proofs.Common.{zero, suc, ◌≡◌, ℕ, ◌+◌, ◌-◌, ◌^◌, ◌<◌, ◌≤◌, List, [], ◌∷◌, length, drop, get_or, refl, sym, ap, ◌∙◌, arith, subst, ⊎_elim}
+use Rattle.std.proofs.Common.{zero, suc, ◌≡◌, ℕ, ◌+◌, ◌-◌, ◌^◌, ◌<◌, ◌≤◌, List, [], ◌∷◌, length, drop, refl, sym, ap, ◌∙◌, arith, subst, ⊎_elim}
 use Rattle.std.proofs.lemmas.Bool.{cases_lt, lt-ltb, le-ltb}
-use Rattle.std.proofs.lemmas.List.{drop_more}
 use Rattle.std.specs.List.{Contains}
 use Rattle.vm_ranges.specs.Range.{Range, MAX, address_count}
 use Rattle.vm_ranges.specs.declared.state.NodeState.TheVariants.{Allocated}
-use Rattle.vm_tree.specs.Building.{AreInOrder}
 use Rattle.vm_tree.specs.Shape.{Shape, blocks}
 use Rattle.vm_addresses.specs.Address.{AddressState, with_range, holding, releasing}
 use Rattle.vm_addresses.specs.Tree.CountedTrees.{IsCountedTree}

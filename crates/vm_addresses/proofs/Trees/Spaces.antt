@@ -1,13 +1,13 @@
 -- Trees of the blocks of a space, and the states that they represent.
-use Rattle.std.proofs.Common.{◌≡◌, ℕ, ◌+◌, ◌^◌, ◌<◌, ◌≤◌, List, [], ◌∷◌, length, refl, sym, arith, subst, ap, ◌∙◌, ⊎_elim, Result}
-use Rattle.vm_ranges.specs.Range.{Range, IsRange, address_count, span}
+use Rattle.std.proofs.Common.{◌≡◌, ℕ, ◌+◌, ◌^◌, ◌<◌, ◌≤◌, List, [], ◌∷◌, length, refl, sym, arith, subst}
+use Rattle.vm_ranges.specs.Range.{Range, IsRange, address_count}
 use Rattle.vm_ranges.specs.declared.state.NodeState.{NodeState}
 use Rattle.vm_ranges.proofs.RangeCalls.{same_range}
 use Rattle.vm_leaf.specs.declared.block.Block.{Block}
 use Rattle.vm_leaf.specs.Block.{free_block}
 use Rattle.vm_leaf.specs.Blocks.{Tiles}
 use Rattle.vm_tree.specs.Shape.{Shape, Tip, blocks}
-use Rattle.vm_addresses.specs.Address.{IsAddressState, AddressState}
+use Rattle.vm_addresses.specs.Address.{IsAddressState}
 use Rattle.vm_addresses.specs.Tree.CountedTrees.{IsCountedTree}
 use Rattle.vm_addresses.specs.Tree.Blocks.{TilesSpace, IsTiling}
 use Rattle.vm_addresses.specs.Allocator.{last_end, space_of, state_of, IsSpaceTree}

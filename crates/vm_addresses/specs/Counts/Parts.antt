@@ -1,11 +1,12 @@
 -- Calls that are made of several allocations and frees, and the nodes that these parts enter.
-use Rattle.std.specs.Prelude.{◌≡◌, ℕ, ◌+◌, ◌*◌, ◌≤◌, ◌⊎◌, List, length, Result, Ok, OnErr}
+use Rattle.std.specs.Prelude.{◌≡◌, ℕ, ◌+◌, ◌*◌, ◌≤◌, ◌⊎◌, List, [], ◌∷◌, length, Result, Ok, IfErr, OnErr}
 use Rattle.std.specs.List.{All, Contains}
 use Rattle.vm_ranges.specs.Histories.{IsHistory}
 use Rattle.vm_ranges.specs.Range.{Range}
 use Rattle.vm_ranges.specs.Request.{Request}
 use Rattle.vm_ranges.specs.declared.constraint.AllocPolicy.TheVariants.{ExactMatch}
 use Rattle.vm_ranges.specs.declared.error.Error.{Error}
+use Rattle.vm_ranges.specs.declared.error.Error.TheVariants.{OutOfMemory}
 use Rattle.vm_tree.specs.Shape.{Shape, height_of}
 use Rattle.vm_addresses.specs.Answer.{AllocatesOf, Frees}
 use Rattle.vm_addresses.specs.Counts.Steps.{EntersToAllocate, IsAllocationCount, IsFreeCount, max_entered}
@@ -45,6 +46,17 @@ pub record TakesParts (n : ℕ) (old : Shape) (requests : List Request) (new : S
   pub from : HasParts old parts new
   pub for_requests : All (IsPartFor requests) parts
   pub few : length parts ≤ n
+
+-- A range was allocated for the request, and freed again.
+abbrev pub GivesBack : Shape → Request → Shape → Type 0
+GivesBack old request new =
+    (r : Range) × (n : ℕ) × (m : ℕ) × HasParts old (Allocating request (Ok r) n ∷ Freeing r m ∷ []) new
+
+-- A call takes an allocation of the tree and at most one free. Its errors leave the same object around the tree, unless memory ran
+-- out after the range was allocated.
+pub record AllocatesInParts {S A : Type 0} (tree_of : S → Shape) (old : S) (request : Request) (answer : Result A Error) (new : S) : Type 0 where
+  pub parts : TakesParts 2 (tree_of old) (request ∷ []) (tree_of new)
+  pub same : IfErr answer (λ e. (new ≡ old) ⊎ ((e ≡ OutOfMemory) × GivesBack (tree_of old) request (tree_of new)))
 
 -- The part enters at most as many nodes as such a part does in a tree of height h with k held ranges.
 abbrev pub EntersAtMost : ℕ → ℕ → Part → Type 0

@@ -1,5 +1,5 @@
 -- Balanced trees of the blocks of a state.
-use Rattle.std.specs.Prelude.{ℕ, ◌+◌, ◌*◌, ◌^◌, ◌<◌, ◌≤◌, length}
+use Rattle.std.specs.Prelude.{◌+◌, ◌*◌, ◌^◌, ◌<◌, ◌≤◌, length}
 use Rattle.vm_leaf.specs.declared.leaf.TheConstants.{MIN_BLOCKS}
 use Rattle.vm_tree.specs.Fibonacci.{fibonacci}
 use Rattle.vm_tree.specs.Shape.{Shape, MAX_HEIGHT, blocks, height_of, node_count, IsTree}

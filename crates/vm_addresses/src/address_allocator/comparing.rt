@@ -88,21 +88,8 @@ impl AddressAllocator {
 
 /// Compares two walks by the first blocks that differ. If the blocks of one walk are a prefix of the
 /// other's, the walk with fewer blocks is less.
-fn compare_blocks(mut left: Walk<'_>, mut right: Walk<'_>) -> Ordering
+fn compare_blocks(left: Walk<'_>, right: Walk<'_>) -> Ordering
     ensures { result ≡ blocks_cmp left.entry right.entry }
 {
-    while let Some(x) = left.next() {
-        let Some(y) = right.next() else {
-            return Ordering::Greater;
-        };
-        match x.cmp(&y) {
-            Ordering::Equal => {}
-            unequal => return unequal,
-        }
-    }
-    if right.next().is_none() {
-        Ordering::Equal
-    } else {
-        Ordering::Less
-    }
+    left.cmp(right)
 }

@@ -9,7 +9,6 @@ ghost use Rattle.vm_devices.specs.Manager.{device_state};
 ghost use Rattle.vm_devices.specs.Queries.{device_state_cmp, device_state_cmp-total};
 
 use super::DeviceManager;
-use super::device_table::Devices;
 
 impl PartialEq for DeviceManager {
     ghost eq = { eq_by_cmp (on device_state device_state_cmp) };
@@ -23,7 +22,7 @@ impl PartialEq for DeviceManager {
         ensures equal { IsTrue result ↔ (device_state self.now ≡ device_state other.now) }
         ensures order { result ≡ eq_by_cmp device_state_cmp (device_state self.now) (device_state other.now) }
     {
-        self.has_allocators_of(other) && same_devices(self.devices(), other.devices())
+        self.has_allocators_of(other) && self.devices().eq(other.devices())
     }
 }
 
@@ -40,19 +39,4 @@ impl DeviceManager {
     {
         self.id_allocator == other.id_allocator && self.mmio_allocator == other.mmio_allocator
     }
-}
-
-/// Returns `true` if both iterators return the same devices.
-fn same_devices(mut a: Devices<'_>, mut b: Devices<'_>) -> bool
-    ensures { IsTrue result ↔ (a.entry ≡ b.entry) }
-{
-    while let Some(x) = a.next() {
-        let Some(y) = b.next() else {
-            return false;
-        };
-        if x != y {
-            return false;
-        }
-    }
-    b.next().is_none()
 }

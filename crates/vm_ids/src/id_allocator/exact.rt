@@ -85,7 +85,8 @@ impl IdAllocator {
         // The id is the lowest that is not held there. It is held after the call.
         ensures lowest { IfOk result (λ id. IsLowestNotHeldIn first last self.old id) }
         ensures held { IfOk result (λ id. self.new ≡ holding_id id self.old) }
-        ensures succeeds { (id : ℕ) → IsLowestNotHeldIn first last self.old id → ¬ NeedsMemory self.old id → IsOk result }
+        ensures succeeds { (id : ℕ) →
+            IsLowestNotHeldIn first last self.old id → ¬ NeedsMemory self.old id → IsOk result }
         ensures unchanged { OnErr result (self.new ≡ self.old) }
 
         // Each result under its exact condition.

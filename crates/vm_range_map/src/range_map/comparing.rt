@@ -8,7 +8,6 @@ ghost use Rattle.vm_range_map.specs.Trees.{map_state};
 ghost use Rattle.vm_range_map.specs.Queries.{map_state_cmp, map_state_cmp-total};
 
 use super::RangeMap;
-use super::iter::ValuedRanges;
 
 impl PartialEq for RangeMap {
     ghost eq = { eq_by_cmp (on map_state map_state_cmp) };
@@ -22,7 +21,7 @@ impl PartialEq for RangeMap {
         ensures equal { IsTrue result ↔ (map_state self.now ≡ map_state other.now) }
         ensures order { result ≡ eq_by_cmp map_state_cmp (map_state self.now) (map_state other.now) }
     {
-        self.has_space_of(other) && same_ranges(self.iter(), other.iter())
+        self.has_space_of(other) && self.iter().eq(other.iter())
     }
 }
 
@@ -39,19 +38,4 @@ impl RangeMap {
     {
         self.addresses == other.addresses
     }
-}
-
-/// Returns `true` if both iterators return the same ranges with the same values.
-fn same_ranges(mut a: ValuedRanges<'_>, mut b: ValuedRanges<'_>) -> bool
-    ensures { IsTrue result ↔ (a.entry ≡ b.entry) }
-{
-    while let Some(x) = a.next() {
-        let Some(y) = b.next() else {
-            return false;
-        };
-        if x != y {
-            return false;
-        }
-    }
-    b.next().is_none()
 }

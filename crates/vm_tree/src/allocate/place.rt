@@ -84,7 +84,8 @@ pub(super) fn leaf_of(tree: &Link) -> &Leaf
 /// Returns `true` if the leaf has room for the parts that stay free.
 #[inline(always)]
 fn has_room(leaf: &Leaf, rest: Rest) -> bool
-    ensures { MatchBool result (length leaf.now + added_by rest ≤ CAPACITY) (CAPACITY < length leaf.now + added_by rest) }
+    ensures { MatchBool result (length leaf.now + added_by rest ≤ CAPACITY)
+        (CAPACITY < length leaf.now + added_by rest) }
 {
     leaf.len() <= CAPACITY - rest.added() as usize
 }

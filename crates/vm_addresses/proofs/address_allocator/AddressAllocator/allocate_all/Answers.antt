@@ -1,4 +1,4 @@
-use Rattle.std.proofs.Common.{◌≡◌, ◌+◌, ◌*◌, ◌∙◌, length, take, sym, ap, subst, arith, inr, Ok, Err, inl, refl}
+use Rattle.std.proofs.Common.{◌≡◌, ◌+◌, ◌*◌, length, take, sym, ap, subst, arith, inr, Ok, Err, inl, refl}
 use Rattle.vm_ranges.specs.Range.{Range}
 use Rattle.std.specs.Prelude.{List}
 use Rattle.vm_addresses.specs.Address.{AddressState, IsAddressState}

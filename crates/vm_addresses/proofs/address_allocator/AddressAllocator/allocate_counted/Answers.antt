@@ -1,4 +1,3 @@
-use Rattle.vm_ranges.specs.Request.{Request}
 use Rattle.vm_tree.specs.Shape.{height_of}
 use Rattle.vm_addresses.specs.Allocator.{state_of}
 use Rattle.vm_addresses.specs.Counts.GapSearch.{SearchesGaps, SearchesAligned}

@@ -1,4 +1,4 @@
-use Rattle.std.proofs.Common.{◌≡◌, ◌-◌, length, refl, sym, subst, Ok}
+use Rattle.std.proofs.Common.{◌-◌, length, refl, sym, subst, Ok}
 use Rattle.vm_ranges.specs.Range.{Range}
 use Rattle.vm_addresses.specs.Allocator.{state_of}
 use Rattle.vm_addresses.specs.Answer.{Grants}

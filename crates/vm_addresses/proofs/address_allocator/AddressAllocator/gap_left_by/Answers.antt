@@ -1,4 +1,3 @@
-use Rattle.std.proofs.Common.{◌≡◌}
 use Rattle.vm_addresses.specs.Allocator.{state_of}
 use Rattle.vm_addresses.proofs.Moving.LeftGaps.{left_gap, left_range}
 use Rattle.vm_addresses.proofs.address_allocator.AddressAllocator.gap_left_by.Goals as goal

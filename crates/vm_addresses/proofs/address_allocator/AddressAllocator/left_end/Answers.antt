@@ -1,4 +1,4 @@
-use Rattle.std.proofs.Common.{◌≡◌, ℕ, ◌+◌, ◌<◌, arith, sym, subst, Some, None}
+use Rattle.std.proofs.Common.{ℕ, ◌+◌, arith, sym, subst, Some, None}
 use Rattle.vm_addresses.specs.Queries.{IsGapAt}
 use Rattle.vm_addresses.specs.Allocator.{state_of}
 use Rattle.vm_addresses.specs.Checks.Moving.{IsLeftEnd}

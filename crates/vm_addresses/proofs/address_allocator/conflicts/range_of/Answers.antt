@@ -1,4 +1,4 @@
-use Rattle.std.proofs.Common.{◌≡◌, ◌+◌, ◌-◌, ◌<◌, sym, ◌∙◌, arith, ⊎_elim}
+use Rattle.std.proofs.Common.{◌+◌, ◌-◌, ◌<◌, sym, ◌∙◌, arith, ⊎_elim}
 use Rattle.vm_ranges.specs.Range.{MAX}
 use Rattle.vm_addresses.proofs.Results.Conflicts.{past_conflict}
 use Rattle.vm_addresses.proofs.address_allocator.conflicts.range_of.Goals as goal

@@ -16,8 +16,8 @@ use Rattle.vm_devices.proofs.DeviceMoves.{
   move_cancelled,
   move_finished,
 }
+use Rattle.vm_addresses.proofs.Counts.AllocatingParts.{cancelled_parts}
 use Rattle.vm_addresses.proofs.Counts.TakenParts.{taken_both}
-use Rattle.vm_devices.proofs.DeviceParts.{cancelled_parts}
 use Rattle.vm_devices.proofs.device_manager.DeviceManager.move_constraint.Goals as goal
 
 pub returns-in_err-begun-clause-answer : goal.returns-in_err-begun-clause-answer

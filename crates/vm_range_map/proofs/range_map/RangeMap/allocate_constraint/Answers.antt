@@ -2,11 +2,11 @@ use Rattle.std.proofs.Common.{◌≡◌, sym, ap, subst, Ok, Err, rules}
 use Rattle.vm_ranges.specs.declared.error.Error.TheVariants.{OutOfMemory}
 use Rattle.vm_tree.specs.Shape.{Shape}
 use Rattle.vm_addresses.specs.Allocator.{state_of}
+use Rattle.vm_addresses.proofs.Counts.AllocatingParts.{range_returned, range_kept}
 use Rattle.vm_addresses.proofs.Results.AddressResults.{freeing_undoes}
 use Rattle.vm_range_map.specs.RangeMaps.{MapState, IsMapState, map_of}
 use Rattle.vm_range_map.proofs.MapStates.{new_start, with_state}
 use Rattle.vm_range_map.proofs.MapCalls.{range_refused, range_valued, value_refused, valued_state, returned_state}
-use Rattle.vm_range_map.proofs.MapParts.{range_returned, range_kept}
 use Rattle.vm_range_map.proofs.range_map.RangeMap.allocate_constraint.Goals as goal
 
 pub returns-in_err-range-clause-answer : goal.returns-in_err-range-clause-answer
@@ -44,7 +44,7 @@ returns-in-Err-clause-parts c =
     let freed = freeing_undoes _ _ _ c.args.request c.in_ok-range.range c.free.result c.self.invariant.space c.in_ok-range.ensures.answer
     c.free.ensures.answer in
     rw (← c.self.view_is, is)
-    (range_returned _ _ c.allocate_constraint.new.self c.args.request c.in_ok-range.range c.free.result freed.0 c.in_ok-range.ensures.part
+    (range_returned _ _ _ c.args.request c.allocate_constraint.new.self c.in_ok-range.range c.free.result freed.0 c.in_ok-range.ensures.part
     c.free.ensures.part
     c.free.ensures.unchanged)
 
@@ -76,7 +76,7 @@ invariant_of-self-in_default c =
     (with_state old c.self.invariant c.in_ok-range.range c.args.request _ c.in_ok-range.ensures.answer c.args.value)
 
 pub returns-clause-parts : goal.returns-clause-parts
-returns-clause-parts c = rw (← c.self.view_is) (range_kept _ _ c.args.request (Ok c.in_ok-range.range) _ c.in_ok-range.ensures.part)
+returns-clause-parts c = rw (← c.self.view_is) (range_kept _ _ _ c.args.request (Ok c.in_ok-range.range) _ c.in_ok-range.ensures.part)
 
 pub returns-clause-state : goal.returns-clause-state
 returns-clause-state c = invariant_of-self-in_default c

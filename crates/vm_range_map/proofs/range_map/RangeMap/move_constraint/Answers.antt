@@ -3,11 +3,11 @@ use Rattle.vm_ranges.specs.Range.{Range, Covers}
 use Rattle.vm_ranges.specs.declared.error.Error.TheVariants.{OutOfMemory}
 use Rattle.vm_tree.specs.Shape.{Shape}
 use Rattle.vm_addresses.specs.Allocator.{state_of}
+use Rattle.vm_addresses.proofs.Counts.AllocatingParts.{cancelled_parts}
 use Rattle.vm_addresses.proofs.Counts.TakenParts.{taken_both}
 use Rattle.vm_range_map.specs.RangeMaps.{MapState, IsMapState, map_of}
 use Rattle.vm_range_map.proofs.MapStates.{was_held, held_value, moved_start, moved_state}
 use Rattle.vm_range_map.proofs.MapCalls.{moved_fits, moved_inside, move_refused, move_undone, range_moved, cancelled_state, finished_state}
-use Rattle.vm_range_map.proofs.MapParts.{cancelled_parts}
 use Rattle.vm_range_map.proofs.range_map.RangeMap.move_constraint.Goals as goal
 
 pub returns-in_err-begun-clause-answer : goal.returns-in_err-begun-clause-answer
@@ -82,11 +82,6 @@ returns-clause-state c = invariant_of-self-2 c
 pub returns-clause-answer : goal.returns-clause-answer
 returns-clause-answer c =
     let old : MapState = map_of (state_of c.self.inside.addresses) c.self.inside.values in
-    let m = c.in_ok-begun.ensures.answer.0 in
-    let was = was_held old c.self.invariant c.args.range.now c.in_ok-begun.begun.range c.args.request _ m in
-    let held = held_value old c.self.invariant c.args.range.now was in
-    let left = finished_state old c.args.range.now c.in_ok-begun.begun.range c.start.result c.start-2.result held.0 _ _ c.start.ensures.value
-    (c.start-2.ensures.value ∙ ap (λ (r : Range). r.start) c.range-to.ensures) (c.finish_move.ensures.moved _ c.in_ok-begun.ensures.answer.1)
-    held.1 c.in_default.ensures.moved in
+    let moved = rw (← c.self.view_is, c.range-to.ensures) at (returns-clause-moved c) in
     rw (← c.self.view_is, c.range-to.ensures)
-    (range_moved old _ c.args.range.now c.args.request c.in_ok-begun.begun.range _ m held.0 (was, held.1) left)
+    (range_moved old _ c.args.range.now c.args.request c.in_ok-begun.begun.range _ c.in_ok-begun.ensures.answer.0 moved.0 moved.1 moved.2)

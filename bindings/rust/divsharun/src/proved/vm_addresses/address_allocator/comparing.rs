@@ -50,19 +50,6 @@ impl AddressAllocator {
 
 /// Compares two walks by the first blocks that differ. If the blocks of one walk are a prefix of the
 /// other's, the walk with fewer blocks is less.
-fn compare_blocks(mut left: Walk<'_>, mut right: Walk<'_>) -> Ordering {
-    while let Some(x) = left.next() {
-        let Some(y) = right.next() else {
-            return Ordering::Greater;
-        };
-        match x.cmp(&y) {
-            Ordering::Equal => {}
-            unequal => return unequal,
-        }
-    }
-    if right.next().is_none() {
-        Ordering::Equal
-    } else {
-        Ordering::Less
-    }
+fn compare_blocks(left: Walk<'_>, right: Walk<'_>) -> Ordering {
+    left.cmp(right)
 }

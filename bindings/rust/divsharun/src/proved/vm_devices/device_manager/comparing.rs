@@ -2,7 +2,6 @@
 
 //! Equality of managers.
 
-use super::device_table::Devices;
 use super::DeviceManager;
 
 impl PartialEq for DeviceManager {
@@ -10,7 +9,7 @@ impl PartialEq for DeviceManager {
     ///
     /// It stops at the first difference and does not allocate.
     fn eq(&self, other: &DeviceManager) -> bool {
-        self.has_allocators_of(other) && same_devices(self.devices(), other.devices())
+        self.has_allocators_of(other) && self.devices().eq(other.devices())
     }
 }
 
@@ -21,17 +20,4 @@ impl DeviceManager {
     fn has_allocators_of(&self, other: &DeviceManager) -> bool {
         self.id_allocator == other.id_allocator && self.mmio_allocator == other.mmio_allocator
     }
-}
-
-/// Returns `true` if both iterators return the same devices.
-fn same_devices(mut a: Devices<'_>, mut b: Devices<'_>) -> bool {
-    while let Some(x) = a.next() {
-        let Some(y) = b.next() else {
-            return false;
-        };
-        if x != y {
-            return false;
-        }
-    }
-    b.next().is_none()
 }

@@ -2,7 +2,6 @@
 
 //! Equality of maps.
 
-use super::iter::ValuedRanges;
 use super::RangeMap;
 
 impl PartialEq for RangeMap {
@@ -10,7 +9,7 @@ impl PartialEq for RangeMap {
     ///
     /// It stops at the first difference and does not allocate.
     fn eq(&self, other: &RangeMap) -> bool {
-        self.has_space_of(other) && same_ranges(self.iter(), other.iter())
+        self.has_space_of(other) && self.iter().eq(other.iter())
     }
 }
 
@@ -21,17 +20,4 @@ impl RangeMap {
     fn has_space_of(&self, other: &RangeMap) -> bool {
         self.addresses == other.addresses
     }
-}
-
-/// Returns `true` if both iterators return the same ranges with the same values.
-fn same_ranges(mut a: ValuedRanges<'_>, mut b: ValuedRanges<'_>) -> bool {
-    while let Some(x) = a.next() {
-        let Some(y) = b.next() else {
-            return false;
-        };
-        if x != y {
-            return false;
-        }
-    }
-    b.next().is_none()
 }

@@ -1,5 +1,6 @@
-use Rattle.std.proofs.Common.{ap, refl}
+use Rattle.std.proofs.Common.{ap, refl, arith}
 use Rattle.std.proofs.lemmas.Bool.{both_ways}
+use Rattle.vm_addresses.proofs.Comparing.Items.{same_items}
 use Rattle.vm_range_map.specs.RangeMaps.{MapState}
 use Rattle.vm_range_map.specs.Trees.{map_state}
 use Rattle.vm_range_map.proofs.EqualMaps.{tested, tested_by_order}
@@ -7,13 +8,13 @@ use Rattle.vm_range_map.proofs.range_map.comparing.RangeMapPartialEq.eq.Goals as
 
 pub returns-then-has_space_of-clause-equal : goal.returns-then-has_space_of-clause-equal
 returns-then-has_space_of-clause-equal c =
-    tested (map_state c.args.self.now) (map_state c.args.other.now) c.same_ranges.result c.has_space_of.ensures.valid.0
+    tested (map_state c.args.self.now) (map_state c.args.other.now) c.eq.result c.has_space_of.ensures.valid.0
     c.has_space_of.ensures.valid.1 (c.if-has_space_of.ensures.same.0 refl)
-    (rw (← c.iter.ensures, ← c.iter-then-has_space_of.ensures) c.same_ranges.ensures)
+    (rw (← c.iter.ensures, ← c.iter-then-has_space_of.ensures) (same_items _ (λ x y. grind arith) _ _ _ c.eq.ensures.ran))
 
 pub returns-then-has_space_of-clause-order : goal.returns-then-has_space_of-clause-order
 returns-then-has_space_of-clause-order c =
-    tested_by_order _ _ c.same_ranges.result
+    tested_by_order _ _ c.eq.result
     (returns-then-has_space_of-clause-equal c)
 
 pub returns-else-has_space_of-clause-order : goal.returns-else-has_space_of-clause-order
