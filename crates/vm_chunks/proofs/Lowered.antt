@@ -1,4 +1,4 @@
--- An entry in place of one with a higher key.
+-- An entry that replaces one with a higher key.
 use Rattle.std.proofs.Common.{◌≡◌, ℕ, zero, suc, ◌+◌, ◌<◌, ◌≤◌, List, [], ◌∷◌, ◌++◌, length, get_or, set, take, drop, min, arith, sym, ap, ◌∙◌, subst}
 use Rattle.std.specs.List.{All}
 use Rattle.std.specs.Option.{IsSome}
@@ -13,7 +13,7 @@ use Rattle.vm_chunks.proofs.Divisions.{whole, all_set}
 use Rattle.vm_chunks.proofs.EntryLaws.{bounded_by_first}
 use Rattle.vm_chunks.proofs.Counts.{counted_parts, number_some}
 
--- What is true of all elements is true of those of each part.
+-- A property of all elements is true for those of each part.
 all_first : {X : Type 0} (P : X → Type 0) (xs ys : List X) → All P (xs ++ ys) → All P xs
 all_first P xs ys a k d w = subst P (get_or_append_left xs ys d k w) (a k d (let n = length-append xs ys in omega arith))
 
@@ -59,7 +59,7 @@ module _ {X : Type 0} (key : X → ℕ) where
   lowered_at hi (c ∷ cs) (b ∷ bs) (suc i) n c' r w s a f =
       (r.0, r.1, lowered_at b cs bs i n c' r.2 (omega (arith, w)) s a (λ k d g v. f (suc k) d (omega (arith, g)) (omega (arith, v))))
 
-  -- The list with the entry in place of the one with the key t.
+  -- The list with the entry instead of the one with the key t.
   pub lowered : (e : X) (t b hi : ℕ) (xs : List X) → Descends key b hi xs → key e ≤ t → All (λ x. key x < key e) (below key t xs) →
       with_entry key e (without key t xs) ≡ above key t xs ++ e ∷ below key t xs
   unfolding without with_entry

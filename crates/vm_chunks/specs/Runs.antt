@@ -53,8 +53,8 @@ pub record IsInside (id : ℕ) (ids : BTreeSet ℕ) : Type 0 where
   pub own : IsTrue (contains nat_cmp ids id)
   pub above : IsTrue (contains nat_cmp ids (id + 1))
 
--- Of the runs, `upper` are above an id, `high` is the run that begins right above it, if there is one, and `rest` end
--- below the id. The id and that run end at `last`. Only private functions cite this definition and the next.
+-- The runs `upper` are above an id. `high` is the run that begins right above it, if there is one. The runs `rest` end
+-- below the id. The id and `high` together end at `last`. Only private functions cite this definition and the next.
 pub record JoinsAbove (id last : ℕ) (rs : List Run) : Type 0 where
   pub upper : List Run
   pub high : List Run
