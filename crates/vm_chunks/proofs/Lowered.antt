@@ -1,4 +1,4 @@
--- An entry in place of one with a higher key.
+-- An entry that replaces one with a higher key.
 use Rattle.std.proofs.Common.{◌≡◌, ℕ, zero, suc, ◌+◌, ◌<◌, ◌≤◌, List, [], ◌∷◌, ◌++◌, length, get_or, set, take, drop, min, arith, sym, ap, ◌∙◌, subst}
 use Rattle.std.specs.List.{All}
 use Rattle.std.specs.Option.{IsSome}
@@ -52,7 +52,7 @@ module _ {X : Type 0} (key : X → ℕ) where
   lowered_at hi (c ∷ cs) (b ∷ bs) (suc i) n c' r w s a f =
       (r.0, r.1, lowered_at b cs bs i n c' r.2 (omega (arith, w)) s a (λ k d g v. f (suc k) d (omega (arith, g)) (omega (arith, v))))
 
-  -- The list with the entry in place of the one with the key t.
+  -- The list with the entry instead of the one with the key t.
   pub lowered : (e : X) (t b hi : ℕ) (xs : List X) → Descends key b hi xs → key e ≤ t → All (λ x. key x < key e) (below key t xs) →
       with_entry key e (without key t xs) ≡ above key t xs ++ e ∷ below key t xs
   unfolding without with_entry

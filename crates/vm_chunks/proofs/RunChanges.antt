@@ -51,7 +51,7 @@ pub count_bound : (end : ℕ) (rs : List Run) → AreRuns end rs → count_of rs
 count_bound end [] a = omega arith
 count_bound end (r ∷ rs) a = omega (arith, count_more r rs, count_bound r.first rs a.2, a.0, a.1)
 
--- ---- An entry in place of one with its key, and without an entry
+-- ---- A list of at most one entry: the entry replaced, removed and found
 pub with_own : (e r : Run) → r.last ≡ e.last → with_entry key_of e (r ∷ []) ≡ e ∷ []
 unfolding with_entry above below
 with_own e r s = rw (le-ltb r.last e.last (omega (arith, s)), le-ltb e.last r.last (omega (arith, s))) refl
@@ -228,7 +228,7 @@ module _ (id : ℕ) (rs : List Run) (run : Run) (a : AreRuns RUNS_END rs) (j : J
   puts_without None s n new e = puts new (e ∙ keep_parts n)
   puts_without (Some k) s n new e = puts new (e ∙ ap (λ k. without key_of k (with_entry key_of run rs)) s.1 ∙ drop_parts s.0)
 
--- What is true is true on an error.
+-- A fact is also true on an error.
 pub on_err : {T E : Type 0} (P : Type 0) (r : Result T E) → P → OnErr r P
 on_err P (Ok t) p = tt
 on_err P (Err e) p = p

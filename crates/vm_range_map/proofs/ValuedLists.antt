@@ -131,7 +131,7 @@ module _ (values : map.FinMap nat_cmp ℕ) where
       (((r : Range) × IsHeld hs r × (r.start ≡ q)) × (found ≡ Some (unwrap_or (map.get values q) 0)))
       ⊎ (((r : Range) → IsHeld hs r → r.start ≢ q) × (found ≡ None))
 
-  -- What is found in a list is what the first range has, or what is found in the others.
+  -- A look-up in a list finds the value of the first range, or what a look-up in the others finds.
   first_or_later : (r : Range) (rs : List Range) (q : ℕ) (found : Option ℕ) → (q ≡ r.start) ⊎ (q ≢ r.start) → IsFound rs q found →
       IsFound (r ∷ rs) q (cond (q == r.start) (Some (unwrap_or (map.get values r.start) 0)) found)
   first_or_later r rs q found (inl e) h =

@@ -30,8 +30,8 @@ use core::fmt;
 ///
 /// # Sparse ids and aligned blocks of ids
 ///
-/// Freed ids that follow each other take one entry, and so do the ids that are skipped below an allocated
-/// one: any id can be the first. A saved value lists each freed id.
+/// Freed ids that follow each other take one entry. Ids that are skipped below an allocated one do too,
+/// so any id can be the first. A saved value lists each freed id.
 ///
 /// An [`AddressAllocator`](crate::AddressAllocator) whose addresses are ids can also allocate a block of
 /// ids that starts at a multiple of its length, as MSI with several vectors needs it:

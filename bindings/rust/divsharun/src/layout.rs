@@ -29,7 +29,7 @@ use core::iter::FusedIterator;
 #[derive(Clone, Debug)]
 pub struct Layout<'a> {
     allocator: &'a AddressAllocator,
-    // The named ranges in ascending order. Of several names of a range, the last is shown.
+    // The named ranges in ascending order. The last of several names of a range is shown.
     names: Vec<Named<'a>>,
 }
 

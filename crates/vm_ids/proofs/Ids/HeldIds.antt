@@ -346,7 +346,7 @@ last_run_fits lo b run runs f r =
     ∙ rw (in_run_test run run.last) (grind (arith, f.0)) in
     (within lo b run.last (flat_map ids_of_run runs ++ ids_of_run run) r t).1
 
--- What is true of each element is true of the last, and of those before it.
+-- A property of each element is true for the last, and for those before it.
 All-last : {X : Type 0} (P : X → Type 0) (xs : List X) (x : X) → All P (xs ++ x ∷ []) → P x
 All-last P [] x a = All-head P x [] a
 All-last P (y ∷ xs) x a = All-last P xs x (All-tail P y (xs ++ x ∷ []) a)
