@@ -89,9 +89,10 @@ impl<E: Entry> Chunk<E> {
         (at, above, below)
     }
 
-    /// Puts an entry before or over the one at `at`, or over the one before it, and removes the next entry, which has the
-    /// key `gone`. Returns `false` and changes nothing if this is not their place, or if the chunk is full. It does not
-    /// allocate.
+    /// Puts an entry before the one at `at`, or over the one with its key there or before it. Then removes the next
+    /// entry, if that has the key `gone`. Returns `false` and changes nothing if this is not their place, or if the chunk
+    /// is full. It does not allocate.
+    #[inline(always)]
     pub(in crate::proved) fn put_at(&mut self, at: usize, entry: E, gone: Option<u64>) -> bool {
         let key = entry.key();
         let entries = self.entries.as_slice();

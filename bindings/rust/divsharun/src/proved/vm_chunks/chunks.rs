@@ -244,6 +244,7 @@ impl<E: Entry> Chunks<E> {
     }
 
     /// Returns the entries next to a key. It takes logarithmic time.
+    #[inline(always)]
     pub(in crate::proved) fn gap(&self, key: u64) -> Gap<E> {
         let chunk = bounds_above(self.bounds.as_slice(), key);
         let Some(entries) = self.chunks.get(chunk) else {
@@ -273,6 +274,7 @@ impl<E: Entry> Chunks<E> {
 
     /// Puts an entry, which replaces one with its key, and then removes the one with the key `gone`. An error changes
     /// nothing. It is fast if the entry belongs in the gap, and replaces or removes the entries next to the gap.
+    #[inline(always)]
     pub(in crate::proved) fn put(
         &mut self,
         alloc: Global,
@@ -283,6 +285,16 @@ impl<E: Entry> Chunks<E> {
         if self.put_at(gap, entry, gone) {
             return Ok(());
         }
+        self.put_searched(alloc, entry, gone)
+    }
+
+    /// Puts an entry like `put`, by a search for each entry that changes. An error changes nothing.
+    fn put_searched(
+        &mut self,
+        alloc: Global,
+        entry: E,
+        gone: Option<u64>,
+    ) -> Result<(), AllocError> {
         if self.get(entry.key()).is_some() {
             self.set(entry);
         } else {
@@ -294,8 +306,9 @@ impl<E: Entry> Chunks<E> {
         Ok(())
     }
 
-    /// Puts an entry like `put`, without a search, and returns `true`. Returns `false` and changes nothing if the entries are not those
-    /// next to the gap, or if its chunk is full. It does not allocate.
+    /// Puts an entry like `put`, without a search, and returns `true`. Returns `false` and changes nothing if the
+    /// entries are not those next to the gap, or if its chunk is full. It does not allocate.
+    #[inline(always)]
     fn put_at(&mut self, gap: Gap<E>, entry: E, gone: Option<u64>) -> bool {
         if self.count > usize::MAX - MAX_ENTRIES
             || !is_home(self.bounds.as_slice(), gap.chunk, entry.key())
