@@ -91,6 +91,47 @@ fn failed_reads_and_writes_are_errors() {
     assert_eq!(padded, "   reading a line failed");
 }
 
+/// A writer that keeps the number of bytes that were written before the last flush.
+#[derive(Default)]
+struct Flushes {
+    written: usize,
+    flushed: Option<usize>,
+    fails: bool,
+}
+
+impl Write for Flushes {
+    fn write(&mut self, bytes: &[u8]) -> io::Result<usize> {
+        self.written += bytes.len();
+        Ok(bytes.len())
+    }
+
+    fn flush(&mut self) -> io::Result<()> {
+        self.flushed = Some(self.written);
+        if self.fails {
+            return Err(io::ErrorKind::Other.into());
+        }
+        Ok(())
+    }
+}
+
+#[test]
+fn the_output_is_flushed_at_the_end_of_the_input() {
+    let mut writer = Flushes::default();
+    assert_eq!(run(input().as_bytes(), &mut writer), Ok(()));
+    assert_eq!(writer.flushed, Some(output().len()));
+    writer = Flushes::default();
+    let result = run(input().as_bytes().chain(Fails), &mut writer);
+    assert_eq!((result, writer.flushed), (Err(ReplayError::Read), None));
+    writer = Flushes {
+        fails: true,
+        ..Flushes::default()
+    };
+    assert_eq!(
+        run(input().as_bytes(), &mut writer),
+        Err(ReplayError::Write)
+    );
+}
+
 /// A writer that counts writes.
 struct Writes(usize);
 
