@@ -8,7 +8,8 @@
 //!
 //! - The value of [`Chunks`] is the list of its entries. A type has a key if it is an [`Entry`], and `key_of`
 //!   is its key.
-//! - `with_entry`, `without`, `entry_at` and `at_or_above` (`Entries`) are about such a list, and name no chunk.
+//! - `with_entry`, `without`, `entry_at`, `at_or_above` and `highest_below` (`Entries`) are about such a list, and
+//!   name no chunk.
 //! - An [`IdSet`] is a set of ids. It keeps a [`Run`] for all ids that follow each other, so its value is that of a
 //!   set, and its runs are hidden (`Runs`).
 //! - Only private functions cite `Chunks` of `specs`. `AreChunks`: the bounds descend to 0, and each chunk
@@ -17,7 +18,8 @@
 //! # What is proved
 //!
 //! - The exact result of each call, and the list after it. Keys are different and descend.
-//! - An error changes nothing, and only `insert` and `try_clone` have one. An insertion allocates before it
+//! - `gap` returns both entries next to a key, and `put` uses them. The list after `put` does not depend on the gap.
+//! - An error changes nothing, and only `insert`, `put` and `try_clone` have one. An insertion allocates before it
 //!   changes an entry, because each chunk has memory for 64 entries.
 //! - An iterator returns each entry once, in order, from both ends.
 //! - The number of entries, which is stored.
@@ -27,7 +29,7 @@
 //!
 //! # What is only tested
 //!
-//! - How long a call takes, and how much memory the chunks take.
+//! - How long a call takes, such as a `put` at its gap, and how much memory the chunks take.
 #![tactic(auto)]
 
 ghost use Rattle.std.specs.Prelude.{◌≡◌, ℕ, ◌<◌, length, IsTrue, false};
