@@ -142,7 +142,7 @@
 //! `proved` is generated from these sources by removing their contracts. `docs/PROVED.md` in the
 //! repository lists what is trusted. These parts are written by hand and tested:
 //!
-//! - the sets and maps of ids and devices, and what else replaces Rattle's library;
+//! - the private module `rattle`, which replaces Rattle's library;
 //! - the list of the values of a [`RangeMap`], whose indexes the proved map keeps with the ranges;
 //! - conversions, [`layout`](AddressAllocator::layout),
 //!   [`contains_address`](RangeInclusive::contains_address),

@@ -29,8 +29,9 @@ use workload::{library, Cache, Call, Devices};
 library!(Port, divsharun);
 library!(Rust, vm_allocator);
 
-/// The number of rounds of a measurement.
+/// The number of rounds of a measurement, and of one with millions of ranges.
 const ROUNDS: u64 = 11;
+const LONG_ROUNDS: u64 = 3;
 
 fn main() -> ExitCode {
     let mut arguments = std::env::args()
@@ -48,6 +49,7 @@ fn main() -> ExitCode {
     println!("{tally}");
     costs::measure();
     measure(&mut tally);
+    measure_millions(&mut tally);
     match tally.unnamed() {
         0 => ExitCode::SUCCESS,
         _ => ExitCode::FAILURE,
@@ -70,7 +72,7 @@ fn measure(tally: &mut Tally) {
     {
         let cells: Vec<String> = devices
             .iter()
-            .map(|devices| measure_call(call, cache, devices, tally))
+            .map(|devices| measure_call(call, cache, devices, ROUNDS, tally))
             .collect();
         println!("| {call}, {cache:?} | {} |", cells.join(" | "));
     }
@@ -78,11 +80,29 @@ fn measure(tally: &mut Tally) {
     println!("| bytes per range | {} |", cells.join(" | "));
 }
 
-fn measure_call(call: Call, cache: Cache, devices: &Devices, tally: &mut Tally) -> String {
-    let port = devices.measure::<Port>(call, cache, ROUNDS);
+/// Measures the calls that look for one address, in spaces with millions of ranges in a random order.
+fn measure_millions(tally: &mut Tally) {
+    println!("| call | 1,000,000 | 10,000,000 ranges |\n|---|---|---|");
+    let devices = [1_000_000, 10_000_000].map(Devices::new);
+    for call in [Call::Exact, Call::Free] {
+        let cells = devices
+            .each_ref()
+            .map(|devices| measure_call(call, Cache::Warm, devices, LONG_ROUNDS, tally));
+        println!("| {call} | {} |", cells.join(" | "));
+    }
+}
+
+fn measure_call(
+    call: Call,
+    cache: Cache,
+    devices: &Devices,
+    rounds: u64,
+    tally: &mut Tally,
+) -> String {
+    let port = devices.measure::<Port>(call, cache, rounds);
     let [rust, plain] = [
-        devices.measure::<Rust>(call, cache, ROUNDS),
-        devices.measure::<Plain>(call, cache, ROUNDS),
+        devices.measure::<Rust>(call, cache, rounds),
+        devices.measure::<Plain>(call, cache, rounds),
     ]
     .map(|other| {
         for (answer, port_answer) in other.answers.iter().zip(&port.answers) {
