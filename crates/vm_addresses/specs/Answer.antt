@@ -20,17 +20,15 @@ IsChosen request state s =
 
 -- The errors of a request for n addresses that start at t. The first condition that is true decides:
 --
--- | condition | result |
--- |---|---|
--- | t is MAX | Overflow |
--- | t is not in the space | ResourceNotAvailable |
--- | the range would end past MAX | Overflow |
--- | exactly this range is held | InvalidStateTransition |
--- | one of its addresses is not clear | ResourceNotAvailable |
--- | it ends at MAX | Overflow |
--- | none of these | `otherwise` is true |
+-- - Overflow if t is MAX.
+-- - ResourceNotAvailable if t is not in the space.
+-- - Overflow if the range would end past MAX.
+-- - InvalidStateTransition if exactly this range is held.
+-- - ResourceNotAvailable if one of its addresses is not clear.
+-- - Overflow if it ends at MAX.
+-- - Otherwise `otherwise` is true.
 --
--- The last two errors also follow from `ByPlace`. They are here so that the table is complete.
+-- The last two errors also follow from `ByPlace`. They are here so that the list is complete.
 unfoldable pub ByStart : ℕ → ℕ → AddressState → (Error → Type 0) → Type 0 → Type 0
 ByStart t n state refused otherwise =
     IfElse (t ≡ MAX) (refused Overflow) (
@@ -48,11 +46,9 @@ ByExactPolicy request state refused otherwise =
 
 -- The result of a valid request by its place in the window. The first condition that is true decides:
 --
--- | condition | result |
--- |---|---|
--- | there is no place | ResourceNotAvailable |
--- | the range at the chosen place ends at MAX | Overflow |
--- | none of these | `takes` is true for the range at the chosen place |
+-- - ResourceNotAvailable if there is no place.
+-- - Overflow if the range at the chosen place ends at MAX.
+-- - Otherwise `takes` is true for this range.
 unfoldable pub ByPlace : Request → AddressState → (Error → Type 0) → (Range → Type 0) → Type 0
 ByPlace request state refused takes =
     (((s : ℕ) → ¬ IsPlace request.size request.align (within request.window state) s) × refused ResourceNotAvailable)
@@ -63,14 +59,12 @@ ByPlace request state refused takes =
 abbrev pub SPLIT_LIMIT_MIN_HELD : ℕ
 SPLIT_LIMIT_MIN_HELD = 6_293_134_512
 
--- The result for the range r, if `counted` ranges count for the limit of splits. An error changes nothing. The first condition that
--- is true decides:
+-- The result for the range r, if `counted` ranges count for the limit of splits. An error changes nothing. The first
+-- condition that is true decides:
 --
--- | condition | result |
--- |---|---|
--- | r fills its gap | r is allocated |
--- | SPLIT_LIMIT_MIN_HELD or more ranges count | Overflow |
--- | none of these | r is allocated, or OutOfMemory |
+-- - r is allocated if it fills its gap.
+-- - Overflow if SPLIT_LIMIT_MIN_HELD or more ranges count.
+-- - Otherwise r is allocated, or the result is OutOfMemory.
 unfoldable pub AllocatesAt : ℕ → AddressState → Range → Result Range Error → AddressState → Type 0
 AllocatesAt counted old r answer new =
     let taken : Type 0 = (answer ≡ Ok r) × (new ≡ holding r old) in
@@ -78,14 +72,13 @@ AllocatesAt counted old r answer new =
     Unless (SplitsGap old r) taken (
     IfElse (SPLIT_LIMIT_MIN_HELD ≤ counted) (refused Overflow) (taken ⊎ refused OutOfMemory))
 
--- The result of a valid request, if `counted` ranges count for the limit of splits. An error changes nothing. The first condition that is true decides:
+-- The result of a valid request, if `counted` ranges count for the limit of splits. An error changes nothing. The first
+-- condition that is true decides:
 --
--- | condition | result |
--- |---|---|
--- | the policy is ExactMatch, and `ByStart` names an error | that error |
--- | there is no place in the window | ResourceNotAvailable |
--- | the range at the chosen place ends at MAX | Overflow |
--- | none of these | that of `AllocatesAt` for the range at the chosen place |
+-- - The error of `ByStart` if the policy is ExactMatch, and `ByStart` names one.
+-- - ResourceNotAvailable if there is no place in the window.
+-- - Overflow if the range at the chosen place ends at MAX.
+-- - Otherwise the result of `AllocatesAt` for this range.
 unfoldable pub Grants : ℕ → AddressState → Request → Result Range Error → AddressState → Type 0
 Grants counted old request answer new =
     let refused : Error → Type 0 = λ e. (answer ≡ Err e) × (new ≡ old) in

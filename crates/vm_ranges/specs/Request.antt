@@ -39,12 +39,10 @@ pub record IsRequest (request : Request) : Type 0 where
 
 -- The error of an invalid request. The first condition that is true decides:
 --
--- | condition | result |
--- |---|---|
--- | the size is 0 | InvalidSize |
--- | the alignment is not a power of two | InvalidAlignment |
--- | the policy is ExactMatch, and its start is not a multiple of the alignment | UnalignedAddress |
--- | none of these | `otherwise` is true |
+-- - InvalidSize if the size is 0.
+-- - InvalidAlignment if the alignment is not a power of two.
+-- - UnalignedAddress if the policy is ExactMatch, and its start is not a multiple of the alignment.
+-- - Otherwise `otherwise` is true.
 unfoldable pub ByConstraint : Request → (Error → Type 0) → Type 0 → Type 0
 ByConstraint request refused otherwise =
     IfElse (request.size ≡ 0) (refused (InvalidSize 0)) (

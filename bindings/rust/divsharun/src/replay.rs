@@ -3,18 +3,17 @@
 //!
 //! A line creates an object, or calls the last object of its kind:
 //!
-//! | line | call |
-//! |---|---|
-//! | `space B S` | [`AddressAllocator::new`], with a base and a size |
-//! | `first N A`, `last N A`, `exact N A S` | [`AddressAllocator::allocate`], with a size, an alignment and a start |
-//! | `free START END` | [`AddressAllocator::free`] |
-//! | `ids A B` | [`IdAllocator::new`], with the first and the last id |
-//! | `id` | [`IdAllocator::allocate_id`] |
-//! | `unid N` | [`IdAllocator::free_id`] |
-//! | `has N` | [`IdAllocator::is_allocated`] |
-//! | `manager A B BASE SIZE` | [`DeviceManager::new`] |
-//! | `device N A` | [`DeviceManager::reserve`], with `FirstMatch` |
-//! | `undevice ID` | [`DeviceManager::release`] |
+//! - `space B S`: [`AddressAllocator::new`], with a base and a size.
+//! - `first N A`, `last N A`, `exact N A S`: [`AddressAllocator::allocate`], with a size, an
+//!   alignment and a start.
+//! - `free START END`: [`AddressAllocator::free`].
+//! - `ids A B`: [`IdAllocator::new`], with the first and the last id.
+//! - `id`: [`IdAllocator::allocate_id`].
+//! - `unid N`: [`IdAllocator::free_id`].
+//! - `has N`: [`IdAllocator::is_allocated`].
+//! - `manager A B BASE SIZE`: [`DeviceManager::new`].
+//! - `device N A`: [`DeviceManager::reserve`], with `FirstMatch`.
+//! - `undevice ID`: [`DeviceManager::release`].
 //!
 //! The output is `done`, `range START END`, `id N`, `device ID START END`, `yes` or `no`, or
 //! `error` with the reason. The program `divsharun-replay` runs the lines of a file, or of its

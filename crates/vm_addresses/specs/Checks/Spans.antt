@@ -116,12 +116,10 @@ span_of (Node l b r h) =
     (span_of r))
     (span_of l)
 
--- The span is that of the saved tree, whose keys are ranges. An example, a tree of two nodes:
+-- The span is that of the saved tree, whose keys are ranges. An example, a tree of two Allocated nodes:
 --
--- | node | key | state | height | span: first to last, nesting, held, exact |
--- |---|---|---|---|---|
--- | root | 4 to 9 | Allocated | 2 | 0 to 9, 2, 2, true |
--- | its left child | 0 to 3 | Allocated | 1 | 0 to 3, 1, 1, true |
+-- - The root has key 4 to 9 and height 2. Its span is from 0 to 9, with nesting 2 and 2 held keys, and is exact.
+-- - Its left child has key 0 to 3 and height 1. Its span is from 0 to 3, with nesting 1 and 1 held key, and is exact.
 pub record StandsFor (span : Option Span) (t : Saved) : Type 0 where
   pub is_span : span_of t ≡ Some span
   pub ranges : HasRanges t

@@ -1,6 +1,6 @@
 // SPDX-License-Identifier: Apache-2.0 OR BSD-3-Clause
-//! Compares an iterator with a list of its items, so that no item is lost or repeated if both ends,
-//! `nth`, `fold` and `len` are used in turn.
+//! Compares an iterator with a list of its items: none is lost or repeated if both ends, `nth`,
+//! `fold` and `len` are used in turn.
 
 use crate::draw::Draw;
 use std::fmt::Debug;
