@@ -52,10 +52,12 @@ module _ {X : Type 0} (key : X → ℕ) (cs : List (List X)) (bs : List ℕ) (r 
       let n = same_lengths key cs bs r.bounded in
       let b = chunk_descends key TOP cs bs i 0 d (bounded key cs bs r.bounded (omega (arith, l))) l in
       let q = keys_within key (get_or bs i 0) (get_or (TOP ∷ bs) i 0) (get_or cs i d) b g.0 e g.1 in
-      let is = g.2 e in
-      (omega (arith, q, is, up_to_top), place_is (λ b. b) k bs i (all_bounds_descend key cs bs r.bounded) (omega (arith, n, l))
-      (λ f z. let s = bound_before bs i 0 f in let t = get_or_default bs (i - 1) 0 z (omega (arith, n, l, f)) in omega (arith, q, is, s, t))
-      (λ w z. let t = get_or_default bs i 0 z w in omega (arith, q, is, t)))
+      let is = g.2 e in (
+        omega (arith, q, is, up_to_top),
+        place_is (λ b. b) k bs i (all_bounds_descend key cs bs r.bounded) (omega (arith, n, l))
+            (λ f z. let s = bound_before bs i 0 f in let t = get_or_default bs (i - 1) 0 z (omega (arith, n, l, f)) in omega (arith, q, is, s, t))
+            (λ w z. let t = get_or_default bs i 0 z w in omega (arith, q, is, t)),
+      )
 
   module _ (o : Option ℕ) (g : IfSome o (λ k. HasKey key k (get_or cs i d))) where
     pub gone_bounded : AreAllBounded key (set cs i (without_some key o (with_entry key e (get_or cs i d)))) bs

@@ -157,7 +157,11 @@ impl<E: Entry> Chunk<E> {
         let entries = self.entries.as_slice();
         let at = place_from(entries, key);
         let above = if at > 0 { Some(entries[at - 1]) } else { None };
-        let below = if at < entries.len() { Some(entries[at]) } else { None };
+        let below = if at < entries.len() {
+            Some(entries[at])
+        } else {
+            None
+        };
         (at, above, below)
     }
 

@@ -409,7 +409,13 @@ impl<E: Entry> Chunks<E> {
     /// Puts an entry, which replaces one with its key, and then removes the one with the key `gone`. An error changes
     /// nothing. It is fast if the entry belongs in the gap, and replaces or removes the entries next to the gap.
     #[inline(always)]
-    pub fn put(&mut self, alloc: Global, gap: Gap<E>, entry: E, gone: Option<u64>) -> Result<(), AllocError>
+    pub fn put(
+        &mut self,
+        alloc: Global,
+        gap: Gap<E>,
+        entry: E,
+        gone: Option<u64>,
+    ) -> Result<(), AllocError>
         ensures put { OnOk result (self.new ≡ without_some E.key_of gone (with_entry E.key_of entry self.old)) }
         ensures unchanged { OnErr result (self.new ≡ self.old) }
     {
@@ -442,7 +448,9 @@ impl<E: Entry> Chunks<E> {
         ensures put { IsTrue result → self.new ≡ without_some E.key_of gone (with_entry E.key_of entry self.old) }
         ensures unchanged { result ≡ false → self.new ≡ self.old }
     {
-        if self.count > usize::MAX - MAX_ENTRIES || !is_home(self.bounds.as_slice(), gap.chunk, entry.key()) {
+        if self.count > usize::MAX - MAX_ENTRIES
+            || !is_home(self.bounds.as_slice(), gap.chunk, entry.key())
+        {
             return false;
         }
         let chunk = &mut self.chunks[gap.chunk];

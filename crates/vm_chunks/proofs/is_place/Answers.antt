@@ -18,5 +18,5 @@ returns-else-at-entries-2 g c = λ t.
       | else-at-gt0-via-else-at-gt0 w ↦ λ f d. absurd (omega (arith, f, w.if-at-gt0.false))
     ] in
     place_is key c.args.key xs p c.requires within high (λ f d.
-        let e = ap key (c.index-entries-at-else-at-entries-2.is ∙ get_or_default xs p c.index-entries-at-else-at-entries-2.result d f) in
-        omega (arith, e, c.key-else-at-entries-2.ensures, leb-true _ _ t))
+    let e = ap key (c.index-entries-at-else-at-entries-2.is ∙ get_or_default xs p c.index-entries-at-else-at-entries-2.result d f) in
+    omega (arith, e, c.key-else-at-entries-2.ensures, leb-true _ _ t))
