@@ -21,7 +21,7 @@ bound_before bs zero d l = absurd (omega (arith, l))
 bound_before bs (suc i) d l = let s : i ≡ suc i - 1 = omega arith in ap (λ k. get_or bs k d) s
 
 -- The number of entries after a change of a chunk.
-pub count_changed : {X : Type 0} (cs : List (List X)) (i : ℕ) (c' d : List X) → i < length cs →
+count_changed : {X : Type 0} (cs : List (List X)) (i : ℕ) (c' d : List X) → i < length cs →
     length (entries_of (set cs i c')) + length (get_or cs i d) ≡ length (entries_of cs) + length c'
 count_changed cs i c' d l =
     let pre = entries_of (take i cs) in
@@ -59,36 +59,65 @@ module _ {X : Type 0} (key : X → ℕ) (cs : List (List X)) (bs : List ℕ) (r 
             (λ w z. let t = get_or_default bs i 0 z w in omega (arith, q, is, t)),
       )
 
-  module _ (o : Option ℕ) (g : IfSome o (λ k. HasKey key k (get_or cs i d))) where
-    pub gone_bounded : AreAllBounded key (set cs i (without_some key o (with_entry key e (get_or cs i d)))) bs
-    gone_bounded = of o g
-      where
-        of : (o : Option ℕ) → IfSome o (λ k. HasKey key k (get_or cs i d)) → AreAllBounded key (set cs i (without_some key o (with_entry key e (get_or cs i d)))) bs
-        of None g = (put_is key cs bs r e i h p l d).bounded
-        of (Some k) g =
-            let m = home_of k g in
-            let put = with_entry key e (get_or cs i d) in
-            let n = length-set cs i put in
-            subst (λ (cs : List (List X)). AreAllBounded key cs bs) (twice cs i put (without key k put))
-            (subst (λ c. AreAllBounded key (set (set cs i put) i (without key k c)) bs) (get_or-set_same cs i put d l)
-            (taken_bounded key (set cs i put) bs (put_is key cs bs r e i h p l d).bounded k i m.0 m.1 (omega (arith, n, l)) d))
+  gone_bounded : (o : Option ℕ) → IfSome o (λ k. HasKey key k (get_or cs i d)) →
+      AreAllBounded key (set cs i (without_some key o (with_entry key e (get_or cs i d)))) bs
+  gone_bounded None g = (put_is key cs bs r e i h p l d).bounded
+  gone_bounded (Some k) g =
+      let m = home_of k g in
+      let put = with_entry key e (get_or cs i d) in
+      let n = length-set cs i put in
+      subst (λ (cs : List (List X)). AreAllBounded key cs bs) (twice cs i put (without key k put))
+      (subst (λ c. AreAllBounded key (set (set cs i put) i (without key k c)) bs) (get_or-set_same cs i put d l)
+      (taken_bounded key (set cs i put) bs (put_is key cs bs r e i h p l d).bounded k i m.0 m.1 (omega (arith, n, l)) d))
 
-    pub gone_entries : entries_of (set cs i (without_some key o (with_entry key e (get_or cs i d)))) ≡ without_some key o (with_entry key e (entries_of cs))
-    gone_entries = of o g
-      where
-        of : (o : Option ℕ) → IfSome o (λ k. HasKey key k (get_or cs i d)) →
-            entries_of (set cs i (without_some key o (with_entry key e (get_or cs i d)))) ≡ without_some key o (with_entry key e (entries_of cs))
-        of None g = put_entries key cs bs r e i h p l d
-        of (Some k) g =
-            let m = home_of k g in
-            let put = with_entry key e (get_or cs i d) in
-            let n = length-set cs i put in
-            ap (λ (cs : List (List X)). entries_of cs) (sym (twice cs i put (without key k put)))
-            ∙ ap (λ c. entries_of (set (set cs i put) i (without key k c))) (sym (get_or-set_same cs i put d l))
-            ∙ taken_entries key (set cs i put) bs (put_is key cs bs r e i h p l d).bounded k i m.0 m.1 (omega (arith, n, l)) d
-            ∙ ap (without key k) (put_entries key cs bs r e i h p l d)
+  gone_entries : (o : Option ℕ) → IfSome o (λ k. HasKey key k (get_or cs i d)) →
+      entries_of (set cs i (without_some key o (with_entry key e (get_or cs i d)))) ≡ without_some key o (with_entry key e (entries_of cs))
+  gone_entries None g = put_entries key cs bs r e i h p l d
+  gone_entries (Some k) g =
+      let m = home_of k g in
+      let put = with_entry key e (get_or cs i d) in
+      let n = length-set cs i put in
+      ap (λ (cs : List (List X)). entries_of cs) (sym (twice cs i put (without key k put)))
+      ∙ ap (λ c. entries_of (set (set cs i put) i (without key k c))) (sym (get_or-set_same cs i put d l))
+      ∙ taken_entries key (set cs i put) bs (put_is key cs bs r e i h p l d).bounded k i m.0 m.1 (omega (arith, n, l)) d
+      ∙ ap (without key k) (put_entries key cs bs r e i h p l d)
 
-  -- Only an entry is put.
-  pub gone_none : (o : Option ℕ) → is_some o ≡ false → AreChunks key (set cs i (without_some key o (with_entry key e (get_or cs i d)))) bs
+  gone_none : (o : Option ℕ) → is_some o ≡ false → AreChunks key (set cs i (without_some key o (with_entry key e (get_or cs i d)))) bs
   gone_none None s = put_is key cs bs r e i h p l d
   gone_none (Some k) s = absurd (true≢false s)
+
+-- The chunk c at i becomes c'.
+module _ {X : Type 0} (cs : List (List X)) (i : ℕ) (l : i < length cs) (c : List X) (here : c ≡ get_or cs i c) (count before : ℕ)
+    (counted : count ≡ length (entries_of cs)) (b : before ≡ length c) where
+  pub counts_before : before ≤ count
+  counts_before = let some = count_changed cs i [] c l in let n = ap length here in omega (arith, some, n, counted, b)
+
+  pub counts_after : (c' : List X) (after : ℕ) → after ≡ length c' → count - before + after ≡ length (entries_of (set cs i c'))
+  counts_after c' after a =
+      let all = count_changed cs i c' c l in
+      let n = ap length here in
+      omega (arith, all, counts_before, n, counted, b, a)
+
+-- The chunk that can have the key of an entry gets the entry, and another one is taken out of it.
+module _ {X : Type 0} (key : X → ℕ) (cs : List (List X)) (bs : List ℕ) (r : AreChunks key cs bs) (e : X) (i : ℕ) (h : key e < TOP)
+    (p : IsPlace (λ b. b) (key e) i bs) (w : i < length bs) (c : List X) (here : c ≡ get_or cs i c) (o : Option ℕ)
+    (c' : List X) (put : c' ≡ without_some key o (with_entry key e c)) where
+  within : i < length cs
+  within = omega (arith, w, same_lengths key cs bs r.bounded)
+
+  becomes : without_some key o (with_entry key e (get_or cs i c)) ≡ c'
+  becomes = ap (λ c. without_some key o (with_entry key e c)) (sym here) ∙ sym put
+
+  module _ (g : IfSome o (λ k. HasKey key k c)) where
+    own : IfSome o (λ k. HasKey key k (get_or cs i c))
+    own = subst (λ c. IfSome o (λ k. HasKey key k c)) here g
+
+    pub put_bounded : AreAllBounded key (set cs i c') bs
+    put_bounded = subst (λ c. AreAllBounded key (set cs i c) bs) becomes (gone_bounded key cs bs r e i h p within c o own)
+
+    pub put_changes : entries_of (set cs i c') ≡ without_some key o (with_entry key e (entries_of cs))
+    put_changes = ap (λ c. entries_of (set cs i c)) (sym becomes) ∙ gone_entries key cs bs r e i h p within c o own
+
+  -- No other one is taken out.
+  pub put_alone : is_some o ≡ false → AreChunks key (set cs i c') bs
+  put_alone s = subst (λ c. AreChunks key (set cs i c) bs) becomes (gone_none key cs bs r e i h p within c o s)

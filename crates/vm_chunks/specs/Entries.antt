@@ -1,5 +1,5 @@
 -- Lists of entries in descending order of their keys.
-use Rattle.std.specs.Prelude.{◌≡◌, ℕ, Bool, [], if◌then◌else◌, ◌<◌, ◌≤◌, List, ◌∷◌, ◌++◌, length, slice_index_or, nat_lt, nat_le, nat_eq, Option, Some, None, ◌+◌, reverse}
+use Rattle.std.specs.Prelude.{◌≡◌, ℕ, Bool, [], if◌then◌else◌, ◌<◌, ◌≤◌, List, ◌∷◌, ◌++◌, length, slice_index_or, nat_lt, nat_le, nat_eq, Option, Some, None, reverse}
 use Rattle.std.specs.List.{filter, find}
 
 -- The keys descend.

@@ -14,7 +14,6 @@ ghost use Rattle.std.specs.Prelude.{
   if◌then◌else◌,
   None,
   IsSome,
-  IfSome,
   IsTrue,
   false,
   MatchOption,
@@ -407,7 +406,10 @@ impl<E: Entry> Chunks<E> {
     }
 
     /// Puts an entry, which replaces one with its key, and then removes the one with the key `gone`. An error changes
-    /// nothing. It is fast if the entry belongs in the gap, and replaces or removes the entries next to the gap.
+    /// nothing.
+    ///
+    /// It makes no search if the entry belongs in the gap, if only entries next to the gap are replaced or removed, and if
+    /// the chunk has room.
     #[inline(always)]
     pub fn put(
         &mut self,
@@ -425,7 +427,7 @@ impl<E: Entry> Chunks<E> {
         self.put_searched(alloc, entry, gone)
     }
 
-    /// Puts an entry like `put`, by a search for each entry that changes. An error changes nothing.
+    /// Puts an entry like `put`, with a search for each entry that changes. An error changes nothing.
     fn put_searched(&mut self, alloc: Global, entry: E, gone: Option<u64>) -> Result<(), AllocError>
         ensures put { OnOk result (self.new ≡ without_some E.key_of gone (with_entry E.key_of entry self.old)) }
         ensures unchanged { OnErr result (self.new ≡ self.old) }

@@ -32,7 +32,6 @@ ghost use Rattle.vm_chunks.specs.Runs.{
   IsLowestFrom,
   HasNoneFrom,
   Joins,
-  Puts,
   IsInside,
   HasRun,
   Cuts,

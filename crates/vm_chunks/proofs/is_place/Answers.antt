@@ -1,4 +1,4 @@
-use Rattle.std.proofs.Common.{◌-◌, ◌<◌, length, get_or, arith, ap, ◌∙◌}
+use Rattle.std.proofs.Common.{◌-◌, ◌<◌, get_or, arith, ap, ◌∙◌}
 use Rattle.std.proofs.lemmas.Bool.{leb-true}
 use Rattle.std.proofs.lemmas.List.{get_or_default}
 use Rattle.vm_chunks.proofs.Gaps.{place_is}

@@ -1,8 +1,7 @@
-use Rattle.std.proofs.Common.{sym, ap, ◌∙◌, arith}
+use Rattle.std.proofs.Common.{sym, ◌∙◌, arith}
 use Rattle.std.proofs.lemmas.Bool.{le-leb}
-use Rattle.vm_chunks.specs.Entries.{at_or_above, highest_below}
-use Rattle.vm_chunks.specs.Runs.{RUNS_END, AreRuns}
-use Rattle.vm_chunks.proofs.Runs.{key_of, found_has}
+use Rattle.vm_chunks.specs.Runs.{RUNS_END}
+use Rattle.vm_chunks.proofs.Runs.{found_has}
 use Rattle.vm_chunks.proofs.RunJoins.{JoinsAbove, joins_above_none, joins_above_next, joins_above_far, ends_below, joins_lower, joins_apart, joins_none}
 use Rattle.vm_chunks.proofs.id_set.joined.Goals as goal
 use Rattle.vm_chunks.proofs.id_set.joined.Goals.{in-Some-2, in_default-2, in_default}

@@ -273,7 +273,10 @@ impl<E: Entry> Chunks<E> {
     }
 
     /// Puts an entry, which replaces one with its key, and then removes the one with the key `gone`. An error changes
-    /// nothing. It is fast if the entry belongs in the gap, and replaces or removes the entries next to the gap.
+    /// nothing.
+    ///
+    /// It makes no search if the entry belongs in the gap, if only entries next to the gap are replaced or removed, and if
+    /// the chunk has room.
     #[inline(always)]
     pub(in crate::proved) fn put(
         &mut self,
@@ -288,7 +291,7 @@ impl<E: Entry> Chunks<E> {
         self.put_searched(alloc, entry, gone)
     }
 
-    /// Puts an entry like `put`, by a search for each entry that changes. An error changes nothing.
+    /// Puts an entry like `put`, with a search for each entry that changes. An error changes nothing.
     fn put_searched(
         &mut self,
         alloc: Global,

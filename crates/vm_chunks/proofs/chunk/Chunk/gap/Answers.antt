@@ -1,4 +1,4 @@
-use Rattle.std.proofs.Common.{rules, ◌<◌, ◌-◌, length, ◌∙◌, arith}
+use Rattle.std.proofs.Common.{◌<◌, ◌-◌, length, ◌∙◌, arith}
 use Rattle.std.proofs.lemmas.List.{get_or_read}
 use Rattle.vm_chunks.proofs.Cuts.{none_from, found_from, none_under, found_under}
 use Rattle.vm_chunks.proofs.chunk.Chunk.gap.Goals as goal

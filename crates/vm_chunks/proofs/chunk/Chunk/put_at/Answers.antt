@@ -1,4 +1,4 @@
-use Rattle.std.proofs.Common.{rules, ◌≡◌, ◌<◌, ◌+◌, ◌-◌, length, set, refl, sym, ap, subst, ◌∙◌, arith, IfSome}
+use Rattle.std.proofs.Common.{rules, ◌≡◌, ◌+◌, ◌-◌, set, refl, sym, ap, subst, ◌∙◌, arith, IfSome}
 use Rattle.std.specs.List.{remove}
 use Rattle.vm_chunks.specs.Entries.{HasKey, with_entry, without, without_some}
 use Rattle.vm_chunks.proofs.Gaps.{put_known, put_new, put_between, put_over}

@@ -1,4 +1,4 @@
-use Rattle.std.proofs.Common.{rules, ◌≡◌, ◌<◌, ◌≤◌, ◌+◌, ◌-◌, suc, length, get_or, take, drop, subst, sym, ap, ◌∙◌, arith, Some, None}
+use Rattle.std.proofs.Common.{rules, ◌≡◌, ◌<◌, ◌+◌, ◌-◌, suc, length, get_or, take, drop, subst, sym, ap, ◌∙◌, arith}
 use Rattle.std.specs.Option.{option_or}
 use Rattle.vm_chunks.specs.Entries.{IsDescendingBy, at_or_above, highest_below}
 use Rattle.vm_chunks.specs.Chunks.{entries_of}

@@ -1,9 +1,9 @@
-use Rattle.std.proofs.Common.{rules, ◌≡◌, ◌<◌, ◌≤◌, ◌+◌, ◌-◌, List, [], length, get_or, set, subst, refl, sym, ap, ◌∙◌, arith, IfSome}
+use Rattle.std.proofs.Common.{rules, ◌<◌, length, subst, refl, sym, ap, ◌∙◌, arith}
 use Rattle.std.proofs.lemmas.List.{length-set}
-use Rattle.vm_chunks.specs.Entries.{HasKey, IsDescendingBy, with_entry, without_some}
-use Rattle.vm_chunks.specs.Chunks.{TOP, entries_of, AreAllBounded, AreChunks}
+use Rattle.vm_chunks.specs.Entries.{IsDescendingBy, with_entry, without_some}
+use Rattle.vm_chunks.specs.Chunks.{TOP}
 use Rattle.vm_chunks.proofs.Homes.{all_bounds_descend, home_descends, same_lengths}
-use Rattle.vm_chunks.proofs.Puts.{count_changed, gone_bounded, gone_entries, gone_none}
+use Rattle.vm_chunks.proofs.Puts.{counts_before, counts_after, put_bounded, put_changes, put_alone}
 use Rattle.vm_chunks.proofs.chunks.Chunks.put_at.Goals as goal
 
 pub is_home-requires : goal.is_home-requires
@@ -28,79 +28,59 @@ put_at-requires g c =
 
 pub overflow_sub-self : goal.overflow_sub-self
 overflow_sub-self g c =
-    let key = g.E.Entry.key_of in
     let w = rw c.as_slice.ensures.value at c.if-not-is_home.ensures.within refl in
-    let l : c.args.gap.chunk < length c.self.inside.chunks.items = omega (arith, w, same_lengths key _ _ c.self.invariant.chunks.bounded) in
-    let n = count_changed c.self.inside.chunks.items c.args.gap.chunk [] c.index_mut-chunk.result.now l in
-    let before = c.len-before.ensures.value ∙ ap length c.index_mut-chunk.ensures.value in
-    omega (arith, n, c.self.invariant.counted, before)
+    let l : c.args.gap.chunk < length c.self.inside.chunks.items =
+    omega (arith, w, same_lengths g.E.Entry.key_of _ _ c.self.invariant.chunks.bounded) in
+    counts_before _ _ l _ c.index_mut-chunk.ensures.value _ _ c.self.invariant.counted c.len-before.ensures.value
 
 pub overflow_add-self : goal.overflow_add-self
 overflow_add-self g c = omega (arith, c.if-self.false, c.len.ensures.fits)
 
 pub mend-requires-clause-within : goal.mend-requires-clause-within
 mend-requires-clause-within g c =
-    let key = g.E.Entry.key_of in
     let w = rw c.as_slice.ensures.value at c.if-not-is_home.ensures.within refl in
     let n = length-set c.self.inside.chunks.items c.args.gap.chunk c.put_at.new.self in
-    omega (arith, w, n, same_lengths key _ _ c.self.invariant.chunks.bounded)
+    omega (arith, w, n, same_lengths g.E.Entry.key_of _ _ c.self.invariant.chunks.bounded)
 
 pub mend-requires-clause-bounded : goal.mend-requires-clause-bounded
 mend-requires-clause-bounded g c =
     let key = g.E.Entry.key_of in
     let w = rw c.as_slice.ensures.value at c.if-not-is_home.ensures.within refl in
-    let l : c.args.gap.chunk < length c.self.inside.chunks.items = omega (arith, w, same_lengths key _ _ c.self.invariant.chunks.bounded) in
     let p = rw (c.as_slice.ensures.value, c.key.ensures) at c.if-not-is_home.ensures.place refl in
     let h : key c.args.entry < TOP = search rules in
-    let cs = c.self.inside.chunks.items in
-    let here = c.index_mut-chunk.ensures.value in
-    let gone = subst (λ l. IfSome c.args.gone (λ k. HasKey key k l)) here (c.if-not-put_at.ensures.gone refl) in
-    subst (λ x. AreAllBounded key (set cs c.args.gap.chunk x) c.self.inside.bounds.items)
-    (sym (c.if-not-put_at.ensures.put refl ∙ ap (λ l. without_some key c.args.gone (with_entry key c.args.entry l)) here))
-    (gone_bounded key cs _ c.self.invariant.chunks c.args.entry _ h p l c.index_mut-chunk.result.now c.args.gone gone)
+    put_bounded key _ _ c.self.invariant.chunks c.args.entry _ h p w _ c.index_mut-chunk.ensures.value c.args.gone _
+    (c.if-not-put_at.ensures.put refl) (c.if-not-put_at.ensures.gone refl)
 
 pub returns-then-is_some-clause-put : goal.returns-then-is_some-clause-put
 returns-then-is_some-clause-put g c = λ t.
     let key = g.E.Entry.key_of in
     let w = rw c.as_slice.ensures.value at c.if-not-is_home.ensures.within refl in
-    let l : c.args.gap.chunk < length c.self.inside.chunks.items = omega (arith, w, same_lengths key _ _ c.self.invariant.chunks.bounded) in
     let p = rw (c.as_slice.ensures.value, c.key.ensures) at c.if-not-is_home.ensures.place refl in
     let h : key c.args.entry < TOP = search rules in
-    let cs = c.self.inside.chunks.items in
-    let here = c.index_mut-chunk.ensures.value in
-    let gone = subst (λ l. IfSome c.args.gone (λ k. HasKey key k l)) here (c.if-not-put_at.ensures.gone refl) in
     c.mend.ensures.same
-    ∙ ap (λ x. entries_of (set cs c.args.gap.chunk x))
-    (c.if-not-put_at.ensures.put refl ∙ ap (λ l. without_some key c.args.gone (with_entry key c.args.entry l)) here)
-    ∙ gone_entries key cs _ c.self.invariant.chunks c.args.entry _ h p l c.index_mut-chunk.result.now c.args.gone gone
+    ∙ put_changes key _ _ c.self.invariant.chunks c.args.entry _ h p w _ c.index_mut-chunk.ensures.value c.args.gone _
+    (c.if-not-put_at.ensures.put refl) (c.if-not-put_at.ensures.gone refl)
     ∙ ap (λ l. without_some key c.args.gone (with_entry key c.args.entry l)) c.self.view_is
 
 pub returns-else-is_some-clause-put : goal.returns-else-is_some-clause-put
 returns-else-is_some-clause-put g c = λ t.
     let key = g.E.Entry.key_of in
     let w = rw c.as_slice.ensures.value at c.if-not-is_home.ensures.within refl in
-    let l : c.args.gap.chunk < length c.self.inside.chunks.items = omega (arith, w, same_lengths key _ _ c.self.invariant.chunks.bounded) in
     let p = rw (c.as_slice.ensures.value, c.key.ensures) at c.if-not-is_home.ensures.place refl in
     let h : key c.args.entry < TOP = search rules in
-    let cs = c.self.inside.chunks.items in
-    let here = c.index_mut-chunk.ensures.value in
-    let gone = subst (λ l. IfSome c.args.gone (λ k. HasKey key k l)) here (c.if-not-put_at.ensures.gone refl) in
-    ap (λ x. entries_of (set cs c.args.gap.chunk x))
-    (c.if-not-put_at.ensures.put refl ∙ ap (λ l. without_some key c.args.gone (with_entry key c.args.entry l)) here)
-    ∙ gone_entries key cs _ c.self.invariant.chunks c.args.entry _ h p l c.index_mut-chunk.result.now c.args.gone gone
+    put_changes key _ _ c.self.invariant.chunks c.args.entry _ h p w _ c.index_mut-chunk.ensures.value c.args.gone _
+    (c.if-not-put_at.ensures.put refl) (c.if-not-put_at.ensures.gone refl)
     ∙ ap (λ l. without_some key c.args.gone (with_entry key c.args.entry l)) c.self.view_is
 
 pub invariant_of-self-then-is_some : goal.invariant_of-self-then-is_some
 invariant_of-self-then-is_some g c =
-    let key = g.E.Entry.key_of in
     let w = rw c.as_slice.ensures.value at c.if-not-is_home.ensures.within refl in
-    let l : c.args.gap.chunk < length c.self.inside.chunks.items = omega (arith, w, same_lengths key _ _ c.self.invariant.chunks.bounded) in
-    let n = count_changed c.self.inside.chunks.items c.args.gap.chunk c.put_at.new.self c.index_mut-chunk.result.now l in
-    let some = count_changed c.self.inside.chunks.items c.args.gap.chunk [] c.index_mut-chunk.result.now l in
-    let before = c.len-before.ensures.value ∙ ap length c.index_mut-chunk.ensures.value in
+    let l : c.args.gap.chunk < length c.self.inside.chunks.items =
+    omega (arith, w, same_lengths g.E.Entry.key_of _ _ c.self.invariant.chunks.bounded) in
     record {
       chunks = c.mend.ensures.chunks;
-      counted = let same = ap length c.mend.ensures.same in omega (arith, n, some, c.self.invariant.counted, before, c.len.ensures.value, same);
+      counted = counts_after _ _ l _ c.index_mut-chunk.ensures.value _ _ c.self.invariant.counted c.len-before.ensures.value _ _ c.len.ensures.value
+          ∙ ap length (sym c.mend.ensures.same);
     }
 
 pub invariant_of-self-else-is_some : goal.invariant_of-self-else-is_some
@@ -110,14 +90,8 @@ invariant_of-self-else-is_some g c =
     let l : c.args.gap.chunk < length c.self.inside.chunks.items = omega (arith, w, same_lengths key _ _ c.self.invariant.chunks.bounded) in
     let p = rw (c.as_slice.ensures.value, c.key.ensures) at c.if-not-is_home.ensures.place refl in
     let h : key c.args.entry < TOP = search rules in
-    let cs = c.self.inside.chunks.items in
-    let here = c.index_mut-chunk.ensures.value in
-    let n = count_changed cs c.args.gap.chunk c.put_at.new.self c.index_mut-chunk.result.now l in
-    let some = count_changed cs c.args.gap.chunk [] c.index_mut-chunk.result.now l in
-    let before = c.len-before.ensures.value ∙ ap length here in
     record {
-      chunks = subst (λ x. AreChunks key (set cs c.args.gap.chunk x) c.self.inside.bounds.items)
-          (sym (c.if-not-put_at.ensures.put refl ∙ ap (λ l. without_some key c.args.gone (with_entry key c.args.entry l)) here))
-          (gone_none key cs _ c.self.invariant.chunks c.args.entry _ h p l c.index_mut-chunk.result.now c.args.gone (sym c.is_some.ensures ∙ c.if-is_some.false));
-      counted = omega (arith, n, some, c.self.invariant.counted, before, c.len.ensures.value);
+      chunks = put_alone key _ _ c.self.invariant.chunks c.args.entry _ h p w _ c.index_mut-chunk.ensures.value c.args.gone _
+          (c.if-not-put_at.ensures.put refl) (sym c.is_some.ensures ∙ c.if-is_some.false);
+      counted = counts_after _ _ l _ c.index_mut-chunk.ensures.value _ _ c.self.invariant.counted c.len-before.ensures.value _ _ c.len.ensures.value;
     }
