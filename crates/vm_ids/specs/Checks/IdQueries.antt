@@ -38,7 +38,7 @@ abbrev pub held_end : ℕ → Option Run → ℕ
 held_end bound None = bound
 held_end bound (Some run) = min bound run.first
 
--- The held ids above the last run of freed ids start behind it, or at the next id.
+-- The held ids above the last run of freed ids start after it, or at the next id.
 abbrev pub held_start : ℕ → Option Run → ℕ
 held_start next None = next
 held_start next (Some run) = max next (run.last + 1)
