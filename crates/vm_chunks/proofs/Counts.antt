@@ -48,13 +48,6 @@ counted_option : {X : Type 0} (o : Option X) (b : Bool) (n : ℕ) → n ≡ from
 counted_option None b n e s = let number : Bool → ℕ = λ b. from_bool b in e ∙ ap number s
 counted_option (Some x) b n e s = let number : Bool → ℕ = λ b. from_bool b in e ∙ ap number s
 
--- Without the last entry, if there is one, the others are counted.
-pub popped_count : {X : Type 0} (xs ys : List X) (o : Option X) (b : Bool) (n count : ℕ) → count ≡ length xs → xs ≡ ys ++ option_to_list o →
-    n ≡ from_bool b → b ≡ is_some o → count - n ≡ length ys
-popped_count xs ys o b n count old all e s =
-    let both = ap length all ∙ length-append ys (option_to_list o) in
-    omega (arith, old, both, counted_option o b n e s)
-
 module _ {X : Type 0} (key : X → ℕ) (t : ℕ) where
   kept : (test : X → Bool) (x : X) (xs : List X) → test x ≡ true → length (filter test (x ∷ xs)) ≡ suc (length (filter test xs))
   kept test x xs e = ap length (cond-true (test x) (x ∷ filter test xs) (filter test xs) e)

@@ -17,3 +17,6 @@ pub mod Lowest
 pub mod RunsAgain
 pub mod Gaps
 pub mod Puts
+pub mod Nearby
+pub mod Adding
+pub mod RunAdds

@@ -63,7 +63,7 @@ find_fails test (x ∷ xs) a =
     cond-false (test x) _ _ (All-head (λ x. test x ≡ false) x xs a)
     ∙ find_fails test xs (All-tail (λ x. test x ≡ false) x xs a)
 
-or_none : {X : Type 0} (o : Option X) → option_or o None ≡ o
+pub or_none : {X : Type 0} (o : Option X) → option_or o None ≡ o
 or_none None = refl
 or_none (Some x) = refl
 

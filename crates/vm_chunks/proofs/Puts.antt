@@ -1,7 +1,6 @@
 -- An entry is put into a chunk, and another is taken out.
-use Rattle.std.proofs.Common.{◌≡◌, ℕ, zero, suc, ◌+◌, ◌-◌, ◌<◌, ◌≤◌, false, inl, inr, List, [], ◌∷◌, ◌++◌, length, get_or, set, take, drop, arith, sym, ap, ◌∙◌, subst, refl, Option, Some, None, IfSome}
-use Rattle.std.specs.Option.{is_some}
-use Rattle.std.proofs.lemmas.Bool.{cases_lt, true≢false}
+use Rattle.std.proofs.Common.{◌≡◌, ℕ, zero, suc, ◌+◌, ◌-◌, ◌<◌, ◌≤◌, inl, inr, List, [], ◌∷◌, ◌++◌, length, get_or, set, take, drop, arith, sym, ap, ◌∙◌, subst, refl, Option, Some, None, IfSome}
+use Rattle.std.proofs.lemmas.Bool.{cases_lt}
 use Rattle.std.proofs.lemmas.List.{length-append, length-set, get_or-set_same, get_or_default}
 use Rattle.vm_chunks.specs.Entries.{HasKey, IsPlace, with_entry, without, without_some}
 use Rattle.vm_chunks.specs.Chunks.{TOP, entries_of, AreAllBounded, AreChunks}
@@ -21,7 +20,7 @@ bound_before bs zero d l = absurd (omega (arith, l))
 bound_before bs (suc i) d l = let s : i ≡ suc i - 1 = omega arith in ap (λ k. get_or bs k d) s
 
 -- The number of entries after a change of a chunk.
-count_changed : {X : Type 0} (cs : List (List X)) (i : ℕ) (c' d : List X) → i < length cs →
+pub count_changed : {X : Type 0} (cs : List (List X)) (i : ℕ) (c' d : List X) → i < length cs →
     length (entries_of (set cs i c')) + length (get_or cs i d) ≡ length (entries_of cs) + length c'
 count_changed cs i c' d l =
     let pre = entries_of (take i cs) in
@@ -33,8 +32,8 @@ count_changed cs i c' d l =
     let n = length-append c' post in
     omega (arith, old, new, o, n)
 
-module _ {X : Type 0} (key : X → ℕ) (cs : List (List X)) (bs : List ℕ) (r : AreChunks key cs bs) (e : X) (i : ℕ) (h : key e < TOP)
-    (p : IsPlace (λ b. b) (key e) i bs) (l : i < length cs) (d : List X) where
+-- A key of a chunk belongs in it.
+module _ {X : Type 0} (key : X → ℕ) (cs : List (List X)) (bs : List ℕ) (r : AreChunks key cs bs) (i : ℕ) (l : i < length cs) (d : List X) where
   up_to_top : get_or (TOP ∷ bs) i 0 ≤ TOP
   up_to_top =
       let n = same_lengths key cs bs r.bounded in
@@ -46,24 +45,25 @@ module _ {X : Type 0} (key : X → ℕ) (cs : List (List X)) (bs : List ℕ) (r 
         | inr z ↦ (let s : i ≡ 0 = omega (arith, z) in let t = ap (λ i. get_or (TOP ∷ bs) i 0) s in omega (arith, t))
       ]
 
-  -- A key of the chunk belongs in it.
-  home_of : (k : ℕ) → HasKey key k (get_or cs i d) → (k < TOP) × IsPlace (λ b. b) k i bs
-  home_of k g =
+  pub home_of : (k : ℕ) → X → HasKey key k (get_or cs i d) → (k < TOP) × IsPlace (λ b. b) k i bs
+  home_of k x g =
       let n = same_lengths key cs bs r.bounded in
       let b = chunk_descends key TOP cs bs i 0 d (bounded key cs bs r.bounded (omega (arith, l))) l in
-      let q = keys_within key (get_or bs i 0) (get_or (TOP ∷ bs) i 0) (get_or cs i d) b g.0 e g.1 in
-      let is = g.2 e in (
+      let q = keys_within key (get_or bs i 0) (get_or (TOP ∷ bs) i 0) (get_or cs i d) b g.0 x g.1 in
+      let is = g.2 x in (
         omega (arith, q, is, up_to_top),
         place_is (λ b. b) k bs i (all_bounds_descend key cs bs r.bounded) (omega (arith, n, l))
             (λ f z. let s = bound_before bs i 0 f in let t = get_or_default bs (i - 1) 0 z (omega (arith, n, l, f)) in omega (arith, q, is, s, t))
             (λ w z. let t = get_or_default bs i 0 z w in omega (arith, q, is, t)),
       )
 
+module _ {X : Type 0} (key : X → ℕ) (cs : List (List X)) (bs : List ℕ) (r : AreChunks key cs bs) (e : X) (i : ℕ) (h : key e < TOP)
+    (p : IsPlace (λ b. b) (key e) i bs) (l : i < length cs) (d : List X) where
   gone_bounded : (o : Option ℕ) → IfSome o (λ k. HasKey key k (get_or cs i d)) →
       AreAllBounded key (set cs i (without_some key o (with_entry key e (get_or cs i d)))) bs
   gone_bounded None g = (put_is key cs bs r e i h p l d).bounded
   gone_bounded (Some k) g =
-      let m = home_of k g in
+      let m = home_of key cs bs r i l d k e g in
       let put = with_entry key e (get_or cs i d) in
       let n = length-set cs i put in
       subst (λ (cs : List (List X)). AreAllBounded key cs bs) (twice cs i put (without key k put))
@@ -74,7 +74,7 @@ module _ {X : Type 0} (key : X → ℕ) (cs : List (List X)) (bs : List ℕ) (r 
       entries_of (set cs i (without_some key o (with_entry key e (get_or cs i d)))) ≡ without_some key o (with_entry key e (entries_of cs))
   gone_entries None g = put_entries key cs bs r e i h p l d
   gone_entries (Some k) g =
-      let m = home_of k g in
+      let m = home_of key cs bs r i l d k e g in
       let put = with_entry key e (get_or cs i d) in
       let n = length-set cs i put in
       ap (λ (cs : List (List X)). entries_of cs) (sym (twice cs i put (without key k put)))
@@ -82,29 +82,10 @@ module _ {X : Type 0} (key : X → ℕ) (cs : List (List X)) (bs : List ℕ) (r 
       ∙ taken_entries key (set cs i put) bs (put_is key cs bs r e i h p l d).bounded k i m.0 m.1 (omega (arith, n, l)) d
       ∙ ap (without key k) (put_entries key cs bs r e i h p l d)
 
-  gone_none : (o : Option ℕ) → is_some o ≡ false → AreChunks key (set cs i (without_some key o (with_entry key e (get_or cs i d)))) bs
-  gone_none None s = put_is key cs bs r e i h p l d
-  gone_none (Some k) s = absurd (true≢false s)
-
--- The chunk c at i becomes c'.
-module _ {X : Type 0} (cs : List (List X)) (i : ℕ) (l : i < length cs) (c : List X) (here : c ≡ get_or cs i c) (count before : ℕ)
-    (counted : count ≡ length (entries_of cs)) (b : before ≡ length c) where
-  pub counts_before : before ≤ count
-  counts_before = let some = count_changed cs i [] c l in let n = ap length here in omega (arith, some, n, counted, b)
-
-  pub counts_after : (c' : List X) (after : ℕ) → after ≡ length c' → count - before + after ≡ length (entries_of (set cs i c'))
-  counts_after c' after a =
-      let all = count_changed cs i c' c l in
-      let n = ap length here in
-      omega (arith, all, counts_before, n, counted, b, a)
-
 -- The chunk that can have the key of an entry gets the entry, and another one is taken out of it.
 module _ {X : Type 0} (key : X → ℕ) (cs : List (List X)) (bs : List ℕ) (r : AreChunks key cs bs) (e : X) (i : ℕ) (h : key e < TOP)
-    (p : IsPlace (λ b. b) (key e) i bs) (w : i < length bs) (c : List X) (here : c ≡ get_or cs i c) (o : Option ℕ)
+    (p : IsPlace (λ b. b) (key e) i bs) (within : i < length cs) (c : List X) (here : c ≡ get_or cs i c) (o : Option ℕ)
     (c' : List X) (put : c' ≡ without_some key o (with_entry key e c)) where
-  within : i < length cs
-  within = omega (arith, w, same_lengths key cs bs r.bounded)
-
   becomes : without_some key o (with_entry key e (get_or cs i c)) ≡ c'
   becomes = ap (λ c. without_some key o (with_entry key e c)) (sym here) ∙ sym put
 
@@ -117,7 +98,3 @@ module _ {X : Type 0} (key : X → ℕ) (cs : List (List X)) (bs : List ℕ) (r 
 
     pub put_changes : entries_of (set cs i c') ≡ without_some key o (with_entry key e (entries_of cs))
     put_changes = ap (λ c. entries_of (set cs i c)) (sym becomes) ∙ gone_entries key cs bs r e i h p within c o own
-
-  -- No other one is taken out.
-  pub put_alone : is_some o ≡ false → AreChunks key (set cs i c') bs
-  put_alone s = subst (λ c. AreChunks key (set cs i c) bs) becomes (gone_none key cs bs r e i h p within c o s)

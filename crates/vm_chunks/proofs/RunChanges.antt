@@ -11,7 +11,8 @@ use Rattle.std.specs.BTreeSet.{contains}
 use Rattle.std.specs.Option.{is_some, IsSome}
 use Rattle.vm_chunks.specs.declared.id_set.Run.{Run}
 use Rattle.vm_chunks.specs.Entries.{above, below, with_entry, without, without_some, entry_at}
-use Rattle.vm_chunks.specs.Runs.{RUNS_END, ids_of_run, ids_of_runs, AreRuns, lowest_of, Joins, Puts}
+use Rattle.vm_chunks.specs.Runs.{RUNS_END, ids_of_run, ids_of_runs, AreRuns, lowest_of, Puts}
+use Rattle.vm_chunks.proofs.RunJoins.{Joins}
 use Rattle.vm_chunks.proofs.Middles.{entry_in, with_in, with_nothing, without_in}
 use Rattle.vm_chunks.proofs.Runs.{
   key_of,
@@ -119,25 +120,6 @@ module _ (id : ℕ) (rs : List Run) (run : Run) (a : AreRuns RUNS_END rs) (j : J
       ap (with_entry key_of run) j.parts
       ∙ with_in key_of run j.upper j.high (j.low ++ j.lower) (above_all run.last (omega arith)) (below_all run.last last_from)
       ∙ ap (λ l. j.upper ++ (l ++ (j.low ++ j.lower))) high_put
-
-  entry_high : entry_at key_of run.last rs ≡ entry_at key_of run.last j.high
-  entry_high =
-      ap (entry_at key_of run.last) j.parts
-      ∙ entry_in key_of run.last j.upper j.high (j.low ++ j.lower) (above_all run.last (omega arith)) (below_all run.last last_from)
-
-  -- No run has the key of the run, if this one ends at the id.
-  pub key_is_new : run.last ≤ id → entry_at key_of run.last rs ≡ None
-  key_is_new n = entry_high ∙ (elim j.last [
-    | inl l ↦ ap (entry_at key_of run.last) l.0 ∙ no_own_entry run.last
-    | inr l ↦ absurd (let m = subst (λ h. AreRuns (lowest_of RUNS_END j.upper) (h ++ (j.low ++ j.lower))) l.1 middle_runs in omega (arith, m.0, l.2, l.3, n))
-  ])
-
-  -- A run has it otherwise.
-  pub key_is_known : id < run.last → IsSome (entry_at key_of run.last rs)
-  key_is_known n = elim j.last [
-    | inl l ↦ absurd (omega (arith, l.1, n))
-    | inr l ↦ ap is_some (entry_high ∙ ap (entry_at key_of run.last) l.1 ∙ own_entry run.last l.0 (sym l.3))
-  ]
 
   -- The runs with the new one and without the one below the id.
   pub drop_parts : run.first < id → without key_of (id - 1) (with_entry key_of run rs) ≡ j.upper ++ run ∷ j.lower

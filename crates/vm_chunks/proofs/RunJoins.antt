@@ -1,15 +1,28 @@
 -- The run that an id and the runs next to it become.
-use Rattle.std.proofs.Common.{◌≡◌, ◌≢◌, ℕ, ◌+◌, ◌-◌, ◌<◌, ◌⊎◌, List, [], ◌∷◌, ◌++◌, sym, ap, ◌∙◌, subst, refl, arith, inl, inr, Option, Some, None}
-use Rattle.std.proofs.lemmas.Bool.{cases_lt, cond-true, cond-false, lt-ltb, le-ltb, true≢false}
+use Rattle.std.proofs.Common.{◌≡◌, ◌≢◌, ℕ, ◌+◌, ◌-◌, ◌<◌, ◌⊎◌, List, [], ◌∷◌, ◌++◌, sym, ap, ◌∙◌, subst, refl, arith, inl, inr, Some, None}
+use Rattle.std.proofs.lemmas.Bool.{cond-true, lt-ltb, true≢false}
 use Rattle.std.proofs.lemmas.Option.{same_Some}
 use Rattle.std.proofs.lemmas.List.{append_assoc, append-nil}
 use Rattle.std.specs.List.{All}
 use Rattle.std.specs.Option.{is_some}
 use Rattle.vm_chunks.specs.declared.id_set.Run.{Run}
 use Rattle.vm_chunks.specs.Entries.{at_or_above, highest_below}
-use Rattle.vm_chunks.specs.Runs.{RUNS_END, AreRuns, lowest_of, Joins}
+use Rattle.vm_chunks.specs.Runs.{RUNS_END, AreRuns, lowest_of}
 use Rattle.vm_chunks.proofs.Middles.{under_in}
 use Rattle.vm_chunks.proofs.Runs.{key_of, upper_runs, all_above, none_contained, found_near}
+
+-- An id and the runs next to it become `run`. `high` has the run that begins right above the id, if there is one, and `low` the
+-- run that ends right below it. `upper` are above these runs, and `lower` below.
+pub record Joins (id : ℕ) (rs : List Run) (run : Run) : Type 0 where
+  pub upper : List Run
+  pub high : List Run
+  pub low : List Run
+  pub lower : List Run
+  pub parts : rs ≡ upper ++ (high ++ (low ++ lower))
+  pub last : ((high ≡ []) × (run.last ≡ id)) ⊎ ((r : Run) × (high ≡ r ∷ []) × (id + 1 ≡ r.first) × (run.last ≡ r.last))
+  pub first : ((low ≡ []) × (run.first ≡ id)) ⊎ ((r : Run) × (low ≡ r ∷ []) × (r.last + 1 ≡ id) × (run.first ≡ r.first))
+  pub above : run.last + 1 < lowest_of RUNS_END upper
+  pub below : AreRuns run.first lower
 
 -- `upper` are above an id, `high` has the run that begins right above it, if there is one, and `rest` end below the id. The id
 -- and that run end at `last`.
@@ -27,7 +40,7 @@ lowest_last end [] r = refl
 lowest_last end (u ∷ us) r = lowest_last u.first us r
 
 module _ (id : ℕ) (rs : List Run) (a : AreRuns RUNS_END rs) where
-  none_above_id : id + 1 < RUNS_END → None ≡ at_or_above key_of id rs → JoinsAbove id id rs
+  pub none_above_id : id + 1 < RUNS_END → None ≡ at_or_above key_of id rs → JoinsAbove id id rs
   none_above_id l e = record {
     upper = [];
     high = [];
@@ -39,7 +52,7 @@ module _ (id : ℕ) (rs : List Run) (a : AreRuns RUNS_END rs) where
   }
 
   module _ (r : Run) (e : Some r ≡ at_or_above key_of id rs) (l : id < r.first) where
-    next_above_id : r.first - 1 ≡ id → JoinsAbove id r.last rs
+    pub next_above_id : r.first - 1 ≡ id → JoinsAbove id r.last rs
     next_above_id s =
         let f = found_near id rs RUNS_END a r e in
         let n = f.0 in
@@ -53,7 +66,7 @@ module _ (id : ℕ) (rs : List Run) (a : AreRuns RUNS_END rs) where
           low = n.passed;
         }) (omega (arith, s, l))
 
-    far_above_id : r.first - 1 ≢ id → JoinsAbove id id rs
+    pub far_above_id : r.first - 1 ≢ id → JoinsAbove id id rs
     far_above_id s =
         let f = found_near id rs RUNS_END a r e in
         let n = f.0 in
@@ -67,34 +80,8 @@ module _ (id : ℕ) (rs : List Run) (a : AreRuns RUNS_END rs) where
           low = n.passed;
         }) (omega (arith, s, l))
 
-  module _ (last : ℕ) (o : Option Run) (above : o ≡ at_or_above key_of id rs) where
-    pub joins_above_none : id + 1 < RUNS_END → o ≡ None → last ≡ id → JoinsAbove id last rs
-    joins_above_none l e is = subst (λ last. JoinsAbove id last rs) (sym is) (none_above_id l (sym e ∙ above))
-
-    module _ (r s : Run) (e : o ≡ Some r) (f : o ≡ Some s) (l : id < r.first) where
-      higher : id < s.first
-      higher = subst (λ (r : Run). id < r.first) (same_Some r s (sym e ∙ f)) l
-
-      pub joins_above_next : s.first - 1 ≡ id → last ≡ s.last → JoinsAbove id last rs
-      joins_above_next n is = subst (λ last. JoinsAbove id last rs) (sym is) (next_above_id s (sym f ∙ above) higher n)
-
-      pub joins_above_far : s.first - 1 ≢ id → last ≡ id → JoinsAbove id last rs
-      joins_above_far n is = subst (λ last. JoinsAbove id last rs) (sym is) (far_above_id s (sym f ∙ above) higher n)
-
 -- ---- The run that ends right below the id
--- The highest run below an id ends below it.
-pub ends_below : (id : ℕ) (rs : List Run) (r : Run) → Some r ≡ highest_below key_of id rs → r.last < id
-unfolding highest_below
-ends_below id [] r e = absurd (true≢false (ap is_some e))
-ends_below id (s ∷ rs) r e =
-    elim (cases_lt s.last id) [
-      | inl l ↦ (
-          let same : s ≡ r = same_Some s r (sym (cond-true _ _ _ (lt-ltb _ _ l)) ∙ sym e) in
-          subst (λ (r : Run). r.last < id) same l)
-      | inr l ↦ ends_below id rs r (e ∙ cond-false _ _ _ (le-ltb _ _ l))
-    ]
-
--- It is the first of the runs that end below the id.
+-- The highest run below the id is the first of those that end below it.
 first_below : (id : ℕ) (s : Run) (rs : List Run) → AreRuns (id + 1) (s ∷ rs) → highest_below key_of id (s ∷ rs) ≡ Some s
 unfolding highest_below
 first_below id s rs a = let l : s.last < id = omega (arith, a.1) in cond-true _ _ _ (lt-ltb _ _ l)

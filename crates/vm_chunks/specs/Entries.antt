@@ -11,10 +11,6 @@ IsDescendingBy {X} key xs =
 abbrev pub IsKeyOf : {X : Type 0} → (X → ℕ) → ℕ → ℕ → List X → Type 0
 IsKeyOf {X} key b k xs = (d : X) → b ≡ key (slice_index_or xs k d)
 
--- There is no entry at k, or its key is not b.
-abbrev pub IsOtherKeyOf : {X : Type 0} → (X → ℕ) → ℕ → ℕ → List X → Type 0
-IsOtherKeyOf {X} key b k xs = k < length xs → (d : X) → key (slice_index_or xs k d) ≡ b → ⊥
-
 -- An entry has the key t.
 abbrev pub HasKey : {X : Type 0} → (X → ℕ) → ℕ → List X → Type 0
 HasKey key t xs = (k : ℕ) × (k < length xs) × IsKeyOf key t k xs

@@ -13,9 +13,6 @@ ghost use Rattle.std.specs.Prelude.{
   List,
   None,
   IsSome,
-  IfSome,
-  IsTrue,
-  false,
   IfOk,
   OnErr,
   vec_capacity,
@@ -23,23 +20,34 @@ ghost use Rattle.std.specs.Prelude.{
 ghost use Rattle.std.specs.List.{All};
 ghost use Rattle.vm_chunks.specs.Entries.{
   ChangesLast,
-  HasKey,
   IsDescendingBy,
   below,
   with_entry,
   without,
-  without_some,
   entry_at,
   at_or_above,
   highest_below,
 };
 
-use crate::{Entry, has_key, is_place, place, place_from};
+use crate::{Entry, place, place_from};
 use std::alloc::{AllocError, Global};
 use std::marker::Model;
 
 /// The maximum number of entries of a chunk.
 pub const MAX_ENTRIES: usize = 64;
+
+mod adding;
+
+pub use adding::Added;
+
+/// The entries next to a key.
+#[derive(Clone, Copy)]
+pub struct Gap<E: Entry> {
+    /// The entry with the lowest key that is at least the key.
+    pub above: Option<E>,
+    /// The entry with the highest key below the key.
+    pub below: Option<E>,
+}
 
 /// At most 64 entries, with memory for 64.
 ///
@@ -145,11 +153,11 @@ impl<E: Entry> Chunk<E> {
         };
     }
 
-    /// Returns the number of entries whose keys are at least this one, and the entries next to the key.
-    pub fn gap(&self, key: u64) -> (usize, Option<E>, Option<E>)
+    /// Returns the entries next to a key.
+    pub fn gap(&self, key: u64) -> Gap<E>
         requires { IsDescendingBy E.key_of self.now }
-        ensures above { result.1 ≡ at_or_above E.key_of key self.now }
-        ensures below { result.2 ≡ highest_below E.key_of key self.now }
+        ensures above { result.above ≡ at_or_above E.key_of key self.now }
+        ensures below { result.below ≡ highest_below E.key_of key self.now }
     {
         let entries = self.entries.as_slice();
         let at = place_from(entries, key);
@@ -159,48 +167,7 @@ impl<E: Entry> Chunk<E> {
         } else {
             None
         };
-        (at, above, below)
-    }
-
-    /// Puts an entry before the one at `at`, or over the one with its key there or before it. Then removes the next
-    /// entry, if that has the key `gone`. Returns `false` and changes nothing if this is not their place, or if the chunk
-    /// is full. It does not allocate.
-    #[inline(always)]
-    pub fn put_at(&mut self, at: usize, entry: E, gone: Option<u64>) -> bool
-        requires { IsDescendingBy E.key_of self.old }
-        ensures put { IsTrue result → self.new ≡ without_some E.key_of gone (with_entry E.key_of entry self.old) }
-        ensures gone { IsTrue result → IfSome gone (λ k. HasKey E.key_of k self.old) }
-        ensures unchanged { result ≡ false → self.new ≡ self.old }
-    {
-        let key = entry.key();
-        let entries = self.entries.as_slice();
-        let at = at - usize::from(at > 0 && has_key(entries, at - 1, key));
-        if !is_place(entries, at, key) {
-            return false;
-        }
-        let is_known = has_key(entries, at, key);
-        if let Some(gone) = gone {
-            let next = at + usize::from(is_known);
-            if !has_key(entries, next, gone) {
-                return false;
-            }
-            self.entries[at] = entry;
-            if is_known {
-                self.entries.remove(next);
-            }
-            return true;
-        }
-        if is_known {
-            self.entries[at] = entry;
-            return true;
-        }
-        if entries.len() >= MAX_ENTRIES {
-            return false;
-        }
-        let Ok(()) = self.entries.insert(at, entry) else {
-            unreachable!()
-        };
-        true
+        Gap { above, below }
     }
 
     /// Removes the entry with this key, and returns it. It does not allocate.

@@ -14,8 +14,6 @@ ghost use Rattle.std.specs.Prelude.{
   if◌then◌else◌,
   None,
   IsSome,
-  IsTrue,
-  false,
   MatchOption,
   List,
   reverse,
@@ -30,7 +28,6 @@ ghost use Rattle.vm_chunks.specs.Entries.{
   below,
   with_entry,
   without,
-  without_some,
   entry_at,
   at_or_above,
   highest_below,
@@ -47,10 +44,12 @@ ghost use Rattle.vm_chunks.specs.Chunks.{
 };
 
 use crate::Entry;
-use crate::chunk::{Chunk, MAX_ENTRIES};
+use crate::chunk::{Chunk, Gap, MAX_ENTRIES};
 use crate::iter::Iter;
 use std::alloc::{AllocError, Global};
 use std::marker::Model;
+
+mod adding;
 
 /// Entries in descending order of their keys, in chunks.
 ///
@@ -75,32 +74,12 @@ impl<E: Entry> Model for Chunks<E> {
     ghost invariant = { λ c. AreCounted E.key_of c.chunks.items c.bounds.items c.count };
 }
 
-/// The entries next to a key, and where they are.
-#[derive(Clone, Copy)]
-pub struct Gap<E: Entry> {
-    chunk: usize,
-    at: usize,
-    /// The entry with the lowest key that is at least the key.
-    pub above: Option<E>,
-    /// The entry with the highest key below the key.
-    pub below: Option<E>,
-}
-
 /// Returns the number of bounds above a key.
 fn bounds_above(bounds: &[u64], key: u64) -> usize
     requires { IsDescendingBy (λ b. b) bounds.now }
     ensures { IsPlace (λ b. b) key result bounds.now }
 {
     bounds.partition_point(|bound| *bound > key)
-}
-
-/// Returns `true` if `at` is the number of bounds above a key, and a bound is not above it.
-fn is_home(bounds: &[u64], at: usize, key: u64) -> bool
-    requires { IsDescendingBy (λ b. b) bounds.now }
-    ensures within { IsTrue result → at < length bounds.now }
-    ensures place { IsTrue result → IsPlace (λ b. b) key at bounds.now }
-{
-    at < bounds.len() && bounds[at] <= key && (at == 0 || key < bounds[at - 1])
 }
 
 /// Returns copies of the chunks.
@@ -374,7 +353,6 @@ impl<E: Entry> Chunks<E> {
     }
 
     /// Returns the entries next to a key. It takes logarithmic time.
-    #[inline(always)]
     pub fn gap(&self, key: u64) -> Gap<E>
         ensures above { result.above ≡ at_or_above E.key_of key self.now }
         ensures below { result.below ≡ highest_below E.key_of key self.now }
@@ -382,89 +360,20 @@ impl<E: Entry> Chunks<E> {
         let chunk = bounds_above(self.bounds.as_slice(), key);
         let Some(entries) = self.chunks.get(chunk) else {
             return Gap {
-                chunk,
-                at: 0,
                 above: None,
                 below: None,
             };
         };
-        let (at, above, below) = entries.gap(key);
+        let Gap { above, below } = entries.gap(key);
         let above = match above {
-            None if chunk > 0 => self.chunks[chunk - 1].gap(key).1,
+            None if chunk > 0 => self.chunks[chunk - 1].gap(key).above,
             _ => above,
         };
         let below = match below {
-            None if chunk + 1 < self.chunks.len() => self.chunks[chunk + 1].gap(key).2,
+            None if chunk + 1 < self.chunks.len() => self.chunks[chunk + 1].gap(key).below,
             _ => below,
         };
-        Gap {
-            chunk,
-            at,
-            above,
-            below,
-        }
-    }
-
-    /// Puts an entry, which replaces one with its key, and then removes the one with the key `gone`. An error changes
-    /// nothing.
-    ///
-    /// It makes no search if the entry belongs in the gap, if only entries next to the gap are replaced or removed, and if
-    /// the chunk has room.
-    #[inline(always)]
-    pub fn put(
-        &mut self,
-        alloc: Global,
-        gap: Gap<E>,
-        entry: E,
-        gone: Option<u64>,
-    ) -> Result<(), AllocError>
-        ensures put { OnOk result (self.new ≡ without_some E.key_of gone (with_entry E.key_of entry self.old)) }
-        ensures unchanged { OnErr result (self.new ≡ self.old) }
-    {
-        if self.put_at(gap, entry, gone) {
-            return Ok(());
-        }
-        self.put_searched(alloc, entry, gone)
-    }
-
-    /// Puts an entry like `put`, with a search for each entry that changes. An error changes nothing.
-    fn put_searched(&mut self, alloc: Global, entry: E, gone: Option<u64>) -> Result<(), AllocError>
-        ensures put { OnOk result (self.new ≡ without_some E.key_of gone (with_entry E.key_of entry self.old)) }
-        ensures unchanged { OnErr result (self.new ≡ self.old) }
-    {
-        if self.get(entry.key()).is_some() {
-            self.set(entry);
-        } else {
-            self.insert(alloc, entry)?;
-        }
-        if let Some(gone) = gone {
-            self.remove(gone);
-        }
-        Ok(())
-    }
-
-    /// Puts an entry like `put`, without a search, and returns `true`. Returns `false` and changes nothing if the
-    /// entries are not those next to the gap, or if its chunk is full. It does not allocate.
-    #[inline(always)]
-    fn put_at(&mut self, gap: Gap<E>, entry: E, gone: Option<u64>) -> bool
-        ensures put { IsTrue result → self.new ≡ without_some E.key_of gone (with_entry E.key_of entry self.old) }
-        ensures unchanged { result ≡ false → self.new ≡ self.old }
-    {
-        if self.count > usize::MAX - MAX_ENTRIES
-            || !is_home(self.bounds.as_slice(), gap.chunk, entry.key())
-        {
-            return false;
-        }
-        let chunk = &mut self.chunks[gap.chunk];
-        let before = chunk.len();
-        if !chunk.put_at(gap.at, entry, gone) {
-            return false;
-        }
-        self.count = self.count - before + chunk.len();
-        if gone.is_some() {
-            mend(&mut self.chunks, &mut self.bounds, gap.chunk);
-        }
-        true
+        Gap { above, below }
     }
 
     /// Removes the entry with this key, and returns it. It does not allocate.

@@ -31,7 +31,6 @@ ghost use Rattle.vm_chunks.specs.Runs.{
   Removes,
   IsLowestFrom,
   HasNoneFrom,
-  Joins,
   IsInside,
   HasRun,
   Cuts,
@@ -39,7 +38,7 @@ ghost use Rattle.vm_chunks.specs.Runs.{
 };
 
 use crate::Entry;
-use crate::chunks::{Chunks, Gap};
+use crate::chunks::Chunks;
 use crate::iter::Iter;
 use std::alloc::{AllocError, Global};
 use std::marker::Model;
@@ -157,13 +156,9 @@ impl IdSet {
         ensures unchanged { OnErr result (self.new ≡ self.old) }
         ensures memory { OnErr result (contains nat_cmp self.old id ≡ false) }
     {
-        let Some((gap, run)) = joined(&self.runs, id) else {
-            return Ok(false);
-        };
-        let gone = run_below(id, run);
-        self.runs.put(self.alloc, gap, run, gone)?;
-        self.count += 1;
-        Ok(true)
+        let is_new = self.runs.add(self.alloc, id)?;
+        self.count += u64::from(is_new);
+        Ok(is_new)
     }
 
     /// Removes an id, and returns `true`. Returns `false` if the set does not have it. An error changes nothing.
@@ -225,36 +220,6 @@ fn same_runs(mut a: Iter<'_, Run>, mut b: Iter<'_, Run>) -> bool
         }
     }
     b.next().is_none()
-}
-
-/// Returns the gap of an id, and the run of the id and of the runs next to it. Returns `None` if a run has the id.
-fn joined(runs: &Chunks<Run>, id: u32) -> Option<(Gap<Run>, Run)>
-    requires { AreRuns RUNS_END runs.now }
-    ensures none { IfNone result (IsTrue (contains nat_cmp (record { keys = ids_of_runs runs.now }) id)) }
-    ensures some { IfSome result (λ joined. Joins id runs.now joined.1) }
-{
-    let gap = runs.gap(id.into());
-    let last = match gap.above {
-        Some(run) if run.first <= id => return None,
-        Some(run) if run.first - 1 == id => run.last,
-        _ => id,
-    };
-    let first = match gap.below {
-        Some(run) if run.last + 1 == id => run.first,
-        _ => id,
-    };
-    Some((gap, Run { first, last }))
-}
-
-/// Returns the key of the run that ends right below an id, if the run of the id joins it.
-fn run_below(id: u32, run: Run) -> Option<u64>
-    ensures some { IfSome result (λ key. (run.first < id) × (key ≡ id - 1)) }
-    ensures none { IfNone result (id ≤ run.first) }
-{
-    if run.first < id {
-        return Some(u64::from(id) - 1);
-    }
-    None
 }
 
 /// Returns the run that has an id, if there is one.

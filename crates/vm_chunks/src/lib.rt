@@ -32,9 +32,9 @@
 //! - How long a call takes, such as a `put` at its gap, and how much memory the chunks take.
 #![tactic(auto)]
 
-ghost use Rattle.std.specs.Prelude.{◌≡◌, ℕ, ◌<◌, length, IsTrue, false};
+ghost use Rattle.std.specs.Prelude.{◌≡◌, ℕ};
 ghost use Rattle.vm_chunks.specs.EntryLaws.{EntriesAreByKey};
-ghost use Rattle.vm_chunks.specs.Entries.{IsDescendingBy, IsKeyOf, IsOtherKeyOf, IsPlace, IsPlaceFrom};
+ghost use Rattle.vm_chunks.specs.Entries.{IsDescendingBy, IsPlace, IsPlaceFrom};
 
 mod chunk;
 mod chunks;
@@ -68,28 +68,6 @@ fn place_from<E: Entry>(entries: &[E], key: u64) -> usize
     ensures { IsPlaceFrom E.key_of key result entries.now }
 {
     entries.partition_point(|entry| entry.key() >= key)
-}
-
-/// Returns `true` if `at` is the number of entries with keys above this one.
-fn is_place<E: Entry>(entries: &[E], at: usize, key: u64) -> bool
-    requires { IsDescendingBy E.key_of entries.now }
-    ensures { IsTrue result → IsPlace E.key_of key at entries.now }
-{
-    if at > entries.len() {
-        return false;
-    }
-    if at > 0 && entries[at - 1].key() <= key {
-        return false;
-    }
-    at == entries.len() || entries[at].key() <= key
-}
-
-/// Returns `true` if the entry at `at` has this key.
-fn has_key<E: Entry>(entries: &[E], at: usize, key: u64) -> bool
-    ensures yes { IsTrue result → (at < length entries.now) × IsKeyOf E.key_of key at entries.now }
-    ensures no { result ≡ false → IsOtherKeyOf E.key_of key at entries.now }
-{
-    at < entries.len() && entries[at].key() == key
 }
 
 /// Proves that a list is a map from the keys of its entries: a search finds the entry that was put last with a

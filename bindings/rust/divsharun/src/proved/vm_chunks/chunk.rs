@@ -2,12 +2,25 @@
 
 //! A chunk: at most 64 entries, with memory for 64. Only creating it can fail.
 
-use crate::proved::vm_chunks::{has_key, is_place, place, place_from, Entry};
+use crate::proved::vm_chunks::{place, place_from, Entry};
 use crate::rattle::Vec;
 use crate::rattle::{AllocError, Global};
 
 /// The maximum number of entries of a chunk.
 pub(in crate::proved) const MAX_ENTRIES: usize = 64;
+
+mod adding;
+
+pub(in crate::proved) use adding::Added;
+
+/// The entries next to a key.
+#[derive(Clone, Copy)]
+pub(in crate::proved) struct Gap<E: Entry> {
+    /// The entry with the lowest key that is at least the key.
+    pub(in crate::proved) above: Option<E>,
+    /// The entry with the highest key below the key.
+    pub(in crate::proved) below: Option<E>,
+}
 
 /// At most 64 entries, with memory for 64.
 ///
@@ -76,8 +89,8 @@ impl<E: Entry> Chunk<E> {
         };
     }
 
-    /// Returns the number of entries whose keys are at least this one, and the entries next to the key.
-    pub(in crate::proved) fn gap(&self, key: u64) -> (usize, Option<E>, Option<E>) {
+    /// Returns the entries next to a key.
+    pub(in crate::proved) fn gap(&self, key: u64) -> Gap<E> {
         let entries = self.entries.as_slice();
         let at = place_from(entries, key);
         let above = if at > 0 { Some(entries[at - 1]) } else { None };
@@ -86,43 +99,7 @@ impl<E: Entry> Chunk<E> {
         } else {
             None
         };
-        (at, above, below)
-    }
-
-    /// Puts an entry before the one at `at`, or over the one with its key there or before it. Then removes the next
-    /// entry, if that has the key `gone`. Returns `false` and changes nothing if this is not their place, or if the chunk
-    /// is full. It does not allocate.
-    #[inline(always)]
-    pub(in crate::proved) fn put_at(&mut self, at: usize, entry: E, gone: Option<u64>) -> bool {
-        let key = entry.key();
-        let entries = self.entries.as_slice();
-        let at = at - usize::from(at > 0 && has_key(entries, at - 1, key));
-        if !is_place(entries, at, key) {
-            return false;
-        }
-        let is_known = has_key(entries, at, key);
-        if let Some(gone) = gone {
-            let next = at + usize::from(is_known);
-            if !has_key(entries, next, gone) {
-                return false;
-            }
-            self.entries[at] = entry;
-            if is_known {
-                self.entries.remove(next);
-            }
-            return true;
-        }
-        if is_known {
-            self.entries[at] = entry;
-            return true;
-        }
-        if entries.len() >= MAX_ENTRIES {
-            return false;
-        }
-        let Ok(()) = self.entries.insert(at, entry) else {
-            unreachable!()
-        };
-        true
+        Gap { above, below }
     }
 
     /// Removes the entry with this key, and returns it. It does not allocate.

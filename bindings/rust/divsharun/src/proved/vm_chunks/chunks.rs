@@ -2,11 +2,13 @@
 
 //! A descending list of entries in chunks.
 
-use crate::proved::vm_chunks::chunk::{Chunk, MAX_ENTRIES};
+use crate::proved::vm_chunks::chunk::{Chunk, Gap, MAX_ENTRIES};
 use crate::proved::vm_chunks::iter::Iter;
 use crate::proved::vm_chunks::Entry;
 use crate::rattle::Vec;
 use crate::rattle::{AllocError, Global};
+
+mod adding;
 
 /// Entries in descending order of their keys, in chunks.
 ///
@@ -20,25 +22,9 @@ pub(in crate::proved) struct Chunks<E: Entry> {
     count: usize,
 }
 
-/// The entries next to a key, and where they are.
-#[derive(Clone, Copy)]
-pub(in crate::proved) struct Gap<E: Entry> {
-    chunk: usize,
-    at: usize,
-    /// The entry with the lowest key that is at least the key.
-    pub(in crate::proved) above: Option<E>,
-    /// The entry with the highest key below the key.
-    pub(in crate::proved) below: Option<E>,
-}
-
 /// Returns the number of bounds above a key.
 fn bounds_above(bounds: &[u64], key: u64) -> usize {
     bounds.partition_point(|bound| *bound > key)
-}
-
-/// Returns `true` if `at` is the number of bounds above a key, and a bound is not above it.
-fn is_home(bounds: &[u64], at: usize, key: u64) -> bool {
-    at < bounds.len() && bounds[at] <= key && (at == 0 || key < bounds[at - 1])
 }
 
 /// Returns copies of the chunks.
@@ -244,90 +230,24 @@ impl<E: Entry> Chunks<E> {
     }
 
     /// Returns the entries next to a key. It takes logarithmic time.
-    #[inline(always)]
     pub(in crate::proved) fn gap(&self, key: u64) -> Gap<E> {
         let chunk = bounds_above(self.bounds.as_slice(), key);
         let Some(entries) = self.chunks.get(chunk) else {
             return Gap {
-                chunk,
-                at: 0,
                 above: None,
                 below: None,
             };
         };
-        let (at, above, below) = entries.gap(key);
+        let Gap { above, below } = entries.gap(key);
         let above = match above {
-            None if chunk > 0 => self.chunks[chunk - 1].gap(key).1,
+            None if chunk > 0 => self.chunks[chunk - 1].gap(key).above,
             _ => above,
         };
         let below = match below {
-            None if chunk + 1 < self.chunks.len() => self.chunks[chunk + 1].gap(key).2,
+            None if chunk + 1 < self.chunks.len() => self.chunks[chunk + 1].gap(key).below,
             _ => below,
         };
-        Gap {
-            chunk,
-            at,
-            above,
-            below,
-        }
-    }
-
-    /// Puts an entry, which replaces one with its key, and then removes the one with the key `gone`. An error changes
-    /// nothing.
-    ///
-    /// It makes no search if the entry belongs in the gap, if only entries next to the gap are replaced or removed, and if
-    /// the chunk has room.
-    #[inline(always)]
-    pub(in crate::proved) fn put(
-        &mut self,
-        alloc: Global,
-        gap: Gap<E>,
-        entry: E,
-        gone: Option<u64>,
-    ) -> Result<(), AllocError> {
-        if self.put_at(gap, entry, gone) {
-            return Ok(());
-        }
-        self.put_searched(alloc, entry, gone)
-    }
-
-    /// Puts an entry like `put`, with a search for each entry that changes. An error changes nothing.
-    fn put_searched(
-        &mut self,
-        alloc: Global,
-        entry: E,
-        gone: Option<u64>,
-    ) -> Result<(), AllocError> {
-        if self.get(entry.key()).is_some() {
-            self.set(entry);
-        } else {
-            self.insert(alloc, entry)?;
-        }
-        if let Some(gone) = gone {
-            self.remove(gone);
-        }
-        Ok(())
-    }
-
-    /// Puts an entry like `put`, without a search, and returns `true`. Returns `false` and changes nothing if the
-    /// entries are not those next to the gap, or if its chunk is full. It does not allocate.
-    #[inline(always)]
-    fn put_at(&mut self, gap: Gap<E>, entry: E, gone: Option<u64>) -> bool {
-        if self.count > usize::MAX - MAX_ENTRIES
-            || !is_home(self.bounds.as_slice(), gap.chunk, entry.key())
-        {
-            return false;
-        }
-        let chunk = &mut self.chunks[gap.chunk];
-        let before = chunk.len();
-        if !chunk.put_at(gap.at, entry, gone) {
-            return false;
-        }
-        self.count = self.count - before + chunk.len();
-        if gone.is_some() {
-            mend(&mut self.chunks, &mut self.bounds, gap.chunk);
-        }
-        true
+        Gap { above, below }
     }
 
     /// Removes the entry with this key, and returns it. It does not allocate.

@@ -2,7 +2,7 @@
 
 //! A set of ids as runs of consecutive ids.
 
-use crate::proved::vm_chunks::chunks::{Chunks, Gap};
+use crate::proved::vm_chunks::chunks::Chunks;
 use crate::proved::vm_chunks::iter::Iter;
 use crate::proved::vm_chunks::Entry;
 use crate::rattle::{AllocError, Global};
@@ -82,13 +82,9 @@ impl IdSet {
 
     /// Adds an id, and returns `true`. Returns `false` if the set has it already. An error changes nothing.
     pub(in crate::proved) fn insert(&mut self, id: u32) -> Result<bool, AllocError> {
-        let Some((gap, run)) = joined(&self.runs, id) else {
-            return Ok(false);
-        };
-        let gone = run_below(id, run);
-        self.runs.put(self.alloc, gap, run, gone)?;
-        self.count += 1;
-        Ok(true)
+        let is_new = self.runs.add(self.alloc, id)?;
+        self.count += u64::from(is_new);
+        Ok(is_new)
     }
 
     /// Removes an id, and returns `true`. Returns `false` if the set does not have it. An error changes nothing.
@@ -134,29 +130,6 @@ fn same_runs(mut a: Iter<'_, Run>, mut b: Iter<'_, Run>) -> bool {
         }
     }
     b.next().is_none()
-}
-
-/// Returns the gap of an id, and the run of the id and of the runs next to it. Returns `None` if a run has the id.
-fn joined(runs: &Chunks<Run>, id: u32) -> Option<(Gap<Run>, Run)> {
-    let gap = runs.gap(id.into());
-    let last = match gap.above {
-        Some(run) if run.first <= id => return None,
-        Some(run) if run.first - 1 == id => run.last,
-        _ => id,
-    };
-    let first = match gap.below {
-        Some(run) if run.last + 1 == id => run.first,
-        _ => id,
-    };
-    Some((gap, Run { first, last }))
-}
-
-/// Returns the key of the run that ends right below an id, if the run of the id joins it.
-fn run_below(id: u32, run: Run) -> Option<u64> {
-    if run.first < id {
-        return Some(u64::from(id) - 1);
-    }
-    None
 }
 
 /// Returns the run that has an id, if there is one.

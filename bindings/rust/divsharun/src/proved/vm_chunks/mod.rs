@@ -30,19 +30,3 @@ fn place<E: Entry>(entries: &[E], key: u64) -> usize {
 fn place_from<E: Entry>(entries: &[E], key: u64) -> usize {
     entries.partition_point(|entry| entry.key() >= key)
 }
-
-/// Returns `true` if `at` is the number of entries with keys above this one.
-fn is_place<E: Entry>(entries: &[E], at: usize, key: u64) -> bool {
-    if at > entries.len() {
-        return false;
-    }
-    if at > 0 && entries[at - 1].key() <= key {
-        return false;
-    }
-    at == entries.len() || entries[at].key() <= key
-}
-
-/// Returns `true` if the entry at `at` has this key.
-fn has_key<E: Entry>(entries: &[E], at: usize, key: u64) -> bool {
-    at < entries.len() && entries[at].key() == key
-}

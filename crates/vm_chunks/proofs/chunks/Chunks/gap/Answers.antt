@@ -21,8 +21,8 @@ returns-in_default-clause-below g c =
     none_under_past g.E.Entry.key_of _ _ c.self.invariant.chunks.bounded c.args.key _ c.ranges.key.fits p (search rules)
     ∙ ap (λ l. highest_below g.E.Entry.key_of c.args.key l) c.self.view_is
 
-pub gap-at-requires : goal.gap-at-requires
-gap-at-requires g c =
+pub gap-above-requires : goal.gap-above-requires
+gap-above-requires g c =
     let p = rw c.as_slice.ensures.value at c.bounds_above-chunk.ensures in
     let l : c.bounds_above-chunk.result < length c.self.inside.chunks.items = search rules in
     let e : get_or c.self.inside.chunks.items c.bounds_above-chunk.result c.in-Some.entries.now ≡ c.in-Some.entries.now = search rules in
@@ -54,7 +54,7 @@ returns-clause-above g c =
     let l : i < length cs = search rules in
     let e : get_or cs i c.in-Some.entries.now ≡ c.in-Some.entries.now = search rules in
     let from = at_or_above key c.args.key in
-    let here = c.gap-at.ensures.above ∙ ap (λ l. from l) (sym e) in
+    let here = c.gap-above.ensures.above ∙ ap (λ l. from l) (sym e) in
     let all = from_home key _ _ c.self.invariant.chunks.bounded c.args.key _ c.ranges.key.fits p c.in-Some.entries.now l ∙ ap (λ l. from l) c.self.view_is in
     elim c.match-above.branch [
       | in-None w ↦ (
@@ -80,7 +80,7 @@ returns-clause-below g c =
     let l : i < length cs = search rules in
     let e : get_or cs i c.in-Some.entries.now ≡ c.in-Some.entries.now = search rules in
     let under = highest_below key c.args.key in
-    let here = c.gap-at.ensures.below ∙ ap (λ l. under l) (sym e) in
+    let here = c.gap-above.ensures.below ∙ ap (λ l. under l) (sym e) in
     let all = under_home key _ _ c.self.invariant.chunks.bounded c.args.key _ c.ranges.key.fits p c.in-Some.entries.now l ∙ ap (λ l. under l) c.self.view_is in
     let after = under (entries_of (drop (suc i) cs)) in
     elim c.match-below.branch [

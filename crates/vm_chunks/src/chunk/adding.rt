@@ -1,0 +1,109 @@
+//! An id is added to the runs of one chunk.
+ghost use Rattle.std.specs.Prelude.{◌≡◌, ℕ, ◌≤◌, IsTrue, false};
+ghost use Rattle.std.specs.List.{All};
+ghost use Rattle.vm_chunks.specs.Entries.{IsDescendingBy, IsPlaceFrom, at_or_above, highest_below};
+ghost use Rattle.vm_chunks.specs.Runs.{last_of, joined_last, HasId, LacksId, HasNext, JoinsAbove, JoinsBelow, StartsAt, AddsNear};
+
+use super::{Chunk, MAX_ENTRIES};
+use crate::id_set::Run;
+use crate::place_from;
+
+/// What adding an id to a chunk did.
+#[derive(Clone, Copy)]
+pub enum Added {
+    /// Nothing, because a run has the id.
+    Known,
+    /// Nothing, because a run next to the id can be in another chunk, or the chunk is full.
+    Elsewhere,
+    /// A run next to the id has it now.
+    Grown,
+    /// The id is a run.
+    New,
+    /// The two runs next to the id are one.
+    Joined,
+}
+
+impl Chunk<Run> {
+    /// Adds an id. `is_first` and `is_last` are `true` if no chunk is above this one, or below. It does not allocate.
+    #[inline(always)]
+    pub fn add(&mut self, id: u32, is_first: bool, is_last: bool) -> Added
+        requires order { IsDescendingBy last_of self.old }
+        requires filled { All (λ run. run.first ≤ run.last) self.old }
+        ensures { AddsNear id is_first is_last result self.old self.new }
+    {
+        let runs = self.entries.as_slice();
+        let at = place_from(runs, id.into());
+        if !has_next(runs, at, is_first, is_last) {
+            return Added::Elsewhere;
+        }
+        if has_id(runs, at, id) {
+            return Added::Known;
+        }
+        let joins_below = joins_below(runs, at, id);
+        if joins_above(runs, at, id) {
+            let last = runs[at - 1].last;
+            if joins_below {
+                let first = runs[at].first;
+                self.entries[at - 1] = Run { first, last };
+                self.entries.remove(at);
+                return Added::Joined;
+            }
+            self.entries[at - 1] = Run { first: id, last };
+            return Added::Grown;
+        }
+        if joins_below {
+            let first = runs[at].first;
+            self.entries[at] = Run { first, last: id };
+            return Added::Grown;
+        }
+        if runs.len() >= MAX_ENTRIES {
+            return Added::Elsewhere;
+        }
+        let Ok(()) = self.entries.insert(
+            at,
+            Run {
+                first: id,
+                last: id,
+            },
+        )
+        else {
+            unreachable!()
+        };
+        Added::New
+    }
+}
+
+/// Returns `true` if no run next to the ids at a place is in another chunk.
+fn has_next(runs: &[Run], at: usize, is_first: bool, is_last: bool) -> bool
+    ensures { IsTrue result → (id : ℕ) → IsPlaceFrom last_of id at runs.now → HasNext id is_first is_last runs.now }
+{
+    (at > 0 || is_first) && (at != runs.len() || is_last)
+}
+
+/// Returns `true` if the run above has the id.
+fn has_id(runs: &[Run], at: usize, id: u32) -> bool
+    requires { IsPlaceFrom last_of id at runs.now }
+    ensures yes { IsTrue result → HasId id (at_or_above last_of id runs.now) }
+    ensures no { result ≡ false → LacksId id (at_or_above last_of id runs.now) }
+{
+    at > 0 && runs[at - 1].first <= id
+}
+
+/// Returns `true` if the run above begins right above the id.
+fn joins_above(runs: &[Run], at: usize, id: u32) -> bool
+    requires place { IsPlaceFrom last_of id at runs.now }
+    requires lacks { LacksId id (at_or_above last_of id runs.now) }
+    ensures yes { IsTrue result → JoinsAbove id at runs.now }
+    ensures no { result ≡ false → joined_last id (at_or_above last_of id runs.now) ≡ id }
+{
+    at > 0 && runs[at - 1].first - 1 == id
+}
+
+/// Returns `true` if the run below ends right below the id.
+fn joins_below(runs: &[Run], at: usize, id: u32) -> bool
+    requires { IsPlaceFrom last_of id at runs.now }
+    ensures yes { IsTrue result → JoinsBelow id at runs.now }
+    ensures no { result ≡ false → StartsAt id (highest_below last_of id runs.now) }
+{
+    at < runs.len() && runs[at].last + 1 == id
+}
