@@ -56,7 +56,7 @@ module _ {X : Type 0} (key : X → ℕ) (t : ℕ) where
       ]
 
 -- ---- The runs of a chunk
-filled_runs : (end : ℕ) (rs : List Run) → AreRuns end rs → All (λ r. r.first ≤ r.last) rs
+pub filled_runs : (end : ℕ) (rs : List Run) → AreRuns end rs → All (λ r. r.first ≤ r.last) rs
 filled_runs end [] a = All-nil (λ r. r.first ≤ r.last)
 filled_runs end (r ∷ rs) a = All-cons (λ r. r.first ≤ r.last) r rs a.0 (filled_runs r.first rs a.2)
 

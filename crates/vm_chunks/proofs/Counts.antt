@@ -1,33 +1,6 @@
 -- The number of entries of a list after a change.
 use Rattle.std.specs.Int.{from_bool}
-use Rattle.std.proofs.Common.{
-  ◌≡◌,
-  ℕ,
-  suc,
-  ◌+◌,
-  ◌-◌,
-  Bool,
-  true,
-  false,
-  List,
-  [],
-  ◌∷◌,
-  ◌++◌,
-  length,
-  nat_lt,
-  nat_eq,
-  arith,
-  sym,
-  ap,
-  ◌∙◌,
-  refl,
-  inl,
-  inr,
-  Option,
-  Some,
-  None,
-  option_to_list,
-}
+use Rattle.std.proofs.Common.{◌≡◌, ℕ, suc, ◌+◌, Bool, true, false, List, [], ◌∷◌, length, nat_lt, nat_eq, arith, sym, ap, ◌∙◌, refl, inl, inr, Option, Some, None, option_to_list}
 use Rattle.std.specs.List.{filter, find}
 use Rattle.std.specs.Option.{is_some, IsSome}
 use Rattle.std.proofs.lemmas.Bool.{cases_order, cond-true, cond-false, lt-ltb, le-ltb, eq-eqb, ne_eqb, true≢false}

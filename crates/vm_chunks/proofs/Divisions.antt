@@ -29,19 +29,7 @@ use Rattle.std.proofs.Common.{
 }
 use Rattle.std.specs.List.{insert, remove, All}
 use Rattle.std.proofs.lemmas.Bool.{cases_lt, cases_eq}
-use Rattle.std.proofs.lemmas.List.{
-  append_assoc,
-  append-nil,
-  take-append-drop,
-  length-append,
-  length-set,
-  length-drop,
-  length-take-le,
-  get_or_default,
-  drop_all,
-  get_or-set_same,
-  get_or-set_other,
-}
+use Rattle.std.proofs.lemmas.List.{append_assoc, take-append-drop, length-append, length-set, length-drop, length-take-le, get_or_default, get_or-set_same, get_or-set_other}
 use Rattle.std.proofs.lemmas.List.Elements.{All-append, All-cons, All-set, All-take, All-drop}
 use Rattle.std.proofs.lemmas.List.Edits.{
   length-insert,
@@ -65,7 +53,7 @@ use Rattle.vm_chunks.specs.Chunks.{
   IsJoinedOr,
 }
 use Rattle.vm_chunks.specs.Entries.{above, below, with_entry, without, IsPlace}
-use Rattle.vm_chunks.proofs.Descents.{joined, first_part, with_descends, without_descends}
+use Rattle.vm_chunks.proofs.Descents.{joined, with_descends, without_descends}
 use Rattle.vm_chunks.proofs.Middles.{with_in, without_in}
 use Rattle.vm_chunks.proofs.Homes.{bounded, changes, chunk_descends, home_at, parts, set_parts}
 
@@ -264,11 +252,6 @@ module _ {X : Type 0} (key : X → ℕ) where
           | inr z ↦ (let s : k ≡ i = omega arith in rw (s, get_or-insert_at bs i m d p.bound) h)
         ];
       }
-
-  -- Without a chunk there is no bound.
-  pub no_bounds : (cs : List (List X)) (bs : List ℕ) → AreAllBounded key cs bs → cs ≡ [] → bs ≡ []
-  no_bounds [] bs r e = r
-  no_bounds (c ∷ cs) bs r e = absurd (let n = ap length e in omega (arith, n))
 
   module _ (cs : List (List X)) (bs : List ℕ) (r : AreAllBounded key cs bs) (n : 2 ≤ length cs) (at j : ℕ) (f : AreFilledBut at cs)
       (l : j + 1 < length cs) (near : (at ≡ j) ⊎ (at ≡ j + 1)) where

@@ -154,7 +154,7 @@ module _ {X : Type 0} (key : X → ℕ) where
       descends_by key 0 hi (with_entry key e (x ∷ xs))
       (with_descends key 0 hi e (x ∷ xs) (bounded_by_first hi (x ∷ xs) down (λ d w. omega arith)) (omega arith) (omega arith))
 
-  taken_descends : (k : ℕ) (xs : List X) → IsDescendingBy key xs → IsDescendingBy key (without key k xs)
+  pub taken_descends : (k : ℕ) (xs : List X) → IsDescendingBy key xs → IsDescendingBy key (without key k xs)
   taken_descends k [] down =
       descends_by key 0 (k + 1) (without key k []) (without_descends key 0 (k + 1) k [] tt (omega arith) (omega arith))
   taken_descends k (x ∷ xs) down =

@@ -185,6 +185,10 @@ module _ {X : Type 0} (key : X → ℕ) where
         some (c ∷ cs) r n = r
 
     module _ (t i : ℕ) (h : t < TOP) (p : IsPlace (λ b. b) t i bs) where
+      -- A key belongs in a chunk if there is one.
+      pub place_within : 0 < length cs → i < length cs
+      place_within n = (home_at t cs bs i r n h p).within
+
       -- A key that belongs past the chunks is in no chunk, because there is none.
       pub none_there : length cs ≤ i → cs ≡ []
       none_there l =

@@ -20,3 +20,4 @@ pub mod Puts
 pub mod Nearby
 pub mod Adding
 pub mod RunAdds
+pub mod KeyedLists

@@ -8,12 +8,11 @@ use Rattle.std.proofs.lemmas.List.Elements.{All-append, All-cons, All-nil}
 use Rattle.std.specs.List.{All}
 use Rattle.std.specs.Ordering.{nat_cmp}
 use Rattle.std.specs.BTreeSet.{contains}
-use Rattle.std.specs.Option.{is_some, IsSome}
 use Rattle.vm_chunks.specs.declared.id_set.Run.{Run}
 use Rattle.vm_chunks.specs.Entries.{above, below, with_entry, without, without_some, entry_at}
 use Rattle.vm_chunks.specs.Runs.{RUNS_END, ids_of_run, ids_of_runs, AreRuns, lowest_of, Puts}
 use Rattle.vm_chunks.proofs.RunJoins.{Joins}
-use Rattle.vm_chunks.proofs.Middles.{entry_in, with_in, with_nothing, without_in}
+use Rattle.vm_chunks.proofs.Middles.{with_in, with_nothing, without_in}
 use Rattle.vm_chunks.proofs.Runs.{
   key_of,
   in_run,

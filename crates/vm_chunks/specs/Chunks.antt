@@ -1,5 +1,5 @@
 -- Chunks of a descending list, with a bound for each.
-use Rattle.std.specs.Prelude.{◌≡◌, ◌≢◌, ℕ, ◌<◌, ◌≤◌, List, [], ◌∷◌, ◌++◌, ◌+◌, ◌⊎◌, length, slice_index_or, slice_set, take, drop}
+use Rattle.std.specs.Prelude.{◌≡◌, ◌≢◌, ℕ, ◌<◌, ◌≤◌, List, [], ◌∷◌, ◌++◌, ◌+◌, ◌⊎◌, length, slice_index_or, slice_set, take, drop, Option, Some, None}
 use Rattle.std.specs.List.{flat_map, insert, remove, All}
 
 -- One more than the highest key.
@@ -9,6 +9,11 @@ TOP = 0x1_0000_0000_0000_0000
 -- The entries of all chunks.
 abbrev pub entries_of : {X : Type 0} → List (List X) → List X
 entries_of cs = flat_map (λ c. c) cs
+
+-- The entries of a list are those of its one chunk, or of many.
+abbrev pub list_of : {X : Type 0} → Option (List X) → List X → List X
+list_of (Some few) many = few
+list_of None many = many
 
 -- The keys descend, and are at least b and below hi.
 abbrev pub Descends : {X : Type 0} → (X → ℕ) → ℕ → ℕ → List X → Type 0

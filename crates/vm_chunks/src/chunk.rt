@@ -6,6 +6,7 @@ ghost use Rattle.std.specs.Prelude.{
   ◌≤◌,
   ◌+◌,
   ◌++◌,
+  ◌∷◌,
   [],
   length,
   take,
@@ -13,11 +14,15 @@ ghost use Rattle.std.specs.Prelude.{
   List,
   None,
   IsSome,
+  IfNone,
+  MatchOption,
+  slice_index_or,
   IfOk,
   OnErr,
   vec_capacity,
 };
 ghost use Rattle.std.specs.List.{All};
+ghost use Rattle.vm_chunks.specs.Chunks.{TOP};
 ghost use Rattle.vm_chunks.specs.Entries.{
   ChangesLast,
   IsDescendingBy,
@@ -100,6 +105,31 @@ impl<E: Entry> Chunk<E> {
         ensures fits { result ≤ 64 }
     {
         self.entries.len()
+    }
+
+    /// Returns the entry with the lowest key, if there is one.
+    pub fn lowest(&self) -> Option<E>
+        ensures { MatchOption result (self.now ≡ []) (λ e. (others : List E) × (self.now ≡ others ++ e ∷ [])) }
+    {
+        let (entry, _) = self.entries.as_slice().split_last()?;
+        Some(*entry)
+    }
+
+    /// Returns the entry with the highest key, if there is one.
+    pub fn highest(&self) -> Option<E>
+        ensures { MatchOption result (self.now ≡ []) (λ e. (others : List E) × (self.now ≡ e ∷ others)) }
+    {
+        let (entry, _) = self.entries.as_slice().split_first()?;
+        Some(*entry)
+    }
+
+    /// Returns the highest key, if there is an entry.
+    pub fn highest_key(&self) -> Option<u64>
+        ensures none { IfNone result (self.now ≡ []) }
+        ensures fits { (d : E) → 0 < length self.now → E.key_of (slice_index_or self.now 0 d) < TOP }
+    {
+        let entry = self.highest()?;
+        Some(entry.key())
     }
 
     /// Returns the entry with this key, if there is one.

@@ -93,28 +93,6 @@ fn clone_chunks<E: Entry>(alloc: Global, chunks: &[Chunk<E>]) -> Result<Vec<Chun
     Ok(copies)
 }
 
-/// Creates the first chunk, which is empty. An error changes nothing.
-fn begin<E: Entry>(
-    alloc: Global,
-    chunks: &mut Vec<Chunk<E>>,
-    bounds: &mut Vec<u64>,
-) -> Result<(), AllocError>
-    requires none { chunks.old.items ≡ [] }
-    requires bounds { bounds.old.items ≡ [] }
-    ensures chunks { OnOk result (chunks.new.items ≡ [] ∷ []) }
-    ensures bounds { OnOk result (bounds.new.items ≡ 0 ∷ []) }
-    ensures chunks_stay { OnErr result (chunks.new.items ≡ []) }
-    ensures bounds_stay { OnErr result (bounds.new.items ≡ []) }
-{
-    let chunk = Chunk::new(alloc)?;
-    bounds.reserve(1)?;
-    chunks.push(chunk)?;
-    let Ok(()) = bounds.push(0) else {
-        unreachable!()
-    };
-    Ok(())
-}
-
 /// Moves the entries of a chunk from `kept` on to a new chunk after it, and returns the bound between them. An
 /// error changes nothing.
 fn split<E: Entry>(
@@ -192,6 +170,7 @@ fn make_room<E: Entry>(
     key: u64,
 ) -> Result<usize, AllocError>
     requires chunks { AreChunks E.key_of chunks.old.items bounds.old.items }
+    requires some { 0 < length chunks.old.items }
     ensures same { entries_of chunks.new.items ≡ entries_of chunks.old.items }
     ensures chunks { AreChunks E.key_of chunks.new.items bounds.new.items }
     ensures place { IfOk result (λ i. IsPlace (λ b. b) key i bounds.new.items) }
@@ -200,8 +179,7 @@ fn make_room<E: Entry>(
 {
     let at = bounds_above(bounds.as_slice(), key);
     if at >= chunks.len() {
-        begin(alloc, chunks, bounds)?;
-        return Ok(0);
+        unreachable!()
     }
     let len = chunks[at].len();
     if len < MAX_ENTRIES {
@@ -217,6 +195,7 @@ fn make_room<E: Entry>(
 }
 
 /// Joins a chunk with one next to it if it is small. It changes no entry, and does not allocate.
+#[inline(never)]
 fn mend<E: Entry>(chunks: &mut Vec<Chunk<E>>, bounds: &mut Vec<u64>, at: usize)
     requires within { at < length chunks.old.items }
     requires bounded { AreAllBounded E.key_of chunks.old.items bounds.old.items }
@@ -240,6 +219,25 @@ impl<E: Entry> Chunks<E> {
             bounds: Vec::new(alloc),
             count: 0,
         }
+    }
+
+    /// Creates a list of the entries of a chunk, with memory for two chunks.
+    pub fn of(alloc: Global, chunk: &Chunk<E>) -> Result<Self, AllocError>
+        requires { IsDescendingBy E.key_of chunk.now }
+        ensures { IfOk result (λ list. list ≡ chunk.now) }
+    {
+        if chunk.highest_key().is_none() {
+            return Ok(Chunks::new(alloc));
+        }
+        let mut chunks = Vec::with_capacity(alloc, 2)?;
+        let mut bounds = Vec::with_capacity(alloc, 2)?;
+        chunks.push(chunk.try_clone(alloc)?)?;
+        bounds.push(0)?;
+        Ok(Chunks {
+            chunks,
+            bounds,
+            count: chunk.len(),
+        })
     }
 
     /// Returns a copy. It allocates for each chunk.
@@ -273,14 +271,6 @@ impl<E: Entry> Chunks<E> {
         }
     }
 
-    /// Returns the entry with the lowest key that is at least this one, if there is one. It takes logarithmic
-    /// time.
-    pub fn at_or_above(&self, key: u64) -> Option<E>
-        ensures { result ≡ at_or_above E.key_of key self.now }
-    {
-        self.gap(key).above
-    }
-
     /// Replaces the entry with the key of this one. It does not allocate.
     pub fn set(&mut self, entry: E)
         requires { IsSome (entry_at E.key_of (E.key_of entry) self.old) }
@@ -306,6 +296,7 @@ impl<E: Entry> Chunks<E> {
     }
 
     /// Returns the entry with the lowest key, if there is one.
+    #[inline(always)]
     pub fn lowest(&self) -> Option<E>
         ensures { MatchOption result (self.now ≡ []) (λ e. (others : List E) × (self.now ≡ others ++ e ∷ [])) }
     {
@@ -323,9 +314,10 @@ impl<E: Entry> Chunks<E> {
         Some(*entry)
     }
 
-    /// Inserts an entry with a new key. An error changes nothing.
+    /// Inserts an entry with a new key into a list that is not empty. An error changes nothing.
     pub fn insert(&mut self, alloc: Global, entry: E) -> Result<(), AllocError>
-        requires { entry_at E.key_of (E.key_of entry) self.old ≡ None }
+        requires some { 0 < length self.old }
+        requires new { entry_at E.key_of (E.key_of entry) self.old ≡ None }
         ensures inserted { OnOk result (self.new ≡ with_entry E.key_of entry self.old) }
         ensures unchanged { OnErr result (self.new ≡ self.old) }
     {
@@ -394,6 +386,7 @@ impl<E: Entry> Chunks<E> {
 
     /// Replaces the entry with the lowest key by one with the same key if `keep` is true, and removes it otherwise. It does
     /// not allocate.
+    #[inline(always)]
     pub fn change_lowest(&mut self, entry: E, keep: bool)
         requires some { 0 < length self.old }
         requires key { (others : List E) (e : E) → self.old ≡ others ++ e ∷ [] → E.key_of entry ≡ E.key_of e }

@@ -38,8 +38,8 @@ ghost use Rattle.vm_chunks.specs.Runs.{
 };
 
 use crate::Entry;
-use crate::chunks::Chunks;
 use crate::iter::Iter;
+use crate::keyed_list::KeyedList;
 use std::alloc::{AllocError, Global};
 use std::marker::Model;
 
@@ -63,7 +63,7 @@ impl Entry for Run {
 /// Its model is that of a `BTreeSet`: the list of its ids in ascending order.
 #[derive(Debug, Drop)]
 pub struct IdSet {
-    runs: Chunks<Run>,
+    runs: KeyedList<Run>,
     // The number of ids.
     count: u64,
     alloc: Global,
@@ -87,7 +87,7 @@ impl IdSet {
         ensures { IsEmpty result }
     {
         IdSet {
-            runs: Chunks::new(alloc),
+            runs: KeyedList::new(alloc),
             count: 0,
             alloc,
         }
@@ -180,6 +180,7 @@ impl IdSet {
     }
 
     /// Removes and returns the lowest id. It does not allocate.
+    #[inline(always)]
     pub fn pop_first(&mut self) -> Option<u32>
         ensures lowest { IfSome result (λ id. IsLowestFrom 0 self.old id × Removes id self.old self.new) }
         ensures none { IfNone result (IsEmpty self.old × (self.new ≡ self.old)) }
@@ -223,7 +224,7 @@ fn same_runs(mut a: Iter<'_, Run>, mut b: Iter<'_, Run>) -> bool
 }
 
 /// Returns the run that has an id, if there is one.
-fn run_of(runs: &Chunks<Run>, id: u32) -> Option<Run>
+fn run_of(runs: &KeyedList<Run>, id: u32) -> Option<Run>
     requires { AreRuns RUNS_END runs.now }
     ensures none { IfNone result (contains nat_cmp (record { keys = ids_of_runs runs.now }) id ≡ false) }
     ensures some { IfSome result (λ run. HasRun id runs.now run) }
@@ -235,7 +236,7 @@ fn run_of(runs: &Chunks<Run>, id: u32) -> Option<Run>
 }
 
 /// Takes an id out of the run that has it. An error changes nothing.
-fn cut(runs: &mut Chunks<Run>, alloc: Global, id: u32, run: Run) -> Result<(), AllocError>
+fn cut(runs: &mut KeyedList<Run>, alloc: Global, id: u32, run: Run) -> Result<(), AllocError>
     requires order { AreRuns RUNS_END runs.old }
     requires run { HasRun id runs.old run }
     ensures cut { OnOk result (Cuts id runs.old runs.new) }
@@ -269,7 +270,12 @@ fn cut(runs: &mut Chunks<Run>, alloc: Global, id: u32, run: Run) -> Result<(), A
 }
 
 /// Adds the ids from `first` to `last`, which are above all runs. An error changes nothing.
-fn add_run(runs: &mut Chunks<Run>, alloc: Global, first: u32, last: u32) -> Result<(), AllocError>
+fn add_run(
+    runs: &mut KeyedList<Run>,
+    alloc: Global,
+    first: u32,
+    last: u32,
+) -> Result<(), AllocError>
     requires order { first ≤ last }
     requires runs { AreRuns (first + 1) runs.old }
     ensures runs { OnOk result (AreRuns RUNS_END runs.new) }
@@ -285,7 +291,7 @@ fn add_run(runs: &mut Chunks<Run>, alloc: Global, first: u32, last: u32) -> Resu
 }
 
 /// Returns the first id of the run that ends right below an id, which is above all runs. Returns the id if there is none.
-fn start_above(runs: &Chunks<Run>, id: u32) -> u32
+fn start_above(runs: &KeyedList<Run>, id: u32) -> u32
     requires { AreRuns (id + 1) runs.now }
     ensures { StartsAbove id runs.now result }
 {

@@ -1,12 +1,13 @@
 //! Lists of entries in descending order of their keys, in chunks of at most 64 entries, and sets of ids.
 //!
-//! A call finds the chunk of a key by a list of bounds, and then the entry in the chunk. A change moves the
-//! entries of one chunk, and sometimes splits it or joins it with one next to it. The lowest entry is at the end
-//! of the last chunk, so removing it moves nothing.
+//! A list is one chunk while its entries fit in it, which takes one allocation. Otherwise a call finds the chunk of a
+//! key by a list of bounds, and then the entry in the chunk. A change moves the entries of one chunk, and sometimes
+//! splits it or joins it with one next to it. The lowest entry is at the end of the last chunk, so removing it moves
+//! nothing.
 //!
 //! # How a list is stated
 //!
-//! - The value of [`Chunks`] is the list of its entries. A type has a key if it is an [`Entry`], and `key_of`
+//! - The value of [`KeyedList`] is the list of its entries. A type has a key if it is an [`Entry`], and `key_of`
 //!   is its key.
 //! - `with_entry`, `without`, `entry_at`, `at_or_above` and `highest_below` (`Entries`) are about such a list, and
 //!   name no chunk.
@@ -18,8 +19,7 @@
 //! # What is proved
 //!
 //! - The exact result of each call, and the list after it. Keys are different and descend.
-//! - `gap` returns both entries next to a key, and `put` uses them. The list after `put` does not depend on the gap.
-//! - An error changes nothing, and only `insert`, `put` and `try_clone` have one. An insertion allocates before it
+//! - An error changes nothing, and only `insert`, `add` and `try_clone` have one. An insertion allocates before it
 //!   changes an entry, because each chunk has memory for 64 entries.
 //! - An iterator returns each entry once, in order, from both ends.
 //! - The number of entries, which is stored.
@@ -29,7 +29,7 @@
 //!
 //! # What is only tested
 //!
-//! - How long a call takes, such as a `put` at its gap, and how much memory the chunks take.
+//! - How long a call takes, such as adding an id within one chunk, and how much memory the chunks take.
 #![tactic(auto)]
 
 ghost use Rattle.std.specs.Prelude.{◌≡◌, ℕ};
@@ -40,10 +40,11 @@ mod chunk;
 mod chunks;
 mod id_set;
 mod iter;
+mod keyed_list;
 
-pub use chunks::Chunks;
 pub use id_set::{IdSet, Run};
 pub use iter::Iter;
+pub use keyed_list::KeyedList;
 
 /// An entry with a key.
 pub trait Entry: Copy {

@@ -169,6 +169,7 @@ impl IdAllocator {
     /// - `Overflow` if all ids are allocated and the range ends at `u32::MAX`.
     /// - `ResourceNotAvailable` if all ids are allocated and the range ends below `u32::MAX`.
     #[tactic(auto, using(crate::proofs::Ids::AllocatedIds::allocates))]
+    #[inline(always)]
     pub fn allocate_id(&mut self) -> Result<u32>
         // The id is the lowest that is not held. It is held after the call, and nothing else changes.
         ensures lowest { IfOk result (λ id. IsLowestNotHeld self.old id) }

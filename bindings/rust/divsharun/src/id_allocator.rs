@@ -156,6 +156,8 @@ impl IdAllocator {
     /// assert_eq!(lines.allocate_id(), Ok(10));
     /// # Ok::<(), Error>(())
     /// ```
+    #[inline]
+    #[inline]
     pub fn allocate_id(&mut self) -> Result<u32> {
         Ok(self.0.allocate_id()?)
     }

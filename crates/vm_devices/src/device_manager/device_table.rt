@@ -10,7 +10,7 @@ use crate::device_slot::DeviceSlot;
 use std::alloc::{AllocError, Global};
 use std::marker::Model;
 use vm_addresses::RangeInclusive;
-use vm_chunks::{Chunks, Entry, Iter};
+use vm_chunks::{Entry, Iter, KeyedList};
 
 /// The start of the range of a device, and the id of the device.
 #[derive(Clone, Copy, Debug)]
@@ -33,8 +33,8 @@ impl Entry for DeviceStart {
 /// Its model is the map by ids.
 #[derive(Debug, Drop)]
 pub(super) struct DeviceTable {
-    slots: Chunks<DeviceSlot>,
-    starts: Chunks<DeviceStart>,
+    slots: KeyedList<DeviceSlot>,
+    starts: KeyedList<DeviceStart>,
 }
 
 impl Model for DeviceTable {
@@ -61,8 +61,8 @@ impl DeviceTable {
         ensures { result ≡ map.empty }
     {
         DeviceTable {
-            slots: Chunks::new(alloc),
-            starts: Chunks::new(alloc),
+            slots: KeyedList::new(alloc),
+            starts: KeyedList::new(alloc),
         }
     }
 

@@ -5,7 +5,7 @@ ghost use Rattle.vm_range_map.specs.Checks.{entry_of};
 
 use std::alloc::{AllocError, Global};
 use std::marker::Model;
-use vm_chunks::{Chunks, Entry, Iter};
+use vm_chunks::{Entry, Iter, KeyedList};
 
 /// A value, and the start of its range.
 #[derive(Clone, Copy)]
@@ -28,7 +28,7 @@ impl Entry for ValueAt {
 /// Its model is the map from starts to values.
 #[derive(Drop)]
 pub(super) struct ValueTable {
-    entries: Chunks<ValueAt>,
+    entries: KeyedList<ValueAt>,
 }
 
 impl Model for ValueTable {
@@ -51,7 +51,7 @@ impl ValueTable {
         ensures { result ≡ map.empty }
     {
         ValueTable {
-            entries: Chunks::new(alloc),
+            entries: KeyedList::new(alloc),
         }
     }
 

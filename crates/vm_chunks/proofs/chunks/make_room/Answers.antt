@@ -1,33 +1,11 @@
-use Rattle.std.proofs.Common.{rules, get_or, ◌<◌, [], length, ap, ◌∙◌, sym, subst, arith}
+use Rattle.std.proofs.Common.{rules, get_or, ◌<◌, [], length, ap, ◌∙◌, subst, arith}
 use Rattle.std.proofs.lemmas.List.{get_or_read}
-use Rattle.vm_chunks.specs.Chunks.{entries_of}
-use Rattle.vm_chunks.proofs.Homes.{all_bounds_descend, same_lengths, none_there}
-use Rattle.vm_chunks.proofs.Divisions.{split_is, split_same, split_upper, split_lower, place_lower, place_upper, no_bounds}
+use Rattle.vm_chunks.proofs.Homes.{all_bounds_descend, same_lengths, place_within}
+use Rattle.vm_chunks.proofs.Divisions.{split_is, split_same, split_upper, split_lower, place_lower, place_upper}
 use Rattle.vm_chunks.proofs.chunks.make_room.Goals as goal
 
 pub bounds_above-at-requires : goal.bounds_above-at-requires
 bounds_above-at-requires g c = rw c.as_slice.ensures.value (all_bounds_descend g.E.Entry.key_of _ _ c.requires.chunks.bounded)
-
-pub begin-requires-clause-none : goal.begin-requires-clause-none
-begin-requires-clause-none g c =
-    let p = rw c.as_slice.ensures.value at c.bounds_above-at.ensures in
-    none_there g.E.Entry.key_of _ _ c.requires.chunks.bounded c.args.key _ c.ranges.key.fits p (search rules)
-
-pub begin-requires-clause-bounds : goal.begin-requires-clause-bounds
-begin-requires-clause-bounds g c =
-    no_bounds g.E.Entry.key_of _ _ c.requires.chunks.bounded (begin-requires-clause-none g c)
-
-pub returns-in_err-begin-clause-same : goal.returns-in_err-begin-clause-same
-returns-in_err-begin-clause-same g c =
-    let p = rw c.as_slice.ensures.value at c.bounds_above-at.ensures in
-    let e = none_there g.E.Entry.key_of _ _ c.requires.chunks.bounded c.args.key _ c.ranges.key.fits p (search rules) in
-    ap (λ cs. entries_of cs) (c.in_err-begin.ensures.chunks_stay ∙ sym e)
-
-pub returns-then-at-len-clause-same : goal.returns-then-at-len-clause-same
-returns-then-at-len-clause-same g c =
-    let p = rw c.as_slice.ensures.value at c.bounds_above-at.ensures in
-    let e = none_there g.E.Entry.key_of _ _ c.requires.chunks.bounded c.args.key _ c.ranges.key.fits p (search rules) in
-    ap (λ cs. entries_of cs) c.in_ok-begin.ensures.chunks ∙ ap (λ cs. entries_of cs) (sym e)
 
 pub split-requires-clause-bounded : goal.split-requires-clause-bounded
 split-requires-clause-bounded g c =
@@ -114,3 +92,9 @@ returns-clause-room g c =
     let o = c.kept_for-kept.ensures.some in
     let z = ap length i in
     rw c.in_ok-bound.ensures.chunks (omega (arith, r))
+
+pub unreachable-requires : goal.unreachable-requires
+unreachable-requires g c =
+    let p = rw c.as_slice.ensures.value at c.bounds_above-at.ensures in
+    let l = place_within g.E.Entry.key_of _ _ c.requires.chunks.bounded c.args.key _ c.ranges.key.fits p c.requires.some in
+    absurd (search rules)

@@ -56,6 +56,24 @@ impl<E: Entry> Chunk<E> {
         self.entries.len()
     }
 
+    /// Returns the entry with the lowest key, if there is one.
+    pub(in crate::proved) fn lowest(&self) -> Option<E> {
+        let (entry, _) = self.entries.as_slice().split_last()?;
+        Some(*entry)
+    }
+
+    /// Returns the entry with the highest key, if there is one.
+    pub(in crate::proved) fn highest(&self) -> Option<E> {
+        let (entry, _) = self.entries.as_slice().split_first()?;
+        Some(*entry)
+    }
+
+    /// Returns the highest key, if there is an entry.
+    pub(in crate::proved) fn highest_key(&self) -> Option<u64> {
+        let entry = self.highest()?;
+        Some(entry.key())
+    }
+
     /// Returns the entry with this key, if there is one.
     pub(in crate::proved) fn get(&self, key: u64) -> Option<E> {
         let at = place(self.entries.as_slice(), key);

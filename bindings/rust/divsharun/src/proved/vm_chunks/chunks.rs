@@ -36,21 +36,6 @@ fn clone_chunks<E: Entry>(alloc: Global, chunks: &[Chunk<E>]) -> Result<Vec<Chun
     Ok(copies)
 }
 
-/// Creates the first chunk, which is empty. An error changes nothing.
-fn begin<E: Entry>(
-    alloc: Global,
-    chunks: &mut Vec<Chunk<E>>,
-    bounds: &mut Vec<u64>,
-) -> Result<(), AllocError> {
-    let chunk = Chunk::new(alloc)?;
-    bounds.reserve(1)?;
-    chunks.push(chunk)?;
-    let Ok(()) = bounds.push(0) else {
-        unreachable!()
-    };
-    Ok(())
-}
-
 /// Moves the entries of a chunk from `kept` on to a new chunk after it, and returns the bound between them. An
 /// error changes nothing.
 fn split<E: Entry>(
@@ -112,8 +97,7 @@ fn make_room<E: Entry>(
 ) -> Result<usize, AllocError> {
     let at = bounds_above(bounds.as_slice(), key);
     if at >= chunks.len() {
-        begin(alloc, chunks, bounds)?;
-        return Ok(0);
+        unreachable!()
     }
     let len = chunks[at].len();
     if len < MAX_ENTRIES {
@@ -129,6 +113,7 @@ fn make_room<E: Entry>(
 }
 
 /// Joins a chunk with one next to it if it is small. It changes no entry, and does not allocate.
+#[inline(never)]
 fn mend<E: Entry>(chunks: &mut Vec<Chunk<E>>, bounds: &mut Vec<u64>, at: usize) {
     let last = chunks.len() - 1;
     if last > 0 {
@@ -144,6 +129,22 @@ impl<E: Entry> Chunks<E> {
             bounds: Vec::new(alloc),
             count: 0,
         }
+    }
+
+    /// Creates a list of the entries of a chunk, with memory for two chunks.
+    pub(in crate::proved) fn of(alloc: Global, chunk: &Chunk<E>) -> Result<Self, AllocError> {
+        if chunk.highest_key().is_none() {
+            return Ok(Chunks::new(alloc));
+        }
+        let mut chunks = Vec::with_capacity(alloc, 2)?;
+        let mut bounds = Vec::with_capacity(alloc, 2)?;
+        chunks.push(chunk.try_clone(alloc)?)?;
+        bounds.push(0)?;
+        Ok(Chunks {
+            chunks,
+            bounds,
+            count: chunk.len(),
+        })
     }
 
     /// Returns a copy. It allocates for each chunk.
@@ -171,12 +172,6 @@ impl<E: Entry> Chunks<E> {
         }
     }
 
-    /// Returns the entry with the lowest key that is at least this one, if there is one. It takes logarithmic
-    /// time.
-    pub(in crate::proved) fn at_or_above(&self, key: u64) -> Option<E> {
-        self.gap(key).above
-    }
-
     /// Replaces the entry with the key of this one. It does not allocate.
     pub(in crate::proved) fn set(&mut self, entry: E) {
         let at = bounds_above(self.bounds.as_slice(), entry.key());
@@ -194,6 +189,7 @@ impl<E: Entry> Chunks<E> {
     }
 
     /// Returns the entry with the lowest key, if there is one.
+    #[inline(always)]
     pub(in crate::proved) fn lowest(&self) -> Option<E> {
         let (chunk, _) = self.chunks.as_slice().split_last()?;
         let (entry, _) = chunk.as_slice().split_last()?;
@@ -207,7 +203,7 @@ impl<E: Entry> Chunks<E> {
         Some(*entry)
     }
 
-    /// Inserts an entry with a new key. An error changes nothing.
+    /// Inserts an entry with a new key into a list that is not empty. An error changes nothing.
     pub(in crate::proved) fn insert(&mut self, alloc: Global, entry: E) -> Result<(), AllocError> {
         let Some(count) = self.count.checked_add(1) else {
             // No memory has this many bounds, so this fails.
@@ -265,6 +261,7 @@ impl<E: Entry> Chunks<E> {
 
     /// Replaces the entry with the lowest key by one with the same key if `keep` is true, and removes it otherwise. It does
     /// not allocate.
+    #[inline(always)]
     pub(in crate::proved) fn change_lowest(&mut self, entry: E, keep: bool) {
         let at = self.chunks.len() - 1;
         let chunk = &mut self.chunks[at];

@@ -2,8 +2,8 @@
 
 //! A set of ids as runs of consecutive ids.
 
-use crate::proved::vm_chunks::chunks::Chunks;
 use crate::proved::vm_chunks::iter::Iter;
+use crate::proved::vm_chunks::keyed_list::KeyedList;
 use crate::proved::vm_chunks::Entry;
 use crate::rattle::{AllocError, Global};
 
@@ -25,7 +25,7 @@ impl Entry for Run {
 /// Its model is that of a `BTreeSet`: the list of its ids in ascending order.
 #[derive(Debug)]
 pub(in crate::proved) struct IdSet {
-    runs: Chunks<Run>,
+    runs: KeyedList<Run>,
     // The number of ids.
     count: u64,
     alloc: Global,
@@ -35,7 +35,7 @@ impl IdSet {
     /// Creates an empty set. It does not allocate.
     pub(in crate::proved) fn new(alloc: Global) -> Self {
         IdSet {
-            runs: Chunks::new(alloc),
+            runs: KeyedList::new(alloc),
             count: 0,
             alloc,
         }
@@ -100,6 +100,7 @@ impl IdSet {
     }
 
     /// Removes and returns the lowest id. It does not allocate.
+    #[inline(always)]
     pub(in crate::proved) fn pop_first(&mut self) -> Option<u32> {
         let run = self.runs.lowest()?;
         let rest = Run {
@@ -133,7 +134,7 @@ fn same_runs(mut a: Iter<'_, Run>, mut b: Iter<'_, Run>) -> bool {
 }
 
 /// Returns the run that has an id, if there is one.
-fn run_of(runs: &Chunks<Run>, id: u32) -> Option<Run> {
+fn run_of(runs: &KeyedList<Run>, id: u32) -> Option<Run> {
     match runs.at_or_above(id.into()) {
         Some(run) if run.first <= id => Some(run),
         _ => None,
@@ -141,7 +142,7 @@ fn run_of(runs: &Chunks<Run>, id: u32) -> Option<Run> {
 }
 
 /// Takes an id out of the run that has it. An error changes nothing.
-fn cut(runs: &mut Chunks<Run>, alloc: Global, id: u32, run: Run) -> Result<(), AllocError> {
+fn cut(runs: &mut KeyedList<Run>, alloc: Global, id: u32, run: Run) -> Result<(), AllocError> {
     if id == run.last {
         if run.first == id {
             runs.remove(id.into());
@@ -169,7 +170,12 @@ fn cut(runs: &mut Chunks<Run>, alloc: Global, id: u32, run: Run) -> Result<(), A
 }
 
 /// Adds the ids from `first` to `last`, which are above all runs. An error changes nothing.
-fn add_run(runs: &mut Chunks<Run>, alloc: Global, first: u32, last: u32) -> Result<(), AllocError> {
+fn add_run(
+    runs: &mut KeyedList<Run>,
+    alloc: Global,
+    first: u32,
+    last: u32,
+) -> Result<(), AllocError> {
     let start = start_above(runs, first);
     runs.insert(alloc, Run { first: start, last })?;
     if start < first {
@@ -179,7 +185,7 @@ fn add_run(runs: &mut Chunks<Run>, alloc: Global, first: u32, last: u32) -> Resu
 }
 
 /// Returns the first id of the run that ends right below an id, which is above all runs. Returns the id if there is none.
-fn start_above(runs: &Chunks<Run>, id: u32) -> u32 {
+fn start_above(runs: &KeyedList<Run>, id: u32) -> u32 {
     match runs.highest() {
         Some(run) if run.last.checked_add(1) == Some(id) => run.first,
         _ => id,

@@ -2,18 +2,20 @@
 
 //! Lists of entries in descending order of their keys, in chunks of at most 64 entries, and sets of ids.
 //!
-//! A call finds the chunk of a key by a list of bounds, and then the entry in the chunk. A change moves the
-//! entries of one chunk, and sometimes splits it or joins it with one next to it. The lowest entry is at the end
-//! of the last chunk, so removing it moves nothing.
+//! A list is one chunk while its entries fit in it, which takes one allocation. Otherwise a call finds the chunk of a
+//! key by a list of bounds, and then the entry in the chunk. A change moves the entries of one chunk, and sometimes
+//! splits it or joins it with one next to it. The lowest entry is at the end of the last chunk, so removing it moves
+//! nothing.
 
 mod chunk;
 mod chunks;
 mod id_set;
 mod iter;
+mod keyed_list;
 
-pub(in crate::proved) use chunks::Chunks;
 pub(in crate::proved) use id_set::{IdSet, Run};
 pub(in crate::proved) use iter::Iter;
+pub(in crate::proved) use keyed_list::KeyedList;
 
 /// An entry with a key.
 pub(in crate::proved) trait Entry: Copy {

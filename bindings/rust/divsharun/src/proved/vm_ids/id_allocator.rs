@@ -117,6 +117,7 @@ impl IdAllocator {
     /// An error changes nothing.
     /// - `Overflow` if all ids are allocated and the range ends at `u32::MAX`.
     /// - `ResourceNotAvailable` if all ids are allocated and the range ends below `u32::MAX`.
+    #[inline(always)]
     pub fn allocate_id(&mut self) -> Result<u32> {
         if let Some(id) = self.freed_ids.pop_first() {
             return Ok(id);

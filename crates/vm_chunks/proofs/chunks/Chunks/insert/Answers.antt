@@ -20,7 +20,7 @@ insert-requires-clause-new g c =
     ap (λ l. entry_at g.E.Entry.key_of (g.E.Entry.key_of c.args.entry) l) c.index_mut-chunk.ensures.value
     ∙ entry_home g.E.Entry.key_of _ _ c.in_ok-at.ensures.chunks.bounded _ _ h p c.index_mut-chunk.result.now c.in_ok-at.ensures.within
     ∙ ap (λ l. entry_at g.E.Entry.key_of (g.E.Entry.key_of c.args.entry) l) (c.in_ok-at.ensures.same ∙ c.self.view_is)
-    ∙ c.requires
+    ∙ c.requires.new
 
 pub returns-clause-inserted : goal.returns-clause-inserted
 returns-clause-inserted g c =
@@ -44,7 +44,7 @@ invariant_of-self-2 g c =
           (put_is g.E.Entry.key_of _ _ c.in_ok-at.ensures.chunks c.args.entry _ h p c.in_ok-at.ensures.within c.index_mut-chunk.result.now);
       counted =
           let old = c.self.invariant.counted ∙ ap length c.self.view_is in
-          let more = count-new g.E.Entry.key_of c.args.entry _ down c.requires in
+          let more = count-new g.E.Entry.key_of c.args.entry _ down c.requires.new in
           let new = ap length (returns-clause-inserted g c) in
           search rules;
     }

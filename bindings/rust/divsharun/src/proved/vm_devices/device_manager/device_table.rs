@@ -3,7 +3,7 @@
 //! The table of the devices. It finds a range by its id, and an id by the start of its range.
 
 use crate::proved::vm_addresses::RangeInclusive;
-use crate::proved::vm_chunks::{Chunks, Entry, Iter};
+use crate::proved::vm_chunks::{Entry, Iter, KeyedList};
 use crate::proved::vm_devices::device_slot::DeviceSlot;
 use crate::rattle::{AllocError, Global};
 
@@ -26,16 +26,16 @@ impl Entry for DeviceStart {
 /// Its model is the map by ids.
 #[derive(Debug)]
 pub(super) struct DeviceTable {
-    slots: Chunks<DeviceSlot>,
-    starts: Chunks<DeviceStart>,
+    slots: KeyedList<DeviceSlot>,
+    starts: KeyedList<DeviceStart>,
 }
 
 impl DeviceTable {
     /// Creates a table without devices. It does not allocate.
     pub(super) fn new(alloc: Global) -> DeviceTable {
         DeviceTable {
-            slots: Chunks::new(alloc),
-            starts: Chunks::new(alloc),
+            slots: KeyedList::new(alloc),
+            starts: KeyedList::new(alloc),
         }
     }
 

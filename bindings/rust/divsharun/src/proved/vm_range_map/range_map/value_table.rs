@@ -2,7 +2,7 @@
 
 //! The values of the allocated ranges, by the starts of the ranges.
 
-use crate::proved::vm_chunks::{Chunks, Entry, Iter};
+use crate::proved::vm_chunks::{Entry, Iter, KeyedList};
 use crate::rattle::{AllocError, Global};
 
 /// A value, and the start of its range.
@@ -23,14 +23,14 @@ impl Entry for ValueAt {
 ///
 /// Its model is the map from starts to values.
 pub(super) struct ValueTable {
-    entries: Chunks<ValueAt>,
+    entries: KeyedList<ValueAt>,
 }
 
 impl ValueTable {
     /// Creates a table without values. It does not allocate.
     pub(super) fn new(alloc: Global) -> ValueTable {
         ValueTable {
-            entries: Chunks::new(alloc),
+            entries: KeyedList::new(alloc),
         }
     }
 
