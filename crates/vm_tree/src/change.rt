@@ -114,7 +114,7 @@ pub(crate) fn update(tree: &mut Link, change: Change) -> Change
     }
 }
 
-/// Updates like [`update`], in a function of its own.
+/// Updates like [`update`], by a call that is not inlined.
 #[inline(never)]
 fn update_apart(tree: &mut Link, change: Change) -> Change
     requires node { 2 ≤ height_of (side tree.old) }

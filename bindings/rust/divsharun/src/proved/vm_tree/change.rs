@@ -81,7 +81,7 @@ pub(in crate::proved::vm_tree) fn update(tree: &mut Link, change: Change) -> Cha
     }
 }
 
-/// Updates like [`update`], in a function of its own.
+/// Updates like [`update`], by a call that is not inlined.
 #[inline(never)]
 fn update_apart(tree: &mut Link, change: Change) -> Change {
     update(tree, change)
