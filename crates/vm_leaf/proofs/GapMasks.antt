@@ -1,5 +1,5 @@
 -- The lowest 1 of a mask, and the mask without it.
-use Rattle.std.proofs.Common.{◌≡◌, ℕ, ◌+◌, ◌-◌, ◌*◌, ◌/◌, ◌%◌, ◌^◌, ◌<◌, ◌≤◌, bit_and, w64, refl, ap, ◌∙◌, sym, arith, add-one, inl, inr, List, length}
+use Rattle.std.proofs.Common.{◌≡◌, ℕ, ◌+◌, ◌-◌, ◌*◌, ◌/◌, ◌%◌, ◌^◌, ◌<◌, ◌≤◌, bit_and, w64, refl, ap, ◌∙◌, sym, arith, add-one, inl, inr, List, length, length-take-le, take}
 use Rattle.std.specs.Int.{bit_at, trailing_zeros}
 use Rattle.std.proofs.lemmas.Bool.{cases_lt}
 use Rattle.std.proofs.lemmas.Nat.{and_le_r, pow_pos}
@@ -18,7 +18,8 @@ use Rattle.std.proofs.lemmas.Nat.Bits.{
 use Rattle.std.proofs.Math.Nat.{pow-suc, mod-lt, div-add-mod'}
 use Rattle.vm_ranges.specs.declared.state.NodeState.TheVariants.{Free, Allocated}
 use Rattle.vm_leaf.specs.Block.{Block}
-use Rattle.vm_leaf.specs.Blocks.{nth}
+use Rattle.std.proofs.lemmas.List.{get_or-take}
+use Rattle.vm_leaf.specs.Blocks.{nth, blank}
 use Rattle.vm_leaf.specs.GapMasks.{IsLowestOne, IsMaskAbove, AreGapsFrom}
 use Rattle.vm_leaf.specs.States.{states_in, state_of_bit}
 use Rattle.vm_leaf.proofs.Masks.{bit_of_mod}
@@ -141,3 +142,20 @@ module _ (bs : List Block) (i j m n : ℕ) (h : AreGapsFrom i bs m) (low : IsLow
 -- A mask of 0 has no gap left.
 pub no_gap_left : (bs : List Block) (i m : ℕ) → AreGapsFrom i bs m → m ≡ 0 → (k : ℕ) → i ≤ k → k < length bs → (nth bs k).state ≡ Allocated
 no_gap_left bs i m h z k f l = h.held k f l (bit_at_above m 0 k (omega (arith, z)) (omega arith))
+
+-- The gaps before an index.
+pub gaps_before : (bs : List Block) (m n at : ℕ) → AreGapsFrom 0 bs m → at ≤ length bs → n ≡ m % 2 ^ at → AreGapsFrom 0 (take at bs) n
+gaps_before bs m n at h l e =
+    let len : length (take at bs) ≡ at = length-take-le at bs l in
+    let same : (k : ℕ) → k < at → bit_at n k ≡ bit_at m k = λ k u. ap (λ (v : ℕ). bit_at v k) e ∙ bit_of_mod m at k u in
+    let fits : n < 2 ^ at = omega (arith, e, mod-lt m (pow_pos at)) in
+    record {
+      fits = rw len fits;
+      below = λ k u. absurd (omega arith);
+      free = λ k q. elim (cases_lt k at) [
+        | inl u ↦ ap (λ (b : Block). b.state) (get_or-take at bs k blank u) ∙ h.free k (sym (same k u) ∙ q)
+        | inr u ↦ absurd (omega (arith, bit_at_above n at k fits u))
+      ];
+      held = λ k z u q. let v : k < at = omega arith in
+          ap (λ (b : Block). b.state) (get_or-take at bs k blank v) ∙ h.held k z (omega arith) (sym (same k v) ∙ q);
+    }

@@ -1,12 +1,13 @@
 -- The effect of a change of a subtree on what is stored beside the links above it.
-use Rattle.std.specs.Prelude.{◌≡◌, ℕ, ◌+◌, ◌≤◌, ◌++◌, length}
+use Rattle.std.specs.Prelude.{◌≡◌, ◌≢◌, ℕ, ◌+◌, ◌≤◌, ◌++◌, length}
 use Rattle.vm_leaf.specs.Blocks.{longest_gap, IsRun}
 use Rattle.vm_leaf.specs.Multiples.{most_alignments}
 use Rattle.vm_leaf.specs.declared.leaf.TheConstants.{MIN_BLOCKS}
 use Rattle.vm_tree.specs.Shape.{Shape, blocks, height_of, IsTree, MAX_HEIGHT}
-use Rattle.vm_tree.specs.Links.{IsFreeOf}
+use Rattle.vm_tree.specs.Links.{side, IsFreeOf, IsSummed, stored_longest, stored_alignments, stored_height}
 use Rattle.vm_tree.specs.Mending.{Shrinks, Loses, CanMendTree, MendsTree}
 use Rattle.vm_tree.specs.declared.change.Change.{Change}
+use Rattle.vm_tree.specs.declared.link.Link.{Link}
 use Rattle.vm_tree.specs.declared.change.Change.TheVariants.{Nothing, FreeOnly, Structure}
 
 -- The tree s has enough blocks for a leaf and, except for the reported change, this summary and this height.
@@ -30,6 +31,14 @@ abbrev pub Updates : Change → Shape → Shape → Type 0
 Updates Nothing old new = new ≡ old
 Updates FreeOnly old new = new ≡ old
 Updates Structure old new = MendsTree old new
+
+-- The link to a node was updated after this change below the node. `result` is the change of the subtree.
+pub record IsUpdated (change : Change) (old new : Link) (result : Change) : Type 0 where
+  pub tree : Updates change (side old) (side new)
+  pub summed : IsSummed new
+  pub reported : Reports result (stored_longest old) (stored_alignments old) (stored_height old) (side new)
+  pub changed : result ≡ Structure → height_of (side new) ≢ stored_height old
+  pub steady : change ≢ Structure → result ≢ Structure
 
 -- The tree can be changed: it is balanced, its blocks cover a range, and its height fits.
 pub record CanChange (s : Shape) : Type 0 where

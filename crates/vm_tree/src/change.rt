@@ -3,7 +3,7 @@ ghost use Rattle.std.specs.Prelude.{◌≡◌, ◌≢◌, ◌≤◌};
 ghost use Rattle.vm_tree.specs.Shape.{height_of, IsTree, MAX_HEIGHT};
 ghost use Rattle.vm_tree.specs.Links.{side, IsFreeOf, IsSummed, stored_longest, stored_alignments, stored_height};
 ghost use Rattle.vm_tree.specs.Mending.{CanMendTree, MendsTree};
-ghost use Rattle.vm_tree.specs.Changes.{Reports, CanUpdate, Updates};
+ghost use Rattle.vm_tree.specs.Changes.{Reports, CanUpdate, IsUpdated};
 
 use crate::link::{Link, Node, height, into_fork, summary};
 use crate::mend::{is_mended, mend};
@@ -105,16 +105,42 @@ pub(crate) fn update(tree: &mut Link, change: Change) -> Change
     requires can { CanUpdate change (stored_longest tree.old) (stored_alignments tree.old) (stored_height tree.old)
         (side tree.old) }
     requires height_fits { height_of (side tree.old) ≤ MAX_HEIGHT }
-    ensures tree { Updates change (side tree.old) (side tree.new) }
-    ensures summed { IsSummed tree.new }
-    ensures reported { Reports result (stored_longest tree.old) (stored_alignments tree.old) (stored_height tree.old)
-        (side tree.new) }
-    ensures changed { result ≡ Change.Structure → height_of (side tree.new) ≢ stored_height tree.old }
-    ensures steady { change ≢ Change.Structure → result ≢ Change.Structure }
+    ensures { IsUpdated change tree.old tree.new result }
 {
     match change {
         Change::Nothing => Change::Nothing,
         Change::FreeOnly => refresh(tree),
         Change::Structure => restructure(tree),
+    }
+}
+
+/// Updates like [`update`], by a call that is not inlined.
+#[inline(never)]
+fn update_apart(tree: &mut Link, change: Change) -> Change
+    requires node { 2 ≤ height_of (side tree.old) }
+    requires can { CanUpdate change (stored_longest tree.old) (stored_alignments tree.old) (stored_height tree.old)
+        (side tree.old) }
+    requires height_fits { height_of (side tree.old) ≤ MAX_HEIGHT }
+    ensures { IsUpdated change tree.old tree.new result }
+{
+    update(tree, change)
+}
+
+/// Updates like [`update`], which it calls only if there is a change.
+///
+/// An allocation is a change or an error. With `update` in the same function, the compiler chooses by a table
+/// of jumps, which a processor predicts badly.
+#[inline(always)]
+#[tactic(auto, using(crate::proofs::Updates::updating))]
+pub(crate) fn update_if_changed(tree: &mut Link, change: Change) -> Change
+    requires node { 2 ≤ height_of (side tree.old) }
+    requires can { CanUpdate change (stored_longest tree.old) (stored_alignments tree.old) (stored_height tree.old)
+        (side tree.old) }
+    requires height_fits { height_of (side tree.old) ≤ MAX_HEIGHT }
+    ensures { IsUpdated change tree.old tree.new result }
+{
+    match change {
+        Change::Nothing => Change::Nothing,
+        _ => update_apart(tree, change),
     }
 }

@@ -1,9 +1,9 @@
-//! FreesBlock a block of a tree in place, and joins it with the gaps on both sides. It does not allocate.
+//! Frees a block of a tree in place, and joins it with the gaps on both sides. It does not allocate.
 //!
 //! The range of a block can end right before the edge between two children of a node, or start at it. Then
 //! the block on the other side of the edge is looked at. If it is a gap, the range is freed together with it.
 //! After that the gap is dropped from its leaf, and the edge moves over it.
-ghost use Rattle.std.specs.Prelude.{◌≡◌, ◌≢◌, ◌+◌, ◌*◌, ◌-◌, ◌/◌, ◌<◌, ◌≤◌, length, max, MatchOption, OnSome};
+ghost use Rattle.std.specs.Prelude.{◌≡◌, ◌≢◌, ◌+◌, ◌*◌, ◌-◌, ◌/◌, ◌<◌, ◌≤◌, length, max, MatchBool, MatchOption, OnSome};
 ghost use Rattle.vm_ranges.specs.Range.{MAX, address_count};
 ghost use Rattle.vm_ranges.specs.declared.state.NodeState.TheVariants.{Allocated};
 ghost use Rattle.vm_leaf.specs.Blocks.{nth, start_of, end_of, freed_at, longest_gap};
@@ -37,7 +37,7 @@ pub(crate) struct Gap {
     pub(crate) joined: u64,
 }
 
-/// FreesBlock the block at an index, and joins it with the gaps on both sides.
+/// Frees the block at an index, and joins it with the gaps on both sides.
 #[inline(always)]
 fn join_at(leaf: &mut Leaf, i: usize) -> Gap
     requires within { i < length leaf.old }
@@ -51,7 +51,7 @@ fn join_at(leaf: &mut Leaf, i: usize) -> Gap
     Gap { range, joined }
 }
 
-/// FreesBlock a held range of a leaf. Returns `None` if the leaf does not hold it.
+/// Frees a held range of a leaf. Returns `None` if the leaf does not hold it.
 #[inline(always)]
 pub(crate) fn free_in(leaf: &mut Leaf, key: &RangeInclusive) -> Option<Gap>
     requires from { start_of leaf.old ≤ key.now.start }
@@ -296,7 +296,7 @@ fn free_end(tree: &mut Link, end: End, start: u64, last: u64, count: &mut Steps)
     }
 }
 
-/// FreesBlock a range that touches the edge between two children of a node. It is in `near`, the child at the given
+/// Frees a range that touches the edge between two children of a node. It is in `near`, the child at the given
 /// end of the node. If the block of `far` at the edge is a gap, it is dropped, and the edge moves over it.
 #[inline(never)]
 #[tactic(auto, using(crate::proofs::FreesEdges::beside, crate::proofs::FreesCounts::beside_counts))]
@@ -338,12 +338,47 @@ fn free_beside(
     }
 }
 
-/// FreesBlock a held range below a node that does not touch the edge between its children. Returns `None` if it
-/// is not there.
-///
-/// The compiler selects the child without a branch, because the call has no other code.
-#[cycle(free_at)]
+/// Returns `true` if a range starts at the edge between the children of a node, or ends right before it.
+#[inline(always)]
+fn touches(key: &RangeInclusive, edge: u64) -> bool
+    requires { 0 < edge }
+    ensures { MatchBool result (key.now.start ≢ edge → key.now.end + 1 ≡ edge)
+        ((key.now.start ≢ edge) × (key.now.end + 1 ≢ edge)) }
+{
+    key.start() == edge || key.end() == edge - 1
+}
+
+/// Frees a held range that touches the edge between the children of a node. Returns `None` if it is not there.
 #[inline(never)]
+#[tactic(auto, using(crate::proofs::FreesEdges::edges))]
+fn free_at_edge(
+    left: &mut Link,
+    at: &mut u64,
+    right: &mut Link,
+    key: &RangeInclusive,
+    count: &mut Steps,
+) -> Option<Freed>
+    requires can { CanChange (Fork (side left.old) (side right.old)) }
+    requires node { IsNode (record { at = at.old; left = left.old; right = right.old }) }
+    requires edge { key.now.start ≢ at.old → key.now.end + 1 ≡ at.old }
+    requires count_fits { count.old + 3 * max (height_of (side left.old)) (height_of (side right.old)) ≤ MAX }
+    ensures node { IsNode (record { at = at.new; left = left.new; right = right.new }) }
+    ensures freed { FreesUnder key.now (side left.old) (side right.old) (side left.new) (side right.new) result }
+    ensures count { (count.old ≤ count.new)
+        × (count.new ≤ count.old + 3 * max (height_of (side left.old)) (height_of (side right.old))) }
+    ensures exact { OnSome result (count.new + 1
+        ≡ count.old + nodes_to_free key.now (Fork (side left.old) (side right.old))) }
+{
+    if key.start() == *at {
+        return free_beside(right, at, left, key, End::Last, count);
+    }
+    free_beside(left, at, right, key, End::First, count)
+}
+
+/// Frees a held range below a node that does not touch the edge between its children. Returns `None` if it is
+/// not there.
+#[cycle(free_at)]
+#[inline(always)]
 #[tactic(auto, using(crate::proofs::FreesEdges::edges))]
 fn free_child(
     left: &mut Link,
@@ -370,40 +405,7 @@ fn free_child(
     free_at(right, key, count)
 }
 
-/// FreesBlock a held range below a node. Returns `None` if it is not there.
-#[cycle(free_at)]
-#[inline(always)]
-#[tactic(auto, using(crate::proofs::FreesEdges::edges))]
-fn free_under(
-    left: &mut Link,
-    at: &mut u64,
-    right: &mut Link,
-    key: &RangeInclusive,
-    count: &mut Steps,
-) -> Option<Freed>
-    requires can { CanChange (Fork (side left.old) (side right.old)) }
-    requires node { IsNode (record { at = at.old; left = left.old; right = right.old }) }
-    requires within { (start_of (blocks (side left.old)) ≤ key.now.start)
-        × (key.now.start ≤ end_of (blocks (side right.old))) }
-    requires count_fits { count.old + 3 * max (height_of (side left.old)) (height_of (side right.old)) < MAX }
-    ensures node { IsNode (record { at = at.new; left = left.new; right = right.new }) }
-    ensures freed { FreesUnder key.now (side left.old) (side right.old) (side left.new) (side right.new) result }
-    ensures count { (count.old ≤ count.new)
-        × (count.new ≤ count.old + 3 * max (height_of (side left.old)) (height_of (side right.old))) }
-    ensures exact { OnSome result (count.new + 1
-        ≡ count.old + nodes_to_free key.now (Fork (side left.old) (side right.old))) }
-{
-    let edge = *at;
-    if key.start() == edge {
-        return free_beside(right, at, left, key, End::Last, count);
-    }
-    if key.end() == edge - 1 {
-        return free_beside(left, at, right, key, End::First, count);
-    }
-    free_child(left, edge, right, key, count)
-}
-
-/// FreesBlock a held range, and joins it with the gaps on both sides. Returns `None` if the tree does not hold it.
+/// Frees a held range, and joins it with the gaps on both sides. Returns `None` if the tree does not hold it.
 #[cycle(free_at)]
 pub(crate) fn free_at(tree: &mut Link, key: &RangeInclusive, count: &mut Steps) -> Option<Freed>
     requires can { CanChange (side tree.old) }
@@ -433,7 +435,13 @@ pub(crate) fn free_at(tree: &mut Link, key: &RangeInclusive, count: &mut Steps) 
         }
         Link::Fork { node, .. } => {
             let node: &mut Node = node;
-            let freed = free_under(&mut node.left, &mut node.at, &mut node.right, key, count)?;
+            let edge = node.at;
+            let freed = if touches(key, edge) {
+                free_at_edge(&mut node.left, &mut node.at, &mut node.right, key, count)?
+            } else {
+                // The compiler selects the child without a branch only if this arm has no other code.
+                free_child(&mut node.left, edge, &mut node.right, key, count)?
+            };
             let change = update(tree, freed.change);
             Some(Freed {
                 change,

@@ -9,7 +9,7 @@ ghost use Rattle.vm_tree.specs.NodeCounts.{nodes_to_address};
 ghost use Rattle.vm_tree.specs.Placing.{IsStartIn, RefusesIn, FindsExactPlace};
 
 use super::place::{Place, Spare, allocate_at, leaf_of};
-use crate::change::update;
+use crate::change::update_if_changed;
 use crate::link::{Link, Node};
 use crate::search::{Refusal, Search, Taken};
 use crate::steps::Steps;
@@ -145,7 +145,7 @@ pub(crate) fn exact_at(
             let node: &mut Node = node;
             let mut answer = exact_below(node, start, search, spare, alloc, count);
             if let Ok(taken) = &mut answer {
-                taken.change = update(tree, taken.change);
+                taken.change = update_if_changed(tree, taken.change);
             }
             answer
         }

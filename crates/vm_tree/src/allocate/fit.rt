@@ -15,7 +15,7 @@ ghost use Rattle.vm_tree.specs.Searching.{child_at, may_fit_in_child, nodes_of_c
 
 use super::place::{Place, allocate_at, leaf_of};
 use super::{fits, has_no_place};
-use crate::change::update;
+use crate::change::update_if_changed;
 use crate::end::End;
 use crate::link::{Link, Node};
 use crate::search::{Refusal, Search, Taken};
@@ -182,7 +182,7 @@ pub(crate) fn fit_at(
             let node: &mut Node = node;
             let mut answer = fit_below(node, end, search, alloc, count);
             if let Ok(taken) = &mut answer {
-                taken.change = update(tree, taken.change);
+                taken.change = update_if_changed(tree, taken.change);
             }
             answer
         }

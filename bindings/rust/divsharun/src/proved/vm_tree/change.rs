@@ -80,3 +80,21 @@ pub(in crate::proved::vm_tree) fn update(tree: &mut Link, change: Change) -> Cha
         Change::Structure => restructure(tree),
     }
 }
+
+/// Updates like [`update`], by a call that is not inlined.
+#[inline(never)]
+fn update_apart(tree: &mut Link, change: Change) -> Change {
+    update(tree, change)
+}
+
+/// Updates like [`update`], which it calls only if there is a change.
+///
+/// An allocation is a change or an error. With `update` in the same function, the compiler chooses by a table
+/// of jumps, which a processor predicts badly.
+#[inline(always)]
+pub(in crate::proved::vm_tree) fn update_if_changed(tree: &mut Link, change: Change) -> Change {
+    match change {
+        Change::Nothing => Change::Nothing,
+        _ => update_apart(tree, change),
+    }
+}

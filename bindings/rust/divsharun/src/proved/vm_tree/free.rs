@@ -1,6 +1,6 @@
 // Written by bindings/erase from crates/vm_tree/src/free.rt: do not edit.
 
-//! FreesBlock a block of a tree in place, and joins it with the gaps on both sides. It does not allocate.
+//! Frees a block of a tree in place, and joins it with the gaps on both sides. It does not allocate.
 //!
 //! The range of a block can end right before the edge between two children of a node, or start at it. Then
 //! the block on the other side of the edge is looked at. If it is a gap, the range is freed together with it.
@@ -29,7 +29,7 @@ pub(in crate::proved::vm_tree) struct Gap {
     pub(in crate::proved::vm_tree) joined: u64,
 }
 
-/// FreesBlock the block at an index, and joins it with the gaps on both sides.
+/// Frees the block at an index, and joins it with the gaps on both sides.
 #[inline(always)]
 fn join_at(leaf: &mut Leaf, i: usize) -> Gap {
     let len = leaf.len();
@@ -38,7 +38,7 @@ fn join_at(leaf: &mut Leaf, i: usize) -> Gap {
     Gap { range, joined }
 }
 
-/// FreesBlock a held range of a leaf. Returns `None` if the leaf does not hold it.
+/// Frees a held range of a leaf. Returns `None` if the leaf does not hold it.
 #[inline(always)]
 pub(in crate::proved::vm_tree) fn free_in(leaf: &mut Leaf, key: &RangeInclusive) -> Option<Gap> {
     let (start, end) = (key.start(), key.end());
@@ -219,7 +219,7 @@ fn free_end(tree: &mut Link, end: End, start: u64, last: u64, count: &mut Steps)
     }
 }
 
-/// FreesBlock a range that touches the edge between two children of a node. It is in `near`, the child at the given
+/// Frees a range that touches the edge between two children of a node. It is in `near`, the child at the given
 /// end of the node. If the block of `far` at the edge is a gap, it is dropped, and the edge moves over it.
 #[inline(never)]
 fn free_beside(
@@ -250,11 +250,30 @@ fn free_beside(
     }
 }
 
-/// FreesBlock a held range below a node that does not touch the edge between its children. Returns `None` if it
-/// is not there.
-///
-/// The compiler selects the child without a branch, because the call has no other code.
+/// Returns `true` if a range starts at the edge between the children of a node, or ends right before it.
+#[inline(always)]
+fn touches(key: &RangeInclusive, edge: u64) -> bool {
+    key.start() == edge || key.end() == edge - 1
+}
+
+/// Frees a held range that touches the edge between the children of a node. Returns `None` if it is not there.
 #[inline(never)]
+fn free_at_edge(
+    left: &mut Link,
+    at: &mut u64,
+    right: &mut Link,
+    key: &RangeInclusive,
+    count: &mut Steps,
+) -> Option<Freed> {
+    if key.start() == *at {
+        return free_beside(right, at, left, key, End::Last, count);
+    }
+    free_beside(left, at, right, key, End::First, count)
+}
+
+/// Frees a held range below a node that does not touch the edge between its children. Returns `None` if it is
+/// not there.
+#[inline(always)]
 fn free_child(
     left: &mut Link,
     edge: u64,
@@ -268,26 +287,7 @@ fn free_child(
     free_at(right, key, count)
 }
 
-/// FreesBlock a held range below a node. Returns `None` if it is not there.
-#[inline(always)]
-fn free_under(
-    left: &mut Link,
-    at: &mut u64,
-    right: &mut Link,
-    key: &RangeInclusive,
-    count: &mut Steps,
-) -> Option<Freed> {
-    let edge = *at;
-    if key.start() == edge {
-        return free_beside(right, at, left, key, End::Last, count);
-    }
-    if key.end() == edge - 1 {
-        return free_beside(left, at, right, key, End::First, count);
-    }
-    free_child(left, edge, right, key, count)
-}
-
-/// FreesBlock a held range, and joins it with the gaps on both sides. Returns `None` if the tree does not hold it.
+/// Frees a held range, and joins it with the gaps on both sides. Returns `None` if the tree does not hold it.
 pub(in crate::proved::vm_tree) fn free_at(
     tree: &mut Link,
     key: &RangeInclusive,
@@ -308,7 +308,13 @@ pub(in crate::proved::vm_tree) fn free_at(
         }
         Link::Fork { node, .. } => {
             let node: &mut Node = node;
-            let freed = free_under(&mut node.left, &mut node.at, &mut node.right, key, count)?;
+            let edge = node.at;
+            let freed = if touches(key, edge) {
+                free_at_edge(&mut node.left, &mut node.at, &mut node.right, key, count)?
+            } else {
+                // The compiler selects the child without a branch only if this arm has no other code.
+                free_child(&mut node.left, edge, &mut node.right, key, count)?
+            };
             let change = update(tree, freed.change);
             Some(Freed {
                 change,

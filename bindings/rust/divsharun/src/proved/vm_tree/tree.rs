@@ -104,7 +104,7 @@ impl Tree {
         Walk::within(&self.root, window)
     }
 
-    /// FreesBlock an allocated range, and joins it with the gaps on both sides. Returns the number of these gaps:
+    /// Frees an allocated range, and joins it with the gaps on both sides. Returns the number of these gaps:
     /// 0, 1 or 2.
     ///
     /// It returns `None`, and changes nothing, unless exactly this range is allocated. It does not allocate

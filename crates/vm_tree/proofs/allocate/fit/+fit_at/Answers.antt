@@ -31,13 +31,13 @@ fit_at-fit_below-answer-requires t c =
     let h = high (side c.args.tree.now) in
     rw e (omega arith, (c.requires.search, (c.requires.tree.subtree, (c.requires.may_fit, omega arith))))
 
-pub fit_at-update-taken-requires-clause-node : goal.fit_at-update-taken-requires-clause-node
-fit_at-update-taken-requires-clause-node t c =
+pub fit_at-update_if_changed-taken-requires-clause-node : goal.fit_at-update_if_changed-taken-requires-clause-node
+fit_at-update_if_changed-taken-requires-clause-node t c =
     (grown_height c.in-Ok.taken.change c.deref_mut-node.result.now c.fit_below-answer.new.node
     (rw c.in-Ok.is at c.fit_below-answer.ensures.change).0).0
 
-pub fit_at-update-taken-requires-clause-can : goal.fit_at-update-taken-requires-clause-can
-fit_at-update-taken-requires-clause-can t c =
+pub fit_at-update_if_changed-taken-requires-clause-can : goal.fit_at-update_if_changed-taken-requires-clause-can
+fit_at-update_if_changed-taken-requires-clause-can t c =
     let n = c.deref_mut-node.result.now in
     let e : side c.args.tree.now ≡ n = ap side c.in-Fork.is ∙ sym c.deref_mut-node.ensures.value in
     let tree : IsSubtree n = subst IsSubtree e c.requires.tree.subtree in
@@ -49,8 +49,8 @@ fit_at-update-taken-requires-clause-can t c =
     can_update_stored c.in-Ok.taken.change n c.fit_below-answer.new.node c.in-Fork.longest c.in-Fork.alignments c.in-Fork.height
     (rw c.deref_mut-node.ensures.value (rw c.in-Fork.is at c.requires.tree.summed)) grew tree run
 
-pub fit_at-update-taken-requires-clause-height_fits : goal.fit_at-update-taken-requires-clause-height_fits
-fit_at-update-taken-requires-clause-height_fits t c =
+pub fit_at-update_if_changed-taken-requires-clause-height_fits : goal.fit_at-update_if_changed-taken-requires-clause-height_fits
+fit_at-update_if_changed-taken-requires-clause-height_fits t c =
     let e : side c.args.tree.now ≡ c.deref_mut-node.result.now = ap side c.in-Fork.is ∙ sym c.deref_mut-node.ensures.value in
     let h = ap height_of e in
     omega (
@@ -63,12 +63,12 @@ pub fit_at-returns-in-Ok-clause-change : goal.fit_at-returns-in-Ok-clause-change
 fit_at-returns-in-Ok-clause-change t c =
     let n = c.deref_mut-node.result.now in
     let e : side c.args.tree.now ≡ n = ap side c.in-Fork.is ∙ sym c.deref_mut-node.ensures.value in (
-      grown_by c.in-Ok.taken.change c.update-taken.result (side c.args.tree.now) n c.fit_below-answer.new.node
-          (side c.update-taken.new.tree) c.in-Fork.longest c.in-Fork.alignments c.in-Fork.height e
+      grown_by c.in-Ok.taken.change c.update_if_changed-taken.result (side c.args.tree.now) n c.fit_below-answer.new.node
+          (side c.update_if_changed-taken.new.tree) c.in-Fork.longest c.in-Fork.alignments c.in-Fork.height e
           (rw c.deref_mut-node.ensures.value (rw c.in-Fork.is at c.requires.tree.summed))
-          (rw c.in-Ok.is at c.fit_below-answer.ensures.change).0 (subst IsSubtree e c.requires.tree.subtree) c.update-taken.ensures.tree
-          c.update-taken.ensures.reported c.update-taken.ensures.changed,
-      λ z. c.update-taken.ensures.steady ((rw c.in-Ok.is at c.fit_below-answer.ensures.change).1 z),
+          (rw c.in-Ok.is at c.fit_below-answer.ensures.change).0 (subst IsSubtree e c.requires.tree.subtree) c.update_if_changed-taken.ensures.tree
+          c.update_if_changed-taken.ensures.reported c.update_if_changed-taken.ensures.changed,
+      λ z. c.update_if_changed-taken.ensures.steady ((rw c.in-Ok.is at c.fit_below-answer.ensures.change).1 z),
     )
 
 -- ---- Below a node

@@ -3,7 +3,7 @@
 //! The summary of the gaps of a leaf: how long they are, and which alignments have a multiple in them.
 
 use super::gaps::{lowest_one, without_lowest};
-use super::Leaf;
+use super::{low_part, Leaf};
 use crate::proved::vm_ranges::RangeInclusive;
 
 /// The summary of some gaps. Both fields are 0 if there is no gap.
@@ -51,12 +51,19 @@ impl Leaf {
     /// Returns the summary of the gaps of the leaf.
     #[inline(never)]
     pub(in crate::proved) fn summary(&self) -> Summary {
+        let last = self.len() - 1;
         let (mut longest, mut reached) = (0, 0);
-        let mut gaps = self.gaps();
+        // The last block ends at the end of the leaf, and each other one before the next start.
+        let mut gaps = low_part(self.gaps(), last);
         while gaps != 0 {
             let i = lowest_one(gaps);
             gaps = without_lowest(gaps);
-            let (start, end) = (self.start_at(i), self.end_at(i));
+            let (next, start) = (self.start_at(i + 1), self.start_at(i));
+            longest = longest.max(next - start);
+            reached |= reach(start, next - 1);
+        }
+        if self.is_free_at(last) {
+            let (start, end) = (self.start_at(last), self.end_at(last));
             longest = longest.max(1 + (end - start));
             reached |= reach(start, end);
         }

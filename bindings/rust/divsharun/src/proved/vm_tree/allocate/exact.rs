@@ -5,7 +5,7 @@
 use super::place::{allocate_at, leaf_of, Place, Spare};
 use crate::proved::vm_leaf::{Block, Leaf};
 use crate::proved::vm_ranges::{NodeState, RangeInclusive};
-use crate::proved::vm_tree::change::update;
+use crate::proved::vm_tree::change::update_if_changed;
 use crate::proved::vm_tree::link::{Link, Node};
 use crate::proved::vm_tree::search::{Refusal, Search, Taken};
 use crate::proved::vm_tree::steps::Steps;
@@ -93,7 +93,7 @@ pub(in crate::proved::vm_tree) fn exact_at(
             let node: &mut Node = node;
             let mut answer = exact_below(node, start, search, spare, alloc, count);
             if let Ok(taken) = &mut answer {
-                taken.change = update(tree, taken.change);
+                taken.change = update_if_changed(tree, taken.change);
             }
             answer
         }

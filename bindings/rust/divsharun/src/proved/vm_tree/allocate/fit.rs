@@ -9,7 +9,7 @@ use super::place::{allocate_at, leaf_of, Place};
 use super::{fits, has_no_place};
 use crate::proved::vm_leaf::{Fit, Leaf};
 use crate::proved::vm_ranges::RangeInclusive;
-use crate::proved::vm_tree::change::update;
+use crate::proved::vm_tree::change::update_if_changed;
 use crate::proved::vm_tree::end::End;
 use crate::proved::vm_tree::link::{Link, Node};
 use crate::proved::vm_tree::search::{Refusal, Search, Taken};
@@ -114,7 +114,7 @@ pub(in crate::proved::vm_tree) fn fit_at(
             let node: &mut Node = node;
             let mut answer = fit_below(node, end, search, alloc, count);
             if let Ok(taken) = &mut answer {
-                taken.change = update(tree, taken.change);
+                taken.change = update_if_changed(tree, taken.change);
             }
             answer
         }
