@@ -1,7 +1,7 @@
 # shellcheck shell=bash
 # Parts of a check. tests/all, tests/plain, tests/quick, tests/plain_rust and tests/c_library source this file
-# at the top of the repository. Each part is named when it begins, and finish_parts prints two times of each,
-# in minutes and seconds: on the clock, and of processors. Parts that run at the same time share the clock.
+# at the top of the repository. Each part is named when it begins, and finish_parts prints the time of each, and
+# the processor time of all.
 # Output that only matters if a part fails goes to the folder $scratch.
 scratch=$(mktemp -d) || exit 1
 trap 'kill -- "${beside[@]/#/-}" 2> "$log"; rm -rf "$scratch"' EXIT
@@ -11,25 +11,13 @@ log=$scratch/log times=$scratch/times passed_parts=0 failed_parts=()
 # shellcheck disable=SC2034 # scripts use it
 rules=(tests/count_rule tests/error_rule tests/pages)
 
-worked() { # sets `worked` to the seconds of processors that ended commands took
-    local user system
-    times > "$scratch/worked"
-    { read -r _ && read -r user system; } < "$scratch/worked"
-    user=${user%.*} system=${system%.*}
-    worked=$((${user%m*} * 60 + ${user#*m} + ${system%m*} * 60 + ${system#*m}))
-}
-
 part() { # name, command ..
-    local name=$1 begun=$SECONDS status=0 took worked before
+    local name=$1 begun=$SECONDS status=0 took
     shift
     echo "== $name"
-    worked
-    before=$worked
     "$@" || status=$?
     took=$((SECONDS - begun))
-    worked
-    worked=$((worked - before))
-    printf '%3d:%02d %3d:%02d  %s\n' $((took / 60)) $((took % 60)) $((worked / 60)) $((worked % 60)) "$name" >> "$times"
+    printf '%3d:%02d  %s\n' $((took / 60)) $((took % 60)) "$name" >> "$times"
     if [ "$status" -eq 0 ]; then
         passed_parts=$((passed_parts + 1))
     else
@@ -64,6 +52,8 @@ in_folder() { (cd "$1" && shift && "$@"); } # folder, command ..
 finish_parts() { # name of the check
     echo "== minutes and seconds that each part took"
     cat "$times"
+    times > "$scratch/worked"
+    echo "processor time of programs and of the system: $(tail -n 1 "$scratch/worked")"
     [ "${#failed_parts[@]}" -eq 0 ] || printf 'failed: %s\n' "${failed_parts[@]}"
     echo "$1: $passed_parts parts passed, ${#failed_parts[@]} failed"
     [ "${#failed_parts[@]}" -eq 0 ]
