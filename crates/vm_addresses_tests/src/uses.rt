@@ -1,5 +1,5 @@
-//! What a caller can prove of calls that no library above makes. Guards against clauses that are too weak
-//! for callers.
+//! Callers of calls that no library above makes. They guard against clauses from which a caller cannot prove
+//! what it needs.
 ghost use Rattle.std.specs.Prelude.{◌≡◌, ◌↔◌, ◌≤◌, ◌+◌, ◌*◌, ℕ, length, false, Err, IsTrue, IsOk, IfOk};
 ghost use Rattle.std.specs.List.{Contains};
 ghost use Rattle.std.specs.declared.cmp.Ordering.TheVariants.{Less};
