@@ -5,16 +5,19 @@
 
 No clause excludes these mutants. The first line of a patch names the change, and the second one the check:
 
-    count_rule: TEXT     tests/count_rule or error_rule, with a part of its output. The mutant of error_rule
-                         compiles
+    count_rule: TEXT     tests/count_rule or error_rule, with a part of its output
     memory: TEXT         divsharun/tests/memory.rs, with a part of its output. It counts the allocations of
                          calls, and makes each fail in turn
     calls: TEXT          divsharun/tests/calls.rs in the same way
 
-The exit status is 1 if a check does not notice a mutant, or if a test fails without one."""
+count_rule compiles the sources, so it checks two mutants at once that are in different crates. The exit status is
+1 if a check does not notice a mutant, or if a test fails without one."""
+import collections
 import glob
+import itertools
 import os
 import pathlib
+import re
 import shutil
 import subprocess
 import sys
@@ -46,14 +49,6 @@ def copy_sources():
     shutil.copy(os.path.join(PROJECT, "crates.txt"), COPY)
 
 
-def check_compiles():
-    """Erases the copy of the sources with their tests, and ends if it does not compile."""
-    erased(BOX_COUNT, "--tests")
-    done = run("cargo", "check", "--lib", "-q", "--offline")
-    if done.returncode:
-        sys.exit(f"not built:\n{(done.stdout + done.stderr)[-2000:]}")
-
-
 def rust_test(name):
     """Runs a test of divsharun over the copy of the sources."""
     erased(DIVSHARUN)
@@ -61,29 +56,46 @@ def rust_test(name):
     return run("cargo", "test", "-q", *without_registry, f"--test={name}", folder=DIVSHARUN)
 
 
-def is_noticed(check, rest):
-    if check in TESTS:
-        done = rust_test(check)
-        return done.returncode == 101 and rest in done.stdout + done.stderr
-    if check == "error_rule":
-        check_compiles()
-    done = run(os.path.join(TOP, "tests", check), COPY)
-    return done.returncode == 1 and rest in done.stdout + done.stderr
+def output_of(check, patches):
+    """Applies patches to a copy of the sources. Returns the output of a check, or nothing if it does not fail."""
+    copy_sources()
+    subprocess.run(["git", "apply", *patches], cwd=COPY, check=True)
+    done = rust_test(check) if check in TESTS else run(os.path.join(TOP, "tests", check), COPY)
+    return done.stdout + done.stderr if done.returncode == (101 if check in TESTS else 1) else ""
+
+
+def unnoticed(check, texts):
+    """Returns the patches that a check does not notice, of those that are given with their texts."""
+    output = output_of(check, texts)
+    missed = [patch for patch, text in texts.items() if text not in output]
+    if len(texts) == 1 or not missed:
+        return missed
+    return [patch for each in texts for patch in unnoticed(check, {each: texts[each]})]
+
+
+def pairs_by_crate(patches):
+    """Pairs the patches of the crate with most of them with the others."""
+    crate = lambda patch: re.search(r"crates/(\w+)/", pathlib.Path(patch).read_text("utf-8"))[1]
+    most = max(map(crate, patches), key=[crate(patch) for patch in patches].count)
+    split = [[patch for patch in patches if (crate(patch) == most) == is_most] for is_most in (True, False)]
+    return [[patch for patch in pair if patch] for pair in itertools.zip_longest(*split)]
 
 
 def main():
     bindings, folder = (os.path.join(PROJECT, name) for name in ("bindings/rust", "tests"))
     shutil.copytree(bindings, os.path.dirname(BOX_COUNT), ignore=shutil.ignore_patterns("target"))
     patches = [*map(os.path.abspath, sys.argv[3:])] or sorted(glob.glob(os.path.join(folder, "mutants/*.patch")))
-    checks = {patch: pathlib.Path(patch).read_text("utf-8").split("\n")[1].split(": ", 1) for patch in patches}
+    checks = collections.defaultdict(dict)
+    for patch in patches:
+        check, text = pathlib.Path(patch).read_text("utf-8").split("\n")[1].split(": ", 1)
+        checks[check][patch] = text
     copy_sources()
-    used = {check for check, _ in checks.values()}
-    wrong = [f"{test}.rs fails without a mutant" for test in TESTS if test in used and rust_test(test).returncode]
-    for patch, (check, rest) in checks.items():
-        copy_sources()
-        subprocess.run(["git", "apply", patch], cwd=COPY, check=True)
-        if not is_noticed(check, rest):
-            wrong.append(f"{patch} is not noticed")
+    wrong = [f"{test}.rs fails without a mutant" for test in TESTS if test in checks and rust_test(test).returncode]
+    for check, texts in checks.items():
+        groups = pairs_by_crate([*texts]) if check == "count_rule" else [[patch] for patch in texts]
+        for group in groups:
+            missed = unnoticed(check, {patch: texts[patch] for patch in group})
+            wrong += [f"{patch} is not noticed" for patch in missed]
     print(*wrong, f"{len(patches)} mutants, {len(wrong)} faults", sep="\n")
     sys.exit(len(wrong) > 0)
 

@@ -1,6 +1,7 @@
 # shellcheck shell=bash
 # Parts of a check. tests/all, tests/plain, tests/quick, tests/plain_rust and tests/c_library source this file
-# at the top of the repository. Each part is named when it begins, and finish_parts prints the time of each.
+# at the top of the repository. Each part is named when it begins, and finish_parts prints the time of each, and
+# the processor time of all.
 # Output that only matters if a part fails goes to the folder $scratch.
 scratch=$(mktemp -d) || exit 1
 trap 'kill -- "${beside[@]/#/-}" 2> "$log"; rm -rf "$scratch"' EXIT
@@ -51,6 +52,8 @@ in_folder() { (cd "$1" && shift && "$@"); } # folder, command ..
 finish_parts() { # name of the check
     echo "== minutes and seconds that each part took"
     cat "$times"
+    times > "$scratch/worked"
+    echo "processor time of programs and of the system: $(tail -n 1 "$scratch/worked")"
     [ "${#failed_parts[@]}" -eq 0 ] || printf 'failed: %s\n' "${failed_parts[@]}"
     echo "$1: $passed_parts parts passed, ${#failed_parts[@]} failed"
     [ "${#failed_parts[@]}" -eq 0 ]

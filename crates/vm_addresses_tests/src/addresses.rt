@@ -2,11 +2,10 @@
 //!
 //! They guard against definitions with another meaning than the documentation of `allocate` and
 //! `free`: which range is chosen, and which of several errors is returned.
-use crate::fixtures::{block_count, expect_eq, expect_true, made};
+use crate::fixtures::{expect_eq, expect_true, made};
 use AllocPolicy::{ExactMatch, FirstMatch, LastMatch};
 use Call::{Exact, ExactIn, First, FirstIn, Free, Last, LastIn, Move, Space};
 use Expected::{Held, NoAlignment, NoSize, NotAvailable, Overflow, Range, Unaligned, Underflow};
-use Form::{Counted, Plain};
 use std::alloc::Global;
 use std::process::Abort;
 use vm_allocator::allocation_engine::NodeState::Allocated;
@@ -14,7 +13,6 @@ use vm_allocator::{AddressAllocator, AllocPolicy, Constraint, Error, RangeInclus
 
 mod differences;
 mod ends;
-mod several;
 mod with_held;
 mod without_memory;
 
@@ -83,61 +81,21 @@ impl Expected {
     }
 }
 
-/// Chooses one of two calls that do the same.
-#[derive(Clone, Copy)]
-enum Form {
-    Plain,
-    Counted,
-}
-
 impl Call {
     /// Makes the call.
-    fn ask(self, space: &mut AddressAllocator, alloc: Global, form: Form) -> Answer {
-        self.count(space, alloc, form).0
-    }
-
-    /// Makes the call, and also returns the number of entered nodes if it is counted.
-    fn count(self, space: &mut AddressAllocator, alloc: Global, form: Form) -> (Answer, u64) {
+    fn ask(self, space: &mut AddressAllocator, alloc: Global) -> Answer {
         match self {
-            Space(base, size) => (replace(space, alloc, base, size), 0),
-            Free(start, end) => free_all(space, start, end, form),
-            Move(start, end, to) => (move_range(space, alloc, start, end, to), 0),
-            First(..) | Last(..) | Exact(..) => self.count_allocation(space, alloc, form),
-            FirstIn(..) | LastIn(..) | ExactIn(..) => self.count_request(space, alloc, form),
+            Space(base, size) => replace(space, alloc, base, size),
+            Free(start, end) => free(space, start, end),
+            Move(start, end, to) => move_range(space, alloc, start, end, to),
+            First(..) | Last(..) | Exact(..) => {
+                let (size, alignment, policy) = self.asked();
+                ends_of(space.allocate(alloc, size, alignment, policy))
+            }
+            FirstIn(..) | LastIn(..) | ExactIn(..) => {
+                ends_of(space.allocate_constraint(alloc, self.request()?))
+            }
         }
-    }
-
-    /// Allocates by a size, an alignment and a policy.
-    fn count_allocation(
-        self,
-        space: &mut AddressAllocator,
-        alloc: Global,
-        form: Form,
-    ) -> (Answer, u64) {
-        let (size, alignment, policy) = self.asked();
-        let (answer, count) = match form {
-            Plain => (space.allocate(alloc, size, alignment, policy), 0),
-            Counted => space.allocate_counted(alloc, size, alignment, policy),
-        };
-        (ends_of(answer), count)
-    }
-
-    /// Allocates by a request.
-    fn count_request(
-        self,
-        space: &mut AddressAllocator,
-        alloc: Global,
-        form: Form,
-    ) -> (Answer, u64) {
-        let request = match self.request() {
-            Ok(request) => request,
-            Err(error) => return (Err(error), 0),
-        };
-        let (answer, count) = match form {
-            Plain => (space.allocate_constraint(alloc, request), 0),
-            Counted => space.allocate_constraint_counted(alloc, request),
-        };
-        (ends_of(answer), count)
     }
 
     /// Returns the size, the alignment and the policy of a call that allocates.
@@ -191,38 +149,27 @@ fn move_range(
     ends_of(space.move_range(alloc, &range, to))
 }
 
-/// Frees a range, and also returns the number of entered nodes if it is counted.
-fn free_all(space: &mut AddressAllocator, start: u64, end: u64, form: Form) -> (Answer, u64) {
-    let range = match RangeInclusive::new(start, end) {
-        Ok(range) => range,
-        Err(error) => return (Err(error), 0),
-    };
-    let (answer, count) = match form {
-        Plain => (space.free(&range), 0),
-        Counted => space.free_counted(&range),
-    };
-    match answer {
-        Ok(()) => (Ok((start, end)), count),
-        Err(error) => (Err(error), count),
-    }
+/// Frees a range.
+fn free(space: &mut AddressAllocator, start: u64, end: u64) -> Answer {
+    space.free(&RangeInclusive::new(start, end)?)?;
+    Ok((start, end))
 }
 
 /// Makes the calls in turn, and checks their results.
 fn replay(
     rt: &(impl Abort + AllocGlobal),
     space: &mut AddressAllocator,
-    form: Form,
     rows: &[(Call, Expected)],
 ) {
     for (call, want) in rows {
-        let answer = call.ask(space, rt.alloc(), form);
+        let answer = call.ask(space, rt.alloc());
         expect_eq(rt, &answer, &want.answer(), call);
     }
 }
 
 /// Makes the calls in turn on a new allocator of a space.
 fn replay_in(rt: &(impl Abort + AllocGlobal), base: u64, size: u64, rows: &[(Call, Expected)]) {
-    replay(rt, &mut made(rt, base, size), Plain, rows);
+    replay(rt, &mut made(rt, base, size), rows);
 }
 
 #[test]
@@ -373,116 +320,4 @@ fn answers_for_one_start(rt: HostRuntime) {
         (Exact(0x100, 0x100, 0x1000), NotAvailable),
     ];
     replay_in(&rt, 0x1000, 0x1000, rows);
-}
-
-#[test]
-fn a_tree_of_one_block(rt: HostRuntime) {
-    let mut space = made(&rt, 0, 0x1000);
-    expect_true(&rt, space.height() == 1, &"a height of 1");
-    let found = First(0, 1).count(&mut space, rt.alloc(), Counted);
-    expect_counted(&rt, First(0, 1), &found, NoSize, (0, 0));
-}
-
-/// Returns the number at index `n` of the Fibonacci sequence 0, 1, 1, 2, 3, 5, ...
-fn fibonacci(n: u64) -> u64 {
-    let mut low: u64 = 0;
-    let mut high: u64 = 1;
-    for _ in 0..n {
-        let sum = low.saturating_add(high);
-        low = high;
-        high = sum;
-    }
-    low
-}
-
-/// The minimum number of blocks of a leaf that is not the whole tree.
-const LEAST_BLOCKS: u64 = 12;
-
-/// Returns `true` if the tree is as low as it must be with `held` allocated ranges. A balanced tree of
-/// height h has at least F(h + 1) leaves, and `held` ranges are at most 2 * held + 1 blocks.
-fn is_low(space: &AddressAllocator, held: u64) -> bool {
-    let height = space.height();
-    let leaves = fibonacci(height.saturating_add(1));
-    height == 1 || leaves.saturating_mul(LEAST_BLOCKS) <= held.saturating_mul(2).saturating_add(1)
-}
-
-/// The maximum number of nodes that freeing enters, in heights of the tree.
-const FREE_BOUND: u64 = 3;
-
-/// Checks the result of a call, and that it entered from `bounds.0` to `bounds.1` nodes.
-fn expect_counted(
-    rt: &impl Abort,
-    call: Call,
-    found: &(Answer, u64),
-    want: Expected,
-    bounds: (u64, u64),
-) {
-    expect_eq(rt, &found.0, &want.answer(), &call);
-    let count = found.1;
-    assert!(rt;
-        bounds.0 <= count && count <= bounds.1,
-        "{call:?}: {count} entered"
-    );
-}
-
-/// Allocates the lowest single address of 2047, if the `held` addresses below it are allocated.
-///
-/// The search enters the nodes of one path, which are at least half the height.
-fn take_first_counted(rt: &(impl Abort + AllocGlobal), space: &mut AddressAllocator, held: u64) {
-    let height = space.height();
-    let fewest = height / 2 + height % 2;
-    let found = First(1, 1).count(space, rt.alloc(), Counted);
-    expect_counted(rt, First(1, 1), &found, Range(held, held), (fewest, height));
-    expect_true(
-        rt,
-        is_low(space, held.saturating_add(1)),
-        &("low with", held),
-    );
-}
-
-/// Frees a single address, after which `held` ranges are allocated.
-fn free_counted_range(rt: &impl Abort, space: &mut AddressAllocator, address: u64, held: u64) {
-    let most = space.height().saturating_mul(FREE_BOUND);
-    let found = free_all(space, address, address, Counted);
-    let call = Free(address, address);
-    expect_counted(rt, call, &found, Range(address, address), (1, most));
-    expect_true(rt, is_low(space, held), &("low without", address));
-}
-
-#[test]
-fn balanced_and_counted(rt: HostRuntime) {
-    let mut space = made(&rt, 0, 2047);
-    for i in 0..2047 {
-        take_first_counted(&rt, &mut space, i);
-    }
-    for i in 0..1023 {
-        free_counted_range(&rt, &mut space, 2 * i + 1, 2046 - i);
-    }
-    // A height of 12 needs 233 leaves, and so 2796 blocks.
-    expect_true(&rt, space.height() <= 11, &"a height of 11 at most");
-    expect_eq(&rt, &block_count(&rt, &space), &2047, &"blocks");
-    every_second_is_clear(&rt, &mut space);
-}
-
-/// Checks searches in the space from 0 to 2046, in which the odd addresses are free. A search for
-/// two addresses enters no node. A search for one enters the nodes of one path.
-fn every_second_is_clear(rt: &(impl Abort + AllocGlobal), space: &mut AddressAllocator) {
-    let most = space.height();
-    let rows = [
-        (First(2, 1), NotAvailable, 0),
-        (Last(2, 1), NotAvailable, 0),
-        (First(2, 2), NotAvailable, 0),
-        (First(1, 1), Range(1, 1), most),
-        (Last(1, 1), Range(2045, 2045), most),
-    ];
-    for (call, want, most) in rows {
-        let found = call.count(space, rt.alloc(), Counted);
-        expect_counted(rt, call, &found, want, (0, most));
-    }
-    let rows = &[
-        (Free(1, 1), Range(1, 1)),
-        (Free(2, 2), Range(2, 2)),
-        (First(3, 1), Range(1, 3)),
-    ];
-    replay(rt, space, Plain, rows);
 }

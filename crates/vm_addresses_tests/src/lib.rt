@@ -15,3 +15,5 @@ mod ranges;
 mod saved;
 #[cfg(test)]
 mod trees;
+#[cfg(test)]
+mod uses;

@@ -207,33 +207,6 @@ fn test_is_allocated_with_freed(rt: HostRuntime) {
     replay_in(&rt, 5, 23, calls);
 }
 
-#[test]
-fn ids_are_taken_from_both_ends(rt: HostRuntime) {
-    let mut ids = made(&rt, 5, 40);
-    let calls = &[
-        TakeAll(5, 30),
-        Free(7, Id(7)),
-        Free(8, Id(8)),
-        Free(9, Id(9)),
-        Free(20, Id(20)),
-    ];
-    replay(&rt, &mut ids, calls);
-    let mut held = ids.held_ids();
-    held.advance_by(3);
-    expect_eq(&rt, &held.next(), &Some(11), &"after three");
-    held.advance_back_by(11);
-    expect_eq(&rt, &held.next_back(), &Some(18), &"before eleven");
-    expect_eq(&rt, &held.count_left(), &6, &"left");
-    held.advance_by(7);
-    expect_eq(&rt, &held.next_back(), &None, &"after all");
-    let mut freed = ids.freed_ids();
-    expect_eq(&rt, &freed.next(), &Some(7), &"lowest");
-    expect_eq(&rt, &freed.next_back(), &Some(20), &"highest");
-    expect_eq(&rt, &freed.next_back(), &Some(9), &"of the run begun");
-    expect_eq(&rt, &freed.next(), &Some(8), &"last left");
-    expect_eq(&rt, &freed.next_back(), &None, &"after all freed");
-}
-
 /// Allocates and frees only the highest id.
 fn allocate_highest(rt: &(impl Abort + AllocGlobal)) {
     let mut ids = made(rt, u32::MAX, u32::MAX);

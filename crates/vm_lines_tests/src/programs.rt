@@ -261,22 +261,6 @@ fn each_program(rt: HostRuntime) {
     }
 }
 
-/// Checks that a line can begin and end at each byte of a piece.
-#[test]
-fn pieces_of_each_small_size(rt: HostRuntime) {
-    let input = input_of(PROGRAM_ERRORS);
-    for longest in 1..=40 {
-        let outcome = run_on(rt.alloc(), input.as_slice(), longest, 0, ErrorKind::Other);
-        assert_eq!(rt; outcome.result, Ok(()), "in pieces of {longest}");
-        expect_answers(
-            &rt,
-            outcome.sink.text.as_slice(),
-            PROGRAM_ERRORS,
-            "an input in small pieces",
-        );
-    }
-}
-
 #[test]
 fn long_lines(rt: HostRuntime) {
     let rows = [
@@ -298,23 +282,6 @@ fn long_lines(rt: HostRuntime) {
         let alone = &input[..length];
         expect_program(&rt, rt.alloc(), alone, &rows[..1], "a long line alone");
     }
-}
-
-#[test]
-fn two_million_reads(rt: HostRuntime) {
-    let mut reader = Again {
-        text: b"x",
-        left: 2_000_000,
-        fails: false,
-    };
-    let mut writer = Sink::new(0, None);
-    assert_eq!(rt; run(rt.alloc(), &mut reader, &mut writer), Ok(()));
-    expect_answers(
-        &rt,
-        writer.text.as_slice(),
-        &[("x, two million times", "error line")],
-        "one line",
-    );
 }
 
 /// Checks that an error of any kind ends the run at once, including an error that asks for a retry.

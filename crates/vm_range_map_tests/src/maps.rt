@@ -129,53 +129,6 @@ fn ranges_keep_their_values(rt: HostRuntime) {
     replay(&rt, &mut made(&rt, 0x1000, 0x1000), rows);
 }
 
-/// The first address of `filled`.
-const FIRST: u64 = 0x100;
-
-/// The number of ranges of `filled`.
-const COUNT: u64 = 200;
-
-/// Returns a map whose ranges have one address each. Their values are ten times their indices.
-fn filled(rt: &(impl Abort + AllocGlobal)) -> RangeMap {
-    let mut map = made(rt, FIRST, 0x1000);
-    for i in 0..COUNT {
-        let range = map.allocate(rt.alloc(), 1, 1, AllocPolicy::FirstMatch, i * 10);
-        let start = range.expect(rt, ENOUGH).start();
-        expect_eq(rt, &start, &(FIRST + i), &i);
-    }
-    map
-}
-
-#[test]
-fn ranges_are_listed(rt: HostRuntime) {
-    let map = filled(&rt);
-    let (mut up, mut down) = (map.iter(), map.iter());
-    expect_eq(&rt, &(up.len() as u64), &COUNT, &"the length");
-    for i in 0..COUNT {
-        let (lowest, highest) = (found(up.next()), found(down.next_back()));
-        expect_eq(&rt, &lowest, &At(FIRST + i, FIRST + i, i * 10), &i);
-        let last = COUNT - 1 - i;
-        let want = At(FIRST + last, FIRST + last, last * 10);
-        expect_eq(&rt, &highest, &want, &last);
-    }
-    let ends = (found(up.next()), found(down.next_back()));
-    expect_eq(&rt, &ends, &(Nothing, Nothing), &"the ends");
-}
-
-#[test]
-fn clones_are_equal(rt: HostRuntime) {
-    let map = filled(&rt);
-    let mut other = map.try_clone(rt.alloc()).expect(&rt, ENOUGH);
-    expect_true(&rt, map == other, &"a clone");
-    expect_eq(&rt, &other.set(FIRST + 3, 31), &Some(30), &"a value");
-    expect_true(&rt, map != other, &"another value");
-    expect_eq(&rt, &other.set(FIRST + 3, 30), &Some(31), &"a value");
-    expect_true(&rt, map == other, &"the same value");
-    let range = RangeInclusive::new(FIRST, FIRST).expect(&rt, "it is a range");
-    expect_eq(&rt, &other.free(&range), &Ok(0), &"a range");
-    expect_true(&rt, map != other, &"one range less");
-}
-
 #[test]
 fn without_memory(rt: HostRuntime) {
     let mut map = made(&rt, 0x1000, 0x1000);

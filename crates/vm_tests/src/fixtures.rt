@@ -49,25 +49,6 @@ pub(crate) fn items<'a>(rt: &impl Abort, list: &'a Value) -> &'a [Value] {
     list.as_array().expect(rt, "it is a list").as_slice()
 }
 
-/// Returns the saved value of an allocator, with one object for each block.
-pub(crate) fn saved(rt: &(impl Abort + AllocGlobal), space: &AddressAllocator) -> Value {
-    space.to_value(rt.alloc()).expect(rt, ENOUGH)
-}
-
-/// Checks that the result is an allocator that is equal to this one.
-pub(crate) fn expect_space(
-    rt: &impl Abort,
-    answer: Result<AddressAllocator, ValueError>,
-    want: &AddressAllocator,
-    of: &str,
-) {
-    let is_equal = match &answer {
-        Ok(space) => space == want && space.gap_count() == want.gap_count(),
-        Err(_) => false,
-    };
-    assert!(rt; is_equal, "{of}");
-}
-
 /// A reader of values.
 #[derive(Clone, Copy, Debug)]
 pub(crate) enum Reader {

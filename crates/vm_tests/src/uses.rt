@@ -6,6 +6,7 @@ ghost use Rattle.serde_json.specs.View.{view};
 ghost use Rattle.std.specs.List.{Contains};
 ghost use Rattle.vm_allocator.specs.Range.{address_count};
 ghost use Rattle.vm_allocator.specs.Allocator.{state_of};
+ghost use Rattle.vm_allocator.specs.Counts.Parts.{AllocatesInParts};
 ghost use Rattle.vm_allocator.specs.Ids.{IsHeld};
 ghost use Rattle.vm_devices.specs.Manager.{device_state};
 
@@ -16,9 +17,10 @@ use serde_json::Value;
 use std::alloc::{AllocError, Global};
 use std::process::Abort;
 use vm_allocator::{
-    AddressAllocator, AllocPolicy, Error, IdAllocator, RangeInclusive, Ranges, Result, ValueError,
+    AddressAllocator, AllocPolicy, Constraint, Error, IdAllocator, IdRequest, RangeInclusive,
+    Ranges, Result, ValueError,
 };
-use vm_devices::DeviceManager;
+use vm_devices::{DeviceManager, DeviceSlot};
 
 /// Allocates a bar, which must start at a multiple of its size.
 #[tactic(auto, using(vm_allocator::proofs::Callers::callers))]
@@ -53,6 +55,18 @@ fn take_interrupt(numbers: &mut IdAllocator) -> Result<u32>
     ensures held { IfOk result (λ number. IsHeld numbers.new number) }
 {
     numbers.allocate_id()
+}
+
+/// Plugs a device in with an id. The tree of its addresses comes from at most one allocation and one free.
+fn plug(
+    alloc: Global,
+    devices: &mut DeviceManager,
+    id: u32,
+    request: Constraint,
+) -> Result<DeviceSlot>
+    ensures { AllocatesInParts (λ m. m.addresses) devices.old request result devices.new }
+{
+    devices.reserve_with_id(alloc, IdRequest::Exact(id), request)
 }
 
 /// Parses the text of a value.
@@ -147,6 +161,15 @@ fn use_texts(rt: &(impl Abort + AllocGlobal), gap: &AddressAllocator) {
     }
 }
 
+/// Plugs a device in.
+fn use_devices(rt: &(impl Abort + AllocGlobal)) {
+    let made = DeviceManager::new(rt.alloc(), 5, 23, 0xE000_0000, 0x1000);
+    let mut devices = made.expect(rt, ENOUGH);
+    let request = Constraint::new(0x1000, 1, AllocPolicy::FirstMatch).expect(rt, ENOUGH);
+    let slot = plug(rt.alloc(), &mut devices, 7, request).expect(rt, ENOUGH);
+    expect_true(rt, slot.id == 7, &slot);
+}
+
 /// Clones iterators over the allocated ranges and the gaps.
 fn use_clones(rt: &(impl Abort + AllocGlobal), gap: &AddressAllocator) {
     if let Ok(mut again) = ranges_again(&gap.held_ranges()) {
@@ -196,6 +219,7 @@ fn uses(rt: HostRuntime) {
     use_clones(&rt, &gap);
     use_memory(&rt);
     use_numbers(&rt);
+    use_devices(&rt);
 }
 
 #[test]

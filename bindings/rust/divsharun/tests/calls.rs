@@ -1349,6 +1349,66 @@ fn other_words_find_a_call() {
     }
 }
 
+/// Returns the number at index `n` of the Fibonacci sequence 0, 1, 1, 2, 3, 5, ...
+fn fibonacci(n: u64) -> u64 {
+    (0..n).fold((0, 1), |(low, high), _| (high, low + high)).0
+}
+
+/// Checks the height of a space with this number of allocated ranges. A node of a tree has two subtrees, whose
+/// heights differ by at most one, and a leaf has at least 12 blocks.
+fn expect_low(space: &AddressAllocator, held: u64) {
+    let (height, blocks) = (space.height(), 2 * held + 1);
+    assert_eq!(space.held_count(), held);
+    assert!(height == 1 || 12 * fibonacci(height + 1) <= blocks);
+}
+
+/// Checks the counts in a space that is filled by single addresses, of which every second one is then freed.
+#[test]
+fn counts_and_heights_have_their_bounds() {
+    let mut space = AddressAllocator::new(0, 2047).unwrap();
+    let no_size = space.allocate_counted(0, 1, AllocPolicy::FirstMatch);
+    assert_eq!(
+        (space.height(), no_size),
+        (1, (Err(Error::InvalidSize(0)), 0))
+    );
+    for held in 0..2047 {
+        let height = space.height();
+        let (range, count) = space.allocate_counted(1, 1, AllocPolicy::FirstMatch);
+        assert_eq!(range.map(|range| range.start()), Ok(held));
+        assert!(
+            height.div_ceil(2) <= count && count <= height,
+            "{count} of {height}"
+        );
+        expect_low(&space, held + 1);
+    }
+    for freed in 0..1023 {
+        let (at, most) = (2 * freed + 1, 3 * space.height());
+        let (answer, count) = space.free_counted(&RangeInclusive::new(at, at).unwrap());
+        assert_eq!(answer, Ok(()));
+        assert!(1 <= count && count <= most, "{count} of {most}");
+        expect_low(&space, 2046 - freed);
+    }
+    assert_eq!(space.layout().blocks().count(), 2047);
+    let no_place = (Err(Error::ResourceNotAvailable), 0);
+    for (alignment, policy) in [
+        (1, AllocPolicy::FirstMatch),
+        (1, AllocPolicy::LastMatch),
+        (2, AllocPolicy::FirstMatch),
+    ] {
+        assert_eq!(space.allocate_counted(2, alignment, policy), no_place);
+    }
+    for (policy, start) in [(AllocPolicy::FirstMatch, 1), (AllocPolicy::LastMatch, 2045)] {
+        let (range, count) = space.allocate_counted(1, 1, policy);
+        assert_eq!(range.map(|range| range.start()), Ok(start));
+        assert!(count <= space.height());
+    }
+    for at in [1, 2] {
+        assert_eq!(space.free(&RangeInclusive::new(at, at).unwrap()), Ok(()));
+    }
+    let range = space.allocate(3, 1, AllocPolicy::FirstMatch);
+    assert_eq!(range, RangeInclusive::new(1, 3));
+}
+
 /// Checks that every public type is `Send` and `Sync`.
 #[test]
 fn types_are_shared_and_sent() {

@@ -125,7 +125,7 @@ const OF_PAIRS: [Calls<[AddressAllocator; 2]>; 1] = [|[one, other], _| {
 }];
 
 /// Two equal spaces. The calls go through all of their ranges or gaps.
-const OF_WALKS: [Calls<[AddressAllocator; 2]>; 9] = [
+const OF_WALKS: [Calls<[AddressAllocator; 2]>; 10] = [
     |[one, other], _| one == other && one.cmp(&other).is_eq(),
     |[one, _], _| one.held_ranges().count() == one.gaps().rev().count(),
     |[one, _], _| one.held_ranges_in(..).rev().count() == one.gaps_in(..).count(),
@@ -150,6 +150,12 @@ const OF_WALKS: [Calls<[AddressAllocator; 2]>; 9] = [
         let requests = vec![Constraint::new(1, 1, FirstMatch).unwrap(); one.gap_count() as usize];
         let allocated = one.allocate_all(&requests).unwrap();
         allocated.iter().all(|range| one.free(range).is_ok())
+    },
+    |[one, _], _| {
+        // The last request fails, and the ranges before it are freed again.
+        let too_many = one.gap_count() as usize + 1;
+        let requests = vec![Constraint::new(1, 1, LastMatch).unwrap(); too_many];
+        one.allocate_all(&requests).is_err()
     },
 ];
 
@@ -181,7 +187,8 @@ const OF_IDS: [Calls<IdAllocator>; 6] = [
 ];
 
 /// Every second id is allocated.
-const OF_FREED_IDS: [Calls<IdAllocator>; 2] = [
+const OF_FREED_IDS: [Calls<IdAllocator>; 3] = [
+    |ids, at| ids.held_count() > at / 2 && ids.free_count() > at / 2 && ids.peek_id().is_ok(),
     |ids, at| {
         ids.is_allocated(at as u32)
             && !ids.is_allocated(at as u32 + 1)

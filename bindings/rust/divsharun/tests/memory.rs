@@ -610,8 +610,10 @@ fn processes_are_ended() {
     for (row, (requests, _)) in ENDED.iter().enumerate() {
         for number in 1..=*requests {
             let call = format!("{row} {number}");
-            let ended = Command::new(&program).env(ENDING, &call).output();
-            let ended = ended.expect("the program starts");
+            // A backtrace would take longer than the test.
+            let mut command = Command::new(&program);
+            let ended = command.env(ENDING, &call).env("RUST_BACKTRACE", "0");
+            let ended = ended.output().expect("the program starts");
             assert_eq!(
                 ended.status.signal(),
                 Some(ABORTED),

@@ -1,6 +1,6 @@
 // SPDX-License-Identifier: Apache-2.0 OR BSD-3-Clause
 //! Guards against a reader of saved objects that accepts what is not valid, rejects what is valid, or
-//! reads another object. Guards also against needless allocations of the proved readers.
+//! reads another object. Guards also against needless allocations and quadratic time of the proved readers.
 //!
 //! The proved strict readers must accept what serde writes. Damaged values are read by serde and by
 //! the proved reader of values, which must accept the same ones, and read the same objects.
@@ -17,16 +17,19 @@ use std::fmt::Debug;
 
 #[path = "../../divsharun/tests/packed/mod.rs"]
 mod packed;
+#[path = "../../divsharun/tests/processor/mod.rs"]
+mod processor;
 #[path = "../../divsharun/tests/refusing/mod.rs"]
 mod refusing;
 
+use processor::processor_time;
 use refusing::{peak_of, refusing};
 
-/// Returns the number of objects of each kind that are damaged: 15,000, or the value of the
+/// Returns the number of objects of each kind that are damaged: 5,000, or the value of the
 /// environment variable `SAVED_ROUNDS`.
 fn rounds() -> u32 {
     let rounds = std::env::var("SAVED_ROUNDS");
-    rounds.map_or(15_000, |rounds| rounds.parse().unwrap())
+    rounds.map_or(5_000, |rounds| rounds.parse().unwrap())
 }
 
 /// A generator of pseudo-random numbers.
@@ -403,9 +406,9 @@ fn written_ids_and_devices_are_valid() {
 #[test]
 fn written_spaces_are_valid_and_depend_on_the_state_alone() {
     let mut draw = Draw(1);
-    for round in 0..600 {
+    for round in 0..300 {
         let (mut space, _) = AddressAllocator::after_calls(&mut draw);
-        if round >= 300 {
+        if round >= 150 {
             // More blocks, and a tree of another shape.
             space = AddressAllocator::new(0, 1 << 20).unwrap();
             for _ in 0..round {
@@ -431,4 +434,49 @@ fn written_spaces_are_valid_and_depend_on_the_state_alone() {
         let other = AddressAllocator::with_held(space.base(), size, &held).unwrap();
         assert_eq!(serde_json::to_string(&other).unwrap(), text);
     }
+}
+
+/// Checks the growth of a call from 300 to 9,000 items. A quadratic call takes 900 times as long.
+fn expect_linear<O>(make: impl Fn(u64) -> O, call: fn(&O)) {
+    let [few, many] = [300, 9_000].map(|count| {
+        let object = make(count);
+        let times = (0..5).map(|_| {
+            let begun = processor_time();
+            call(&object);
+            processor_time() - begun
+        });
+        times.min().unwrap()
+    });
+    assert!(many < 200 * few, "{few} and {many} nanoseconds");
+}
+
+#[test]
+fn proved_readers_and_writers_take_linear_time() {
+    let every_second = |count| {
+        let held = (0..count).map(|at| proved::RangeInclusive::new(2 * at, 2 * at).unwrap());
+        let held: Vec<_> = held.collect();
+        proved::AddressAllocator::with_held(Global, 0, 2 * count, &held).unwrap()
+    };
+    expect_linear(every_second, |space| {
+        let value = AddressAllocator::write(space);
+        let read = proved::AddressAllocator::from_value(Global, &value);
+        assert!(read.unwrap() == *space && AddressAllocator::read(&value).unwrap() == *space);
+    });
+    let freed = |count| {
+        let held: Vec<_> = (0..count as u32).map(|at| 2 * at).collect();
+        proved::IdAllocator::with_held(Global, 0, 2 * count as u32, &held).unwrap()
+    };
+    expect_linear(freed, |ids| {
+        assert!(IdAllocator::read(&IdAllocator::write(ids)).unwrap() == *ids);
+    });
+    let devices = |count| {
+        let made = proved_devices::DeviceManager::new(Global, 0, count as u32, 0, 2 * count);
+        let mut devices = made.unwrap();
+        let mut reserve = |_| devices.reserve(Global, 1, 2, proved::AllocPolicy::FirstMatch);
+        assert!((0..count).all(|number| reserve(number).is_ok()));
+        devices
+    };
+    expect_linear(devices, |devices| {
+        assert!(DeviceManager::read(&DeviceManager::write(devices)).unwrap() == *devices);
+    });
 }

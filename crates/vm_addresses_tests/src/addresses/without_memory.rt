@@ -13,7 +13,7 @@ fn three_held(rt: &(impl Abort + AllocGlobal)) -> AddressAllocator {
         (Exact(2, 1, 6), Range(6, 7)),
         (Exact(2, 1, 10), Range(10, 11)),
     ];
-    replay(rt, &mut space, Plain, rows);
+    replay(rt, &mut space, rows);
     space
 }
 
@@ -60,7 +60,7 @@ fn look_up(rt: &impl Abort, space: &AddressAllocator, other: &AddressAllocator) 
 }
 
 /// Fills the space of three allocated ranges, and frees all.
-fn fill(rt: &(impl Abort + AllocGlobal), space: &mut AddressAllocator, form: Form) {
+fn fill(rt: &(impl Abort + AllocGlobal), space: &mut AddressAllocator) {
     let rows = &[
         (First(2, 1), Range(0, 1)),
         (LastIn(4, 1, (4, 20)), Range(12, 15)),
@@ -88,20 +88,19 @@ fn fill(rt: &(impl Abort + AllocGlobal), space: &mut AddressAllocator, form: For
         (Free(15, 15), Range(15, 15)),
         (Free(7, 7), Range(7, 7)),
     ];
-    replay(rt, space, form, rows);
+    replay(rt, space, rows);
     let is_whole = space.base() == 0 && space.end() == 15 && space.height() == 1;
     expect_true(rt, is_whole, &"one clear block");
 }
 
 #[test]
 fn filled_and_given_back(rt: HostRuntime) {
-    let mut plain = three_held(&rt);
-    let mut counted = three_held(&rt);
+    let mut space = three_held(&rt);
+    let other = cloned(&rt, &space);
     fail_from_here(rt.alloc());
-    look_up(&rt, &plain, &counted);
-    fill(&rt, &mut plain, Plain);
-    fill(&rt, &mut counted, Counted);
-    clone_once(&rt, &plain);
+    look_up(&rt, &space, &other);
+    fill(&rt, &mut space);
+    clone_once(&rt, &space);
 }
 
 #[test]
@@ -138,10 +137,8 @@ fn refused(rt: HostRuntime) {
         (First(16, 1), Overflow),
     ];
     fail_from_here(rt.alloc());
-    replay(&rt, &mut space, Plain, rows);
-    replay(&rt, &mut highest, Plain, ending_at_max);
-    replay(&rt, &mut space, Counted, rows);
-    replay(&rt, &mut highest, Counted, ending_at_max);
+    replay(&rt, &mut space, rows);
+    replay(&rt, &mut highest, ending_at_max);
     clone_once(&rt, &space);
 }
 
@@ -151,7 +148,7 @@ fn split_or_unchanged(rt: HostRuntime) {
     let mut space = full_leaf(&rt);
     let before = cloned(&rt, &space);
     fail_from_here(rt.alloc());
-    let answer = First(4, 1).ask(&mut space, rt.alloc(), Plain);
+    let answer = First(4, 1).ask(&mut space, rt.alloc());
     let is_true = match &answer {
         Ok(ends) => *ends == (31, 34) && space.height() == 2,
         Err(error) => *error == Error::OutOfMemory && space == before,

@@ -1,9 +1,9 @@
 //! Tests of the calls that allocate a given id, an id of a window, or several ids.
 //!
-//! They guard against skipped ids that are lost, and against a call that allocates memory without need.
+//! They guard against a call that allocates memory without need.
 use super::*;
 use crate::fixtures::ENOUGH;
-use Request::{Exact, Left, Plain, Several, Window};
+use Request::{Exact, Left, Several, Window};
 
 /// A request with its expected result.
 #[derive(Clone, Copy)]
@@ -14,7 +14,6 @@ enum Request {
     Several(&'static [u32]),
     /// Checks the number of free ids.
     Left(u64),
-    Plain(Call),
 }
 
 /// Makes the requests in turn.
@@ -31,32 +30,8 @@ fn request_all(rt: &(impl Abort + AllocGlobal), ids: &mut IdAllocator, requests:
                 expect_true(rt, list.as_slice() == want, &want);
             }
             Left(want) => expect_eq(rt, &ids.free_count(), &want, &"free"),
-            Plain(call) => replay(rt, ids, &[call]),
         }
     }
-}
-
-#[test]
-fn ids_by_number_and_window(rt: HostRuntime) {
-    let requests = &[
-        Left(19),
-        Exact(4, OutOfRange(4)),
-        // The ids below it are freed ids afterwards.
-        Exact(8, Id(8)),
-        Plain(Fields(r#"{"range_base":5,"next_id":9,"range_end":23,"freed_ids":[5,6,7]}"#)),
-        Exact(8, NotAvailable),
-        Left(18),
-        Window(6, 8, Id(6)),
-        Window(8, 12, Id(9)),
-        Window(23, HIGH, Id(23)),
-        Window(0, 4, NotAvailable),
-        Several(&[5, 7, 10, 11]),
-        Left(11),
-        Plain(Fields(
-            r#"{"range_base":5,"next_id":24,"range_end":23,"freed_ids":[12,13,14,15,16,17,18,19,20,21,22]}"#,
-        )),
-    ];
-    request_all(&rt, &mut made(&rt, 5, 23), requests);
 }
 
 #[test]
