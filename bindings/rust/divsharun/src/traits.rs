@@ -73,4 +73,26 @@ macro_rules! fused {
     };
 }
 
-pub(crate) use {allocator, fused, iterate};
+/// Defines calls in pairs. If memory runs out, the first call of a pair ends the process, and the second
+/// one returns `OutOfMemory`.
+macro_rules! twins {
+    ($(
+        $(#[$attribute:meta])*
+        pub fn $name:ident($($parameter:tt)*) -> $result:ty $call:block
+        $(#[$try_attribute:meta])*
+        pub fn $try_name:ident;
+    )+) => {$(
+        $(#[$attribute])*
+        pub fn $name($($parameter)*) -> $crate::Result<$result> {
+            let answer: $crate::proved::vm_addresses::Result<_> = $call;
+            Ok(answer?.into())
+        }
+        $(#[$try_attribute])*
+        pub fn $try_name($($parameter)*) -> $crate::error::TryResult<$result> {
+            let answer: $crate::proved::vm_addresses::Result<_> = $call;
+            Ok(answer?.into())
+        }
+    )+};
+}
+
+pub(crate) use {allocator, fused, iterate, twins};

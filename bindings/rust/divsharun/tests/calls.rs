@@ -1281,15 +1281,20 @@ const SOURCES: [&str; 3] = [
 #[test]
 fn calls_are_those_of_the_proved_code() {
     let mut count = 0;
-    for text in SOURCES.iter().flat_map(|text| text.split("\n    pub ")) {
+    for text in SOURCES.iter().flat_map(|text| text.split("  pub ")) {
         let Some((head, rest)) = text.split_once('(') else {
             continue;
         };
+        // The second call of a pair has the body of the first one.
         let Some(name) = head.trim_start_matches("const ").strip_prefix("fn ") else {
             continue;
         };
+        if name.contains(';') {
+            count += 1;
+            continue;
+        }
         let body: String = rest
-            .split("\n    }\n")
+            .split("\n\n")
             .next()
             .unwrap()
             .split_whitespace()
