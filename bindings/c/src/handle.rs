@@ -3,6 +3,7 @@
 
 use crate::proved::vm_addresses::{Constraint, Error, Result as Answer};
 use crate::requests::dvs_request;
+use crate::status::{DVS_BUSY, DVS_NULL};
 use crate::{CallError, Out};
 use alloc::boxed::Box;
 use alloc::vec::Vec;
@@ -19,7 +20,7 @@ pub struct Handle<T> {
 
 /// Returns the referent of a pointer, or `Null` if it is null.
 pub(crate) fn non_null<T>(pointer: Option<T>) -> Result<T, CallError> {
-    pointer.ok_or(CallError::Null)
+    pointer.ok_or(DVS_NULL.into())
 }
 
 impl<T> Handle<T> {
@@ -77,7 +78,7 @@ impl<T> Handle<T> {
     fn check_not_visited(&self) -> Result<(), CallError> {
         match self.visits.load(Ordering::Relaxed) {
             0 => Ok(()),
-            _ => Err(CallError::Busy),
+            _ => Err(DVS_BUSY.into()),
         }
     }
 }

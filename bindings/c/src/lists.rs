@@ -8,7 +8,7 @@ use crate::proved::vm_addresses::{
 use crate::ranges::dvs_address_allocator;
 use crate::rattle::Global;
 use crate::requests::{because_of, dvs_request, in_the_way, refused};
-use crate::status::DVS_CAUSE_EARLIER_REQUEST;
+use crate::status::{DVS_CAUSE_EARLIER_REQUEST, DVS_NULL, DVS_OUT_OF_MEMORY};
 use crate::{dvs_range, dvs_refusal, dvs_status, status_of, CallError, Out};
 use alloc::vec::Vec;
 use core::slice;
@@ -28,7 +28,7 @@ pub(crate) unsafe fn array<'a, T>(first: *const T, count: usize) -> Result<&'a [
         return Ok(&[]);
     }
     if first.is_null() {
-        return Err(CallError::Null);
+        return Err(DVS_NULL.into());
     }
     if count > isize::MAX as usize / size_of::<T>() {
         return Err(Error::OutOfMemory.into());
@@ -75,7 +75,7 @@ fn converted<T, P>(
     }
     let mut list = Vec::new();
     let reserved = list.try_reserve_exact(members.len());
-    reserved.map_err(|_| CallError::from(Error::OutOfMemory))?;
+    reserved.map_err(|_| CallError::from(DVS_OUT_OF_MEMORY))?;
     list.extend(members.iter().flat_map(convert));
     Ok(list)
 }
@@ -179,7 +179,7 @@ pub unsafe extern "C" fn dvs_address_allocator_allocate_all(
     let allocate = || {
         let allocator = non_null(allocator)?;
         if count > 0 && (requests.is_null() || ranges.is_null()) {
-            return Err(CallError::Null.into());
+            return Err(CallError::from(DVS_NULL).into());
         }
         let object = allocator.get_mut()?;
         // SAFETY: the caller's contract.

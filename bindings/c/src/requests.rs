@@ -5,7 +5,10 @@ use crate::handle::non_null;
 use crate::proved::vm_addresses::{
     AddressAllocator, AllocPolicy, Conflict, Constraint, Error, RangeInclusive, Result as Answer,
 };
-use crate::status::{DVS_CAUSE_ALLOCATED, DVS_CAUSE_OUTSIDE_SPACE, DVS_CAUSE_OUTSIDE_WINDOW};
+use crate::status::{
+    DVS_CAUSE_ALLOCATED, DVS_CAUSE_OUTSIDE_SPACE, DVS_CAUSE_OUTSIDE_WINDOW, DVS_INVALID_POLICY,
+    DVS_RESOURCE_NOT_AVAILABLE,
+};
 use crate::{dvs_range, dvs_refusal, CallError};
 
 const DVS_FIRST: u32 = 0;
@@ -44,7 +47,7 @@ impl dvs_request<'_> {
             DVS_FIRST => Ok(AllocPolicy::FirstMatch),
             DVS_LAST => Ok(AllocPolicy::LastMatch),
             DVS_EXACT => Ok(AllocPolicy::ExactMatch(self.start)),
-            _ => Err(CallError::InvalidPolicy),
+            _ => Err(DVS_INVALID_POLICY.into()),
         }
     }
 }
@@ -69,9 +72,11 @@ pub(crate) fn refused(
     wants_details: bool,
     details: impl FnOnce() -> Option<dvs_refusal>,
 ) -> CallError {
-    let has_details = wants_details && error == Error::ResourceNotAvailable;
-    let found = has_details.then(details).flatten();
-    found.map_or(error.into(), CallError::NotAvailable)
+    let mut refused = CallError::from(error);
+    if wants_details && refused.status == DVS_RESOURCE_NOT_AVAILABLE {
+        refused.details = details().unwrap_or_default();
+    }
+    refused
 }
 
 /// Returns the details of a request that has a conflict.
