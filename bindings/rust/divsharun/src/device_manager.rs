@@ -6,8 +6,8 @@ use crate::id_allocator::DebugIds;
 use crate::proved::vm_devices as proved;
 use crate::rattle::Global;
 use crate::traits::{allocator, iterate, twins, DebugList};
-use crate::{AddressAllocator, AllocPolicy, Conflict, Constraint, IdAllocator, IdRequest};
 use crate::RangeInclusive;
+use crate::{AddressAllocator, AllocPolicy, Conflict, Constraint, IdAllocator, IdRequest};
 use core::fmt;
 
 /// The resources of a device: an id and a range of addresses.
