@@ -7,7 +7,7 @@ use crate::objects::{calls, functions, object_calls, visits};
 use crate::proved::vm_ids::IdAllocator;
 use crate::rattle::Global;
 use crate::status::{refused_id, DVS_NULL};
-use crate::texts::{read_ids, save_ids};
+use crate::texts::{read_ids, text_of};
 use crate::{dvs_refusal, dvs_status, status_of, CallError, Out};
 use core::ffi::{c_int, c_void};
 
@@ -84,7 +84,7 @@ functions! {
 
 object_calls! {
     dvs_id_allocator: dvs_id_allocator_destroy, dvs_id_allocator_copy, dvs_id_allocator_equal,
-        dvs_id_allocator_save by save_ids,
+        dvs_id_allocator_save by text_of,
         dvs_id_allocator_read, dvs_id_allocator_read_within by read_ids
 }
 

@@ -1307,7 +1307,7 @@ pub struct Gaps<'a>(proved::Ranges<'a>);
 #[derive(Clone)]
 pub struct GapsIn<'a>(proved::RangesIn<'a>);
 
-iterate!(HeldRanges, Gaps, HeldRangesIn, GapsIn: RangeInclusive, RangeInclusive, Iterator::size_hint);
+iterate!(HeldRanges, Gaps, HeldRangesIn, GapsIn: RangeInclusive, RangeInclusive);
 allocator!(AddressAllocator, HeldRanges of RangeInclusive, "the allocated ranges");
 
 impl ExactSizeIterator for HeldRanges<'_> {}

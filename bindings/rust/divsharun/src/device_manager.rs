@@ -684,7 +684,7 @@ impl fmt::Debug for DeviceManager {
 #[derive(Clone)]
 pub struct Devices<'a>(proved::Devices<'a>);
 
-iterate!(Devices: DeviceSlot, Into::into, Iterator::size_hint);
+iterate!(Devices: DeviceSlot, Into::into);
 allocator!(DeviceManager, Devices of DeviceSlot, "the devices");
 
 impl ExactSizeIterator for Devices<'_> {}

@@ -34,10 +34,9 @@ macro_rules! allocator {
     };
 }
 
-/// Implements iterators by those of the proved code, with a function that converts an item and one that
-/// returns the size hint.
+/// Implements iterators by those of the proved code, with a function that converts an item.
 macro_rules! iterate {
-    ($($name:ident),+: $item:ty, $convert:expr, $size_hint:expr) => {$(
+    ($($name:ident),+: $item:ty, $convert:expr) => {$(
         impl Iterator for $name<'_> {
             type Item = $item;
 
@@ -46,7 +45,7 @@ macro_rules! iterate {
             }
 
             fn size_hint(&self) -> (usize, Option<usize>) {
-                $size_hint(&self.0)
+                self.0.size_hint()
             }
         }
 
