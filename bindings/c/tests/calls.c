@@ -461,6 +461,8 @@ static void reserve_given_ids(void) {
     CHECK(refusal.id == 9);
     CHECK(dvs_device_move(manager, 7, &held, &device.range, &refusal) ==
           DVS_RESOURCE_NOT_AVAILABLE);
+    /* The device is not in its own way. */
+    CHECK(refusal.cause == DVS_CAUSE_ALLOCATED && is_range(refusal.other, 8, 15));
     CHECK(dvs_device_move(manager, 8, &last, &device.range, NULL) == DVS_OK);
     CHECK(is_range(device.range, 48, 63));
     CHECK(dvs_device_slot(manager, 8, &device.range, NULL) == DVS_OK);
