@@ -40,7 +40,7 @@ def each(make, words, code, reason):
 
 EDITS = [
     item("// How many.\rfn f() {}", "a carriage return"),
-    item("ghost use X\n\nfn f() {};", "a ghost of this form"),
+    *[item(code, "a ghost of this form") for code in ("ghost use X\n\nfn f() {};", "ghost use X.{Y;")],
     *[item(f"#[derive(Error)] enum X {{ #[error({text})] A }}", "a text of this form") for text in (
         '"", 1', "transparent", '"{{0}}"', '"{name}"', '"{0:x}"', '"{}"', '"\\u{30}"')],
     item("impl Eq for X { fn f() requires { f } { 1 } }", "a 'requires' of 'f'"),
@@ -99,6 +99,7 @@ EDITS = [
     (FIELD, f"    #[cfg(any())]\n{FIELD}", "an attribute in code"),
     (FIELD, f"    pub {FIELD.strip()}", "a public field of 'RangeInclusive'"),
     ("    ghost Value = { Range };", "    fn f() {}", "a member of Model that is no ghost"),
+    ("    ghost Value = { Range };", "    ghost Value = { Range },", "a ghost of this form"),
     ("in the order of their starts, then of their ends.", "by start.\n#![path = \"x\"]", "an attribute ''"),
 ]
 EDITS_OF_TESTS = [

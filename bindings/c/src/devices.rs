@@ -9,7 +9,7 @@ use crate::proved::vm_devices::{DeviceManager, DeviceSlot};
 use crate::proved::vm_ids::IdRequest;
 use crate::ranges::{dvs_address_allocator, space_of};
 use crate::rattle::Global;
-use crate::requests::{refused, refused_by};
+use crate::requests::{answered, conflict, dvs_request, in_the_way};
 use crate::texts::{read_devices, save_devices};
 use crate::{dvs_range, dvs_refusal, CallError, Out};
 use core::ffi::{c_int, c_void};
@@ -45,14 +45,10 @@ fn reserve(
     wants_details: bool,
 ) -> Result<dvs_device, CallError> {
     let reserved = manager.reserve(Global, size, alignment, policy);
-    reserved
-        .map(Into::into)
-        .map_err(|error| match Constraint::new(size, alignment, policy) {
-            Ok(request) => {
-                refused_device(manager, IdRequest::Lowest, request, error, wants_details)
-            }
-            Err(_) => error.into(),
-        })
+    answered(reserved, wants_details, || {
+        let request = Constraint::new(size, alignment, policy).ok()?;
+        details(manager, IdRequest::Lowest, request)
+    })
 }
 
 fn reserve_request(
@@ -62,41 +58,13 @@ fn reserve_request(
     wants_details: bool,
 ) -> Result<dvs_device, CallError> {
     let reserved = manager.reserve_with_id(Global, id, request);
-    reserved
-        .map(Into::into)
-        .map_err(|error| refused_device(manager, id, request, error, wants_details))
+    answered(reserved, wants_details, || details(manager, id, request))
 }
 
-/// Returns the error of a refused device. If there is no id for it, no range is in the way.
-#[cold]
-fn refused_device(
-    manager: &DeviceManager,
-    id: IdRequest,
-    request: Constraint,
-    error: Error,
-    wants_details: bool,
-) -> CallError {
-    let wants_details = wants_details && manager.ids().peek(id).is_ok();
-    refused(manager.addresses(), request, error, wants_details)
-}
-
-/// Moves a device. Its own range is not in the way.
-fn move_device(
-    manager: &mut DeviceManager,
-    id: u32,
-    request: Constraint,
-    wants_details: bool,
-) -> Result<dvs_range, CallError> {
-    let moved = manager.move_constraint(Global, id, request);
-    moved
-        .map(Into::into)
-        .map_err(|error| match manager.slot(id) {
-            Some(range) => {
-                let conflict = || manager.addresses().move_conflict(&range, request);
-                refused_by(conflict, request, error, wants_details)
-            }
-            None => error.into(),
-        })
+/// Returns the details of a refused device. If there is no id for it, no range is in the way.
+fn details(manager: &DeviceManager, id: IdRequest, request: Constraint) -> Option<dvs_refusal> {
+    manager.ids().peek(id).ok()?;
+    in_the_way(request, manager.addresses().conflict(request))
 }
 
 functions! {
@@ -153,11 +121,15 @@ calls! {
     }
     with_request dvs_device_move(manager: dvs_device_manager, id: u32; request)
         -> range: dvs_range [refusal] {
-        move_device(manager, id, request, refusal.is_some())
+        let moved = manager.move_constraint(Global, id, request);
+        answered(moved, refusal.is_some(), || {
+            let range = manager.slot(id)?;
+            in_the_way(request, manager.addresses().move_conflict(&range, request))
+        })
     }
-    with_conflict dvs_device_conflict(manager: dvs_device_manager; request)
-        -> conflict: dvs_refusal {
-        manager.addresses().conflict(request)
+    with_ref dvs_device_conflict(manager: dvs_device_manager, request: Option<&dvs_request>)
+        -> found: dvs_refusal {
+        conflict(manager.addresses(), request)
     }
     with_ref dvs_device_manager_ids(manager: dvs_device_manager, first: Out<u32>) -> last: u32 {
         write_range(manager.ids(), first)

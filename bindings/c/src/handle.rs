@@ -1,9 +1,10 @@
 // SPDX-License-Identifier: Apache-2.0 OR BSD-3-Clause
 //! The objects that C has pointers to.
 
-use crate::proved::vm_addresses::{Conflict, Constraint, Error, Result as Answer};
-use crate::requests::{dvs_request, in_the_way};
-use crate::{dvs_refusal, CallError, Out};
+use crate::proved::vm_addresses::{Constraint, Error, Result as Answer};
+use crate::requests::dvs_request;
+use crate::status::{DVS_BUSY, DVS_NULL};
+use crate::{CallError, Out};
 use alloc::boxed::Box;
 use alloc::vec::Vec;
 use core::cell::UnsafeCell;
@@ -19,7 +20,7 @@ pub struct Handle<T> {
 
 /// Returns the referent of a pointer, or `Null` if it is null.
 pub(crate) fn non_null<T>(pointer: Option<T>) -> Result<T, CallError> {
-    pointer.ok_or(CallError::Null)
+    pointer.ok_or(DVS_NULL.into())
 }
 
 impl<T> Handle<T> {
@@ -77,7 +78,7 @@ impl<T> Handle<T> {
     fn check_not_visited(&self) -> Result<(), CallError> {
         match self.visits.load(Ordering::Relaxed) {
             0 => Ok(()),
-            _ => Err(CallError::Busy),
+            _ => Err(DVS_BUSY.into()),
         }
     }
 }
@@ -150,21 +151,6 @@ pub(crate) fn with_request<T, A>(
 ) -> Result<(), CallError> {
     let request = non_null(request)?;
     with_mut(handle, out, |object| change(object, request.constraint()?))
-}
-
-/// Writes the conflict of a request with an object to `out`.
-pub(crate) fn with_conflict<T>(
-    handle: Option<&Handle<T>>,
-    request: Option<&dvs_request>,
-    out: Out<dvs_refusal>,
-    conflict: impl FnOnce(&T, Constraint) -> Option<Conflict>,
-) -> Result<(), CallError> {
-    let asked = non_null(request)?;
-    with_ref(handle, out, |object| {
-        let request = asked.constraint()?;
-        let details = |found| in_the_way(request, Some(found));
-        Ok(conflict(object, request).map_or(dvs_refusal::default(), details))
-    })
 }
 
 /// Returns the item that a look-up has found.

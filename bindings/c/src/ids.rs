@@ -6,8 +6,8 @@ use crate::lists::array;
 use crate::objects::{calls, functions, object_calls, visits};
 use crate::proved::vm_ids::IdAllocator;
 use crate::rattle::Global;
-use crate::status::refused_id;
-use crate::texts::{read_ids, save_ids};
+use crate::status::{refused_id, DVS_NULL};
+use crate::texts::{read_ids, text_of};
 use crate::{dvs_refusal, dvs_status, status_of, CallError, Out};
 use core::ffi::{c_int, c_void};
 
@@ -58,7 +58,7 @@ pub unsafe extern "C" fn dvs_ids_allocate(
     let allocate = || {
         let allocator = non_null(allocator)?;
         if ids.is_null() && count > 0 {
-            return Err(CallError::Null);
+            return Err(DVS_NULL.into());
         }
         let allocated = allocator.get_mut()?.allocate_ids(Global, count)?;
         for (index, id) in allocated.iter().enumerate() {
@@ -84,7 +84,7 @@ functions! {
 
 object_calls! {
     dvs_id_allocator: dvs_id_allocator_destroy, dvs_id_allocator_copy, dvs_id_allocator_equal,
-        dvs_id_allocator_save by save_ids,
+        dvs_id_allocator_save by text_of,
         dvs_id_allocator_read, dvs_id_allocator_read_within by read_ids
 }
 

@@ -146,28 +146,28 @@ impl<'a> Reader<'a> {
         Ok(first)
     }
 
-    /// Reads an opening bracket. Returns `true` if an item follows, and not the closing bracket.
-    fn open(&mut self, bracket: u8, close: u8, expected: &'static CStr) -> Read<bool> {
-        if self.value()? != Some(bracket) {
+    /// Reads two brackets and the items between them, each by `read`, with a comma between two.
+    fn items(
+        &mut self,
+        [open, close]: [u8; 2],
+        expected: &'static CStr,
+        mut read: impl FnMut(&mut Self) -> Read<()>,
+    ) -> Read<()> {
+        if self.value()? != Some(open) {
             return Err(self.not_a_state(expected));
         }
         self.at += 1;
         self.depth += 1;
-        let is_empty = self.skip(close);
-        self.depth -= u32::from(is_empty);
-        Ok(!is_empty)
-    }
-
-    /// Reads a comma or the closing bracket. Returns `true` if it is a comma.
-    fn next(&mut self, close: u8) -> Read<bool> {
-        if self.skip(b',') {
-            return Ok(true);
-        }
-        if !self.skip(close) {
-            return Err(self.not_json(c"a comma or a closing bracket is expected"));
+        let mut is_more = !self.skip(close);
+        while is_more {
+            read(self)?;
+            is_more = self.skip(b',');
+            if !is_more && !self.skip(close) {
+                return Err(self.not_json(c"a comma or a closing bracket is expected"));
+            }
         }
         self.depth -= 1;
-        Ok(false)
+        Ok(())
     }
 
     /// Reads an object that has each of these fields once, in any order, and returns the fields. `read`
@@ -179,22 +179,20 @@ impl<'a> Reader<'a> {
     ) -> Read<[Field; N]> {
         // No value is at offset 0.
         let mut fields = names.map(|name| (Some(name), 0));
-        let mut is_more = self.open(b'{', b'}', c"an object is expected")?;
-        while is_more {
-            let start = self.start();
-            let Some(place) = self.string(&names)? else {
-                return Err(self.not_a_state(c"the field is unknown").at(start));
+        self.items(*b"{}", c"an object is expected", |from| {
+            let start = from.start();
+            let Some(place) = from.string(&names)? else {
+                return Err(from.not_a_state(c"the field is unknown").at(start));
             };
             let (name, value) = (names[place], &mut fields[place].1);
             if *value > 0 {
-                let fault = self.not_a_state(c"the field is duplicate");
+                let fault = from.not_a_state(c"the field is duplicate");
                 return Err(fault.at(start).in_field(name));
             }
-            self.expect_colon()?;
-            *value = self.start();
-            read(self, place).map_err(|fault| fault.in_field(name))?;
-            is_more = self.next(b'}')?;
-        }
+            from.expect_colon()?;
+            *value = from.start();
+            read(from, place).map_err(|fault| fault.in_field(name))
+        })?;
         match fields.iter().position(|(_, value)| *value == 0) {
             None => Ok(fields),
             Some(missing) => {
@@ -217,13 +215,8 @@ impl<'a> Reader<'a> {
     }
 
     /// Reads a list. `read` reads an item.
-    pub(crate) fn list(&mut self, mut read: impl FnMut(&mut Self) -> Read<()>) -> Read<()> {
-        let mut is_more = self.open(b'[', b']', c"a list is expected")?;
-        while is_more {
-            read(self)?;
-            is_more = self.next(b']')?;
-        }
-        Ok(())
+    pub(crate) fn list(&mut self, read: impl FnMut(&mut Self) -> Read<()>) -> Read<()> {
+        self.items(*b"[]", c"a list is expected", read)
     }
 
     /// Reads `null` if it is next, and returns whether it was.
@@ -275,17 +268,12 @@ impl<'a> Reader<'a> {
     /// Reads a value of any kind.
     fn check_value(&mut self) -> Read<()> {
         match self.value()? {
-            Some(b'{') => {
-                let mut is_more = self.open(b'{', b'}', c"")?;
-                while is_more {
-                    self.peek();
-                    self.string(&[])?;
-                    self.expect_colon()?;
-                    self.check_value()?;
-                    is_more = self.next(b'}')?;
-                }
-                Ok(())
-            }
+            Some(b'{') => self.items(*b"{}", c"", |from| {
+                from.peek();
+                from.string(&[])?;
+                from.expect_colon()?;
+                from.check_value()
+            }),
             Some(b'[') => self.list(Self::check_value),
             Some(b'"') => self.string(&[]).map(|_| ()),
             Some(b'n') => self.word("null"),
@@ -307,24 +295,21 @@ impl<'a> Reader<'a> {
     /// Reads a number. Returns it if it is a whole number of 64 bits.
     fn number(&mut self) -> Read<Option<u64>> {
         let start = self.at;
-        let is_negative = self.skip_mark(b"-");
-        let mut whole = match self.skip_mark(b"0") {
+        let mut is_whole = !self.skip_mark(b"-");
+        let whole = match self.skip_mark(b"0") {
             true => Some(0),
             false => self.digits()?,
         };
-        if is_negative {
-            whole = None;
-        }
         if self.skip_mark(b".") {
             self.digits()?;
-            whole = None;
+            is_whole = false;
         }
         if self.skip_mark(b"eE") {
             self.skip_mark(b"+-");
             self.digits()?;
-            whole = None;
+            is_whole = false;
         }
-        if whole.is_some() {
+        if is_whole && whole.is_some() {
             return Ok(whole);
         }
         match self.text_from(start).parse::<f64>() {

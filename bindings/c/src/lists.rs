@@ -2,10 +2,13 @@
 //! Calls with arrays of ranges and of requests.
 
 use crate::handle::{non_null, Handle};
-use crate::proved::vm_addresses::{AddressAllocator, Error, ListError, RangeInclusive};
+use crate::proved::vm_addresses::{
+    AddressAllocator, AllocPolicy, Constraint, Error, ListError, RangeInclusive,
+};
 use crate::ranges::dvs_address_allocator;
 use crate::rattle::Global;
-use crate::requests::{dvs_request, refused};
+use crate::requests::{because_of, dvs_request, in_the_way, refused};
+use crate::status::{DVS_CAUSE_EARLIER_REQUEST, DVS_NULL, DVS_OUT_OF_MEMORY};
 use crate::{dvs_range, dvs_refusal, dvs_status, status_of, CallError, Out};
 use alloc::vec::Vec;
 use core::slice;
@@ -25,7 +28,7 @@ pub(crate) unsafe fn array<'a, T>(first: *const T, count: usize) -> Result<&'a [
         return Ok(&[]);
     }
     if first.is_null() {
-        return Err(CallError::Null);
+        return Err(DVS_NULL.into());
     }
     if count > isize::MAX as usize / size_of::<T>() {
         return Err(Error::OutOfMemory.into());
@@ -72,7 +75,7 @@ fn converted<T, P>(
     }
     let mut list = Vec::new();
     let reserved = list.try_reserve_exact(members.len());
-    reserved.map_err(|_| CallError::from(Error::OutOfMemory))?;
+    reserved.map_err(|_| CallError::from(DVS_OUT_OF_MEMORY))?;
     list.extend(members.iter().flat_map(convert));
     Ok(list)
 }
@@ -147,6 +150,19 @@ pub unsafe extern "C" fn dvs_address_allocator_with_free(
     status_of_array(made, count, failed, refusal)
 }
 
+/// Returns the details of a request for a given start that only an earlier request of its list is in the way
+/// of. `allocate_all` has freed the range of that one.
+fn earlier(request: Constraint) -> Option<dvs_refusal> {
+    match request.policy() {
+        AllocPolicy::ExactMatch(_) => Some(because_of(
+            DVS_CAUSE_EARLIER_REQUEST,
+            request,
+            dvs_range::default(),
+        )),
+        _ => None,
+    }
+}
+
 /// # Safety
 ///
 /// The requests are null or point to `count` readable requests. The ranges are null or point to
@@ -163,18 +179,19 @@ pub unsafe extern "C" fn dvs_address_allocator_allocate_all(
     let allocate = || {
         let allocator = non_null(allocator)?;
         if count > 0 && (requests.is_null() || ranges.is_null()) {
-            return Err(CallError::Null.into());
+            return Err(CallError::from(DVS_NULL).into());
         }
         let object = allocator.get_mut()?;
         // SAFETY: the caller's contract.
         let requests = unsafe { array(requests, count) }?;
         let requests = converted(requests, dvs_request::constraint)?;
         let allocated = object.allocate_all(Global, &requests).map_err(|failure| {
-            let index = failure.index;
-            let error = match index.and_then(|index| requests.get(index)) {
-                Some(&request) => refused(object, request, failure.error, refusal.is_some()),
-                None => failure.error.into(),
+            let details = || {
+                let request = *requests.get(failure.index?)?;
+                in_the_way(request, object.conflict(request)).or_else(|| earlier(request))
             };
+            let error = refused(failure.error, refusal.is_some(), details);
+            let index = failure.index;
             ArrayError { index, error }
         })?;
         for (index, range) in allocated.iter().enumerate() {

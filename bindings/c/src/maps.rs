@@ -1,14 +1,13 @@
 // SPDX-License-Identifier: Apache-2.0 OR BSD-3-Clause
 //! The map from allocated ranges to values.
 
+use crate::dvs_range;
 use crate::handle::{found, Handle};
 use crate::objects::{calls, functions, object_calls, visits};
-use crate::proved::vm_addresses::Constraint;
 use crate::proved::vm_range_map::{RangeMap, ValuedRange};
-use crate::ranges::{refused_move, space_of};
+use crate::ranges::space_of;
 use crate::rattle::Global;
-use crate::requests::refused;
-use crate::{dvs_range, CallError};
+use crate::requests::{answered, in_the_way};
 use core::ffi::{c_int, c_void};
 
 /// A map behind a C pointer.
@@ -34,31 +33,6 @@ impl From<ValuedRange> for dvs_valued_range {
     }
 }
 
-fn allocate(
-    map: &mut RangeMap,
-    request: Constraint,
-    value: u64,
-    wants_details: bool,
-) -> Result<dvs_range, CallError> {
-    let allocated = map.allocate_constraint(Global, request, value);
-    allocated
-        .map(Into::into)
-        .map_err(|error| refused(map.addresses(), request, error, wants_details))
-}
-
-fn move_by(
-    map: &mut RangeMap,
-    range: dvs_range,
-    request: Constraint,
-    wants_details: bool,
-) -> Result<dvs_range, CallError> {
-    let range = range.try_into()?;
-    let moved = map.move_constraint(Global, &range, request);
-    moved
-        .map(Into::into)
-        .map_err(|error| refused_move(map.addresses(), &range, request, error, wants_details))
-}
-
 functions! {
     dvs_range_map_new(base: u64, size: u64) -> *mut dvs_range_map {
         Handle::new(RangeMap::new(Global, base, size)?)
@@ -70,11 +44,18 @@ object_calls! { dvs_range_map: dvs_range_map_destroy, dvs_range_map_copy, dvs_ra
 calls! {
     with_request dvs_range_map_allocate(map: dvs_range_map, value: u64; request)
         -> range: dvs_range [refusal] {
-        allocate(map, request, value, refusal.is_some())
+        let allocated = map.allocate_constraint(Global, request, value);
+        answered(allocated, refusal.is_some(), || {
+            in_the_way(request, map.addresses().conflict(request))
+        })
     }
     with_request dvs_range_map_move(map: dvs_range_map, range: dvs_range; request)
         -> moved: dvs_range [refusal] {
-        move_by(map, range, request, refusal.is_some())
+        let range = range.try_into()?;
+        let moved = map.move_constraint(Global, &range, request);
+        answered(moved, refusal.is_some(), || {
+            in_the_way(request, map.addresses().move_conflict(&range, request))
+        })
     }
     with_mut dvs_range_map_free(map: dvs_range_map, range: dvs_range) -> value: u64 [refusal] {
         Ok(map.free(&range.try_into()?)?)

@@ -67,11 +67,11 @@ macro_rules! object_calls {
 }
 
 /// Defines calls on an object, each with the function that makes it, the arguments, a request, the
-/// result, the details of an error, and an expression for the result.
+/// result, the details of an error, and a block for the result.
 macro_rules! calls {
     ($($by:ident $name:ident($object:ident: $handle:ident
         $(, $argument:ident: $type:ty)* $(; $request:ident)?)
-        $(-> $result:ident: $written:ty)? $([$refusal:ident])? { $answer:expr })+) => {$(
+        $(-> $result:ident: $written:ty)? $([$refusal:ident])? $answer:block)+) => {$(
         #[unsafe(no_mangle)]
         pub extern "C" fn $name(
             object: Option<&$handle>,

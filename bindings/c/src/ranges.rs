@@ -4,10 +4,10 @@
 use crate::handle::{found, Handle};
 use crate::objects::{calls, functions, object_calls, visits};
 use crate::proved::vm_addresses::{
-    AddressAllocator, AllocPolicy, Constraint, Error, RangeInclusive, Result as Answer,
+    AddressAllocator, AllocPolicy, Constraint, RangeInclusive, Result as Answer,
 };
 use crate::rattle::Global;
-use crate::requests::{refused, refused_by};
+use crate::requests::{answered, conflict, dvs_request, in_the_way};
 use crate::texts::{read_space, save_space};
 use crate::{dvs_range, dvs_refusal, CallError};
 use core::ffi::{c_int, c_void};
@@ -29,28 +29,15 @@ pub(crate) fn space_of(allocator: &AddressAllocator) -> dvs_range {
 #[inline(always)]
 fn allocate(
     space: &mut AddressAllocator,
-    size: u64,
-    alignment: u64,
-    policy: AllocPolicy,
-    wants_details: bool,
-) -> Result<dvs_range, CallError> {
-    let request = Constraint::new(size, alignment, policy)?;
-    allocate_request(space, request, wants_details)
-}
-
-#[inline(always)]
-fn allocate_request(
-    allocator: &mut AddressAllocator,
     request: Constraint,
     wants_details: bool,
 ) -> Result<dvs_range, CallError> {
-    let allocated = allocator.allocate_constraint(Global, request);
-    allocated
-        .map(Into::into)
-        .map_err(|error| refused(allocator, request, error, wants_details))
+    let allocated = space.allocate_constraint(Global, request);
+    answered(allocated, wants_details, || {
+        in_the_way(request, space.conflict(request))
+    })
 }
 
-/// Moves a range by a request.
 fn move_by(
     space: &mut AddressAllocator,
     range: &RangeInclusive,
@@ -58,34 +45,9 @@ fn move_by(
     wants_details: bool,
 ) -> Result<dvs_range, CallError> {
     let moved = space.move_constraint(Global, range, request);
-    moved
-        .map(Into::into)
-        .map_err(|error| refused_move(space, range, request, error, wants_details))
-}
-
-/// Returns the error of a refused move. If the range is not allocated, no other one is in the way.
-#[cold]
-pub(crate) fn refused_move(
-    space: &AddressAllocator,
-    range: &RangeInclusive,
-    request: Constraint,
-    error: Error,
-    wants_details: bool,
-) -> CallError {
-    let wants_details = wants_details && space.holds(range);
-    let conflict = || space.move_conflict(range, request);
-    refused_by(conflict, request, error, wants_details)
-}
-
-fn move_to(
-    space: &mut AddressAllocator,
-    range: dvs_range,
-    start: u64,
-    wants_details: bool,
-) -> Result<dvs_range, CallError> {
-    let range = RangeInclusive::try_from(range)?;
-    let request = Constraint::new(range.len(), 1, AllocPolicy::ExactMatch(start))?;
-    move_by(space, &range, request, wants_details)
+    answered(moved, wants_details, || {
+        in_the_way(request, space.move_conflict(range, request))
+    })
 }
 
 /// Returns the part of the space that begins at `address`, or one address outside the space if there is
@@ -146,20 +108,25 @@ object_calls! {
 calls! {
     with_mut dvs_range_allocate_first(space: dvs_address_allocator, size: u64, alignment: u64)
         -> range: dvs_range [refusal] {
-        allocate(space, size, alignment, AllocPolicy::FirstMatch, refusal.is_some())
+        let request = Constraint::new(size, alignment, AllocPolicy::FirstMatch)?;
+        allocate(space, request, refusal.is_some())
     }
     with_mut dvs_range_allocate_last(space: dvs_address_allocator, size: u64, alignment: u64)
         -> range: dvs_range [refusal] {
-        allocate(space, size, alignment, AllocPolicy::LastMatch, refusal.is_some())
+        let request = Constraint::new(size, alignment, AllocPolicy::LastMatch)?;
+        allocate(space, request, refusal.is_some())
     }
     with_mut dvs_range_allocate_exact(
         space: dvs_address_allocator, size: u64, alignment: u64, start: u64
     ) -> range: dvs_range [refusal] {
-        allocate(space, size, alignment, AllocPolicy::ExactMatch(start), refusal.is_some())
+        let request = Constraint::new(size, alignment, AllocPolicy::ExactMatch(start))?;
+        allocate(space, request, refusal.is_some())
     }
     with_mut dvs_range_move(space: dvs_address_allocator, range: dvs_range, start: u64)
         -> moved: dvs_range [refusal] {
-        move_to(space, range, start, refusal.is_some())
+        let range = RangeInclusive::try_from(range)?;
+        let request = Constraint::new(range.len(), 1, AllocPolicy::ExactMatch(start))?;
+        move_by(space, &range, request, refusal.is_some())
     }
     with_ref dvs_range_is_allocated(space: dvs_address_allocator, range: dvs_range)
         -> is_allocated: bool [refusal] {
@@ -187,14 +154,14 @@ calls! {
     }
     with_request dvs_range_allocate(space: dvs_address_allocator; request)
         -> range: dvs_range [refusal] {
-        allocate_request(space, request, refusal.is_some())
+        allocate(space, request, refusal.is_some())
     }
     with_request dvs_range_move_request(space: dvs_address_allocator, range: dvs_range; request)
         -> moved: dvs_range [refusal] {
         move_by(space, &range.try_into()?, request, refusal.is_some())
     }
-    with_conflict dvs_range_conflict(space: dvs_address_allocator; request)
-        -> conflict: dvs_refusal {
-        space.conflict(request)
+    with_ref dvs_range_conflict(space: dvs_address_allocator, request: Option<&dvs_request>)
+        -> found: dvs_refusal {
+        conflict(space, request)
     }
 }

@@ -1,12 +1,13 @@
 // SPDX-License-Identifier: Apache-2.0 OR BSD-3-Clause
 //! Requests for a range.
 
+use crate::handle::non_null;
 use crate::proved::vm_addresses::{
-    AddressAllocator, AllocPolicy, Conflict, Constraint, Error, RangeInclusive,
+    AddressAllocator, AllocPolicy, Conflict, Constraint, Error, RangeInclusive, Result as Answer,
 };
 use crate::status::{
-    DVS_CAUSE_ALLOCATED, DVS_CAUSE_EARLIER_REQUEST, DVS_CAUSE_OUTSIDE_SPACE,
-    DVS_CAUSE_OUTSIDE_WINDOW,
+    DVS_CAUSE_ALLOCATED, DVS_CAUSE_OUTSIDE_SPACE, DVS_CAUSE_OUTSIDE_WINDOW, DVS_INVALID_POLICY,
+    DVS_RESOURCE_NOT_AVAILABLE,
 };
 use crate::{dvs_range, dvs_refusal, CallError};
 
@@ -46,54 +47,55 @@ impl dvs_request<'_> {
             DVS_FIRST => Ok(AllocPolicy::FirstMatch),
             DVS_LAST => Ok(AllocPolicy::LastMatch),
             DVS_EXACT => Ok(AllocPolicy::ExactMatch(self.start)),
-            _ => Err(CallError::InvalidPolicy),
+            _ => Err(DVS_INVALID_POLICY.into()),
         }
     }
 }
 
-/// Returns the error of a refused request. If its range is not available, and the caller wants details,
-/// the error has the cause.
+/// Passes on what a request returned. If its range is not available, and the caller wants details, they are
+/// the error.
+#[inline(always)]
+pub(crate) fn answered<A, B: From<A>>(
+    answer: Answer<A>,
+    wants_details: bool,
+    details: impl FnOnce() -> Option<dvs_refusal>,
+) -> Result<B, CallError> {
+    answer
+        .map(Into::into)
+        .map_err(|error| refused(error, wants_details, details))
+}
+
+/// Returns the error of a refused request, like [`answered`].
 #[cold]
-#[inline(never)]
 pub(crate) fn refused(
-    space: &AddressAllocator,
-    request: Constraint,
     error: Error,
     wants_details: bool,
+    details: impl FnOnce() -> Option<dvs_refusal>,
 ) -> CallError {
-    refused_by(|| space.conflict(request), request, error, wants_details)
+    let mut refused = CallError::from(error);
+    if wants_details && refused.status == DVS_RESOURCE_NOT_AVAILABLE {
+        refused.details = details().unwrap_or_default();
+    }
+    refused
 }
 
-/// Returns the error of a refused request, like [`refused`], with the conflict that a call returns.
-pub(crate) fn refused_by(
-    conflict: impl FnOnce() -> Option<Conflict>,
-    request: Constraint,
-    error: Error,
-    wants_details: bool,
-) -> CallError {
-    if error != Error::ResourceNotAvailable || !wants_details {
-        return error.into();
-    }
-    match (conflict(), request.policy()) {
-        (None, AllocPolicy::FirstMatch | AllocPolicy::LastMatch) => error.into(),
-        (conflict, _) => CallError::NotAvailable(in_the_way(request, conflict)),
-    }
+/// Returns the details of a request that has a conflict.
+pub(crate) fn in_the_way(request: Constraint, conflict: Option<Conflict>) -> Option<dvs_refusal> {
+    let (cause, other) = match conflict? {
+        Conflict::OutsideSpace(space) => (DVS_CAUSE_OUTSIDE_SPACE, space),
+        Conflict::OutsideWindow(window) => (DVS_CAUSE_OUTSIDE_WINDOW, window),
+        Conflict::Allocated(held) => (DVS_CAUSE_ALLOCATED, held),
+    };
+    Some(because_of(cause, request, other.into()))
 }
 
-/// Returns the details of a request whose range is not available.
-pub(crate) fn in_the_way(request: Constraint, conflict: Option<Conflict>) -> dvs_refusal {
+/// Returns the details of a request with this cause, and the range that the cause names.
+pub(crate) fn because_of(cause: u32, request: Constraint, other: dvs_range) -> dvs_refusal {
     let range = match request.policy() {
         AllocPolicy::ExactMatch(start) => {
             RangeInclusive::from_start_len(start, request.size()).ok()
         }
         _ => None,
-    };
-    let (cause, other) = match conflict {
-        Some(Conflict::OutsideSpace(space)) => (DVS_CAUSE_OUTSIDE_SPACE, space.into()),
-        Some(Conflict::OutsideWindow(window)) => (DVS_CAUSE_OUTSIDE_WINDOW, window.into()),
-        Some(Conflict::Allocated(held)) => (DVS_CAUSE_ALLOCATED, held.into()),
-        // `allocate_all` has freed the ranges of the requests before this one.
-        None => (DVS_CAUSE_EARLIER_REQUEST, dvs_range::default()),
     };
     dvs_refusal {
         range: range.map_or(dvs_range::default(), Into::into),
@@ -101,4 +103,13 @@ pub(crate) fn in_the_way(request: Constraint, conflict: Option<Conflict>) -> dvs
         cause,
         ..dvs_refusal::default()
     }
+}
+
+/// Returns the conflict of a request with a space.
+pub(crate) fn conflict(
+    space: &AddressAllocator,
+    request: Option<&dvs_request>,
+) -> Result<dvs_refusal, CallError> {
+    let request = non_null(request)?.constraint()?;
+    Ok(in_the_way(request, space.conflict(request)).unwrap_or_default())
 }

@@ -67,14 +67,23 @@ pub struct dvs_refusal {
     pub(crate) cause: u32,
 }
 
-/// The error of a call.
-pub(crate) enum CallError {
-    Null,
-    Busy,
-    InvalidPolicy,
-    Call(Error),
-    /// The range or the id that a call names is not available, with these details.
-    NotAvailable(dvs_refusal),
+/// The status of a call that failed, and its details.
+pub(crate) struct CallError {
+    pub(crate) status: dvs_status,
+    pub(crate) details: dvs_refusal,
+}
+
+impl From<dvs_status> for CallError {
+    fn from(status: dvs_status) -> Self {
+        let details = dvs_refusal::default();
+        CallError { status, details }
+    }
+}
+
+impl From<AllocError> for CallError {
+    fn from(_: AllocError) -> Self {
+        DVS_OUT_OF_MEMORY.into()
+    }
 }
 
 impl From<Error> for CallError {
@@ -82,67 +91,50 @@ impl From<Error> for CallError {
     #[cold]
     #[inline(never)]
     fn from(error: Error) -> Self {
-        CallError::Call(error)
-    }
-}
-
-impl From<AllocError> for CallError {
-    fn from(_: AllocError) -> Self {
-        CallError::Call(Error::OutOfMemory)
-    }
-}
-
-impl CallError {
-    /// Returns the status of the error, and its details.
-    pub(crate) fn parts(&self) -> (dvs_status, dvs_refusal) {
         let none = dvs_refusal::default();
-        match self {
-            CallError::Null => (DVS_NULL, none),
-            CallError::Busy => (DVS_BUSY, none),
-            CallError::InvalidPolicy => (DVS_INVALID_POLICY, none),
-            CallError::Call(error) => parts_of(error),
-            CallError::NotAvailable(details) => (DVS_RESOURCE_NOT_AVAILABLE, *details),
-        }
+        let of_id = |id| dvs_refusal { id, ..none };
+        let of_range = |range| dvs_refusal { range, ..none };
+        let (status, details) = match error {
+            Error::Overflow => (DVS_OVERFLOW, none),
+            Error::OutOfRange(id) => (DVS_OUT_OF_RANGE, of_id(id)),
+            Error::AlreadyReleased(id) => (DVS_ALREADY_RELEASED, of_id(id)),
+            Error::NeverAllocated(id) => (DVS_NEVER_ALLOCATED, of_id(id)),
+            Error::ResourceNotAvailable => (DVS_RESOURCE_NOT_AVAILABLE, none),
+            Error::InvalidRange(start, end) => {
+                (DVS_INVALID_RANGE, of_range(dvs_range { start, end }))
+            }
+            Error::InvalidAlignment => (DVS_INVALID_ALIGNMENT, none),
+            Error::Overlap(range, other) => {
+                let (range, other) = (range.into(), other.into());
+                (
+                    DVS_OVERLAP,
+                    dvs_refusal {
+                        range,
+                        other,
+                        ..none
+                    },
+                )
+            }
+            Error::InvalidStateTransition(range, _) => {
+                (DVS_INVALID_STATE_TRANSITION, of_range(range.into()))
+            }
+            Error::UnalignedAddress => (DVS_UNALIGNED_ADDRESS, none),
+            Error::Underflow => (DVS_UNDERFLOW, none),
+            Error::InvalidSize(size) => (DVS_INVALID_SIZE, dvs_refusal { size, ..none }),
+            Error::OutOfMemory => (DVS_OUT_OF_MEMORY, none),
+        };
+        CallError { status, details }
     }
 }
 
 /// Returns the error of a call that names an id. The details of `ResourceNotAvailable` have the id.
 #[cold]
 pub(crate) fn refused_id(error: Error, id: u32) -> CallError {
-    let none = dvs_refusal::default();
-    match error {
-        Error::ResourceNotAvailable => CallError::NotAvailable(dvs_refusal { id, ..none }),
-        _ => error.into(),
+    let mut refused = CallError::from(error);
+    if refused.status == DVS_RESOURCE_NOT_AVAILABLE {
+        refused.details.id = id;
     }
-}
-
-/// Returns the status of an error of the allocators, and its details.
-fn parts_of(error: &Error) -> (dvs_status, dvs_refusal) {
-    let none = dvs_refusal::default();
-    let of_id = |id: &u32| dvs_refusal { id: *id, ..none };
-    let of_ranges = |range, other| dvs_refusal {
-        range,
-        other,
-        ..none
-    };
-    let of_range = |range| of_ranges(range, none.other);
-    match error {
-        Error::Overflow => (DVS_OVERFLOW, none),
-        Error::OutOfRange(id) => (DVS_OUT_OF_RANGE, of_id(id)),
-        Error::AlreadyReleased(id) => (DVS_ALREADY_RELEASED, of_id(id)),
-        Error::NeverAllocated(id) => (DVS_NEVER_ALLOCATED, of_id(id)),
-        Error::ResourceNotAvailable => (DVS_RESOURCE_NOT_AVAILABLE, none),
-        &Error::InvalidRange(start, end) => (DVS_INVALID_RANGE, of_range(dvs_range { start, end })),
-        Error::InvalidAlignment => (DVS_INVALID_ALIGNMENT, none),
-        Error::Overlap(range, other) => (DVS_OVERLAP, of_ranges((*range).into(), (*other).into())),
-        Error::InvalidStateTransition(range, _) => {
-            (DVS_INVALID_STATE_TRANSITION, of_range((*range).into()))
-        }
-        Error::UnalignedAddress => (DVS_UNALIGNED_ADDRESS, none),
-        Error::Underflow => (DVS_UNDERFLOW, none),
-        &Error::InvalidSize(size) => (DVS_INVALID_SIZE, dvs_refusal { size, ..none }),
-        Error::OutOfMemory => (DVS_OUT_OF_MEMORY, none),
-    }
+    refused
 }
 
 /// Returns the status of a result. If it is an error, also writes its details to `refusal`.
@@ -156,11 +148,10 @@ pub(crate) fn status_of(answer: Result<(), CallError>, refusal: Out<dvs_refusal>
 
 #[cold]
 fn report(refused: &CallError, refusal: Out<dvs_refusal>) -> dvs_status {
-    let (status, details) = refused.parts();
     if let Some(refusal) = refusal {
-        refusal.write(details);
+        refusal.write(refused.details);
     }
-    status
+    refused.status
 }
 
 /// Returns the row of a number, which is from C, so it can be any.

@@ -26,7 +26,7 @@ const STATES: [&CStr; 2] = [c"Free", c"Allocated"];
 // ---- Writing
 
 /// The destination of a text.
-trait Sink {
+pub(crate) trait Sink {
     fn text(&mut self, text: &str);
     fn number(&mut self, number: u64);
 }
@@ -66,7 +66,7 @@ impl Sink for TextBuffer {
 }
 
 /// A value that is written as JSON.
-trait Json {
+pub(crate) trait Json {
     fn write(&self, to: &mut impl Sink);
 }
 
@@ -148,17 +148,13 @@ pub(crate) fn save_space(space: &AddressAllocator) -> Result<CString, CallError>
     text_of(&WithBlocks(space, &space.written_blocks(Global)?))
 }
 
-pub(crate) fn save_ids(ids: &IdAllocator) -> Result<CString, CallError> {
-    text_of(ids)
-}
-
 pub(crate) fn save_devices(manager: &DeviceManager) -> Result<CString, CallError> {
     let blocks = manager.addresses().written_blocks(Global)?;
     text_of(&WithBlocks(manager, &blocks))
 }
 
 /// Returns the text of a value. It is counted first, so that it is allocated once.
-fn text_of(value: &impl Json) -> Result<CString, CallError> {
+pub(crate) fn text_of(value: &impl Json) -> Result<CString, CallError> {
     let mut counted = TextLength(0);
     value.write(&mut counted);
     let mut written = TextBuffer(Vec::new());

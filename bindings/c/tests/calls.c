@@ -461,6 +461,8 @@ static void reserve_given_ids(void) {
     CHECK(refusal.id == 9);
     CHECK(dvs_device_move(manager, 7, &held, &device.range, &refusal) ==
           DVS_RESOURCE_NOT_AVAILABLE);
+    /* The device is not in its own way. */
+    CHECK(refusal.cause == DVS_CAUSE_ALLOCATED && is_range(refusal.other, 8, 15));
     CHECK(dvs_device_move(manager, 8, &last, &device.range, NULL) == DVS_OK);
     CHECK(is_range(device.range, 48, 63));
     CHECK(dvs_device_slot(manager, 8, &device.range, NULL) == DVS_OK);
@@ -471,6 +473,7 @@ static void reserve_given_ids(void) {
     CHECK(dvs_range_count(space, &count) == DVS_OK && count == 2);
     CHECK(dvs_device_manager_copy_ids(manager, &ids) == DVS_OK);
     CHECK(dvs_id_allocate(ids, &id) == DVS_OK && id == 0);
+    CHECK(dvs_id_allocate_exact(ids, 0, &refusal) == DVS_RESOURCE_NOT_AVAILABLE && refusal.id == 0);
     CHECK(dvs_device_count(manager, &count) == DVS_OK && count == 2);
     destroy(0, space);
     destroy(1, ids);
@@ -989,6 +992,8 @@ static const struct {
      "start", "a whole number"},
     {SPACE_WITHIN, "{\"address_space\":{\"start\":1,\"end\":0}}", DVS_NOT_A_STATE, 17,
      "address_space", "range"},
+    {SPACE_WITHIN, "{\"interval_tree\":{\"root\":{\"node_state\": \"Fre\"}}}", DVS_NOT_A_STATE, 40,
+     "node_state", "another text"},
     /* Each condition that the parts of an object can violate. */
     {SPACE_WITHIN, "{\"interval_tree\":{\"root\":" FIFTY("{\"left\":") "0" FIFTY("}") "}}",
      DVS_NOT_A_STATE, 425, "left", "nested more than 50 deep"},

@@ -684,6 +684,7 @@ static dvs_status make_map_call(dvs_range_map *map, const struct map_row *row,
 static void keep_values(void) {
     const dvs_request wide = request_of(30, 1, DVS_EXACT, 16);
     const dvs_request at_its_end = request_of(2, 1, DVS_EXACT, 45);
+    const dvs_request between = request_of(40, 1, DVS_EXACT, 40);
     struct seen seen = all_of();
     dvs_refusal refusal;
     dvs_range_map *map;
@@ -711,6 +712,9 @@ static void keep_values(void) {
     CHECK(dvs_range_map_move(map, range_of(79, 79), &at_its_end, &range, &refusal) ==
           DVS_RESOURCE_NOT_AVAILABLE);
     CHECK(refusal.cause == DVS_CAUSE_ALLOCATED && is_range(refusal.other, 16, 45));
+    CHECK(dvs_range_map_move(map, range_of(16, 45), &between, &range, &refusal) ==
+          DVS_RESOURCE_NOT_AVAILABLE);
+    CHECK(refusal.cause == DVS_CAUSE_ALLOCATED && is_range(refusal.other, 79, 79));
     CHECK(dvs_range_map_destroy(map) == DVS_OK && dvs_range_map_destroy(NULL) == DVS_OK);
     CHECK(dvs_range_map_new(16, 0, &map) == DVS_UNDERFLOW);
 }

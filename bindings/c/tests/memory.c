@@ -361,7 +361,7 @@ static void measure_nesting(void) {
     end += sprintf(end, "}}");
     most_bytes = bytes;
     CHECK(dvs_address_allocator_read_repaired(text, (size_t)(end - text), &made) == DVS_OK);
-    CHECK(most_bytes - bytes < 8192);
+    CHECK(most_bytes - bytes < 8 * 1024);
     destroy(0, made);
 }
 

@@ -882,11 +882,18 @@ static void lend_each() {
     dvs::id_allocator ids, no_id;
     dvs::device_manager devices, no_device;
     dvs_device device;
-    dvs_range range;
+    dvs_range range, next;
     uint32_t id = 0;
 
     CHECK(!space.make(0, 64) && !no_range.make(0, 64) && !space.allocate_first(8, 8, range));
     lend<dvs::range_lease>(space, range, no_range);
+    CHECK(!space.allocate_first(8, 8, next));
+    {
+        dvs::range_lease one(space, range), other(space, next);
+        one = std::move(other);
+        CHECK(is_range(one.get(), next.start, next.end));
+    }
+    CHECK(space == no_range);
     /* Equal id allocators have the same freed ids. */
     CHECK(!ids.make(5, 9) && !ids.allocate(id) && !ids.free(id) && !no_id.make_copy(ids));
     CHECK(!ids.allocate(id));

@@ -3,7 +3,7 @@ use crate::convert::{out_of_memory, unless_list_out_of_memory};
 use crate::error::{ListResult, TryListResult, TryResult};
 use crate::proved::vm_addresses as proved;
 use crate::rattle::Global;
-use crate::traits::{allocator, iterate, DebugList};
+use crate::traits::{allocator, iterate, twins, DebugList};
 use crate::{
     AllocPolicy, Conflict, Constraint, Error, Layout, ListError, RangeInclusive, Result, TryError,
     Window,
@@ -42,53 +42,53 @@ use core::fmt;
 pub struct AddressAllocator(pub(crate) proved::AddressAllocator);
 
 impl AddressAllocator {
-    /// Creates an allocator for the `size` addresses starting at `base`. All of them are free.
-    ///
-    /// # Errors
-    ///
-    /// In this order:
-    /// - `Underflow` if `size` is 0.
-    /// - `Overflow` if the last address would be past `u64::MAX`.
-    ///
-    /// # Example
-    ///
-    /// ```rust
-    /// use divsharun::{AddressAllocator, Error};
-    ///
-    /// // The ports of x86.
-    /// let ports = AddressAllocator::new(0, 0x1_0000)?;
-    /// assert_eq!((ports.base(), ports.end()), (0, 0xffff));
-    /// assert_eq!(AddressAllocator::new(u64::MAX, 2), Err(Error::Overflow));
-    /// # Ok::<(), Error>(())
-    /// ```
-    pub fn new(base: u64, size: u64) -> Result<Self> {
-        Ok(Self(proved::AddressAllocator::new(Global, base, size)?))
-    }
+    twins! {
+        /// Creates an allocator for the `size` addresses starting at `base`. All of them are free.
+        ///
+        /// # Errors
+        ///
+        /// In this order:
+        /// - `Underflow` if `size` is 0.
+        /// - `Overflow` if the last address would be past `u64::MAX`.
+        ///
+        /// # Example
+        ///
+        /// ```rust
+        /// use divsharun::{AddressAllocator, Error};
+        ///
+        /// // The ports of x86.
+        /// let ports = AddressAllocator::new(0, 0x1_0000)?;
+        /// assert_eq!((ports.base(), ports.end()), (0, 0xffff));
+        /// assert_eq!(AddressAllocator::new(u64::MAX, 2), Err(Error::Overflow));
+        /// # Ok::<(), Error>(())
+        /// ```
+        pub fn new(base: u64, size: u64) -> Self {
+            proved::AddressAllocator::new(Global, base, size).map(Self)
+        }
 
-    /// Creates an allocator like [`new`](Self::new), but returns an error if memory runs out.
-    ///
-    /// # Errors
-    ///
-    /// In this order:
-    /// - `Refused(Underflow)` if `size` is 0.
-    /// - `Refused(Overflow)` if the last address would be past `u64::MAX`.
-    /// - `OutOfMemory` if memory for the node runs out.
-    ///
-    /// # Example
-    ///
-    /// ```rust
-    /// use divsharun::{AddressAllocator, Error, TryError};
-    ///
-    /// let mmio = AddressAllocator::try_new(0xe000_0000, 0x1000_0000)?;
-    /// assert_eq!(mmio.free_len(), 0x1000_0000);
-    /// assert_eq!(
-    ///     AddressAllocator::try_new(0xe000_0000, 0),
-    ///     Err(TryError::Refused(Error::Underflow))
-    /// );
-    /// # Ok::<(), TryError>(())
-    /// ```
-    pub fn try_new(base: u64, size: u64) -> TryResult<Self> {
-        Ok(Self(proved::AddressAllocator::new(Global, base, size)?))
+        /// Creates an allocator like [`new`](Self::new), but returns an error if memory runs out.
+        ///
+        /// # Errors
+        ///
+        /// In this order:
+        /// - `Refused(Underflow)` if `size` is 0.
+        /// - `Refused(Overflow)` if the last address would be past `u64::MAX`.
+        /// - `OutOfMemory` if memory for the node runs out.
+        ///
+        /// # Example
+        ///
+        /// ```rust
+        /// use divsharun::{AddressAllocator, Error, TryError};
+        ///
+        /// let mmio = AddressAllocator::try_new(0xe000_0000, 0x1000_0000)?;
+        /// assert_eq!(mmio.free_len(), 0x1000_0000);
+        /// assert_eq!(
+        ///     AddressAllocator::try_new(0xe000_0000, 0),
+        ///     Err(TryError::Refused(Error::Underflow))
+        /// );
+        /// # Ok::<(), TryError>(())
+        /// ```
+        pub fn try_new;
     }
 
     /// Creates an allocator for the addresses of a range, such as the window of a bridge. All of them
@@ -278,156 +278,145 @@ impl AddressAllocator {
         made.map(AddressAllocator).map_err(Into::into)
     }
 
-    /// Allocates `size` free addresses that start at a multiple of `alignment`, and returns their
-    /// range: the lowest for `FirstMatch`, the highest for `LastMatch`, and the range at `start` for
-    /// `ExactMatch(start)`.
-    ///
-    /// # Errors
-    ///
-    /// An error changes nothing. In this order:
-    /// - `InvalidSize(0)` if `size` is 0.
-    /// - `InvalidAlignment` if `alignment` is not a power of two.
-    /// - For `ExactMatch(start)`:
-    ///   - `UnalignedAddress` if `start` is not a multiple of `alignment`.
-    ///   - `Overflow` if `start` is `u64::MAX`.
-    ///   - `ResourceNotAvailable` if `start` is outside the space.
-    ///   - `Overflow` if the range would end past `u64::MAX`.
-    ///   - `InvalidStateTransition`, with the range and `Allocated`, if exactly this range is
-    ///     already allocated.
-    /// - `ResourceNotAvailable` if there is no such range.
-    /// - `Overflow` if the chosen range ends at `u64::MAX`, even if another range is free.
-    /// - `Overflow` if the range fills only a part of its gap and at least 6,293,134,512 ranges are
-    ///   allocated.
-    ///
-    /// # Example
-    ///
-    /// ```rust
-    /// use divsharun::{AddressAllocator, AllocPolicy, Error};
-    ///
-    /// let mut mmio = AddressAllocator::new(0xc000_0000, 0x3ec0_0000)?;
-    /// let registers = mmio.allocate(0x1000, 0x1000, AllocPolicy::FirstMatch)?;
-    /// let frames = mmio.allocate(0x100_0000, 0x100_0000, AllocPolicy::FirstMatch)?;
-    /// assert_eq!((registers.start(), frames.start()), (0xc000_0000, 0xc100_0000));
-    ///
-    /// let exact = AllocPolicy::ExactMatch(frames.start());
-    /// assert_eq!(mmio.allocate(0x1000, 0x1000, exact), Err(Error::ResourceNotAvailable));
-    /// # Ok::<(), Error>(())
-    /// ```
-    #[doc(alias("alloc", "reserve_range"))]
-    pub fn allocate(
-        &mut self,
-        size: u64,
-        alignment: u64,
-        policy: AllocPolicy,
-    ) -> Result<RangeInclusive> {
-        let range = self.0.allocate(Global, size, alignment, policy.proved())?;
-        Ok(RangeInclusive(range))
-    }
+    twins! {
+        /// Allocates `size` free addresses that start at a multiple of `alignment`, and returns their
+        /// range: the lowest for `FirstMatch`, the highest for `LastMatch`, and the range at `start` for
+        /// `ExactMatch(start)`.
+        ///
+        /// # Errors
+        ///
+        /// An error changes nothing. In this order:
+        /// - `InvalidSize(0)` if `size` is 0.
+        /// - `InvalidAlignment` if `alignment` is not a power of two.
+        /// - For `ExactMatch(start)`:
+        ///   - `UnalignedAddress` if `start` is not a multiple of `alignment`.
+        ///   - `Overflow` if `start` is `u64::MAX`.
+        ///   - `ResourceNotAvailable` if `start` is outside the space.
+        ///   - `Overflow` if the range would end past `u64::MAX`.
+        ///   - `InvalidStateTransition`, with the range and `Allocated`, if exactly this range is
+        ///     already allocated.
+        /// - `ResourceNotAvailable` if there is no such range.
+        /// - `Overflow` if the chosen range ends at `u64::MAX`, even if another range is free.
+        /// - `Overflow` if the range fills only a part of its gap and at least 6,293,134,512 ranges are
+        ///   allocated.
+        ///
+        /// # Example
+        ///
+        /// ```rust
+        /// use divsharun::{AddressAllocator, AllocPolicy, Error};
+        ///
+        /// let mut mmio = AddressAllocator::new(0xc000_0000, 0x3ec0_0000)?;
+        /// let registers = mmio.allocate(0x1000, 0x1000, AllocPolicy::FirstMatch)?;
+        /// let frames = mmio.allocate(0x100_0000, 0x100_0000, AllocPolicy::FirstMatch)?;
+        /// assert_eq!((registers.start(), frames.start()), (0xc000_0000, 0xc100_0000));
+        ///
+        /// let exact = AllocPolicy::ExactMatch(frames.start());
+        /// assert_eq!(mmio.allocate(0x1000, 0x1000, exact), Err(Error::ResourceNotAvailable));
+        /// # Ok::<(), Error>(())
+        /// ```
+        #[doc(alias("alloc", "reserve_range"))]
+        pub fn allocate(
+            &mut self,
+            size: u64,
+            alignment: u64,
+            policy: AllocPolicy,
+        ) -> RangeInclusive {
+            self.0.allocate(Global, size, alignment, policy.proved())
+        }
 
-    /// Allocates a range like [`allocate`](Self::allocate), but returns an error if memory
-    /// runs out.
-    ///
-    /// # Errors
-    ///
-    /// An error changes nothing. In this order:
-    /// - `Refused` with `InvalidSize`, `InvalidAlignment`, `UnalignedAddress`, `Overflow`,
-    ///   `ResourceNotAvailable` or `InvalidStateTransition`, if `allocate` returns that error.
-    /// - `OutOfMemory` if memory for a node runs out. A range that fills its gap does not
-    ///   allocate.
-    ///
-    /// # Example
-    ///
-    /// ```rust
-    /// use divsharun::{AddressAllocator, AllocPolicy, Error, TryError};
-    ///
-    /// let mut ports = AddressAllocator::try_new(0xc000, 0x4000)?;
-    /// let bar = ports.try_allocate(0x20, 0x20, AllocPolicy::FirstMatch)?;
-    /// assert_eq!(bar.to_string(), "c000-c01f");
-    /// assert_eq!(
-    ///     ports.try_allocate(0x20, 0x18, AllocPolicy::FirstMatch),
-    ///     Err(TryError::Refused(Error::InvalidAlignment))
-    /// );
-    /// # Ok::<(), TryError>(())
-    /// ```
-    pub fn try_allocate(
-        &mut self,
-        size: u64,
-        alignment: u64,
-        policy: AllocPolicy,
-    ) -> TryResult<RangeInclusive> {
-        let range = self.0.allocate(Global, size, alignment, policy.proved())?;
-        Ok(RangeInclusive(range))
-    }
+        /// Allocates a range like [`allocate`](Self::allocate), but returns an error if memory
+        /// runs out.
+        ///
+        /// # Errors
+        ///
+        /// An error changes nothing. In this order:
+        /// - `Refused` with `InvalidSize`, `InvalidAlignment`, `UnalignedAddress`, `Overflow`,
+        ///   `ResourceNotAvailable` or `InvalidStateTransition`, if `allocate` returns that error.
+        /// - `OutOfMemory` if memory for a node runs out. A range that fills its gap does not
+        ///   allocate.
+        ///
+        /// # Example
+        ///
+        /// ```rust
+        /// use divsharun::{AddressAllocator, AllocPolicy, Error, TryError};
+        ///
+        /// let mut ports = AddressAllocator::try_new(0xc000, 0x4000)?;
+        /// let bar = ports.try_allocate(0x20, 0x20, AllocPolicy::FirstMatch)?;
+        /// assert_eq!(bar.to_string(), "c000-c01f");
+        /// assert_eq!(
+        ///     ports.try_allocate(0x20, 0x18, AllocPolicy::FirstMatch),
+        ///     Err(TryError::Refused(Error::InvalidAlignment))
+        /// );
+        /// # Ok::<(), TryError>(())
+        /// ```
+        pub fn try_allocate;
 
-    /// Allocates a range like [`allocate`](Self::allocate), for a request that was made before.
-    ///
-    /// If the request has a [window](Constraint::within), the range lies in it. `FirstMatch` chooses
-    /// the lowest range in the window, and `LastMatch` the highest.
-    ///
-    /// # Errors
-    ///
-    /// An error changes nothing. In this order:
-    /// - For `ExactMatch(start)`:
-    ///   - `Overflow` if `start` is `u64::MAX`.
-    ///   - `ResourceNotAvailable` if `start` is outside the space or outside the window.
-    ///   - `Overflow` if the range would end past `u64::MAX`.
-    ///   - `InvalidStateTransition`, with the range and `Allocated`, if exactly this range is
-    ///     already allocated, even if it ends past the window.
-    /// - `ResourceNotAvailable` if no range fits, or the window and the space have no address in
-    ///   common.
-    /// - `Overflow` if the chosen range ends at `u64::MAX`, even if another range is free. A window
-    ///   that ends below `u64::MAX` avoids this.
-    /// - `Overflow` if the range fills only a part of its gap and the number of allocated ranges is at the
-    ///   limit of [`allocate`](Self::allocate).
-    ///
-    /// # Example
-    ///
-    /// ```rust
-    /// use divsharun::{AddressAllocator, AllocPolicy, Constraint, Error, RangeInclusive};
-    ///
-    /// let mut mmio = AddressAllocator::new(0xd000_0000, 0x3000)?;
-    /// let registers = Constraint::new(0x1000, 0x1000, AllocPolicy::LastMatch)?;
-    /// assert_eq!(mmio.allocate_constraint(registers)?.start(), 0xd000_2000);
-    ///
-    /// let window = RangeInclusive::new(0xd000_0000, 0xd000_0fff)?;
-    /// let inside = registers.within(window)?;
-    /// assert_eq!(mmio.allocate_constraint(inside)?, window);
-    /// assert_eq!(mmio.allocate_constraint(inside), Err(Error::ResourceNotAvailable));
-    /// # Ok::<(), Error>(())
-    /// ```
-    pub fn allocate_constraint(&mut self, request: Constraint) -> Result<RangeInclusive> {
-        let range = self.0.allocate_constraint(Global, request.0)?;
-        Ok(RangeInclusive(range))
-    }
+        /// Allocates a range like [`allocate`](Self::allocate), for a request that was made before.
+        ///
+        /// If the request has a [window](Constraint::within), the range lies in it. `FirstMatch` chooses
+        /// the lowest range in the window, and `LastMatch` the highest.
+        ///
+        /// # Errors
+        ///
+        /// An error changes nothing. In this order:
+        /// - For `ExactMatch(start)`:
+        ///   - `Overflow` if `start` is `u64::MAX`.
+        ///   - `ResourceNotAvailable` if `start` is outside the space or outside the window.
+        ///   - `Overflow` if the range would end past `u64::MAX`.
+        ///   - `InvalidStateTransition`, with the range and `Allocated`, if exactly this range is
+        ///     already allocated, even if it ends past the window.
+        /// - `ResourceNotAvailable` if no range fits, or the window and the space have no address in
+        ///   common.
+        /// - `Overflow` if the chosen range ends at `u64::MAX`, even if another range is free. A window
+        ///   that ends below `u64::MAX` avoids this.
+        /// - `Overflow` if the range fills only a part of its gap and the number of allocated ranges is at the
+        ///   limit of [`allocate`](Self::allocate).
+        ///
+        /// # Example
+        ///
+        /// ```rust
+        /// use divsharun::{AddressAllocator, AllocPolicy, Constraint, Error, RangeInclusive};
+        ///
+        /// let mut mmio = AddressAllocator::new(0xd000_0000, 0x3000)?;
+        /// let registers = Constraint::new(0x1000, 0x1000, AllocPolicy::LastMatch)?;
+        /// assert_eq!(mmio.allocate_constraint(registers)?.start(), 0xd000_2000);
+        ///
+        /// let window = RangeInclusive::new(0xd000_0000, 0xd000_0fff)?;
+        /// let inside = registers.within(window)?;
+        /// assert_eq!(mmio.allocate_constraint(inside)?, window);
+        /// assert_eq!(mmio.allocate_constraint(inside), Err(Error::ResourceNotAvailable));
+        /// # Ok::<(), Error>(())
+        /// ```
+        pub fn allocate_constraint(&mut self, request: Constraint) -> RangeInclusive {
+            self.0.allocate_constraint(Global, request.0)
+        }
 
-    /// Allocates a range like [`allocate_constraint`](Self::allocate_constraint), but returns an
-    /// error if memory runs out.
-    ///
-    /// # Errors
-    ///
-    /// An error changes nothing. In this order:
-    /// - `Refused` with `Overflow`, `ResourceNotAvailable` or `InvalidStateTransition`, if
-    ///   `allocate_constraint` returns that error.
-    /// - `OutOfMemory` if memory for a node runs out. A range that fills its gap does not allocate.
-    ///
-    /// # Example
-    ///
-    /// ```rust
-    /// use divsharun::{AddressAllocator, AllocPolicy, Constraint, Error, TryError};
-    ///
-    /// let mut mmio = AddressAllocator::try_new(0xc000_0000, 0x2_0000_0000)?;
-    /// let bar = Constraint::new(0x4000_0000, 0x1000, AllocPolicy::LastMatch)?;
-    /// let bar = bar.within(..=0xffff_ffff)?;
-    /// assert_eq!(mmio.try_allocate_constraint(bar)?.start(), 0xc000_0000);
-    /// assert_eq!(
-    ///     mmio.try_allocate_constraint(bar),
-    ///     Err(TryError::Refused(Error::ResourceNotAvailable))
-    /// );
-    /// # Ok::<(), TryError>(())
-    /// ```
-    pub fn try_allocate_constraint(&mut self, request: Constraint) -> TryResult<RangeInclusive> {
-        let range = self.0.allocate_constraint(Global, request.0)?;
-        Ok(RangeInclusive(range))
+        /// Allocates a range like [`allocate_constraint`](Self::allocate_constraint), but returns an
+        /// error if memory runs out.
+        ///
+        /// # Errors
+        ///
+        /// An error changes nothing. In this order:
+        /// - `Refused` with `Overflow`, `ResourceNotAvailable` or `InvalidStateTransition`, if
+        ///   `allocate_constraint` returns that error.
+        /// - `OutOfMemory` if memory for a node runs out. A range that fills its gap does not allocate.
+        ///
+        /// # Example
+        ///
+        /// ```rust
+        /// use divsharun::{AddressAllocator, AllocPolicy, Constraint, Error, TryError};
+        ///
+        /// let mut mmio = AddressAllocator::try_new(0xc000_0000, 0x2_0000_0000)?;
+        /// let bar = Constraint::new(0x4000_0000, 0x1000, AllocPolicy::LastMatch)?;
+        /// let bar = bar.within(..=0xffff_ffff)?;
+        /// assert_eq!(mmio.try_allocate_constraint(bar)?.start(), 0xc000_0000);
+        /// assert_eq!(
+        ///     mmio.try_allocate_constraint(bar),
+        ///     Err(TryError::Refused(Error::ResourceNotAvailable))
+        /// );
+        /// # Ok::<(), TryError>(())
+        /// ```
+        pub fn try_allocate_constraint;
     }
 
     /// Returns the reason why the range of an `ExactMatch` request is not free, or `None` if it is free.
@@ -485,155 +474,143 @@ impl AddressAllocator {
         self.0.move_conflict(&key.0, request.0).map(Into::into)
     }
 
-    /// Moves an allocated range to the place of a request, and returns the range there. A guest does
-    /// this when it programs a BAR, and a monitor when it resizes one.
-    ///
-    /// It frees `key` and allocates a range for the request like
-    /// [`allocate_constraint`](Self::allocate_constraint), or changes nothing. So the range can overlap
-    /// `key`.
-    ///
-    /// # Errors
-    ///
-    /// An error changes nothing. In this order:
-    /// - `ResourceNotAvailable` if exactly `key` is not allocated.
-    /// - `Overflow`, `ResourceNotAvailable` or `InvalidStateTransition`, if `allocate_constraint` returns
-    ///   that error if `key` is free.
-    ///
-    /// # Example
-    ///
-    /// ```rust
-    /// use divsharun::{AddressAllocator, AllocPolicy, Constraint, Error};
-    ///
-    /// // A 32-bit BAR, aligned to its size.
-    /// let bar = |size, policy| Constraint::new(size, size, policy)?.within(..=0xffff_ffff);
-    /// let mut mmio = AddressAllocator::new(0xd000_0000, 0x1_0000_0000)?;
-    /// let range = mmio.allocate_constraint(bar(0x4000, AllocPolicy::FirstMatch)?)?;
-    ///
-    /// // The guest programs a start that is aligned, then one that is not, and one above 4 GiB.
-    /// let moved = mmio.move_constraint(&range, bar(0x4000, AllocPolicy::ExactMatch(0xd800_0000))?)?;
-    /// assert_eq!((moved.start(), moved.len()), (0xd800_0000, 0x4000));
-    /// assert_eq!(bar(0x4000, AllocPolicy::ExactMatch(0xd800_2000)), Err(Error::UnalignedAddress));
-    /// let above = bar(0x4000, AllocPolicy::ExactMatch(0x1_0000_0000))?;
-    /// assert_eq!(mmio.move_constraint(&moved, above), Err(Error::ResourceNotAvailable));
-    ///
-    /// // The monitor makes it longer in place.
-    /// let larger = bar(0x1_0000, AllocPolicy::ExactMatch(moved.start()))?;
-    /// assert_eq!(mmio.move_constraint(&moved, larger)?.end(), 0xd800_ffff);
-    /// assert_eq!(mmio.held_count(), 1);
-    /// # Ok::<(), Error>(())
-    /// ```
-    #[doc(alias = "resize")]
-    pub fn move_constraint(
-        &mut self,
-        key: &RangeInclusive,
-        request: Constraint,
-    ) -> Result<RangeInclusive> {
-        let range = self.0.move_constraint(Global, &key.0, request.0)?;
-        Ok(RangeInclusive(range))
-    }
+    twins! {
+        /// Moves an allocated range to the place of a request, and returns the range there. A guest does
+        /// this when it programs a BAR, and a monitor when it resizes one.
+        ///
+        /// It frees `key` and allocates a range for the request like
+        /// [`allocate_constraint`](Self::allocate_constraint), or changes nothing. So the range can overlap
+        /// `key`.
+        ///
+        /// # Errors
+        ///
+        /// An error changes nothing. In this order:
+        /// - `ResourceNotAvailable` if exactly `key` is not allocated.
+        /// - `Overflow`, `ResourceNotAvailable` or `InvalidStateTransition`, if `allocate_constraint` returns
+        ///   that error if `key` is free.
+        ///
+        /// # Example
+        ///
+        /// ```rust
+        /// use divsharun::{AddressAllocator, AllocPolicy, Constraint, Error};
+        ///
+        /// // A 32-bit BAR, aligned to its size.
+        /// let bar = |size, policy| Constraint::new(size, size, policy)?.within(..=0xffff_ffff);
+        /// let mut mmio = AddressAllocator::new(0xd000_0000, 0x1_0000_0000)?;
+        /// let range = mmio.allocate_constraint(bar(0x4000, AllocPolicy::FirstMatch)?)?;
+        ///
+        /// // The guest programs a start that is aligned, then one that is not, and one above 4 GiB.
+        /// let moved = mmio.move_constraint(&range, bar(0x4000, AllocPolicy::ExactMatch(0xd800_0000))?)?;
+        /// assert_eq!((moved.start(), moved.len()), (0xd800_0000, 0x4000));
+        /// assert_eq!(bar(0x4000, AllocPolicy::ExactMatch(0xd800_2000)), Err(Error::UnalignedAddress));
+        /// let above = bar(0x4000, AllocPolicy::ExactMatch(0x1_0000_0000))?;
+        /// assert_eq!(mmio.move_constraint(&moved, above), Err(Error::ResourceNotAvailable));
+        ///
+        /// // The monitor makes it longer in place.
+        /// let larger = bar(0x1_0000, AllocPolicy::ExactMatch(moved.start()))?;
+        /// assert_eq!(mmio.move_constraint(&moved, larger)?.end(), 0xd800_ffff);
+        /// assert_eq!(mmio.held_count(), 1);
+        /// # Ok::<(), Error>(())
+        /// ```
+        #[doc(alias = "resize")]
+        pub fn move_constraint(
+            &mut self,
+            key: &RangeInclusive,
+            request: Constraint,
+        ) -> RangeInclusive {
+            self.0.move_constraint(Global, &key.0, request.0)
+        }
 
-    /// Moves a range like [`move_constraint`](Self::move_constraint), but returns an error if memory
-    /// runs out.
-    ///
-    /// # Errors
-    ///
-    /// An error changes nothing. In this order:
-    /// - `Refused` with `ResourceNotAvailable`, `Overflow` or `InvalidStateTransition`, if
-    ///   `move_constraint` returns that error.
-    /// - `OutOfMemory` if memory for a node runs out. A new range that fills its gap does not allocate.
-    ///
-    /// # Example
-    ///
-    /// ```rust
-    /// use divsharun::{AddressAllocator, AllocPolicy, Constraint, Error, TryError};
-    ///
-    /// let mut ports = AddressAllocator::try_new(0xc000, 0x1000)?;
-    /// let bar = ports.try_allocate(0x100, 0x100, AllocPolicy::FirstMatch)?;
-    /// let smaller = Constraint::new(0x20, 0x20, AllocPolicy::LastMatch)?;
-    /// assert_eq!(ports.try_move_constraint(&bar, smaller)?.start(), 0xcfe0);
-    /// assert_eq!(
-    ///     ports.try_move_constraint(&bar, smaller),
-    ///     Err(TryError::Refused(Error::ResourceNotAvailable))
-    /// );
-    /// # Ok::<(), TryError>(())
-    /// ```
-    pub fn try_move_constraint(
-        &mut self,
-        key: &RangeInclusive,
-        request: Constraint,
-    ) -> TryResult<RangeInclusive> {
-        let range = self.0.move_constraint(Global, &key.0, request.0)?;
-        Ok(RangeInclusive(range))
-    }
+        /// Moves a range like [`move_constraint`](Self::move_constraint), but returns an error if memory
+        /// runs out.
+        ///
+        /// # Errors
+        ///
+        /// An error changes nothing. In this order:
+        /// - `Refused` with `ResourceNotAvailable`, `Overflow` or `InvalidStateTransition`, if
+        ///   `move_constraint` returns that error.
+        /// - `OutOfMemory` if memory for a node runs out. A new range that fills its gap does not allocate.
+        ///
+        /// # Example
+        ///
+        /// ```rust
+        /// use divsharun::{AddressAllocator, AllocPolicy, Constraint, Error, TryError};
+        ///
+        /// let mut ports = AddressAllocator::try_new(0xc000, 0x1000)?;
+        /// let bar = ports.try_allocate(0x100, 0x100, AllocPolicy::FirstMatch)?;
+        /// let smaller = Constraint::new(0x20, 0x20, AllocPolicy::LastMatch)?;
+        /// assert_eq!(ports.try_move_constraint(&bar, smaller)?.start(), 0xcfe0);
+        /// assert_eq!(
+        ///     ports.try_move_constraint(&bar, smaller),
+        ///     Err(TryError::Refused(Error::ResourceNotAvailable))
+        /// );
+        /// # Ok::<(), TryError>(())
+        /// ```
+        pub fn try_move_constraint;
 
-    /// Moves an allocated range to another start, and returns the range there.
-    ///
-    /// This is [`move_constraint`](Self::move_constraint) for as many addresses at `start`, at alignment
-    /// 1 and without a window. So it does not check the alignment and the window of the first request.
-    ///
-    /// # Errors
-    ///
-    /// An error changes nothing. In this order:
-    /// - `ResourceNotAvailable` if exactly this range is not allocated.
-    /// - `Overflow` if `start` is `u64::MAX`.
-    /// - `ResourceNotAvailable` if `start` is outside the space.
-    /// - `Overflow` if the new range would end past `u64::MAX`.
-    /// - `InvalidStateTransition` if exactly the new range is already allocated, and is not `key`.
-    /// - `ResourceNotAvailable` if an address of the new range is allocated to another range than `key`.
-    /// - `Overflow` if the new range ends at `u64::MAX`.
-    /// - `Overflow` if the new range fills only a part of its gap, and without `key` the number of allocated
-    ///   ranges is at the limit of [`allocate`](Self::allocate).
-    ///
-    /// # Example
-    ///
-    /// ```rust
-    /// use divsharun::{AddressAllocator, AllocPolicy, Error};
-    ///
-    /// let mut mmio = AddressAllocator::new(0xd000_0000, 0x1000_0000)?;
-    /// let bar = mmio.allocate(0x4000, 0x4000, AllocPolicy::FirstMatch)?;
-    /// let moved = mmio.move_range(&bar, 0xd800_0000)?;
-    /// assert_eq!((moved.start(), moved.len()), (0xd800_0000, 0x4000));
-    /// assert!(!mmio.holds(&bar));
-    ///
-    /// // The new range can overlap the old one, but no other range.
-    /// let moved = mmio.move_range(&moved, 0xd800_2000)?;
-    /// let next = mmio.allocate(0x2000, 0x2000, AllocPolicy::ExactMatch(0xd800_0000))?;
-    /// assert_eq!(mmio.move_range(&moved, next.start()), Err(Error::ResourceNotAvailable));
-    /// # Ok::<(), Error>(())
-    /// ```
-    pub fn move_range(&mut self, key: &RangeInclusive, start: u64) -> Result<RangeInclusive> {
-        Ok(RangeInclusive(self.0.move_range(Global, &key.0, start)?))
-    }
+        /// Moves an allocated range to another start, and returns the range there.
+        ///
+        /// This is [`move_constraint`](Self::move_constraint) for as many addresses at `start`, at alignment
+        /// 1 and without a window. So it does not check the alignment and the window of the first request.
+        ///
+        /// # Errors
+        ///
+        /// An error changes nothing. In this order:
+        /// - `ResourceNotAvailable` if exactly this range is not allocated.
+        /// - `Overflow` if `start` is `u64::MAX`.
+        /// - `ResourceNotAvailable` if `start` is outside the space.
+        /// - `Overflow` if the new range would end past `u64::MAX`.
+        /// - `InvalidStateTransition` if exactly the new range is already allocated, and is not `key`.
+        /// - `ResourceNotAvailable` if an address of the new range is allocated to another range than `key`.
+        /// - `Overflow` if the new range ends at `u64::MAX`.
+        /// - `Overflow` if the new range fills only a part of its gap, and without `key` the number of allocated
+        ///   ranges is at the limit of [`allocate`](Self::allocate).
+        ///
+        /// # Example
+        ///
+        /// ```rust
+        /// use divsharun::{AddressAllocator, AllocPolicy, Error};
+        ///
+        /// let mut mmio = AddressAllocator::new(0xd000_0000, 0x1000_0000)?;
+        /// let bar = mmio.allocate(0x4000, 0x4000, AllocPolicy::FirstMatch)?;
+        /// let moved = mmio.move_range(&bar, 0xd800_0000)?;
+        /// assert_eq!((moved.start(), moved.len()), (0xd800_0000, 0x4000));
+        /// assert!(!mmio.holds(&bar));
+        ///
+        /// // The new range can overlap the old one, but no other range.
+        /// let moved = mmio.move_range(&moved, 0xd800_2000)?;
+        /// let next = mmio.allocate(0x2000, 0x2000, AllocPolicy::ExactMatch(0xd800_0000))?;
+        /// assert_eq!(mmio.move_range(&moved, next.start()), Err(Error::ResourceNotAvailable));
+        /// # Ok::<(), Error>(())
+        /// ```
+        pub fn move_range(&mut self, key: &RangeInclusive, start: u64) -> RangeInclusive {
+            self.0.move_range(Global, &key.0, start)
+        }
 
-    /// Moves a range like [`move_range`](Self::move_range), but returns an error if memory runs out.
-    ///
-    /// # Errors
-    ///
-    /// An error changes nothing. In this order:
-    /// - `Refused` with `ResourceNotAvailable`, `Overflow` or `InvalidStateTransition`, if `move_range`
-    ///   returns that error.
-    /// - `OutOfMemory` if memory for a node runs out. A new range that fills its gap does not allocate.
-    ///
-    /// # Example
-    ///
-    /// ```rust
-    /// use divsharun::{AddressAllocator, AllocPolicy, Error, TryError};
-    ///
-    /// let mut ports = AddressAllocator::try_new(0xc000, 0x1000)?;
-    /// let bar = ports.try_allocate(0x100, 0x100, AllocPolicy::FirstMatch)?;
-    /// assert_eq!(ports.try_move_range(&bar, 0xc800)?.end(), 0xc8ff);
-    /// assert_eq!(
-    ///     ports.try_move_range(&bar, 0xc900),
-    ///     Err(TryError::Refused(Error::ResourceNotAvailable))
-    /// );
-    /// # Ok::<(), TryError>(())
-    /// ```
-    pub fn try_move_range(
-        &mut self,
-        key: &RangeInclusive,
-        start: u64,
-    ) -> TryResult<RangeInclusive> {
-        Ok(RangeInclusive(self.0.move_range(Global, &key.0, start)?))
+        /// Moves a range like [`move_range`](Self::move_range), but returns an error if memory runs out.
+        ///
+        /// # Errors
+        ///
+        /// An error changes nothing. In this order:
+        /// - `Refused` with `ResourceNotAvailable`, `Overflow` or `InvalidStateTransition`, if `move_range`
+        ///   returns that error.
+        /// - `OutOfMemory` if memory for a node runs out. A new range that fills its gap does not allocate.
+        ///
+        /// # Example
+        ///
+        /// ```rust
+        /// use divsharun::{AddressAllocator, AllocPolicy, Error, TryError};
+        ///
+        /// let mut ports = AddressAllocator::try_new(0xc000, 0x1000)?;
+        /// let bar = ports.try_allocate(0x100, 0x100, AllocPolicy::FirstMatch)?;
+        /// assert_eq!(ports.try_move_range(&bar, 0xc800)?.end(), 0xc8ff);
+        /// assert_eq!(
+        ///     ports.try_move_range(&bar, 0xc900),
+        ///     Err(TryError::Refused(Error::ResourceNotAvailable))
+        /// );
+        /// # Ok::<(), TryError>(())
+        /// ```
+        pub fn try_move_range;
     }
 
     /// Allocates a range for each request, in their order, and returns the ranges. Each request can
@@ -1330,7 +1307,7 @@ pub struct Gaps<'a>(proved::Ranges<'a>);
 #[derive(Clone)]
 pub struct GapsIn<'a>(proved::RangesIn<'a>);
 
-iterate!(HeldRanges, Gaps, HeldRangesIn, GapsIn: RangeInclusive, RangeInclusive, Iterator::size_hint);
+iterate!(HeldRanges, Gaps, HeldRangesIn, GapsIn: RangeInclusive, RangeInclusive);
 allocator!(AddressAllocator, HeldRanges of RangeInclusive, "the allocated ranges");
 
 impl ExactSizeIterator for HeldRanges<'_> {}

@@ -5,10 +5,10 @@
 //! unless it is the only one. Such a conversion is an impl of `Into` for the proved type instead.
 #![allow(clippy::from_over_into)]
 
-use crate::error::{ListResult, TryListResult, TryResult};
-use crate::proved::vm_addresses as proved;
-use crate::{AddressAllocator, Conflict, Error, ListError, NodeState, RangeInclusive};
-use crate::{Result, TryError};
+use crate::error::{ListResult, TryListResult};
+use crate::proved::{vm_addresses as proved, vm_devices};
+use crate::TryError;
+use crate::{AddressAllocator, Conflict, DeviceSlot, Error, ListError, NodeState, RangeInclusive};
 
 /// Implements the conversions between an enum of callers and the one of the proved code. They have the same
 /// variants, except for those of the last arm.
@@ -62,6 +62,25 @@ impl From<RangeInclusive> for proved::RangeInclusive {
     }
 }
 
+impl Into<DeviceSlot> for vm_devices::DeviceSlot {
+    fn into(self) -> DeviceSlot {
+        DeviceSlot {
+            id: self.id,
+            range: self.range.into(),
+        }
+    }
+}
+
+#[cfg(feature = "serde")]
+impl From<DeviceSlot> for vm_devices::DeviceSlot {
+    fn from(slot: DeviceSlot) -> Self {
+        vm_devices::DeviceSlot {
+            id: slot.id,
+            range: slot.range.0,
+        }
+    }
+}
+
 impl Into<Conflict> for proved::Conflict {
     fn into(self) -> Conflict {
         match self {
@@ -97,11 +116,6 @@ pub(crate) fn unless_list_out_of_memory<T>(answer: TryListResult<T>) -> ListResu
         index: failure.index,
         error: failure.error.error().unwrap_or_else(|| out_of_memory()),
     })
-}
-
-/// Converts a result of a `try_` call. Ends the process if memory ran out.
-pub(crate) fn unless_out_of_memory<T>(answer: TryResult<T>) -> Result<T> {
-    answer.map_err(|failure| failure.error().unwrap_or_else(|| out_of_memory()))
 }
 
 /// Ends the process, as Rust's collections do.

@@ -5,9 +5,9 @@ use crate::error::TryResult;
 use crate::id_allocator::DebugIds;
 use crate::proved::vm_devices as proved;
 use crate::rattle::Global;
-use crate::traits::{allocator, iterate, DebugList};
+use crate::traits::{allocator, iterate, twins, DebugList};
+use crate::RangeInclusive;
 use crate::{AddressAllocator, AllocPolicy, Conflict, Constraint, IdAllocator, IdRequest};
-use crate::{RangeInclusive, Result};
 use core::fmt;
 
 /// The resources of a device: an id and a range of addresses.
@@ -31,25 +31,6 @@ pub struct DeviceSlot {
     /// The addresses of the device.
     #[cfg_attr(feature = "serde", serde(rename = "mmio_range"))]
     pub range: RangeInclusive,
-}
-
-impl DeviceSlot {
-    /// Converts a slot of the proved code.
-    pub(crate) fn of(slot: proved::DeviceSlot) -> DeviceSlot {
-        DeviceSlot {
-            id: slot.id,
-            range: RangeInclusive(slot.range),
-        }
-    }
-
-    /// Converts to a slot of the proved code.
-    #[cfg(feature = "serde")]
-    pub(crate) fn proved(self) -> proved::DeviceSlot {
-        proved::DeviceSlot {
-            id: self.id,
-            range: self.range.0,
-        }
-    }
 }
 
 /// Allocates an id and a range of addresses for each device. If it cannot have both, it gets
@@ -109,243 +90,220 @@ impl DeviceSlot {
 pub struct DeviceManager(pub(crate) proved::DeviceManager);
 
 impl DeviceManager {
-    /// Creates a manager without devices, for the ids from `id_lo` to `id_hi`, both included, and
-    /// the `size` addresses starting at `base`.
-    ///
-    /// # Errors
-    ///
-    /// In this order:
-    /// - `InvalidRange(id_lo, id_hi)` if `id_hi` is less than `id_lo`.
-    /// - `Underflow` if `size` is 0.
-    /// - `Overflow` if the last address would be past `u64::MAX`.
-    ///
-    /// # Example
-    ///
-    /// ```rust
-    /// use divsharun::{DeviceManager, Error};
-    ///
-    /// let devices = DeviceManager::new(5, 23, 0xd000_0000, 0x2ec0_0000)?;
-    /// assert_eq!(devices.device_count(), 0);
-    /// assert_eq!(DeviceManager::new(5, 23, 0xd000_0000, 0), Err(Error::Underflow));
-    /// # Ok::<(), Error>(())
-    /// ```
-    pub fn new(id_lo: u32, id_hi: u32, base: u64, size: u64) -> Result<Self> {
-        let made = proved::DeviceManager::new(Global, id_lo, id_hi, base, size)?;
-        Ok(DeviceManager(made))
-    }
+    twins! {
+        /// Creates a manager without devices, for the ids from `id_lo` to `id_hi`, both included, and
+        /// the `size` addresses starting at `base`.
+        ///
+        /// # Errors
+        ///
+        /// In this order:
+        /// - `InvalidRange(id_lo, id_hi)` if `id_hi` is less than `id_lo`.
+        /// - `Underflow` if `size` is 0.
+        /// - `Overflow` if the last address would be past `u64::MAX`.
+        ///
+        /// # Example
+        ///
+        /// ```rust
+        /// use divsharun::{DeviceManager, Error};
+        ///
+        /// let devices = DeviceManager::new(5, 23, 0xd000_0000, 0x2ec0_0000)?;
+        /// assert_eq!(devices.device_count(), 0);
+        /// assert_eq!(DeviceManager::new(5, 23, 0xd000_0000, 0), Err(Error::Underflow));
+        /// # Ok::<(), Error>(())
+        /// ```
+        pub fn new(id_lo: u32, id_hi: u32, base: u64, size: u64) -> Self {
+            proved::DeviceManager::new(Global, id_lo, id_hi, base, size).map(Self)
+        }
 
-    /// Creates a manager like [`new`](Self::new), but returns an error if memory runs out.
-    ///
-    /// # Errors
-    ///
-    /// In this order:
-    /// - `Refused` with `InvalidRange`, `Underflow` or `Overflow`, if `new` returns that error.
-    /// - `OutOfMemory` if memory for a node runs out.
-    ///
-    /// # Example
-    ///
-    /// ```rust
-    /// use divsharun::{DeviceManager, Error, TryError};
-    ///
-    /// let devices = DeviceManager::try_new(0, 31, 0xa00_0000, 0x4000)?;
-    /// assert_eq!(devices.device_at(0xa00_0000), None);
-    /// assert_eq!(
-    ///     DeviceManager::try_new(31, 0, 0xa00_0000, 0x4000),
-    ///     Err(TryError::Refused(Error::InvalidRange(31, 0)))
-    /// );
-    /// # Ok::<(), TryError>(())
-    /// ```
-    pub fn try_new(id_lo: u32, id_hi: u32, base: u64, size: u64) -> TryResult<Self> {
-        let made = proved::DeviceManager::new(Global, id_lo, id_hi, base, size)?;
-        Ok(DeviceManager(made))
-    }
+        /// Creates a manager like [`new`](Self::new), but returns an error if memory runs out.
+        ///
+        /// # Errors
+        ///
+        /// In this order:
+        /// - `Refused` with `InvalidRange`, `Underflow` or `Overflow`, if `new` returns that error.
+        /// - `OutOfMemory` if memory for a node runs out.
+        ///
+        /// # Example
+        ///
+        /// ```rust
+        /// use divsharun::{DeviceManager, Error, TryError};
+        ///
+        /// let devices = DeviceManager::try_new(0, 31, 0xa00_0000, 0x4000)?;
+        /// assert_eq!(devices.device_at(0xa00_0000), None);
+        /// assert_eq!(
+        ///     DeviceManager::try_new(31, 0, 0xa00_0000, 0x4000),
+        ///     Err(TryError::Refused(Error::InvalidRange(31, 0)))
+        /// );
+        /// # Ok::<(), TryError>(())
+        /// ```
+        pub fn try_new;
 
-    /// Allocates the lowest free id and a range of `size` addresses for a new device. `policy` and
-    /// `align` choose the range as in
-    /// [`AddressAllocator::allocate`](crate::AddressAllocator::allocate).
-    ///
-    /// # Errors
-    ///
-    /// An error leaves ids, ranges and devices unchanged. In this order:
-    /// - `Overflow` or `ResourceNotAvailable` if all ids are allocated, as for
-    ///   [`IdAllocator::allocate_id`](crate::IdAllocator::allocate_id).
-    /// - `InvalidSize`, `InvalidAlignment`, `UnalignedAddress`, `Overflow`, `ResourceNotAvailable`
-    ///   or `InvalidStateTransition`, as for
-    ///   [`AddressAllocator::allocate`](crate::AddressAllocator::allocate).
-    ///
-    /// # Example
-    ///
-    /// ```rust
-    /// use divsharun::{AllocPolicy, DeviceManager, Error};
-    ///
-    /// let mut devices = DeviceManager::new(5, 6, 0xd000_0000, 0x1000_0000)?;
-    /// let net = devices.reserve(0x1000, 0x1000, AllocPolicy::FirstMatch)?;
-    /// let disk = devices.reserve(0x1000, 0x1000, AllocPolicy::FirstMatch)?;
-    /// assert_eq!([net.id, disk.id], [5, 6]);
-    /// assert_eq!([net.range.start(), disk.range.start()], [0xd000_0000, 0xd000_1000]);
-    ///
-    /// let third = devices.reserve(0x1000, 0x1000, AllocPolicy::FirstMatch);
-    /// assert_eq!(third, Err(Error::ResourceNotAvailable));
-    /// # Ok::<(), Error>(())
-    /// ```
-    #[doc(alias("allocate", "add", "insert"))]
-    pub fn reserve(&mut self, size: u64, align: u64, policy: AllocPolicy) -> Result<DeviceSlot> {
-        let slot = self.0.reserve(Global, size, align, policy.proved())?;
-        Ok(DeviceSlot::of(slot))
-    }
+        /// Allocates the lowest free id and a range of `size` addresses for a new device. `policy` and
+        /// `align` choose the range as in
+        /// [`AddressAllocator::allocate`](crate::AddressAllocator::allocate).
+        ///
+        /// # Errors
+        ///
+        /// An error leaves ids, ranges and devices unchanged. In this order:
+        /// - `Overflow` or `ResourceNotAvailable` if all ids are allocated, as for
+        ///   [`IdAllocator::allocate_id`](crate::IdAllocator::allocate_id).
+        /// - `InvalidSize`, `InvalidAlignment`, `UnalignedAddress`, `Overflow`, `ResourceNotAvailable`
+        ///   or `InvalidStateTransition`, as for
+        ///   [`AddressAllocator::allocate`](crate::AddressAllocator::allocate).
+        ///
+        /// # Example
+        ///
+        /// ```rust
+        /// use divsharun::{AllocPolicy, DeviceManager, Error};
+        ///
+        /// let mut devices = DeviceManager::new(5, 6, 0xd000_0000, 0x1000_0000)?;
+        /// let net = devices.reserve(0x1000, 0x1000, AllocPolicy::FirstMatch)?;
+        /// let disk = devices.reserve(0x1000, 0x1000, AllocPolicy::FirstMatch)?;
+        /// assert_eq!([net.id, disk.id], [5, 6]);
+        /// assert_eq!([net.range.start(), disk.range.start()], [0xd000_0000, 0xd000_1000]);
+        ///
+        /// let third = devices.reserve(0x1000, 0x1000, AllocPolicy::FirstMatch);
+        /// assert_eq!(third, Err(Error::ResourceNotAvailable));
+        /// # Ok::<(), Error>(())
+        /// ```
+        #[doc(alias("allocate", "add", "insert"))]
+        pub fn reserve(&mut self, size: u64, align: u64, policy: AllocPolicy) -> DeviceSlot {
+            self.0.reserve(Global, size, align, policy.proved())
+        }
 
-    /// Reserves like [`reserve`](Self::reserve), but returns an error if memory runs out.
-    ///
-    /// # Errors
-    ///
-    /// An error leaves ids, ranges and devices unchanged. In this order:
-    /// - `Refused` with the error of `reserve`.
-    /// - `OutOfMemory` if memory for a node or for the table of devices runs out.
-    ///
-    /// # Example
-    ///
-    /// ```rust
-    /// use divsharun::{AllocPolicy, DeviceManager, Error, TryError};
-    ///
-    /// let mut devices = DeviceManager::try_new(0, 31, 0xa00_0000, 0x4000)?;
-    /// let console = devices.try_reserve(0x200, 0x200, AllocPolicy::LastMatch)?;
-    /// assert_eq!(console.range.start(), 0xa00_3e00);
-    /// assert_eq!(
-    ///     devices.try_reserve(0x4000, 0x200, AllocPolicy::LastMatch),
-    ///     Err(TryError::Refused(Error::ResourceNotAvailable))
-    /// );
-    /// # Ok::<(), TryError>(())
-    /// ```
-    pub fn try_reserve(
-        &mut self,
-        size: u64,
-        align: u64,
-        policy: AllocPolicy,
-    ) -> TryResult<DeviceSlot> {
-        let slot = self.0.reserve(Global, size, align, policy.proved())?;
-        Ok(DeviceSlot::of(slot))
-    }
+        /// Reserves like [`reserve`](Self::reserve), but returns an error if memory runs out.
+        ///
+        /// # Errors
+        ///
+        /// An error leaves ids, ranges and devices unchanged. In this order:
+        /// - `Refused` with the error of `reserve`.
+        /// - `OutOfMemory` if memory for a node or for the table of devices runs out.
+        ///
+        /// # Example
+        ///
+        /// ```rust
+        /// use divsharun::{AllocPolicy, DeviceManager, Error, TryError};
+        ///
+        /// let mut devices = DeviceManager::try_new(0, 31, 0xa00_0000, 0x4000)?;
+        /// let console = devices.try_reserve(0x200, 0x200, AllocPolicy::LastMatch)?;
+        /// assert_eq!(console.range.start(), 0xa00_3e00);
+        /// assert_eq!(
+        ///     devices.try_reserve(0x4000, 0x200, AllocPolicy::LastMatch),
+        ///     Err(TryError::Refused(Error::ResourceNotAvailable))
+        /// );
+        /// # Ok::<(), TryError>(())
+        /// ```
+        pub fn try_reserve;
 
-    /// Reserves like [`reserve`](Self::reserve), for a request that was made before. If the request
-    /// has a [window](Constraint::within), the range lies in it.
-    ///
-    /// # Errors
-    ///
-    /// An error leaves ids, ranges and devices unchanged. In this order:
-    /// - `Overflow` or `ResourceNotAvailable` if all ids are allocated, as for
-    ///   [`IdAllocator::allocate_id`](crate::IdAllocator::allocate_id).
-    /// - `Overflow`, `ResourceNotAvailable` or `InvalidStateTransition`, as for
-    ///   [`AddressAllocator::allocate_constraint`](crate::AddressAllocator::allocate_constraint).
-    ///
-    /// # Example
-    ///
-    /// ```rust
-    /// use divsharun::{AllocPolicy, Constraint, DeviceManager};
-    ///
-    /// let mut devices = DeviceManager::new(5, 23, 0xc000_0000, 0x2_0000_0000)?;
-    /// let bar = Constraint::new(0x1000, 0x1000, AllocPolicy::LastMatch)?;
-    /// let disk = devices.reserve_constraint(bar.within(..=0xffff_ffff)?)?;
-    /// assert_eq!((disk.id, disk.range.start()), (5, 0xffff_f000));
-    /// # Ok::<(), divsharun::Error>(())
-    /// ```
-    pub fn reserve_constraint(&mut self, request: Constraint) -> Result<DeviceSlot> {
-        let slot = self.0.reserve_constraint(Global, request.0)?;
-        Ok(DeviceSlot::of(slot))
-    }
+        /// Reserves like [`reserve`](Self::reserve), for a request that was made before. If the request
+        /// has a [window](Constraint::within), the range lies in it.
+        ///
+        /// # Errors
+        ///
+        /// An error leaves ids, ranges and devices unchanged. In this order:
+        /// - `Overflow` or `ResourceNotAvailable` if all ids are allocated, as for
+        ///   [`IdAllocator::allocate_id`](crate::IdAllocator::allocate_id).
+        /// - `Overflow`, `ResourceNotAvailable` or `InvalidStateTransition`, as for
+        ///   [`AddressAllocator::allocate_constraint`](crate::AddressAllocator::allocate_constraint).
+        ///
+        /// # Example
+        ///
+        /// ```rust
+        /// use divsharun::{AllocPolicy, Constraint, DeviceManager};
+        ///
+        /// let mut devices = DeviceManager::new(5, 23, 0xc000_0000, 0x2_0000_0000)?;
+        /// let bar = Constraint::new(0x1000, 0x1000, AllocPolicy::LastMatch)?;
+        /// let disk = devices.reserve_constraint(bar.within(..=0xffff_ffff)?)?;
+        /// assert_eq!((disk.id, disk.range.start()), (5, 0xffff_f000));
+        /// # Ok::<(), divsharun::Error>(())
+        /// ```
+        pub fn reserve_constraint(&mut self, request: Constraint) -> DeviceSlot {
+            self.0.reserve_constraint(Global, request.0)
+        }
 
-    /// Reserves like [`reserve_constraint`](Self::reserve_constraint), but returns an error if memory
-    /// runs out.
-    ///
-    /// # Errors
-    ///
-    /// An error leaves ids, ranges and devices unchanged. In this order:
-    /// - `Refused` with the error of `reserve_constraint`.
-    /// - `OutOfMemory` if memory for a node or for the table of devices runs out.
-    ///
-    /// # Example
-    ///
-    /// ```rust
-    /// use divsharun::{AllocPolicy, Constraint, DeviceManager, Error, TryError};
-    ///
-    /// let mut devices = DeviceManager::try_new(5, 23, 0xc000_0000, 0x2_0000_0000)?;
-    /// let bar = Constraint::new(0x1000, 0x1000, AllocPolicy::FirstMatch)?;
-    /// let below_the_space = bar.within(..0xc000_0000)?;
-    /// assert_eq!(
-    ///     devices.try_reserve_constraint(below_the_space),
-    ///     Err(TryError::Refused(Error::ResourceNotAvailable))
-    /// );
-    /// assert_eq!(devices.try_reserve_constraint(bar)?.id, 5);
-    /// # Ok::<(), TryError>(())
-    /// ```
-    pub fn try_reserve_constraint(&mut self, request: Constraint) -> TryResult<DeviceSlot> {
-        let slot = self.0.reserve_constraint(Global, request.0)?;
-        Ok(DeviceSlot::of(slot))
-    }
+        /// Reserves like [`reserve_constraint`](Self::reserve_constraint), but returns an error if memory
+        /// runs out.
+        ///
+        /// # Errors
+        ///
+        /// An error leaves ids, ranges and devices unchanged. In this order:
+        /// - `Refused` with the error of `reserve_constraint`.
+        /// - `OutOfMemory` if memory for a node or for the table of devices runs out.
+        ///
+        /// # Example
+        ///
+        /// ```rust
+        /// use divsharun::{AllocPolicy, Constraint, DeviceManager, Error, TryError};
+        ///
+        /// let mut devices = DeviceManager::try_new(5, 23, 0xc000_0000, 0x2_0000_0000)?;
+        /// let bar = Constraint::new(0x1000, 0x1000, AllocPolicy::FirstMatch)?;
+        /// let below_the_space = bar.within(..0xc000_0000)?;
+        /// assert_eq!(
+        ///     devices.try_reserve_constraint(below_the_space),
+        ///     Err(TryError::Refused(Error::ResourceNotAvailable))
+        /// );
+        /// assert_eq!(devices.try_reserve_constraint(bar)?.id, 5);
+        /// # Ok::<(), TryError>(())
+        /// ```
+        pub fn try_reserve_constraint;
 
-    /// Reserves like [`reserve_constraint`](Self::reserve_constraint), with the id of another request
-    /// instead of the lowest free one.
-    ///
-    /// # Errors
-    ///
-    /// An error leaves ids, ranges and devices unchanged. In this order:
-    /// - The error of [`allocate_id`](crate::IdAllocator::allocate_id),
-    ///   [`allocate_in`](crate::IdAllocator::allocate_in) or
-    ///   [`allocate_exact`](crate::IdAllocator::allocate_exact) for the id.
-    /// - The error of
-    ///   [`AddressAllocator::allocate_constraint`](crate::AddressAllocator::allocate_constraint) for the
-    ///   range.
-    ///
-    /// # Example
-    ///
-    /// ```rust
-    /// use divsharun::{AllocPolicy, Constraint, DeviceManager, Error, IdRequest};
-    ///
-    /// let mut devices = DeviceManager::new(0, 31, 0xd000_0000, 0x1000_0000)?;
-    /// let bar = Constraint::new(0x1000, 0x1000, AllocPolicy::FirstMatch)?;
-    /// assert_eq!(devices.reserve_with_id(IdRequest::Exact(9), bar)?.id, 9);
-    /// assert_eq!(devices.reserve_with_id(IdRequest::LowestIn(8, 15), bar)?.id, 8);
-    /// assert_eq!(devices.reserve_with_id(IdRequest::Lowest, bar)?.id, 0);
-    ///
-    /// let again = devices.reserve_with_id(IdRequest::Exact(9), bar);
-    /// assert_eq!(again, Err(Error::ResourceNotAvailable));
-    /// # Ok::<(), Error>(())
-    /// ```
-    pub fn reserve_with_id(&mut self, id: IdRequest, request: Constraint) -> Result<DeviceSlot> {
-        let slot = self.0.reserve_with_id(Global, id, request.0)?;
-        Ok(DeviceSlot::of(slot))
-    }
+        /// Reserves like [`reserve_constraint`](Self::reserve_constraint), with the id of another request
+        /// instead of the lowest free one.
+        ///
+        /// # Errors
+        ///
+        /// An error leaves ids, ranges and devices unchanged. In this order:
+        /// - The error of [`allocate_id`](crate::IdAllocator::allocate_id),
+        ///   [`allocate_in`](crate::IdAllocator::allocate_in) or
+        ///   [`allocate_exact`](crate::IdAllocator::allocate_exact) for the id.
+        /// - The error of
+        ///   [`AddressAllocator::allocate_constraint`](crate::AddressAllocator::allocate_constraint) for the
+        ///   range.
+        ///
+        /// # Example
+        ///
+        /// ```rust
+        /// use divsharun::{AllocPolicy, Constraint, DeviceManager, Error, IdRequest};
+        ///
+        /// let mut devices = DeviceManager::new(0, 31, 0xd000_0000, 0x1000_0000)?;
+        /// let bar = Constraint::new(0x1000, 0x1000, AllocPolicy::FirstMatch)?;
+        /// assert_eq!(devices.reserve_with_id(IdRequest::Exact(9), bar)?.id, 9);
+        /// assert_eq!(devices.reserve_with_id(IdRequest::LowestIn(8, 15), bar)?.id, 8);
+        /// assert_eq!(devices.reserve_with_id(IdRequest::Lowest, bar)?.id, 0);
+        ///
+        /// let again = devices.reserve_with_id(IdRequest::Exact(9), bar);
+        /// assert_eq!(again, Err(Error::ResourceNotAvailable));
+        /// # Ok::<(), Error>(())
+        /// ```
+        pub fn reserve_with_id(&mut self, id: IdRequest, request: Constraint) -> DeviceSlot {
+            self.0.reserve_with_id(Global, id, request.0)
+        }
 
-    /// Reserves like [`reserve_with_id`](Self::reserve_with_id), but returns an error if memory runs
-    /// out.
-    ///
-    /// # Errors
-    ///
-    /// An error leaves ids, ranges and devices unchanged. In this order:
-    /// - `Refused` with the error of `reserve_with_id`.
-    /// - `OutOfMemory` if memory for a node, for the table of devices or for the set of freed ids runs
-    ///   out.
-    ///
-    /// # Example
-    ///
-    /// ```rust
-    /// use divsharun::{AllocPolicy, Constraint, DeviceManager, Error, IdRequest, TryError};
-    ///
-    /// let mut devices = DeviceManager::try_new(0, 31, 0xd000_0000, 0x1000_0000)?;
-    /// let bar = Constraint::new(0x1000, 0x1000, AllocPolicy::LastMatch)?;
-    /// assert_eq!(devices.try_reserve_with_id(IdRequest::Exact(31), bar)?.id, 31);
-    /// assert_eq!(
-    ///     devices.try_reserve_with_id(IdRequest::Exact(32), bar),
-    ///     Err(TryError::Refused(Error::OutOfRange(32)))
-    /// );
-    /// # Ok::<(), TryError>(())
-    /// ```
-    pub fn try_reserve_with_id(
-        &mut self,
-        id: IdRequest,
-        request: Constraint,
-    ) -> TryResult<DeviceSlot> {
-        let slot = self.0.reserve_with_id(Global, id, request.0)?;
-        Ok(DeviceSlot::of(slot))
+        /// Reserves like [`reserve_with_id`](Self::reserve_with_id), but returns an error if memory runs
+        /// out.
+        ///
+        /// # Errors
+        ///
+        /// An error leaves ids, ranges and devices unchanged. In this order:
+        /// - `Refused` with the error of `reserve_with_id`.
+        /// - `OutOfMemory` if memory for a node, for the table of devices or for the set of freed ids runs
+        ///   out.
+        ///
+        /// # Example
+        ///
+        /// ```rust
+        /// use divsharun::{AllocPolicy, Constraint, DeviceManager, Error, IdRequest, TryError};
+        ///
+        /// let mut devices = DeviceManager::try_new(0, 31, 0xd000_0000, 0x1000_0000)?;
+        /// let bar = Constraint::new(0x1000, 0x1000, AllocPolicy::LastMatch)?;
+        /// assert_eq!(devices.try_reserve_with_id(IdRequest::Exact(31), bar)?.id, 31);
+        /// assert_eq!(
+        ///     devices.try_reserve_with_id(IdRequest::Exact(32), bar),
+        ///     Err(TryError::Refused(Error::OutOfRange(32)))
+        /// );
+        /// # Ok::<(), TryError>(())
+        /// ```
+        pub fn try_reserve_with_id;
     }
 
     /// Returns the reason why the range of an `ExactMatch` request is not free, like
@@ -370,116 +328,108 @@ impl DeviceManager {
         found.map(Into::into)
     }
 
-    /// Moves a device to the place of a request, and returns its range there. It keeps its id. The
-    /// range can overlap the one before.
-    ///
-    /// # Errors
-    ///
-    /// An error leaves ids, ranges and devices unchanged. In this order:
-    /// - `NeverAllocated(id)` if no device has this id.
-    /// - The error of
-    ///   [`AddressAllocator::move_constraint`](crate::AddressAllocator::move_constraint) for its range.
-    ///
-    /// # Example
-    ///
-    /// ```rust
-    /// use divsharun::{AllocPolicy, Constraint, DeviceManager, Error};
-    ///
-    /// let mut devices = DeviceManager::new(1, 31, 0xfe00_0000, 0x20_0000)?;
-    /// let net = devices.reserve(0x4000, 0x4000, AllocPolicy::FirstMatch)?;
-    /// // The guest programs its BAR.
-    /// let bar = Constraint::new(0x4000, 0x4000, AllocPolicy::ExactMatch(0xfe10_0000))?;
-    /// let moved = devices.move_constraint(net.id, bar)?;
-    /// assert_eq!((moved.start(), devices.slot(net.id)), (0xfe10_0000, Some(moved)));
-    /// assert_eq!(devices.move_constraint(2, bar), Err(Error::NeverAllocated(2)));
-    /// # Ok::<(), Error>(())
-    /// ```
-    pub fn move_constraint(&mut self, id: u32, request: Constraint) -> Result<RangeInclusive> {
-        let moved = self.0.move_constraint(Global, id, request.0)?;
-        Ok(RangeInclusive(moved))
-    }
+    twins! {
+        /// Moves a device to the place of a request, and returns its range there. It keeps its id. The
+        /// range can overlap the one before.
+        ///
+        /// # Errors
+        ///
+        /// An error leaves ids, ranges and devices unchanged. In this order:
+        /// - `NeverAllocated(id)` if no device has this id.
+        /// - The error of
+        ///   [`AddressAllocator::move_constraint`](crate::AddressAllocator::move_constraint) for its range.
+        ///
+        /// # Example
+        ///
+        /// ```rust
+        /// use divsharun::{AllocPolicy, Constraint, DeviceManager, Error};
+        ///
+        /// let mut devices = DeviceManager::new(1, 31, 0xfe00_0000, 0x20_0000)?;
+        /// let net = devices.reserve(0x4000, 0x4000, AllocPolicy::FirstMatch)?;
+        /// // The guest programs its BAR.
+        /// let bar = Constraint::new(0x4000, 0x4000, AllocPolicy::ExactMatch(0xfe10_0000))?;
+        /// let moved = devices.move_constraint(net.id, bar)?;
+        /// assert_eq!((moved.start(), devices.slot(net.id)), (0xfe10_0000, Some(moved)));
+        /// assert_eq!(devices.move_constraint(2, bar), Err(Error::NeverAllocated(2)));
+        /// # Ok::<(), Error>(())
+        /// ```
+        pub fn move_constraint(&mut self, id: u32, request: Constraint) -> RangeInclusive {
+            self.0.move_constraint(Global, id, request.0)
+        }
 
-    /// Moves a device like [`move_constraint`](Self::move_constraint), but returns an error if memory
-    /// runs out.
-    ///
-    /// # Errors
-    ///
-    /// An error leaves ids, ranges and devices unchanged. In this order:
-    /// - `Refused` with the error of `move_constraint`.
-    /// - `OutOfMemory` if memory for a node or for the table of devices runs out.
-    ///
-    /// # Example
-    ///
-    /// ```rust
-    /// use divsharun::{AllocPolicy, Constraint, DeviceManager, Error, TryError};
-    ///
-    /// let mut devices = DeviceManager::try_new(1, 31, 0xfe00_0000, 0x8000)?;
-    /// let net = devices.try_reserve(0x4000, 0x4000, AllocPolicy::FirstMatch)?;
-    /// let longer = Constraint::new(0x8000, 0x4000, AllocPolicy::FirstMatch)?;
-    /// assert_eq!(devices.try_move_constraint(net.id, longer)?.len(), 0x8000);
-    /// assert_eq!(
-    ///     devices.try_move_constraint(2, longer),
-    ///     Err(TryError::Refused(Error::NeverAllocated(2)))
-    /// );
-    /// # Ok::<(), TryError>(())
-    /// ```
-    pub fn try_move_constraint(
-        &mut self,
-        id: u32,
-        request: Constraint,
-    ) -> TryResult<RangeInclusive> {
-        let moved = self.0.move_constraint(Global, id, request.0)?;
-        Ok(RangeInclusive(moved))
-    }
+        /// Moves a device like [`move_constraint`](Self::move_constraint), but returns an error if memory
+        /// runs out.
+        ///
+        /// # Errors
+        ///
+        /// An error leaves ids, ranges and devices unchanged. In this order:
+        /// - `Refused` with the error of `move_constraint`.
+        /// - `OutOfMemory` if memory for a node or for the table of devices runs out.
+        ///
+        /// # Example
+        ///
+        /// ```rust
+        /// use divsharun::{AllocPolicy, Constraint, DeviceManager, Error, TryError};
+        ///
+        /// let mut devices = DeviceManager::try_new(1, 31, 0xfe00_0000, 0x8000)?;
+        /// let net = devices.try_reserve(0x4000, 0x4000, AllocPolicy::FirstMatch)?;
+        /// let longer = Constraint::new(0x8000, 0x4000, AllocPolicy::FirstMatch)?;
+        /// assert_eq!(devices.try_move_constraint(net.id, longer)?.len(), 0x8000);
+        /// assert_eq!(
+        ///     devices.try_move_constraint(2, longer),
+        ///     Err(TryError::Refused(Error::NeverAllocated(2)))
+        /// );
+        /// # Ok::<(), TryError>(())
+        /// ```
+        pub fn try_move_constraint;
 
-    /// Releases a device: frees its id and its range.
-    ///
-    /// # Errors
-    ///
-    /// - `NeverAllocated(id)` if no device has this id. Nothing changes then.
-    ///
-    /// # Example
-    ///
-    /// ```rust
-    /// use divsharun::{AllocPolicy, DeviceManager, Error};
-    ///
-    /// let mut devices = DeviceManager::new(1, 31, 0xfe00_0000, 0x20_0000)?;
-    /// let net = devices.reserve(0x2_0000, 0x2_0000, AllocPolicy::FirstMatch)?;
-    /// devices.release(net.id)?;
-    /// assert_eq!(devices.device_at(net.range.start()), None);
-    /// assert_eq!(devices.release(2), Err(Error::NeverAllocated(2)));
-    /// # Ok::<(), Error>(())
-    /// ```
-    #[doc(alias("free", "remove"))]
-    pub fn release(&mut self, id: u32) -> Result<()> {
-        Ok(self.0.release(id)?)
-    }
+        /// Releases a device: frees its id and its range.
+        ///
+        /// # Errors
+        ///
+        /// - `NeverAllocated(id)` if no device has this id. Nothing changes then.
+        ///
+        /// # Example
+        ///
+        /// ```rust
+        /// use divsharun::{AllocPolicy, DeviceManager, Error};
+        ///
+        /// let mut devices = DeviceManager::new(1, 31, 0xfe00_0000, 0x20_0000)?;
+        /// let net = devices.reserve(0x2_0000, 0x2_0000, AllocPolicy::FirstMatch)?;
+        /// devices.release(net.id)?;
+        /// assert_eq!(devices.device_at(net.range.start()), None);
+        /// assert_eq!(devices.release(2), Err(Error::NeverAllocated(2)));
+        /// # Ok::<(), Error>(())
+        /// ```
+        #[doc(alias("free", "remove"))]
+        pub fn release(&mut self, id: u32) -> () {
+            self.0.release(id)
+        }
 
-    /// Releases a device like [`release`](Self::release), but returns an error if memory
-    /// runs out.
-    ///
-    /// # Errors
-    ///
-    /// An error changes nothing. In this order:
-    /// - `Refused(NeverAllocated(id))` if no device has this id.
-    /// - `OutOfMemory` if memory for the set of freed ids runs out.
-    ///
-    /// # Example
-    ///
-    /// ```rust
-    /// use divsharun::{AllocPolicy, DeviceManager, Error, TryError};
-    ///
-    /// let mut devices = DeviceManager::try_new(5, 23, 0xd000_0000, 0x2ec0_0000)?;
-    /// let id = devices.try_reserve(0x1000, 0x1000, AllocPolicy::FirstMatch)?.id;
-    /// devices.try_release(id)?;
-    /// assert_eq!(
-    ///     devices.try_release(id),
-    ///     Err(TryError::Refused(Error::NeverAllocated(5)))
-    /// );
-    /// # Ok::<(), TryError>(())
-    /// ```
-    pub fn try_release(&mut self, id: u32) -> TryResult<()> {
-        Ok(self.0.release(id)?)
+        /// Releases a device like [`release`](Self::release), but returns an error if memory
+        /// runs out.
+        ///
+        /// # Errors
+        ///
+        /// An error changes nothing. In this order:
+        /// - `Refused(NeverAllocated(id))` if no device has this id.
+        /// - `OutOfMemory` if memory for the set of freed ids runs out.
+        ///
+        /// # Example
+        ///
+        /// ```rust
+        /// use divsharun::{AllocPolicy, DeviceManager, Error, TryError};
+        ///
+        /// let mut devices = DeviceManager::try_new(5, 23, 0xd000_0000, 0x2ec0_0000)?;
+        /// let id = devices.try_reserve(0x1000, 0x1000, AllocPolicy::FirstMatch)?.id;
+        /// devices.try_release(id)?;
+        /// assert_eq!(
+        ///     devices.try_release(id),
+        ///     Err(TryError::Refused(Error::NeverAllocated(5)))
+        /// );
+        /// # Ok::<(), TryError>(())
+        /// ```
+        pub fn try_release;
     }
 
     /// Returns an iterator over the devices, like [`devices`](Self::devices).
@@ -651,7 +601,7 @@ impl DeviceManager {
     #[doc(alias = "find")]
     #[must_use]
     pub fn device_at(&self, address: u64) -> Option<DeviceSlot> {
-        self.0.device_at(address).map(DeviceSlot::of)
+        self.0.device_at(address).map(Into::into)
     }
 
     /// Returns a copy, or an error if memory runs out.
@@ -734,7 +684,7 @@ impl fmt::Debug for DeviceManager {
 #[derive(Clone)]
 pub struct Devices<'a>(proved::Devices<'a>);
 
-iterate!(Devices: DeviceSlot, DeviceSlot::of, Iterator::size_hint);
+iterate!(Devices: DeviceSlot, Into::into);
 allocator!(DeviceManager, Devices of DeviceSlot, "the devices");
 
 impl ExactSizeIterator for Devices<'_> {}

@@ -2,7 +2,7 @@
 use crate::error::TryResult;
 use crate::proved::vm_ids as proved;
 use crate::rattle::Global;
-use crate::traits::{allocator, fused};
+use crate::traits::{allocator, fused, twins};
 use crate::{Result, Window};
 use alloc::vec::Vec;
 use core::fmt;
@@ -75,64 +75,62 @@ impl IdAllocator {
         Ok(IdAllocator(made))
     }
 
-    /// Creates an allocator for the ids from `range_base` to `range_end`, both included, with these ids
-    /// allocated. They must be in ascending order.
-    ///
-    /// It is equal to a new allocator after [`allocate_exact`](Self::allocate_exact) of each id. All ids
-    /// are checked before memory is allocated. It takes memory for each run of ids that the list skips,
-    /// however long the run is.
-    ///
-    /// # Errors
-    ///
-    /// In this order:
-    /// - `InvalidRange(range_base, range_end)` if `range_end` is less than `range_base`.
-    /// - For the first id that is wrong:
-    ///   - `OutOfRange(id)` if the id is outside the range.
-    ///   - `ResourceNotAvailable` if the id is not greater than the id before it.
-    ///
-    /// # Example
-    ///
-    /// ```rust
-    /// use divsharun::{Error, IdAllocator};
-    ///
-    /// let mut lines = IdAllocator::with_held(5, 23, &[5, 8])?;
-    /// assert!(lines.held_ids().eq([5, 8]));
-    /// assert_eq!(lines.allocate_id(), Ok(6));
-    /// assert_eq!(IdAllocator::with_held(5, 23, &[8, 24]), Err(Error::OutOfRange(24)));
-    /// # Ok::<(), Error>(())
-    /// ```
-    pub fn with_held(range_base: u32, range_end: u32, held: &[u32]) -> Result<Self> {
-        let made = proved::IdAllocator::with_held(Global, range_base, range_end, held)?;
-        Ok(IdAllocator(made))
-    }
+    twins! {
+        /// Creates an allocator for the ids from `range_base` to `range_end`, both included, with these ids
+        /// allocated. They must be in ascending order.
+        ///
+        /// It is equal to a new allocator after [`allocate_exact`](Self::allocate_exact) of each id. All ids
+        /// are checked before memory is allocated. It takes memory for each run of ids that the list skips,
+        /// however long the run is.
+        ///
+        /// # Errors
+        ///
+        /// In this order:
+        /// - `InvalidRange(range_base, range_end)` if `range_end` is less than `range_base`.
+        /// - For the first id that is wrong:
+        ///   - `OutOfRange(id)` if the id is outside the range.
+        ///   - `ResourceNotAvailable` if the id is not greater than the id before it.
+        ///
+        /// # Example
+        ///
+        /// ```rust
+        /// use divsharun::{Error, IdAllocator};
+        ///
+        /// let mut lines = IdAllocator::with_held(5, 23, &[5, 8])?;
+        /// assert!(lines.held_ids().eq([5, 8]));
+        /// assert_eq!(lines.allocate_id(), Ok(6));
+        /// assert_eq!(IdAllocator::with_held(5, 23, &[8, 24]), Err(Error::OutOfRange(24)));
+        /// # Ok::<(), Error>(())
+        /// ```
+        pub fn with_held(range_base: u32, range_end: u32, held: &[u32]) -> Self {
+            proved::IdAllocator::with_held(Global, range_base, range_end, held).map(Self)
+        }
 
-    /// Creates an allocator like [`with_held`](Self::with_held), but returns an error if memory
-    /// runs out.
-    ///
-    /// # Errors
-    ///
-    /// In this order:
-    /// - `Refused` with `InvalidRange`, `OutOfRange` or `ResourceNotAvailable`, if `with_held` returns
-    ///   that error.
-    /// - `OutOfMemory` if memory runs out.
-    ///
-    /// # Example
-    ///
-    /// ```rust
-    /// use divsharun::{Error, IdAllocator, TryError};
-    ///
-    /// // The timer and the clock have fixed lines.
-    /// let lines = IdAllocator::try_with_held(0, 15, &[0, 8])?;
-    /// assert_eq!(lines.peek_id(), Ok(1));
-    /// assert_eq!(
-    ///     IdAllocator::try_with_held(0, 15, &[8, 0]),
-    ///     Err(TryError::Refused(Error::ResourceNotAvailable))
-    /// );
-    /// # Ok::<(), TryError>(())
-    /// ```
-    pub fn try_with_held(range_base: u32, range_end: u32, held: &[u32]) -> TryResult<Self> {
-        let made = proved::IdAllocator::with_held(Global, range_base, range_end, held)?;
-        Ok(IdAllocator(made))
+        /// Creates an allocator like [`with_held`](Self::with_held), but returns an error if memory
+        /// runs out.
+        ///
+        /// # Errors
+        ///
+        /// In this order:
+        /// - `Refused` with `InvalidRange`, `OutOfRange` or `ResourceNotAvailable`, if `with_held` returns
+        ///   that error.
+        /// - `OutOfMemory` if memory runs out.
+        ///
+        /// # Example
+        ///
+        /// ```rust
+        /// use divsharun::{Error, IdAllocator, TryError};
+        ///
+        /// // The timer and the clock have fixed lines.
+        /// let lines = IdAllocator::try_with_held(0, 15, &[0, 8])?;
+        /// assert_eq!(lines.peek_id(), Ok(1));
+        /// assert_eq!(
+        ///     IdAllocator::try_with_held(0, 15, &[8, 0]),
+        ///     Err(TryError::Refused(Error::ResourceNotAvailable))
+        /// );
+        /// # Ok::<(), TryError>(())
+        /// ```
+        pub fn try_with_held;
     }
 
     /// Allocates the lowest free id. It does not allocate memory.
@@ -162,168 +160,163 @@ impl IdAllocator {
         Ok(self.0.allocate_id()?)
     }
 
-    /// Allocates this id and returns it.
-    ///
-    /// Unused ids below it become freed ids, as if they had been allocated and freed. They take one entry,
-    /// however many they are. Memory is allocated only if there are some, or if the ids right below and
-    /// right above the id are both freed ids.
-    ///
-    /// # Errors
-    ///
-    /// An error changes nothing. In this order:
-    /// - `OutOfRange(id)` if the id is outside the range.
-    /// - `ResourceNotAvailable` if the id is already allocated.
-    ///
-    /// # Example
-    ///
-    /// ```rust
-    /// use divsharun::{Error, IdAllocator};
-    ///
-    /// // Line 8 is the clock.
-    /// let mut lines = IdAllocator::new(5, 23)?;
-    /// assert_eq!(lines.allocate_exact(8), Ok(8));
-    /// assert_eq!(lines.allocate_exact(8), Err(Error::ResourceNotAvailable));
-    /// assert_eq!((lines.allocate_id(), lines.free_count()), (Ok(5), 17));
-    /// # Ok::<(), Error>(())
-    /// ```
-    pub fn allocate_exact(&mut self, id: u32) -> Result<u32> {
-        Ok(self.0.allocate_exact(id)?)
-    }
+    twins! {
+        /// Allocates this id and returns it.
+        ///
+        /// Unused ids below it become freed ids, as if they had been allocated and freed. They take one entry,
+        /// however many they are. Memory is allocated only if there are some, or if the ids right below and
+        /// right above the id are both freed ids.
+        ///
+        /// # Errors
+        ///
+        /// An error changes nothing. In this order:
+        /// - `OutOfRange(id)` if the id is outside the range.
+        /// - `ResourceNotAvailable` if the id is already allocated.
+        ///
+        /// # Example
+        ///
+        /// ```rust
+        /// use divsharun::{Error, IdAllocator};
+        ///
+        /// // Line 8 is the clock.
+        /// let mut lines = IdAllocator::new(5, 23)?;
+        /// assert_eq!(lines.allocate_exact(8), Ok(8));
+        /// assert_eq!(lines.allocate_exact(8), Err(Error::ResourceNotAvailable));
+        /// assert_eq!((lines.allocate_id(), lines.free_count()), (Ok(5), 17));
+        /// # Ok::<(), Error>(())
+        /// ```
+        pub fn allocate_exact(&mut self, id: u32) -> u32 {
+            self.0.allocate_exact(id)
+        }
 
-    /// Allocates an id like [`allocate_exact`](Self::allocate_exact), but returns an error if
-    /// memory runs out.
-    ///
-    /// # Errors
-    ///
-    /// An error changes nothing. In this order:
-    /// - `Refused` with `OutOfRange` or `ResourceNotAvailable`, if `allocate_exact` returns that error.
-    /// - `OutOfMemory` if memory runs out.
-    ///
-    /// # Example
-    ///
-    /// ```rust
-    /// use divsharun::{Error, IdAllocator, TryError};
-    ///
-    /// // Shared interrupts of a GIC.
-    /// let mut interrupts = IdAllocator::new(32, 127)?;
-    /// assert_eq!(interrupts.try_allocate_exact(33), Ok(33));
-    /// assert_eq!(
-    ///     interrupts.try_allocate_exact(128),
-    ///     Err(TryError::Refused(Error::OutOfRange(128)))
-    /// );
-    /// # Ok::<(), TryError>(())
-    /// ```
-    pub fn try_allocate_exact(&mut self, id: u32) -> TryResult<u32> {
-        Ok(self.0.allocate_exact(id)?)
-    }
+        /// Allocates an id like [`allocate_exact`](Self::allocate_exact), but returns an error if
+        /// memory runs out.
+        ///
+        /// # Errors
+        ///
+        /// An error changes nothing. In this order:
+        /// - `Refused` with `OutOfRange` or `ResourceNotAvailable`, if `allocate_exact` returns that error.
+        /// - `OutOfMemory` if memory runs out.
+        ///
+        /// # Example
+        ///
+        /// ```rust
+        /// use divsharun::{Error, IdAllocator, TryError};
+        ///
+        /// // Shared interrupts of a GIC.
+        /// let mut interrupts = IdAllocator::new(32, 127)?;
+        /// assert_eq!(interrupts.try_allocate_exact(33), Ok(33));
+        /// assert_eq!(
+        ///     interrupts.try_allocate_exact(128),
+        ///     Err(TryError::Refused(Error::OutOfRange(128)))
+        /// );
+        /// # Ok::<(), TryError>(())
+        /// ```
+        pub fn try_allocate_exact;
 
-    /// Allocates the lowest free id in a window, which is a range of `u32`, and returns it.
-    ///
-    /// The id is found in logarithmic time. Ids below it that were never allocated become freed ids, as
-    /// in [`allocate_exact`](Self::allocate_exact).
-    ///
-    /// # Errors
-    ///
-    /// An error changes nothing. In this order:
-    /// - `InvalidRange(first, last)` if the last id of the window is less than the first, as for
-    ///   [`Constraint::within`](crate::Constraint::within).
-    /// - `ResourceNotAvailable` if no id of the window is free.
-    ///
-    /// # Example
-    ///
-    /// ```rust
-    /// use divsharun::{Error, IdAllocator};
-    ///
-    /// let mut lines = IdAllocator::new(5, 23)?;
-    /// assert_eq!(lines.allocate_in(16..=17), Ok(16));
-    /// assert_eq!(lines.allocate_in(16..=17), Ok(17));
-    /// assert_eq!(lines.allocate_in(16..=17), Err(Error::ResourceNotAvailable));
-    /// assert_eq!(lines.allocate_in(..8), Ok(5));
-    /// # Ok::<(), Error>(())
-    /// ```
-    pub fn allocate_in(&mut self, window: impl Window<u32>) -> Result<u32> {
-        let (first, last) = window.limits();
-        Ok(self.0.allocate_in(first, last)?)
-    }
+        /// Allocates the lowest free id in a window, which is a range of `u32`, and returns it.
+        ///
+        /// The id is found in logarithmic time. Ids below it that were never allocated become freed ids, as
+        /// in [`allocate_exact`](Self::allocate_exact).
+        ///
+        /// # Errors
+        ///
+        /// An error changes nothing. In this order:
+        /// - `InvalidRange(first, last)` if the last id of the window is less than the first, as for
+        ///   [`Constraint::within`](crate::Constraint::within).
+        /// - `ResourceNotAvailable` if no id of the window is free.
+        ///
+        /// # Example
+        ///
+        /// ```rust
+        /// use divsharun::{Error, IdAllocator};
+        ///
+        /// let mut lines = IdAllocator::new(5, 23)?;
+        /// assert_eq!(lines.allocate_in(16..=17), Ok(16));
+        /// assert_eq!(lines.allocate_in(16..=17), Ok(17));
+        /// assert_eq!(lines.allocate_in(16..=17), Err(Error::ResourceNotAvailable));
+        /// assert_eq!(lines.allocate_in(..8), Ok(5));
+        /// # Ok::<(), Error>(())
+        /// ```
+        pub fn allocate_in(&mut self, window: impl Window<u32>) -> u32 {
+            let (first, last) = window.limits();
+            self.0.allocate_in(first, last)
+        }
 
-    /// Allocates an id like [`allocate_in`](Self::allocate_in), but returns an error if memory
-    /// runs out.
-    ///
-    /// # Errors
-    ///
-    /// An error changes nothing. In this order:
-    /// - `Refused` with `InvalidRange` or `ResourceNotAvailable`, if `allocate_in` returns that error.
-    /// - `OutOfMemory` if memory runs out.
-    ///
-    /// # Example
-    ///
-    /// ```rust
-    /// use divsharun::{Error, IdAllocator, TryError};
-    ///
-    /// // The lines of PCI.
-    /// let mut lines = IdAllocator::new(5, 23)?;
-    /// assert_eq!(lines.try_allocate_in(20..)?, 20);
-    /// assert_eq!(
-    ///     lines.try_allocate_in(20..20),
-    ///     Err(TryError::Refused(Error::InvalidRange(20, 19)))
-    /// );
-    /// # Ok::<(), TryError>(())
-    /// ```
-    pub fn try_allocate_in(&mut self, window: impl Window<u32>) -> TryResult<u32> {
-        let (first, last) = window.limits();
-        Ok(self.0.allocate_in(first, last)?)
-    }
+        /// Allocates an id like [`allocate_in`](Self::allocate_in), but returns an error if memory
+        /// runs out.
+        ///
+        /// # Errors
+        ///
+        /// An error changes nothing. In this order:
+        /// - `Refused` with `InvalidRange` or `ResourceNotAvailable`, if `allocate_in` returns that error.
+        /// - `OutOfMemory` if memory runs out.
+        ///
+        /// # Example
+        ///
+        /// ```rust
+        /// use divsharun::{Error, IdAllocator, TryError};
+        ///
+        /// // The lines of PCI.
+        /// let mut lines = IdAllocator::new(5, 23)?;
+        /// assert_eq!(lines.try_allocate_in(20..)?, 20);
+        /// assert_eq!(
+        ///     lines.try_allocate_in(20..20),
+        ///     Err(TryError::Refused(Error::InvalidRange(20, 19)))
+        /// );
+        /// # Ok::<(), TryError>(())
+        /// ```
+        pub fn try_allocate_in;
 
-    /// Allocates the `count` lowest free ids, or none, and returns them in ascending order. They are the
-    /// ids that `count` calls of [`allocate_id`](Self::allocate_id) would allocate.
-    ///
-    /// # Errors
-    ///
-    /// An error changes nothing. If fewer than `count` ids are free:
-    /// - `Overflow` if the last id is `u32::MAX`.
-    /// - `ResourceNotAvailable` otherwise.
-    ///
-    /// # Example
-    ///
-    /// ```rust
-    /// use divsharun::{Error, IdAllocator};
-    ///
-    /// let mut lines = IdAllocator::with_held(5, 9, &[6])?;
-    /// assert_eq!(lines.allocate_ids(3)?, [5, 7, 8]);
-    /// assert_eq!(lines.allocate_ids(2), Err(Error::ResourceNotAvailable));
-    /// assert_eq!(lines.free_count(), 1);
-    /// # Ok::<(), Error>(())
-    /// ```
-    pub fn allocate_ids(&mut self, count: usize) -> Result<Vec<u32>> {
-        Ok(self.0.allocate_ids(Global, count)?.into())
-    }
+        /// Allocates the `count` lowest free ids, or none, and returns them in ascending order. They are the
+        /// ids that `count` calls of [`allocate_id`](Self::allocate_id) would allocate.
+        ///
+        /// # Errors
+        ///
+        /// An error changes nothing. If fewer than `count` ids are free:
+        /// - `Overflow` if the last id is `u32::MAX`.
+        /// - `ResourceNotAvailable` otherwise.
+        ///
+        /// # Example
+        ///
+        /// ```rust
+        /// use divsharun::{Error, IdAllocator};
+        ///
+        /// let mut lines = IdAllocator::with_held(5, 9, &[6])?;
+        /// assert_eq!(lines.allocate_ids(3)?, [5, 7, 8]);
+        /// assert_eq!(lines.allocate_ids(2), Err(Error::ResourceNotAvailable));
+        /// assert_eq!(lines.free_count(), 1);
+        /// # Ok::<(), Error>(())
+        /// ```
+        pub fn allocate_ids(&mut self, count: usize) -> Vec<u32> {
+            self.0.allocate_ids(Global, count)
+        }
 
-    /// Allocates ids like [`allocate_ids`](Self::allocate_ids), but returns an error if memory
-    /// runs out.
-    ///
-    /// # Errors
-    ///
-    /// An error changes nothing. In this order:
-    /// - `Refused` with `Overflow` or `ResourceNotAvailable`, if `allocate_ids` returns that error.
-    /// - `OutOfMemory` if memory for the list runs out.
-    ///
-    /// # Example
-    ///
-    /// ```rust
-    /// use divsharun::{Error, IdAllocator, TryError};
-    ///
-    /// // The vectors of a device with three queues.
-    /// let mut vectors = IdAllocator::new(32, 238)?;
-    /// assert_eq!(vectors.try_allocate_ids(3)?, [32, 33, 34]);
-    /// assert_eq!(
-    ///     vectors.try_allocate_ids(205),
-    ///     Err(TryError::Refused(Error::ResourceNotAvailable))
-    /// );
-    /// assert_eq!(vectors.free_count(), 204);
-    /// # Ok::<(), TryError>(())
-    /// ```
-    pub fn try_allocate_ids(&mut self, count: usize) -> TryResult<Vec<u32>> {
-        Ok(self.0.allocate_ids(Global, count)?.into())
+        /// Allocates ids like [`allocate_ids`](Self::allocate_ids), but returns an error if memory
+        /// runs out.
+        ///
+        /// # Errors
+        ///
+        /// An error changes nothing. In this order:
+        /// - `Refused` with `Overflow` or `ResourceNotAvailable`, if `allocate_ids` returns that error.
+        /// - `OutOfMemory` if memory for the list runs out.
+        ///
+        /// # Example
+        ///
+        /// ```rust
+        /// use divsharun::{Error, IdAllocator, TryError};
+        ///
+        /// // The vectors of a device with three queues.
+        /// let mut vectors = IdAllocator::new(32, 238)?;
+        /// assert_eq!(vectors.try_allocate_ids(3)?, [32, 33, 34]);
+        /// assert_eq!(
+        ///     vectors.try_allocate_ids(205),
+        ///     Err(TryError::Refused(Error::ResourceNotAvailable))
+        /// );
+        /// assert_eq!(vectors.free_count(), 204);
+        /// # Ok::<(), TryError>(())
+        /// ```
+        pub fn try_allocate_ids;
     }
 
     /// Returns the id or the error that [`allocate_id`](Self::allocate_id) would return, without
@@ -369,55 +362,55 @@ impl IdAllocator {
         self.0.is_allocated(id)
     }
 
-    /// Frees an allocated id and returns it.
-    ///
-    /// # Errors
-    ///
-    /// An error changes nothing. In this order:
-    /// - `OutOfRange(id)` if the id is outside the range.
-    /// - `NeverAllocated(id)` if the id was never allocated.
-    /// - `AlreadyReleased(id)` if the id is already freed.
-    ///
-    /// # Example
-    ///
-    /// ```rust
-    /// use divsharun::{Error, IdAllocator};
-    ///
-    /// let mut lines = IdAllocator::new(5, 23)?;
-    /// lines.allocate_ids(2)?;
-    /// assert_eq!(lines.free_id(6), Ok(6));
-    /// assert_eq!(lines.free_id(7), Err(Error::NeverAllocated(7)));
-    /// assert_eq!(lines.free_id(24), Err(Error::OutOfRange(24)));
-    /// # Ok::<(), Error>(())
-    /// ```
-    #[doc(alias = "release")]
-    pub fn free_id(&mut self, id: u32) -> Result<u32> {
-        Ok(self.0.free_id(id)?)
-    }
+    twins! {
+        /// Frees an allocated id and returns it.
+        ///
+        /// # Errors
+        ///
+        /// An error changes nothing. In this order:
+        /// - `OutOfRange(id)` if the id is outside the range.
+        /// - `NeverAllocated(id)` if the id was never allocated.
+        /// - `AlreadyReleased(id)` if the id is already freed.
+        ///
+        /// # Example
+        ///
+        /// ```rust
+        /// use divsharun::{Error, IdAllocator};
+        ///
+        /// let mut lines = IdAllocator::new(5, 23)?;
+        /// lines.allocate_ids(2)?;
+        /// assert_eq!(lines.free_id(6), Ok(6));
+        /// assert_eq!(lines.free_id(7), Err(Error::NeverAllocated(7)));
+        /// assert_eq!(lines.free_id(24), Err(Error::OutOfRange(24)));
+        /// # Ok::<(), Error>(())
+        /// ```
+        #[doc(alias = "release")]
+        pub fn free_id(&mut self, id: u32) -> u32 {
+            self.0.free_id(id)
+        }
 
-    /// Frees an id like [`free_id`](Self::free_id), but returns an error if memory runs out.
-    ///
-    /// # Errors
-    ///
-    /// An error changes nothing. In this order:
-    /// - `Refused` with `OutOfRange`, `NeverAllocated` or `AlreadyReleased`, if `free_id` returns
-    ///   that error.
-    /// - `OutOfMemory` if memory runs out.
-    ///
-    /// # Example
-    ///
-    /// ```rust
-    /// use divsharun::{Error, IdAllocator, TryError};
-    ///
-    /// // The vsock addresses of guests.
-    /// let mut guests = IdAllocator::new(3, 0xffff_fffe)?;
-    /// let id = guests.allocate_id()?;
-    /// assert_eq!(guests.try_free_id(id)?, 3);
-    /// assert_eq!(guests.try_free_id(id), Err(TryError::Refused(Error::AlreadyReleased(3))));
-    /// # Ok::<(), TryError>(())
-    /// ```
-    pub fn try_free_id(&mut self, id: u32) -> TryResult<u32> {
-        Ok(self.0.free_id(id)?)
+        /// Frees an id like [`free_id`](Self::free_id), but returns an error if memory runs out.
+        ///
+        /// # Errors
+        ///
+        /// An error changes nothing. In this order:
+        /// - `Refused` with `OutOfRange`, `NeverAllocated` or `AlreadyReleased`, if `free_id` returns
+        ///   that error.
+        /// - `OutOfMemory` if memory runs out.
+        ///
+        /// # Example
+        ///
+        /// ```rust
+        /// use divsharun::{Error, IdAllocator, TryError};
+        ///
+        /// // The vsock addresses of guests.
+        /// let mut guests = IdAllocator::new(3, 0xffff_fffe)?;
+        /// let id = guests.allocate_id()?;
+        /// assert_eq!(guests.try_free_id(id)?, 3);
+        /// assert_eq!(guests.try_free_id(id), Err(TryError::Refused(Error::AlreadyReleased(3))));
+        /// # Ok::<(), TryError>(())
+        /// ```
+        pub fn try_free_id;
     }
 
     /// Returns the first id of the range.

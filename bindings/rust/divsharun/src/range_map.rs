@@ -1,10 +1,11 @@
 // SPDX-License-Identifier: Apache-2.0 OR BSD-3-Clause
 use crate::address_allocator::space_of;
-use crate::convert::{out_of_memory, unless_out_of_memory};
+use crate::convert::out_of_memory;
 use crate::error::TryResult;
-use crate::proved::{vm_addresses, vm_range_map as proved};
+use crate::proved::vm_addresses::{self, RangeInclusive as Range};
+use crate::proved::vm_range_map as proved;
 use crate::rattle::Global;
-use crate::traits::DebugList;
+use crate::traits::{twins, DebugList};
 use crate::{AllocPolicy, Constraint, RangeInclusive, Result, TryError};
 use alloc::vec::Vec;
 use core::fmt;
@@ -48,263 +49,234 @@ pub struct RangeMap<T> {
 }
 
 impl<T> RangeMap<T> {
-    /// Creates a map of the `size` addresses starting at `base`. All of them are free.
-    ///
-    /// # Errors
-    ///
-    /// In this order:
-    /// - `Underflow` if `size` is 0.
-    /// - `Overflow` if the last address would be past `u64::MAX`.
-    ///
-    /// # Example
-    ///
-    /// ```rust
-    /// use divsharun::{Error, RangeMap};
-    ///
-    /// let ports: RangeMap<&str> = RangeMap::new(0, 0x1_0000)?;
-    /// assert_eq!(ports.held_count(), 0);
-    /// assert_eq!(RangeMap::<&str>::new(u64::MAX, 2), Err(Error::Overflow));
-    /// # Ok::<(), Error>(())
-    /// ```
-    pub fn new(base: u64, size: u64) -> Result<Self> {
-        unless_out_of_memory(Self::try_new(base, size))
+    twins! {
+        /// Creates a map of the `size` addresses starting at `base`. All of them are free.
+        ///
+        /// # Errors
+        ///
+        /// In this order:
+        /// - `Underflow` if `size` is 0.
+        /// - `Overflow` if the last address would be past `u64::MAX`.
+        ///
+        /// # Example
+        ///
+        /// ```rust
+        /// use divsharun::{Error, RangeMap};
+        ///
+        /// let ports: RangeMap<&str> = RangeMap::new(0, 0x1_0000)?;
+        /// assert_eq!(ports.held_count(), 0);
+        /// assert_eq!(RangeMap::<&str>::new(u64::MAX, 2), Err(Error::Overflow));
+        /// # Ok::<(), Error>(())
+        /// ```
+        pub fn new(base: u64, size: u64) -> Self {
+            let (ranges, values) = (proved::RangeMap::new(Global, base, size)?, Vec::new());
+            Ok(RangeMap { ranges, values })
+        }
+
+        /// Creates a map like [`new`](Self::new), but returns an error if memory runs out.
+        ///
+        /// # Errors
+        ///
+        /// In this order:
+        /// - `Refused(Underflow)` if `size` is 0.
+        /// - `Refused(Overflow)` if the last address would be past `u64::MAX`.
+        /// - `OutOfMemory` if memory for the node runs out.
+        ///
+        /// # Example
+        ///
+        /// ```rust
+        /// use divsharun::{Error, RangeMap, TryError};
+        ///
+        /// let bus: RangeMap<u32> = RangeMap::try_new(0xe000_0000, 0x1000_0000)?;
+        /// assert_eq!(bus.space().len(), 0x1000_0000);
+        /// let empty = RangeMap::<u32>::try_new(0xe000_0000, 0);
+        /// assert_eq!(empty, Err(TryError::Refused(Error::Underflow)));
+        /// # Ok::<(), TryError>(())
+        /// ```
+        pub fn try_new;
+
+        /// Allocates `size` free addresses that start at a multiple of `alignment`, keeps `value` with their
+        /// range, and returns the range. `policy` chooses the range as in
+        /// [`AddressAllocator::allocate`](crate::AddressAllocator::allocate).
+        ///
+        /// # Errors
+        ///
+        /// An error drops `value` and changes nothing else.
+        /// - `InvalidSize`, `InvalidAlignment`, `UnalignedAddress`, `Overflow`, `ResourceNotAvailable` or
+        ///   `InvalidStateTransition`, as for
+        ///   [`AddressAllocator::allocate`](crate::AddressAllocator::allocate).
+        ///
+        /// # Example
+        ///
+        /// ```rust
+        /// use divsharun::{AllocPolicy, Error, RangeMap};
+        ///
+        /// let mut bus = RangeMap::new(0xc000_0000, 0x3ec0_0000)?;
+        /// let frames = bus.allocate(0x100_0000, 0x100_0000, AllocPolicy::FirstMatch, "frames")?;
+        /// assert_eq!(frames.start(), 0xc000_0000);
+        ///
+        /// let exact = AllocPolicy::ExactMatch(frames.start());
+        /// assert_eq!(bus.allocate(0x1000, 0x1000, exact, "net"), Err(Error::ResourceNotAvailable));
+        /// assert_eq!(bus.get(frames.start()), Some((frames, &"frames")));
+        /// # Ok::<(), Error>(())
+        /// ```
+        #[doc(alias("alloc", "insert"))]
+        pub fn allocate(
+            &mut self,
+            size: u64,
+            alignment: u64,
+            policy: AllocPolicy,
+            value: T,
+        ) -> RangeInclusive {
+            let (policy, index) = (policy.proved(), self.values.len() as u64);
+            let range = self.ranges.allocate(Global, size, alignment, policy, index)?;
+            self.keep(range, value)
+        }
+
+        /// Allocates a range like [`allocate`](Self::allocate), but returns an error if memory runs out.
+        ///
+        /// # Errors
+        ///
+        /// An error drops `value`, and leaves ranges and other values unchanged. In this order:
+        /// - `Refused` with the error of `allocate`.
+        /// - `OutOfMemory` if memory for a node, for the index of the value or for the value runs out.
+        ///
+        /// # Example
+        ///
+        /// ```rust
+        /// use divsharun::{AllocPolicy, Error, RangeMap, TryError};
+        ///
+        /// let mut ports = RangeMap::try_new(0xc000, 0x4000)?;
+        /// let bar = ports.try_allocate(0x20, 0x20, AllocPolicy::FirstMatch, 7)?;
+        /// assert_eq!(bar.to_string(), "c000-c01f");
+        /// assert_eq!(
+        ///     ports.try_allocate(0x20, 0x18, AllocPolicy::FirstMatch, 8),
+        ///     Err(TryError::Refused(Error::InvalidAlignment))
+        /// );
+        /// # Ok::<(), TryError>(())
+        /// ```
+        pub fn try_allocate;
+
+        /// Allocates a range like [`allocate`](Self::allocate), for a request that was made before. If the
+        /// request has a [window](Constraint::within), the range lies in it.
+        ///
+        /// # Errors
+        ///
+        /// An error drops `value` and changes nothing else.
+        /// - `Overflow`, `ResourceNotAvailable` or `InvalidStateTransition`, as for
+        ///   [`AddressAllocator::allocate_constraint`](crate::AddressAllocator::allocate_constraint).
+        ///
+        /// # Example
+        ///
+        /// ```rust
+        /// use divsharun::{AllocPolicy, Constraint, RangeMap};
+        ///
+        /// let mut bus = RangeMap::new(0xc000_0000, 0x2_0000_0000)?;
+        /// let bar = Constraint::new(0x1000, 0x1000, AllocPolicy::LastMatch)?;
+        /// let disk = bus.allocate_constraint(bar.within(..=0xffff_ffff)?, "disk")?;
+        /// assert_eq!(disk.start(), 0xffff_f000);
+        /// # Ok::<(), divsharun::Error>(())
+        /// ```
+        pub fn allocate_constraint(&mut self, request: Constraint, value: T) -> RangeInclusive {
+            let index = self.values.len() as u64;
+            let range = self.ranges.allocate_constraint(Global, request.0, index)?;
+            self.keep(range, value)
+        }
+
+        /// Allocates a range like [`allocate_constraint`](Self::allocate_constraint), but returns an error if
+        /// memory runs out.
+        ///
+        /// # Errors
+        ///
+        /// An error drops `value`, and leaves ranges and other values unchanged. In this order:
+        /// - `Refused` with the error of `allocate_constraint`.
+        /// - `OutOfMemory` if memory for a node, for the index of the value or for the value runs out.
+        ///
+        /// # Example
+        ///
+        /// ```rust
+        /// use divsharun::{AllocPolicy, Constraint, Error, RangeMap, TryError};
+        ///
+        /// let mut bus = RangeMap::try_new(0xd000_0000, 0x1000)?;
+        /// let page = Constraint::new(0x1000, 0x1000, AllocPolicy::FirstMatch)?;
+        /// bus.try_allocate_constraint(page, 'a')?;
+        /// assert_eq!(
+        ///     bus.try_allocate_constraint(page, 'b'),
+        ///     Err(TryError::Refused(Error::ResourceNotAvailable))
+        /// );
+        /// # Ok::<(), TryError>(())
+        /// ```
+        pub fn try_allocate_constraint;
     }
 
-    /// Creates a map like [`new`](Self::new), but returns an error if memory runs out.
-    ///
-    /// # Errors
-    ///
-    /// In this order:
-    /// - `Refused(Underflow)` if `size` is 0.
-    /// - `Refused(Overflow)` if the last address would be past `u64::MAX`.
-    /// - `OutOfMemory` if memory for the node runs out.
-    ///
-    /// # Example
-    ///
-    /// ```rust
-    /// use divsharun::{Error, RangeMap, TryError};
-    ///
-    /// let bus: RangeMap<u32> = RangeMap::try_new(0xe000_0000, 0x1000_0000)?;
-    /// assert_eq!(bus.space().len(), 0x1000_0000);
-    /// let empty = RangeMap::<u32>::try_new(0xe000_0000, 0);
-    /// assert_eq!(empty, Err(TryError::Refused(Error::Underflow)));
-    /// # Ok::<(), TryError>(())
-    /// ```
-    pub fn try_new(base: u64, size: u64) -> TryResult<Self> {
-        Ok(RangeMap {
-            ranges: proved::RangeMap::new(Global, base, size)?,
-            values: Vec::new(),
-        })
-    }
-
-    /// Allocates `size` free addresses that start at a multiple of `alignment`, keeps `value` with their
-    /// range, and returns the range. `policy` chooses the range as in
-    /// [`AddressAllocator::allocate`](crate::AddressAllocator::allocate).
-    ///
-    /// # Errors
-    ///
-    /// An error drops `value` and changes nothing else.
-    /// - `InvalidSize`, `InvalidAlignment`, `UnalignedAddress`, `Overflow`, `ResourceNotAvailable` or
-    ///   `InvalidStateTransition`, as for
-    ///   [`AddressAllocator::allocate`](crate::AddressAllocator::allocate).
-    ///
-    /// # Example
-    ///
-    /// ```rust
-    /// use divsharun::{AllocPolicy, Error, RangeMap};
-    ///
-    /// let mut bus = RangeMap::new(0xc000_0000, 0x3ec0_0000)?;
-    /// let frames = bus.allocate(0x100_0000, 0x100_0000, AllocPolicy::FirstMatch, "frames")?;
-    /// assert_eq!(frames.start(), 0xc000_0000);
-    ///
-    /// let exact = AllocPolicy::ExactMatch(frames.start());
-    /// assert_eq!(bus.allocate(0x1000, 0x1000, exact, "net"), Err(Error::ResourceNotAvailable));
-    /// assert_eq!(bus.get(frames.start()), Some((frames, &"frames")));
-    /// # Ok::<(), Error>(())
-    /// ```
-    #[doc(alias("alloc", "insert"))]
-    pub fn allocate(
-        &mut self,
-        size: u64,
-        alignment: u64,
-        policy: AllocPolicy,
-        value: T,
-    ) -> Result<RangeInclusive> {
-        unless_out_of_memory(self.try_allocate(size, alignment, policy, value))
-    }
-
-    /// Allocates a range like [`allocate`](Self::allocate), but returns an error if memory runs out.
-    ///
-    /// # Errors
-    ///
-    /// An error drops `value`, and leaves ranges and other values unchanged. In this order:
-    /// - `Refused` with the error of `allocate`.
-    /// - `OutOfMemory` if memory for a node, for the index of the value or for the value runs out.
-    ///
-    /// # Example
-    ///
-    /// ```rust
-    /// use divsharun::{AllocPolicy, Error, RangeMap, TryError};
-    ///
-    /// let mut ports = RangeMap::try_new(0xc000, 0x4000)?;
-    /// let bar = ports.try_allocate(0x20, 0x20, AllocPolicy::FirstMatch, 7)?;
-    /// assert_eq!(bar.to_string(), "c000-c01f");
-    /// assert_eq!(
-    ///     ports.try_allocate(0x20, 0x18, AllocPolicy::FirstMatch, 8),
-    ///     Err(TryError::Refused(Error::InvalidAlignment))
-    /// );
-    /// # Ok::<(), TryError>(())
-    /// ```
-    pub fn try_allocate(
-        &mut self,
-        size: u64,
-        alignment: u64,
-        policy: AllocPolicy,
-        value: T,
-    ) -> TryResult<RangeInclusive> {
-        self.insert(value, |ranges, index| {
-            ranges.allocate(Global, size, alignment, policy.proved(), index)
-        })
-    }
-
-    /// Allocates a range like [`allocate`](Self::allocate), for a request that was made before. If the
-    /// request has a [window](Constraint::within), the range lies in it.
-    ///
-    /// # Errors
-    ///
-    /// An error drops `value` and changes nothing else.
-    /// - `Overflow`, `ResourceNotAvailable` or `InvalidStateTransition`, as for
-    ///   [`AddressAllocator::allocate_constraint`](crate::AddressAllocator::allocate_constraint).
-    ///
-    /// # Example
-    ///
-    /// ```rust
-    /// use divsharun::{AllocPolicy, Constraint, RangeMap};
-    ///
-    /// let mut bus = RangeMap::new(0xc000_0000, 0x2_0000_0000)?;
-    /// let bar = Constraint::new(0x1000, 0x1000, AllocPolicy::LastMatch)?;
-    /// let disk = bus.allocate_constraint(bar.within(..=0xffff_ffff)?, "disk")?;
-    /// assert_eq!(disk.start(), 0xffff_f000);
-    /// # Ok::<(), divsharun::Error>(())
-    /// ```
-    pub fn allocate_constraint(&mut self, request: Constraint, value: T) -> Result<RangeInclusive> {
-        unless_out_of_memory(self.try_allocate_constraint(request, value))
-    }
-
-    /// Allocates a range like [`allocate_constraint`](Self::allocate_constraint), but returns an error if
-    /// memory runs out.
-    ///
-    /// # Errors
-    ///
-    /// An error drops `value`, and leaves ranges and other values unchanged. In this order:
-    /// - `Refused` with the error of `allocate_constraint`.
-    /// - `OutOfMemory` if memory for a node, for the index of the value or for the value runs out.
-    ///
-    /// # Example
-    ///
-    /// ```rust
-    /// use divsharun::{AllocPolicy, Constraint, Error, RangeMap, TryError};
-    ///
-    /// let mut bus = RangeMap::try_new(0xd000_0000, 0x1000)?;
-    /// let page = Constraint::new(0x1000, 0x1000, AllocPolicy::FirstMatch)?;
-    /// bus.try_allocate_constraint(page, 'a')?;
-    /// assert_eq!(
-    ///     bus.try_allocate_constraint(page, 'b'),
-    ///     Err(TryError::Refused(Error::ResourceNotAvailable))
-    /// );
-    /// # Ok::<(), TryError>(())
-    /// ```
-    pub fn try_allocate_constraint(
-        &mut self,
-        request: Constraint,
-        value: T,
-    ) -> TryResult<RangeInclusive> {
-        self.insert(value, |ranges, index| {
-            ranges.allocate_constraint(Global, request.0, index)
-        })
-    }
-
-    /// Appends a value if `allocate` allocates a range for its index. If memory for the value runs out, the
-    /// range is freed again.
-    fn insert(
-        &mut self,
-        value: T,
-        allocate: impl FnOnce(
-            &mut proved::RangeMap,
-            u64,
-        ) -> vm_addresses::Result<vm_addresses::RangeInclusive>,
-    ) -> TryResult<RangeInclusive> {
-        let range = allocate(&mut self.ranges, self.values.len() as u64)?;
+    /// Keeps the value of a range that is allocated. Without memory for it, the range is freed.
+    fn keep(&mut self, range: Range, value: T) -> vm_addresses::Result<Range> {
         if self.values.try_reserve(1).is_err() {
             let _ = self.ranges.free(&range);
-            return Err(TryError::OutOfMemory);
+            return Err(vm_addresses::Error::OutOfMemory);
         }
         self.values.push((range.start(), value));
-        Ok(RangeInclusive(range))
+        Ok(range)
     }
 
-    /// Moves an allocated range to the place of a request, and returns the range there. It keeps its
-    /// value. The range can overlap the one before.
-    ///
-    /// # Errors
-    ///
-    /// An error changes nothing.
-    /// - The error of
-    ///   [`AddressAllocator::move_constraint`](crate::AddressAllocator::move_constraint).
-    ///
-    /// # Example
-    ///
-    /// ```rust
-    /// use divsharun::{AllocPolicy, Constraint, Error, RangeMap};
-    ///
-    /// let mut bus = RangeMap::new(0xfe00_0000, 0x20_0000)?;
-    /// let net = bus.allocate(0x4000, 0x4000, AllocPolicy::FirstMatch, "net")?;
-    /// // The guest programs its BAR.
-    /// let bar = Constraint::new(0x4000, 0x4000, AllocPolicy::ExactMatch(0xfe10_0000))?;
-    /// let moved = bus.move_constraint(&net, bar)?;
-    /// assert_eq!(bus.get(0xfe10_0000), Some((moved, &"net")));
-    /// assert_eq!(bus.move_constraint(&net, bar), Err(Error::ResourceNotAvailable));
-    /// # Ok::<(), Error>(())
-    /// ```
-    #[doc(alias = "resize")]
-    pub fn move_constraint(
-        &mut self,
-        range: &RangeInclusive,
-        request: Constraint,
-    ) -> Result<RangeInclusive> {
-        unless_out_of_memory(self.try_move_constraint(range, request))
-    }
-
-    /// Moves a range like [`move_constraint`](Self::move_constraint), but returns an error if memory runs
-    /// out.
-    ///
-    /// # Errors
-    ///
-    /// An error leaves ranges and values unchanged. In this order:
-    /// - `Refused` with the error of `move_constraint`.
-    /// - `OutOfMemory` if memory for a node or for the index of the value runs out.
-    ///
-    /// # Example
-    ///
-    /// ```rust
-    /// use divsharun::{AllocPolicy, Constraint, RangeMap, TryError};
-    ///
-    /// let mut bus = RangeMap::try_new(0xfe00_0000, 0x8000)?;
-    /// let net = bus.try_allocate(0x4000, 0x4000, AllocPolicy::FirstMatch, "net")?;
-    /// let longer = Constraint::new(0x8000, 0x4000, AllocPolicy::FirstMatch)?;
-    /// assert_eq!(bus.try_move_constraint(&net, longer)?.len(), 0x8000);
-    /// # Ok::<(), TryError>(())
-    /// ```
-    pub fn try_move_constraint(
-        &mut self,
-        range: &RangeInclusive,
-        request: Constraint,
-    ) -> TryResult<RangeInclusive> {
-        let to = self.ranges.move_constraint(Global, &range.0, request.0)?;
-        if let Some(at) = self.ranges.get(to.start()) {
-            self.values[at.value as usize].0 = to.start();
+    twins! {
+        /// Moves an allocated range to the place of a request, and returns the range there. It keeps its
+        /// value. The range can overlap the one before.
+        ///
+        /// # Errors
+        ///
+        /// An error changes nothing.
+        /// - The error of
+        ///   [`AddressAllocator::move_constraint`](crate::AddressAllocator::move_constraint).
+        ///
+        /// # Example
+        ///
+        /// ```rust
+        /// use divsharun::{AllocPolicy, Constraint, Error, RangeMap};
+        ///
+        /// let mut bus = RangeMap::new(0xfe00_0000, 0x20_0000)?;
+        /// let net = bus.allocate(0x4000, 0x4000, AllocPolicy::FirstMatch, "net")?;
+        /// // The guest programs its BAR.
+        /// let bar = Constraint::new(0x4000, 0x4000, AllocPolicy::ExactMatch(0xfe10_0000))?;
+        /// let moved = bus.move_constraint(&net, bar)?;
+        /// assert_eq!(bus.get(0xfe10_0000), Some((moved, &"net")));
+        /// assert_eq!(bus.move_constraint(&net, bar), Err(Error::ResourceNotAvailable));
+        /// # Ok::<(), Error>(())
+        /// ```
+        #[doc(alias = "resize")]
+        pub fn move_constraint(
+            &mut self,
+            range: &RangeInclusive,
+            request: Constraint,
+        ) -> RangeInclusive {
+            let to = self.ranges.move_constraint(Global, &range.0, request.0)?;
+            if let Some(at) = self.ranges.get(to.start()) {
+                self.values[at.value as usize].0 = to.start();
+            }
+            Ok(to)
         }
-        Ok(RangeInclusive(to))
+
+        /// Moves a range like [`move_constraint`](Self::move_constraint), but returns an error if memory runs
+        /// out.
+        ///
+        /// # Errors
+        ///
+        /// An error leaves ranges and values unchanged. In this order:
+        /// - `Refused` with the error of `move_constraint`.
+        /// - `OutOfMemory` if memory for a node or for the index of the value runs out.
+        ///
+        /// # Example
+        ///
+        /// ```rust
+        /// use divsharun::{AllocPolicy, Constraint, RangeMap, TryError};
+        ///
+        /// let mut bus = RangeMap::try_new(0xfe00_0000, 0x8000)?;
+        /// let net = bus.try_allocate(0x4000, 0x4000, AllocPolicy::FirstMatch, "net")?;
+        /// let longer = Constraint::new(0x8000, 0x4000, AllocPolicy::FirstMatch)?;
+        /// assert_eq!(bus.try_move_constraint(&net, longer)?.len(), 0x8000);
+        /// # Ok::<(), TryError>(())
+        /// ```
+        pub fn try_move_constraint;
     }
 
     /// Frees an allocated range, and returns its value. It does not allocate memory, and always succeeds

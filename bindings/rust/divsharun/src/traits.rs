@@ -34,10 +34,9 @@ macro_rules! allocator {
     };
 }
 
-/// Implements iterators by those of the proved code, with a function that converts an item and one that
-/// returns the size hint.
+/// Implements iterators by those of the proved code, with a function that converts an item.
 macro_rules! iterate {
-    ($($name:ident),+: $item:ty, $convert:expr, $size_hint:expr) => {$(
+    ($($name:ident),+: $item:ty, $convert:expr) => {$(
         impl Iterator for $name<'_> {
             type Item = $item;
 
@@ -46,7 +45,7 @@ macro_rules! iterate {
             }
 
             fn size_hint(&self) -> (usize, Option<usize>) {
-                $size_hint(&self.0)
+                self.0.size_hint()
             }
         }
 
@@ -73,4 +72,26 @@ macro_rules! fused {
     };
 }
 
-pub(crate) use {allocator, fused, iterate};
+/// Defines calls in pairs. If memory runs out, the first call of a pair ends the process, and the second
+/// one returns `OutOfMemory`.
+macro_rules! twins {
+    ($(
+        $(#[$attribute:meta])*
+        pub fn $name:ident($($parameter:tt)*) -> $result:ty $call:block
+        $(#[$try_attribute:meta])*
+        pub fn $try_name:ident;
+    )+) => {$(
+        $(#[$attribute])*
+        pub fn $name($($parameter)*) -> $crate::Result<$result> {
+            let answer: $crate::proved::vm_addresses::Result<_> = $call;
+            Ok(answer?.into())
+        }
+        $(#[$try_attribute])*
+        pub fn $try_name($($parameter)*) -> $crate::error::TryResult<$result> {
+            let answer: $crate::proved::vm_addresses::Result<_> = $call;
+            Ok(answer?.into())
+        }
+    )+};
+}
+
+pub(crate) use {allocator, fused, iterate, twins};

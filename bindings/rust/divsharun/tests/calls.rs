@@ -711,19 +711,19 @@ fn debug_texts_show_the_fields() {
     ids.free_id(5).unwrap();
     let ids_text = "IdAllocator { range_base: 5, next_id: Some(7), range_end: 23, held_ids: [6] }";
     assert_eq!(format!("{ids:?}"), ids_text);
-    let mut devices = DeviceManager::new(0, 0, 16, 1).unwrap();
+    let mut devices = DeviceManager::new(0, 1, 16, 3).unwrap();
     let slot = devices.reserve(1, 1, AllocPolicy::FirstMatch).unwrap();
     let range_text = "RangeInclusive { start: 16, end: 16 }";
-    assert_eq!(
-        format!("{slot:?}"),
-        format!("DeviceSlot {{ id: 0, range: {range_text} }}")
-    );
-    let addresses = format!("base: 16, end: 16, held_count: 1, held_ranges: [{range_text}]");
+    let slot_text = format!("DeviceSlot {{ id: 0, range: {range_text} }}");
+    assert_eq!(format!("{slot:?}"), slot_text);
+    let last = devices.reserve(1, 1, AllocPolicy::LastMatch).unwrap();
     assert_eq!(
         format!("{devices:?}"),
         format!(
-            "DeviceManager {{ ids: IdAllocator {{ range_base: 0, next_id: Some(1), range_end: 0, \
-             held_ids: [0] }}, addresses: AddressAllocator {{ {addresses} }}, devices: [{slot:?}] }}"
+            "DeviceManager {{ ids: IdAllocator {{ range_base: 0, next_id: Some(2), range_end: 1, \
+             held_ids: [0, 1] }}, addresses: AddressAllocator {{ base: 16, end: 18, held_count: 2, \
+             held_ranges: [{range_text}, {:?}] }}, devices: [{slot_text}, {last:?}] }}",
+            last.range
         )
     );
     let mut gaps = AddressAllocator::new(0, 8).unwrap();
@@ -1281,15 +1281,20 @@ const SOURCES: [&str; 3] = [
 #[test]
 fn calls_are_those_of_the_proved_code() {
     let mut count = 0;
-    for text in SOURCES.iter().flat_map(|text| text.split("\n    pub ")) {
+    for text in SOURCES.iter().flat_map(|text| text.split("  pub ")) {
         let Some((head, rest)) = text.split_once('(') else {
             continue;
         };
+        // The second call of a pair has the body of the first one.
         let Some(name) = head.trim_start_matches("const ").strip_prefix("fn ") else {
             continue;
         };
+        if name.contains(';') {
+            count += 1;
+            continue;
+        }
         let body: String = rest
-            .split("\n    }\n")
+            .split("\n\n")
             .next()
             .unwrap()
             .split_whitespace()

@@ -1,6 +1,6 @@
 // SPDX-License-Identifier: Apache-2.0 OR BSD-3-Clause
-//! Guards against boxes and lists with other results than Rust's library. If an allocation fails, a call
-//! must change nothing, and lose neither its argument nor a block.
+//! Guards against boxes and lists with other results than Rust's library, and against wrong masks of bytes.
+//! If an allocation fails, a call must change nothing, and lose neither its argument nor a block.
 
 extern crate alloc;
 
@@ -57,4 +57,41 @@ fn vectors() {
     assert_eq!((clone.capacity(), clone == inserted), (1000, true));
     let (empty, _) = until_allowed(|| Vec::<u64>::with_capacity(Global, 7), |_| {});
     assert_eq!((empty.capacity(), empty.len()), (7, 0));
+}
+
+#[cfg(feature = "std")]
+mod masks {
+    use super::rattle::simd::u8x16;
+
+    /// Returns the expected mask, computed lane by lane.
+    fn mask_by_lane(bytes: &[u8; 16], byte: u8) -> u64 {
+        let lanes = bytes.iter().enumerate();
+        lanes
+            .filter(|(_, lane)| **lane == byte)
+            .map(|(place, _)| 1 << place)
+            .sum()
+    }
+
+    /// Compares each byte with each byte in each lane, next to different and to equal bytes.
+    #[test]
+    fn each_byte_is_compared_with_each() {
+        for first in 0..=u8::MAX {
+            for step in [0, 1, 127, 128] {
+                let bytes: [u8; 16] = core::array::from_fn(|lane| {
+                    first.wrapping_add((lane as u8).wrapping_mul(step))
+                });
+                for byte in 0..=u8::MAX {
+                    let mask = u8x16::from_slice(&bytes).simd_eq(u8x16::splat(byte));
+                    let expected = mask_by_lane(&bytes, byte);
+                    assert_eq!(mask.to_bitmask(), expected, "{bytes:?} and {byte}");
+                }
+            }
+        }
+    }
+
+    #[test]
+    fn only_the_first_sixteen_bytes_are_taken() {
+        let mask = u8x16::from_slice(&[7; 40]).simd_eq(u8x16::splat(7));
+        assert_eq!(mask.to_bitmask(), 0xFFFF);
+    }
 }

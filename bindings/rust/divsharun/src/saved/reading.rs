@@ -256,7 +256,7 @@ struct Devices {
 }
 
 fn slots<'de, D: Deserializer<'de>>(from: D) -> Result<ReadDevices, D::Error> {
-    let push = |list: &mut ReadDevices, device: DeviceSlot| list.push(device.proved());
+    let push = |list: &mut ReadDevices, device: DeviceSlot| list.push(device.into());
     from.deserialize_seq(List(ReadDevices::new(Global), push))
 }
 
