@@ -10,7 +10,7 @@ use Rattle.vm_chunks.specs.Runs.{last_of, LacksId, HasNext, joined_last, joined_
 use Rattle.vm_chunks.proofs.Cuts.{none_from, found_from, none_under, found_under}
 use Rattle.vm_chunks.proofs.Gaps.{place_is, put_known, put_new, put_between, put_over}
 
--- What is read past the end.
+-- A read past the end returns it.
 abbrev pub no_run : Run
 no_run = record { first = 0; last = 0 }
 

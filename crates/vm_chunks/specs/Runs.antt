@@ -105,7 +105,7 @@ pub record StartsAt (id : ℕ) (below : Option Run) : Type 0 where
   pub first : joined_first id below ≡ id
   pub key : joined_key id below ≡ None
 
--- The runs with the run of an id in place of those that join it.
+-- The runs with the run of an id instead of those that join it.
 abbrev pub with_joined : ℕ → Option Run → Option Run → List Run → List Run
 with_joined id above below rs = without_some last_of (joined_key id below) (with_entry last_of (joined_run id above below) rs)
 
@@ -118,7 +118,7 @@ abbrev pub AddsId : ℕ → Bool → List Run → List Run → Type 0
 AddsId id true old new = LacksId id (at_or_above last_of id old) × (new ≡ with_id id old)
 AddsId id false old new = HasId id (at_or_above last_of id old) × (new ≡ old)
 
--- What a chunk has of both runs next to an id is all, if it is the first or last chunk where it has none.
+-- The runs next to an id are in the chunk, or it is the first or last chunk.
 abbrev pub HasNext : ℕ → Bool → Bool → List Run → Type 0
 HasNext id is_first is_last rs =
     (IsTrue is_first ⊎ IsSome (at_or_above last_of id rs)) × (IsTrue is_last ⊎ IsSome (highest_below last_of id rs))

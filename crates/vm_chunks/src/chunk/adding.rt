@@ -8,7 +8,7 @@ use super::{Chunk, MAX_ENTRIES};
 use crate::id_set::Run;
 use crate::place_from;
 
-/// What adding an id to a chunk did.
+/// The effect of an id on a chunk.
 #[derive(Clone, Copy)]
 pub enum Added {
     /// Nothing, because a run has the id.

@@ -6,7 +6,7 @@ use super::{Chunk, MAX_ENTRIES};
 use crate::proved::vm_chunks::id_set::Run;
 use crate::proved::vm_chunks::place_from;
 
-/// What adding an id to a chunk did.
+/// The effect of an id on a chunk.
 #[derive(Clone, Copy)]
 pub(in crate::proved) enum Added {
     /// Nothing, because a run has the id.
