@@ -155,7 +155,6 @@ impl IdAllocator {
     /// # Ok::<(), Error>(())
     /// ```
     #[inline]
-    #[inline]
     pub fn allocate_id(&mut self) -> Result<u32> {
         Ok(self.0.allocate_id()?)
     }
