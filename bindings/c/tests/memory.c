@@ -136,7 +136,7 @@ static const struct row rows[] = {
     {"with ids", WITH_IDS, 1, {0, 9}, 2},
     {"an id above others", ID_EXACT, 1, {999}, 1},
     {"an id in a range", ID_IN, 1, {999, 1000}, 1},
-    {"read ids", IDS_WITHIN, 1, {0}, 3},
+    {"read ids", IDS_WITHIN, 1, {0}, 2},
     {"release a device", RELEASE, 2, {0}, 1},
     {"reserve first", RESERVE_FIRST, 2, {4, 8}, 2},
     {"reserve last", RESERVE_LAST, 2, {4, 8}, 2},

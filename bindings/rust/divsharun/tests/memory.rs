@@ -125,7 +125,7 @@ const TRIED: [(u64, TriedCall); 42] = [
     }),
     (0, |space| refused(space.try_allocate(64, 1, FirstMatch))),
     (0, |space| refused(space.try_allocate(0, 1, FirstMatch))),
-    (3, |_| one_held_id().try_free_id(0).map(drop)),
+    (1, |_| one_held_id().try_free_id(0).map(drop)),
     (0, |_| refused(one_held_id().try_free_id(1))),
     (0, |_| one_held_id().try_clone().map(drop)),
     (1, |_| DeviceManager::try_new(0, 0, 0, 64).map(drop)),
@@ -137,17 +137,17 @@ const TRIED: [(u64, TriedCall); 42] = [
         let devices = DeviceManager::try_new(0, 0, 0, 64)?;
         devices.try_ids().map(drop)
     }),
-    (1 + 3 * 3, |_| {
+    (1 + 3, |_| {
         let mut devices = DeviceManager::try_new(0, 0, 0, 64)?;
         devices.try_reserve(1, 1, FirstMatch)?;
         devices.try_release(0)
     }),
-    (1 + 3 * 3, |_| {
+    (1 + 3, |_| {
         let mut devices = DeviceManager::try_new(0, 0, 0, 64)?;
         devices.try_reserve_constraint(in_the_middle(1, FirstMatch))?;
         devices.try_release(0)
     }),
-    (2 * (1 + 3 * 2), |_| {
+    (2 * (1 + 2), |_| {
         let mut devices = DeviceManager::try_new(0, 0, 0, 64)?;
         devices.try_reserve(1, 1, FirstMatch)?;
         devices.try_clone().map(drop)
@@ -155,7 +155,7 @@ const TRIED: [(u64, TriedCall); 42] = [
 ];
 
 /// Calls that end the process, each with the number of its allocations on [`full_leaf`]. A few
-/// freed ids, devices or starts have a chunk, a list of chunks and one of bounds.
+/// freed ids, devices or starts are one chunk.
 const ENDED: [(u64, EndedCall); 25] = [
     (1, |_| assert!(AddressAllocator::new(0, 64).is_ok())),
     (1, |_| drop(AddressAllocator::over(both()[0]))),
@@ -187,10 +187,10 @@ const ENDED: [(u64, EndedCall); 25] = [
         let request = in_the_middle(4, FirstMatch);
         assert!(space.move_constraint(&both()[0], request).is_ok())
     }),
-    (3, |_| drop(one_free_id())),
-    (6, |_| drop(one_free_id().clone())),
-    (3, |_| assert!(IdAllocator::with_held(0, 9, &[1]).is_ok())),
-    (3, |_| {
+    (1, |_| drop(one_free_id())),
+    (2, |_| drop(one_free_id().clone())),
+    (1, |_| assert!(IdAllocator::with_held(0, 9, &[1]).is_ok())),
+    (1, |_| {
         let mut ids = IdAllocator::new(0, 9).expect("ids");
         assert!(ids.allocate_in(5..=9).is_ok() && ids.allocate_exact(3).is_ok())
     }),
@@ -199,18 +199,18 @@ const ENDED: [(u64, EndedCall); 25] = [
         assert!(ids.allocate_ids(3).is_ok())
     }),
     (1, |_| assert!(DeviceManager::new(0, 0, 0, 64).is_ok())),
-    (1 + 3 * 3, |_| {
+    (1 + 3, |_| {
         reserve_and_release(|devices| devices.reserve(1, 1, FirstMatch).is_ok())
     }),
-    (1 + 3 * 3, |_| {
+    (1 + 3, |_| {
         let request = in_the_middle(1, FirstMatch);
         reserve_and_release(|devices| devices.reserve_constraint(request).is_ok())
     }),
-    (1 + 3 * 3, |_| {
+    (1 + 3, |_| {
         let (id, request) = (IdRequest::Lowest, in_the_middle(1, FirstMatch));
         reserve_and_release(|devices| devices.reserve_with_id(id, request).is_ok())
     }),
-    (2 * (1 + 3 * 2), |_| {
+    (2 * (1 + 2), |_| {
         let mut devices = DeviceManager::new(0, 0, 0, 64).expect("a manager");
         assert!(devices.reserve(1, 1, FirstMatch).is_ok());
         drop(devices.clone());
@@ -219,8 +219,8 @@ const ENDED: [(u64, EndedCall); 25] = [
         let layout = space.layout().named([(both()[0], "disk")]);
         drop(layout.clone());
     }),
-    // The values have a list, and their indexes have a chunk, a list of chunks and one of bounds.
-    (1 + (1 + 3) + (1 + 3 + 1), |_| {
+    // The values have a list, and their indexes have a chunk.
+    (1 + (1 + 1) + (1 + 1 + 1), |_| {
         let mut map = RangeMap::new(0, 64).expect("a map");
         assert!(map.allocate(1, 1, FirstMatch, 'a').is_ok());
         drop(map.clone());
@@ -329,7 +329,7 @@ fn one_free_id() -> IdAllocator {
     ids
 }
 
-/// Makes one allocation for the space, and three each for the devices, their starts and the freed ids.
+/// Makes one allocation each for the space, the devices, their starts and the freed ids.
 fn reserve_and_release(reserve: impl Fn(&mut DeviceManager) -> bool) {
     let mut devices = DeviceManager::new(0, 0, 0, 64).expect("a manager");
     assert!(reserve(&mut devices));
