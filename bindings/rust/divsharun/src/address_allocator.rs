@@ -62,7 +62,7 @@ impl AddressAllocator {
         /// assert_eq!(AddressAllocator::new(u64::MAX, 2), Err(Error::Overflow));
         /// # Ok::<(), Error>(())
         /// ```
-        pub fn new(base: u64, size: u64) -> Self {
+        pub fn new(base: u64, size: u64) -> Result<Self> {
             proved::AddressAllocator::new(Global, base, size).map(Self)
         }
 
@@ -320,7 +320,7 @@ impl AddressAllocator {
             size: u64,
             alignment: u64,
             policy: AllocPolicy,
-        ) -> RangeInclusive {
+        ) -> Result<RangeInclusive> {
             self.0.allocate(Global, size, alignment, policy.proved())
         }
 
@@ -387,7 +387,7 @@ impl AddressAllocator {
         /// assert_eq!(mmio.allocate_constraint(inside), Err(Error::ResourceNotAvailable));
         /// # Ok::<(), Error>(())
         /// ```
-        pub fn allocate_constraint(&mut self, request: Constraint) -> RangeInclusive {
+        pub fn allocate_constraint(&mut self, request: Constraint) -> Result<RangeInclusive> {
             self.0.allocate_constraint(Global, request.0)
         }
 
@@ -517,7 +517,7 @@ impl AddressAllocator {
             &mut self,
             key: &RangeInclusive,
             request: Constraint,
-        ) -> RangeInclusive {
+        ) -> Result<RangeInclusive> {
             self.0.move_constraint(Global, &key.0, request.0)
         }
 
@@ -583,7 +583,7 @@ impl AddressAllocator {
         /// assert_eq!(mmio.move_range(&moved, next.start()), Err(Error::ResourceNotAvailable));
         /// # Ok::<(), Error>(())
         /// ```
-        pub fn move_range(&mut self, key: &RangeInclusive, start: u64) -> RangeInclusive {
+        pub fn move_range(&mut self, key: &RangeInclusive, start: u64) -> Result<RangeInclusive> {
             self.0.move_range(Global, &key.0, start)
         }
 

@@ -111,7 +111,7 @@ impl DeviceManager {
         /// assert_eq!(DeviceManager::new(5, 23, 0xd000_0000, 0), Err(Error::Underflow));
         /// # Ok::<(), Error>(())
         /// ```
-        pub fn new(id_lo: u32, id_hi: u32, base: u64, size: u64) -> Self {
+        pub fn new(id_lo: u32, id_hi: u32, base: u64, size: u64) -> Result<Self> {
             proved::DeviceManager::new(Global, id_lo, id_hi, base, size).map(Self)
         }
 
@@ -167,7 +167,7 @@ impl DeviceManager {
         /// # Ok::<(), Error>(())
         /// ```
         #[doc(alias("allocate", "add", "insert"))]
-        pub fn reserve(&mut self, size: u64, align: u64, policy: AllocPolicy) -> DeviceSlot {
+        pub fn reserve(&mut self, size: u64, align: u64, policy: AllocPolicy) -> Result<DeviceSlot> {
             self.0.reserve(Global, size, align, policy.proved())
         }
 
@@ -217,7 +217,7 @@ impl DeviceManager {
         /// assert_eq!((disk.id, disk.range.start()), (5, 0xffff_f000));
         /// # Ok::<(), divsharun::Error>(())
         /// ```
-        pub fn reserve_constraint(&mut self, request: Constraint) -> DeviceSlot {
+        pub fn reserve_constraint(&mut self, request: Constraint) -> Result<DeviceSlot> {
             self.0.reserve_constraint(Global, request.0)
         }
 
@@ -275,7 +275,7 @@ impl DeviceManager {
         /// assert_eq!(again, Err(Error::ResourceNotAvailable));
         /// # Ok::<(), Error>(())
         /// ```
-        pub fn reserve_with_id(&mut self, id: IdRequest, request: Constraint) -> DeviceSlot {
+        pub fn reserve_with_id(&mut self, id: IdRequest, request: Constraint) -> Result<DeviceSlot> {
             self.0.reserve_with_id(Global, id, request.0)
         }
 
@@ -353,7 +353,7 @@ impl DeviceManager {
         /// assert_eq!(devices.move_constraint(2, bar), Err(Error::NeverAllocated(2)));
         /// # Ok::<(), Error>(())
         /// ```
-        pub fn move_constraint(&mut self, id: u32, request: Constraint) -> RangeInclusive {
+        pub fn move_constraint(&mut self, id: u32, request: Constraint) -> Result<RangeInclusive> {
             self.0.move_constraint(Global, id, request.0)
         }
 
@@ -402,7 +402,7 @@ impl DeviceManager {
         /// # Ok::<(), Error>(())
         /// ```
         #[doc(alias("free", "remove"))]
-        pub fn release(&mut self, id: u32) -> () {
+        pub fn release(&mut self, id: u32) -> Result<()> {
             self.0.release(id)
         }
 

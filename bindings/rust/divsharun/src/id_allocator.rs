@@ -102,7 +102,7 @@ impl IdAllocator {
         /// assert_eq!(IdAllocator::with_held(5, 23, &[8, 24]), Err(Error::OutOfRange(24)));
         /// # Ok::<(), Error>(())
         /// ```
-        pub fn with_held(range_base: u32, range_end: u32, held: &[u32]) -> Self {
+        pub fn with_held(range_base: u32, range_end: u32, held: &[u32]) -> Result<Self> {
             proved::IdAllocator::with_held(Global, range_base, range_end, held).map(Self)
         }
 
@@ -184,7 +184,7 @@ impl IdAllocator {
         /// assert_eq!((lines.allocate_id(), lines.free_count()), (Ok(5), 17));
         /// # Ok::<(), Error>(())
         /// ```
-        pub fn allocate_exact(&mut self, id: u32) -> u32 {
+        pub fn allocate_exact(&mut self, id: u32) -> Result<u32> {
             self.0.allocate_exact(id)
         }
 
@@ -237,7 +237,7 @@ impl IdAllocator {
         /// assert_eq!(lines.allocate_in(..8), Ok(5));
         /// # Ok::<(), Error>(())
         /// ```
-        pub fn allocate_in(&mut self, window: impl Window<u32>) -> u32 {
+        pub fn allocate_in(&mut self, window: impl Window<u32>) -> Result<u32> {
             let (first, last) = window.limits();
             self.0.allocate_in(first, last)
         }
@@ -287,7 +287,7 @@ impl IdAllocator {
         /// assert_eq!(lines.free_count(), 1);
         /// # Ok::<(), Error>(())
         /// ```
-        pub fn allocate_ids(&mut self, count: usize) -> Vec<u32> {
+        pub fn allocate_ids(&mut self, count: usize) -> Result<Vec<u32>> {
             self.0.allocate_ids(Global, count)
         }
 
@@ -384,7 +384,7 @@ impl IdAllocator {
         /// # Ok::<(), Error>(())
         /// ```
         #[doc(alias = "release")]
-        pub fn free_id(&mut self, id: u32) -> u32 {
+        pub fn free_id(&mut self, id: u32) -> Result<u32> {
             self.0.free_id(id)
         }
 

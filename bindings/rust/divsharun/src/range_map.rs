@@ -68,7 +68,7 @@ impl<T> RangeMap<T> {
         /// assert_eq!(RangeMap::<&str>::new(u64::MAX, 2), Err(Error::Overflow));
         /// # Ok::<(), Error>(())
         /// ```
-        pub fn new(base: u64, size: u64) -> Self {
+        pub fn new(base: u64, size: u64) -> Result<Self> {
             let (ranges, values) = (proved::RangeMap::new(Global, base, size)?, Vec::new());
             Ok(RangeMap { ranges, values })
         }
@@ -127,7 +127,7 @@ impl<T> RangeMap<T> {
             alignment: u64,
             policy: AllocPolicy,
             value: T,
-        ) -> RangeInclusive {
+        ) -> Result<RangeInclusive> {
             let (policy, index) = (policy.proved(), self.values.len() as u64);
             let range = self.ranges.allocate(Global, size, alignment, policy, index)?;
             self.keep(range, value)
@@ -177,7 +177,7 @@ impl<T> RangeMap<T> {
         /// assert_eq!(disk.start(), 0xffff_f000);
         /// # Ok::<(), divsharun::Error>(())
         /// ```
-        pub fn allocate_constraint(&mut self, request: Constraint, value: T) -> RangeInclusive {
+        pub fn allocate_constraint(&mut self, request: Constraint, value: T) -> Result<RangeInclusive> {
             let index = self.values.len() as u64;
             let range = self.ranges.allocate_constraint(Global, request.0, index)?;
             self.keep(range, value)
@@ -248,7 +248,7 @@ impl<T> RangeMap<T> {
             &mut self,
             range: &RangeInclusive,
             request: Constraint,
-        ) -> RangeInclusive {
+        ) -> Result<RangeInclusive> {
             let to = self.ranges.move_constraint(Global, &range.0, request.0)?;
             if let Some(at) = self.ranges.get(to.start()) {
                 self.values[at.value as usize].0 = to.start();

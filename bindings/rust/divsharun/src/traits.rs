@@ -73,11 +73,11 @@ macro_rules! fused {
 }
 
 /// Defines calls in pairs. If memory runs out, the first call of a pair ends the process, and the second
-/// one returns `OutOfMemory`.
+/// one returns `OutOfMemory`. The body of both returns the result of the proved code, which is converted.
 macro_rules! twins {
     ($(
         $(#[$attribute:meta])*
-        pub fn $name:ident($($parameter:tt)*) -> $result:ty $call:block
+        pub fn $name:ident($($parameter:tt)*) -> Result<$result:ty> $call:block
         $(#[$try_attribute:meta])*
         pub fn $try_name:ident;
     )+) => {$(
