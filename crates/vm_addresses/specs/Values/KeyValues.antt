@@ -9,7 +9,7 @@ use Rattle.vm_addresses.specs.Tree.Blocks.{held_of, AreKeysIn, AreBelowMax}
 use Rattle.vm_addresses.specs.Values.NodeTree.{NodeTree, node_blocks, node_height}
 use Rattle.vm_addresses.specs.Values.TreeValues.{HasNodes}
 
--- The maximum nesting of nodes: no tree that vm-allocator saves is higher.
+-- The maximum nesting of the nodes that a reader accepts: no tree that vm-allocator saves is higher.
 abbrev pub MAX_NESTING_REPAIRED : ℕ
 MAX_NESTING_REPAIRED = 50
 

@@ -35,7 +35,7 @@ childless = record { left = Absent; right = Absent }
 abbrev pub nothing_read : NodesRead
 nothing_read = record { children = childless; outer = [] }
 
--- A whole saved tree was read, and nothing else.
+-- A whole saved tree was read, as a left child, and nothing else.
 abbrev pub whole : Saved → NodesRead
 whole t = record { children = record { left = t; right = Absent }; outer = [] }
 
@@ -170,7 +170,7 @@ abbrev pub IsWholeTree : (Saved → AddressState → Type 0) → NodesRead → A
 IsWholeTree States nodes state = (t : Saved) × (nodes ≡ whole t) × States t state
 
 -- The result of making an allocator of the nodes that a reader has read: the state that `States` is true for, if they are one whole
--- tree. An error of the reader is returned.
+-- tree. An error of the reader is returned. Other nodes can be stored as the same values: the result is correct for all of them.
 abbrev pub MakesOfNodes : (Saved → AddressState → Type 0) → Condition → Result Stored SavedError → Result AddressState SavedError → Type 0
 MakesOfNodes States condition (Ok stored) answer =
     ((nodes : NodesRead) × IsStoredFor stored nodes)

@@ -9,7 +9,8 @@ use Rattle.vm_addresses.specs.Values.NodeTree.{NodeTree, Tip, Fork, node_blocks,
 use Rattle.vm_tree.specs.Shape.{MAX_HEIGHT}
 use Rattle.vm_addresses.specs.Values.KeyValues.{MAX_NESTING_REPAIRED}
 
--- A saved tree: no node, or a node with its block, both children and the height that is saved for it.
+-- A saved tree, which has a node for each block, unlike the tree of an allocator: no node, or a node with its block, both children
+-- and the height that is saved for it.
 pub data Saved : Type 0 where
   Absent : Saved
   Node : Saved → Block → Saved → ℕ → Saved
@@ -43,7 +44,8 @@ pub record IsReadable (t : Saved) : Type 0 where
   pub keys : AreKeysIn 0 (saved_blocks t) MAX
   pub below : AreBelowMax (held_keys t)
 
--- The saved tree is one of the space, node for node.
+-- The saved tree is valid for the space: it has a node, correct heights, at most MAX_HEIGHT levels, balanced nodes, and valid
+-- blocks. So it has fewer than TOO_MANY_BLOCKS.
 pub record IsSavedTree (space : Range) (t : Saved) : Type 0 where
   pub some_node : t ≢ Absent
   pub heights : HasHeights t
