@@ -36,14 +36,20 @@
  * must not be called on it. The library keeps no pointer to your memory after a
  * call returns. A pointer argument must be null or point to a valid object of
  * its type, and so must a pointer in that object. The results of a call must not
- * share memory with each other or with its arguments.
+ * share memory with each other or with its arguments. A range is passed as a copy, so
+ * `dvs_range_move(mmio, bar, start, &bar, NULL)` is valid.
  *
  * Threads. Calls on different objects can run at the same time. On one object,
  * calls that take a pointer to const can run at the same time. Any other call
- * must be the only one on its object. Any thread can use and destroy an object.
- * After fork() the child has its own copy of each object. A signal handler must
- * not make a call on an object, because the signal can interrupt another call.
- * A thread must not be cancelled asynchronously in a call.
+ * must be the only one on its object. So lock an object for each call if a thread
+ * changes it: `pthread_mutex_lock(&lock)`, `dvs_range_free(mmio, bar, NULL)`,
+ * `pthread_mutex_unlock(&lock)`. Any thread can use and destroy an object. After
+ * fork() the child has its own copy of each object.
+ *
+ * A signal handler must not make a call on an object, because the signal can
+ * interrupt another call. It can set a flag for a thread:
+ * `if (unplugged) dvs_range_free(mmio, bar, NULL);`. A thread must not be cancelled
+ * asynchronously in a call. It keeps the default, PTHREAD_CANCEL_DEFERRED.
  *
  * Memory. If memory runs out, a call returns DVS_OUT_OF_MEMORY. It frees what it has
  * made, or keeps it for later calls on the object. No call ends the process then.
@@ -376,7 +382,9 @@ dvs_status dvs_address_allocator_with_held(uint64_t base, uint64_t size, const d
  *
  * The space is from the first address of the first range to the last address of the
  * last one. Each hole between the ranges is an allocated range, and can be freed. Ranges
- * without a hole between them are one gap.
+ * without a hole between them are one gap. Here the hole is from 0x2000 to 0x2fff:
+ *
+ *     const dvs_range ranges[] = {{0x1000, 0x1fff}, {0x3000, 0x3fff}};
  *
  * Errors, in order:
  * - DVS_INVALID_RANGE, with the first range that is not a valid range.
@@ -649,7 +657,18 @@ typedef int dvs_range_visitor(void *context, dvs_range range);
  * be null. It does not allocate memory.
  *
  * During the visit, calls that would change or destroy the allocator return
- * DVS_BUSY. Calls that take a pointer to const are allowed.
+ * DVS_BUSY. Calls that take a pointer to const are allowed. This frees the lowest
+ * range after the visit:
+ *
+ *     static int keep_first(void *context, dvs_range range) {
+ *         *(dvs_range *)context = range;
+ *         return 1;
+ *     }
+ *
+ *     dvs_range lowest = {1, 0};
+ *
+ *     if (dvs_range_visit(mmio, keep_first, &lowest) == DVS_OK && lowest.start <= lowest.end)
+ *         dvs_range_free(mmio, lowest, NULL);
  *
  * Returns DVS_OK even if the visitor ended the visit. Errors: DVS_NULL.
  */
@@ -748,6 +767,12 @@ dvs_status dvs_address_allocator_read(const char *text, size_t length,
 /*
  * Reads like dvs_address_allocator_read(), within `limits`, which can be null.
  *
+ *     const dvs_text_limits limits = {.length = 1 << 20, .depth = 64};
+ *     dvs_text_fault fault;
+ *
+ *     if (dvs_address_allocator_read_within(text, length, &limits, &mmio, &fault) != DVS_OK)
+ *         fprintf(stderr, "byte %zu: %s\n", fault.offset, fault.reason ? fault.reason : "");
+ *
  * Errors: DVS_LIMIT_EXCEEDED if the text is longer than the limit. Otherwise
  * those of dvs_address_allocator_read(), with DVS_LIMIT_EXCEEDED instead of
  * DVS_NOT_JSON if the text first exceeds the limit of nesting.
@@ -797,7 +822,9 @@ dvs_status dvs_id_allocator_new(uint32_t first, uint32_t last, dvs_id_allocator 
  * Creates an allocator for the ids from `first` to `last`, both included, with
  * the `count` ids of `held` allocated. They must be in ascending order. The
  * array can be null if `count` is 0. It takes memory for each run of ids that
- * they skip, however long the run is.
+ * they skip, however long the run is. These ids skip a run, from 33 to 238:
+ *
+ *     const uint32_t held[] = {32, 239};
  *
  * Errors, in order:
  * - DVS_INVALID_RANGE, with both ids, if `last` is less than `first`.
@@ -1080,6 +1107,11 @@ dvs_status dvs_device_manager_copy(const dvs_device_manager *manager, dvs_device
  * dvs_device_manager_space(), dvs_device_manager_ids() and dvs_device_conflict()
  * need no copy. Destroy it with dvs_address_allocator_destroy().
  *
+ *     if (dvs_device_manager_copy_addresses(bus, &copied) == DVS_OK) {
+ *         status = dvs_longest_gap(copied, &length);
+ *         dvs_address_allocator_destroy(copied);
+ *     }
+ *
  * Errors: DVS_NULL, DVS_OUT_OF_MEMORY.
  */
 DVS_WARN_UNUSED
@@ -1130,7 +1162,16 @@ dvs_status dvs_range_map_new(uint64_t base, uint64_t size, dvs_range_map **map);
 
 /*
  * Destroys a map, with all its allocated ranges, like dvs_address_allocator_destroy(). If
- * values are pointers, visit the map first to free what they point to.
+ * values are pointers, visit the map first to free what they point to:
+ *
+ *     static int free_value(void *context, dvs_valued_range found) {
+ *         (void)context;
+ *         free((void *)(uintptr_t)found.value);
+ *         return 0;
+ *     }
+ *
+ *     if (dvs_range_map_visit(map, free_value, NULL) == DVS_OK)
+ *         dvs_range_map_destroy(map);
  */
 dvs_status dvs_range_map_destroy(dvs_range_map *map);
 
@@ -1142,6 +1183,8 @@ dvs_status dvs_range_map_space(const dvs_range_map *map, dvs_range *space);
  * Allocates the range of `request` like dvs_range_allocate(), with the same errors. It
  * keeps `value` with the range, which is any number, such as a pointer as a uintptr_t. Free
  * the range with dvs_range_map_free().
+ *
+ *     status = dvs_range_map_allocate(map, (uintptr_t)disk, &request, &range, NULL);
  */
 DVS_WARN_UNUSED
 dvs_status dvs_range_map_allocate(dvs_range_map *map, uint64_t value, const dvs_request *request,
