@@ -16,12 +16,12 @@ pub(crate) enum Command {
         base: u64,
         size: u64,
     },
-    /// Allocates the lowest `size` free addresses that start at a multiple of `alignment`.
+    /// Allocates the lowest free range of `size` addresses that starts at a multiple of `alignment`.
     First {
         size: u64,
         alignment: u64,
     },
-    /// Allocates the highest `size` free addresses that start at a multiple of `alignment`.
+    /// Allocates the highest free range of `size` addresses that starts at a multiple of `alignment`.
     Last {
         size: u64,
         alignment: u64,
@@ -60,8 +60,8 @@ pub(crate) enum Command {
         base: u64,
         size: u64,
     },
-    /// Reserves a device: the lowest free id, and the lowest `size` free addresses that start at a
-    /// multiple of `alignment`.
+    /// Reserves a device: the lowest free id, and the lowest free range of `size` addresses that
+    /// starts at a multiple of `alignment`.
     Device {
         size: u64,
         alignment: u64,

@@ -14,9 +14,9 @@ pub(in crate::proved::vm_lines) const MAX_LINE_LEN: usize = 120;
 pub(in crate::proved::vm_lines) enum Command {
     /// Creates an allocator for the `size` addresses starting at `base`.
     Space { base: u64, size: u64 },
-    /// Allocates the lowest `size` free addresses that start at a multiple of `alignment`.
+    /// Allocates the lowest free range of `size` addresses that starts at a multiple of `alignment`.
     First { size: u64, alignment: u64 },
-    /// Allocates the highest `size` free addresses that start at a multiple of `alignment`.
+    /// Allocates the highest free range of `size` addresses that starts at a multiple of `alignment`.
     Last { size: u64, alignment: u64 },
     /// Allocates the `size` addresses starting at `start`, a multiple of `alignment`.
     Exact {
@@ -42,8 +42,8 @@ pub(in crate::proved::vm_lines) enum Command {
         base: u64,
         size: u64,
     },
-    /// Reserves a device: the lowest free id, and the lowest `size` free addresses that start at a
-    /// multiple of `alignment`.
+    /// Reserves a device: the lowest free id, and the lowest free range of `size` addresses that
+    /// starts at a multiple of `alignment`.
     Device { size: u64, alignment: u64 },
     /// Releases the device with this id.
     Undevice { id: u32 },
