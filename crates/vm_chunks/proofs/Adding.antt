@@ -1,20 +1,20 @@
 -- An id is added to the runs of one chunk.
-use Rattle.std.proofs.Common.{◌≡◌, ℕ, suc, ◌+◌, ◌<◌, ◌≤◌, ◌⊎◌, Bool, IsTrue, List, [], ◌∷◌, length, get_or, set, take, drop, nat_le, arith, sym, ap, ◌∙◌, subst, refl, inl, inr, Option, Some, None, IfSome}
+use Rattle.std.proofs.Common.{◌≡◌, ℕ, suc, ◌+◌, ◌<◌, ◌≤◌, ◌⊎◌, Bool, true, false, IsTrue, List, [], ◌∷◌, length, get_or, set, take, drop, nat_le, arith, sym, ap, ◌∙◌, subst, refl, inl, inr, Option, Some, None, IfSome}
 use Rattle.std.specs.Option.{is_some, option_or, IsSome}
 use Rattle.std.specs.List.{All}
 use Rattle.std.proofs.lemmas.Bool.{cases_lt, cases_eq, cond-true, cond-false, eq-eqb, ne_eqb, le-leb, lt-leb, lt-ltb, le-ltb, true≢false}
 use Rattle.std.proofs.lemmas.Option.{same_Some}
-use Rattle.std.proofs.lemmas.List.{append-nil, length-set, get_or-set_other}
+use Rattle.std.proofs.lemmas.List.{append-nil, length-set, set-get_or, get_or-set_other}
 use Rattle.std.proofs.lemmas.List.Elements.{All-nil, All-cons}
 use Rattle.vm_chunks.specs.declared.id_set.Run.{Run}
 use Rattle.vm_chunks.specs.Entries.{HasKey, IsPlace, at_or_above, highest_below, with_entry, without_some}
-use Rattle.vm_chunks.specs.Chunks.{TOP, entries_of, AreAllBounded, AreChunks, AreCounted, AreFilledBut}
-use Rattle.vm_chunks.specs.Runs.{RUNS_END, AreRuns, last_of, HasNext, joined_last, joined_key, joined_run, with_id}
+use Rattle.vm_chunks.specs.Chunks.{TOP, entries_of, AreAllBounded, AreChunks, AreFilledBut}
+use Rattle.vm_chunks.specs.Runs.{RUNS_END, AreRuns, last_of, HasId, LacksId, HasNext, AddsId, joined_last, joined_key, joined_run, with_id}
 use Rattle.vm_chunks.proofs.Middles.{from_in, or_none}
 use Rattle.vm_chunks.proofs.Runs.{upper_runs, lower_runs}
 use Rattle.vm_chunks.proofs.Homes.{parts, from_home, under_home, none_before_first, none_after}
 use Rattle.vm_chunks.proofs.Divisions.{all_set}
-use Rattle.vm_chunks.proofs.Puts.{count_changed, home_of, put_bounded, put_changes}
+use Rattle.vm_chunks.proofs.Puts.{home_of, put_bounded, put_changes}
 
 -- ---- What a search finds is in the list
 or_some : {X : Type 0} (o q : Option X) → IsSome o → option_or o q ≡ o
@@ -92,6 +92,9 @@ key_is id rs = found (highest_below last_of id rs) refl
           | inr s ↦ subst (λ o. IfSome o (λ k. HasKey last_of k rs)) (sym (cond-false _ _ _ (ne_eqb _ _ s))) tt
         ]
 
+pub same_old : (id : ℕ) (b : Bool) (xs ys new : List Run) → xs ≡ ys → AddsId id b xs new → AddsId id b ys new
+same_old id b xs ys new e a = subst (λ xs. AddsId id b xs new) e a
+
 -- The chunk c at i is the only one that can have the id.
 module _ (id : ℕ) (cs : List (List Run)) (bs : List ℕ) (r : AreChunks last_of cs bs) (i : ℕ) (h : id < TOP) (p : IsPlace (λ b. b) id i bs)
     (l : i < length cs) (c : List Run) (here : c ≡ get_or cs i c) where
@@ -140,32 +143,29 @@ module _ (id : ℕ) (cs : List (List Run)) (bs : List ℕ) (r : AreChunks last_o
           ∙ ap (λ o. without_some last_of (joined_key id (highest_below last_of id (entries_of cs)))
           (with_entry last_of (joined_run id o (highest_below last_of id (entries_of cs))) (entries_of cs))) (sym above_same)
 
-      -- If the chunk has not become shorter, the chunks are in order.
-      pub added_counted : (count new : ℕ) → length c' + count ≡ length c + new → count ≤ new → count ≡ length (entries_of cs) →
-          AreCounted last_of (set cs i c') bs new
-      added_counted count new longer more counted =
-          let n = count_changed cs i c' c l in
-          let s = ap length here in
-          record {
-            chunks = record {
-              bounded = added_bounded;
-              filled = λ two.
-                  let m = length-set cs i c' in
-                  let some = r.filled (omega (arith, two, m)) i c l in
-                  all_set last_of cs i c' r.filled l (omega (arith, some, s, longer, more));
-            };
-            counted = omega (arith, n, s, longer, counted);
-          }
+      pub is_added : LacksId id (at_or_above last_of id c) → AddsId id true (entries_of cs) (entries_of (set cs i c'))
+      is_added lacks = (subst (LacksId id) (sym above_same) lacks, added_id)
 
+      -- If the chunk has not become shorter, the chunks are in order.
+      pub added_chunks : length c ≤ length c' → AreChunks last_of (set cs i c') bs
+      added_chunks longer = record {
+        bounded = added_bounded;
+        filled = λ two.
+            let m = length-set cs i c' in
+            let some = r.filled (omega (arith, two, m)) i c l in
+            let s = ap length here in
+            all_set last_of cs i c' r.filled l (omega (arith, some, s, longer));
+      }
+
+    pub is_known : (c' : List Run) → c' ≡ c → HasId id (at_or_above last_of id c) → AddsId id false (entries_of cs) (entries_of (set cs i c'))
+    is_known c' e has = (
+      subst (HasId id) (sym above_same) has,
+      ap (λ x. entries_of (set cs i x)) (e ∙ here) ∙ ap (λ (cs : List (List Run)). entries_of cs) (set-get_or cs i c),
+    )
+
+  -- No other chunk is empty.
   pub added_filled : (c' : List Run) → 2 ≤ length (set cs i c') → AreFilledBut i (set cs i c')
   added_filled c' two k d w other =
       let m = length-set cs i c' in
       subst (λ (c : List Run). 0 < length c) (sym (get_or-set_other cs i k c' d other))
       (r.filled (omega (arith, two, m)) k d (omega (arith, w, m)))
-
-  -- The count is that of the entries, if the chunk has lost one.
-  pub lost_count : (c' : List Run) (count : ℕ) → length c' + 1 ≡ length c → count ≡ length (entries_of cs) → count ≡ length (entries_of (set cs i c')) + 1
-  lost_count c' count shorter counted =
-      let n = count_changed cs i c' c l in
-      let s = ap length here in
-      omega (arith, n, s, shorter, counted)

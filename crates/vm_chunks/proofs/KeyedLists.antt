@@ -1,11 +1,10 @@
 -- A list of entries in one chunk.
-use Rattle.std.proofs.Common.{◌≡◌, ℕ, zero, suc, ◌<◌, Bool, true, false, List, [], ◌∷◌, ◌++◌, length, get_or, cond, sym, ap, ◌∙◌, subst, refl, arith, Option, Some, None, IfSome}
-use Rattle.std.proofs.lemmas.List.{append-nil, length-append, get_or_append_left}
+use Rattle.std.proofs.Common.{◌≡◌, ℕ, ◌<◌, Bool, List, [], ◌∷◌, length, get_or, sym, subst, refl, arith, Option, Some, None, IfSome}
 use Rattle.vm_chunks.specs.declared.id_set.Run.{Run}
-use Rattle.vm_chunks.specs.declared.chunk.adding.Added.{Added}
-use Rattle.vm_chunks.specs.declared.chunk.adding.Added.TheVariants.{Known, Elsewhere, Grown, New, Joined}
+use Rattle.vm_chunks.specs.declared.chunk.runs.Added.{Added}
+use Rattle.vm_chunks.specs.declared.chunk.runs.Added.TheVariants.{Known, Elsewhere, New, Joined}
 use Rattle.vm_chunks.specs.Entries.{IsDescendingBy, with_entry, without_some, at_or_above, highest_below}
-use Rattle.vm_chunks.specs.Chunks.{TOP, AreCounted}
+use Rattle.vm_chunks.specs.Chunks.{TOP, AreChunks}
 use Rattle.vm_chunks.specs.Runs.{last_of, joined_key, joined_run, AddsNear, with_id}
 use Rattle.vm_chunks.proofs.EntryLaws.{bounded_by_first, put_descends, taken_descends}
 
@@ -14,36 +13,9 @@ module _ {X : Type 0} (key : X → ℕ) where
   few_descends o xs e i = subst (λ o. IfSome o (IsDescendingBy key)) e i
 
   pub one_chunk : (xs : List X) → IsDescendingBy key xs → ((d : X) → 0 < length xs → key (get_or xs 0 d) < TOP) →
-      AreCounted key (xs ∷ []) (0 ∷ []) (length xs)
-  one_chunk xs down fits = record {
-    chunks = record {
-      bounded = (omega arith, bounded_by_first key TOP xs down fits, refl);
-      filled = λ two. absurd (omega (arith, two));
-    };
-    counted = ap length (sym (append-nil xs));
-  }
-
-  -- The keys are the same if the last entry is replaced by one with its key.
-  same_keys : (ys : List X) (x y : X) (k : ℕ) (d : X) → key x ≡ key y → key (get_or (ys ++ x ∷ []) k d) ≡ key (get_or (ys ++ y ∷ []) k d)
-  same_keys [] x y zero d e = e
-  same_keys [] x y (suc k) d e = refl
-  same_keys (z ∷ ys) x y zero d e = refl
-  same_keys (z ∷ ys) x y (suc k) d e = same_keys ys x y k d e
-
-  pub last_changed : (ys : List X) (x y : X) (keep : Bool) → key x ≡ key y → IsDescendingBy key (ys ++ y ∷ []) →
-      IsDescendingBy key (ys ++ cond keep (x ∷ []) [])
-  last_changed ys x y true e down i j d l w =
-      let n = length-append ys (x ∷ []) in
-      let m = length-append ys (y ∷ []) in
-      let f = down i j d l (omega (arith, n, m, w)) in
-      omega (arith, f, same_keys ys x y i d e, same_keys ys x y j d e)
-  last_changed ys x y false e down i j d l w =
-      let n = length-append ys [] in
-      let m = length-append ys (y ∷ []) in
-      let f = down i j d l (omega (arith, n, m, w)) in
-      let s : (k : ℕ) → k < length ys → key (get_or (ys ++ []) k d) ≡ key (get_or (ys ++ y ∷ []) k d) =
-      λ k v. ap key (get_or_append_left ys [] d k v ∙ sym (get_or_append_left ys (y ∷ []) d k v)) in
-      omega (arith, f, s i (omega (arith, n, w, l)), s j (omega (arith, n, w)))
+      AreChunks key (xs ∷ []) (0 ∷ [])
+  one_chunk xs down fits =
+      record { bounded = (omega arith, bounded_by_first key TOP xs down fits, refl); filled = λ two. absurd (omega (arith, two)) }
 
 -- After an id is added to a chunk, the keys descend.
 some_taken : (o : Option ℕ) (rs : List Run) → IsDescendingBy last_of rs → IsDescendingBy last_of (without_some last_of o rs)
@@ -58,7 +30,6 @@ with_id_descends id rs down =
 pub near_descends : (id : ℕ) (f l : Bool) (a : Added) (old new : List Run) → AddsNear id f l a old new → IsDescendingBy last_of old →
     IsDescendingBy last_of new
 near_descends id f l Known old new n down = subst (IsDescendingBy last_of) (sym n.2) down
-near_descends id f l Elsewhere old new n down = subst (IsDescendingBy last_of) (sym n) down
-near_descends id f l Grown old new n down = subst (IsDescendingBy last_of) (sym n.0.1) (with_id_descends id old down)
+near_descends id f l Elsewhere old new n down = subst (IsDescendingBy last_of) (sym n.1) down
 near_descends id f l New old new n down = subst (IsDescendingBy last_of) (sym n.0.1) (with_id_descends id old down)
 near_descends id f l Joined old new n down = subst (IsDescendingBy last_of) (sym n.0.1) (with_id_descends id old down)

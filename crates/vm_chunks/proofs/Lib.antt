@@ -5,7 +5,6 @@ pub mod Middles
 pub mod Homes
 pub mod Divisions
 pub mod EntryLaws
-pub mod Counts
 pub mod Runs
 pub mod RunJoins
 pub mod RunChanges

@@ -1,17 +1,15 @@
 -- An entry that replaces one with a higher key.
 use Rattle.std.proofs.Common.{◌≡◌, ℕ, zero, suc, ◌+◌, ◌<◌, ◌≤◌, List, [], ◌∷◌, ◌++◌, length, get_or, set, take, drop, min, arith, sym, ap, ◌∙◌, subst}
 use Rattle.std.specs.List.{All}
-use Rattle.std.specs.Option.{IsSome}
 use Rattle.std.proofs.lemmas.List.{length-append}
 use Rattle.std.proofs.lemmas.List.Elements.{All-head, All-weaker}
-use Rattle.vm_chunks.specs.Entries.{IsDescendingBy, above, below, with_entry, without, entry_at, IsPlace}
+use Rattle.vm_chunks.specs.Entries.{IsDescendingBy, above, below, with_entry, without, IsPlace}
 use Rattle.vm_chunks.specs.Chunks.{TOP, entries_of, Descends, AreBounded, AreChunks}
 use Rattle.vm_chunks.proofs.Descents.{above_descends, below_descends, below_keys, joined, keys_within}
 use Rattle.vm_chunks.proofs.Middles.{all_first, all_second, with_in, without_in, below_in, with_nothing}
 use Rattle.vm_chunks.proofs.Homes.{IsHome, home_at, parts, set_parts, bounded, chunk_descends, entries_below}
 use Rattle.vm_chunks.proofs.Divisions.{whole, all_set}
 use Rattle.vm_chunks.proofs.EntryLaws.{bounded_by_first}
-use Rattle.vm_chunks.proofs.Counts.{counted_parts, number_some}
 
 module _ {X : Type 0} (key : X → ℕ) where
   keys_above : (t : ℕ) (b hi : ℕ) (xs : List X) → Descends key b hi xs → All (λ x. t < key x) (above key t xs)
@@ -67,14 +65,6 @@ module _ {X : Type 0} (key : X → ℕ) where
   lowered_down e t [] down l a = lowered e t 0 1 [] tt l a
   lowered_down e t (x ∷ xs) down l a =
       lowered e t 0 (key x + 1) (x ∷ xs) (bounded_by_first key (key x + 1) (x ∷ xs) down (λ d w. omega arith)) l a
-
-  pub lowered_count : (e : X) (t : ℕ) (xs : List X) → IsDescendingBy key xs → key e ≤ t → All (λ x. key x < key e) (below key t xs) →
-      IsSome (entry_at key t xs) → length (with_entry key e (without key t xs)) ≡ length xs
-  lowered_count e t xs down l a some =
-      let n = counted_parts key t xs down in
-      let one = number_some (entry_at key t xs) some in
-      let all = ap length (lowered_down e t xs down l a) ∙ length-append (above key t xs) (e ∷ below key t xs) in
-      omega (arith, n, one, all)
 
   module _ (cs : List (List X)) (bs : List ℕ) (r : AreChunks key cs bs) (t i : ℕ) (h : t < TOP) (p : IsPlace (λ b. b) t i bs)
       (n : i < length cs) (d : List X) (e : X) (l : key e ≤ t) (a : All (λ x. key x < key e) (below key t (entries_of cs))) where

@@ -1,12 +1,12 @@
 -- An id beside the runs of a chunk.
-use Rattle.std.proofs.Common.{◌≡◌, ◌≢◌, ℕ, ◌+◌, ◌-◌, ◌<◌, ◌≤◌, ◌⊎◌, Bool, IsTrue, List, length, get_or, set, arith, sym, ap, ◌∙◌, subst, refl, inl, inr, Option, Some, None}
+use Rattle.std.proofs.Common.{◌≡◌, ◌↔◌, ◌≢◌, ℕ, ◌+◌, ◌-◌, ◌<◌, ◌≤◌, ◌⊎◌, Bool, IsTrue, List, length, get_or, set, arith, sym, ap, ◌∙◌, subst, refl, inl, inr, Option, Some, None}
 use Rattle.std.specs.Option.{IsSome}
 use Rattle.std.specs.List.{All, insert, remove}
-use Rattle.std.proofs.lemmas.Bool.{cond-true, cond-false, eq-eqb, ne_eqb}
+use Rattle.std.proofs.lemmas.Bool.{cases_lt, cond-true, cond-false, eq-eqb, ne_eqb, true≢false}
 use Rattle.std.proofs.lemmas.List.{get_or_default}
 use Rattle.vm_chunks.specs.declared.id_set.Run.{Run}
 use Rattle.vm_chunks.specs.Entries.{IsDescendingBy, IsPlace, IsPlaceFrom, at_or_above, highest_below, with_entry, without_some}
-use Rattle.vm_chunks.specs.Runs.{last_of, LacksId, HasNext, joined_last, joined_first, joined_run, joined_key, with_id, JoinsAbove, JoinsBelow, StartsAt}
+use Rattle.vm_chunks.specs.Runs.{last_of, LacksId, HasNext, joined_last, joined_first, joined_run, joined_key, with_id, IsRightAbove, IsRightBelow}
 use Rattle.vm_chunks.proofs.Cuts.{none_from, found_from, none_under, found_under}
 use Rattle.vm_chunks.proofs.Gaps.{place_is, put_known, put_new, put_between, put_over}
 
@@ -29,37 +29,43 @@ module _ (id at : ℕ) (rs : List Run) (p : IsPlaceFrom last_of id at rs) where
   pub below_none : length rs ≤ at → highest_below last_of id rs ≡ None
   below_none l = sym (none_under last_of id rs at p.bound p.from p.below l)
 
-  -- The run above begins right above the id, or not.
-  pub joins_above : 0 < at → id + 1 ≡ (get_or rs (at - 1) no_run).first → JoinsAbove id at rs
-  joins_above l e = record {
-    some = l;
-    last = λ d.
-        let w = p.bound in
-        ap (joined_last id) (above_is l) ∙ cond-true _ _ _ (eq-eqb _ _ e)
-        ∙ ap (λ (r : Run). r.last) (get_or_default rs (at - 1) no_run d (omega (arith, l, w)));
-  }
+  pub right_above : 0 < at → (get_or rs (at - 1) no_run).first ≡ id + 1 → IsRightAbove id at rs
+  right_above l e = (l, λ d. let w = p.bound in ap (λ (r : Run). r.first) (get_or_default rs (at - 1) d no_run (omega (arith, l, w))) ∙ e)
 
-  pub far_above : 0 < at → id + 1 ≢ (get_or rs (at - 1) no_run).first → joined_last id (at_or_above last_of id rs) ≡ id
-  far_above l n = ap (joined_last id) (above_is l) ∙ cond-false _ _ _ (ne_eqb _ _ n)
+  pub right_below : at < length rs → (get_or rs at no_run).last + 1 ≡ id → IsRightBelow id at rs
+  right_below l e = (l, λ d. ap (λ (r : Run). r.last + 1) (get_or_default rs at d no_run l) ∙ e)
 
-  -- The run below ends right below the id, or not.
-  pub joins_below : at < length rs → (get_or rs at no_run).last + 1 ≡ id → JoinsBelow id at rs
-  joins_below l e = record {
-    some = l;
-    first = λ d.
-        ap (joined_first id) (below_is l) ∙ cond-true _ _ _ (eq-eqb _ _ e) ∙ ap (λ (r : Run). r.first) (get_or_default rs at no_run d l);
-    key = λ d.
-        ap (joined_key id) (below_is l) ∙ cond-true _ _ _ (eq-eqb _ _ e) ∙ ap (λ (r : Run). Some r.last) (get_or_default rs at no_run d l);
-  }
+  -- The last id of the run of the id, if the run above joins it, and if not.
+  joined_above : IsRightAbove id at rs → joined_last id (at_or_above last_of id rs) ≡ (get_or rs (at - 1) no_run).last
+  joined_above r = ap (joined_last id) (above_is r.0) ∙ cond-true _ _ _ (eq-eqb _ _ (sym (r.1 no_run)))
 
-  pub far_below : at < length rs → (get_or rs at no_run).last + 1 ≢ id → StartsAt id (highest_below last_of id rs)
-  far_below l n = record {
-    first = ap (joined_first id) (below_is l) ∙ cond-false _ _ _ (ne_eqb _ _ n);
-    key = ap (joined_key id) (below_is l) ∙ cond-false _ _ _ (ne_eqb _ _ n);
-  }
+  far_above : (IsRightAbove id at rs → ⊥) → joined_last id (at_or_above last_of id rs) ≡ id
+  far_above n =
+      elim (cases_lt 0 at) [
+        | inl l ↦ ap (joined_last id) (above_is l) ∙ cond-false _ _ _ (ne_eqb _ _ (λ e. n (right_above l (sym e))))
+        | inr l ↦ ap (joined_last id) (above_none l)
+      ]
 
-  pub none_below : length rs ≤ at → StartsAt id (highest_below last_of id rs)
-  none_below l = record { first = ap (joined_first id) (below_none l); key = ap (joined_key id) (below_none l) }
+  -- The first id and the key of the run below, if that joins the run of the id, and if not.
+  joined_below : IsRightBelow id at rs → joined_first id (highest_below last_of id rs) ≡ (get_or rs at no_run).first
+  joined_below r = ap (joined_first id) (below_is r.0) ∙ cond-true _ _ _ (eq-eqb _ _ (r.1 no_run))
+
+  key_below : IsRightBelow id at rs → joined_key id (highest_below last_of id rs) ≡ Some (get_or rs at no_run).last
+  key_below r = ap (joined_key id) (below_is r.0) ∙ cond-true _ _ _ (eq-eqb _ _ (r.1 no_run))
+
+  far_below : (IsRightBelow id at rs → ⊥) → joined_first id (highest_below last_of id rs) ≡ id
+  far_below n =
+      elim (cases_lt at (length rs)) [
+        | inl l ↦ ap (joined_first id) (below_is l) ∙ cond-false _ _ _ (ne_eqb _ _ (λ e. n (right_below l e)))
+        | inr l ↦ ap (joined_first id) (below_none l)
+      ]
+
+  no_key_below : (IsRightBelow id at rs → ⊥) → joined_key id (highest_below last_of id rs) ≡ None
+  no_key_below n =
+      elim (cases_lt at (length rs)) [
+        | inl l ↦ ap (joined_key id) (below_is l) ∙ cond-false _ _ _ (ne_eqb _ _ (λ e. n (right_below l e)))
+        | inr l ↦ ap (joined_key id) (below_none l)
+      ]
 
   -- ---- The runs with the id
   abbrev run : Run
@@ -94,55 +100,67 @@ module _ (id at : ℕ) (rs : List Run) (p : IsPlaceFrom last_of id at rs) where
         let s = ap (λ (r : Run). r.last) (get_or_default rs (at - 1) no_run d (omega (arith, l, w))) in omega (arith, f, s, e))
         (λ v d. let s = ap (λ (r : Run). r.last) (get_or_default rs (at - 1) no_run d v) in omega (arith, s, e))
 
-    pub joined_both : (ja : JoinsAbove id at rs) (jb : JoinsBelow id at rs) (e : Run) → e.first ≡ (get_or rs at no_run).first →
+    pub joined_both : (ja : IsRightAbove id at rs) (jb : IsRightBelow id at rs) (e : Run) → e.first ≡ (get_or rs at no_run).first →
         e.last ≡ (get_or rs (at - 1) no_run).last → remove (set rs (at - 1) e) at ≡ with_id id rs
     joined_both ja jb e f l =
-        let w = ja.some in
-        let v = jb.some in
+        let w = ja.0 in
+        let v = jb.0 in
         let s : at ≡ at - 1 + 1 = omega (arith, w) in
         let t = (get_or rs at no_run).last in
         ap (λ k. remove (set rs (at - 1) e) k) s
         ∙ put_between last_of e rs (at - 1) down (place_above w e.last l) t (omega (arith, v))
         (λ d. l ∙ ap (λ (r : Run). r.last) (get_or_default rs (at - 1) no_run d (omega (arith, v)))) (omega (arith, v, w))
         (λ d. ap (λ (r : Run). r.last) (get_or_default rs at no_run d v ∙ ap (λ k. get_or rs k d) s))
-        ∙ sym (with_id_is e (Some t) (jb.first no_run ∙ sym f) (ja.last no_run ∙ sym l) (jb.key no_run))
+        ∙ sym (with_id_is e (Some t) (joined_below jb ∙ sym f) (joined_above ja ∙ sym l) (key_below jb))
 
-    pub joined_upper : (ja : JoinsAbove id at rs) → StartsAt id (highest_below last_of id rs) → (e : Run) → e.first ≡ id →
+    pub joined_upper : (ja : IsRightAbove id at rs) → (IsRightBelow id at rs → ⊥) → (e : Run) → e.first ≡ id →
         e.last ≡ (get_or rs (at - 1) no_run).last → set rs (at - 1) e ≡ with_id id rs
-    joined_upper ja s e f l =
-        let w = ja.some in
+    joined_upper ja n e f l =
+        let w = ja.0 in
         let v = p.bound in
         put_known last_of e rs (at - 1) down (place_above w e.last l) (omega (arith, w, v))
         (λ d. l ∙ ap (λ (r : Run). r.last) (get_or_default rs (at - 1) no_run d (omega (arith, w, v))))
-        ∙ sym (with_id_is e None (s.first ∙ sym f) (ja.last no_run ∙ sym l) s.key)
+        ∙ sym (with_id_is e None (far_below n ∙ sym f) (joined_above ja ∙ sym l) (no_key_below n))
 
-    pub joined_lower : joined_last id (at_or_above last_of id rs) ≡ id → (jb : JoinsBelow id at rs) → (e : Run) →
+    pub joined_lower : (IsRightAbove id at rs → ⊥) → (jb : IsRightBelow id at rs) → (e : Run) →
         e.first ≡ (get_or rs at no_run).first → e.last ≡ id → set rs at e ≡ with_id id rs
     joined_lower n jb e f l =
-        let v = jb.some in
+        let v = jb.0 in
         let t = (get_or rs at no_run).last in
         put_over last_of e rs at down (subst (λ t. IsPlace last_of t at rs) (sym l) place_id) t
         (λ w d s. let b = p.below at d (omega arith) w in omega (arith, b, s, l)) v
         (λ d. ap (λ (r : Run). r.last) (get_or_default rs at no_run d v))
-        ∙ sym (with_id_is e (Some t) (jb.first no_run ∙ sym f) (n ∙ sym l) (jb.key no_run))
+        ∙ sym (with_id_is e (Some t) (joined_below jb ∙ sym f) (far_above n ∙ sym l) (key_below jb))
 
-    pub joined_none : joined_last id (at_or_above last_of id rs) ≡ id → StartsAt id (highest_below last_of id rs) → (e : Run) →
+    pub joined_none : (IsRightAbove id at rs → ⊥) → (IsRightBelow id at rs → ⊥) → (e : Run) →
         e.first ≡ id → e.last ≡ id → insert rs at e ≡ with_id id rs
     joined_none n s e f l =
         put_new last_of e rs at down (subst (λ t. IsPlace last_of t at rs) (sym l) place_id)
         (λ w d q. let b = p.below at d (omega arith) w in omega (arith, b, q, l))
-        ∙ sym (with_id_is e None (s.first ∙ sym f) (n ∙ sym l) s.key)
+        ∙ sym (with_id_is e None (far_below s ∙ sym f) (far_above n ∙ sym l) (no_key_below s))
 
--- The runs next to the ids at a place are in this chunk, or there is none.
-pub knows_next : (id at : ℕ) (rs : List Run) (f l : Bool) → IsPlaceFrom last_of id at rs → (0 < at) ⊎ IsTrue f → (at ≢ length rs) ⊎ IsTrue l →
-    HasNext id f l rs
-knows_next id at rs f l p above below = (
-  elim above [
-    | inl a ↦ inr (subst IsSome (sym (above_is id at rs p a)) refl)
-    | inr a ↦ inl a
-  ],
-  elim below [
-    | inl b ↦ (let w = p.bound in inr (subst IsSome (sym (below_is id at rs p (omega (arith, b, w)))) refl))
-    | inr b ↦ inl b
-  ],
+-- A chunk shows the runs next to an id by the place of the id.
+pub next_is : (id at : ℕ) (rs : List Run) (f l : Bool) → IsPlaceFrom last_of id at rs →
+    (((0 < at) ⊎ IsTrue f) × ((at ≢ length rs) ⊎ IsTrue l)) ↔ HasNext id f l rs
+next_is id at rs f l p = (
+  λ n. (
+    elim n.0 [ inl a ↦ inr (subst IsSome (sym (above_is id at rs p a)) refl) | inr a ↦ inl a ],
+    elim n.1 [
+      | inl b ↦ (let w = p.bound in inr (subst IsSome (sym (below_is id at rs p (omega (arith, b, w)))) refl))
+      | inr b ↦ inl b
+    ],
+  ),
+  λ n. (
+    elim n.0 [
+      | inl a ↦ inr a
+      | inr s ↦ elim (cases_lt 0 at) [ inl a ↦ inl a | inr z ↦ absurd (true≢false (sym (subst IsSome (above_none id at rs p z) s))) ]
+    ],
+    elim n.1 [
+      | inl b ↦ inr b
+      | inr s ↦ elim (cases_lt at (length rs)) [
+        | inl b ↦ inl (omega (arith, b))
+        | inr z ↦ absurd (true≢false (sym (subst IsSome (below_none id at rs p z) s)))
+      ]
+    ],
+  ),
 )

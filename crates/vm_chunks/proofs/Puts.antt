@@ -1,11 +1,11 @@
 -- An entry is put into a chunk, and another is taken out.
-use Rattle.std.proofs.Common.{◌≡◌, ℕ, zero, suc, ◌+◌, ◌-◌, ◌<◌, ◌≤◌, inl, inr, List, [], ◌∷◌, ◌++◌, length, get_or, set, take, drop, arith, sym, ap, ◌∙◌, subst, refl, Option, Some, None, IfSome}
+use Rattle.std.proofs.Common.{◌≡◌, ℕ, zero, suc, ◌-◌, ◌<◌, ◌≤◌, inl, inr, List, [], ◌∷◌, length, get_or, set, arith, sym, ap, ◌∙◌, subst, refl, Option, Some, None, IfSome}
 use Rattle.std.proofs.lemmas.Bool.{cases_lt}
-use Rattle.std.proofs.lemmas.List.{length-append, length-set, get_or-set_same, get_or_default}
+use Rattle.std.proofs.lemmas.List.{length-set, get_or-set_same, get_or_default}
 use Rattle.vm_chunks.specs.Entries.{HasKey, IsPlace, with_entry, without, without_some}
 use Rattle.vm_chunks.specs.Chunks.{TOP, entries_of, AreAllBounded, AreChunks}
 use Rattle.vm_chunks.proofs.Descents.{keys_within}
-use Rattle.vm_chunks.proofs.Homes.{parts, set_parts, bounded, bounds_below, chunk_descends, same_lengths, all_bounds_descend}
+use Rattle.vm_chunks.proofs.Homes.{bounded, bounds_below, chunk_descends, same_lengths, all_bounds_descend}
 use Rattle.vm_chunks.proofs.Divisions.{put_is, put_entries, taken_bounded, taken_entries}
 use Rattle.vm_chunks.proofs.Gaps.{place_is}
 
@@ -18,19 +18,6 @@ twice (z ∷ xs) (suc i) x y = ap (λ l. z ∷ l) (twice xs i x y)
 bound_before : (bs : List ℕ) (i : ℕ) (d : ℕ) → 0 < i → get_or (TOP ∷ bs) i d ≡ get_or bs (i - 1) d
 bound_before bs zero d l = absurd (omega (arith, l))
 bound_before bs (suc i) d l = let s : i ≡ suc i - 1 = omega arith in ap (λ k. get_or bs k d) s
-
--- The number of entries after a change of a chunk.
-pub count_changed : {X : Type 0} (cs : List (List X)) (i : ℕ) (c' d : List X) → i < length cs →
-    length (entries_of (set cs i c')) + length (get_or cs i d) ≡ length (entries_of cs) + length c'
-count_changed cs i c' d l =
-    let pre = entries_of (take i cs) in
-    let post = entries_of (drop (suc i) cs) in
-    let c = get_or cs i d in
-    let old = ap length (parts cs i d l) ∙ length-append pre (c ++ post) in
-    let new = ap length (set_parts cs i c' l) ∙ length-append pre (c' ++ post) in
-    let o = length-append c post in
-    let n = length-append c' post in
-    omega (arith, old, new, o, n)
 
 -- A key of a chunk belongs in it.
 module _ {X : Type 0} (key : X → ℕ) (cs : List (List X)) (bs : List ℕ) (r : AreChunks key cs bs) (i : ℕ) (l : i < length cs) (d : List X) where

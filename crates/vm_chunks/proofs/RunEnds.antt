@@ -1,6 +1,6 @@
 -- The runs after ids are added above all, or the lowest id is taken out.
-use Rattle.std.proofs.Common.{◌≡◌, ◌≢◌, ℕ, zero, suc, ◌+◌, ◌-◌, ◌<◌, ◌≤◌, ◌⊎◌, Bool, true, false, ◌||◌, eqb, ltb, cond, List, [], ◌∷◌, ◌++◌, sym, ap, ◌∙◌, subst, refl, arith, inl, inr, ◌^◌, Option, Some, None, IsTrue}
-use Rattle.std.proofs.lemmas.Bool.{cases_lt, lt-ltb, le-ltb}
+use Rattle.std.proofs.Common.{◌≡◌, ◌≢◌, ℕ, zero, suc, ◌+◌, ◌-◌, ◌<◌, ◌≤◌, ◌⊎◌, true, false, ◌||◌, eqb, List, [], ◌∷◌, ◌++◌, sym, ap, ◌∙◌, subst, refl, arith, inl, inr, ◌^◌, Option, Some, None, IsTrue}
+use Rattle.std.proofs.lemmas.Bool.{cases_lt, cond-true, cond-false, lt-ltb, le-ltb}
 use Rattle.std.proofs.lemmas.List.{append_assoc}
 use Rattle.std.proofs.lemmas.List.Folds.{list_any-append}
 use Rattle.std.proofs.lemmas.List.Elements.{All-cons, All-nil}
@@ -10,7 +10,7 @@ use Rattle.std.specs.Ordering.{nat_cmp}
 use Rattle.std.specs.BTreeSet.{contains}
 use Rattle.vm_chunks.specs.declared.id_set.Run.{Run}
 use Rattle.vm_chunks.specs.Entries.{with_entry, without, entry_at}
-use Rattle.vm_chunks.specs.Runs.{RUNS_END, ids_of_runs, AreRuns, lowest_of, StartsAbove, IsLowestFrom, Removes}
+use Rattle.vm_chunks.specs.Runs.{RUNS_END, ids_of_runs, AreRuns, lowest_of, StartsAbove, IsLowestFrom, Removes, TakesLowest}
 use Rattle.vm_chunks.proofs.Middles.{entry_in, with_in, with_nothing, without_in}
 use Rattle.vm_chunks.proofs.Runs.{key_of, in_run, in_runs, set_of, member_test, upper_runs, lower_runs, both_runs, all_below, none_above}
 use Rattle.vm_chunks.proofs.RunChanges.{count_of, count_parts, count_more, without_own, no_own_entry}
@@ -130,75 +130,82 @@ runs_below id (r ∷ rs) a h =
     let l = h r.last (member_test (r ∷ rs) r.last ∙ grind (arith, a.0)) in (a.0, omega (arith, l), a.2)
 
 -- ---- The lowest id
-module _ (rs others : List Run) (r : Run) (a : AreRuns RUNS_END rs) (e : rs ≡ others ++ r ∷ []) where
-  both : AreRuns RUNS_END (others ++ r ∷ [])
-  both = subst (AreRuns RUNS_END) e a
+module _ (id : ℕ) (rs new : List Run) (a : AreRuns RUNS_END rs) (t : TakesLowest (Some id) rs new) where
+  abbrev others : List Run
+  others = t.0
 
-  own : AreRuns (lowest_of RUNS_END others) (r ∷ [])
-  own = lower_runs RUNS_END others (r ∷ []) both
+  abbrev run : Run
+  run = t.1
 
-  was : (i : ℕ) → in_runs rs i ≡ (in_runs others i || (in_run i r || false))
-  was i = ap (λ l. in_runs l i) e ∙ list_any-append (in_run i) others (r ∷ [])
+  both : AreRuns RUNS_END (others ++ run ∷ [])
+  both = subst (AreRuns RUNS_END) t.2 a
 
-  above_them : (i : ℕ) → i ≤ r.last → in_runs others i ≡ false
-  above_them i l = let m = own in none_above RUNS_END i others (upper_runs RUNS_END others (r ∷ []) both) (omega (arith, m.1, l))
+  own : AreRuns (lowest_of RUNS_END others) (run ∷ [])
+  own = lower_runs RUNS_END others (run ∷ []) both
 
-  pub lowest_is : IsLowestFrom 0 (set_of rs) r.first
+  upper : AreRuns RUNS_END others
+  upper = upper_runs RUNS_END others (run ∷ []) both
+
+  was : (i : ℕ) → in_runs rs i ≡ (in_runs others i || (in_run i run || false))
+  was i = ap (λ l. in_runs l i) t.2 ∙ list_any-append (in_run i) others (run ∷ [])
+
+  above_them : (i : ℕ) → i ≤ run.last → in_runs others i ≡ false
+  above_them i l = let m = own in none_above RUNS_END i others upper (omega (arith, m.1, l))
+
+  pub lowest_is : IsLowestFrom 0 (set_of rs) id
   lowest_is =
       let m = own in
       record {
         from = omega arith;
-        member = member_test rs r.first ∙ was r.first ∙ grind (arith, m.0);
-        lowest = λ j l t. grind (arith, member_test rs j, was j, above_them j);
+        member = member_test rs id ∙ was id ∙ grind (arith, m.0, t.3);
+        lowest = λ j l has. grind (arith, t.3, member_test rs j, was j, above_them j);
       }
 
   pub some_ids : 1 ≤ count_of rs
   some_ids =
       let m = own in
-      let n = ap count_of e in
-      omega (arith, n, count_parts others (r ∷ []), count_more r [], m.0)
+      let n = ap count_of t.2 in
+      omega (arith, n, count_parts others (run ∷ []), count_more run [], m.0)
 
-  -- The lowest run without its first id, or without it.
-  module _ (new : List Run) (keep : Bool) (k : keep ≡ ltb r.first r.last) (next : ℕ) (s : r.first < r.last → next ≡ r.first + 1)
-      (f : new ≡ others ++ cond keep (record { first = next; last = r.last } ∷ []) []) where
-    new_is : (new ≡ others ++ record { first = next; last = r.last } ∷ []) × (r.first < r.last) ⊎ (new ≡ others ++ []) × (r.last ≤ r.first)
-    new_is = elim (cases_lt r.first r.last) [
-      | inl l ↦ inl (f ∙ ap (λ b. others ++ cond b (record { first = next; last = r.last } ∷ []) []) (k ∙ lt-ltb _ _ l), l)
-      | inr l ↦ inr (f ∙ ap (λ b. others ++ cond b (record { first = next; last = r.last } ∷ []) []) (k ∙ le-ltb _ _ l), l)
-    ]
+  -- The run stays without its first id, or goes.
+  abbrev rest : Run
+  rest = record { first = run.first + 1; last = run.last }
 
-    pub left_runs : AreRuns RUNS_END new
-    left_runs =
-        let m = own in
-        elim new_is [
-          | inl n ↦ subst (AreRuns RUNS_END) (sym n.0)
-              (both_runs RUNS_END others _ (upper_runs RUNS_END others (r ∷ []) both) (omega (arith, s n.1, n.1), m.1, tt))
-          | inr n ↦ subst (AreRuns RUNS_END) (sym n.0) (both_runs RUNS_END others [] (upper_runs RUNS_END others (r ∷ []) both) tt)
-        ]
+  new_is : ((new ≡ others ++ rest ∷ []) × (run.first < run.last)) ⊎ ((new ≡ others ++ []) × (run.last ≤ run.first))
+  new_is = elim (cases_lt run.first run.last) [
+    | inl l ↦ inl (t.4 ∙ ap (λ l. others ++ l) (cond-true _ _ _ (lt-ltb _ _ l)), l)
+    | inr l ↦ inr (t.4 ∙ ap (λ l. others ++ l) (cond-false _ _ _ (le-ltb _ _ l)), l)
+  ]
 
-    pub left_count : count_of rs - 1 ≡ count_of new
-    left_count =
-        let m = own in
-        let c = ap count_of e in
-        elim new_is [
-          | inl n ↦ (
-              let q : Run = record { first = next; last = r.last } in
-              let d = ap count_of n.0 in
-              omega (arith, c, d, count_parts others (r ∷ []), count_more r [], count_parts others (q ∷ []), count_more q [], s n.1, n.1))
-          | inr n ↦ (
-              let d = ap count_of n.0 in
-              omega (arith, c, d, count_parts others (r ∷ []), count_more r [], count_parts others [], n.1, m.0))
-        ]
+  pub left_runs : AreRuns RUNS_END new
+  left_runs =
+      let m = own in
+      elim new_is [
+        | inl n ↦ subst (AreRuns RUNS_END) (sym n.0) (both_runs RUNS_END others (rest ∷ []) upper (omega (arith, n.1), m.1, tt))
+        | inr n ↦ subst (AreRuns RUNS_END) (sym n.0) (both_runs RUNS_END others [] upper tt)
+      ]
 
-    pub left_members : Removes r.first (set_of rs) (set_of new)
-    left_members i =
-        let m = own in
-        elim new_is [
-          | inl n ↦ (
-              let q : Run = record { first = next; last = r.last } in
-              let t = ap (λ l. in_runs l i) n.0 ∙ list_any-append (in_run i) others (q ∷ []) in
-              rw (member_test new i, t, member_test rs i, was i) (grind (arith, s n.1, n.1, above_them r.first)))
-          | inr n ↦ (
-              let t = ap (λ l. in_runs l i) n.0 ∙ list_any-append (in_run i) others [] in
-              rw (member_test new i, t, member_test rs i, was i) (grind (arith, n.1, m.0, above_them r.first)))
-        ]
+  pub left_count : count_of rs - 1 ≡ count_of new
+  left_count =
+      let m = own in
+      let c = ap count_of t.2 in
+      elim new_is [
+        | inl n ↦ (
+            let d = ap count_of n.0 in
+            omega (arith, c, d, count_parts others (run ∷ []), count_more run [], count_parts others (rest ∷ []), count_more rest [], n.1))
+        | inr n ↦ (
+            let d = ap count_of n.0 in
+            omega (arith, c, d, count_parts others (run ∷ []), count_more run [], count_parts others [], n.1, m.0))
+      ]
+
+  pub left_members : Removes id (set_of rs) (set_of new)
+  left_members i =
+      let m = own in
+      elim new_is [
+        | inl n ↦ (
+            let now = ap (λ l. in_runs l i) n.0 ∙ list_any-append (in_run i) others (rest ∷ []) in
+            rw (member_test new i, now, member_test rs i, was i) (grind (arith, n.1, t.3, above_them run.first)))
+        | inr n ↦ (
+            let now = ap (λ l. in_runs l i) n.0 ∙ list_any-append (in_run i) others [] in
+            rw (member_test new i, now, member_test rs i, was i) (grind (arith, n.1, m.0, t.3, above_them run.first)))
+      ]

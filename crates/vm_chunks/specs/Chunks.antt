@@ -41,11 +41,6 @@ pub record AreChunks {X : Type 0} (key : X → ℕ) (cs : List (List X)) (bs : L
   pub bounded : AreAllBounded key cs bs
   pub filled : 2 ≤ length cs → All (λ c. 0 < length c) cs
 
--- The chunks are in order, and they have `count` entries.
-pub record AreCounted {X : Type 0} (key : X → ℕ) (cs : List (List X)) (bs : List ℕ) (count : ℕ) : Type 0 where
-  pub chunks : AreChunks key cs bs
-  pub counted : count ≡ length (entries_of cs)
-
 -- The chunk `at` in two: the entries from `kept` on are in a chunk after it.
 abbrev pub split_chunk : {X : Type 0} → ℕ → ℕ → List (List X) → List (List X)
 split_chunk at kept cs =

@@ -1,5 +1,5 @@
 -- Lists of entries in descending order of their keys.
-use Rattle.std.specs.Prelude.{◌≡◌, ℕ, Bool, [], if◌then◌else◌, ◌<◌, ◌≤◌, List, ◌∷◌, ◌++◌, length, slice_index_or, nat_lt, nat_le, nat_eq, Option, Some, None, reverse}
+use Rattle.std.specs.Prelude.{◌≡◌, ℕ, ◌<◌, ◌≤◌, List, ◌∷◌, ◌++◌, length, slice_index_or, nat_lt, nat_le, nat_eq, Option, Some, None, reverse}
 use Rattle.std.specs.List.{filter, find}
 
 -- The keys descend.
@@ -59,8 +59,3 @@ highest_below key t xs = find (λ x. nat_lt (key x) t) xs
 abbrev pub without_some : {X : Type 0} → (X → ℕ) → Option ℕ → List X → List X
 without_some key None xs = xs
 without_some key (Some t) xs = without key t xs
-
--- In new, the last entry of old is e if `keep` is true, and gone otherwise.
-abbrev pub ChangesLast : {X : Type 0} → X → Bool → List X → List X → Type 0
-ChangesLast {X} e keep old new =
-    (others : List X) (last : X) → old ≡ others ++ last ∷ [] → new ≡ others ++ (if keep then e ∷ [] else [])

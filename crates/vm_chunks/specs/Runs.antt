@@ -1,11 +1,11 @@
 -- Sets of ids as runs of consecutive ids.
-use Rattle.std.specs.Prelude.{◌≡◌, ℕ, ◌+◌, ◌-◌, ◌<◌, ◌≤◌, ◌⊎◌, Bool, true, false, not, ◌&&◌, ◌||◌, nat_eq, if◌then◌else◌, List, [], ◌∷◌, ◌++◌, length, slice_index_or, IsTrue, Option, Some, None, IsSome}
+use Rattle.std.specs.Prelude.{◌≡◌, ℕ, ◌+◌, ◌-◌, ◌<◌, ◌≤◌, ◌⊎◌, Bool, true, false, not, ◌&&◌, ◌||◌, nat_eq, nat_lt, if◌then◌else◌, List, [], ◌∷◌, ◌++◌, length, slice_index_or, IsTrue, Option, Some, None, IsSome}
 use Rattle.std.specs.List.{range_with_len}
 use Rattle.std.specs.Ordering.{nat_cmp}
 use Rattle.std.specs.BTreeSet.{BTreeSet, contains}
 use Rattle.vm_chunks.specs.declared.id_set.Run.{Run}
-use Rattle.vm_chunks.specs.declared.chunk.adding.Added.{Added}
-use Rattle.vm_chunks.specs.declared.chunk.adding.Added.TheVariants.{Known, Elsewhere, Grown, New, Joined}
+use Rattle.vm_chunks.specs.declared.chunk.runs.Added.{Added}
+use Rattle.vm_chunks.specs.declared.chunk.runs.Added.TheVariants.{Known, Elsewhere, New, Joined}
 use Rattle.vm_chunks.specs.Entries.{at_or_above, highest_below, with_entry, without_some}
 
 -- Two more than the highest id.
@@ -60,52 +60,39 @@ pub record IsInside (id : ℕ) (ids : BTreeSet ℕ) : Type 0 where
 abbrev pub last_of : Run → ℕ
 last_of r = r.last
 
--- A run has the id, if `above` is the lowest run that ends at the id or above it.
+-- An id and the runs next to it. Only private functions cite this part. `above` is the lowest run that ends at the id or above it,
+-- and `below` the highest run that ends below it.
+
+-- The run above has the id.
 abbrev pub HasId : ℕ → Option Run → Type 0
 HasId id None = ⊥
 HasId id (Some r) = r.first ≤ id
 
--- No run has it.
+-- The run above begins above the id, so no run has it.
 abbrev pub LacksId : ℕ → Option Run → Type 0
 LacksId id None = Unit {0}
 LacksId id (Some r) = id < r.first
 
--- The last id of the run of an id, which the run `above` joins if it begins right above.
+-- The last id of the run of an id, which joins the run above if that begins right above the id.
 abbrev pub joined_last : ℕ → Option Run → ℕ
 joined_last id None = id
 joined_last id (Some r) = if nat_eq (id + 1) r.first then r.last else id
 
--- Its first id. The highest run `below` the id joins it if it ends right below.
+-- The first id of the run of an id, which joins the run below if that ends right below the id.
 abbrev pub joined_first : ℕ → Option Run → ℕ
 joined_first id None = id
 joined_first id (Some r) = if nat_eq (r.last + 1) id then r.first else id
 
--- The run of an id, and of the runs next to it.
+-- The run of an id, and of the runs that it joins.
 abbrev pub joined_run : ℕ → Option Run → Option Run → Run
 joined_run id above below = record { first = joined_first id below; last = joined_last id above }
 
--- The key of the run that ends right below the id, if it joins that run.
+-- The key of the run below, if the run of the id joins it.
 abbrev pub joined_key : ℕ → Option Run → Option ℕ
 joined_key id None = None
 joined_key id (Some r) = if nat_eq (r.last + 1) id then Some r.last else None
 
--- The run before `at` begins right above the id.
-pub record JoinsAbove (id at : ℕ) (rs : List Run) : Type 0 where
-  pub some : 0 < at
-  pub last : (d : Run) → joined_last id (at_or_above last_of id rs) ≡ (slice_index_or rs (at - 1) d).last
-
--- The run at `at` ends right below the id.
-pub record JoinsBelow (id at : ℕ) (rs : List Run) : Type 0 where
-  pub some : at < length rs
-  pub first : (d : Run) → joined_first id (highest_below last_of id rs) ≡ (slice_index_or rs at d).first
-  pub key : (d : Run) → joined_key id (highest_below last_of id rs) ≡ Some (slice_index_or rs at d).last
-
--- No run joins an id from below.
-pub record StartsAt (id : ℕ) (below : Option Run) : Type 0 where
-  pub first : joined_first id below ≡ id
-  pub key : joined_key id below ≡ None
-
--- The runs with the run of an id instead of those that join it.
+-- The runs with the run of an id instead of those that it joins.
 abbrev pub with_joined : ℕ → Option Run → Option Run → List Run → List Run
 with_joined id above below rs = without_some last_of (joined_key id below) (with_entry last_of (joined_run id above below) rs)
 
@@ -118,18 +105,35 @@ abbrev pub AddsId : ℕ → Bool → List Run → List Run → Type 0
 AddsId id true old new = LacksId id (at_or_above last_of id old) × (new ≡ with_id id old)
 AddsId id false old new = HasId id (at_or_above last_of id old) × (new ≡ old)
 
--- The runs next to an id are in the chunk, or it is the first or last chunk.
+-- The run before `at` begins right above the id.
+abbrev pub IsRightAbove : ℕ → ℕ → List Run → Type 0
+IsRightAbove id at rs = (0 < at) × ((d : Run) → (slice_index_or rs (at - 1) d).first ≡ id + 1)
+
+-- The run at `at` ends right below the id.
+abbrev pub IsRightBelow : ℕ → ℕ → List Run → Type 0
+IsRightBelow id at rs = (at < length rs) × ((d : Run) → (slice_index_or rs at d).last + 1 ≡ id)
+
+-- A chunk has a run above the id or is the first one, and has a run below the id or is the last one.
 abbrev pub HasNext : ℕ → Bool → Bool → List Run → Type 0
 HasNext id is_first is_last rs =
     (IsTrue is_first ⊎ IsSome (at_or_above last_of id rs)) × (IsTrue is_last ⊎ IsSome (highest_below last_of id rs))
 
--- An id is added to the runs of one chunk.
+-- An id is added to the runs of one chunk, unless they do not show both runs next to the id, or are 64.
 abbrev pub AddsNear : ℕ → Bool → Bool → Added → List Run → List Run → Type 0
 AddsNear id f l Known old new = HasId id (at_or_above last_of id old) × HasNext id f l old × (new ≡ old)
-AddsNear id f l Elsewhere old new = new ≡ old
-AddsNear id f l Grown old new = AddsId id true old new × HasNext id f l old × (length new ≡ length old)
-AddsNear id f l New old new = AddsId id true old new × HasNext id f l old × (length new ≡ length old + 1)
-AddsNear id f l Joined old new = AddsId id true old new × HasNext id f l old × (length new + 1 ≡ length old)
+AddsNear id f l Elsewhere old new = (HasNext id f l old → 64 ≤ length old) × (new ≡ old)
+AddsNear id f l New old new = AddsId id true old new × HasNext id f l old × (length old ≤ length new)
+AddsNear id f l Joined old new = AddsId id true old new × HasNext id f l old
+
+-- A run without its first id.
+abbrev pub without_first : Run → List Run
+without_first r = if nat_lt r.first r.last then record { first = r.first + 1; last = r.last } ∷ [] else []
+
+-- The lowest id is taken out of the runs, or they have none.
+abbrev pub TakesLowest : Option ℕ → List Run → List Run → Type 0
+TakesLowest None old new = (old ≡ []) × (new ≡ old)
+TakesLowest (Some id) old new =
+    (others : List Run) × (run : Run) × (old ≡ others ++ run ∷ []) × (id ≡ run.first) × (new ≡ others ++ without_first run)
 
 -- The runs new have the id and those of old, and one id more. Only private functions cite it.
 pub record Puts (id : ℕ) (old new : List Run) : Type 0 where

@@ -24,7 +24,6 @@ ghost use Rattle.std.specs.Prelude.{
 ghost use Rattle.std.specs.List.{All};
 ghost use Rattle.vm_chunks.specs.Chunks.{TOP};
 ghost use Rattle.vm_chunks.specs.Entries.{
-  ChangesLast,
   IsDescendingBy,
   below,
   with_entry,
@@ -34,16 +33,15 @@ ghost use Rattle.vm_chunks.specs.Entries.{
   highest_below,
 };
 
+mod runs;
+
 use crate::{Entry, place, place_from};
+pub use runs::Added;
 use std::alloc::{AllocError, Global};
 use std::marker::Model;
 
 /// The maximum number of entries of a chunk.
 pub const MAX_ENTRIES: usize = 64;
-
-mod adding;
-
-pub use adding::Added;
 
 /// The entries next to a key.
 #[derive(Clone, Copy)]
@@ -105,14 +103,6 @@ impl<E: Entry> Chunk<E> {
         ensures fits { result ≤ 64 }
     {
         self.entries.len()
-    }
-
-    /// Returns the entry with the lowest key, if there is one.
-    pub fn lowest(&self) -> Option<E>
-        ensures { MatchOption result (self.now ≡ []) (λ e. (others : List E) × (self.now ≡ others ++ e ∷ [])) }
-    {
-        let (entry, _) = self.entries.as_slice().split_last()?;
-        Some(*entry)
     }
 
     /// Returns the entry with the highest key, if there is one.
@@ -215,16 +205,6 @@ impl<E: Entry> Chunk<E> {
             }
         }
         None
-    }
-
-    /// Replaces the lowest entry if `keep` is true, and removes it otherwise. It does not allocate.
-    pub fn change_lowest(&mut self, entry: E, keep: bool)
-        requires { 0 < length self.old }
-        ensures { ChangesLast entry keep self.old self.new }
-    {
-        let at = self.entries.len() - 1;
-        self.entries[at] = entry;
-        self.entries.truncate(at + usize::from(keep));
     }
 
     /// Moves the entries from `at` on to a new chunk. An error changes nothing.

@@ -23,7 +23,6 @@ ghost use Rattle.std.specs.Prelude.{
 };
 ghost use Rattle.std.specs.List.{All, insert};
 ghost use Rattle.vm_chunks.specs.Entries.{
-  ChangesLast,
   IsDescendingBy,
   below,
   with_entry,
@@ -43,13 +42,13 @@ ghost use Rattle.vm_chunks.specs.Chunks.{
   IsJoinedOr,
 };
 
+mod runs;
+
 use crate::Entry;
 use crate::chunk::{Chunk, Gap, MAX_ENTRIES};
 use crate::iter::Iter;
 use std::alloc::{AllocError, Global};
 use std::marker::Model;
-
-mod adding;
 
 /// Entries in descending order of their keys, in chunks.
 ///
@@ -59,19 +58,17 @@ pub struct Chunks<E: Entry> {
     chunks: Vec<Chunk<E>>,
     // A bound for each chunk: its keys are from the bound on, and those of later chunks below. The last is 0.
     bounds: Vec<u64>,
-    // The number of entries.
-    count: usize,
 }
 
 impl<E: Entry> Model for Chunks<E> {
     ghost use Rattle.std.specs.Prelude.{List};
-    ghost use Rattle.vm_chunks.specs.Chunks.{entries_of, AreCounted};
+    ghost use Rattle.vm_chunks.specs.Chunks.{entries_of, AreChunks};
 
     ghost Value = { List E };
 
     ghost view = { λ c. entries_of c.chunks.items };
 
-    ghost invariant = { λ c. AreCounted E.key_of c.chunks.items c.bounds.items c.count };
+    ghost invariant = { λ c. AreChunks E.key_of c.chunks.items c.bounds.items };
 }
 
 /// Returns the number of bounds above a key.
@@ -217,11 +214,10 @@ impl<E: Entry> Chunks<E> {
         Chunks {
             chunks: Vec::new(alloc),
             bounds: Vec::new(alloc),
-            count: 0,
         }
     }
 
-    /// Creates a list of the entries of a chunk, with memory for two chunks.
+    /// Creates a list of the entries of a chunk, with memory for the places of two chunks.
     pub fn of(alloc: Global, chunk: &Chunk<E>) -> Result<Self, AllocError>
         requires { IsDescendingBy E.key_of chunk.now }
         ensures { IfOk result (λ list. list ≡ chunk.now) }
@@ -233,11 +229,7 @@ impl<E: Entry> Chunks<E> {
         let mut bounds = Vec::with_capacity(alloc, 2)?;
         chunks.push(chunk.try_clone(alloc)?)?;
         bounds.push(0)?;
-        Ok(Chunks {
-            chunks,
-            bounds,
-            count: chunk.len(),
-        })
+        Ok(Chunks { chunks, bounds })
     }
 
     /// Returns a copy. It allocates for each chunk.
@@ -246,18 +238,7 @@ impl<E: Entry> Chunks<E> {
     {
         let chunks = clone_chunks(alloc, self.chunks.as_slice())?;
         let bounds = self.bounds.clone()?;
-        Ok(Chunks {
-            chunks,
-            bounds,
-            count: self.count,
-        })
-    }
-
-    /// Returns the number of entries. It takes constant time.
-    pub fn len(&self) -> usize
-        ensures { result ≡ length self.now }
-    {
-        self.count
+        Ok(Chunks { chunks, bounds })
     }
 
     /// Returns the entry with this key, if there is one. It takes logarithmic time.
@@ -295,16 +276,6 @@ impl<E: Entry> Chunks<E> {
         self.bounds[at] = self.bounds[at].min(entry.key());
     }
 
-    /// Returns the entry with the lowest key, if there is one.
-    #[inline(always)]
-    pub fn lowest(&self) -> Option<E>
-        ensures { MatchOption result (self.now ≡ []) (λ e. (others : List E) × (self.now ≡ others ++ e ∷ [])) }
-    {
-        let (chunk, _) = self.chunks.as_slice().split_last()?;
-        let (entry, _) = chunk.as_slice().split_last()?;
-        Some(*entry)
-    }
-
     /// Returns the entry with the highest key, if there is one.
     pub fn highest(&self) -> Option<E>
         ensures { MatchOption result (self.now ≡ []) (λ e. (others : List E) × (self.now ≡ e ∷ others)) }
@@ -321,15 +292,9 @@ impl<E: Entry> Chunks<E> {
         ensures inserted { OnOk result (self.new ≡ with_entry E.key_of entry self.old) }
         ensures unchanged { OnErr result (self.new ≡ self.old) }
     {
-        let Some(count) = self.count.checked_add(1) else {
-            // No memory has this many bounds, so this fails.
-            self.bounds.reserve(usize::MAX)?;
-            unreachable!()
-        };
         let at = make_room(alloc, &mut self.chunks, &mut self.bounds, entry.key())?;
         let chunk = &mut self.chunks[at];
         chunk.insert(entry);
-        self.count = count;
         Ok(())
     }
 
@@ -379,25 +344,7 @@ impl<E: Entry> Chunks<E> {
         }
         let chunk = &mut self.chunks[at];
         let entry = chunk.remove(key);
-        self.count -= usize::from(entry.is_some());
         mend(&mut self.chunks, &mut self.bounds, at);
         entry
-    }
-
-    /// Replaces the entry with the lowest key by one with the same key if `keep` is true, and removes it otherwise. It does
-    /// not allocate.
-    #[inline(always)]
-    pub fn change_lowest(&mut self, entry: E, keep: bool)
-        requires some { 0 < length self.old }
-        requires key { (others : List E) (e : E) → self.old ≡ others ++ e ∷ [] → E.key_of entry ≡ E.key_of e }
-        ensures { ChangesLast entry keep self.old self.new }
-    {
-        let at = self.chunks.len() - 1;
-        let chunk = &mut self.chunks[at];
-        chunk.change_lowest(entry, keep);
-        self.count -= usize::from(!keep);
-        if chunk.len() == 0 {
-            mend(&mut self.chunks, &mut self.bounds, at);
-        }
     }
 }

@@ -185,14 +185,9 @@ impl IdSet {
         ensures lowest { IfSome result (λ id. IsLowestFrom 0 self.old id × Removes id self.old self.new) }
         ensures none { IfNone result (IsEmpty self.old × (self.new ≡ self.old)) }
     {
-        let run = self.runs.lowest()?;
-        let rest = Run {
-            first: run.first.saturating_add(1),
-            last: run.last,
-        };
-        self.runs.change_lowest(rest, run.first < run.last);
+        let id = self.runs.pop()?;
         self.count -= 1;
-        Some(run.first)
+        Some(id)
     }
 
     /// Adds the ids from `first` to `last`, both included, which are above all ids of the set. An error changes nothing.

@@ -19,7 +19,6 @@ ghost use Rattle.std.specs.Prelude.{
 };
 ghost use Rattle.std.specs.List.{All};
 ghost use Rattle.vm_chunks.specs.Entries.{
-  ChangesLast,
   IsDescendingBy,
   below,
   with_entry,
@@ -29,7 +28,7 @@ ghost use Rattle.vm_chunks.specs.Entries.{
   highest_below,
 };
 
-mod adding;
+mod runs;
 
 use crate::Entry;
 use crate::chunk::{Chunk, Gap, MAX_ENTRIES};
@@ -76,22 +75,16 @@ impl<E: Entry> KeyedList<E> {
     pub fn try_clone(&self, alloc: Global) -> Result<Self, AllocError>
         ensures { IfOk result (λ copy. copy ≡ self.now) }
     {
-        let few = match &self.few {
-            Some(chunk) => Some(chunk.try_clone(alloc)?),
-            None => None,
-        };
-        let many = self.many.try_clone(alloc)?;
-        Ok(KeyedList { few, many })
-    }
-
-    /// Returns the number of entries. It takes constant time.
-    pub fn len(&self) -> usize
-        ensures { result ≡ length self.now }
-    {
-        match &self.few {
-            Some(chunk) => chunk.len(),
-            None => self.many.len(),
-        }
+        Ok(match &self.few {
+            Some(chunk) => KeyedList {
+                few: Some(chunk.try_clone(alloc)?),
+                many: Chunks::new(alloc),
+            },
+            None => KeyedList {
+                few: None,
+                many: self.many.try_clone(alloc)?,
+            },
+        })
     }
 
     /// Returns the entry with this key, if there is one. It takes logarithmic time.
@@ -121,17 +114,6 @@ impl<E: Entry> KeyedList<E> {
         ensures { result ≡ at_or_above E.key_of key self.now }
     {
         self.gap(key).above
-    }
-
-    /// Returns the entry with the lowest key, if there is one.
-    #[inline(always)]
-    pub fn lowest(&self) -> Option<E>
-        ensures { MatchOption result (self.now ≡ []) (λ e. (others : List E) × (self.now ≡ others ++ e ∷ [])) }
-    {
-        match &self.few {
-            Some(chunk) => chunk.lowest(),
-            None => self.many.lowest(),
-        }
     }
 
     /// Returns the entry with the highest key, if there is one.
@@ -194,10 +176,11 @@ impl<E: Entry> KeyedList<E> {
                 self.few = None;
                 self.many = many;
             }
-            None if self.many.len() == 0 => {
+            None if self.many.highest().is_none() => {
                 let mut chunk = Chunk::new(alloc)?;
                 chunk.insert(entry);
                 self.few = Some(chunk);
+                self.many = Chunks::new(alloc);
             }
             None => self.many.insert(alloc, entry)?,
         }
@@ -212,20 +195,6 @@ impl<E: Entry> KeyedList<E> {
         match &mut self.few {
             Some(chunk) => chunk.remove(key),
             None => self.many.remove(key),
-        }
-    }
-
-    /// Replaces the entry with the lowest key by one with the same key if `keep` is true, and removes it otherwise. It does
-    /// not allocate.
-    #[inline(always)]
-    pub fn change_lowest(&mut self, entry: E, keep: bool)
-        requires some { 0 < length self.old }
-        requires key { (others : List E) (e : E) → self.old ≡ others ++ e ∷ [] → E.key_of entry ≡ E.key_of e }
-        ensures { ChangesLast entry keep self.old self.new }
-    {
-        match &mut self.few {
-            Some(chunk) => chunk.change_lowest(entry, keep),
-            None => self.many.change_lowest(entry, keep),
         }
     }
 }

@@ -1,9 +1,8 @@
-use Rattle.std.proofs.Common.{rules, ◌<◌, length, set, subst, sym, ap, ◌∙◌}
+use Rattle.std.proofs.Common.{rules, ◌<◌, set, subst, sym, ap, ◌∙◌}
 use Rattle.vm_chunks.specs.Entries.{IsDescendingBy, with_entry, entry_at}
 use Rattle.vm_chunks.specs.Chunks.{TOP, entries_of, AreChunks}
-use Rattle.vm_chunks.proofs.Homes.{entries_descend, home_descends, entry_home}
+use Rattle.vm_chunks.proofs.Homes.{home_descends, entry_home}
 use Rattle.vm_chunks.proofs.Divisions.{put_is, put_entries}
-use Rattle.vm_chunks.proofs.Counts.{count-new}
 use Rattle.vm_chunks.proofs.chunks.Chunks.insert.Goals as goal
 
 pub insert-requires-clause-order : goal.insert-requires-clause-order
@@ -36,15 +35,6 @@ pub invariant_of-self-2 : goal.invariant_of-self-2
 invariant_of-self-2 g c =
     let p = rw c.key.ensures at c.in_ok-at.ensures.place in
     let h : g.E.Entry.key_of c.args.entry < TOP = search rules in
-    let cs = c.make_room.new.chunks.items in
-    let down = subst (IsDescendingBy g.E.Entry.key_of) c.self.view_is (entries_descend g.E.Entry.key_of _ _ c.self.invariant.chunks.bounded) in
-    record {
-      chunks = subst (λ x. AreChunks g.E.Entry.key_of (set cs c.in_ok-at.at x) c.make_room.new.bounds.items)
-          (sym (c.insert.ensures ∙ ap (λ l. with_entry g.E.Entry.key_of c.args.entry l) c.index_mut-chunk.ensures.value))
-          (put_is g.E.Entry.key_of _ _ c.in_ok-at.ensures.chunks c.args.entry _ h p c.in_ok-at.ensures.within c.index_mut-chunk.result.now);
-      counted =
-          let old = c.self.invariant.counted ∙ ap length c.self.view_is in
-          let more = count-new g.E.Entry.key_of c.args.entry _ down c.requires.new in
-          let new = ap length (returns-clause-inserted g c) in
-          search rules;
-    }
+    subst (λ x. AreChunks g.E.Entry.key_of (set c.make_room.new.chunks.items c.in_ok-at.at x) c.make_room.new.bounds.items)
+    (sym (c.insert.ensures ∙ ap (λ l. with_entry g.E.Entry.key_of c.args.entry l) c.index_mut-chunk.ensures.value))
+    (put_is g.E.Entry.key_of _ _ c.in_ok-at.ensures.chunks c.args.entry _ h p c.in_ok-at.ensures.within c.index_mut-chunk.result.now)

@@ -1,5 +1,4 @@
-use Rattle.std.proofs.Common.{◌≡◌, ℕ, List, [], ◌∷◌, ◌++◌, sym, ap, ◌∙◌, subst}
-use Rattle.vm_chunks.specs.Chunks.{AreCounted}
+use Rattle.std.proofs.Common.{◌≡◌, ℕ, List, [], ◌∷◌, ◌++◌, ap, ◌∙◌}
 use Rattle.vm_chunks.proofs.KeyedLists.{one_chunk}
 use Rattle.vm_chunks.proofs.chunks.Chunks.of.Goals as goal
 
@@ -10,5 +9,4 @@ invariant_of-result g c =
     c.in_ok-push.ensures.items ∙ ap (λ l. l ++ c.in_ok-try_clone.field-0 ∷ []) c.in_ok-chunks.ensures.items
     ∙ ap (λ (x : List _). x ∷ []) c.in_ok-try_clone.ensures in
     let bs : c.push-2.new.self.items ≡ 0 ∷ [] = c.in_ok-push-2.ensures.items ∙ ap (λ (l : List ℕ). l ++ 0 ∷ []) c.in_ok-bounds.ensures.items in
-    subst (λ n. AreCounted key c.push.new.self.items c.push-2.new.self.items n) (sym c.len.ensures.value)
-    (rw (cs, bs) (one_chunk key c.args.chunk.now c.requires c.highest_key.ensures.fits))
+    rw (cs, bs) (one_chunk key c.args.chunk.now c.requires c.highest_key.ensures.fits)

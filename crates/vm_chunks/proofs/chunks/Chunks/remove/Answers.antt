@@ -1,25 +1,24 @@
-use Rattle.std.proofs.Common.{rules, arith, ◌<◌, length, set, subst, sym, ap, ◌∙◌}
+use Rattle.std.proofs.Common.{rules, ◌<◌, length, set, subst, sym, ap, ◌∙◌}
 use Rattle.vm_chunks.specs.Entries.{IsDescendingBy, without, entry_at}
 use Rattle.vm_chunks.specs.Chunks.{entries_of, AreAllBounded}
-use Rattle.vm_chunks.proofs.Homes.{all_bounds_descend, entries_descend, home_descends, entry_home, none_past, without_past}
+use Rattle.vm_chunks.proofs.Homes.{all_bounds_descend, home_descends, entry_home, none_past, without_past}
 use Rattle.vm_chunks.proofs.Divisions.{taken_bounded, taken_entries}
-use Rattle.vm_chunks.proofs.Counts.{count-without}
 use Rattle.vm_chunks.proofs.chunks.Chunks.remove.Goals as goal
 
 pub bounds_above-at-requires : goal.bounds_above-at-requires
-bounds_above-at-requires g c = rw c.as_slice.ensures.value (all_bounds_descend g.E.Entry.key_of _ _ c.self.invariant.chunks.bounded)
+bounds_above-at-requires g c = rw c.as_slice.ensures.value (all_bounds_descend g.E.Entry.key_of _ _ c.self.invariant.bounded)
 
 pub returns-then-at-len-clause-entry : goal.returns-then-at-len-clause-entry
 returns-then-at-len-clause-entry g c =
     let p = rw c.as_slice.ensures.value at c.bounds_above-at.ensures in
-    none_past g.E.Entry.key_of _ _ c.self.invariant.chunks.bounded c.args.key _ c.ranges.key.fits p (search rules)
+    none_past g.E.Entry.key_of _ _ c.self.invariant.bounded c.args.key _ c.ranges.key.fits p (search rules)
     ∙ ap (λ l. entry_at g.E.Entry.key_of c.args.key l) c.self.view_is
 
 pub returns-then-at-len-clause-rest : goal.returns-then-at-len-clause-rest
 returns-then-at-len-clause-rest g c =
     let p = rw c.as_slice.ensures.value at c.bounds_above-at.ensures in
     sym c.self.view_is
-    ∙ without_past g.E.Entry.key_of _ _ c.self.invariant.chunks.bounded c.args.key _ c.ranges.key.fits p (search rules)
+    ∙ without_past g.E.Entry.key_of _ _ c.self.invariant.bounded c.args.key _ c.ranges.key.fits p (search rules)
     ∙ ap (λ l. without g.E.Entry.key_of c.args.key l) c.self.view_is
 
 pub remove-entry-requires : goal.remove-entry-requires
@@ -27,7 +26,7 @@ remove-entry-requires g c =
     let p = rw c.as_slice.ensures.value at c.bounds_above-at.ensures in
     let l : c.bounds_above-at.result < length c.self.inside.chunks.items = search rules in
     subst (IsDescendingBy g.E.Entry.key_of) (sym c.index_mut-chunk.ensures.value)
-    (home_descends g.E.Entry.key_of _ _ c.self.invariant.chunks.bounded c.args.key _ c.ranges.key.fits p c.index_mut-chunk.result.now l)
+    (home_descends g.E.Entry.key_of _ _ c.self.invariant.bounded c.args.key _ c.ranges.key.fits p c.index_mut-chunk.result.now l)
 
 pub mend-requires-clause-bounded : goal.mend-requires-clause-bounded
 mend-requires-clause-bounded g c =
@@ -35,7 +34,7 @@ mend-requires-clause-bounded g c =
     let l : c.bounds_above-at.result < length c.self.inside.chunks.items = search rules in
     subst (λ x. AreAllBounded g.E.Entry.key_of (set c.self.inside.chunks.items c.bounds_above-at.result x) c.self.inside.bounds.items)
     (sym (c.remove-entry.ensures.rest ∙ ap (λ l. without g.E.Entry.key_of c.args.key l) c.index_mut-chunk.ensures.value))
-    (taken_bounded g.E.Entry.key_of _ _ c.self.invariant.chunks.bounded c.args.key _ c.ranges.key.fits p l c.index_mut-chunk.result.now)
+    (taken_bounded g.E.Entry.key_of _ _ c.self.invariant.bounded c.args.key _ c.ranges.key.fits p l c.index_mut-chunk.result.now)
 
 pub returns-clause-entry : goal.returns-clause-entry
 returns-clause-entry g c =
@@ -43,7 +42,7 @@ returns-clause-entry g c =
     let l : c.bounds_above-at.result < length c.self.inside.chunks.items = search rules in
     c.remove-entry.ensures.entry
     ∙ ap (λ l. entry_at g.E.Entry.key_of c.args.key l) c.index_mut-chunk.ensures.value
-    ∙ entry_home g.E.Entry.key_of _ _ c.self.invariant.chunks.bounded c.args.key _ c.ranges.key.fits p c.index_mut-chunk.result.now l
+    ∙ entry_home g.E.Entry.key_of _ _ c.self.invariant.bounded c.args.key _ c.ranges.key.fits p c.index_mut-chunk.result.now l
     ∙ ap (λ l. entry_at g.E.Entry.key_of c.args.key l) c.self.view_is
 
 pub returns-clause-rest : goal.returns-clause-rest
@@ -53,30 +52,5 @@ returns-clause-rest g c =
     c.mend.ensures.same
     ∙ ap (λ x. entries_of (set c.self.inside.chunks.items c.bounds_above-at.result x))
     (c.remove-entry.ensures.rest ∙ ap (λ l. without g.E.Entry.key_of c.args.key l) c.index_mut-chunk.ensures.value)
-    ∙ taken_entries g.E.Entry.key_of _ _ c.self.invariant.chunks.bounded c.args.key _ c.ranges.key.fits p l c.index_mut-chunk.result.now
+    ∙ taken_entries g.E.Entry.key_of _ _ c.self.invariant.bounded c.args.key _ c.ranges.key.fits p l c.index_mut-chunk.result.now
     ∙ ap (λ l. without g.E.Entry.key_of c.args.key l) c.self.view_is
-
-pub overflow_sub-self : goal.overflow_sub-self
-overflow_sub-self g c =
-    let p = rw c.as_slice.ensures.value at c.bounds_above-at.ensures in
-    let l : c.bounds_above-at.result < length c.self.inside.chunks.items = search rules in
-    let down = entries_descend g.E.Entry.key_of _ _ c.self.invariant.chunks.bounded in
-    let is =
-    c.remove-entry.ensures.entry
-    ∙ ap (λ l. entry_at g.E.Entry.key_of c.args.key l) c.index_mut-chunk.ensures.value
-    ∙ entry_home g.E.Entry.key_of _ _ c.self.invariant.chunks.bounded c.args.key _ c.ranges.key.fits p c.index_mut-chunk.result.now l in
-    let all = count-without g.E.Entry.key_of c.args.key _ _ _ _ down is c.from.ensures c.is_some.ensures in
-    let old = c.self.invariant.counted in
-    omega (arith, all, old)
-
-pub invariant_of-self : goal.invariant_of-self
-invariant_of-self g c =
-    let down = subst (IsDescendingBy g.E.Entry.key_of) c.self.view_is (entries_descend g.E.Entry.key_of _ _ c.self.invariant.chunks.bounded) in
-    record {
-      chunks = c.mend.ensures.chunks;
-      counted =
-          let all = count-without g.E.Entry.key_of c.args.key _ _ _ _ down (returns-clause-entry g c) c.from.ensures c.is_some.ensures in
-          let old = c.self.invariant.counted ∙ ap length c.self.view_is in
-          let new = ap length (returns-clause-rest g c) in
-          omega (arith, all, old, new);
-    }

@@ -8,7 +8,7 @@ pub invariant_of-self : goal.invariant_of-self
 invariant_of-self g c =
     subst (IsDescendingBy g.E.Entry.key_of) (sym c.insert.ensures) (put_descends g.E.Entry.key_of _ _ (few_descends g.E.Entry.key_of _ _ c.in-Some.is c.self.invariant))
 
-pub invariant_of-self-then-len-eq0 : goal.invariant_of-self-then-len-eq0
-invariant_of-self-then-len-eq0 g c =
+pub invariant_of-self-then-is_none : goal.invariant_of-self-then-is_none
+invariant_of-self-then-is_none g c =
     subst (IsDescendingBy g.E.Entry.key_of) (sym c.insert-in-None.ensures)
     (put_descends g.E.Entry.key_of _ _ (subst (IsDescendingBy g.E.Entry.key_of) (sym c.in_ok-chunk-in-None.ensures) (λ i j d l w. absurd (omega (arith, w)))))

@@ -1,6 +1,6 @@
-//! An id is added to runs.
+//! The runs of ids of a list in chunks.
 ghost use Rattle.std.specs.Prelude.{◌≡◌, IfSome, IfNone};
-ghost use Rattle.vm_chunks.specs.Runs.{RUNS_END, AreRuns, AddsId};
+ghost use Rattle.vm_chunks.specs.Runs.{RUNS_END, AreRuns, AddsId, TakesLowest};
 
 use super::{Chunks, bounds_above, mend};
 use crate::chunk::Added;
@@ -16,7 +16,7 @@ impl Chunks<Run> {
         ensures unchanged { IfNone result (self.new ≡ self.old) }
     {
         let at = bounds_above(self.bounds.as_slice(), id.into());
-        if at >= self.chunks.len() || self.count == usize::MAX {
+        if at >= self.chunks.len() {
             return None;
         }
         let is_last = at + 1 == self.chunks.len();
@@ -24,13 +24,23 @@ impl Chunks<Run> {
         match chunk.add(id, at == 0, is_last) {
             Added::Known => return Some(false),
             Added::Elsewhere => return None,
-            Added::Grown => (),
-            Added::New => self.count += 1,
-            Added::Joined => {
-                self.count -= 1;
-                mend(&mut self.chunks, &mut self.bounds, at);
-            }
+            Added::New => (),
+            Added::Joined => mend(&mut self.chunks, &mut self.bounds, at),
         }
         Some(true)
+    }
+
+    /// Removes and returns the lowest id. It does not allocate.
+    #[inline(always)]
+    pub fn pop(&mut self) -> Option<u32>
+        ensures { TakesLowest result self.old self.new }
+    {
+        let at = self.chunks.len().checked_sub(1)?;
+        let chunk = &mut self.chunks[at];
+        let id = chunk.pop()?;
+        if chunk.len() == 0 {
+            mend(&mut self.chunks, &mut self.bounds, at);
+        }
+        Some(id)
     }
 }

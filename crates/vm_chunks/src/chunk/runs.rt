@@ -1,30 +1,38 @@
-//! An id is added to the runs of one chunk.
-ghost use Rattle.std.specs.Prelude.{◌≡◌, ℕ, ◌≤◌, IsTrue, false};
+//! The runs of ids of one chunk.
+ghost use Rattle.std.specs.Prelude.{◌≡◌, ◌↔◌, ℕ, ◌≤◌, IsTrue, false};
 ghost use Rattle.std.specs.List.{All};
-ghost use Rattle.vm_chunks.specs.Entries.{IsDescendingBy, IsPlaceFrom, at_or_above, highest_below};
-ghost use Rattle.vm_chunks.specs.Runs.{last_of, joined_last, HasId, LacksId, HasNext, JoinsAbove, JoinsBelow, StartsAt, AddsNear};
+ghost use Rattle.vm_chunks.specs.Entries.{IsDescendingBy, IsPlaceFrom, at_or_above};
+ghost use Rattle.vm_chunks.specs.Runs.{
+  last_of,
+  HasId,
+  LacksId,
+  HasNext,
+  IsRightAbove,
+  IsRightBelow,
+  AddsNear,
+  TakesLowest,
+};
 
 use super::{Chunk, MAX_ENTRIES};
 use crate::id_set::Run;
 use crate::place_from;
 
-/// The effect of an id on a chunk.
+/// The effect of adding an id to a chunk.
 #[derive(Clone, Copy)]
 pub enum Added {
     /// Nothing, because a run has the id.
     Known,
-    /// Nothing, because a run next to the id can be in another chunk, or the chunk is full.
+    /// Nothing, because another chunk can have a run next to the id, or this one is full.
     Elsewhere,
-    /// A run next to the id has it now.
-    Grown,
-    /// The id is a run.
+    /// A run has the id now.
     New,
-    /// The two runs next to the id are one.
+    /// The two runs next to the id are one, with the id.
     Joined,
 }
 
 impl Chunk<Run> {
-    /// Adds an id. `is_first` and `is_last` are `true` if no chunk is above this one, or below. It does not allocate.
+    /// Adds an id. `is_first` is `true` if no chunk is above this one, and `is_last` if none is below. It does not
+    /// allocate.
     #[inline(always)]
     pub fn add(&mut self, id: u32, is_first: bool, is_last: bool) -> Added
         requires order { IsDescendingBy last_of self.old }
@@ -49,12 +57,12 @@ impl Chunk<Run> {
                 return Added::Joined;
             }
             self.entries[at - 1] = Run { first: id, last };
-            return Added::Grown;
+            return Added::New;
         }
         if joins_below {
             let first = runs[at].first;
             self.entries[at] = Run { first, last: id };
-            return Added::Grown;
+            return Added::New;
         }
         if runs.len() >= MAX_ENTRIES {
             return Added::Elsewhere;
@@ -71,11 +79,26 @@ impl Chunk<Run> {
         };
         Added::New
     }
+
+    /// Removes and returns the lowest id. It does not allocate.
+    #[inline(always)]
+    pub fn pop(&mut self) -> Option<u32>
+        ensures { TakesLowest result self.old self.new }
+    {
+        let at = self.entries.len().checked_sub(1)?;
+        let Run { first, last } = self.entries[at];
+        self.entries[at] = Run {
+            first: first.saturating_add(1),
+            last,
+        };
+        self.entries.truncate(at + usize::from(first < last));
+        Some(first)
+    }
 }
 
-/// Returns `true` if no run next to the ids at a place is in another chunk.
+/// Returns `true` if the chunk shows both runs next to the ids at a place.
 fn has_next(runs: &[Run], at: usize, is_first: bool, is_last: bool) -> bool
-    ensures { IsTrue result → (id : ℕ) → IsPlaceFrom last_of id at runs.now → HasNext id is_first is_last runs.now }
+    ensures { (id : ℕ) → IsPlaceFrom last_of id at runs.now → (IsTrue result ↔ HasNext id is_first is_last runs.now) }
 {
     (at > 0 || is_first) && (at != runs.len() || is_last)
 }
@@ -89,12 +112,11 @@ fn has_id(runs: &[Run], at: usize, id: u32) -> bool
     at > 0 && runs[at - 1].first <= id
 }
 
-/// Returns `true` if the run above begins right above the id.
+/// Returns `true` if the run above begins right above the id, which it does not have.
 fn joins_above(runs: &[Run], at: usize, id: u32) -> bool
     requires place { IsPlaceFrom last_of id at runs.now }
     requires lacks { LacksId id (at_or_above last_of id runs.now) }
-    ensures yes { IsTrue result → JoinsAbove id at runs.now }
-    ensures no { result ≡ false → joined_last id (at_or_above last_of id runs.now) ≡ id }
+    ensures { IsTrue result ↔ IsRightAbove id at runs.now }
 {
     at > 0 && runs[at - 1].first - 1 == id
 }
@@ -102,8 +124,7 @@ fn joins_above(runs: &[Run], at: usize, id: u32) -> bool
 /// Returns `true` if the run below ends right below the id.
 fn joins_below(runs: &[Run], at: usize, id: u32) -> bool
     requires { IsPlaceFrom last_of id at runs.now }
-    ensures yes { IsTrue result → JoinsBelow id at runs.now }
-    ensures no { result ≡ false → StartsAt id (highest_below last_of id runs.now) }
+    ensures { IsTrue result ↔ IsRightBelow id at runs.now }
 {
     at < runs.len() && runs[at].last + 1 == id
 }

@@ -3,7 +3,7 @@ use Rattle.vm_chunks.specs.Chunks.{list_of}
 use Rattle.vm_chunks.specs.Runs.{RUNS_END, AreRuns, last_of}
 use Rattle.vm_chunks.proofs.Adding.{filled_runs}
 use Rattle.vm_chunks.proofs.KeyedLists.{few_descends, near_descends}
-use Rattle.vm_chunks.proofs.keyed_list.adding.KeyedList+Run.add_near.Goals as goal
+use Rattle.vm_chunks.proofs.keyed_list.runs.KeyedList+Run.add_near.Goals as goal
 
 pub add-requires-clause-filled : goal.add-requires-clause-filled
 add-requires-clause-filled c =

@@ -2,7 +2,7 @@ use Rattle.std.proofs.Common.{sym, subst}
 use Rattle.std.proofs.lemmas.Bool.{leb-true, leb-false}
 use Rattle.vm_chunks.specs.Runs.{HasId, LacksId}
 use Rattle.vm_chunks.proofs.Nearby.{above_is, above_none}
-use Rattle.vm_chunks.proofs.chunk.adding.has_id.Goals as goal
+use Rattle.vm_chunks.proofs.chunk.runs.has_id.Goals as goal
 
 pub returns-then-at-gt0-clause-yes : goal.returns-then-at-gt0-clause-yes
 returns-then-at-gt0-clause-yes c = λ t. subst (HasId c.args.id) (sym (above_is _ _ _ c.requires c.if-at-gt0.true)) (leb-true _ _ t)

@@ -1,7 +1,7 @@
-//! An id is added to runs.
+//! The runs of ids of a list.
 ghost use Rattle.std.specs.Prelude.{◌≡◌, ◌<◌, IfOk, OnErr, IfSome, IfNone};
 ghost use Rattle.vm_chunks.specs.Entries.{at_or_above};
-ghost use Rattle.vm_chunks.specs.Runs.{RUNS_END, AreRuns, last_of, joined_run, HasId, LacksId, AddsId};
+ghost use Rattle.vm_chunks.specs.Runs.{RUNS_END, AreRuns, last_of, joined_run, HasId, LacksId, AddsId, TakesLowest};
 
 use super::KeyedList;
 use crate::chunk::Added;
@@ -11,7 +11,7 @@ use std::alloc::{AllocError, Global};
 impl KeyedList<Run> {
     /// Adds an id, and returns `true`. Returns `false` if a run has it already. An error changes nothing.
     #[inline(always)]
-    pub fn add(&mut self, alloc: Global, id: u32) -> Result<bool, AllocError>
+    pub(crate) fn add(&mut self, alloc: Global, id: u32) -> Result<bool, AllocError>
         requires { AreRuns RUNS_END self.old }
         ensures added { IfOk result (λ is_new. AddsId id is_new self.old self.new) }
         ensures lacks { OnErr result (LacksId id (at_or_above last_of id self.old)) }
@@ -20,6 +20,17 @@ impl KeyedList<Run> {
         match self.add_near(id) {
             Some(is_new) => Ok(is_new),
             None => self.add_searched(alloc, id),
+        }
+    }
+
+    /// Removes and returns the lowest id. It does not allocate.
+    #[inline(always)]
+    pub(crate) fn pop(&mut self) -> Option<u32>
+        ensures { TakesLowest result self.old self.new }
+    {
+        match &mut self.few {
+            Some(chunk) => chunk.pop(),
+            None => self.many.pop(),
         }
     }
 
@@ -42,6 +53,7 @@ impl KeyedList<Run> {
     }
 
     /// Adds an id like `add`, with a search for each run that changes. An error changes nothing.
+    #[inline(never)]
     fn add_searched(&mut self, alloc: Global, id: u32) -> Result<bool, AllocError>
         requires { AreRuns RUNS_END self.old }
         ensures added { IfOk result (λ is_new. AddsId id is_new self.old self.new) }

@@ -3,8 +3,8 @@ use Rattle.vm_chunks.specs.declared.id_set.Run.{Run}
 use Rattle.vm_chunks.specs.Entries.{at_or_above, highest_below, with_entry, without_some}
 use Rattle.vm_chunks.specs.Runs.{RUNS_END, last_of, joined_run}
 use Rattle.vm_chunks.proofs.RunAdds.{EndsBelow, ends_below, no_key}
-use Rattle.vm_chunks.proofs.keyed_list.adding.KeyedList+Run.add_searched.Goals as goal
-use Rattle.vm_chunks.proofs.keyed_list.adding.KeyedList+Run.add_searched.Goals.{then-is_some, else-is_some+in_ok-insert}
+use Rattle.vm_chunks.proofs.keyed_list.runs.KeyedList+Run.add_searched.Goals as goal
+use Rattle.vm_chunks.proofs.keyed_list.runs.KeyedList+Run.add_searched.Goals.{then-is_some, else-is_some+in_ok-insert}
 
 pub joined-requires : goal.joined-requires
 joined-requires c =
