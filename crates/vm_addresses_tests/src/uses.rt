@@ -5,17 +5,23 @@ ghost use Rattle.std.specs.List.{Contains};
 ghost use Rattle.std.specs.declared.cmp.Ordering.TheVariants.{Less};
 ghost use Rattle.vm_allocator.specs.Range.{Range, IsIn};
 ghost use Rattle.vm_allocator.specs.Address.{IsClear};
-ghost use Rattle.vm_allocator.specs.Allocator.{state_of};
+ghost use Rattle.vm_allocator.specs.Allocator.{state_of, made_state};
 ghost use Rattle.vm_allocator.specs.Answer.{FillsGap};
 ghost use Rattle.vm_allocator.specs.Comparison.{state_cmp};
 ghost use Rattle.vm_allocator.specs.Conflicts.{ConflictDecides};
+ghost use Rattle.vm_allocator.specs.Counts.Steps.{EntersToAllocate};
+ghost use Rattle.vm_allocator.specs.Moves.{MovesRange};
+ghost use Rattle.vm_allocator.specs.Request.{request_for};
+ghost use Rattle.vm_allocator.specs.Values.NodesRead.{EndsNode, MakesOfNodes};
+ghost use Rattle.vm_allocator.specs.Values.SavedTrees.{HasTreeOf};
 
 use crate::fixtures::{ENOUGH, expect_eq, expect_true, made, range};
 use std::alloc::Global;
 use std::cmp::Ordering;
+use vm_allocator::allocation_engine::NodeState;
 use vm_allocator::{
-    AddressAllocator, AllocPolicy, Conflict, Constraint, ListError, RangeInclusive, ReadNodes,
-    Result, SavedError,
+    AddressAllocator, AllocPolicy, Condition, Conflict, Constraint, ListError, RangeInclusive,
+    ReadNodes, Result, SavedError, Side,
 };
 
 /// Returns what an `ExactMatch` request conflicts with: nothing if and only if its place is free.
@@ -52,11 +58,24 @@ fn of_free(
 
 /// Returns the number of nodes that an allocation enters.
 fn entered(alloc: Global, space: &mut AddressAllocator, size: u64) -> u64
-    ensures { result ≤ 2 * length (state_of space.old).held + 1 }
+    ensures few { result ≤ 2 * length (state_of space.old).held + 1 }
+    ensures bounds { EntersToAllocate space.old (request_for size 1 AllocPolicy.LastMatch) result }
 {
     space
         .allocate_counted(alloc, size, 1, AllocPolicy::LastMatch)
         .1
+}
+
+/// Moves a range.
+fn moved(
+    alloc: Global,
+    space: &mut AddressAllocator,
+    key: &RangeInclusive,
+    request: Constraint,
+) -> Result<RangeInclusive>
+    ensures { MovesRange (state_of space.old) key.now request result (state_of space.new) }
+{
+    space.move_constraint(alloc, key, request)
 }
 
 /// Returns whether an allocator comes first.
@@ -78,6 +97,30 @@ fn begin(nodes: &mut ReadNodes) -> bool
     ensures { (e : SavedError) → nodes.old ≡ Err e → (result ≡ false) × (nodes.new ≡ Err e) }
 {
     nodes.begin().is_ok()
+}
+
+/// Ends a node.
+fn end(
+    nodes: &mut ReadNodes,
+    side: Side,
+    key: RangeInclusive,
+    state: NodeState,
+    height: u64,
+) -> std::result::Result<(), SavedError>
+    ensures { EndsNode side (record { key = key; state = state }) height nodes.old result nodes.new }
+{
+    nodes.end(side, key, state, height)
+}
+
+/// Creates the allocator of nodes.
+fn of_nodes(
+    alloc: Global,
+    space: RangeInclusive,
+    nodes: &ReadNodes,
+) -> std::result::Result<AddressAllocator, SavedError>
+    ensures { MakesOfNodes (HasTreeOf space) Condition.Tree nodes.now (made_state result) }
+{
+    AddressAllocator::from_nodes(alloc, space, nodes)
 }
 
 #[test]
@@ -114,6 +157,20 @@ fn uses(rt: HostRuntime) {
         comes_first(&other, &space),
         &"the one with a shorter first gap or range",
     );
+    let moved = moved(rt.alloc(), &mut space, &range(&rt, 8, 15), high);
+    expect_eq(&rt, &moved, &Ok(range(&rt, 8, 15)), &"where it is");
+    let mut nodes = ReadNodes::new(rt.alloc());
+    expect_true(&rt, begin(&mut nodes), &"the root");
+    let ended = end(
+        &mut nodes,
+        Side::Left,
+        range(&rt, 0, 15),
+        NodeState::Allocated,
+        1,
+    );
+    expect_eq(&rt, &ended, &Ok(()), &"the root");
+    let full = of_nodes(rt.alloc(), range(&rt, 0, 15), &nodes).expect(&rt, ENOUGH);
+    expect_eq(&rt, &listed(&full), &1, &"the whole space");
     let mut nodes = ReadNodes::new(rt.alloc());
     for depth in 0..52 {
         expect_eq(&rt, &begin(&mut nodes), &(depth < 50), &depth);

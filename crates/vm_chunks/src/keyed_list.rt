@@ -1,4 +1,4 @@
-//! A descending list of entries, in one chunk while they fit in it.
+//! A descending list of entries, in one chunk or in many.
 ghost use Rattle.std.specs.Prelude.{
   ◌≡◌,
   ℕ,
@@ -42,9 +42,9 @@ use std::marker::Model;
 /// Its model is the list of its entries.
 #[derive(Debug, Drop)]
 pub struct KeyedList<E: Entry> {
-    // All entries, if they are in one chunk.
+    // All entries, until they do not fit in one chunk.
     few: Option<Chunk<E>>,
-    // All entries otherwise.
+    // All entries otherwise, until there are none.
     many: Chunks<E>,
 }
 

@@ -1,9 +1,9 @@
 //! Lists of entries in descending order of their keys, in chunks of at most 64 entries, and sets of ids.
 //!
-//! A list is one chunk while its entries fit in it, which takes one allocation. Otherwise a call finds the chunk of a
-//! key by a list of bounds, and then the entry in the chunk. A change moves the entries of one chunk, and sometimes
-//! splits it or joins it with one next to it. The lowest entry is at the end of the last chunk, so removing it moves
-//! nothing.
+//! A list begins as one chunk, which takes one allocation. If that is full, the list is in many chunks until it is
+//! empty again. Then a call finds the chunk of a key by a list of bounds, and the entry in the chunk. A change moves
+//! the entries of one chunk, and sometimes splits it or joins it with one next to it. The lowest entry is at the end
+//! of the last chunk, so removing it moves nothing.
 //!
 //! # How a list is stated
 //!
@@ -19,10 +19,10 @@
 //! # What is proved
 //!
 //! - The exact result of each call, and the list after it. Keys are different and descend.
-//! - An error changes nothing, and only `insert`, `add` and `try_clone` have one. An insertion allocates before it
+//! - An error changes nothing, and only `insert` and `try_clone` of a list have one. An insertion allocates before it
 //!   changes an entry, because each chunk has memory for 64 entries.
 //! - An iterator returns each entry once, in order, from both ends.
-//! - The number of entries, which is stored.
+//! - The number of ids of a set, which is stored.
 //! - The list after a call is the map with the changed key (`EntriesAreByKey`).
 //! - A set has the ids that were added and not removed since (`Adds`, `Removes`), also if they are added as a run.
 //!   Removing an id allocates only if the ids next to it are in the set.

@@ -2,7 +2,8 @@
 //!
 //! They guard against lines that are split at the end of a read, and against replies that are written
 //! twice or not at all.
-ghost use Rattle.std.specs.Prelude.{◌≤◌, length};
+ghost use Rattle.std.specs.Prelude.{◌≤◌, length, OnOk};
+ghost use Rattle.vm_lines.specs.Runs.{AnswersInput};
 
 mod device_rows;
 mod rows;
@@ -172,11 +173,23 @@ struct Outcome {
     sink: Sink,
 }
 
+/// Answers all lines. It guards against a contract from which a caller cannot prove what was written.
+fn answer<R: Read, W: Write>(
+    alloc: Global,
+    reader: &mut R,
+    writer: &mut W,
+) -> Result<(), RunError>
+    ensures { OnOk result (AnswersInput
+        (R.remaining reader.old) (R.remaining reader.new) (W.contents writer.old) (W.contents writer.new)) }
+{
+    run(alloc, reader, writer)
+}
+
 /// Runs the input.
 fn run_on(alloc: Global, input: &[u8], longest: usize, bad_read: u64, fault: ErrorKind) -> Outcome {
     let mut reader = Pieces::new(input, longest, bad_read, fault);
     let mut sink = Sink::new(0, None);
-    let result = run(alloc, &mut reader, &mut sink);
+    let result = answer(alloc, &mut reader, &mut sink);
     Outcome {
         result,
         reads: reader.reads,

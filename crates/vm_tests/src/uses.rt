@@ -8,7 +8,10 @@ ghost use Rattle.vm_allocator.specs.Range.{address_count};
 ghost use Rattle.vm_allocator.specs.Allocator.{state_of};
 ghost use Rattle.vm_allocator.specs.Counts.Parts.{AllocatesInParts};
 ghost use Rattle.vm_allocator.specs.Ids.{IsHeld};
-ghost use Rattle.vm_devices.specs.Manager.{device_state};
+ghost use Rattle.vm_devices.specs.Devices.{MovesDevice};
+ghost use Rattle.vm_devices.specs.Manager.{device_state, made_manager};
+ghost use Rattle.vm_devices.specs.Queries.{DeviceAt};
+ghost use Rattle.vm_devices.specs.Saved.{EncodesManager, ReadsInParts};
 
 use crate::fixtures::{ENOUGH, expect_true, made, range};
 use crate::plugging::replugged;
@@ -69,6 +72,32 @@ fn plug(
     devices.reserve_with_id(alloc, IdRequest::Exact(id), request)
 }
 
+/// Returns the device that has an address.
+fn owner(devices: &DeviceManager, address: u64) -> Option<DeviceSlot>
+    ensures { DeviceAt (device_state devices.now) address result }
+{
+    devices.device_at(address)
+}
+
+/// Moves the range of a device.
+fn moved(
+    alloc: Global,
+    devices: &mut DeviceManager,
+    id: u32,
+    request: Constraint,
+) -> Result<RangeInclusive>
+    ensures { MovesDevice (device_state devices.old) id request result (device_state devices.new) }
+{
+    devices.move_constraint(alloc, id, request)
+}
+
+/// Reads a manager.
+fn devices_read(alloc: Global, value: &Value) -> std::result::Result<DeviceManager, ValueError>
+    ensures { ReadsInParts (EncodesManager (view value.now)) (made_manager result) }
+{
+    DeviceManager::from_value(alloc, value)
+}
+
 /// Parses the text of a value.
 fn parsed_again(alloc: Global, value: &Value) -> std::result::Result<Value, ValueError>
     ensures { IfOk result (λ again. depth (view value.now) ≤ max_depth → view again ≡ view value.now) }
@@ -121,7 +150,7 @@ fn devices_through_text(
     let Ok(saved) = devices.to_value(alloc) else {
         return Err(ValueError::OutOfMemory);
     };
-    DeviceManager::from_value(alloc, &parsed_again(alloc, &saved)?)
+    devices_read(alloc, &parsed_again(alloc, &saved)?)
 }
 
 /// Allocates two windows.
@@ -167,7 +196,9 @@ fn use_devices(rt: &(impl Abort + AllocGlobal)) {
     let mut devices = made.expect(rt, ENOUGH);
     let request = Constraint::new(0x1000, 1, AllocPolicy::FirstMatch).expect(rt, ENOUGH);
     let slot = plug(rt.alloc(), &mut devices, 7, request).expect(rt, ENOUGH);
-    expect_true(rt, slot.id == 7, &slot);
+    expect_true(rt, owner(&devices, 0xE000_0FFF) == Some(slot), &slot);
+    let stays = moved(rt.alloc(), &mut devices, 7, request);
+    expect_true(rt, stays == Ok(slot.range), &stays);
 }
 
 /// Clones iterators over the allocated ranges and the gaps.

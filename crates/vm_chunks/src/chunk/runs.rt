@@ -87,11 +87,12 @@ impl Chunk<Run> {
     {
         let at = self.entries.len().checked_sub(1)?;
         let Run { first, last } = self.entries[at];
+        let has_more = first < last;
         self.entries[at] = Run {
-            first: first.saturating_add(1),
+            first: first + u32::from(has_more),
             last,
         };
-        self.entries.truncate(at + usize::from(first < last));
+        self.entries.truncate(at + usize::from(has_more));
         Some(first)
     }
 }

@@ -84,13 +84,14 @@ impl DeviceTable {
         Some(slot.range)
     }
 
-    /// Returns an iterator over the devices, by ascending ids.
-    pub(super) fn iter(&self) -> Devices<'_>
+    /// Returns an iterator over the devices, which are `count`, by ascending ids.
+    pub(super) fn iter(&self, count: u64) -> Devices<'_>
+        requires { count ≡ map.len self.now }
         ensures { result ≡ map_list device_of (map.entries self.now) }
     {
         Devices {
             slots: self.slots.iter(),
-            left: self.slots.len(),
+            left: count as usize,
         }
     }
 

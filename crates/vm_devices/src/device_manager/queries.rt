@@ -17,7 +17,7 @@ impl DeviceManager {
     pub fn devices(&self) -> Devices<'_>
         ensures { result ≡ device_list (device_state self.now) }
     {
-        self.slots.iter()
+        self.slots.iter(self.device_count())
     }
 
     /// Returns the number of devices.

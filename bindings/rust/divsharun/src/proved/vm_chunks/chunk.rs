@@ -2,16 +2,15 @@
 
 //! A chunk: at most 64 entries, with memory for 64. Only creating it can fail.
 
-use crate::proved::vm_chunks::{place, place_from, Entry};
 use crate::rattle::Vec;
+mod runs;
+
+use crate::proved::vm_chunks::{place, place_from, Entry};
 use crate::rattle::{AllocError, Global};
+pub(in crate::proved) use runs::Added;
 
 /// The maximum number of entries of a chunk.
 pub(in crate::proved) const MAX_ENTRIES: usize = 64;
-
-mod adding;
-
-pub(in crate::proved) use adding::Added;
 
 /// The entries next to a key.
 #[derive(Clone, Copy)]
@@ -54,12 +53,6 @@ impl<E: Entry> Chunk<E> {
     /// Returns the number of entries.
     pub(in crate::proved) fn len(&self) -> usize {
         self.entries.len()
-    }
-
-    /// Returns the entry with the lowest key, if there is one.
-    pub(in crate::proved) fn lowest(&self) -> Option<E> {
-        let (entry, _) = self.entries.as_slice().split_last()?;
-        Some(*entry)
     }
 
     /// Returns the entry with the highest key, if there is one.
@@ -131,13 +124,6 @@ impl<E: Entry> Chunk<E> {
             }
         }
         None
-    }
-
-    /// Replaces the lowest entry if `keep` is true, and removes it otherwise. It does not allocate.
-    pub(in crate::proved) fn change_lowest(&mut self, entry: E, keep: bool) {
-        let at = self.entries.len() - 1;
-        self.entries[at] = entry;
-        self.entries.truncate(at + usize::from(keep));
     }
 
     /// Moves the entries from `at` on to a new chunk. An error changes nothing.

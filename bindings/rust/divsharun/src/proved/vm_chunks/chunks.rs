@@ -2,13 +2,13 @@
 
 //! A descending list of entries in chunks.
 
+use crate::rattle::Vec;
+mod runs;
+
 use crate::proved::vm_chunks::chunk::{Chunk, Gap, MAX_ENTRIES};
 use crate::proved::vm_chunks::iter::Iter;
 use crate::proved::vm_chunks::Entry;
-use crate::rattle::Vec;
 use crate::rattle::{AllocError, Global};
-
-mod adding;
 
 /// Entries in descending order of their keys, in chunks.
 ///
@@ -18,8 +18,6 @@ pub(in crate::proved) struct Chunks<E: Entry> {
     chunks: Vec<Chunk<E>>,
     // A bound for each chunk: its keys are from the bound on, and those of later chunks below. The last is 0.
     bounds: Vec<u64>,
-    // The number of entries.
-    count: usize,
 }
 
 /// Returns the number of bounds above a key.
@@ -127,11 +125,10 @@ impl<E: Entry> Chunks<E> {
         Chunks {
             chunks: Vec::new(alloc),
             bounds: Vec::new(alloc),
-            count: 0,
         }
     }
 
-    /// Creates a list of the entries of a chunk, with memory for two chunks.
+    /// Creates a list of the entries of a chunk, with memory for the places of two chunks.
     pub(in crate::proved) fn of(alloc: Global, chunk: &Chunk<E>) -> Result<Self, AllocError> {
         if chunk.highest_key().is_none() {
             return Ok(Chunks::new(alloc));
@@ -140,27 +137,14 @@ impl<E: Entry> Chunks<E> {
         let mut bounds = Vec::with_capacity(alloc, 2)?;
         chunks.push(chunk.try_clone(alloc)?)?;
         bounds.push(0)?;
-        Ok(Chunks {
-            chunks,
-            bounds,
-            count: chunk.len(),
-        })
+        Ok(Chunks { chunks, bounds })
     }
 
     /// Returns a copy. It allocates for each chunk.
     pub(in crate::proved) fn try_clone(&self, alloc: Global) -> Result<Self, AllocError> {
         let chunks = clone_chunks(alloc, self.chunks.as_slice())?;
         let bounds = self.bounds.clone()?;
-        Ok(Chunks {
-            chunks,
-            bounds,
-            count: self.count,
-        })
-    }
-
-    /// Returns the number of entries. It takes constant time.
-    pub(in crate::proved) fn len(&self) -> usize {
-        self.count
+        Ok(Chunks { chunks, bounds })
     }
 
     /// Returns the entry with this key, if there is one. It takes logarithmic time.
@@ -188,14 +172,6 @@ impl<E: Entry> Chunks<E> {
         self.bounds[at] = self.bounds[at].min(entry.key());
     }
 
-    /// Returns the entry with the lowest key, if there is one.
-    #[inline(always)]
-    pub(in crate::proved) fn lowest(&self) -> Option<E> {
-        let (chunk, _) = self.chunks.as_slice().split_last()?;
-        let (entry, _) = chunk.as_slice().split_last()?;
-        Some(*entry)
-    }
-
     /// Returns the entry with the highest key, if there is one.
     pub(in crate::proved) fn highest(&self) -> Option<E> {
         let (chunk, _) = self.chunks.as_slice().split_first()?;
@@ -205,15 +181,9 @@ impl<E: Entry> Chunks<E> {
 
     /// Inserts an entry with a new key into a list that is not empty. An error changes nothing.
     pub(in crate::proved) fn insert(&mut self, alloc: Global, entry: E) -> Result<(), AllocError> {
-        let Some(count) = self.count.checked_add(1) else {
-            // No memory has this many bounds, so this fails.
-            self.bounds.reserve(usize::MAX)?;
-            unreachable!()
-        };
         let at = make_room(alloc, &mut self.chunks, &mut self.bounds, entry.key())?;
         let chunk = &mut self.chunks[at];
         chunk.insert(entry);
-        self.count = count;
         Ok(())
     }
 
@@ -254,21 +224,7 @@ impl<E: Entry> Chunks<E> {
         }
         let chunk = &mut self.chunks[at];
         let entry = chunk.remove(key);
-        self.count -= usize::from(entry.is_some());
         mend(&mut self.chunks, &mut self.bounds, at);
         entry
-    }
-
-    /// Replaces the entry with the lowest key by one with the same key if `keep` is true, and removes it otherwise. It does
-    /// not allocate.
-    #[inline(always)]
-    pub(in crate::proved) fn change_lowest(&mut self, entry: E, keep: bool) {
-        let at = self.chunks.len() - 1;
-        let chunk = &mut self.chunks[at];
-        chunk.change_lowest(entry, keep);
-        self.count -= usize::from(!keep);
-        if chunk.len() == 0 {
-            mend(&mut self.chunks, &mut self.bounds, at);
-        }
     }
 }

@@ -102,14 +102,9 @@ impl IdSet {
     /// Removes and returns the lowest id. It does not allocate.
     #[inline(always)]
     pub(in crate::proved) fn pop_first(&mut self) -> Option<u32> {
-        let run = self.runs.lowest()?;
-        let rest = Run {
-            first: run.first.saturating_add(1),
-            last: run.last,
-        };
-        self.runs.change_lowest(rest, run.first < run.last);
+        let id = self.runs.pop()?;
         self.count -= 1;
-        Some(run.first)
+        Some(id)
     }
 
     /// Adds the ids from `first` to `last`, both included, which are above all ids of the set. An error changes nothing.

@@ -1,8 +1,8 @@
 // Written by bindings/erase from crates/vm_chunks/src/keyed_list.rt: do not edit.
 
-//! A descending list of entries, in one chunk while they fit in it.
+//! A descending list of entries, in one chunk or in many.
 
-mod adding;
+mod runs;
 
 use crate::proved::vm_chunks::chunk::{Chunk, Gap, MAX_ENTRIES};
 use crate::proved::vm_chunks::chunks::Chunks;
@@ -15,9 +15,9 @@ use crate::rattle::{AllocError, Global};
 /// Its model is the list of its entries.
 #[derive(Debug)]
 pub(in crate::proved) struct KeyedList<E: Entry> {
-    // All entries, if they are in one chunk.
+    // All entries, until they do not fit in one chunk.
     few: Option<Chunk<E>>,
-    // All entries otherwise.
+    // All entries otherwise, until there are none.
     many: Chunks<E>,
 }
 
@@ -32,20 +32,16 @@ impl<E: Entry> KeyedList<E> {
 
     /// Returns a copy. It allocates for each chunk.
     pub(in crate::proved) fn try_clone(&self, alloc: Global) -> Result<Self, AllocError> {
-        let few = match &self.few {
-            Some(chunk) => Some(chunk.try_clone(alloc)?),
-            None => None,
-        };
-        let many = self.many.try_clone(alloc)?;
-        Ok(KeyedList { few, many })
-    }
-
-    /// Returns the number of entries. It takes constant time.
-    pub(in crate::proved) fn len(&self) -> usize {
-        match &self.few {
-            Some(chunk) => chunk.len(),
-            None => self.many.len(),
-        }
+        Ok(match &self.few {
+            Some(chunk) => KeyedList {
+                few: Some(chunk.try_clone(alloc)?),
+                many: Chunks::new(alloc),
+            },
+            None => KeyedList {
+                few: None,
+                many: self.many.try_clone(alloc)?,
+            },
+        })
     }
 
     /// Returns the entry with this key, if there is one. It takes logarithmic time.
@@ -68,15 +64,6 @@ impl<E: Entry> KeyedList<E> {
     /// time.
     pub(in crate::proved) fn at_or_above(&self, key: u64) -> Option<E> {
         self.gap(key).above
-    }
-
-    /// Returns the entry with the lowest key, if there is one.
-    #[inline(always)]
-    pub(in crate::proved) fn lowest(&self) -> Option<E> {
-        match &self.few {
-            Some(chunk) => chunk.lowest(),
-            None => self.many.lowest(),
-        }
     }
 
     /// Returns the entry with the highest key, if there is one.
@@ -122,10 +109,11 @@ impl<E: Entry> KeyedList<E> {
                 self.few = None;
                 self.many = many;
             }
-            None if self.many.len() == 0 => {
+            None if self.many.highest().is_none() => {
                 let mut chunk = Chunk::new(alloc)?;
                 chunk.insert(entry);
                 self.few = Some(chunk);
+                self.many = Chunks::new(alloc);
             }
             None => self.many.insert(alloc, entry)?,
         }
@@ -137,16 +125,6 @@ impl<E: Entry> KeyedList<E> {
         match &mut self.few {
             Some(chunk) => chunk.remove(key),
             None => self.many.remove(key),
-        }
-    }
-
-    /// Replaces the entry with the lowest key by one with the same key if `keep` is true, and removes it otherwise. It does
-    /// not allocate.
-    #[inline(always)]
-    pub(in crate::proved) fn change_lowest(&mut self, entry: E, keep: bool) {
-        match &mut self.few {
-            Some(chunk) => chunk.change_lowest(entry, keep),
-            None => self.many.change_lowest(entry, keep),
         }
     }
 }

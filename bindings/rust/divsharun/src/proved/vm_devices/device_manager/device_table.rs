@@ -52,11 +52,11 @@ impl DeviceTable {
         Some(slot.range)
     }
 
-    /// Returns an iterator over the devices, by ascending ids.
-    pub(super) fn iter(&self) -> Devices<'_> {
+    /// Returns an iterator over the devices, which are `count`, by ascending ids.
+    pub(super) fn iter(&self, count: u64) -> Devices<'_> {
         Devices {
             slots: self.slots.iter(),
-            left: self.slots.len(),
+            left: count as usize,
         }
     }
 

@@ -14,7 +14,7 @@ impl DeviceManager {
     ///
     /// It does not allocate.
     pub fn devices(&self) -> Devices<'_> {
-        self.slots.iter()
+        self.slots.iter(self.device_count())
     }
 
     /// Returns the number of devices.

@@ -1,6 +1,6 @@
-// Written by bindings/erase from crates/vm_chunks/src/chunks/adding.rt: do not edit.
+// Written by bindings/erase from crates/vm_chunks/src/chunks/runs.rt: do not edit.
 
-//! An id is added to runs.
+//! The runs of ids of a list in chunks.
 
 use super::{bounds_above, mend, Chunks};
 use crate::proved::vm_chunks::chunk::Added;
@@ -12,7 +12,7 @@ impl Chunks<Run> {
     #[inline(always)]
     pub(in crate::proved) fn add_near(&mut self, id: u32) -> Option<bool> {
         let at = bounds_above(self.bounds.as_slice(), id.into());
-        if at >= self.chunks.len() || self.count == usize::MAX {
+        if at >= self.chunks.len() {
             return None;
         }
         let is_last = at + 1 == self.chunks.len();
@@ -20,13 +20,21 @@ impl Chunks<Run> {
         match chunk.add(id, at == 0, is_last) {
             Added::Known => return Some(false),
             Added::Elsewhere => return None,
-            Added::Grown => (),
-            Added::New => self.count += 1,
-            Added::Joined => {
-                self.count -= 1;
-                mend(&mut self.chunks, &mut self.bounds, at);
-            }
+            Added::New => (),
+            Added::Joined => mend(&mut self.chunks, &mut self.bounds, at),
         }
         Some(true)
+    }
+
+    /// Removes and returns the lowest id. It does not allocate.
+    #[inline(always)]
+    pub(in crate::proved) fn pop(&mut self) -> Option<u32> {
+        let at = self.chunks.len().checked_sub(1)?;
+        let chunk = &mut self.chunks[at];
+        let id = chunk.pop()?;
+        if chunk.len() == 0 {
+            mend(&mut self.chunks, &mut self.bounds, at);
+        }
+        Some(id)
     }
 }

@@ -1,28 +1,27 @@
-// Written by bindings/erase from crates/vm_chunks/src/chunk/adding.rt: do not edit.
+// Written by bindings/erase from crates/vm_chunks/src/chunk/runs.rt: do not edit.
 
-//! An id is added to the runs of one chunk.
+//! The runs of ids of one chunk.
 
 use super::{Chunk, MAX_ENTRIES};
 use crate::proved::vm_chunks::id_set::Run;
 use crate::proved::vm_chunks::place_from;
 
-/// The effect of an id on a chunk.
+/// The effect of adding an id to a chunk.
 #[derive(Clone, Copy)]
 pub(in crate::proved) enum Added {
     /// Nothing, because a run has the id.
     Known,
-    /// Nothing, because a run next to the id can be in another chunk, or the chunk is full.
+    /// Nothing, because another chunk can have a run next to the id, or this one is full.
     Elsewhere,
-    /// A run next to the id has it now.
-    Grown,
-    /// The id is a run.
+    /// A run has the id now.
     New,
-    /// The two runs next to the id are one.
+    /// The two runs next to the id are one, with the id.
     Joined,
 }
 
 impl Chunk<Run> {
-    /// Adds an id. `is_first` and `is_last` are `true` if no chunk is above this one, or below. It does not allocate.
+    /// Adds an id. `is_first` is `true` if no chunk is above this one, and `is_last` if none is below. It does not
+    /// allocate.
     #[inline(always)]
     pub(in crate::proved) fn add(&mut self, id: u32, is_first: bool, is_last: bool) -> Added {
         let runs = self.entries.as_slice();
@@ -43,12 +42,12 @@ impl Chunk<Run> {
                 return Added::Joined;
             }
             self.entries[at - 1] = Run { first: id, last };
-            return Added::Grown;
+            return Added::New;
         }
         if joins_below {
             let first = runs[at].first;
             self.entries[at] = Run { first, last: id };
-            return Added::Grown;
+            return Added::New;
         }
         if runs.len() >= MAX_ENTRIES {
             return Added::Elsewhere;
@@ -64,9 +63,23 @@ impl Chunk<Run> {
         };
         Added::New
     }
+
+    /// Removes and returns the lowest id. It does not allocate.
+    #[inline(always)]
+    pub(in crate::proved) fn pop(&mut self) -> Option<u32> {
+        let at = self.entries.len().checked_sub(1)?;
+        let Run { first, last } = self.entries[at];
+        let has_more = first < last;
+        self.entries[at] = Run {
+            first: first + u32::from(has_more),
+            last,
+        };
+        self.entries.truncate(at + usize::from(has_more));
+        Some(first)
+    }
 }
 
-/// Returns `true` if no run next to the ids at a place is in another chunk.
+/// Returns `true` if the chunk shows both runs next to the ids at a place.
 fn has_next(runs: &[Run], at: usize, is_first: bool, is_last: bool) -> bool {
     (at > 0 || is_first) && (at != runs.len() || is_last)
 }
@@ -76,7 +89,7 @@ fn has_id(runs: &[Run], at: usize, id: u32) -> bool {
     at > 0 && runs[at - 1].first <= id
 }
 
-/// Returns `true` if the run above begins right above the id.
+/// Returns `true` if the run above begins right above the id, which it does not have.
 fn joins_above(runs: &[Run], at: usize, id: u32) -> bool {
     at > 0 && runs[at - 1].first - 1 == id
 }

@@ -1,6 +1,6 @@
-// Written by bindings/erase from crates/vm_chunks/src/keyed_list/adding.rt: do not edit.
+// Written by bindings/erase from crates/vm_chunks/src/keyed_list/runs.rt: do not edit.
 
-//! An id is added to runs.
+//! The runs of ids of a list.
 
 use super::KeyedList;
 use crate::proved::vm_chunks::chunk::Added;
@@ -10,10 +10,23 @@ use crate::rattle::{AllocError, Global};
 impl KeyedList<Run> {
     /// Adds an id, and returns `true`. Returns `false` if a run has it already. An error changes nothing.
     #[inline(always)]
-    pub(in crate::proved) fn add(&mut self, alloc: Global, id: u32) -> Result<bool, AllocError> {
+    pub(in crate::proved::vm_chunks) fn add(
+        &mut self,
+        alloc: Global,
+        id: u32,
+    ) -> Result<bool, AllocError> {
         match self.add_near(id) {
             Some(is_new) => Ok(is_new),
             None => self.add_searched(alloc, id),
+        }
+    }
+
+    /// Removes and returns the lowest id. It does not allocate.
+    #[inline(always)]
+    pub(in crate::proved::vm_chunks) fn pop(&mut self) -> Option<u32> {
+        match &mut self.few {
+            Some(chunk) => chunk.pop(),
+            None => self.many.pop(),
         }
     }
 
@@ -32,6 +45,7 @@ impl KeyedList<Run> {
     }
 
     /// Adds an id like `add`, with a search for each run that changes. An error changes nothing.
+    #[inline(never)]
     fn add_searched(&mut self, alloc: Global, id: u32) -> Result<bool, AllocError> {
         let gap = self.gap(id.into());
         let Some(run) = joined(gap.above, gap.below, id) else {
