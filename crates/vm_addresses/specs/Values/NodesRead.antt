@@ -96,6 +96,20 @@ pub record Stored : Type 0 where
   pub children : Children
   pub outer : List Children
 
+-- The children of the last of these nodes, or those of no node if there is none.
+abbrev pub innermost : Children → List Children → Children
+innermost root [] = root
+innermost root (c ∷ nested) = innermost c nested
+
+-- The children of the nodes that it is nested in.
+abbrev pub around : Children → List Children → List Children
+around root [] = []
+around root (c ∷ nested) = root ∷ around c nested
+
+-- The values of a reader with the children of no node, and of the nodes that began and did not end.
+abbrev pub stored_in : List Range → Children → List Children → Stored
+stored_in held root nested = record { held = held; children = innermost root nested; outer = around root nested }
+
 -- A reader that has read these nodes stores these values.
 pub record IsStoredFor (stored : Stored) (nodes : NodesRead) : Type 0 where
   pub children : StandForBoth stored.children nodes.children
