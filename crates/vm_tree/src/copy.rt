@@ -55,10 +55,7 @@ pub(crate) fn copy(tree: &Link, alloc: Global) -> Result<Link, AllocError>
 fn append_leaf(leaf: &Leaf, list: &mut Vec<Block>) -> Result<(), AllocError>
     ensures { IfOk result (λ _. list.new.items ≡ list.old.items ++ leaf.now) }
 {
-    for block in leaf.part(0, leaf.len()) {
-        list.push(block)?;
-    }
-    Ok(())
+    leaf.part(0, leaf.len()).append_to(list)
 }
 
 /// Appends the blocks of a tree to a list, or returns an error if an allocation fails.

@@ -2,6 +2,9 @@
 use Rattle.std.proofs.Common.{
   ◌≡◌,
   ℕ,
+  zero,
+  suc,
+  ◌+◌,
   ◌≤◌,
   ◌<◌,
   ◌⊎◌,
@@ -14,6 +17,8 @@ use Rattle.std.proofs.Common.{
   ◌∷◌,
   ◌++◌,
   length,
+  get_or,
+  set,
   is_some,
   Option,
   Some,
@@ -63,6 +68,9 @@ use Rattle.vm_addresses.specs.Values.NodesRead.{
   EndsStored,
   child_span,
   with_span,
+  innermost,
+  around,
+  stored_in,
 }
 use Rattle.vm_addresses.specs.Checks.Spans.{StandsFor, span_of, span_over, held_in}
 use Rattle.vm_addresses.specs.declared.saved.nodes.Children.{Children}
@@ -114,6 +122,56 @@ keys_join : (cs : List ReadChildren) (c : ReadChildren) → all_keys (cs ++ c �
 keys_join [] c = append-nil (keys_of c)
 keys_join (d ∷ cs) c = ap (λ (v : List Range). keys_of d ++ v) (keys_join cs c) ∙ sym (append_assoc (keys_of d) (all_keys cs) (keys_of c))
 
+-- ---- The innermost node
+
+pub innermost_push : (root c : Children) (nested : List Children) → innermost root (nested ++ c ∷ []) ≡ c
+innermost_push root c [] = refl
+innermost_push root c (x ∷ nested) = innermost_push x c nested
+
+pub around_push : (root c : Children) (nested : List Children) → around root (nested ++ c ∷ []) ≡ root ∷ nested
+around_push root c [] = refl
+around_push root c (x ∷ nested) = ap (λ (v : List Children). root ∷ v) (around_push x c nested)
+
+pub levels : (root : Children) (nested : List Children) → around root nested ++ innermost root nested ∷ [] ≡ root ∷ nested
+levels root [] = refl
+levels root (c ∷ nested) = ap (λ (v : List Children). root ∷ v) (levels c nested)
+
+pub depth : (root : Children) (nested : List Children) → length (around root nested) ≡ length nested
+depth root [] = refl
+depth root (c ∷ nested) = let e = depth c nested in omega arith
+
+-- The values after a node began.
+abbrev childless_spans : Children
+childless_spans = record { left = None; right = None }
+
+opened : (held : List Range) (root : Children) (nested more : List Children) → more ≡ nested ++ childless_spans ∷ [] →
+    record { held = held; children = childless_spans; outer = around root nested ++ innermost root nested ∷ [] } ≡ stored_in held root more
+opened held root nested more e = rw (e, levels root nested, innermost_push root childless_spans nested, around_push root childless_spans nested) refl
+
+-- The last node has the last index.
+pub last_is : (root c : Children) (nested : List Children) (i : ℕ) → i + 1 ≡ length nested → innermost root nested ≡ get_or nested i c
+last_is root c [] i e = absurd (omega arith)
+last_is root c (x ∷ []) zero e = refl
+last_is root c (x ∷ []) (suc i) e = absurd (omega arith)
+last_is root c (x ∷ y ∷ nested) zero e = absurd (omega arith)
+last_is root c (x ∷ y ∷ nested) (suc i) e = last_is x c (y ∷ nested) i (omega arith)
+
+-- The last node is replaced.
+pub set_last : (root c : Children) (nested : List Children) (i : ℕ) → i + 1 ≡ length nested → innermost root (set nested i c) ≡ c
+set_last root c [] i e = absurd (omega arith)
+set_last root c (x ∷ []) zero e = refl
+set_last root c (x ∷ []) (suc i) e = absurd (omega arith)
+set_last root c (x ∷ y ∷ nested) zero e = absurd (omega arith)
+set_last root c (x ∷ y ∷ nested) (suc i) e = set_last x c (y ∷ nested) i (omega arith)
+
+pub set_others : (root c : Children) (nested : List Children) (i : ℕ) → i + 1 ≡ length nested →
+    around root (set nested i c) ≡ around root nested
+set_others root c [] i e = absurd (omega arith)
+set_others root c (x ∷ []) zero e = refl
+set_others root c (x ∷ []) (suc i) e = absurd (omega arith)
+set_others root c (x ∷ y ∷ nested) zero e = absurd (omega arith)
+set_others root c (x ∷ y ∷ nested) (suc i) e = ap (λ (v : List Children). root ∷ v) (set_others x c (y ∷ nested) i (omega arith))
+
 -- ---- A child that did not end
 
 is_absent : (o : Option Span) (t : Saved) → StandsFor o t → is_some o ≡ false → t ≡ Absent
@@ -139,15 +197,11 @@ stands_with Right s c span t h own = record { left = h.left; right = own }
 childless_stands : StandForBoth (record { left = None; right = None }) childless
 childless_stands = record { left = record { is_span = refl; ranges = tt }; right = record { is_span = refl; ranges = tt } }
 
-pub starts : (held : List Range) (outer : List Children) → held ≡ [] → outer ≡ [] →
-    IsStoredFor (record { held = held; children = record { left = None; right = None }; outer = outer }) nothing_read
-starts held outer e f = record {
-  children = childless_stands;
-  outer = subst (λ (v : List Children). StandForAll v []) (sym f) tt;
-  keys = e;
-}
+pub starts : (held : List Range) (nested : List Children) → held ≡ [] → nested ≡ [] →
+    IsStoredFor (stored_in held (record { left = None; right = None }) nested) nothing_read
+starts held nested e f = rw f (record { children = childless_stands; outer = tt; keys = e })
 
-pub begins : (held : List Range) (children : Children) (outer : List Children) (nodes : NodesRead) →
+begins : (held : List Range) (children : Children) (outer : List Children) (nodes : NodesRead) →
     IsStoredFor (record { held = held; children = children; outer = outer }) nodes →
     IsStoredFor (record { held = held; children = record { left = None; right = None }; outer = outer ++ children ∷ [] }) (begun nodes)
 begins held children outer nodes h = record {
@@ -168,20 +222,20 @@ is_ok old failed stored e none = ap (λ (f : Option SavedError). stored_unless f
 abbrev Refuses : ℕ → SavedError → Type 0
 Refuses depth e = ((e ≡ Violated Nesting) × (MAX_NESTING_REPAIRED ≤ depth)) ⊎ ((e ≡ OutOfMemory) × (depth < MAX_NESTING_REPAIRED))
 
-pub begin_fails : (old : Result Stored SavedError) (failed : Option SavedError) (held : List Range) (children : Children)
+fails_begin : (old : Result Stored SavedError) (failed : Option SavedError) (held : List Range) (children : Children)
     (outer : List Children) (e : SavedError) →
     stored_unless failed (record { held = held; children = children; outer = outer }) ≡ old → failed ≡ None → Refuses (length outer) e →
     BeginsNode old (Err e) (Err e)
-begin_fails old failed held children outer e is none r =
+fails_begin old failed held children outer e is none r =
     subst (λ (v : Result Stored SavedError). BeginsNode v (Err e) (Err e)) (is_ok old failed _ is none)
     (λ nodes stored. (refl, subst (λ (n : ℕ). Refuses n e) (depth_is _ nodes stored) r))
 
-pub begin_ends : (old : Result Stored SavedError) (failed : Option SavedError) (held : List Range) (children : Children)
+ends_begin : (old : Result Stored SavedError) (failed : Option SavedError) (held : List Range) (children : Children)
     (outer more : List Children) →
     stored_unless failed (record { held = held; children = children; outer = outer }) ≡ old → failed ≡ None →
     (length outer < MAX_NESTING_REPAIRED) × (more ≡ outer ++ children ∷ []) →
     BeginsNode old (Ok tt) (stored_unless failed (record { held = held; children = record { left = None; right = None }; outer = more }))
-begin_ends old failed held children outer more is none n =
+ends_begin old failed held children outer more is none n =
     let new : Stored = record { held = held; children = record { left = None; right = None }; outer = outer ++ children ∷ [] } in
     let same : Ok new ≡ stored_unless failed (record { held = held; children = record { left = None; right = None }; outer = more }) = rw
     (n.1, none) refl in
@@ -193,14 +247,37 @@ begin_ends old failed held children outer more is none n =
       subst (λ (v : Result Stored SavedError). HasRead v (begun nodes)) same (begins held children outer nodes stored),
     ))
 
-pub reader_begins : (failed : Option SavedError) (held : List Range) (children : Children) (outer more : List Children) →
+begins_reader : (failed : Option SavedError) (held : List Range) (children : Children) (outer more : List Children) →
     IsReader (stored_unless failed (record { held = held; children = children; outer = outer })) → failed ≡ None →
     (length outer < MAX_NESTING_REPAIRED) × (more ≡ outer ++ children ∷ []) →
     IsReader (stored_unless failed (record { held = held; children = record { left = None; right = None }; outer = more }))
-reader_begins failed held children outer more reader none n =
+begins_reader failed held children outer more reader none n =
     let read = subst (λ (f : Option SavedError). IsReader (stored_unless f (record { held = held; children = children; outer = outer })))
     none reader in
     rw (n.1, none) (begun read.0, begins held children outer read.0 read.1)
+
+-- The same, for the fields of a reader.
+module _ (old : Result Stored SavedError) (failed : Option SavedError) (held : List Range) (root : Children) (nested : List Children)
+    (is : stored_unless failed (stored_in held root nested) ≡ old) (none : failed ≡ None) where
+  pub begin_fails : (e : SavedError) → Refuses (length nested) e → BeginsNode old (Err e) (Err e)
+  begin_fails e r = fails_begin old failed held (innermost root nested) (around root nested) e is none
+      (subst (λ (n : ℕ). Refuses n e) (sym (depth root nested)) r)
+
+  pub begin_ends : (more : List Children) → (length nested < MAX_NESTING_REPAIRED) × (more ≡ nested ++ childless_spans ∷ []) →
+      BeginsNode old (Ok tt) (stored_unless failed (stored_in held root more))
+  begin_ends more n =
+      subst (λ (v : Stored). BeginsNode old (Ok tt) (stored_unless failed v)) (opened held root nested more n.1)
+      (ends_begin old failed held (innermost root nested) (around root nested) _ is none
+      (subst (λ (k : ℕ). k < MAX_NESTING_REPAIRED) (sym (depth root nested)) n.0, refl))
+
+pub reader_begins : (failed : Option SavedError) (held : List Range) (root : Children) (nested more : List Children) →
+    IsReader (stored_unless failed (stored_in held root nested)) → failed ≡ None →
+    (length nested < MAX_NESTING_REPAIRED) × (more ≡ nested ++ childless_spans ∷ []) →
+    IsReader (stored_unless failed (stored_in held root more))
+reader_begins failed held root nested more reader none n =
+    subst (λ (v : Stored). IsReader (stored_unless failed v)) (opened held root nested more n.1)
+    (begins_reader failed held (innermost root nested) (around root nested) _ reader none
+    (subst (λ (k : ℕ). k < MAX_NESTING_REPAIRED) (sym (depth root nested)) n.0, refl))
 
 -- ---- Ending
 
@@ -338,6 +415,31 @@ module _ (side : Side) (b : Block) (h : ℕ) (held : List Range) (children paren
               keys = moved ∙ placed side before l.parent t (can nodes stored).is_new;
             },
           )
+
+-- The same, for the fields of a reader. The innermost node is cut off.
+module _ (side : Side) (b : Block) (h : ℕ) (held : List Range) (root children : Children) (nested outer : List Children)
+    (is_last : nested ≡ outer ++ children ∷ []) where
+  innermost_is : record { held = held; children = children; outer = root ∷ outer } ≡ stored_in held root nested
+  innermost_is = rw (is_last, innermost_push root children outer, around_push root children outer) refl
+
+  pub fails_with : (e : SavedError) →
+      ((nodes : NodesRead) → IsStoredFor (record { held = held; children = children; outer = root ∷ outer }) nodes →
+      EndFails side (node_of nodes b h) nodes e) →
+      (nodes : NodesRead) → IsStoredFor (stored_in held root nested) nodes → EndFails side (node_of nodes b h) nodes e
+  fails_with e f = subst (λ (v : Stored). (nodes : NodesRead) → IsStoredFor v nodes → EndFails side (node_of nodes b h) nodes e)
+      innermost_is f
+
+  pub ends_with : (new : Stored) →
+      EndsStored side b h (record { held = held; children = children; outer = root ∷ outer }) (Ok tt) new →
+      EndsStored side b h (stored_in held root nested) (Ok tt) new
+  ends_with new e = subst (λ (v : Stored). EndsStored side b h v (Ok tt) new) innermost_is e
+
+-- The new values are those of the fields of a reader.
+pub stored_as : (side : Side) (b : Block) (h : ℕ) (old : Stored) (held : List Range) (root : Children) (nested : List Children)
+    (outer written : List Children) → (written ≡ nested) → around root nested ≡ outer →
+    EndsStored side b h old (Ok tt) (record { held = held; children = innermost root nested; outer = outer }) →
+    EndsStored side b h old (Ok tt) (stored_in held root written)
+stored_as side b h old held root nested outer written e f ends = rw (e, f) ends
 
 -- ---- The calls of a reader
 

@@ -1,6 +1,7 @@
 -- Allocators of the nodes that a reader has read.
 use Rattle.std.proofs.Common.{◌≡◌, List, [], ◌∷◌, ◌++◌, Option, Some, None, Result, Ok, Err, refl, sym, ap, ◌∙◌, subst}
 use Rattle.std.proofs.lemmas.List.{append-nil}
+use Rattle.vm_ranges.specs.Range.{Range}
 use Rattle.vm_ranges.specs.Saving.{ReadsParts}
 use Rattle.vm_ranges.specs.declared.saved.Condition.{Condition}
 use Rattle.vm_ranges.specs.declared.saved.SavedError.{SavedError}
@@ -16,7 +17,10 @@ use Rattle.vm_addresses.specs.Values.NodesRead.{
   all_keys,
   Stored,
   IsStoredFor,
+  stored_in,
   stored_unless,
+  around,
+  innermost,
   IsReader,
   IsWholeTree,
   MakesOfNodes,
@@ -86,10 +90,10 @@ whole_read States condition nodes t (Err saved.OutOfMemory) e h = (h.0, (t, e, h
 
 -- ---- The result of a reader
 -- The nodes of a reader are one whole tree, with the keys that are stored.
-pub whole_in : (failed : Option SavedError) (stored : Stored) (outer : List Children) → IsReader (stored_unless failed stored) →
+whole_of : (failed : Option SavedError) (stored : Stored) (outer : List Children) → IsReader (stored_unless failed stored) →
     failed ≡ None → outer ≡ stored.outer → (outer ≡ []) × (stored.children.right ≡ None) →
     (t : Saved) × StandsFor stored.children.left t × (stored.held ≡ held_keys t)
-whole_in failed stored outer reader none e w =
+whole_of failed stored outer reader none e w =
     let read = subst (λ (f : Option SavedError). IsReader (stored_unless f stored)) none reader in
     (read.0.children.left, read.1.children.left, whole_keys stored read.0 read.1 (sym e ∙ w.0) w.1)
 
@@ -104,18 +108,50 @@ module _ (States : Saved → AddressState → Type 0) (condition : Condition) (v
       subst (λ (v : Result Stored SavedError). MakesOfNodes States condition v answer) ok
       (subst (λ (f : Option SavedError). IsReader (stored_unless f stored)) none reader, reads)
 
-  pub makes_none : (outer : List Children) → outer ≡ stored.outer → ¬ ((outer ≡ []) × (stored.children.right ≡ None)) →
+  no_whole : (outer : List Children) → outer ≡ stored.outer → ¬ ((outer ≡ []) × (stored.children.right ≡ None)) →
       MakesOfNodes States condition value (Err (saved.Violated condition))
-  makes_none outer e absent = makes (Err (saved.Violated condition)) (λ nodes s. (
+  no_whole outer e absent = makes (Err (saved.Violated condition)) (λ nodes s. (
     refl,
     λ (x : (state : AddressState) × IsWholeTree States nodes state). not_whole stored nodes s (λ w. absent (e ∙ w.0, w.1)) x.1.0 x.1.1,
   ))
 
-  pub makes_whole : (outer : List Children) (answer : Result AddressState SavedError) → outer ≡ stored.outer →
+  one_whole : (outer : List Children) (answer : Result AddressState SavedError) → outer ≡ stored.outer →
       (outer ≡ []) × (stored.children.right ≡ None) →
       ((t : Saved) → StandsFor stored.children.left t → stored.held ≡ held_keys t → ReadsParts (States t) condition answer) →
       MakesOfNodes States condition value answer
-  makes_whole outer answer e w reads = makes answer (λ nodes s.
+  one_whole outer answer e w reads = makes answer (λ nodes s.
       let is_outer = sym e ∙ w.0 in
       whole_read States condition nodes nodes.children.left answer (is_whole stored nodes s is_outer w.1)
       (reads nodes.children.left s.children.left (whole_keys stored nodes s is_outer w.1)))
+
+-- The same, for the fields of a reader.
+none_around : (root : Children) (nested : List Children) → around root nested ≡ [] → nested ≡ []
+none_around root [] e = refl
+none_around root (c ∷ nested) e = absurd (cc e)
+
+pub whole_in : (failed : Option SavedError) (held : List Range) (root : Children) (nested seen : List Children) →
+    IsReader (stored_unless failed (stored_in held root nested)) → failed ≡ None → seen ≡ nested → (seen ≡ []) × (root.right ≡ None) →
+    (t : Saved) × StandsFor root.left t × (held ≡ held_keys t)
+whole_in failed held root nested seen reader none e w =
+    whole_of failed (stored_in held root []) []
+    (subst (λ (v : List Children). IsReader (stored_unless failed (stored_in held root v))) (sym e ∙ w.0) reader) none refl (refl, w.1)
+
+module _ (States : Saved → AddressState → Type 0) (condition : Condition) (value : Result Stored SavedError) (failed : Option SavedError)
+    (held : List Range) (root : Children) (nested : List Children) (is : stored_unless failed (stored_in held root nested) ≡ value)
+    (none : failed ≡ None) (reader : IsReader (stored_unless failed (stored_in held root nested))) (seen : List Children)
+    (e : seen ≡ nested) where
+  pub makes_none : ¬ ((seen ≡ []) × (root.right ≡ None)) → MakesOfNodes States condition value (Err (saved.Violated condition))
+  makes_none absent =
+      no_whole States condition value failed (stored_in held root nested) is none reader (around root nested) refl
+      (λ w.
+      let empty = none_around root nested w.0 in
+      absent (e ∙ empty, subst (λ (v : List Children). (innermost root v).right ≡ None) empty w.1))
+
+  pub makes_whole : (answer : Result AddressState SavedError) → (seen ≡ []) × (root.right ≡ None) →
+      ((t : Saved) → StandsFor root.left t → held ≡ held_keys t → ReadsParts (States t) condition answer) →
+      MakesOfNodes States condition value answer
+  makes_whole answer w reads =
+      let empty = sym e ∙ w.0 in
+      one_whole States condition value failed (stored_in held root [])
+      (subst (λ (v : List Children). stored_unless failed (stored_in held root v) ≡ value) empty is) none
+      (subst (λ (v : List Children). IsReader (stored_unless failed (stored_in held root v))) empty reader) [] answer refl (refl, w.1) reads

@@ -96,6 +96,20 @@ pub record Stored : Type 0 where
   pub children : Children
   pub outer : List Children
 
+-- The last of `root` and these.
+abbrev pub innermost : Children → List Children → Children
+innermost root [] = root
+innermost root (c ∷ nested) = innermost c nested
+
+-- All of `root` and these but the last.
+abbrev pub around : Children → List Children → List Children
+around root [] = []
+around root (c ∷ nested) = root ∷ around c nested
+
+-- What a reader stores: `root` has the nodes that ended in no other one, and `nested` the children of each node that did not end.
+abbrev pub stored_in : List Range → Children → List Children → Stored
+stored_in held root nested = record { held = held; children = innermost root nested; outer = around root nested }
+
 -- A reader that has read these nodes stores these values.
 pub record IsStoredFor (stored : Stored) (nodes : NodesRead) : Type 0 where
   pub children : StandForBoth stored.children nodes.children

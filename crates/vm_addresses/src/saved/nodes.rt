@@ -9,7 +9,7 @@ ghost use Rattle.vm_addresses.specs.Address.{IsAddressState};
 ghost use Rattle.vm_addresses.specs.Tree.Blocks.{range_if_held};
 ghost use Rattle.vm_addresses.specs.Allocator.{state_of, made_state};
 ghost use Rattle.vm_addresses.specs.Values.KeyValues.{MAX_NESTING_REPAIRED};
-ghost use Rattle.vm_addresses.specs.Values.NodesRead.{BeginsNode, EndsNode, EndsStored, HasRead, MakesOfNodes, child_span, nothing_read, with_span};
+ghost use Rattle.vm_addresses.specs.Values.NodesRead.{BeginsNode, EndsNode, EndsStored, HasRead, MakesOfNodes, around, child_span, innermost, nothing_read, stored_in, with_span};
 ghost use Rattle.vm_addresses.specs.Values.SavedTrees.{HasHeldKeys, HasTreeOf};
 ghost use Rattle.vm_ranges.specs.declared.saved.Condition.TheVariants.{Inside, Nesting, Tree};
 ghost use Rattle.vm_ranges.specs.declared.saved.SavedError.TheVariants.{OutOfMemory, Violated};
@@ -48,23 +48,22 @@ pub struct ReadNodes {
     failed: Option<SavedError>,
     // The allocated keys of all nodes that ended. Those of a node are in ascending order.
     held: Vec<RangeInclusive>,
-    // The children of the node that began last and did not end. If there is none, the left one is the root.
-    children: Children,
-    // The children of the nodes that it is nested in, the outermost first.
-    outer: Vec<Children>,
+    // The nodes that ended in no other one. The left one is the root.
+    root: Children,
+    // The children of the nodes that began and did not end, the outermost first.
+    nested: Vec<Children>,
 }
 
 impl Model for ReadNodes {
     ghost use Rattle.std.specs.Prelude.{Result};
-    ghost use Rattle.vm_addresses.specs.Values.NodesRead.{Stored, stored_unless, IsReader};
+    ghost use Rattle.vm_addresses.specs.Values.NodesRead.{Stored, stored_in, stored_unless, IsReader};
     ghost use Rattle.vm_ranges.specs.declared.saved.SavedError.{SavedError};
 
     ghost Value = { Result Stored SavedError };
 
-    ghost view = { λ n. stored_unless n.failed (record { held = n.held.items; children = n.children; outer = n.outer.items }) };
+    ghost view = { λ n. stored_unless n.failed (stored_in n.held.items n.root n.nested.items) };
 
-    ghost invariant = { λ n. IsReader
-        (stored_unless n.failed (record { held = n.held.items; children = n.children; outer = n.outer.items })) };
+    ghost invariant = { λ n. IsReader (stored_unless n.failed (stored_in n.held.items n.root n.nested.items)) };
 }
 
 impl ReadNodes {
@@ -75,8 +74,8 @@ impl ReadNodes {
         ReadNodes {
             failed: None,
             held: Vec::new(alloc),
-            children: CHILDLESS,
-            outer: Vec::new(alloc),
+            root: CHILDLESS,
+            nested: Vec::new(alloc),
         }
     }
 
@@ -95,11 +94,10 @@ impl ReadNodes {
         if let Some(error) = self.failed {
             return Err(error);
         }
-        if let Err(error) = nest(&mut self.outer, self.children) {
+        if let Err(error) = nest(&mut self.nested) {
             self.failed = Some(error);
             return Err(error);
         }
-        self.children = CHILDLESS;
         Ok(())
     }
 
@@ -129,8 +127,8 @@ impl ReadNodes {
         if let Some(error) = self.failed {
             return Err(error);
         }
-        let (held, children, outer) = (&mut self.held, &mut self.children, &mut self.outer);
-        if let Err(error) = end_in(held, children, outer, side, key, state, height) {
+        let (held, root, nested) = (&mut self.held, &mut self.root, &mut self.nested);
+        if let Err(error) = end_in(held, root, nested, side, key, state, height) {
             self.failed = Some(error);
             return Err(error);
         }
@@ -138,38 +136,39 @@ impl ReadNodes {
     }
 }
 
-/// Adds the children of a node that is not the innermost one any more.
-fn nest(outer: &mut Vec<Children>, children: Children) -> std::result::Result<(), SavedError>
+/// Adds a node that began, without children.
+fn nest(nested: &mut Vec<Children>) -> std::result::Result<(), SavedError>
     ensures { MatchResult result
-        (λ _. (length outer.old.items < MAX_NESTING_REPAIRED) × (outer.new.items ≡ outer.old.items ++ children ∷ []))
-        (λ e. ((e ≡ Violated Nesting) × (MAX_NESTING_REPAIRED ≤ length outer.old.items))
-        ⊎ ((e ≡ OutOfMemory) × (length outer.old.items < MAX_NESTING_REPAIRED))) }
+        (λ _. (length nested.old.items < MAX_NESTING_REPAIRED) × (nested.new.items ≡ nested.old.items ++ record { left = None; right = None } ∷ []))
+        (λ e. ((e ≡ Violated Nesting) × (MAX_NESTING_REPAIRED ≤ length nested.old.items))
+        ⊎ ((e ≡ OutOfMemory) × (length nested.old.items < MAX_NESTING_REPAIRED))) }
 {
-    if outer.len() as u64 >= MAX_NESTING {
+    if nested.len() as u64 >= MAX_NESTING {
         return Err(SavedError::Violated(Condition::Nesting));
     }
-    outer.push(children)?;
+    nested.push(CHILDLESS)?;
     Ok(())
 }
 
-/// Ends the innermost node. Its children are replaced by those of the node that it is nested in.
+/// Ends the innermost node, as a child of the node that it is nested in.
 fn end_in(
     held: &mut Vec<RangeInclusive>,
-    children: &mut Children,
-    outer: &mut Vec<Children>,
+    root: &mut Children,
+    nested: &mut Vec<Children>,
     side: Side,
     key: RangeInclusive,
     state: NodeState,
     height: u64,
 ) -> std::result::Result<(), SavedError>
     ensures { EndsStored side (record { key = key; state = state }) height
-        (record { held = held.old.items; children = children.old; outer = outer.old.items }) result
-        (record { held = held.new.items; children = children.new; outer = outer.new.items }) }
+        (stored_in held.old.items root.old nested.old.items) result (stored_in held.new.items root.new nested.new.items) }
 {
-    let Some(parent) = outer.pop() else {
+    // The children are not moved out of the list, which would take longer.
+    let Some((children, outer)) = nested.split_last() else {
         return Err(SavedError::Violated(Condition::Tree));
     };
-    if has_child(&parent, side) {
+    let parent = innermost(root, outer);
+    if has_child(parent, side) {
         return Err(SavedError::Violated(Condition::Tree));
     }
     let Some(span) = span_over(&children.left, &key, state, &children.right, height) else {
@@ -177,8 +176,31 @@ fn end_in(
     };
     insert_key(held, held_in(&children.right), key, state)?;
     order_keys(held, held_in(&parent.right), held_in(&Some(span)));
-    *children = with_child(parent, side, span);
+    nested.pop();
+    set_innermost(root, nested, side, span);
     Ok(())
+}
+
+/// Returns the last of `root` and these.
+fn innermost<'a>(root: &'a Children, nested: &'a [Children]) -> &'a Children
+    ensures { result.now ≡ innermost root.now nested.now }
+{
+    match nested.last() {
+        None => root,
+        Some(children) => children,
+    }
+}
+
+/// Sets the child on a side of the last of `root` and these.
+fn set_innermost(root: &mut Children, nested: &mut [Children], side: Side, span: Span)
+    ensures last { innermost root.new nested.new ≡ with_span side span (innermost root.old nested.old) }
+    ensures others { around root.new nested.new ≡ around root.old nested.old }
+{
+    let count = nested.len();
+    if count == 0 {
+        return set_child(root, side, span);
+    }
+    set_child(&mut nested[count - 1], side, span)
 }
 
 /// Returns `true` if there is a child on this side.
@@ -191,19 +213,13 @@ fn has_child(children: &Children, side: Side) -> bool
     }
 }
 
-/// Returns the children with this one on a side.
-fn with_child(children: Children, side: Side, span: Span) -> Children
-    ensures { result ≡ with_span side span children }
+/// Sets the child on a side.
+fn set_child(children: &mut Children, side: Side, span: Span)
+    ensures { children.new ≡ with_span side span children.old }
 {
     match side {
-        Side::Left => Children {
-            left: Some(span),
-            right: children.right,
-        },
-        Side::Right => Children {
-            left: children.left,
-            right: Some(span),
-        },
+        Side::Left => children.left = Some(span),
+        Side::Right => children.right = Some(span),
     }
 }
 
@@ -270,7 +286,7 @@ impl AddressAllocator {
         if let Some(error) = nodes.failed {
             return Err(error);
         }
-        let Some(root) = root_of(&nodes.outer, &nodes.children) else {
+        let Some(root) = root_of(&nodes.nested, &nodes.root) else {
             return Err(SavedError::Violated(Condition::Tree));
         };
         if !is_tree_of(&space, &root) {
@@ -302,7 +318,7 @@ impl AddressAllocator {
         if let Some(error) = nodes.failed {
             return Err(error);
         }
-        let Some(root) = root_of(&nodes.outer, &nodes.children) else {
+        let Some(root) = root_of(&nodes.nested, &nodes.root) else {
             return Err(SavedError::Violated(Condition::Inside));
         };
         if !is_inside(&space, &root) {

@@ -51,10 +51,7 @@ pub(in crate::proved::vm_tree) fn copy(tree: &Link, alloc: Global) -> Result<Lin
 
 /// Appends the blocks of a leaf to a list, or returns an error if an allocation fails.
 fn append_leaf(leaf: &Leaf, list: &mut Vec<Block>) -> Result<(), AllocError> {
-    for block in leaf.part(0, leaf.len()) {
-        list.push(block)?;
-    }
-    Ok(())
+    leaf.part(0, leaf.len()).append_to(list)
 }
 
 /// Appends the blocks of a tree to a list, or returns an error if an allocation fails.

@@ -13,46 +13,46 @@ use Rattle.vm_addresses.proofs.address_allocator.AddressAllocator.from_nodes.Goa
 
 pub returns-in_default-root_of-clause-answer : goal.returns-in_default-root_of-clause-answer
 returns-in_default-root_of-clause-answer c =
-    makes_none (HasTreeOf c.args.space) Tree _ _ _ c.nodes.view_is c.in_default.is c.nodes.invariant _ c.deref.ensures.value
+    makes_none (HasTreeOf c.args.space) Tree _ _ _ _ _ c.nodes.view_is c.in_default.is c.nodes.invariant _ c.deref.ensures.value
     c.in_default-root_of.ensures
 
 pub returns-then-not-is_tree_of-clause-answer : goal.returns-then-not-is_tree_of-clause-answer
 returns-then-not-is_tree_of-clause-answer c =
     let whole = c.in-Some-root_of.ensures in
-    let is : is_tree_of c.args.space c.nodes.inside.children.left
+    let is : is_tree_of c.args.space c.nodes.inside.root.left
     ≡ false = ap (λ (o : Option Span). is_tree_of c.args.space o) (sym whole.2) ∙ sym c.is_tree_of.ensures ∙ c.if-not-is_tree_of.true in
-    makes_whole (HasTreeOf c.args.space) Tree _ _ _ c.nodes.view_is c.in_default.is c.nodes.invariant _ _ c.deref.ensures.value
+    makes_whole (HasTreeOf c.args.space) Tree _ _ _ _ _ c.nodes.view_is c.in_default.is c.nodes.invariant _ c.deref.ensures.value _
     (whole.0, whole.1)
-    (λ t s keys. (refl, strict_none c.args.space c.nodes.inside.children.left t s is))
+    (λ t s keys. (refl, strict_none c.args.space c.nodes.inside.root.left t s is))
 
 pub of_held-requires : goal.of_held-requires
 of_held-requires c =
     let whole = c.in-Some-root_of.ensures in
-    let is : is_tree_of c.args.space c.nodes.inside.children.left ≡ true = ap (λ (o : Option Span). is_tree_of c.args.space o) (sym whole.2)
+    let is : is_tree_of c.args.space c.nodes.inside.root.left ≡ true = ap (λ (o : Option Span). is_tree_of c.args.space o) (sym whole.2)
     ∙ sym c.is_tree_of.ensures ∙ c.if-not-is_tree_of.false in
     let range : IsRange c.args.space.start c.args.space.end = (omega arith, omega arith, λ e. omega (arith, e)) in
-    let w = whole_in _ _ _ c.nodes.invariant c.in_default.is c.deref.ensures.value (whole.0, whole.1) in
-    let x = strict_state c.args.space c.nodes.inside.children.left w.0 w.1 is in
+    let w = whole_in _ _ _ _ _ c.nodes.invariant c.in_default.is c.deref.ensures.value (whole.0, whole.1) in
+    let x = strict_state c.args.space c.nodes.inside.root.left w.0 w.1 is in
     can_hold_strict c.args.space w.0 x.0 _ range (c.deref-2.ensures.value ∙ w.2) x.1
 
 pub returns-in_err-of_held-clause-answer : goal.returns-in_err-of_held-clause-answer
 returns-in_err-of_held-clause-answer c =
     let whole = c.in-Some-root_of.ensures in
-    let is : is_tree_of c.args.space c.nodes.inside.children.left ≡ true = ap (λ (o : Option Span). is_tree_of c.args.space o) (sym whole.2)
+    let is : is_tree_of c.args.space c.nodes.inside.root.left ≡ true = ap (λ (o : Option Span). is_tree_of c.args.space o) (sym whole.2)
     ∙ sym c.is_tree_of.ensures ∙ c.if-not-is_tree_of.false in
     let range : IsRange c.args.space.start c.args.space.end = (omega arith, omega arith, λ e. omega (arith, e)) in
     let memory : c.from_residual.result ≡ Err OutOfMemory = search rules in
-    rw memory (makes_whole (HasTreeOf c.args.space) Tree _ _ _ c.nodes.view_is c.in_default.is c.nodes.invariant _ _ c.deref.ensures.value
+    rw memory (makes_whole (HasTreeOf c.args.space) Tree _ _ _ _ _ c.nodes.view_is c.in_default.is c.nodes.invariant _ c.deref.ensures.value _
     (whole.0, whole.1)
-    (λ t s keys. strict_state c.args.space c.nodes.inside.children.left t s is))
+    (λ t s keys. strict_state c.args.space c.nodes.inside.root.left t s is))
 
 pub returns-clause-answer : goal.returns-clause-answer
 returns-clause-answer c =
     let whole = c.in-Some-root_of.ensures in
-    let is : is_tree_of c.args.space c.nodes.inside.children.left ≡ true = ap (λ (o : Option Span). is_tree_of c.args.space o) (sym whole.2)
+    let is : is_tree_of c.args.space c.nodes.inside.root.left ≡ true = ap (λ (o : Option Span). is_tree_of c.args.space o) (sym whole.2)
     ∙ sym c.is_tree_of.ensures ∙ c.if-not-is_tree_of.false in
     let range : IsRange c.args.space.start c.args.space.end = (omega arith, omega arith, λ e. omega (arith, e)) in
-    makes_whole (HasTreeOf c.args.space) Tree _ _ _ c.nodes.view_is c.in_default.is c.nodes.invariant _ _ c.deref.ensures.value
+    makes_whole (HasTreeOf c.args.space) Tree _ _ _ _ _ c.nodes.view_is c.in_default.is c.nodes.invariant _ c.deref.ensures.value _
     (whole.0, whole.1)
-    (λ t s keys. strict_made c.args.space c.nodes.inside.children.left t _ (state_of c.in_ok-of_held.field-0) s is
+    (λ t s keys. strict_made c.args.space c.nodes.inside.root.left t _ (state_of c.in_ok-of_held.field-0) s is
     (c.deref-2.ensures.value ∙ keys) c.in_ok-of_held.ensures.made)

@@ -1,35 +1,78 @@
-use Rattle.std.proofs.Common.{◌≡◌, Some, Err, sym, ◌∙◌, rules}
+use Rattle.std.proofs.Common.{◌≡◌, [], ◌∷◌, ◌++◌, List, length, take, drop, Some, Err, true, false, is_some, sym, ◌∙◌, ap, rules, arith}
+use Rattle.std.proofs.lemmas.List.{take_at}
 use Rattle.vm_ranges.specs.declared.saved.SavedError.TheVariants.{OutOfMemory}
 use Rattle.vm_leaf.specs.declared.block.Block.{Block}
 use Rattle.vm_addresses.specs.Checks.Spans.{held_in}
-use Rattle.vm_addresses.proofs.SavedNodes.Stored.{InsertsKey, OrdersKeys, child_is_there, not_readable, no_memory, node_ends}
+use Rattle.vm_addresses.specs.Values.NodesRead.{around, child_span, innermost, with_span}
+use Rattle.vm_addresses.specs.declared.saved.nodes.Children.{Children}
+use Rattle.vm_addresses.proofs.SavedNodes.Stored.{InsertsKey, OrdersKeys, child_is_there, depth, ends_with, fails_with, levels, not_readable, no_memory, node_ends, stored_as}
 use Rattle.vm_addresses.proofs.saved.nodes.end_in.Goals as goal
 
 pub returns-then-has_child : goal.returns-then-has_child
 returns-then-has_child c =
-    child_is_there c.args.side (record { key = c.args.key; state = c.args.state }) c.args.height _ _ _ _ _ c.in-Some.ensures.items
-    (sym c.has_child.ensures ∙ c.if-has_child.true)
+    let b : Block = record { key = c.args.key; state = c.args.state } in
+    let parent : Children = innermost c.args.root.now c.in-Some.outer.now in
+    let there : is_some (child_span c.args.side parent) ≡ true = ap (λ (v : Children). is_some (child_span c.args.side v))
+    (sym c.innermost-parent.ensures) ∙ sym c.has_child.ensures ∙ c.if-has_child.true in
+    fails_with c.args.side b c.args.height _ c.args.root.now c.in-Some.children.now _ c.in-Some.outer.now
+    (sym c.deref.ensures.value ∙ c.in-Some.ensures.cases.0) _
+    (child_is_there c.args.side b c.args.height _ _ parent _ (around c.args.root.now c.in-Some.outer.now)
+    (sym (levels c.args.root.now c.in-Some.outer.now)) there)
 
 pub returns-in_default-span_over : goal.returns-in_default-span_over
 returns-in_default-span_over c =
-    not_readable c.args.side (record { key = c.args.key; state = c.args.state }) c.args.height _ _ _ _ _ c.in-Some.ensures.items
-    (sym c.has_child.ensures ∙ c.if-has_child.false) c.span_over.ensures.range
-    (sym c.span_over.ensures.span ∙ c.in_default-span_over.is)
+    let b : Block = record { key = c.args.key; state = c.args.state } in
+    let parent : Children = innermost c.args.root.now c.in-Some.outer.now in
+    let none : is_some (child_span c.args.side parent) ≡ false = ap (λ (v : Children). is_some (child_span c.args.side v))
+    (sym c.innermost-parent.ensures) ∙ sym c.has_child.ensures ∙ c.if-has_child.false in
+    fails_with c.args.side b c.args.height _ c.args.root.now c.in-Some.children.now _ c.in-Some.outer.now
+    (sym c.deref.ensures.value ∙ c.in-Some.ensures.cases.0) _
+    (not_readable c.args.side b c.args.height _ _ parent _ (around c.args.root.now c.in-Some.outer.now)
+    (sym (levels c.args.root.now c.in-Some.outer.now)) none c.span_over.ensures.range
+    (sym c.span_over.ensures.span ∙ c.in_default-span_over.is))
 
 pub returns-in_err-insert_key : goal.returns-in_err-insert_key
 returns-in_err-insert_key c =
     let is : c.from_residual.result ≡ Err OutOfMemory = search rules in
-    rw is (no_memory c.args.side (record { key = c.args.key; state = c.args.state }) c.args.height _ _ _ _ _ c.in-Some.ensures.items
-    (sym c.has_child.ensures ∙ c.if-has_child.false) c.span_over.ensures.range
-    c.in-Some-span_over.span (sym c.span_over.ensures.span ∙ c.in-Some-span_over.is))
+    let b : Block = record { key = c.args.key; state = c.args.state } in
+    let parent : Children = innermost c.args.root.now c.in-Some.outer.now in
+    let none : is_some (child_span c.args.side parent) ≡ false = ap (λ (v : Children). is_some (child_span c.args.side v))
+    (sym c.innermost-parent.ensures) ∙ sym c.has_child.ensures ∙ c.if-has_child.false in
+    rw is (fails_with c.args.side b c.args.height _ c.args.root.now c.in-Some.children.now _ c.in-Some.outer.now
+    (sym c.deref.ensures.value ∙ c.in-Some.ensures.cases.0) _
+    (no_memory c.args.side b c.args.height _ _ parent _ (around c.args.root.now c.in-Some.outer.now)
+    (sym (levels c.args.root.now c.in-Some.outer.now)) none c.span_over.ensures.range
+    c.in-Some-span_over.span (sym c.span_over.ensures.span ∙ c.in-Some-span_over.is)))
 
 pub returns : goal.returns
 returns c =
     let b : Block = record { key = c.args.key; state = c.args.state } in
-    let inserted : InsertsKey c.args.held.now.items (held_in c.args.children.now.right) b c.insert_key.new.held.items = rw
+    let root = c.args.root.now in
+    let outer = c.in-Some.outer.now in
+    let parent : Children = innermost root outer in
+    let cut : c.args.nested.now.items ≡ outer ++ c.in-Some.children.now ∷ [] = sym c.deref.ensures.value ∙ c.in-Some.ensures.cases.0 in
+    let none : is_some (child_span c.args.side parent) ≡ false = ap (λ (v : Children). is_some (child_span c.args.side v))
+    (sym c.innermost-parent.ensures) ∙ sym c.has_child.ensures ∙ c.if-has_child.false in
+    let inserted : InsertsKey c.args.held.now.items (held_in c.in-Some.children.now.right) b c.insert_key.new.held.items = rw
     (sym c.held_in.ensures) c.in_ok-insert_key.ensures in
-    let ordered : OrdersKeys c.insert_key.new.held.items (held_in c.in-Some.parent.right) (held_in (Some c.in-Some-span_over.span))
-    c.order_keys.new.held.items = rw (sym c.held_in-2.ensures, sym c.held_in-3.ensures) c.order_keys.ensures in
-    node_ends c.args.side b c.args.height _ _ _ _ _ c.in-Some.ensures.items (sym c.has_child.ensures ∙ c.if-has_child.false)
+    let ordered : OrdersKeys c.insert_key.new.held.items (held_in parent.right) (held_in (Some c.in-Some-span_over.span))
+    c.order_keys.new.held.items = rw (sym c.innermost-parent.ensures, sym c.held_in-2.ensures, sym c.held_in-3.ensures)
+    c.order_keys.ensures in
+    let shorter = c.in-Some.ensures.cases.1 in
+    let long = c.deref.ensures.len in
+    let left : c.deref_mut.result.now ≡ outer = c.deref_mut.ensures.value ∙ c.pop.ensures.rest ∙ ap (take _) cut
+    ∙ take_at outer (c.in-Some.children.now ∷ []) _ (omega arith) in
+    let last : innermost c.set_innermost.new.root c.set_innermost.new.nested ≡ with_span c.args.side c.in-Some-span_over.span parent =
+    c.set_innermost.ensures.last ∙ ap (λ (v : List Children). with_span c.args.side c.in-Some-span_over.span (innermost root v)) left in
+    let others : around c.set_innermost.new.root c.set_innermost.new.nested ≡ around root outer =
+    c.set_innermost.ensures.others ∙ ap (around root) left in
+    let long-new = depth c.set_innermost.new.root c.set_innermost.new.nested in
+    let long-left = depth root outer in
+    let same-long = ap length others in
+    let written = take_at c.set_innermost.new.nested (drop (length c.set_innermost.new.nested) c.pop.new.self.items) c.pop.new.self.len
+    (omega (arith, ap length left, c.deref_mut.ensures.len)) in
+    stored_as c.args.side b c.args.height _ _ _ _ _ _ written others
+    (ends_with c.args.side b c.args.height _ root c.in-Some.children.now _ outer cut _
+    (node_ends c.args.side b c.args.height _ _ parent _ (around root outer) (sym (levels root outer)) none
     c.span_over.ensures.range
-    c.in-Some-span_over.span (sym c.span_over.ensures.span ∙ c.in-Some-span_over.is) _ _ _ inserted ordered c.with_child.ensures
+    c.in-Some-span_over.span (sym c.span_over.ensures.span ∙ c.in-Some-span_over.is) _ _ _ inserted ordered last))

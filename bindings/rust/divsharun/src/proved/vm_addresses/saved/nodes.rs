@@ -38,10 +38,10 @@ pub struct ReadNodes {
     failed: Option<SavedError>,
     // The allocated keys of all nodes that ended. Those of a node are in ascending order.
     held: Vec<RangeInclusive>,
-    // The children of the node that began last and did not end. If there is none, the left one is the root.
-    children: Children,
-    // The children of the nodes that it is nested in, the outermost first.
-    outer: Vec<Children>,
+    // The nodes that ended in no other one. The left one is the root.
+    root: Children,
+    // The children of the nodes that began and did not end, the outermost first.
+    nested: Vec<Children>,
 }
 
 impl ReadNodes {
@@ -50,8 +50,8 @@ impl ReadNodes {
         ReadNodes {
             failed: None,
             held: Vec::new(alloc),
-            children: CHILDLESS,
-            outer: Vec::new(alloc),
+            root: CHILDLESS,
+            nested: Vec::new(alloc),
         }
     }
 
@@ -68,11 +68,10 @@ impl ReadNodes {
         if let Some(error) = self.failed {
             return Err(error);
         }
-        if let Err(error) = nest(&mut self.outer, self.children) {
+        if let Err(error) = nest(&mut self.nested) {
             self.failed = Some(error);
             return Err(error);
         }
-        self.children = CHILDLESS;
         Ok(())
     }
 
@@ -100,8 +99,8 @@ impl ReadNodes {
         if let Some(error) = self.failed {
             return Err(error);
         }
-        let (held, children, outer) = (&mut self.held, &mut self.children, &mut self.outer);
-        if let Err(error) = end_in(held, children, outer, side, key, state, height) {
+        let (held, root, nested) = (&mut self.held, &mut self.root, &mut self.nested);
+        if let Err(error) = end_in(held, root, nested, side, key, state, height) {
             self.failed = Some(error);
             return Err(error);
         }
@@ -109,29 +108,31 @@ impl ReadNodes {
     }
 }
 
-/// Adds the children of a node that is not the innermost one any more.
-fn nest(outer: &mut Vec<Children>, children: Children) -> core::result::Result<(), SavedError> {
-    if outer.len() as u64 >= MAX_NESTING {
+/// Adds a node that began, without children.
+fn nest(nested: &mut Vec<Children>) -> core::result::Result<(), SavedError> {
+    if nested.len() as u64 >= MAX_NESTING {
         return Err(SavedError::Violated(Condition::Nesting));
     }
-    outer.push(children)?;
+    nested.push(CHILDLESS)?;
     Ok(())
 }
 
-/// Ends the innermost node. Its children are replaced by those of the node that it is nested in.
+/// Ends the innermost node, as a child of the node that it is nested in.
 fn end_in(
     held: &mut Vec<RangeInclusive>,
-    children: &mut Children,
-    outer: &mut Vec<Children>,
+    root: &mut Children,
+    nested: &mut Vec<Children>,
     side: Side,
     key: RangeInclusive,
     state: NodeState,
     height: u64,
 ) -> core::result::Result<(), SavedError> {
-    let Some(parent) = outer.pop() else {
+    // The children are not moved out of the list, which would take longer.
+    let Some((children, outer)) = nested.split_last() else {
         return Err(SavedError::Violated(Condition::Tree));
     };
-    if has_child(&parent, side) {
+    let parent = innermost(root, outer);
+    if has_child(parent, side) {
         return Err(SavedError::Violated(Condition::Tree));
     }
     let Some(span) = span_over(&children.left, &key, state, &children.right, height) else {
@@ -139,8 +140,26 @@ fn end_in(
     };
     insert_key(held, held_in(&children.right), key, state)?;
     order_keys(held, held_in(&parent.right), held_in(&Some(span)));
-    *children = with_child(parent, side, span);
+    nested.pop();
+    set_innermost(root, nested, side, span);
     Ok(())
+}
+
+/// Returns the last of `root` and these.
+fn innermost<'a>(root: &'a Children, nested: &'a [Children]) -> &'a Children {
+    match nested.last() {
+        None => root,
+        Some(children) => children,
+    }
+}
+
+/// Sets the child on a side of the last of `root` and these.
+fn set_innermost(root: &mut Children, nested: &mut [Children], side: Side, span: Span) {
+    let count = nested.len();
+    if count == 0 {
+        return set_child(root, side, span);
+    }
+    set_child(&mut nested[count - 1], side, span)
 }
 
 /// Returns `true` if there is a child on this side.
@@ -151,17 +170,11 @@ fn has_child(children: &Children, side: Side) -> bool {
     }
 }
 
-/// Returns the children with this one on a side.
-fn with_child(children: Children, side: Side, span: Span) -> Children {
+/// Sets the child on a side.
+fn set_child(children: &mut Children, side: Side, span: Span) {
     match side {
-        Side::Left => Children {
-            left: Some(span),
-            right: children.right,
-        },
-        Side::Right => Children {
-            left: children.left,
-            right: Some(span),
-        },
+        Side::Left => children.left = Some(span),
+        Side::Right => children.right = Some(span),
     }
 }
 
@@ -214,7 +227,7 @@ impl AddressAllocator {
         if let Some(error) = nodes.failed {
             return Err(error);
         }
-        let Some(root) = root_of(&nodes.outer, &nodes.children) else {
+        let Some(root) = root_of(&nodes.nested, &nodes.root) else {
             return Err(SavedError::Violated(Condition::Tree));
         };
         if !is_tree_of(&space, &root) {
@@ -242,7 +255,7 @@ impl AddressAllocator {
         if let Some(error) = nodes.failed {
             return Err(error);
         }
-        let Some(root) = root_of(&nodes.outer, &nodes.children) else {
+        let Some(root) = root_of(&nodes.nested, &nodes.root) else {
             return Err(SavedError::Violated(Condition::Inside));
         };
         if !is_inside(&space, &root) {

@@ -5,6 +5,8 @@
 use super::{state_in, Leaf};
 use crate::proved::vm_leaf::block::Block;
 use crate::proved::vm_ranges::RangeInclusive;
+use crate::rattle::AllocError;
+use crate::rattle::Vec;
 
 /// An iterator over consecutive blocks of a leaf, from both ends.
 #[derive(Clone)]
@@ -24,6 +26,28 @@ fn end_of_first(starts: &[u64], end: u64) -> u64 {
         None => end,
         Some(next) => *next - 1,
     }
+}
+
+/// Appends the blocks with these starts to a list, or returns an error if an allocation fails. Each one ends before the
+/// next start, and the last one at `end`. The bits of `held` are their states.
+fn append_tiles(
+    mut start: u64,
+    others: &[u64],
+    end: u64,
+    mut held: u64,
+    list: &mut Vec<Block>,
+) -> Result<(), AllocError> {
+    for next in others {
+        let key = RangeInclusive::between(start, *next - 1);
+        let state = state_in(held, 0);
+        list.push(Block { key, state })?;
+        start = *next;
+        held >>= 1;
+    }
+    let key = RangeInclusive::between(start, end);
+    let state = state_in(held, 0);
+    list.push(Block { key, state })?;
+    Ok(())
 }
 
 impl Leaf {
@@ -48,6 +72,14 @@ impl<'a> Blocks<'a> {
             starts: &[],
             end: 0,
             held: 0,
+        }
+    }
+
+    /// Appends the blocks that are left to a list, or returns an error if an allocation fails.
+    pub(in crate::proved) fn append_to(&self, list: &mut Vec<Block>) -> Result<(), AllocError> {
+        match self.starts.split_first() {
+            None => Ok(()),
+            Some((first, others)) => append_tiles(*first, others, self.end, self.held, list),
         }
     }
 }

@@ -2,10 +2,10 @@ use Rattle.vm_addresses.proofs.SavedNodes.Stored.{begin_fails, begin_ends, reade
 use Rattle.vm_addresses.proofs.saved.nodes.ReadNodes.begin.Goals as goal
 
 pub returns-in-Err : goal.returns-in-Err
-returns-in-Err c = begin_fails _ _ _ _ _ _ c.self.view_is c.in_default.is c.in-Err.ensures
+returns-in-Err c = begin_fails _ _ _ _ _ c.self.view_is c.in_default.is _ c.in-Err.ensures
 
-pub invariant_of-self-2 : goal.invariant_of-self-2
-invariant_of-self-2 c = reader_begins _ _ _ _ _ c.self.invariant c.in_default.is c.in_default-nest.ensures
+pub invariant_of-self-in_default-nest : goal.invariant_of-self-in_default-nest
+invariant_of-self-in_default-nest c = reader_begins _ _ _ _ _ c.self.invariant c.in_default.is c.in_default-nest.ensures
 
 pub returns : goal.returns
-returns c = begin_ends _ _ _ _ _ _ c.self.view_is c.in_default.is c.in_default-nest.ensures
+returns c = begin_ends _ _ _ _ _ c.self.view_is c.in_default.is _ c.in_default-nest.ensures
