@@ -42,7 +42,7 @@ EDITS = [
     item("// How many.\rfn f() {}", "a carriage return"),
     *[item(code, "a ghost of this form") for code in ("ghost use X\n\nfn f() {};", "ghost use X.{Y;")],
     *[item(f"#[derive(Error)] enum X {{ #[error({text})] A }}", "a text of this form") for text in (
-        '"", 1', "transparent", '"{{0}}"', '"{name}"', '"{0:x}"', '"{}"', '"\\u{30}"')],
+        '"", 1', "transparent", '"{{0}}"', '"{name}"', '"{0:x}"', '"{}"', '"\\n"', '"\\u{30}"')],
     item("impl Eq for X { fn f() requires { f } { 1 } }", "a 'requires' of 'f'"),
     item("struct X { pub a: u64, ghost b: { f }, }", "a public field of 'X'"),
     item("struct X(u64);", "a type without braces"),
@@ -57,6 +57,7 @@ EDITS = [
     item("fn f() -> u64;", "a function of this form"),
     item("impl Eq for X { const Y: u64 = 1; }", "an item 'const'"),
     item("mod inside {}", "a module of this form"),
+    item("mod missing;", "no file for the module 'missing'"),
     *[item(code, "a definition of 'None'") for code in (
         "const None: u64 = 1;", "type None = u64;", "enum Y { None }", "fn None(x: u64) {}", "mod None;",
         "struct Y<None> { x: None }", "use super::None;", "pub fn None() {}", "impl Eq for X { fn None() {} }")],
@@ -67,7 +68,7 @@ EDITS = [
     *each(item, "cfg(any()) cfg(all(test,unix)) cfg_attr(test,inline) must_use path=\"x\" repr(u8) test", "#[WORD]",
           "an attribute '"),
     *each(item, "async extern macro_rules union unsafe", "WORD X {}", "an item 'WORD'"),
-    *each(item, "Add AsRef Deref Display From Serialize", "#[derive(WORD)] struct X {}", "a derive of 'WORD'"),
+    *each(item, "Add AsRef Deref Display From Serialize", "#[derive(Clone, WORD)] struct X {}", "a derive of 'WORD'"),
     *each(item, "AsRef Clone Default Deref Drop Hash Read", "impl WORD for X {}", "an impl of 'WORD'"),
     statement("requires { f }", "a clause outside of a signature"),
     item("fn f(x: u64 requires { g }) { 1 }", "a clause outside of a signature"),
@@ -76,7 +77,7 @@ EDITS = [
     statement("thiserror::Error;", "'thiserror' in code"),
     statement("#[inline]", "an attribute in code"),
     statement("law();\n        1\n    }\n}\nfn law() {}\nimpl RangeInclusive {\n    fn f() {", "a function 'law'"),
-    *each(statement, "1.5 1i64 x@y $x ~x /*+1*/ r\"x\" r##\"x\"## c\"x\" r#x f'x'", "WORD;", "text that begins"),
+    *each(statement, "1.5 1i64 0o7 x@y $x ~x /*+1*/ r\"x\" r##\"x\"## c\"x\" r#x f'x'", "WORD;", "text that begins"),
     *[edit for code in ("WORD;", "(WORD);", "f(x, WORD::y);") for edit in each(
         statement, "async await dyn extern f64 gen i8 i128 isize union unsafe yield", code, "'WORD' in code")],
     *each(statement, "const enum fn impl mod pub static struct trait type use", "WORD;", "an item 'WORD' in code"),
@@ -133,7 +134,7 @@ def error_of(project, old, new, is_of_tests):
 def faults_of_program(project, out):
     """Returns what is wrong with erase.py as a program: its status and message for an edit, and a module that no
     source has any more."""
-    source, old = pathlib.Path(project, RANGE), pathlib.Path(out, "vm_ranges", "old.rs")
+    source, old = pathlib.Path(project, RANGE), pathlib.Path(out, "vm_ranges", "old", "old.rs")
     write_crates(project, PROGRAM)
     text, command = source.read_text("utf-8"), [sys.executable, erase.__file__, project, out]
     source.write_text(text.replace(IMPL, f"struct X(u64);\n{IMPL}"), "utf-8")
@@ -142,10 +143,17 @@ def faults_of_program(project, out):
     faults = [] if refused.returncode == 1 and f"{RANGE}:{line}: a type without braces" in refused.stderr else [
         f"erase.py ends with {refused.returncode} and {refused.stderr!r}"]
     source.write_text(text, "utf-8")
+    asked = subprocess.run([*command[:3], "--help"], text=True, capture_output=True, check=False)
+    faults += ["an option ends without the usage"] * ((asked.returncode, asked.stderr.strip()) != (1, erase.__doc__.strip()))
     old.parent.mkdir(parents=True)
     old.touch()
     erased = subprocess.run(command, text=True, capture_output=True, check=False)
-    return faults + ["an old module remains"] * (erased.returncode != 0 or old.exists())
+    written = [*pathlib.Path(out, "vm_ranges").rglob("*.rs")]
+    faults += ["an old module remains"] * (erased.returncode != 0 or old.parent.exists())
+    faults += ["another number of files is printed"] * (erased.stdout != f"vm_ranges: {len(written)} files\n")
+    os.utime(written[0], (0, 0))
+    subprocess.run(command, capture_output=True, check=False)
+    return faults + ["a file is written again with the same text"] * (written[0].stat().st_mtime != 0)
 
 
 def unused(project):

@@ -974,7 +974,10 @@ static const struct {
     {IDS_WITHIN, "{\"next_id\":\"\\ud800\"}", DVS_NOT_JSON, 13, NULL, "an escape"},
     {IDS_WITHIN, "{\"base\":1e999}", DVS_NOT_JSON, 8, NULL, "greater than any double"},
     {IDS_WITHIN, "{\"base\" 5}", DVS_NOT_JSON, 8, NULL, "a colon"},
+    {IDS_WITHIN, "{\"base\":\"ab\n\"}", DVS_NOT_JSON, 11, NULL, "a control character"},
+    {IDS_WITHIN, "{\"base\":\"ab", DVS_NOT_JSON, 11, NULL, "a string has no end"},
     {IDS_WITHIN, "{\"range_base\":5 \xff}", DVS_NOT_JSON, 16, NULL, "UTF-8"},
+    {IDS_WITHIN, "{\"range_base\":5 \xe2\x82}", DVS_NOT_JSON, 16, NULL, "UTF-8"},
     {IDS_WITHIN, "{\"range_base\":5} x", DVS_NOT_JSON, 17, NULL, "the end"},
     {IDS_WITHIN, "7", DVS_NOT_A_STATE, 0, NULL, "an object"},
     {IDS_WITHIN, " {\"range_base\":5, \"base\":5}", DVS_NOT_A_STATE, 18, NULL, "unknown"},
@@ -1104,6 +1107,12 @@ static void read_texts(void) {
     given.limits.depth--;
     refuse(IDS_WITHIN, NULL, DVS_LIMIT_EXCEEDED);
     check_fault(10, NULL, "nested");
+    /* It comes before that of JSON, unless it is higher. */
+    give_text(FIFTY("[") FIFTY("[") TEN("[") TEN("[") "[[[[[[[[[", 129, 128);
+    refuse(IDS_WITHIN, NULL, DVS_LIMIT_EXCEEDED);
+    given.limits.depth++;
+    refuse(IDS_WITHIN, NULL, DVS_NOT_JSON);
+    check_fault(128, NULL, "nested");
     /* The limit of length comes first. */
     give_text("[\xff", 2, 1);
     given.limits.length = 1;

@@ -210,7 +210,7 @@ static void refuse_ids(void) {
 static void refuse_counts(void) {
     static const uint32_t ids[] = {9, 9};
     static const dvs_request request = {0, 0, 0, 9, NULL};
-    const size_t counts[] = {SIZE_MAX, SIZE_MAX / 2 + 1, SIZE_MAX / 4 + 3};
+    const size_t counts[] = {SIZE_MAX, SIZE_MAX / 2 + 1, SIZE_MAX / 4 + 3, SIZE_MAX / 32 + 1};
     dvs_range held = {5, 4};
     dvs_address_allocator *space = two_held(), *made;
     dvs_id_allocator *made_ids;
@@ -223,8 +223,10 @@ static void refuse_counts(void) {
         CHECK(dvs_address_allocator_with_free(&held, counts[i], &made, &failed, NULL) ==
               DVS_OUT_OF_MEMORY);
         CHECK(failed == counts[i]);
-        CHECK(dvs_id_allocator_with_held(0, 9, ids, counts[i], &made_ids, NULL) ==
-              DVS_OUT_OF_MEMORY);
+        /* An id has a quarter of the bytes of a range. */
+        CHECK(counts[i] <= SIZE_MAX / 8 ||
+              dvs_id_allocator_with_held(0, 9, ids, counts[i], &made_ids, NULL) ==
+                  DVS_OUT_OF_MEMORY);
         CHECK(dvs_address_allocator_allocate_all(space, &request, counts[i], &held, &failed,
                                                  NULL) == DVS_OUT_OF_MEMORY);
         CHECK(failed == counts[i]);
@@ -650,6 +652,7 @@ static const struct map_row {
     {SET, {20, 0}, 8, DVS_OK, {0, 0}, 7},
     {SET, {24, 0}, 8, DVS_RESOURCE_NOT_AVAILABLE, {0, 0}, 0},
     {MOVE, {16, 23}, 26, DVS_RESOURCE_NOT_AVAILABLE, {0, 0}, 0},
+    {MOVE, {23, 16}, 26, DVS_INVALID_RANGE, {0, 0}, 0},
     {MOVE, {16, 23}, 20, DVS_OK, {20, 27}, 0},
     {MOVE, {16, 23}, 20, DVS_RESOURCE_NOT_AVAILABLE, {0, 0}, 0},
     {GET, {0, 0}, 27, DVS_OK, {20, 27}, 8},
@@ -662,18 +665,18 @@ static const struct map_row {
 
 /* Makes a call of the table. */
 static dvs_status make_map_call(dvs_range_map *map, const struct map_row *row,
-                                dvs_valued_range *got) {
+                                dvs_valued_range *got, dvs_refusal *refusal) {
     const uint64_t size = row->range.end - row->range.start + 1;
     const uint64_t start = row->call == MOVE ? row->number : row->range.start;
     const dvs_request request = request_of(size, 1, DVS_EXACT, start);
 
     switch (row->call) {
     case ALLOCATE:
-        return dvs_range_map_allocate(map, row->number, &request, &got->range, NULL);
+        return dvs_range_map_allocate(map, row->number, &request, &got->range, refusal);
     case FREE:
-        return dvs_range_map_free(map, row->range, &got->value, NULL);
+        return dvs_range_map_free(map, row->range, &got->value, refusal);
     case MOVE:
-        return dvs_range_map_move(map, row->range, &request, &got->range, NULL);
+        return dvs_range_map_move(map, row->range, &request, &got->range, refusal);
     case GET:
         return dvs_range_map_get(map, row->number, got);
     default:
@@ -694,11 +697,14 @@ static void keep_values(void) {
 
     CHECK(dvs_range_map_new(16, 64, &map) == DVS_OK);
     CHECK(dvs_range_map_space(map, &range) == DVS_OK && is_range(range, 16, 79));
+    CHECK(dvs_range_map_count(map, &count) == DVS_OK && count == 0);
     for (i = 0; i < sizeof map_rows / sizeof map_rows[0]; i++) {
         const struct map_row *row = &map_rows[i];
         dvs_valued_range got = {{0, 0}, 0};
 
-        CHECK(make_map_call(map, row, &got) == row->status && got.value == row->value);
+        CHECK(make_map_call(map, row, &got, &refusal) == row->status && got.value == row->value);
+        if (row->status == DVS_INVALID_RANGE || row->status == DVS_INVALID_STATE_TRANSITION)
+            CHECK(is_range(refusal.range, row->range.start, row->range.end));
         CHECK(is_range(got.range, row->expected.start, row->expected.end));
     }
     CHECK(dvs_range_map_count(map, &count) == DVS_OK && count == 2);

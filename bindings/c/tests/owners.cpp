@@ -702,6 +702,13 @@ static void tell_more_details() {
     CHECK(devices.reserve_last(0, 1, device, &refusal) && tells(refusal, 0, 0));
     CHECK(devices.release(7, &refusal) == DVS_NEVER_ALLOCATED && tells(refusal, 0, 0, 7));
     CHECK(devices.slot(8, range, &refusal) == DVS_NEVER_ALLOCATED && tells(refusal, 0, 0, 8));
+    dvs::range_map map;
+    CHECK(!map.make(0, 64) && map.free(wrong, refusal.size, &refusal) && tells(refusal, 7, 6));
+    CHECK(map.move({9, 8}, dvs::request::first(1, 1), range, &refusal) && tells(refusal, 9, 8));
+    CHECK(map.allocate(1, dvs::request::exact(8, 1, 60), range, &refusal) &&
+          tells(refusal, 60, 67));
+    for (id = 5; id < 8; id++)
+        CHECK(!devices.reserve_with_id(5, 7, dvs::request::first(8, 8), device) && device.id == id);
     static_assert(
         noexcept(space.make(0, 1)) &&noexcept(space.free(wrong)) &&noexcept(space.read(""))
             &&noexcept(space.make_copy(space)) &&noexcept(ids.allocate(id)) &&noexcept(ids.id_count(

@@ -690,6 +690,17 @@ fn devices_are_listed_by_their_ids() {
     }
 }
 
+/// Checks that a value is written in lines as it is in one line.
+fn expect_in_lines(value: &dyn Debug) {
+    let [line, lines] = [format!("{value:?}"), format!("{value:#?}")];
+    let packed = |text: &str| {
+        let text = text.replace([' ', '\n'], "").replace(",}", "}");
+        text.replace(",]", "]").replace(",)", ")")
+    };
+    assert!(lines.contains(",\n"), "{lines}");
+    assert_eq!(packed(&lines), packed(&line));
+}
+
 /// Checks the names and values of fields. An allocator shows its allocated ranges and not its tree.
 #[test]
 fn debug_texts_show_the_fields() {
@@ -726,6 +737,9 @@ fn debug_texts_show_the_fields() {
             last.range
         )
     );
+    let request = Constraint::new(1, 1, AllocPolicy::FirstMatch).unwrap();
+    let objects: [&dyn Debug; 4] = [&space, &ids, &devices, &request];
+    objects.into_iter().for_each(expect_in_lines);
     let mut gaps = AddressAllocator::new(0, 8).unwrap();
     gaps.allocate(2, 1, AllocPolicy::ExactMatch(3)).unwrap();
     assert!(format!("{gaps:?}").contains("end: 7, held_count: 1, held_ranges: ["));

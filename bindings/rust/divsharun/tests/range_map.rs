@@ -153,26 +153,28 @@ fn answers_are_those_of_a_plain_model() {
 #[test]
 fn maps_are_equal_with_the_same_ranges_and_values() {
     let maps = [
-        (0, 64, &[(0, 'a'), (9, 'b')][..]),
-        (0, 64, &[(9, 'b'), (0, 'a')]),
-        (0, 64, &[(0, 'b'), (9, 'a')]),
-        (0, 64, &[(0, 'a'), (8, 'b')]),
-        (0, 64, &[(0, 'a')]),
-        (0, 65, &[(0, 'a'), (9, 'b')]),
+        (0, 64, &[(1, 1, 'a'), (9, 2, 'b')][..]),
+        (0, 64, &[(9, 2, 'b'), (1, 1, 'a')]),
+        (0, 64, &[(1, 1, 'b'), (9, 2, 'a')]),
+        (0, 64, &[(1, 1, 'a'), (8, 2, 'b')]),
+        (0, 64, &[(1, 1, 'a'), (9, 3, 'b')]),
+        (0, 64, &[(1, 1, 'a')]),
+        (0, 65, &[(1, 1, 'a'), (9, 2, 'b')]),
+        (1, 63, &[(1, 1, 'a'), (9, 2, 'b')]),
     ];
     let [first, others @ ..] = maps.map(|(base, size, ranges)| {
         let mut map = RangeMap::new(base, size).unwrap();
-        for (start, value) in ranges {
-            map.allocate(1, 1, ExactMatch(*start), *value).unwrap();
+        for (start, size, value) in ranges {
+            map.allocate(*size, 1, ExactMatch(*start), *value).unwrap();
         }
         map
     });
     assert_eq!(
         others.map(|other| first == other),
-        [true, false, false, false, false]
+        [true, false, false, false, false, false, false]
     );
     let text = "RangeMap { space: RangeInclusive { start: 0, end: 63 }, ranges: [\
-        (RangeInclusive { start: 0, end: 0 }, 'a'), (RangeInclusive { start: 9, end: 9 }, 'b')] }";
+        (RangeInclusive { start: 1, end: 1 }, 'a'), (RangeInclusive { start: 9, end: 10 }, 'b')] }";
     assert_eq!(format!("{:?}", first.clone()), text);
     assert_eq!(format!("{:?}", first.iter()), "ValuedRanges { .. }");
 }

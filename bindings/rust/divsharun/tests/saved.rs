@@ -152,7 +152,15 @@ fn bytes_have_the_fields_in_order() {
     assert_eq!(packed::to_bytes(&seven_ids()).unwrap(), expected);
 }
 
-/// Checks the names of types, which some formats write or compare.
+/// Checks that these names of types, which some formats write or compare, are written and read.
+fn expect_names<T: Serialize + DeserializeOwned>(value: &T, names: &[&str]) {
+    let bytes = packed::to_bytes(value).unwrap();
+    let written = packed::names_in(|| packed::to_bytes(value).unwrap());
+    assert_eq!(written, names);
+    let read = packed::names_in(|| packed::from_bytes::<T>(bytes).unwrap());
+    assert_eq!(read, names);
+}
+
 #[test]
 fn structures_have_the_names_of_the_derives() {
     let space = [
@@ -172,11 +180,14 @@ fn structures_have_the_names_of_the_derives() {
     .concat();
     let mut devices = DeviceManager::new(0, 1, 16, 4).unwrap();
     devices.reserve(4, 4, AllocPolicy::FirstMatch).unwrap();
-    let bytes = packed::to_bytes(&devices).unwrap();
-    let written = packed::names_in(|| packed::to_bytes(&devices).unwrap());
-    assert_eq!(written, names);
-    let read = packed::names_in(|| packed::from_bytes::<DeviceManager>(bytes).unwrap());
-    assert_eq!(read, names);
+    expect_names(&devices, &names);
+    let item = ["ValuedRange", "RangeInclusive"];
+    expect_names(&two_values(), &[&["RangeMap"], &item[..], &item].concat());
+    let request = Constraint::new(1, 1, AllocPolicy::LastMatch).unwrap();
+    expect_names(
+        &request.within(5..).unwrap(),
+        &["Constraint", "AllocPolicy", "LastMatch", "RangeInclusive"],
+    );
 }
 
 /// Returns the range of a map with these keys.
@@ -267,6 +278,7 @@ fn written_values_are_read() {
         (all.held_ids().len(), all.held_ids().next_back()),
         (1 << 32, Some(u32::MAX))
     );
+    assert_eq!(all.held_ids().count(), 1 << 32);
     let most = r#"{"range_base":0,"next_id":null,"range_end":4294967295,"freed_ids":[1,2,9]}"#;
     let most: IdAllocator = serde_json::from_str(most).unwrap();
     let (mut ids, half) = (most.held_ids(), 1 << 31);
@@ -283,6 +295,8 @@ fn written_values_are_read() {
         (Some((1 << 31) + 4), None, None)
     );
     assert_eq!(most.held_ids().nth_back((1 << 32) - 4), Some(0));
+    assert_eq!(most.held_ids().nth_back(1 << 32), None);
+    assert_eq!(most.held_ids().nth(1 << 32), None);
 }
 
 #[test]
