@@ -42,9 +42,9 @@ use std::marker::Model;
 /// Its model is the list of its entries.
 #[derive(Debug, Drop)]
 pub struct KeyedList<E: Entry> {
-    // All entries, until they do not fit in one chunk.
+    // All entries, until they do not fit in a chunk.
     few: Option<Chunk<E>>,
-    // All entries otherwise, until there are none.
+    // All entries after that.
     many: Chunks<E>,
 }
 

@@ -174,11 +174,7 @@ struct Outcome {
 }
 
 /// Answers all lines. It guards against a contract from which a caller cannot prove what was written.
-fn answer<R: Read, W: Write>(
-    alloc: Global,
-    reader: &mut R,
-    writer: &mut W,
-) -> Result<(), RunError>
+fn answer<R: Read, W: Write>(alloc: Global, reader: &mut R, writer: &mut W) -> Result<(), RunError>
     ensures { OnOk result (AnswersInput
         (R.remaining reader.old) (R.remaining reader.new) (W.contents writer.old) (W.contents writer.new)) }
 {

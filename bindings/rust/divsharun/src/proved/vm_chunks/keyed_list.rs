@@ -15,9 +15,9 @@ use crate::rattle::{AllocError, Global};
 /// Its model is the list of its entries.
 #[derive(Debug)]
 pub(in crate::proved) struct KeyedList<E: Entry> {
-    // All entries, until they do not fit in one chunk.
+    // All entries, until they do not fit in a chunk.
     few: Option<Chunk<E>>,
-    // All entries otherwise, until there are none.
+    // All entries after that.
     many: Chunks<E>,
 }
 
