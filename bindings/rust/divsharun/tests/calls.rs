@@ -690,7 +690,7 @@ fn devices_are_listed_by_their_ids() {
     }
 }
 
-/// Checks that a value is written in lines as it is in one line.
+/// Checks that a value has the same text in lines as in one line.
 fn expect_in_lines(value: &dyn Debug) {
     let [line, lines] = [format!("{value:?}"), format!("{value:#?}")];
     let packed = |text: &str| {
