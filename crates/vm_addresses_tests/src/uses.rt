@@ -13,7 +13,7 @@ ghost use Rattle.vm_allocator.specs.Counts.Steps.{EntersToAllocate};
 ghost use Rattle.vm_allocator.specs.Moves.{MovesRange};
 ghost use Rattle.vm_allocator.specs.Request.{request_for};
 ghost use Rattle.vm_allocator.specs.Values.NodesRead.{EndsNode, MakesOfNodes};
-ghost use Rattle.vm_allocator.specs.Values.SavedTrees.{HasTreeOf};
+ghost use Rattle.vm_allocator.specs.Values.SavedTrees.{HasHeldKeys, HasTreeOf};
 
 use crate::fixtures::{ENOUGH, expect_eq, expect_true, made, range};
 use std::alloc::Global;
@@ -123,6 +123,17 @@ fn of_nodes(
     AddressAllocator::from_nodes(alloc, space, nodes)
 }
 
+/// Creates the allocator of the allocated keys of nodes.
+fn of_keys(
+    alloc: Global,
+    space: RangeInclusive,
+    nodes: &ReadNodes,
+) -> std::result::Result<AddressAllocator, SavedError>
+    ensures { MakesOfNodes (HasHeldKeys space) Condition.Inside nodes.now (made_state result) }
+{
+    AddressAllocator::from_nodes_repaired(alloc, space, nodes)
+}
+
 #[test]
 fn uses(rt: HostRuntime) {
     let mut space = made(&rt, 0, 16);
@@ -171,6 +182,8 @@ fn uses(rt: HostRuntime) {
     expect_eq(&rt, &ended, &Ok(()), &"the root");
     let full = of_nodes(rt.alloc(), range(&rt, 0, 15), &nodes).expect(&rt, ENOUGH);
     expect_eq(&rt, &listed(&full), &1, &"the whole space");
+    let same = of_keys(rt.alloc(), range(&rt, 0, 15), &nodes).expect(&rt, ENOUGH);
+    expect_true(&rt, same == full, &"the same space");
     let mut nodes = ReadNodes::new(rt.alloc());
     for depth in 0..52 {
         expect_eq(&rt, &begin(&mut nodes), &(depth < 50), &depth);

@@ -1,7 +1,6 @@
 //! A chunk: at most 64 entries, with memory for 64. Only creating it can fail.
 ghost use Rattle.std.specs.Prelude.{
   ◌≡◌,
-  ℕ,
   ◌<◌,
   ◌≤◌,
   ◌+◌,

@@ -1,17 +1,14 @@
 //! A descending list of entries in chunks.
 ghost use Rattle.std.specs.Prelude.{
   ◌≡◌,
-  ℕ,
   ◌<◌,
   ◌≤◌,
   ◌+◌,
-  ◌++◌,
   ◌-◌,
   ◌∷◌,
   [],
   length,
   slice_index_or,
-  if◌then◌else◌,
   None,
   IsSome,
   MatchOption,
@@ -217,7 +214,7 @@ impl<E: Entry> Chunks<E> {
         }
     }
 
-    /// Creates a list of the entries of a chunk, with memory for the places of two chunks.
+    /// Creates a list of the entries of a chunk. Its lists of chunks and bounds have room for a second one.
     pub fn of(alloc: Global, chunk: &Chunk<E>) -> Result<Self, AllocError>
         requires { IsDescendingBy E.key_of chunk.now }
         ensures { IfOk result (λ list. list ≡ chunk.now) }

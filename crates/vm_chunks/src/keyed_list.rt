@@ -1,13 +1,10 @@
 //! A descending list of entries, in one chunk or in many.
 ghost use Rattle.std.specs.Prelude.{
   ◌≡◌,
-  ℕ,
   ◌<◌,
   ◌≤◌,
-  ◌++◌,
   ◌∷◌,
   [],
-  length,
   None,
   IsSome,
   MatchOption,

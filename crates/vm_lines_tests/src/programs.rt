@@ -2,8 +2,8 @@
 //!
 //! They guard against lines that are split at the end of a read, and against replies that are written
 //! twice or not at all.
-ghost use Rattle.std.specs.Prelude.{◌≤◌, length, OnOk};
-ghost use Rattle.vm_lines.specs.Runs.{AnswersInput};
+ghost use Rattle.std.specs.Prelude.{◌≤◌, length, OnOk, IsErrOf};
+ghost use Rattle.vm_lines.specs.Runs.{AnswersInput, AnswersEndedLines};
 
 mod device_rows;
 mod rows;
@@ -173,10 +173,13 @@ struct Outcome {
     sink: Sink,
 }
 
-/// Answers all lines. It guards against a contract from which a caller cannot prove what was written.
+/// Answers all lines, or those before a read that fails. It guards against clauses from which a caller cannot prove
+/// what was written.
 fn answer<R: Read, W: Write>(alloc: Global, reader: &mut R, writer: &mut W) -> Result<(), RunError>
-    ensures { OnOk result (AnswersInput
+    ensures ok { OnOk result (AnswersInput
         (R.remaining reader.old) (R.remaining reader.new) (W.contents writer.old) (W.contents writer.new)) }
+    ensures read { IsErrOf result RunError.Read → AnswersEndedLines
+        (R.remaining reader.old) (R.remaining reader.new) (W.contents writer.old) (W.contents writer.new) }
 {
     run(alloc, reader, writer)
 }

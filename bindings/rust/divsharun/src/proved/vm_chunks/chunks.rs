@@ -128,7 +128,7 @@ impl<E: Entry> Chunks<E> {
         }
     }
 
-    /// Creates a list of the entries of a chunk, with memory for the places of two chunks.
+    /// Creates a list of the entries of a chunk. Its lists of chunks and bounds have room for a second one.
     pub(in crate::proved) fn of(alloc: Global, chunk: &Chunk<E>) -> Result<Self, AllocError> {
         if chunk.highest_key().is_none() {
             return Ok(Chunks::new(alloc));

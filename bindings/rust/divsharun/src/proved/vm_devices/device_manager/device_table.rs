@@ -52,7 +52,7 @@ impl DeviceTable {
         Some(slot.range)
     }
 
-    /// Returns an iterator over the devices, which are `count`, by ascending ids.
+    /// Returns an iterator over the devices, by ascending ids. `count` is their number.
     pub(super) fn iter(&self, count: u64) -> Devices<'_> {
         Devices {
             slots: self.slots.iter(),
