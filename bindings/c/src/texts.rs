@@ -73,12 +73,10 @@ pub(crate) trait Json {
 /// Implements `Json` for structures with these fields.
 macro_rules! write_fields {
     ($(
-        $(#[$attribute:meta])?
         $object:ty as $name:literal, $this:ident:
             $first:ident = $first_value:expr $(, $field:ident = $value:expr)*;
     )*) => {$(
         impl super::Json for $object {
-            $(#[$attribute])?
             fn write(&self, to: &mut impl super::Sink) {
                 let $this = self;
                 to.text(concat!("{\"", stringify!($first), "\":"));

@@ -1,3 +1,4 @@
+pub mod BlockStarts
 pub mod Heights
 pub mod HeldKeys
 pub mod KeyLists

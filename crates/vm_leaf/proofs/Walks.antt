@@ -24,7 +24,6 @@ use Rattle.std.proofs.Common.{
   arith,
   inl,
   inr,
-  append_assoc,
   length-append,
   length-take-le,
   take_all,
@@ -138,14 +137,6 @@ pub first_of_parts : (bs : List Block) (ss : List ℕ) (hi m s t : ℕ) (rest : 
     → k ≡ record { start = s; end = t } → t ≡ end_before rest hi → st ≡ states_in m 0 →
     bs ≡ record { key = k; state = st } ∷ blocks_left rest hi (m / 2)
 first_of_parts bs ss hi m s t rest k st v e f g h = sym v ∙ first_left ss hi m s rest e ∙ rw (f, g, h) refl
-
--- After the first block is appended to a list, those after it are left.
-pub first_appended : (list all : List Block) (ss : List ℕ) (hi m s t : ℕ) (rest : List ℕ) (k : Range) (st : NodeState) →
-    ss ≡ s ∷ rest → k ≡ record { start = s; end = t } → t ≡ end_before rest hi → st ≡ states_in m 0 →
-    list ++ blocks_left ss hi m ≡ all → (list ++ record { key = k; state = st } ∷ []) ++ blocks_left rest hi (m / 2) ≡ all
-first_appended list all ss hi m s t rest k st e f g h i =
-    append_assoc list (record { key = k; state = st } ∷ []) (blocks_left rest hi (m / 2))
-    ∙ ap (λ (v : List Block). list ++ v) (sym (first_of_parts (blocks_left ss hi m) ss hi m s t rest k st refl e f g h)) ∙ i
 
 -- ---- Without the last block
 module _ (ss : List ℕ) (hi m s : ℕ) (rest : List ℕ) (e : ss ≡ rest ++ s ∷ []) where

@@ -1,5 +1,6 @@
 pub mod Block
 pub mod BlockOrder
+pub mod BlockStarts
 pub mod Blocks
 pub mod Fit
 pub mod GapMasks

@@ -22,5 +22,5 @@
 mod block;
 mod leaf;
 
-pub use block::Block;
+pub use block::{Block, BlockStart};
 pub use leaf::{Blocks, CAPACITY, Fit, Leaf, MIN_BLOCKS, Rest, Summary, highest_fit, lowest_fit};

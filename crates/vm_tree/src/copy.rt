@@ -1,11 +1,12 @@
 //! A copy of a tree, and a list of its blocks.
 ghost use Rattle.std.specs.Prelude.{◌≡◌, ◌++◌, IfOk};
+ghost use Rattle.vm_leaf.specs.BlockStarts.{starts_of};
 ghost use Rattle.vm_tree.specs.Links.{side, IsSummed};
 ghost use Rattle.vm_tree.specs.Shape.{blocks};
 
 use crate::link::{Link, Node};
 use std::alloc::{AllocError, Global};
-use vm_leaf::{Block, Leaf};
+use vm_leaf::{BlockStart, Leaf};
 
 /// Returns a copy of a tree with the same nodes, the same leaves and the same summaries.
 ///
@@ -51,16 +52,16 @@ pub(crate) fn copy(tree: &Link, alloc: Global) -> Result<Link, AllocError>
     }
 }
 
-/// Appends the blocks of a leaf to a list, or returns an error if an allocation fails.
-fn append_leaf(leaf: &Leaf, list: &mut Vec<Block>) -> Result<(), AllocError>
-    ensures { IfOk result (λ _. list.new.items ≡ list.old.items ++ leaf.now) }
+/// Appends the starts of the blocks of a leaf to a list, or returns an error if an allocation fails.
+fn append_leaf(leaf: &Leaf, list: &mut Vec<BlockStart>) -> Result<(), AllocError>
+    ensures { IfOk result (λ _. list.new.items ≡ list.old.items ++ starts_of leaf.now) }
 {
-    leaf.part(0, leaf.len()).append_to(list)
+    leaf.part(0, leaf.len()).append_starts(list)
 }
 
-/// Appends the blocks of a tree to a list, or returns an error if an allocation fails.
-pub(crate) fn append_blocks(tree: &Link, list: &mut Vec<Block>) -> Result<(), AllocError>
-    ensures { IfOk result (λ _. list.new.items ≡ list.old.items ++ blocks (side tree.now)) }
+/// Appends the starts of the blocks of a tree to a list, or returns an error if an allocation fails.
+pub(crate) fn append_starts(tree: &Link, list: &mut Vec<BlockStart>) -> Result<(), AllocError>
+    ensures { IfOk result (λ _. list.new.items ≡ list.old.items ++ starts_of (blocks (side tree.now))) }
 {
     match tree {
         Link::Hole => Ok(()),
@@ -70,8 +71,8 @@ pub(crate) fn append_blocks(tree: &Link, list: &mut Vec<Block>) -> Result<(), Al
         }
         Link::Fork { node, .. } => {
             let node: &Node = node;
-            append_blocks(&node.left, list)?;
-            append_blocks(&node.right, list)
+            append_starts(&node.left, list)?;
+            append_starts(&node.right, list)
         }
     }
 }

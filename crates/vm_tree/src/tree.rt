@@ -5,6 +5,7 @@
 ghost use Rattle.std.specs.Prelude.{◌≡◌, ◌≢◌, true, None, Err, OnErr, IfErr, ◌+◌, ◌*◌, ◌<◌, ◌≤◌, ◌∷◌, [], ◌++◌, length, IfOk, MatchOption, OnSome, ◌^◌};
 ghost use Rattle.vm_ranges.specs.Range.{IsIn, at_address};
 ghost use Rattle.vm_leaf.specs.Block.{free_block};
+ghost use Rattle.vm_leaf.specs.BlockStarts.{starts_of};
 ghost use Rattle.vm_leaf.specs.Blocks.{longest_gap};
 ghost use Rattle.vm_tree.specs.Allocation.{window_of, IsSearch, AllocatesExact, AllocatesFit, IsOutOfMemory};
 ghost use Rattle.vm_tree.specs.Building.{AreInOrder, blocks_between, IsBuiltTree, TOO_MANY_BLOCKS};
@@ -24,7 +25,7 @@ use crate::allocate::place::Spare;
 use crate::allocate::{count_place, fits};
 use crate::build::build_tree;
 use crate::change::free_summary;
-use crate::copy::{append_blocks, copy};
+use crate::copy::{append_starts, copy};
 use crate::end::End;
 use crate::find::block_at;
 use crate::free::{free_at, free_in};
@@ -34,7 +35,7 @@ use crate::steps::Steps;
 use crate::walk::Walk;
 use std::alloc::{AllocError, Global};
 use std::marker::Model;
-use vm_leaf::{Block, Leaf};
+use vm_leaf::{Block, BlockStart, Leaf};
 use vm_ranges::{NodeState, RangeInclusive};
 
 /// The blocks of a space in a balanced tree.
@@ -137,11 +138,11 @@ impl Tree {
         block_at(&self.root, address)
     }
 
-    /// Appends all blocks to a list, or returns an error if an allocation fails.
-    pub fn append_blocks(&self, list: &mut Vec<Block>) -> Result<(), AllocError>
-        ensures { IfOk result (λ _. list.new.items ≡ list.old.items ++ blocks self.now) }
+    /// Appends the starts of all blocks to a list, or returns an error if an allocation fails.
+    pub fn append_starts(&self, list: &mut Vec<BlockStart>) -> Result<(), AllocError>
+        ensures { IfOk result (λ _. list.new.items ≡ list.old.items ++ starts_of (blocks self.now)) }
     {
-        append_blocks(&self.root, list)
+        append_starts(&self.root, list)
     }
 
     /// Returns an iterator over all blocks, from both ends. It does not allocate.

@@ -26,8 +26,8 @@ spans_are_exact = record {
 
 pub nodes_are_written : NodesAreWritten
 nodes_are_written = λ bs n l r w p q.
-    let a = written_blocks n.left.blocks.now l p in
-    let b = written_blocks n.right.blocks.now r q in (
+    let a = written_blocks n.left l p in
+    let b = written_blocks n.right r q in (
       rw (a, b) w,
       rw a p,
       rw b q,

@@ -97,7 +97,7 @@ value_written s (Err e) h w = w
 
 -- The value of a node, by the values of its children.
 pub node_written : (bs : List Block) (n : WrittenNode) (left right : Data) (answer : Result Value Error) → WritesNode bs (Some n) →
-    WritesTree n.left.blocks.now left → WritesTree n.right.blocks.now right
+    WritesTree n.left left → WritesTree n.right right
     → Saves (λ d. EncodesNode d (record { key = n.key; state = n.state }) (λ v. v ≡ left) (λ v. v ≡ right) n.height) answer →
     Saves (WritesTree bs) answer
 node_written bs n left right (Ok v) w l r e =

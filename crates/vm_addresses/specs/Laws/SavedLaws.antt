@@ -24,7 +24,7 @@ pub record SpansAreExact : Type 0 where
 abbrev pub NodesAreWritten : Type 0
 NodesAreWritten =
     (bs : List Block) (n : WrittenNode) (l r : Saved) → WritesNode bs (Some n) →
-    IsWritten n.left.blocks.now l → IsWritten n.right.blocks.now r →
+    IsWritten n.left l → IsWritten n.right r →
     IsWritten bs (Node l (record { key = n.key; state = n.state }) r n.height)
 
 -- The tree that is written for an allocator's tree is a saved tree of its space, node for node, with its state.

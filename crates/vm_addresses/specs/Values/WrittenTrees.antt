@@ -20,4 +20,4 @@ IsWritten bs (Node l b r h) = IsMiddle bs (saved_blocks l) b (saved_blocks r) h 
 -- The node that is written for the blocks, or None if there are none.
 abbrev pub WritesNode : List Block → Option WrittenNode → Type 0
 WritesNode bs None = bs ≡ []
-WritesNode bs (Some n) = IsMiddle bs n.left.blocks.now (record { key = n.key; state = n.state }) n.right.blocks.now n.height
+WritesNode bs (Some n) = IsMiddle bs n.left (record { key = n.key; state = n.state }) n.right n.height

@@ -36,7 +36,7 @@ impl AddressAllocator {
         // Proof: this shows that the tree is valid.
         let _tree = &self.tree;
         let written = self.written_blocks(alloc)?;
-        encode(written.tree(), alloc)
+        encode(&written.tree(), alloc)
     }
 
     /// Returns the allocator of a space whose tree a value encodes.
@@ -161,8 +161,8 @@ fn push_held(
 /// Returns the value that encodes a saved tree.
 ///
 /// It returns `OutOfMemory` if an allocation fails.
-fn encode(tree: WrittenTree<'_>, alloc: Global) -> Result<Value>
-    ensures { Saves (WritesTree tree.entry.blocks.now) result }
+fn encode(tree: &WrittenTree<'_>, alloc: Global) -> Result<Value>
+    ensures { Saves (WritesTree tree.now) result }
 {
     let Some(node) = tree.root() else {
         return Ok(Value::Null);
@@ -171,7 +171,7 @@ fn encode(tree: WrittenTree<'_>, alloc: Global) -> Result<Value>
         key: node.key,
         state: node.state,
     };
-    let left = encode(node.left, alloc)?;
-    let right = encode(node.right, alloc)?;
+    let left = encode(&node.left, alloc)?;
+    let right = encode(&node.right, alloc)?;
     encode_node(left, &block, right, node.height, alloc)
 }

@@ -1,29 +1,37 @@
 //! The saved tree that is written for a tree: a balanced tree of its blocks.
 //!
 //! The blocks decide its shape, so trees with the same blocks are written in the same way.
-ghost use Rattle.std.specs.Prelude.{◌≡◌, IfOk};
+ghost use Rattle.std.specs.Prelude.{◌≡◌, ◌↔◌, [], IsTrue, IfOk};
+ghost use Rattle.vm_leaf.specs.BlockStarts.{last_before};
 ghost use Rattle.vm_tree.specs.Shape.{blocks};
 ghost use Rattle.vm_addresses.specs.Values.WrittenTrees.{WritesNode};
 
 use crate::AddressAllocator;
 use std::alloc::{AllocError, Global};
 use std::marker::Model;
-use vm_leaf::Block;
+use vm_leaf::BlockStart;
 use vm_ranges::{NodeState, RangeInclusive};
 
 /// The blocks of a space in ascending order.
+///
+/// Its model is the list of the blocks.
 #[derive(Drop)]
 pub struct WrittenBlocks {
-    list: Vec<Block>,
+    starts: Vec<BlockStart>,
+    // The last address of the space.
+    end: u64,
 }
 
 impl Model for WrittenBlocks {
     ghost use Rattle.std.specs.Prelude.{List};
     ghost use Rattle.vm_leaf.specs.declared.block.Block.{Block};
+    ghost use Rattle.vm_leaf.specs.BlockStarts.{blocks_from, AreRanges};
 
     ghost Value = { List Block };
 
-    ghost view = { λ w. w.list.items };
+    ghost view = { λ w. blocks_from w.starts.items w.end };
+
+    ghost invariant = { λ w. AreRanges (blocks_from w.starts.items w.end) };
 }
 
 impl AddressAllocator {
@@ -33,29 +41,49 @@ impl AddressAllocator {
     pub fn written_blocks(&self, alloc: Global) -> std::result::Result<WrittenBlocks, AllocError>
         ensures { IfOk result (λ written. written ≡ blocks self.now) }
     {
-        let mut list = Vec::with_capacity(alloc, (self.held_count + self.gap_count) as usize)?;
-        self.tree.append_blocks(&mut list)?;
-        Ok(WrittenBlocks { list })
+        let mut starts = Vec::with_capacity(alloc, (self.held_count + self.gap_count) as usize)?;
+        self.tree.append_starts(&mut starts)?;
+        let end = self.end();
+        Ok(WrittenBlocks { starts, end })
     }
 }
 
 impl WrittenBlocks {
     /// Returns the saved tree of all blocks.
     pub fn tree(&self) -> WrittenTree<'_>
-        ensures { result.blocks.now ≡ self.now }
+        ensures { result ≡ self.now }
     {
-        WrittenTree { blocks: &self.list }
+        WrittenTree {
+            starts: &self.starts,
+            end: self.end,
+        }
     }
 }
 
 /// The saved tree of some blocks.
-#[derive(Clone, Copy)]
+///
+/// Its model is the list of the blocks.
+#[derive(Clone, Drop)]
 pub struct WrittenTree<'a> {
-    blocks: &'a [Block],
+    starts: &'a [BlockStart],
+    // The last address of the last block.
+    end: u64,
+}
+
+impl<'a> Model for WrittenTree<'a> {
+    ghost use Rattle.std.specs.Prelude.{List};
+    ghost use Rattle.vm_leaf.specs.declared.block.Block.{Block};
+    ghost use Rattle.vm_leaf.specs.BlockStarts.{blocks_from, AreRanges};
+
+    ghost Value = { List Block };
+
+    ghost view = { λ w. blocks_from w.starts.now w.end };
+
+    ghost invariant = { λ w. AreRanges (blocks_from w.starts.now w.end) };
 }
 
 /// A node of a saved tree.
-#[derive(Clone, Copy)]
+#[derive(Clone, Drop)]
 pub struct WrittenNode<'a> {
     /// The range of the block.
     pub key: RangeInclusive,
@@ -69,21 +97,44 @@ pub struct WrittenNode<'a> {
     pub height: u64,
 }
 
+/// Returns the last address before these starts, or `end` if there is no start.
+fn last_before(starts: &[BlockStart], end: u64) -> u64
+    ensures { result ≡ last_before starts.now end }
+{
+    match starts.first() {
+        Some(next) => next.address.saturating_sub(1),
+        None => end,
+    }
+}
+
 impl<'a> WrittenTree<'a> {
-    /// Returns the root: the block in the middle, and the trees of the blocks before and after it.
-    pub fn root(self) -> Option<WrittenNode<'a>>
-        ensures { WritesNode self.entry.blocks.now result }
+    /// Returns `true` if there is no block, so there is no root.
+    pub fn is_empty(&self) -> bool
+        ensures { IsTrue result ↔ (self.now ≡ []) }
     {
-        let count = self.blocks.len();
-        let (before, rest) = self.blocks.split_at(count / 2);
+        self.starts.is_empty()
+    }
+
+    /// Returns the root: the block in the middle, and the trees of the blocks before and after it.
+    pub fn root(&self) -> Option<WrittenNode<'a>>
+        ensures { WritesNode self.now result }
+    {
+        let count = self.starts.len();
+        let (before, rest) = self.starts.split_at(count / 2);
         let Some((block, after)) = rest.split_first() else {
             return None;
         };
         Some(WrittenNode {
-            key: block.key,
+            key: RangeInclusive::between(block.address, last_before(after, self.end)),
             state: block.state,
-            left: WrittenTree { blocks: before },
-            right: WrittenTree { blocks: after },
+            left: WrittenTree {
+                starts: before,
+                end: block.address.saturating_sub(1),
+            },
+            right: WrittenTree {
+                starts: after,
+                end: self.end,
+            },
             height: u64::from(count.ilog2()) + 1,
         })
     }

@@ -1,11 +1,12 @@
 //! Iteration over the blocks of a leaf from both ends.
-ghost use Rattle.std.specs.Prelude.{◌≡◌, ◌<◌, ◌≤◌, [], ◌∷◌, ◌++◌, length, slice_index_or, IfOk};
+ghost use Rattle.std.specs.Prelude.{◌≡◌, ◌<◌, ◌≤◌, [], ◌++◌, length, slice_index_or, IfOk};
 ghost use Rattle.std.specs.Iterator.{YieldsFirst, YieldsLast, item_count};
+ghost use Rattle.vm_leaf.specs.BlockStarts.{starts_of};
 ghost use Rattle.vm_leaf.specs.Leaf.{end_before};
 ghost use Rattle.vm_leaf.specs.Walks.{part_of, blocks_left, AreLeft};
 
 use super::{Leaf, state_in};
-use crate::block::Block;
+use crate::block::{Block, BlockStart};
 use std::alloc::AllocError;
 use std::marker::Model;
 use vm_ranges::RangeInclusive;
@@ -45,31 +46,6 @@ fn end_of_first(starts: &[u64], end: u64) -> u64
     }
 }
 
-/// Appends the blocks with these starts to a list, or returns an error if an allocation fails. Each one ends before the
-/// next start, and the last one at `end`. The bits of `held` are their states.
-fn append_tiles(
-    mut start: u64,
-    others: &[u64],
-    end: u64,
-    mut held: u64,
-    list: &mut Vec<Block>,
-) -> Result<(), AllocError>
-    requires { AreLeft (blocks_left (start ∷ others.now) end held) }
-    ensures { IfOk result (λ _. list.new.items ≡ list.old.items ++ blocks_left (start ∷ others.now) end held) }
-{
-    for next in others {
-        let key = RangeInclusive::between(start, *next - 1);
-        let state = state_in(held, 0);
-        list.push(Block { key, state })?;
-        start = *next;
-        held >>= 1;
-    }
-    let key = RangeInclusive::between(start, end);
-    let state = state_in(held, 0);
-    list.push(Block { key, state })?;
-    Ok(())
-}
-
 impl Leaf {
     /// Returns an iterator over the blocks with the indices `from..to`.
     pub fn part<'a>(&'a self, from: usize, to: usize) -> Blocks<'a>
@@ -103,14 +79,18 @@ impl<'a> Blocks<'a> {
         }
     }
 
-    /// Appends the blocks that are left to a list, or returns an error if an allocation fails.
-    pub fn append_to(&self, list: &mut Vec<Block>) -> Result<(), AllocError>
-        ensures { IfOk result (λ _. list.new.items ≡ list.old.items ++ self.now) }
+    /// Appends the starts of the blocks that are left to a list, or returns an error if an allocation fails.
+    pub fn append_starts(&self, list: &mut Vec<BlockStart>) -> Result<(), AllocError>
+        ensures { IfOk result (λ _. list.new.items ≡ list.old.items ++ starts_of self.now) }
     {
-        match self.starts.split_first() {
-            None => Ok(()),
-            Some((first, others)) => append_tiles(*first, others, self.end, self.held, list),
+        let mut held = self.held;
+        for start in self.starts {
+            let address = *start;
+            let state = state_in(held, 0);
+            list.push(BlockStart { address, state })?;
+            held >>= 1;
         }
+        Ok(())
     }
 }
 

@@ -15,8 +15,6 @@ write_fields! {
         address_space = Space(this.0.base(), this.0.end()),
         interval_tree = Root(this.1);
     Root<'_> as "IntervalTree", this: root = this.0.tree();
-    // A call for each node is faster than one for each link, of which there are twice as many.
-    #[inline(never)]
     WrittenNode<'_> as "InnerNode", this:
         key = this.key,
         node_state = this.state,

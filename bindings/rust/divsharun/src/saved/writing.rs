@@ -13,11 +13,10 @@ use serde::{Serialize, Serializer};
 /// Implements `Serialize` for structures with these fields.
 macro_rules! write_fields {
     ($(
-        $(#[$attribute:meta])?
         $object:ty as $name:literal, $this:ident: $($field:ident = $value:expr),*;
     )*) => {$(
         impl serde::Serialize for $object {
-            $(#[$attribute])?
+            #[inline]
             fn serialize<S: serde::Serializer>(&self, to: S) -> Result<S::Ok, S::Error> {
                 use serde::ser::SerializeStruct;
                 let $this = self;
@@ -164,8 +163,19 @@ impl crate::DeviceManager {
 impl Serialize for WrittenTree<'_> {
     #[inline]
     fn serialize<S: Serializer>(&self, to: S) -> Result<S::Ok, S::Error> {
-        self.root().serialize(to)
+        if self.is_empty() {
+            to.serialize_none()
+        } else {
+            serialize_root(self, to)
+        }
     }
+}
+
+/// Writes the root of a tree. A call for each node is faster than one for each link, of which there are
+/// twice as many.
+#[inline(never)]
+fn serialize_root<S: Serializer>(tree: &WrittenTree<'_>, to: S) -> Result<S::Ok, S::Error> {
+    tree.root().serialize(to)
 }
 
 impl Serialize for NodeState {

@@ -2,7 +2,7 @@
 
 //! A copy of a tree, and a list of its blocks.
 
-use crate::proved::vm_leaf::{Block, Leaf};
+use crate::proved::vm_leaf::{BlockStart, Leaf};
 use crate::proved::vm_tree::link::{Link, Node};
 use crate::rattle::{AllocError, Global};
 use crate::rattle::{Box, Vec};
@@ -49,15 +49,15 @@ pub(in crate::proved::vm_tree) fn copy(tree: &Link, alloc: Global) -> Result<Lin
     }
 }
 
-/// Appends the blocks of a leaf to a list, or returns an error if an allocation fails.
-fn append_leaf(leaf: &Leaf, list: &mut Vec<Block>) -> Result<(), AllocError> {
-    leaf.part(0, leaf.len()).append_to(list)
+/// Appends the starts of the blocks of a leaf to a list, or returns an error if an allocation fails.
+fn append_leaf(leaf: &Leaf, list: &mut Vec<BlockStart>) -> Result<(), AllocError> {
+    leaf.part(0, leaf.len()).append_starts(list)
 }
 
-/// Appends the blocks of a tree to a list, or returns an error if an allocation fails.
-pub(in crate::proved::vm_tree) fn append_blocks(
+/// Appends the starts of the blocks of a tree to a list, or returns an error if an allocation fails.
+pub(in crate::proved::vm_tree) fn append_starts(
     tree: &Link,
-    list: &mut Vec<Block>,
+    list: &mut Vec<BlockStart>,
 ) -> Result<(), AllocError> {
     match tree {
         Link::Hole => Ok(()),
@@ -67,8 +67,8 @@ pub(in crate::proved::vm_tree) fn append_blocks(
         }
         Link::Fork { node, .. } => {
             let node: &Node = node;
-            append_blocks(&node.left, list)?;
-            append_blocks(&node.right, list)
+            append_starts(&node.left, list)?;
+            append_starts(&node.right, list)
         }
     }
 }

@@ -5,7 +5,7 @@
 //! A tree that is one leaf stores no summary, because a search of the leaf is as fast without it. All other
 //! calls pass the root to the recursive functions of this crate.
 
-use crate::proved::vm_leaf::{Block, Leaf};
+use crate::proved::vm_leaf::{Block, BlockStart, Leaf};
 use crate::proved::vm_ranges::{NodeState, RangeInclusive};
 use crate::proved::vm_tree::allocate::exact::{exact_at, exact_in_leaf};
 use crate::proved::vm_tree::allocate::fit::{fit_at, fit_in_leaf};
@@ -13,7 +13,7 @@ use crate::proved::vm_tree::allocate::place::Spare;
 use crate::proved::vm_tree::allocate::{count_place, fits};
 use crate::proved::vm_tree::build::build_tree;
 use crate::proved::vm_tree::change::free_summary;
-use crate::proved::vm_tree::copy::{append_blocks, copy};
+use crate::proved::vm_tree::copy::{append_starts, copy};
 use crate::proved::vm_tree::end::End;
 use crate::proved::vm_tree::find::block_at;
 use crate::proved::vm_tree::free::{free_at, free_in};
@@ -88,9 +88,12 @@ impl Tree {
         block_at(&self.root, address)
     }
 
-    /// Appends all blocks to a list, or returns an error if an allocation fails.
-    pub(in crate::proved) fn append_blocks(&self, list: &mut Vec<Block>) -> Result<(), AllocError> {
-        append_blocks(&self.root, list)
+    /// Appends the starts of all blocks to a list, or returns an error if an allocation fails.
+    pub(in crate::proved) fn append_starts(
+        &self,
+        list: &mut Vec<BlockStart>,
+    ) -> Result<(), AllocError> {
+        append_starts(&self.root, list)
     }
 
     /// Returns an iterator over all blocks, from both ends. It does not allocate.

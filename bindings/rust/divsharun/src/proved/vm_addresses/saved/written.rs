@@ -5,41 +5,53 @@
 //! The blocks decide its shape, so trees with the same blocks are written in the same way.
 
 use crate::proved::vm_addresses::AddressAllocator;
-use crate::proved::vm_leaf::Block;
+use crate::proved::vm_leaf::BlockStart;
 use crate::proved::vm_ranges::{NodeState, RangeInclusive};
 use crate::rattle::Vec;
 use crate::rattle::{AllocError, Global};
 
 /// The blocks of a space in ascending order.
+///
+/// Its model is the list of the blocks.
 pub struct WrittenBlocks {
-    list: Vec<Block>,
+    starts: Vec<BlockStart>,
+    // The last address of the space.
+    end: u64,
 }
 
 impl AddressAllocator {
     /// Returns the blocks of which the saved tree of the allocator is made, or an error if an
     /// allocation fails.
     pub fn written_blocks(&self, alloc: Global) -> core::result::Result<WrittenBlocks, AllocError> {
-        let mut list = Vec::with_capacity(alloc, (self.held_count + self.gap_count) as usize)?;
-        self.tree.append_blocks(&mut list)?;
-        Ok(WrittenBlocks { list })
+        let mut starts = Vec::with_capacity(alloc, (self.held_count + self.gap_count) as usize)?;
+        self.tree.append_starts(&mut starts)?;
+        let end = self.end();
+        Ok(WrittenBlocks { starts, end })
     }
 }
 
 impl WrittenBlocks {
     /// Returns the saved tree of all blocks.
     pub fn tree(&self) -> WrittenTree<'_> {
-        WrittenTree { blocks: &self.list }
+        WrittenTree {
+            starts: &self.starts,
+            end: self.end,
+        }
     }
 }
 
 /// The saved tree of some blocks.
-#[derive(Clone, Copy)]
+///
+/// Its model is the list of the blocks.
+#[derive(Clone)]
 pub struct WrittenTree<'a> {
-    blocks: &'a [Block],
+    starts: &'a [BlockStart],
+    // The last address of the last block.
+    end: u64,
 }
 
 /// A node of a saved tree.
-#[derive(Clone, Copy)]
+#[derive(Clone)]
 pub struct WrittenNode<'a> {
     /// The range of the block.
     pub key: RangeInclusive,
@@ -53,19 +65,38 @@ pub struct WrittenNode<'a> {
     pub height: u64,
 }
 
+/// Returns the last address before these starts, or `end` if there is no start.
+fn last_before(starts: &[BlockStart], end: u64) -> u64 {
+    match starts.first() {
+        Some(next) => next.address.saturating_sub(1),
+        None => end,
+    }
+}
+
 impl<'a> WrittenTree<'a> {
+    /// Returns `true` if there is no block, so there is no root.
+    pub fn is_empty(&self) -> bool {
+        self.starts.is_empty()
+    }
+
     /// Returns the root: the block in the middle, and the trees of the blocks before and after it.
-    pub fn root(self) -> Option<WrittenNode<'a>> {
-        let count = self.blocks.len();
-        let (before, rest) = self.blocks.split_at(count / 2);
+    pub fn root(&self) -> Option<WrittenNode<'a>> {
+        let count = self.starts.len();
+        let (before, rest) = self.starts.split_at(count / 2);
         let Some((block, after)) = rest.split_first() else {
             return None;
         };
         Some(WrittenNode {
-            key: block.key,
+            key: RangeInclusive::between(block.address, last_before(after, self.end)),
             state: block.state,
-            left: WrittenTree { blocks: before },
-            right: WrittenTree { blocks: after },
+            left: WrittenTree {
+                starts: before,
+                end: block.address.saturating_sub(1),
+            },
+            right: WrittenTree {
+                starts: after,
+                end: self.end,
+            },
             height: u64::from(count.ilog2()) + 1,
         })
     }

@@ -3,7 +3,7 @@
 //! Iteration over the blocks of a leaf from both ends.
 
 use super::{state_in, Leaf};
-use crate::proved::vm_leaf::block::Block;
+use crate::proved::vm_leaf::block::{Block, BlockStart};
 use crate::proved::vm_ranges::RangeInclusive;
 use crate::rattle::AllocError;
 use crate::rattle::Vec;
@@ -26,28 +26,6 @@ fn end_of_first(starts: &[u64], end: u64) -> u64 {
         None => end,
         Some(next) => *next - 1,
     }
-}
-
-/// Appends the blocks with these starts to a list, or returns an error if an allocation fails. Each one ends before the
-/// next start, and the last one at `end`. The bits of `held` are their states.
-fn append_tiles(
-    mut start: u64,
-    others: &[u64],
-    end: u64,
-    mut held: u64,
-    list: &mut Vec<Block>,
-) -> Result<(), AllocError> {
-    for next in others {
-        let key = RangeInclusive::between(start, *next - 1);
-        let state = state_in(held, 0);
-        list.push(Block { key, state })?;
-        start = *next;
-        held >>= 1;
-    }
-    let key = RangeInclusive::between(start, end);
-    let state = state_in(held, 0);
-    list.push(Block { key, state })?;
-    Ok(())
 }
 
 impl Leaf {
@@ -75,12 +53,19 @@ impl<'a> Blocks<'a> {
         }
     }
 
-    /// Appends the blocks that are left to a list, or returns an error if an allocation fails.
-    pub(in crate::proved) fn append_to(&self, list: &mut Vec<Block>) -> Result<(), AllocError> {
-        match self.starts.split_first() {
-            None => Ok(()),
-            Some((first, others)) => append_tiles(*first, others, self.end, self.held, list),
+    /// Appends the starts of the blocks that are left to a list, or returns an error if an allocation fails.
+    pub(in crate::proved) fn append_starts(
+        &self,
+        list: &mut Vec<BlockStart>,
+    ) -> Result<(), AllocError> {
+        let mut held = self.held;
+        for start in self.starts {
+            let address = *start;
+            let state = state_in(held, 0);
+            list.push(BlockStart { address, state })?;
+            held >>= 1;
         }
+        Ok(())
     }
 }
 
