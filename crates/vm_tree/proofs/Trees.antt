@@ -604,16 +604,4 @@ mend_parts t l r q h = subst CanMendTree q h
 pub mend_whole : (t l r s : Shape) → t ≡ Fork l r → Mends l r s → MendsTree t s
 mend_whole t l r s q h = subst (λ (x : Shape). MendsTree x s) (sym q) h
 
--- A balanced node without a leaf to be joined needs no mending.
-pub mends_itself : (l r : Shape) → CanMend l r → MIN_BLOCKS ≤ leaf_len l → MIN_BLOCKS ≤ leaf_len r → CAPACITY < leaf_len l + end_len First r →
-    CAPACITY < leaf_len r + end_len Last l → height_of l ≤ height_of r + 1 → height_of r ≤ height_of l + 1 → MendsTree (Fork l r) (Fork l r)
-mends_itself l r h a b c d low up = joined l r (can_balance l r h a b c d) (low, up)
-
--- A node that needs no mending is a tree.
-pub mended_tree : (t : Shape) → MendsTree t t → IsTree t
-mended_tree (Tip bs) h = absurd h
-mended_tree (Fork l r) h = h.tree
-
-pub ruleset mended = (mend_parts, mends_itself, high)
-
-pub ruleset mending_tree = (mend_parts, mend_whole, mended_tree, high)
+pub ruleset mending_tree = (mend_parts, mend_whole, high)

@@ -6,7 +6,7 @@ ghost use Rattle.vm_tree.specs.Mending.{CanMendTree, MendsTree};
 ghost use Rattle.vm_tree.specs.Changes.{Reports, CanUpdate, IsUpdated};
 
 use crate::link::{Link, Node, height, into_fork, summary};
-use crate::mend::{is_mended, mend};
+use crate::mend::mend;
 use std::mem;
 use vm_leaf::Summary;
 
@@ -80,9 +80,6 @@ fn restructure(tree: &mut Link) -> Change
         (side tree.new) }
     ensures changed { result ≡ Change.Structure → height_of (side tree.new) ≢ stored_height tree.old }
 {
-    if is_mended(tree) {
-        return refresh(tree);
-    }
     let (free, before) = (summary(tree), height(tree));
     let mut node = into_fork(mem::replace(tree, Link::Hole));
     let (left, at, right) = node.take_children();

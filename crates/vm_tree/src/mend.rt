@@ -122,31 +122,6 @@ fn fill_right(left: Link, spare: Box<Node>, right: Box<Leaf>) -> Link
     fork_link(first, at, left, high)
 }
 
-/// Returns `true` if mending does not change the node at a link, and its height is correct.
-#[tactic(auto, using(crate::proofs::Trees::mended))]
-pub(crate) fn is_mended(tree: &Link) -> bool
-    requires sides { CanMendTree (side tree.now) }
-    requires height_fits { height_of (side tree.now) ≤ MAX_HEIGHT }
-    ensures { IsTrue result → MendsTree (side tree.now) (side tree.now)
-        × (stored_height tree.now ≡ height_of (side tree.now)) }
-{
-    let Link::Fork {
-        height: stored,
-        node,
-        ..
-    } = tree
-    else {
-        return false;
-    };
-    let (left, right) = (&node.left, &node.right);
-    let (low, high) = (height(left), height(right));
-    low <= high + 1
-        && high <= low + 1
-        && *stored == low.max(high) + 1
-        && !joins_next(left, right, End::First)
-        && !joins_next(right, left, End::Last)
-}
-
 /// Mends a node: fills a child that is a leaf with too few blocks, merges a child that fits in one leaf with the
 /// next leaf, or balances the node.
 #[tactic(auto, using(crate::proofs::Trees::mending))]

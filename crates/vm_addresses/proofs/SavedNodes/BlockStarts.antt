@@ -1,5 +1,5 @@
 -- The blocks of a saved tree, kept as their starts.
-use Rattle.std.proofs.Common.{◌≡◌, ℕ, suc, ◌+◌, ◌*◌, ◌^◌, ◌-◌, ◌≤◌, ◌<◌, List, [], ◌∷◌, ◌++◌, length, refl, sym, ap, ◌∙◌, subst, arith}
+use Rattle.std.proofs.Common.{◌≡◌, ℕ, suc, ◌+◌, ◌*◌, ◌^◌, ◌-◌, ◌≤◌, ◌<◌, List, [], ◌∷◌, ◌++◌, length, refl, sym, ap, ◌∙◌, subst, IsTrue, ◌↔◌, ◌==◌, arith, rules}
 use Rattle.std.proofs.Math.Nat.{pow-suc}
 use Rattle.vm_ranges.specs.Range.{IsRange, MAX}
 use Rattle.vm_ranges.specs.declared.state.NodeState.{NodeState}
@@ -84,3 +84,7 @@ lowest_height n k low high =
     let e : k + 1 ≡ suc k = omega arith in
     let p : 2 ^ (k + 1) ≡ 2 ^ k * 2 = rw e (pow-suc 2 k) in
     (omega arith, omega arith)
+
+pub no_blocks : (ss : List BlockStart) (hi : ℕ) → IsTrue (length ss == 0) ↔ (blocks_from ss hi ≡ [])
+no_blocks [] hi = (λ _. refl, λ _. refl)
+no_blocks (s ∷ ss) hi = (λ e. absurd (search rules), λ e. absurd (cc))

@@ -4,7 +4,7 @@
 
 use crate::proved::vm_leaf::Summary;
 use crate::proved::vm_tree::link::{height, into_fork, summary, Link, Node};
-use crate::proved::vm_tree::mend::{is_mended, mend};
+use crate::proved::vm_tree::mend::mend;
 use core::mem;
 
 /// The parts of the summary of a subtree that a change has changed.
@@ -54,9 +54,6 @@ fn refresh(tree: &mut Link) -> Change {
 /// Mends the node at a link, of which a child has changed, and updates the link. Returns the change.
 #[inline(never)]
 fn restructure(tree: &mut Link) -> Change {
-    if is_mended(tree) {
-        return refresh(tree);
-    }
     let (free, before) = (summary(tree), height(tree));
     let mut node = into_fork(mem::replace(tree, Link::Hole));
     let (left, at, right) = node.take_children();

@@ -86,25 +86,6 @@ fn fill_right(left: Link, spare: Box<Node>, right: Box<Leaf>) -> Link {
     fork_link(first, at, left, high)
 }
 
-/// Returns `true` if mending does not change the node at a link, and its height is correct.
-pub(in crate::proved::vm_tree) fn is_mended(tree: &Link) -> bool {
-    let Link::Fork {
-        height: stored,
-        node,
-        ..
-    } = tree
-    else {
-        return false;
-    };
-    let (left, right) = (&node.left, &node.right);
-    let (low, high) = (height(left), height(right));
-    low <= high + 1
-        && high <= low + 1
-        && *stored == low.max(high) + 1
-        && !joins_next(left, right, End::First)
-        && !joins_next(right, left, End::Last)
-}
-
 /// Mends a node: fills a child that is a leaf with too few blocks, merges a child that fits in one leaf with the
 /// next leaf, or balances the node.
 pub(in crate::proved::vm_tree) fn mend(left: Link, at: u64, spare: Box<Node>, right: Link) -> Link {
