@@ -7,3 +7,5 @@
 mod fixtures;
 #[cfg(test)]
 mod ids;
+#[cfg(test)]
+mod uses;

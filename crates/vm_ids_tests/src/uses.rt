@@ -1,0 +1,72 @@
+//! Callers of calls that no library above makes. They guard against clauses from which a caller cannot prove
+//! what it needs.
+ghost use Rattle.std.specs.Prelude.{◌≡◌, ◌↔◌, drop, take, IsTrue, IfOk};
+ghost use Rattle.std.specs.Ordering.{eq_by_cmp};
+ghost use Rattle.vm_ids.specs.IdOrder.{id_state_cmp};
+ghost use Rattle.vm_ids.specs.Ids.{IsHeld, IsLowestNotHeld, held_ids};
+ghost use Rattle.vm_ids.specs.IdRequests.{MakesWithHeldIds, free_ids};
+
+use crate::fixtures::{ENOUGH, expect_eq, expect_true};
+use std::alloc::Global;
+use vm_ids::{HeldIds, IdAllocator};
+use vm_ranges::Result;
+
+/// Creates an allocator of which some ids are allocated.
+fn with_allocated(alloc: Global, first: u32, last: u32, held: &[u32]) -> Result<IdAllocator>
+    ensures { MakesWithHeldIds first last held.now result }
+{
+    IdAllocator::with_held(alloc, first, last, held)
+}
+
+/// Allocates the lowest free id.
+fn lowest(ids: &mut IdAllocator) -> Result<u32>
+    ensures { IfOk result (λ id. IsLowestNotHeld ids.old id) }
+{
+    ids.allocate_id()
+}
+
+/// Allocates the lowest free ids.
+fn several(alloc: Global, ids: &mut IdAllocator, count: usize) -> Result<Vec<u32>>
+    ensures { IfOk result (λ list. list.items ≡ take count (free_ids ids.old)) }
+{
+    ids.allocate_ids(alloc, count)
+}
+
+/// Returns `true` if an id is allocated.
+fn is_taken(ids: &IdAllocator, id: u32) -> bool
+    ensures { IsTrue result ↔ IsHeld ids.now id }
+{
+    ids.is_allocated(id)
+}
+
+/// Returns the allocated ids without the lowest ones.
+fn after(ids: &IdAllocator, count: u64) -> HeldIds<'_>
+    ensures { result ≡ drop count (held_ids ids.now) }
+{
+    let mut rest = ids.held_ids();
+    rest.advance_by(count);
+    rest
+}
+
+/// Returns `true` if two allocators have the same range and the same ids.
+fn are_same(one: &IdAllocator, other: &IdAllocator) -> bool
+    ensures { result ≡ eq_by_cmp id_state_cmp one.now other.now }
+{
+    one == other
+}
+
+#[test]
+fn uses(rt: HostRuntime) {
+    let mut ids = with_allocated(rt.alloc(), 0, 9, &[2, 4]).expect(&rt, ENOUGH);
+    expect_eq(&rt, &lowest(&mut ids), &Ok(0), &"the lowest");
+    let all = several(rt.alloc(), &mut ids, 7).expect(&rt, ENOUGH);
+    expect_eq(
+        &rt,
+        &all.as_slice(),
+        &[1, 3, 5, 6, 7, 8, 9].as_slice(),
+        &"the others",
+    );
+    expect_true(&rt, is_taken(&ids, 9) && !is_taken(&ids, 10), &"the last");
+    expect_eq(&rt, &after(&ids, 8).next(), &Some(8), &"the ninth");
+    expect_true(&rt, are_same(&ids, &ids), &"itself");
+}
