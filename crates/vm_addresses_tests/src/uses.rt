@@ -1,6 +1,6 @@
 //! Callers of calls that no library above makes. They guard against clauses from which a caller cannot prove
 //! what it needs.
-ghost use Rattle.std.specs.Prelude.{◌≡◌, ◌↔◌, ◌≤◌, ◌+◌, ◌*◌, ℕ, length, false, Err, IsTrue, IsOk, IfOk};
+ghost use Rattle.std.specs.Prelude.{◌≡◌, ◌↔◌, ◌≤◌, ◌+◌, ◌*◌, ℕ, length, false, Err, IsTrue, IsOk, IfOk, IfErr, ◌≢◌};
 ghost use Rattle.std.specs.List.{Contains};
 ghost use Rattle.std.specs.declared.cmp.Ordering.TheVariants.{Less};
 ghost use Rattle.vm_allocator.specs.Range.{Range, IsIn};
@@ -11,18 +11,56 @@ ghost use Rattle.vm_allocator.specs.Comparison.{state_cmp};
 ghost use Rattle.vm_allocator.specs.Conflicts.{ConflictDecides};
 ghost use Rattle.vm_allocator.specs.Counts.Steps.{EntersToAllocate};
 ghost use Rattle.vm_allocator.specs.Moves.{MovesRange};
-ghost use Rattle.vm_allocator.specs.Request.{request_for};
+ghost use Rattle.vm_allocator.specs.Alignment.{AlignsUp};
+ghost use Rattle.vm_allocator.specs.Making.{MakesRange};
+ghost use Rattle.vm_allocator.specs.Request.{request_for, MakesConstraint, MakesLimits};
 ghost use Rattle.vm_allocator.specs.Values.NodesRead.{EndsNode, MakesOfNodes};
 ghost use Rattle.vm_allocator.specs.Values.SavedTrees.{HasHeldKeys, HasTreeOf};
 
 use crate::fixtures::{ENOUGH, expect_eq, expect_true, made, range};
+use serde_json::Value;
 use std::alloc::Global;
 use std::cmp::Ordering;
-use vm_allocator::allocation_engine::NodeState;
+use vm_allocator::allocation_engine::{NodeState, align_up};
 use vm_allocator::{
     AddressAllocator, AllocPolicy, Condition, Conflict, Constraint, ListError, RangeInclusive,
-    ReadNodes, Result, SavedError, Side,
+    ReadNodes, Result, SavedError, Side, ValueError,
 };
+
+/// Returns the lowest multiple from an address on.
+fn multiple(address: u64, alignment: u64) -> Result<u64>
+    ensures { AlignsUp address alignment result }
+{
+    align_up(address, alignment)
+}
+
+/// Creates a range.
+fn between(start: u64, end: u64) -> Result<RangeInclusive>
+    ensures { MakesRange start end result }
+{
+    RangeInclusive::new(start, end)
+}
+
+/// Reads a range, for which no memory is needed.
+fn read(alloc: Global, value: &Value) -> std::result::Result<RangeInclusive, ValueError>
+    ensures { IfErr result (λ error. error ≢ ValueError.OutOfMemory) }
+{
+    RangeInclusive::from_value(alloc, value)
+}
+
+/// Creates a request for a range at `start`.
+fn request_at(size: u64, align: u64, start: u64) -> Result<Constraint>
+    ensures { MakesConstraint (request_for size align (AllocPolicy.ExactMatch start)) result }
+{
+    Constraint::new(size, align, AllocPolicy::ExactMatch(start))
+}
+
+/// Limits a request.
+fn limited(request: Constraint, low: u64, high: u64) -> Result<Constraint>
+    ensures { MakesLimits request low high result }
+{
+    request.within_limits(low, high)
+}
 
 /// Returns what an `ExactMatch` request conflicts with: nothing if and only if its place is free.
 fn blocker(space: &AddressAllocator, request: Constraint) -> Option<Conflict>
@@ -135,9 +173,24 @@ fn of_keys(
 }
 
 #[test]
+fn uses_of_ranges(rt: HostRuntime) {
+    expect_eq(&rt, &multiple(9, 8), &Ok(16), &"the lowest multiple");
+    expect_eq(&rt, &between(1, 2), &Ok(range(&rt, 1, 2)), &"two addresses");
+    let saved = range(&rt, 1, 2).to_value(rt.alloc()).expect(&rt, ENOUGH);
+    expect_eq(
+        &rt,
+        &read(rt.alloc(), &saved),
+        &Ok(range(&rt, 1, 2)),
+        &"the same",
+    );
+    let high = request_at(8, 8, 8).expect(&rt, "it is a request");
+    expect_eq(&rt, &limited(high, 0, u64::MAX), &Ok(high), &"no limit");
+}
+
+#[test]
 fn uses(rt: HostRuntime) {
     let mut space = made(&rt, 0, 16);
-    let high = Constraint::new(8, 8, AllocPolicy::ExactMatch(8)).expect(&rt, "it is a request");
+    let high = request_at(8, 8, 8).expect(&rt, "it is a request");
     expect_eq(&rt, &blocker(&space, high), &None, &"the upper half");
     expect_eq(
         &rt,
