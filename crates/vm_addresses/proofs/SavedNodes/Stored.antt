@@ -210,8 +210,15 @@ begins held children outer nodes h = record {
   keys = h.keys ∙ sym (keys_join nodes.outer nodes.children) ∙ sym (append-nil (all_keys (nodes.outer ++ nodes.children ∷ [])));
 }
 
-depth_is : (stored : Stored) (nodes : NodesRead) → IsStoredFor stored nodes → length stored.outer ≡ length nodes.outer
-depth_is stored nodes h = as_many stored.outer nodes.outer h.outer
+-- The fields of a reader after a node began.
+begun_fields : (held : List Range) (root : Children) (nested more : List Children) (nodes : NodesRead) →
+    more ≡ nested ++ childless_spans ∷ [] → IsStoredFor (stored_in held root nested) nodes → IsStoredFor (stored_in held root more) (begun nodes)
+begun_fields held root nested more nodes e h = subst (λ (v : Stored). IsStoredFor v (begun nodes)) (opened held root nested more e)
+    (begins held (innermost root nested) (around root nested) nodes h)
+
+open_nodes : (held : List Range) (root : Children) (nested : List Children) (nodes : NodesRead) →
+    IsStoredFor (stored_in held root nested) nodes → length nested ≡ length nodes.outer
+open_nodes held root nested nodes h = sym (depth root nested) ∙ as_many (around root nested) nodes.outer h.outer
 
 -- The value of a reader without an error.
 is_ok : (old : Result Stored SavedError) (failed : Option SavedError) (stored : Stored) → stored_unless failed stored ≡ old →
@@ -222,62 +229,29 @@ is_ok old failed stored e none = ap (λ (f : Option SavedError). stored_unless f
 abbrev Refuses : ℕ → SavedError → Type 0
 Refuses depth e = ((e ≡ Violated Nesting) × (MAX_NESTING_REPAIRED ≤ depth)) ⊎ ((e ≡ OutOfMemory) × (depth < MAX_NESTING_REPAIRED))
 
-fails_begin : (old : Result Stored SavedError) (failed : Option SavedError) (held : List Range) (children : Children)
-    (outer : List Children) (e : SavedError) →
-    stored_unless failed (record { held = held; children = children; outer = outer }) ≡ old → failed ≡ None → Refuses (length outer) e →
-    BeginsNode old (Err e) (Err e)
-fails_begin old failed held children outer e is none r =
-    subst (λ (v : Result Stored SavedError). BeginsNode v (Err e) (Err e)) (is_ok old failed _ is none)
-    (λ nodes stored. (refl, subst (λ (n : ℕ). Refuses n e) (depth_is _ nodes stored) r))
-
-ends_begin : (old : Result Stored SavedError) (failed : Option SavedError) (held : List Range) (children : Children)
-    (outer more : List Children) →
-    stored_unless failed (record { held = held; children = children; outer = outer }) ≡ old → failed ≡ None →
-    (length outer < MAX_NESTING_REPAIRED) × (more ≡ outer ++ children ∷ []) →
-    BeginsNode old (Ok tt) (stored_unless failed (record { held = held; children = record { left = None; right = None }; outer = more }))
-ends_begin old failed held children outer more is none n =
-    let new : Stored = record { held = held; children = record { left = None; right = None }; outer = outer ++ children ∷ [] } in
-    let same : Ok new ≡ stored_unless failed (record { held = held; children = record { left = None; right = None }; outer = more }) = rw
-    (n.1, none) refl in
-    subst (λ (v : Result Stored SavedError). BeginsNode v (Ok tt)
-    (stored_unless failed (record { held = held; children = record { left = None; right = None }; outer = more })))
-    (is_ok old failed _ is none)
-    (λ nodes stored. (
-      subst (λ (k : ℕ). k < MAX_NESTING_REPAIRED) (depth_is _ nodes stored) n.0,
-      subst (λ (v : Result Stored SavedError). HasRead v (begun nodes)) same (begins held children outer nodes stored),
-    ))
-
-begins_reader : (failed : Option SavedError) (held : List Range) (children : Children) (outer more : List Children) →
-    IsReader (stored_unless failed (record { held = held; children = children; outer = outer })) → failed ≡ None →
-    (length outer < MAX_NESTING_REPAIRED) × (more ≡ outer ++ children ∷ []) →
-    IsReader (stored_unless failed (record { held = held; children = record { left = None; right = None }; outer = more }))
-begins_reader failed held children outer more reader none n =
-    let read = subst (λ (f : Option SavedError). IsReader (stored_unless f (record { held = held; children = children; outer = outer })))
-    none reader in
-    rw (n.1, none) (begun read.0, begins held children outer read.0 read.1)
-
--- The same, for the fields of a reader.
 module _ (old : Result Stored SavedError) (failed : Option SavedError) (held : List Range) (root : Children) (nested : List Children)
     (is : stored_unless failed (stored_in held root nested) ≡ old) (none : failed ≡ None) where
   pub begin_fails : (e : SavedError) → Refuses (length nested) e → BeginsNode old (Err e) (Err e)
-  begin_fails e r = fails_begin old failed held (innermost root nested) (around root nested) e is none
-      (subst (λ (n : ℕ). Refuses n e) (sym (depth root nested)) r)
+  begin_fails e r = subst (λ (v : Result Stored SavedError). BeginsNode v (Err e) (Err e)) (is_ok old failed _ is none)
+      (λ nodes stored. (refl, subst (λ (n : ℕ). Refuses n e) (open_nodes held root nested nodes stored) r))
 
   pub begin_ends : (more : List Children) → (length nested < MAX_NESTING_REPAIRED) × (more ≡ nested ++ childless_spans ∷ []) →
       BeginsNode old (Ok tt) (stored_unless failed (stored_in held root more))
   begin_ends more n =
-      subst (λ (v : Stored). BeginsNode old (Ok tt) (stored_unless failed v)) (opened held root nested more n.1)
-      (ends_begin old failed held (innermost root nested) (around root nested) _ is none
-      (subst (λ (k : ℕ). k < MAX_NESTING_REPAIRED) (sym (depth root nested)) n.0, refl))
+      subst (λ (v : Result Stored SavedError). BeginsNode v (Ok tt) (stored_unless failed (stored_in held root more)))
+      (is_ok old failed _ is none)
+      (λ nodes stored. (
+        subst (λ (k : ℕ). k < MAX_NESTING_REPAIRED) (open_nodes held root nested nodes stored) n.0,
+        rw none (begun_fields held root nested more nodes n.1 stored),
+      ))
 
 pub reader_begins : (failed : Option SavedError) (held : List Range) (root : Children) (nested more : List Children) →
     IsReader (stored_unless failed (stored_in held root nested)) → failed ≡ None →
     (length nested < MAX_NESTING_REPAIRED) × (more ≡ nested ++ childless_spans ∷ []) →
     IsReader (stored_unless failed (stored_in held root more))
 reader_begins failed held root nested more reader none n =
-    subst (λ (v : Stored). IsReader (stored_unless failed v)) (opened held root nested more n.1)
-    (begins_reader failed held (innermost root nested) (around root nested) _ reader none
-    (subst (λ (k : ℕ). k < MAX_NESTING_REPAIRED) (sym (depth root nested)) n.0, refl))
+    let read = subst (λ (f : Option SavedError). IsReader (stored_unless f (stored_in held root nested))) none reader in
+    rw none (begun read.0, begun_fields held root nested more read.0 n.1 read.1)
 
 -- ---- Ending
 
@@ -315,21 +289,30 @@ OrdersKeys old right count new =
     (before rights lasts : List Range) → old ≡ before ++ (rights ++ lasts) → length rights ≡ right → length lasts ≡ count →
     new ≡ before ++ (lasts ++ rights)
 
-module _ (side : Side) (b : Block) (h : ℕ) (held : List Range) (children parent : Children) (outer left : List Children)
-    (is_last : outer ≡ left ++ parent ∷ []) where
-  abbrev old : Stored
-  old = record { held = held; children = children; outer = outer }
+-- A node ends: the innermost one of a reader, whose children are `children`.
+module _ (side : Side) (b : Block) (h : ℕ) (held : List Range) (root children : Children) (nested outer : List Children)
+    (is_last : nested ≡ outer ++ children ∷ []) where
+  abbrev parent : Children
+  parent = innermost root outer
+
+  abbrev Reads : NodesRead → Type 0
+  Reads nodes = IsStoredFor (stored_in held root nested) nodes
 
   abbrev Fails : SavedError → Type 0
-  Fails e = (nodes : NodesRead) → IsStoredFor old nodes → EndFails side (node_of nodes b h) nodes e
+  Fails e = (nodes : NodesRead) → Reads nodes → EndFails side (node_of nodes b h) nodes e
 
-  last : (nodes : NodesRead) → IsStoredFor old nodes → Last left parent nodes.outer
-  last nodes stored = last_stands left parent nodes.outer (subst (λ (v : List Children). StandForAll v nodes.outer) is_last stored.outer)
+  own : (nodes : NodesRead) → Reads nodes → IsStoredFor (record { held = held; children = children; outer = root ∷ outer }) nodes
+  own nodes reads = subst (λ (v : Stored). IsStoredFor v nodes)
+      (rw (is_last, innermost_push root children outer, around_push root children outer) refl) reads
+
+  last : (nodes : NodesRead) → Reads nodes → Last (around root outer) parent nodes.outer
+  last nodes reads = last_stands (around root outer) parent nodes.outer
+      (subst (λ (v : List Children). StandForAll v nodes.outer) (sym (levels root outer)) (own nodes reads).outer)
 
   -- There is a child on this side.
   pub child_is_there : is_some (child_span side parent) ≡ true → Fails (Violated Tree)
-  child_is_there e = λ nodes stored.
-      let l = last nodes stored in
+  child_is_there e = λ nodes reads.
+      let l = last nodes reads in
       inl (
         refl,
         λ (other : CanEnd side nodes).
@@ -339,23 +322,23 @@ module _ (side : Side) (b : Block) (h : ℕ) (held : List Range) (children paren
       )
 
   module _ (free : is_some (child_span side parent) ≡ false) (range : IsRange b.key.start b.key.end) where
-    can : (nodes : NodesRead) → IsStoredFor old nodes → CanEnd side nodes
-    can nodes stored =
-        let l = last nodes stored in
+    can : (nodes : NodesRead) → Reads nodes → CanEnd side nodes
+    can nodes reads =
+        let l = last nodes reads in
         record {
           parent = l.parent;
           outer = l.outer;
           is_last = l.is_last;
-          is_new = is_absent _ _ (child_stands side parent l.parent l.span)
-              free;
+          is_new = is_absent _ _ (child_stands side parent l.parent l.span) free;
         }
 
     -- The subtree is not readable.
     pub not_readable : span_over children.left b children.right h ≡ None → Fails (Violated Keys)
-    not_readable e = λ nodes stored.
+    not_readable e = λ nodes reads.
+        let stored = own nodes reads in
         let none : span_of (node_of nodes b h) ≡ None = rw (stored.children.left.is_span, stored.children.right.is_span, e) refl in
         inr (
-          can nodes stored,
+          can nodes reads,
           inl (
             refl,
             λ (r : IsReadable (node_of nodes b h)).
@@ -366,40 +349,44 @@ module _ (side : Side) (b : Block) (h : ℕ) (held : List Range) (children paren
         )
 
     module _ (s : Span) (is : span_over children.left b children.right h ≡ Some s) where
-      stands : (nodes : NodesRead) → IsStoredFor old nodes → StandsFor (Some s) (node_of nodes b h)
-      stands nodes stored = record {
-        is_span = rw (stored.children.left.is_span, stored.children.right.is_span, is) refl;
-        ranges = (stored.children.left.ranges, stored.children.right.ranges, range);
-      }
+      stands : (nodes : NodesRead) → Reads nodes → StandsFor (Some s) (node_of nodes b h)
+      stands nodes reads =
+          let stored = own nodes reads in
+          record {
+            is_span = rw (stored.children.left.is_span, stored.children.right.is_span, is) refl;
+            ranges = (stored.children.left.ranges, stored.children.right.ranges, range);
+          }
 
       -- Memory for the key ran out.
       pub no_memory : Fails OutOfMemory
-      no_memory = λ nodes stored.
-          let st = stands nodes stored in
+      no_memory = λ nodes reads.
+          let st = stands nodes reads in
           let means = sound (node_of nodes b h) (Some s) st.ranges st.is_span in
-          inr (can nodes stored, inr (refl, means.readable))
+          inr (can nodes reads, inr (refl, means.readable))
 
       -- The node ends.
-      pub node_ends : (mid new : List Range) (joined : Children) → InsertsKey held (held_in children.right) b mid →
-          OrdersKeys mid (held_in parent.right) (held_in (Some s)) new →
-          joined ≡ with_span side s parent → EndsStored side b h old (Ok tt) (record { held = new; children = joined; outer = left })
+      pub node_ends : (mid new : List Range) (top : Children) (others : List Children) →
+          InsertsKey held (held_in children.right) b mid → OrdersKeys mid (held_in parent.right) (held_in (Some s)) new →
+          innermost top others ≡ with_span side s parent → around top others ≡ around root outer →
+          EndsStored side b h (stored_in held root nested) (Ok tt) (stored_in new top others)
       unfolding can last
-      node_ends mid new joined inserted ordered e = λ nodes stored.
-          let l = last nodes stored in
-          let st = stands nodes stored in
+      node_ends mid new top others inserted ordered e f = λ nodes reads.
+          let l = last nodes reads in
+          let stored = own nodes reads in
+          let st = stands nodes reads in
           let t = node_of nodes b h in
           let lefts = held_keys nodes.children.left in
           let rights = held_keys nodes.children.right in
-          let own = range_if_held b.state b.key in
+          let own_keys = range_if_held b.state b.key in
           let before = all_keys l.outer in
           let all = all_keys nodes.outer in
           let right_count = held_is children.right nodes.children.right
           (sound _ _ stored.children.right.ranges stored.children.right.is_span) in
           let count = held_is (Some s) t (sound t (Some s) st.ranges st.is_span) in
           let parent_count = held_is parent.right l.parent.right (sound _ _ l.span.right.ranges l.span.right.is_span) in
-          let made : mid ≡ (all ++ lefts) ++ (own ++ rights) = inserted (all ++ lefts) rights
+          let made : mid ≡ (all ++ lefts) ++ (own_keys ++ rights) = inserted (all ++ lefts) rights
           (stored.keys ∙ sym (append_assoc all lefts rights)) right_count in
-          let keys : mid ≡ all ++ held_keys t = made ∙ append_assoc all lefts (own ++ rights)
+          let keys : mid ≡ all ++ held_keys t = made ∙ append_assoc all lefts (own_keys ++ rights)
           ∙ ap (λ (v : List Range). all ++ v) (sym (held_node (saved_blocks nodes.children.left) b (saved_blocks nodes.children.right))) in
           let cut : all ≡ before ++ keys_of l.parent = ap all_keys l.is_last ∙ keys_join l.outer l.parent in
           let split : mid ≡ (before ++ held_keys l.parent.left) ++ (held_keys l.parent.right ++ held_keys t) =
@@ -407,39 +394,14 @@ module _ (side : Side) (b : Block) (h : ℕ) (held : List Range) (children paren
           (cut ∙ sym (append_assoc before (held_keys l.parent.left) (held_keys l.parent.right)))
           ∙ append_assoc (before ++ held_keys l.parent.left) (held_keys l.parent.right) (held_keys t) in
           let moved = ordered (before ++ held_keys l.parent.left) (held_keys l.parent.right) (held_keys t) split parent_count count in (
-            can nodes stored,
+            can nodes reads,
             record {
               children = subst (λ (v : Children). StandForBoth v (with_child side t l.parent)) (sym e)
                   (stands_with side parent l.parent s t l.span st);
-              outer = l.spans;
-              keys = moved ∙ placed side before l.parent t (can nodes stored).is_new;
+              outer = subst (λ (v : List Children). StandForAll v l.outer) (sym f) l.spans;
+              keys = moved ∙ placed side before l.parent t (can nodes reads).is_new;
             },
           )
-
--- The same, for the fields of a reader. The innermost node is cut off.
-module _ (side : Side) (b : Block) (h : ℕ) (held : List Range) (root children : Children) (nested outer : List Children)
-    (is_last : nested ≡ outer ++ children ∷ []) where
-  innermost_is : record { held = held; children = children; outer = root ∷ outer } ≡ stored_in held root nested
-  innermost_is = rw (is_last, innermost_push root children outer, around_push root children outer) refl
-
-  pub fails_with : (e : SavedError) →
-      ((nodes : NodesRead) → IsStoredFor (record { held = held; children = children; outer = root ∷ outer }) nodes →
-      EndFails side (node_of nodes b h) nodes e) →
-      (nodes : NodesRead) → IsStoredFor (stored_in held root nested) nodes → EndFails side (node_of nodes b h) nodes e
-  fails_with e f = subst (λ (v : Stored). (nodes : NodesRead) → IsStoredFor v nodes → EndFails side (node_of nodes b h) nodes e)
-      innermost_is f
-
-  pub ends_with : (new : Stored) →
-      EndsStored side b h (record { held = held; children = children; outer = root ∷ outer }) (Ok tt) new →
-      EndsStored side b h (stored_in held root nested) (Ok tt) new
-  ends_with new e = subst (λ (v : Stored). EndsStored side b h v (Ok tt) new) innermost_is e
-
--- The new values are those of the fields of a reader.
-pub stored_as : (side : Side) (b : Block) (h : ℕ) (old : Stored) (held : List Range) (root : Children) (nested : List Children)
-    (outer written : List Children) → (written ≡ nested) → around root nested ≡ outer →
-    EndsStored side b h old (Ok tt) (record { held = held; children = innermost root nested; outer = outer }) →
-    EndsStored side b h old (Ok tt) (stored_in held root written)
-stored_as side b h old held root nested outer written e f ends = rw (e, f) ends
 
 -- ---- The calls of a reader
 

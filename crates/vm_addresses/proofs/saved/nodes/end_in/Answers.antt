@@ -5,44 +5,32 @@ use Rattle.vm_leaf.specs.declared.block.Block.{Block}
 use Rattle.vm_addresses.specs.Checks.Spans.{held_in}
 use Rattle.vm_addresses.specs.Values.NodesRead.{around, child_span, innermost, with_span}
 use Rattle.vm_addresses.specs.declared.saved.nodes.Children.{Children}
-use Rattle.vm_addresses.proofs.SavedNodes.Stored.{InsertsKey, OrdersKeys, child_is_there, depth, ends_with, fails_with, levels, not_readable, no_memory, node_ends, stored_as}
+use Rattle.vm_addresses.proofs.SavedNodes.Stored.{InsertsKey, OrdersKeys, child_is_there, depth, not_readable, no_memory, node_ends}
 use Rattle.vm_addresses.proofs.saved.nodes.end_in.Goals as goal
 
 pub returns-then-has_child : goal.returns-then-has_child
 returns-then-has_child c =
-    let b : Block = record { key = c.args.key; state = c.args.state } in
-    let parent : Children = innermost c.args.root.now c.in-Some.outer.now in
-    let there : is_some (child_span c.args.side parent) ≡ true = ap (λ (v : Children). is_some (child_span c.args.side v))
-    (sym c.innermost-parent.ensures) ∙ sym c.has_child.ensures ∙ c.if-has_child.true in
-    fails_with c.args.side b c.args.height _ c.args.root.now c.in-Some.children.now _ c.in-Some.outer.now
-    (sym c.deref.ensures.value ∙ c.in-Some.ensures.cases.0) _
-    (child_is_there c.args.side b c.args.height _ _ parent _ (around c.args.root.now c.in-Some.outer.now)
-    (sym (levels c.args.root.now c.in-Some.outer.now)) there)
+    let there : is_some (child_span c.args.side (innermost c.args.root.now c.in-Some.outer.now)) ≡ true = ap
+    (λ (v : Children). is_some (child_span c.args.side v)) (sym c.innermost-parent.ensures) ∙ sym c.has_child.ensures ∙ c.if-has_child.true in
+    child_is_there c.args.side (record { key = c.args.key; state = c.args.state }) c.args.height _ c.args.root.now c.in-Some.children.now _
+    c.in-Some.outer.now (sym c.deref.ensures.value ∙ c.in-Some.ensures.cases.0) there
 
 pub returns-in_default-span_over : goal.returns-in_default-span_over
 returns-in_default-span_over c =
-    let b : Block = record { key = c.args.key; state = c.args.state } in
-    let parent : Children = innermost c.args.root.now c.in-Some.outer.now in
-    let none : is_some (child_span c.args.side parent) ≡ false = ap (λ (v : Children). is_some (child_span c.args.side v))
-    (sym c.innermost-parent.ensures) ∙ sym c.has_child.ensures ∙ c.if-has_child.false in
-    fails_with c.args.side b c.args.height _ c.args.root.now c.in-Some.children.now _ c.in-Some.outer.now
-    (sym c.deref.ensures.value ∙ c.in-Some.ensures.cases.0) _
-    (not_readable c.args.side b c.args.height _ _ parent _ (around c.args.root.now c.in-Some.outer.now)
-    (sym (levels c.args.root.now c.in-Some.outer.now)) none c.span_over.ensures.range
-    (sym c.span_over.ensures.span ∙ c.in_default-span_over.is))
+    let none : is_some (child_span c.args.side (innermost c.args.root.now c.in-Some.outer.now)) ≡ false = ap
+    (λ (v : Children). is_some (child_span c.args.side v)) (sym c.innermost-parent.ensures) ∙ sym c.has_child.ensures ∙ c.if-has_child.false in
+    not_readable c.args.side (record { key = c.args.key; state = c.args.state }) c.args.height _ c.args.root.now c.in-Some.children.now _
+    c.in-Some.outer.now (sym c.deref.ensures.value ∙ c.in-Some.ensures.cases.0) none c.span_over.ensures.range
+    (sym c.span_over.ensures.span ∙ c.in_default-span_over.is)
 
 pub returns-in_err-insert_key : goal.returns-in_err-insert_key
 returns-in_err-insert_key c =
     let is : c.from_residual.result ≡ Err OutOfMemory = search rules in
-    let b : Block = record { key = c.args.key; state = c.args.state } in
-    let parent : Children = innermost c.args.root.now c.in-Some.outer.now in
-    let none : is_some (child_span c.args.side parent) ≡ false = ap (λ (v : Children). is_some (child_span c.args.side v))
-    (sym c.innermost-parent.ensures) ∙ sym c.has_child.ensures ∙ c.if-has_child.false in
-    rw is (fails_with c.args.side b c.args.height _ c.args.root.now c.in-Some.children.now _ c.in-Some.outer.now
-    (sym c.deref.ensures.value ∙ c.in-Some.ensures.cases.0) _
-    (no_memory c.args.side b c.args.height _ _ parent _ (around c.args.root.now c.in-Some.outer.now)
-    (sym (levels c.args.root.now c.in-Some.outer.now)) none c.span_over.ensures.range
-    c.in-Some-span_over.span (sym c.span_over.ensures.span ∙ c.in-Some-span_over.is)))
+    let none : is_some (child_span c.args.side (innermost c.args.root.now c.in-Some.outer.now)) ≡ false = ap
+    (λ (v : Children). is_some (child_span c.args.side v)) (sym c.innermost-parent.ensures) ∙ sym c.has_child.ensures ∙ c.if-has_child.false in
+    rw is (no_memory c.args.side (record { key = c.args.key; state = c.args.state }) c.args.height _ c.args.root.now c.in-Some.children.now _
+    c.in-Some.outer.now (sym c.deref.ensures.value ∙ c.in-Some.ensures.cases.0) none c.span_over.ensures.range c.in-Some-span_over.span
+    (sym c.span_over.ensures.span ∙ c.in-Some-span_over.is))
 
 pub returns : goal.returns
 returns c =
@@ -62,17 +50,16 @@ returns c =
     let long = c.deref.ensures.len in
     let left : c.deref_mut.result.now ≡ outer = c.deref_mut.ensures.value ∙ c.pop.ensures.rest ∙ ap (take _) cut
     ∙ take_at outer (c.in-Some.children.now ∷ []) _ (omega arith) in
-    let last : innermost c.set_innermost.new.root c.set_innermost.new.nested ≡ with_span c.args.side c.in-Some-span_over.span parent =
+    let top : Children = c.set_innermost.new.root in
+    let last : innermost top c.set_innermost.new.nested ≡ with_span c.args.side c.in-Some-span_over.span parent =
     c.set_innermost.ensures.last ∙ ap (λ (v : List Children). with_span c.args.side c.in-Some-span_over.span (innermost root v)) left in
-    let others : around c.set_innermost.new.root c.set_innermost.new.nested ≡ around root outer =
+    let others : around top c.set_innermost.new.nested ≡ around root outer =
     c.set_innermost.ensures.others ∙ ap (around root) left in
-    let long-new = depth c.set_innermost.new.root c.set_innermost.new.nested in
+    let long-new = depth top c.set_innermost.new.nested in
     let long-left = depth root outer in
     let same-long = ap length others in
     let written = take_at c.set_innermost.new.nested (drop (length c.set_innermost.new.nested) c.pop.new.self.items) c.pop.new.self.len
     (omega (arith, ap length left, c.deref_mut.ensures.len)) in
-    stored_as c.args.side b c.args.height _ _ _ _ _ _ written others
-    (ends_with c.args.side b c.args.height _ root c.in-Some.children.now _ outer cut _
-    (node_ends c.args.side b c.args.height _ _ parent _ (around root outer) (sym (levels root outer)) none
-    c.span_over.ensures.range
-    c.in-Some-span_over.span (sym c.span_over.ensures.span ∙ c.in-Some-span_over.is) _ _ _ inserted ordered last))
+    node_ends c.args.side b c.args.height _ root c.in-Some.children.now _ outer cut none c.span_over.ensures.range
+    c.in-Some-span_over.span (sym c.span_over.ensures.span ∙ c.in-Some-span_over.is) _ _ top _ inserted ordered
+    (ap (innermost top) written ∙ last) (ap (around top) written ∙ others)
