@@ -300,9 +300,9 @@ static void do_without_memory(void) {
 enum { RANGES = 20000 };
 
 /* The maximum numbers of bytes for each range, which are below the limit of the header. Saving
- * lists the range and its gap in 24 bytes each. Reading lists the range in 16 bytes, and an eighth
+ * lists the range and its gap in 16 bytes each. Reading lists the range in 16 bytes, and an eighth
  * more. A text can be refused when the tree is built. */
-enum { SAVING = 2 * 24, READING = 18, REFUSING = READING + 22 };
+enum { SAVING = 2 * 16, READING = 18, REFUSING = READING + 22 };
 
 /* Returns the space with all ranges. */
 static dvs_address_allocator *many_ranges(void) {

@@ -897,11 +897,11 @@ fn a_saved_view_is_written_without_an_allocation() {
     assert_eq!(json(&views.0), json(&manager));
     assert_eq!(json(&views.1), json(&space));
     assert_eq!(format!("{:?}", views.1), format!("Saved({space:?})"));
-    // A block has 24 bytes.
+    // A block has 16 bytes in the list.
     let large = windows(3000);
     let blocks = (large.held_count() + large.gap_count()) as usize;
     let ((view, bytes), requests) = refusing(0, || peak_of(|| large.try_saved()));
-    assert!(view.is_ok() && (bytes, requests) == (24 * blocks, 1));
+    assert!(view.is_ok() && (bytes, requests) == (16 * blocks, 1));
     let mut bytes = Vec::with_capacity(10_000);
     let (written, requests) = refusing(0, || {
         packed::to_bytes_in(&views.0, &mut bytes).and(packed::to_bytes_in(&views.1, &mut bytes))
