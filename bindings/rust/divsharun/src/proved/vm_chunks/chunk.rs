@@ -1,6 +1,6 @@
 // Written by bindings/erase from crates/vm_chunks/src/chunk.rt: do not edit.
 
-//! A chunk: at most 64 entries, with memory for 64. Only creating it can fail.
+//! A chunk: at most 64 entries. A new one has memory for 8, and grows once.
 
 use crate::rattle::Vec;
 mod runs;
@@ -12,6 +12,9 @@ pub(in crate::proved) use runs::Added;
 /// The maximum number of entries of a chunk.
 pub(in crate::proved) const MAX_ENTRIES: usize = 64;
 
+/// The number of entries for which a new chunk has memory. Many lists stay so short.
+const FIRST_ENTRIES: usize = 8;
+
 /// The entries next to a key.
 #[derive(Clone, Copy)]
 pub(in crate::proved) struct Gap<E: Entry> {
@@ -21,7 +24,7 @@ pub(in crate::proved) struct Gap<E: Entry> {
     pub(in crate::proved) below: Option<E>,
 }
 
-/// At most 64 entries, with memory for 64.
+/// At most 64 entries, with memory for 8 or for 64.
 ///
 /// Its model is the list of its entries.
 #[derive(Debug)]
@@ -32,13 +35,13 @@ pub(in crate::proved) struct Chunk<E: Entry> {
 impl<E: Entry> Chunk<E> {
     /// Creates an empty chunk. It allocates once.
     pub(in crate::proved) fn new(alloc: Global) -> Result<Self, AllocError> {
-        let entries = Vec::with_capacity(alloc, MAX_ENTRIES)?;
+        let entries = Vec::with_capacity(alloc, FIRST_ENTRIES)?;
         Ok(Chunk { entries })
     }
 
-    /// Returns a copy. It allocates once.
+    /// Returns a copy with as much memory. It allocates once.
     pub(in crate::proved) fn try_clone(&self, alloc: Global) -> Result<Self, AllocError> {
-        let mut entries = Vec::with_capacity(alloc, MAX_ENTRIES)?;
+        let mut entries = Vec::with_capacity(alloc, self.entries.capacity())?;
         let Ok(()) = entries.extend_from_slice(self.entries.as_slice()) else {
             unreachable!()
         };
@@ -92,12 +95,17 @@ impl<E: Entry> Chunk<E> {
         self.entries[at] = entry;
     }
 
-    /// Inserts an entry with a new key. It does not allocate.
-    pub(in crate::proved) fn insert(&mut self, entry: E) {
+    /// Inserts an entry with a new key. It allocates at most once. An error changes nothing.
+    pub(in crate::proved) fn insert(&mut self, entry: E) -> Result<(), AllocError> {
+        let len = self.entries.len();
+        if len == self.entries.capacity() {
+            self.entries.reserve(MAX_ENTRIES - len)?;
+        }
         let at = place(self.entries.as_slice(), entry.key());
         let Ok(()) = self.entries.insert(at, entry) else {
             unreachable!()
         };
+        Ok(())
     }
 
     /// Returns the entries next to a key.
@@ -126,7 +134,7 @@ impl<E: Entry> Chunk<E> {
         None
     }
 
-    /// Moves the entries from `at` on to a new chunk. An error changes nothing.
+    /// Moves the entries from `at` on to a new chunk with memory for 64. An error changes nothing.
     pub(in crate::proved) fn split(
         &mut self,
         alloc: Global,
@@ -140,10 +148,16 @@ impl<E: Entry> Chunk<E> {
         Ok(Chunk { entries })
     }
 
-    /// Appends the entries of another chunk. It does not allocate.
-    pub(in crate::proved) fn append(&mut self, other: &Self) {
+    /// Appends the entries of another chunk, and returns `true`. Returns `false` and changes nothing if it has no
+    /// memory for them. It does not allocate.
+    pub(in crate::proved) fn append(&mut self, other: &Self) -> bool {
+        let room = self.entries.capacity() - self.entries.len();
+        if room < other.len() {
+            return false;
+        }
         let Ok(()) = self.entries.extend_from_slice(other.entries.as_slice()) else {
             unreachable!()
         };
+        true
     }
 }
