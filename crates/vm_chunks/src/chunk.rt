@@ -21,6 +21,7 @@ ghost use Rattle.std.specs.Prelude.{
   IfOk,
   OnOk,
   OnErr,
+  vec_capacity,
 };
 ghost use Rattle.std.specs.List.{All};
 ghost use Rattle.vm_chunks.specs.Chunks.{TOP};
@@ -74,6 +75,19 @@ impl<E: Entry> Model for Chunk<E> {
     ghost invariant = { λ c. length c.entries.items ≤ 64 };
 }
 
+/// Returns a copy of the entries, with this capacity. It allocates once.
+fn copied<E: Entry>(alloc: Global, entries: &[E], capacity: usize) -> Result<Vec<E>, AllocError>
+    requires { length entries.now ≤ capacity }
+    ensures items { IfOk result (λ copy. copy.items ≡ entries.now) }
+    ensures capacity { IfOk result (λ copy. capacity ≤ vec_capacity copy) }
+{
+    let mut copy = Vec::with_capacity(alloc, capacity)?;
+    let Ok(()) = copy.extend_from_slice(entries) else {
+        unreachable!()
+    };
+    Ok(copy)
+}
+
 impl<E: Entry> Chunk<E> {
     /// Creates an empty chunk. It allocates once.
     pub fn new(alloc: Global) -> Result<Self, AllocError>
@@ -87,10 +101,8 @@ impl<E: Entry> Chunk<E> {
     pub fn try_clone(&self, alloc: Global) -> Result<Self, AllocError>
         ensures { IfOk result (λ chunk. chunk ≡ self.now) }
     {
-        let mut entries = Vec::with_capacity(alloc, self.entries.capacity())?;
-        let Ok(()) = entries.extend_from_slice(self.entries.as_slice()) else {
-            unreachable!()
-        };
+        let capacity = self.entries.capacity();
+        let entries = copied(alloc, self.entries.as_slice(), capacity)?;
         Ok(Chunk { entries })
     }
 
@@ -165,16 +177,16 @@ impl<E: Entry> Chunk<E> {
     }
 
     /// Inserts an entry with a new key. It allocates at most once. An error changes nothing.
-    pub fn insert(&mut self, entry: E) -> Result<(), AllocError>
+    pub fn insert(&mut self, alloc: Global, entry: E) -> Result<(), AllocError>
         requires order { IsDescendingBy E.key_of self.old }
         requires new { entry_at E.key_of (E.key_of entry) self.old ≡ None }
         requires room { length self.old < 64 }
         ensures inserted { OnOk result (self.new ≡ with_entry E.key_of entry self.old) }
         ensures unchanged { OnErr result (self.new ≡ self.old) }
     {
-        let len = self.entries.len();
-        if len == self.entries.capacity() {
-            self.entries.reserve(MAX_ENTRIES - len)?;
+        if self.entries.len() == self.entries.capacity() {
+            // In a cold cache, this takes less time than reallocating.
+            self.entries = copied(alloc, self.entries.as_slice(), MAX_ENTRIES)?;
         }
         let at = place(self.entries.as_slice(), entry.key());
         let Ok(()) = self.entries.insert(at, entry) else {
@@ -224,10 +236,7 @@ impl<E: Entry> Chunk<E> {
         ensures lower { IfOk result (λ lower. lower ≡ drop at self.old) }
         ensures unchanged { OnErr result (self.new ≡ self.old) }
     {
-        let mut entries = Vec::with_capacity(alloc, MAX_ENTRIES)?;
-        let Ok(()) = entries.extend_from_slice(&self.entries[at..]) else {
-            unreachable!()
-        };
+        let entries = copied(alloc, &self.entries[at..], MAX_ENTRIES)?;
         self.entries.truncate(at);
         Ok(Chunk { entries })
     }

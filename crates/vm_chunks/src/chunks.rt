@@ -297,7 +297,7 @@ impl<E: Entry> Chunks<E> {
     {
         let at = make_room(alloc, &mut self.chunks, &mut self.bounds, entry.key())?;
         let chunk = &mut self.chunks[at];
-        chunk.insert(entry)?;
+        chunk.insert(alloc, entry)?;
         Ok(())
     }
 

@@ -32,6 +32,15 @@ pub(in crate::proved) struct Chunk<E: Entry> {
     entries: Vec<E>,
 }
 
+/// Returns a copy of the entries, with this capacity. It allocates once.
+fn copied<E: Entry>(alloc: Global, entries: &[E], capacity: usize) -> Result<Vec<E>, AllocError> {
+    let mut copy = Vec::with_capacity(alloc, capacity)?;
+    let Ok(()) = copy.extend_from_slice(entries) else {
+        unreachable!()
+    };
+    Ok(copy)
+}
+
 impl<E: Entry> Chunk<E> {
     /// Creates an empty chunk. It allocates once.
     pub(in crate::proved) fn new(alloc: Global) -> Result<Self, AllocError> {
@@ -41,10 +50,8 @@ impl<E: Entry> Chunk<E> {
 
     /// Returns a copy with as much memory. It allocates once.
     pub(in crate::proved) fn try_clone(&self, alloc: Global) -> Result<Self, AllocError> {
-        let mut entries = Vec::with_capacity(alloc, self.entries.capacity())?;
-        let Ok(()) = entries.extend_from_slice(self.entries.as_slice()) else {
-            unreachable!()
-        };
+        let capacity = self.entries.capacity();
+        let entries = copied(alloc, self.entries.as_slice(), capacity)?;
         Ok(Chunk { entries })
     }
 
@@ -96,10 +103,10 @@ impl<E: Entry> Chunk<E> {
     }
 
     /// Inserts an entry with a new key. It allocates at most once. An error changes nothing.
-    pub(in crate::proved) fn insert(&mut self, entry: E) -> Result<(), AllocError> {
-        let len = self.entries.len();
-        if len == self.entries.capacity() {
-            self.entries.reserve(MAX_ENTRIES - len)?;
+    pub(in crate::proved) fn insert(&mut self, alloc: Global, entry: E) -> Result<(), AllocError> {
+        if self.entries.len() == self.entries.capacity() {
+            // In a cold cache, this takes less time than reallocating.
+            self.entries = copied(alloc, self.entries.as_slice(), MAX_ENTRIES)?;
         }
         let at = place(self.entries.as_slice(), entry.key());
         let Ok(()) = self.entries.insert(at, entry) else {
@@ -140,10 +147,7 @@ impl<E: Entry> Chunk<E> {
         alloc: Global,
         at: usize,
     ) -> Result<Self, AllocError> {
-        let mut entries = Vec::with_capacity(alloc, MAX_ENTRIES)?;
-        let Ok(()) = entries.extend_from_slice(&self.entries[at..]) else {
-            unreachable!()
-        };
+        let entries = copied(alloc, &self.entries[at..], MAX_ENTRIES)?;
         self.entries.truncate(at);
         Ok(Chunk { entries })
     }

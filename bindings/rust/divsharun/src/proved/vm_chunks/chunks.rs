@@ -189,7 +189,7 @@ impl<E: Entry> Chunks<E> {
     pub(in crate::proved) fn insert(&mut self, alloc: Global, entry: E) -> Result<(), AllocError> {
         let at = make_room(alloc, &mut self.chunks, &mut self.bounds, entry.key())?;
         let chunk = &mut self.chunks[at];
-        chunk.insert(entry)?;
+        chunk.insert(alloc, entry)?;
         Ok(())
     }
 
