@@ -242,6 +242,7 @@ fn main() {
     items_without_memory();
     lists_have_no_spare_bytes();
     short_lists_take_few_bytes();
+    chunks_are_joined();
     ranges_take_few_bytes();
     processes_are_ended();
     println!("each allocation is counted, and failed in turn");
@@ -590,6 +591,19 @@ fn short_lists_take_few_bytes() {
     let (_, bytes) =
         peak_of(|| reserve_and_release(|devices| devices.reserve(1, 1, FirstMatch).is_ok()));
     assert_eq!(bytes, LEAF + 8 * (24 + 16 + 8));
+}
+
+/// Checks that chunks of freed ids are joined if both fit in half a chunk, when most of a thousand ids are
+/// allocated again. So the 63 others are in fewer than four chunks, each with at most 32 bytes in lists.
+fn chunks_are_joined() {
+    let mut ids = IdAllocator::new(0, 2000).expect("ids");
+    assert!(ids.allocate_ids(2000).is_ok());
+    let mut even = (0..2000).step_by(2);
+    assert!(even.all(|id| ids.free_id(id).is_ok()));
+    let mut others = (0..2000).step_by(2).filter(|id| id % 32 != 0);
+    assert!(others.all(|id| ids.allocate_exact(id).is_ok()));
+    let (_, bytes) = peak_of(|| ids.clone());
+    assert!(bytes < 4 * (64 * 8 + 32), "{bytes} bytes");
 }
 
 /// Checks the bytes of a space for each of 10^5 ranges, side by side or with a gap after each. Then nine of
